@@ -2,7 +2,9 @@
 #![tactic(auto)]
 
 mod errors;
+mod id_ord_map;
 mod items;
 
 pub use errors::{DuplicateItem, Few, InsertError, Refused, TryReserveError};
+pub use id_ord_map::{IdOrdMap, MAX_ITEMS};
 pub use items::IdOrdItem;

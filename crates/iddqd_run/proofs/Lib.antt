@@ -1,0 +1,5 @@
+pub mod ContentsLemmas
+pub mod KeepsLemmas
+pub mod OrderChains
+pub mod QueryLemmas
+pub mod SearchLemmas

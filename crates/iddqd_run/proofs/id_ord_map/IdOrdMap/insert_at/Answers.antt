@@ -1,0 +1,16 @@
+use Rattle.std.proofs.Common.{◌≡◌, ◌∙◌, ap, subst, sym, refl, length, arith}
+use Rattle.std.proofs.lemmas.List.{length-map}
+use Rattle.std.specs.List.{insert}
+use Rattle.iddqd_run.specs.Contents.{Ascends}
+use Rattle.iddqd_run.proofs.KeepsLemmas.{ascends_insert}
+use Rattle.iddqd_run.proofs.id_ord_map.IdOrdMap.insert_at.Goals as goal
+
+pub returns-clause-inserted : goal.returns-clause-inserted
+returns-clause-inserted g c =
+    let key = g.T.IdOrdItem.key in
+    let put : c.insert.new.self.items ≡ insert c.args.self.now.items c.args.place c.args.item = c.in_default.ensures.items ∙ ap (λ m. insert m.items c.args.place c.args.item) c.self.view_is in
+    record {
+      added = (c.args.place, omega (arith, c.requires.place.0, length-map c.args.self.now.items key), put);
+      keyed = subst (Ascends key g.T.Key.Ord.cmp) (sym put) (ascends_insert key g.met.T.Key.Ord.total c.args.item c.args.self.now.items c.args.place c.requires.keyed c.requires.place.0 c.requires.place.1 c.requires.place.2);
+      limit = ap (λ m. m.limit) c.self.view_is;
+    }

@@ -1,0 +1,37 @@
+use Rattle.std.proofs.Common.{◌≡◌, ◌∙◌, ap, subst, sym, refl, Ok, Err, List, length, arith}
+use Rattle.std.proofs.lemmas.Option.{get_or_from_slice_get}
+use Rattle.iddqd_run.specs.Contents.{keys}
+use Rattle.iddqd_run.specs.OrdMap.{InsertsItem}
+use Rattle.iddqd_run.specs.Refusal.{IsLent}
+use Rattle.iddqd_run.specs.Search.{IsPlaceAmong}
+use Rattle.iddqd_run.proofs.QueryLemmas.{OrderedQuery, own_query, find_there, find_nowhere}
+use Rattle.iddqd_run.proofs.id_ord_map.IdOrdMap.insert_unique.Given.{Over}
+use Rattle.iddqd_run.proofs.id_ord_map.IdOrdMap.insert_unique.Goals as goal
+
+query : (g : Over) (k : g.row.T-Key.Denot) → OrderedQuery g.T.Key.PartialEq.eq g.T.Key.Ord.cmp (g.T.Key.PartialEq.eq k) (g.T.Key.Ord.cmp k)
+query g = own_query g.T.Key.PartialEq.eq g.T.Key.Ord.cmp g.met.T.Key.Eq.laws g.met.T.Key.Ord.total g.met.T.Key.Ord.matches_eq
+
+pub returns-in-Ok : goal.returns-in-Ok
+returns-in-Ok g c =
+    let key = g.T.IdOrdItem.key in
+    let items = c.args.self.now.items in
+    let p = subst (λ k. IsPlaceAmong (g.T.Key.Ord.cmp k) (keys key items) (Ok c.in-Ok.place)) c.key.ensures c.in-Ok.ensures in
+    let existing = c.item.result.now in
+    let found = sym (find_there key (query g (key c.args.item)) items c.requires.keyed c.in-Ok.place existing p.0 p.1 (sym (get_or_from_slice_get items c.in-Ok.place existing existing c.item.ensures))) in
+    ((refl, λ _ h. cc, refl), record { after = tt; absent = tt; refused = (c.internal_new.ensures.new, existing, subst (λ ds. IsLent ds existing) (sym c.internal_new.ensures.duplicates) refl, found) })
+
+pub returns-in-Ok-insert_at : goal.returns-in-Ok-insert_at
+returns-in-Ok-insert_at g c =
+    let key = g.T.IdOrdItem.key in
+    let items = c.args.self.now.items in
+    let p = subst (λ k. IsPlaceAmong (g.T.Key.Ord.cmp k) (keys key items) (Err c.in-Err.place)) c.key.ensures c.in-Err.ensures in
+    let absent = sym (find_nowhere key (query g (key c.args.item)) items c.requires.keyed c.in-Err.place p.1 p.2) in
+    ((refl, λ w _. subst (λ m. InsertsItem key g.T.Key.Ord.cmp c.args.item c.args.self.now m) (sym c.self.view_is) c.in-Ok-insert_at.ensures.inserted, tt), record { after = tt; absent = absent; refused = tt })
+
+pub returns-in-Err-insert_at : goal.returns-in-Err-insert_at
+returns-in-Err-insert_at g c =
+    let key = g.T.IdOrdItem.key in
+    let items = c.args.self.now.items in
+    let p = subst (λ k. IsPlaceAmong (g.T.Key.Ord.cmp k) (keys key items) (Err c.in-Err.place)) c.key.ensures c.in-Err.ensures in
+    let absent = sym (find_nowhere key (query g (key c.args.item)) items c.requires.keyed c.in-Err.place p.1 p.2) in
+    ((refl, λ _ h. cc, c.self.view_is ∙ c.in-Err-insert_at.ensures.unchanged), record { after = tt; absent = tt; refused = record { item = c.in-Err-insert_at.ensures.item; absent = absent; kind = c.in-Err-insert_at.ensures.kind } })

@@ -1,0 +1,172 @@
+//! An ordered map over one vector of items that ascends by key.
+ghost use Rattle.std.specs.Prelude.{◌≡◌, ◌<◌, ◌≤◌, ◌↔◌, [], length, map, IsTrue, IsSome, OnOk, IfErr, OnErr, Some, option_copied, is_some, slice_get, MatchResult, insert};
+ghost use Rattle.std.specs.Borrow.{sem};
+ghost use Rattle.iddqd_run.specs.Contents.{keys, find_item, without, IsAbsent, AddsItem, Ascends};
+ghost use Rattle.iddqd_run.specs.Search.{IsPlaceAmong};
+ghost use Rattle.iddqd_run.specs.Refusal.{RefusesInsertion, refusal_kind};
+
+use crate::errors::{DuplicateItem, Few, InsertError, Refused, TryReserveError};
+use crate::items::IdOrdItem;
+use std::alloc::Global;
+use std::cmp::Ordering;
+use std::marker::Model;
+
+/// The most items that a map holds (ours: the crate leaves it open).
+pub const MAX_ITEMS: u32 = u32::MAX;
+
+/// Items of pairwise different keys, in ascending order of the keys that they show.
+#[derive(Drop)]
+pub struct IdOrdMap<T> {
+    items: Vec<T>,
+    limit: u32,
+    // What an insertion lends where it succeeds, so that its caller learns what the map is then.
+    done: (),
+}
+
+impl<T> Model for IdOrdMap<T> {
+    ghost use Rattle.std.specs.Prelude.{◌≤◌, vec_len};
+    ghost use Rattle.iddqd_run.specs.OrdItems.{OrdItems, ord_items_code};
+
+    ghost Value = { OrdItems T };
+
+    ghost coded = { ord_items_code T.code };
+
+    ghost view = { λ m. record { items = m.items.items; limit = m.limit } };
+
+    ghost invariant = { λ m. vec_len m.items ≤ m.limit };
+}
+
+impl<T> IdOrdMap<T> {
+    /// How many items there are.
+    pub fn len(&self) -> usize
+        ensures len { result ≡ length self.now.items }
+        ensures within_limit { result ≤ self.now.limit }
+    {
+        self.items.len()
+    }
+
+    /// Whether there is no item.
+    pub fn is_empty(&self) -> bool
+        ensures { IsTrue result ↔ (self.now.items ≡ []) }
+    {
+        self.items.is_empty()
+    }
+
+    // The item at the place.
+    fn item(&self, place: usize) -> &T
+        requires { place < length self.now.items }
+        ensures { slice_get self.now.items place ≡ Some result.now }
+    {
+        &self.items[place]
+    }
+}
+
+impl<T: IdOrdItem> IdOrdMap<T> {
+    ghost use Rattle.iddqd_run.specs.OrdMap.{InsertsItem, ends_inserted};
+
+    /// A map without items. Allocates nothing.
+    pub fn new(alloc: Global) -> Self
+        ensures items { result.items ≡ [] }
+        ensures limit { result.limit ≡ MAX_ITEMS }
+        ensures keyed { Ascends T.key T.Key.cmp result.items }
+    {
+        IdOrdMap {
+            items: Vec::new(alloc),
+            limit: MAX_ITEMS,
+            done: (),
+        }
+    }
+
+    // The place of the item of this key, or the place where it belongs. At most one comparison for each binary digit of the count.
+    fn search(&self, key: &T::Key) -> Result<usize, usize>
+        requires keyed { Ascends T.key T.Key.cmp self.now.items }
+        ensures { IsPlaceAmong (T.Key.cmp key.now) (keys T.key self.now.items) result }
+    {
+        let mut low = 0;
+        let mut high = self.items.len();
+        while low < high {
+            let middle = low + (high - low) / 2;
+            match key.cmp(self.items[middle].key()) {
+                Ordering::Equal => return Ok(middle),
+                Ordering::Greater => low = middle + 1,
+                Ordering::Less => high = middle,
+            }
+        }
+        Err(low)
+    }
+
+    /// The item of this key.
+    pub fn get(&self, key: &T::Key) -> Option<&T>
+        requires keyed { Ascends T.key T.Key.cmp self.now.items }
+        ensures { option_copied result ≡ find_item T.key (T.Key.eq key.now) self.now.items }
+    {
+        match self.search(key) {
+            Ok(place) => Some(&self.items[place]),
+            Err(_) => None,
+        }
+    }
+
+    /// Whether an item of this key is there.
+    pub fn contains_key(&self, key: &T::Key) -> bool
+        requires keyed { Ascends T.key T.Key.cmp self.now.items }
+        ensures { result ≡ is_some (find_item T.key (T.Key.eq key.now) self.now.items) }
+    {
+        self.get(key).is_some()
+    }
+
+    /// Inserts the item where none of an equal key is there. A duplicate needs no memory and lends the item that is there;
+    /// a full map and refused memory hand the item back. Then nothing has changed.
+    pub fn insert_unique(&mut self, item: T) -> Result<&mut (), InsertError<'_, T>>
+        requires keyed { Ascends T.key T.Key.cmp self.old.items }
+        ensures* after { sem 𝓛 (ends_inserted T.row T.key T.Key.cmp self.entry result item) }
+        ensures absent { OnOk result (IsAbsent T.key (T.Key.eq (T.key item)) self.old.items) }
+        ensures refused { IfErr result (RefusesInsertion T.key T.Key.eq self.old.limit self.old.items item) }
+    {
+        let place = match self.search(item.key()) {
+            Ok(place) => {
+                let existing = Few::One(self.item(place));
+                return Err(InsertError::Duplicate(DuplicateItem::internal_new(item, existing)));
+            }
+            Err(place) => place,
+        };
+        match self.insert_at(place, item) {
+            Ok(()) => Ok(&mut self.done),
+            Err(refused) => Err(InsertError::Refused(refused)),
+        }
+    }
+
+    // Puts the item in at the place where its key belongs.
+    fn insert_at(&mut self, place: usize, item: T) -> Result<(), Refused<T>>
+        requires keyed { Ascends T.key T.Key.cmp self.old.items }
+        requires place { IsPlaceAmong (T.Key.cmp (T.key item)) (keys T.key self.old.items) (Err place) }
+        ensures inserted { OnOk result (InsertsItem T.key T.Key.cmp item self.old self.new) }
+        ensures unchanged { OnErr result (self.new ≡ self.old) }
+        ensures item { IfErr result (λ refused. refused.item ≡ item) }
+        ensures kind { IfErr result (λ refused. refused.error ≡ refusal_kind self.old.limit self.old.items) }
+    {
+        if self.items.len() == self.limit as usize {
+            let error = TryReserveError::capacity_overflow();
+            return Err(Refused { item, error });
+        }
+        if let Err(failed) = self.items.insert(place, item) {
+            let error = TryReserveError::alloc_error();
+            let item = failed.value;
+            return Err(Refused { item, error });
+        }
+        Ok(())
+    }
+
+    /// Takes out the item of this key. Takes no memory.
+    pub fn remove(&mut self, key: &T::Key) -> Option<T>
+        requires keyed { Ascends T.key T.Key.cmp self.old.items }
+        ensures value { result ≡ find_item T.key (T.Key.eq key.now) self.old.items }
+        ensures items { self.new.items ≡ without T.key (T.Key.eq key.now) self.old.items }
+        ensures limit { self.new.limit ≡ self.old.limit }
+        ensures keyed { Ascends T.key T.Key.cmp self.new.items }
+    {
+        match self.search(key) {
+            Ok(place) => Some(self.items.remove(place)),
+            Err(_) => None,
+        }
+    }
+}
