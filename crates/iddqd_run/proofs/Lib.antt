@@ -3,3 +3,4 @@ pub mod KeepsLemmas
 pub mod OrderChains
 pub mod QueryLemmas
 pub mod SearchLemmas
+pub mod StepLemmas

@@ -11,9 +11,11 @@ use Rattle.std.specs.Ordering.{is_lt}
 abbrev pub IsKeyTest : {K : Type 0} → (K → K → Bool) → (K → Bool) → Type 0
 IsKeyTest eq test = (x y : _) → test x ≡ true → test y ≡ eq x y
 
--- new is old with x put in somewhere (`insert_unique`)
-abbrev pub AddsItem : {T : Type 0} → T → List T → List T → Type 0
-AddsItem x old new = (i : ℕ) × (i ≤ length old) × (new ≡ insert old i x)
+-- new is old with x put in at some place (`insert_unique`)
+pub record AddsItem {T : Type 0} (x : T) (old new : List T) : Type 0 where
+  pub place : ℕ
+  pub within : place ≤ length old
+  pub put : new ≡ insert old place x
 
 -- each clone is the value that it was made of (ours, a premise of each call that shows a clone)
 abbrev pub ClonesAreEqual : {T : Type 0} → (T → T → Type 0) → Type 0

@@ -4,3 +4,4 @@ pub mod OrdItems
 pub mod OrdMap
 pub mod Refusal
 pub mod Search
+pub mod Step

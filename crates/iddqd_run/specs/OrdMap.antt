@@ -1,13 +1,14 @@
 -- What a contract sees of an ordered map, and what its calls leave.
-use Rattle.std.specs.Prelude.{◌≡◌, ℕ, List, Result}
+use Rattle.std.specs.Prelude.{◌≡◌, ◌<◌, length, Result}
 use Rattle.std.specs.Borrow.{Fml, RattleType, MutBor, LendsSoOk, unit}
 use Rattle.std.specs.declared.cmp.Ordering.{Ordering}
 use Rattle.iddqd_run.specs.Contents.{AddsItem, Ascends}
 use Rattle.iddqd_run.specs.OrdItems.{OrdItems}
 use Rattle.iddqd_run.specs.contracts.id_ord_map.IdOrdMap.{the_row}
 
--- the item was put in, at its place by key; the limit stays
+-- the item was put in, at its place by key, where the map was not full; the limit stays
 pub record InsertsItem {T K : Type 0} (key : T → K) (cmp : K → K → Ordering) (x : T) (old new : OrdItems T) : Type 0 where
+  pub room : length old.items < old.limit
   pub added : AddsItem x old.items new.items
   pub keyed : Ascends key cmp new.items
   pub limit : new.limit ≡ old.limit

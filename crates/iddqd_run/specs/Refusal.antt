@@ -6,7 +6,6 @@ use Rattle.iddqd_run.specs.Contents.{find_item, IsAbsent}
 use Rattle.iddqd_run.specs.Errors.{new_item_of, duplicates_of}
 use Rattle.iddqd_run.specs.declared.errors.TryReserveErrorKind.{TryReserveErrorKind}
 use Rattle.iddqd_run.specs.declared.errors.TryReserveErrorKind.TheVariants.{CapacityOverflow, AllocError}
-use Rattle.iddqd_run.specs.declared.errors.Refused.{Refused as RefusedItem}
 use Rattle.iddqd_run.specs.declared.errors.InsertError.{InsertError}
 use Rattle.iddqd_run.specs.declared.errors.InsertError.TheVariants.{Duplicate, Refused}
 
@@ -14,21 +13,18 @@ use Rattle.iddqd_run.specs.declared.errors.InsertError.TheVariants.{Duplicate, R
 abbrev pub refusal_kind : {T : Type 0} → ℕ → List T → TryReserveErrorKind
 refusal_kind limit items = if length items == limit then CapacityOverflow else AllocError
 
--- a lent value
+-- the one value that is lent
 abbrev pub IsLent : {T : Type 0} → List (Bor T) → T → Type 0
 IsLent [] x = ⊥
 IsLent (d ∷ []) x = d.now ≡ x
 IsLent (d ∷ e ∷ more) x = ⊥
 
 module _ {T K : Type 0} (key : T → K) (eq : K → K → Bool) (limit : ℕ) where
-  -- the item comes back, its key is absent, and the kind is told by the limit (ours: the crate panics or aborts)
-  pub record RefusesItem (items : List T) (x : T) (refused : RefusedItem T) : Type 0 where
-    pub item : refused.item ≡ x
-    pub absent : IsAbsent key (eq (key x)) items
-    pub kind : refused.error ≡ refusal_kind limit items
+  -- x finds no room: its key is absent, and the kind is told by the limit (ours: the crate panics or aborts)
+  abbrev pub FindsNoRoom : List T → T → TryReserveErrorKind → Type 0
+  FindsNoRoom items x kind = IsAbsent key (eq (key x)) items × (kind ≡ refusal_kind limit items)
 
-  -- an akin item is there, and is shown alone, beside the item that comes back (`DuplicateItem`)
-  -- or there is none, and no room
+  -- x comes back: beside the akin item that is there, which is shown alone (`DuplicateItem`), or for want of room
   abbrev pub RefusesInsertion : List T → T → InsertError T → Type 0
   RefusesInsertion items x (Duplicate d) = (new_item_of d ≡ x) × (y : T) × IsLent (duplicates_of d) y × (find_item key (eq (key x)) items ≡ Some y)
-  RefusesInsertion items x (Refused r) = RefusesItem items x r
+  RefusesInsertion items x (Refused r) = (r.item ≡ x) × FindsNoRoom items x r.error

@@ -1,5 +1,5 @@
 //! An ordered map over one vector of items that ascends by key.
-ghost use Rattle.std.specs.Prelude.{◌≡◌, ◌<◌, ◌≤◌, ◌↔◌, [], length, map, IsTrue, IsSome, OnOk, IfErr, OnErr, Some, option_copied, is_some, slice_get, MatchResult, insert};
+ghost use Rattle.std.specs.Prelude.{◌≡◌, ◌<◌, ◌≤◌, ◌↔◌, [], length, map, IsTrue, IfNone, OnOk, IfErr, OnErr, Some, option_copied, is_some, slice_get, MatchResult, insert};
 ghost use Rattle.std.specs.Borrow.{sem};
 ghost use Rattle.iddqd_run.specs.Contents.{keys, find_item, without, IsAbsent, AddsItem, Ascends};
 ghost use Rattle.iddqd_run.specs.Search.{IsPlaceAmong};
@@ -161,6 +161,7 @@ impl<T: IdOrdItem> IdOrdMap<T> {
         requires keyed { Ascends T.key T.Key.cmp self.old.items }
         ensures value { result ≡ find_item T.key (T.Key.eq key.now) self.old.items }
         ensures items { self.new.items ≡ without T.key (T.Key.eq key.now) self.old.items }
+        ensures unchanged { IfNone result (self.new ≡ self.old) }
         ensures limit { self.new.limit ≡ self.old.limit }
         ensures keyed { Ascends T.key T.Key.cmp self.new.items }
     {

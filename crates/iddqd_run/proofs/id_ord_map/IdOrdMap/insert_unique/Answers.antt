@@ -34,4 +34,4 @@ returns-in-Err-insert_at g c =
     let items = c.args.self.now.items in
     let p = subst (λ k. IsPlaceAmong (g.T.Key.Ord.cmp k) (keys key items) (Err c.in-Err.place)) c.key.ensures c.in-Err.ensures in
     let absent = sym (find_nowhere key (query g (key c.args.item)) items c.requires.keyed c.in-Err.place p.1 p.2) in
-    ((refl, λ _ h. cc, c.self.view_is ∙ c.in-Err-insert_at.ensures.unchanged), record { after = tt; absent = tt; refused = record { item = c.in-Err-insert_at.ensures.item; absent = absent; kind = c.in-Err-insert_at.ensures.kind } })
+    ((refl, λ _ h. cc, c.self.view_is ∙ c.in-Err-insert_at.ensures.unchanged), record { after = tt; absent = tt; refused = (c.in-Err-insert_at.ensures.item, (absent, c.in-Err-insert_at.ensures.kind)) })

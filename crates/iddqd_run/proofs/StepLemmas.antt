@@ -1,0 +1,13 @@
+-- Steps put together.
+use Rattle.std.proofs.Common.{Bool, List, [], ◌∷◌, ◌++◌, refl, subst}
+use Rattle.iddqd_run.specs.Step.{MapState, SpareRule, Step, Run}
+use Rattle.iddqd_run.specs.declared.commands.Command.{Command}
+use Rattle.iddqd_run.specs.declared.commands.Reply.{Reply}
+
+module _ {T K : Type 0} (key : T → K) (eq : K → K → Bool) where
+  -- one step more at the end of a run
+  pub run_more : (rule : SpareRule) (limit : _) (commands : List (Command T K)) (replies : List (Reply T)) (command : Command T K) (reply : Reply T) (first middle last : MapState T) → Run key eq limit rule first commands replies middle → Step key eq limit rule middle command reply last → Run key eq limit rule first (commands ++ command ∷ []) (replies ++ reply ∷ []) last
+  run_more rule limit [] [] command reply first middle last ran step = (last, subst (λ s. Step key eq limit rule s command reply last) ran step, refl)
+  run_more rule limit [] (r ∷ rs) command reply first middle last ran step = absurd ran
+  run_more rule limit (c ∷ cs) [] command reply first middle last ran step = absurd ran
+  run_more rule limit (c ∷ cs) (r ∷ rs) command reply first middle last (next, one, ran) step = (next, one, run_more rule limit cs rs command reply next middle last ran step)

@@ -1,0 +1,90 @@
+-- What a map answers to a command, and what it holds then (the crate's calls). No pair of a command and a reply occurs but those with a case of their own.
+--     MapState      the items of a map, and its spare: how many new items it takes without a refusal
+--     SpareRule      whether a map keeps a spare
+--     Step, Run      one command and its reply; a list of commands and their replies
+use Rattle.std.specs.Prelude.{◌≡◌, ℕ, ◌+◌, ◌<◌, ◌≤◌, Bool, List, [], ◌∷◌, length, Option, Some, None, IfSome}
+use Rattle.iddqd_run.specs.Contents.{find_item, IsAbsent, AddsItem, without}
+use Rattle.iddqd_run.specs.Refusal.{FindsNoRoom}
+use Rattle.iddqd_run.specs.declared.errors.TryReserveErrorKind.{TryReserveErrorKind}
+use Rattle.iddqd_run.specs.declared.errors.TryReserveErrorKind.TheVariants.{AllocError}
+use Rattle.iddqd_run.specs.declared.commands.Command.{Command}
+use Rattle.iddqd_run.specs.declared.commands.Command.TheVariants.{InsertUnique, Get, Remove, Len}
+use Rattle.iddqd_run.specs.declared.commands.Reply.{Reply}
+use Rattle.iddqd_run.specs.declared.commands.Reply.TheVariants.{Inserted, Duplicate, Found, Removed, Absent, Length, Refused}
+
+pub record MapState (T : Type 0) : Type 0 where
+  pub items : List T
+  pub spare : ℕ
+
+-- a map that keeps no spare has 0 throughout; one that keeps a spare never loses room (`reserve`; the number is ours)
+pub data SpareRule : Type 0 where
+  KeepsNone : SpareRule
+  KeepsSpare : SpareRule
+
+-- a map with these items that keeps no spare
+abbrev pub spareless : {T : Type 0} → List T → MapState T
+spareless items = record { items = items; spare = 0 }
+
+-- what is there and what is spare never fall together, and both fit the limit
+abbrev pub KeepsRoom : {T : Type 0} → SpareRule → ℕ → MapState T → MapState T → Type 0
+KeepsRoom KeepsNone limit old new = (old.spare ≡ 0) × (new.spare ≡ 0)
+KeepsRoom KeepsSpare limit old new = (old.spare + length old.items ≤ new.spare + length new.items) × (new.spare + length new.items ≤ limit)
+
+module _ {T K : Type 0} (key : T → K) (eq : K → K → Bool) (limit : ℕ) where
+  -- the item is taken where its key is absent and the map is not full; at a spare above 0 it is never refused for want of room
+  abbrev pub AnswersInsertUnique : T → MapState T → Reply T → List T → Type 0
+  AnswersInsertUnique x old Inserted new = IsAbsent key (eq (key x)) old.items × (length old.items < limit) × AddsItem x old.items new
+  AnswersInsertUnique x old (Duplicate back existing) new = (back ≡ x) × (y : T) × (find_item key (eq (key x)) old.items ≡ Some y) × IfSome existing (λ e. e ≡ y) × (new ≡ old.items)
+  AnswersInsertUnique x old (Refused back kind) new = (back ≡ Some x) × FindsNoRoom key eq limit old.items x kind × (old.spare ≡ 0) × (new ≡ old.items)
+  AnswersInsertUnique x old (Found y) new = ⊥
+  AnswersInsertUnique x old (Removed y) new = ⊥
+  AnswersInsertUnique x old Absent new = ⊥
+  AnswersInsertUnique x old (Length n) new = ⊥
+
+  -- a clone of the item is shown; only memory for the clone can be refused
+  abbrev pub AnswersGet : K → MapState T → Reply T → List T → Type 0
+  AnswersGet k old (Found y) new = (find_item key (eq k) old.items ≡ Some y) × (new ≡ old.items)
+  AnswersGet k old Absent new = IsAbsent key (eq k) old.items × (new ≡ old.items)
+  AnswersGet k old (Refused back kind) new = (back ≡ None) × (kind ≡ AllocError) × (y : T) × (find_item key (eq k) old.items ≡ Some y) × (new ≡ old.items)
+  AnswersGet k old Inserted new = ⊥
+  AnswersGet k old (Duplicate back existing) new = ⊥
+  AnswersGet k old (Removed y) new = ⊥
+  AnswersGet k old (Length n) new = ⊥
+
+  -- the item is taken out
+  abbrev pub AnswersRemove : K → MapState T → Reply T → List T → Type 0
+  AnswersRemove k old (Removed y) new = (find_item key (eq k) old.items ≡ Some y) × (new ≡ without key (eq k) old.items)
+  AnswersRemove k old Absent new = IsAbsent key (eq k) old.items × (new ≡ old.items)
+  AnswersRemove k old Inserted new = ⊥
+  AnswersRemove k old (Duplicate back existing) new = ⊥
+  AnswersRemove k old (Found y) new = ⊥
+  AnswersRemove k old (Length n) new = ⊥
+  AnswersRemove k old (Refused back kind) new = ⊥
+
+  -- the number of items is told
+  abbrev pub AnswersLen : MapState T → Reply T → List T → Type 0
+  AnswersLen old (Length n) new = (n ≡ length old.items) × (new ≡ old.items)
+  AnswersLen old Inserted new = ⊥
+  AnswersLen old (Duplicate back existing) new = ⊥
+  AnswersLen old (Found y) new = ⊥
+  AnswersLen old (Removed y) new = ⊥
+  AnswersLen old Absent new = ⊥
+  AnswersLen old (Refused back kind) new = ⊥
+
+  abbrev pub Answers : Command T K → MapState T → Reply T → List T → Type 0
+  Answers (InsertUnique x) = AnswersInsertUnique x
+  Answers (Get k) = AnswersGet k
+  Answers (Remove k) = AnswersRemove k
+  Answers Len = AnswersLen
+
+  -- one command: the reply and the items then, and the room that is kept
+  pub record Step (rule : SpareRule) (old : MapState T) (command : Command T K) (reply : Reply T) (new : MapState T) : Type 0 where
+    pub answers : Answers command old reply new.items
+    pub room : KeepsRoom rule limit old new
+
+  -- a reply for each command, in order, each from where the one before ended
+  abbrev pub Run : SpareRule → MapState T → List (Command T K) → List (Reply T) → MapState T → Type 0
+  Run rule old [] [] new = new ≡ old
+  Run rule old [] (reply ∷ replies) new = ⊥
+  Run rule old (command ∷ commands) [] new = ⊥
+  Run rule old (command ∷ commands) (reply ∷ replies) new = (middle : MapState T) × Step rule old command reply middle × Run rule middle commands replies new

@@ -1,0 +1,44 @@
+//! What a map is told, and what it answers.
+use crate::errors::TryReserveError;
+
+/// One call on a map of items `T` with keys `K` (ours).
+#[derive(Drop)]
+pub enum Command<T, K> {
+    /// `insert_unique`.
+    InsertUnique(T),
+    /// `get`, answered by a clone.
+    Get(K),
+    /// `remove`.
+    Remove(K),
+    /// `len`.
+    Len,
+}
+
+/// What one command is answered (ours).
+#[derive(Drop)]
+pub enum Reply<T> {
+    /// The item is in.
+    Inserted,
+    /// An item of its key is there: a clone of that one, `None` only where memory for the clone was refused.
+    Duplicate { new: T, existing: Option<T> },
+    /// A clone of the item.
+    Found(T),
+    /// The item, taken out.
+    Removed(T),
+    /// No item has the key.
+    Absent,
+    /// How many items there are.
+    Length(usize),
+    /// There was no room: for the item, which comes back, or for the clone that `Get` answers.
+    Refused {
+        item: Option<T>,
+        error: TryReserveError,
+    },
+}
+
+/// Commands that were not run, for want of memory for the replies (ours).
+#[derive(Drop)]
+pub struct RunStop<T, K> {
+    /// All of them, as they were handed in.
+    pub commands: Vec<Command<T, K>>,
+}
