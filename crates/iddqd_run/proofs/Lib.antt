@@ -1,6 +1,9 @@
 pub mod ContentsLemmas
+pub mod Cuts
 pub mod KeepsLemmas
+pub mod NameLemmas
 pub mod OrderChains
 pub mod QueryLemmas
 pub mod SearchLemmas
 pub mod StepLemmas
+pub mod ValueLemmas

@@ -1,5 +1,7 @@
+pub mod Asked
 pub mod Contents
 pub mod Errors
+pub mod Lines
 pub mod OrdItems
 pub mod OrdMap
 pub mod Refusal

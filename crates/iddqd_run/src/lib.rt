@@ -5,6 +5,7 @@ mod commands;
 mod errors;
 mod id_ord_map;
 mod items;
+mod lines;
 mod running;
 
 pub use commands::{Command, Reply, RunStop};

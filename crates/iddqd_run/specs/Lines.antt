@@ -1,0 +1,57 @@
+-- The lines of a text, and what a line asks for (ours).
+--     lines_of text      the lines, each without the byte that ends it
+--     request_of line      what the line asks for; a line that follows no form asks for nothing: `Bad`
+use Rattle.std.specs.Prelude.{◌≡◌, ◌≢◌, ◌<◌, ℕ, ◌^◌, Bool, ◌&&◌, ◌||◌, ◌==◌, nat_le, nat_lt, List, [], ◌∷◌, length, slice_index, Option, Some, None, decimal, codes, bytes_eq, if◌then◌else◌}
+use Rattle.std.specs.List.{list_all, onto_first, slice_split}
+use Rattle.std.specs.Str.Parse.{digits_value}
+
+-- a line ends with the byte 10; a last line without it counts; an empty text has none
+abbrev pub lines_of : List ℕ → List (List ℕ)
+lines_of [] = []
+lines_of (byte ∷ text) = if byte == 10 then [] ∷ lines_of text else onto_first byte (lines_of text)
+
+-- the words of a line, parted by one space each
+abbrev pub words_of : List ℕ → List (List ℕ)
+words_of line = slice_split (λ byte. byte == 32) line
+
+-- `a` to `z` and `0` to `9`
+abbrev pub is_name_byte : ℕ → Bool
+is_name_byte byte = (nat_le 97 byte && nat_le byte 122) || (nat_le 48 byte && nat_le byte 57)
+
+-- 1 to 32 such bytes
+abbrev pub is_name : List ℕ → Bool
+is_name word = nat_lt 0 (length word) && nat_le (length word) 32 && list_all is_name_byte word
+
+-- the number of 64 bits whose decimal text the word is, which has no leading zero
+abbrev pub value_of : List ℕ → Option ℕ
+value_of word = let n = digits_value 10 word in if bytes_eq word (decimal n) && nat_lt n (2 ^ 64) then Some n else None
+
+-- the word has no sign in front, and a zero in front only if it is all that there is
+abbrev pub HasOneForm : List ℕ → Type 0
+HasOneForm word = (0 < length word) × (slice_index word 0 ≢ 43) × (slice_index word 0 ≡ 48 → length word ≡ 1)
+
+pub data Request : Type 0 where
+  Add : List ℕ → ℕ → Request
+  Get : List ℕ → Request
+  Del : List ℕ → Request
+  Len : Request
+  Bad : Request
+
+-- a request by its word and a name
+abbrev pub named_request : List ℕ → List ℕ → Request
+named_request word name = if bytes_eq word (codes "get") then Get name else (if bytes_eq word (codes "del") then Del name else Bad)
+
+-- a request by its word, a name and a value
+abbrev pub valued_request : List ℕ → List ℕ → Option ℕ → Request
+valued_request word name None = Bad
+valued_request word name (Some value) = if bytes_eq word (codes "add") then Add name value else Bad
+
+abbrev pub request_of_words : List (List ℕ) → Request
+request_of_words [] = Bad
+request_of_words (word ∷ []) = if bytes_eq word (codes "len") then Len else Bad
+request_of_words (word ∷ name ∷ []) = if is_name name then named_request word name else Bad
+request_of_words (word ∷ name ∷ value ∷ []) = if is_name name then valued_request word name (value_of value) else Bad
+request_of_words (word ∷ name ∷ value ∷ more ∷ words) = Bad
+
+abbrev pub request_of : List ℕ → Request
+request_of line = request_of_words (words_of line)

@@ -1,0 +1,140 @@
+//! The lines of a text, and what a line asks for.
+ghost use Rattle.std.specs.Prelude.{◌≡◌, ◌∷◌, ◌<◌, ◌↔◌, [], length, MatchOption, IsTrue, true, false};
+ghost use Rattle.std.specs.List.{list_all};
+ghost use Rattle.iddqd_run.specs.Lines.{lines_of, words_of, is_name, is_name_byte, value_of, HasOneForm, request_of, named_request, valued_request};
+ghost use Rattle.iddqd_run.specs.Asked.{asked};
+
+/// What a line asks for.
+#[derive(Clone, Copy)]
+pub(crate) enum Line<'a> {
+    Add { name: &'a str, value: u64 },
+    Get { name: &'a str },
+    Del { name: &'a str },
+    Len,
+    /// It follows no form.
+    Bad,
+}
+
+/// The first line of a text that isn't empty, and the text after it.
+pub(crate) fn first_line(text: &[u8]) -> (&[u8], &[u8])
+    requires { 0 < length text.now }
+    ensures lines { lines_of text.now ≡ result.0.now ∷ lines_of result.1.now }
+    ensures shorter { length result.1.now < length text.now }
+{
+    for (i, byte) in text.iter().enumerate() {
+        if *byte == b'\n' {
+            return (&text[..i], &text[i + 1..]);
+        }
+    }
+    (text, &[])
+}
+
+/// What the line asks for.
+pub(crate) fn parse(line: &[u8]) -> Line<'_>
+    ensures { asked result ≡ request_of line.now }
+{
+    let (word, fields) = first_word(line);
+    let Some(fields) = fields else {
+        return if word == b"len".as_slice() {
+            Line::Len
+        } else {
+            Line::Bad
+        };
+    };
+    let (name, value) = first_word(fields);
+    let Some(name) = name_in(name) else {
+        return Line::Bad;
+    };
+    match value {
+        None => by_name(word, name),
+        Some(value) => by_name_and_value(word, name, value),
+    }
+}
+
+// The first word, and what follows the space after it.
+fn first_word(text: &[u8]) -> (&[u8], Option<&[u8]>)
+    ensures { MatchOption result.1 (words_of text.now ≡ result.0.now ∷ []) (λ rest. words_of text.now ≡ result.0.now ∷ words_of rest.now) }
+{
+    for (i, byte) in text.iter().enumerate() {
+        if *byte == b' ' {
+            return (&text[..i], Some(&text[i + 1..]));
+        }
+    }
+    (text, None)
+}
+
+// Whether the word is a name: 1 to 32 bytes of `a-z0-9`.
+fn is_name_word(word: &[u8]) -> bool
+    ensures { result ≡ is_name word.now }
+{
+    match word.len() {
+        1..=32 => are_name_bytes(word),
+        _ => false,
+    }
+}
+
+fn are_name_bytes(word: &[u8]) -> bool
+    ensures { result ≡ list_all is_name_byte word.now }
+{
+    word.iter()
+        .all(|byte| byte.is_ascii_lowercase() || byte.is_ascii_digit())
+}
+
+// The name that the word is.
+fn name_in(word: &[u8]) -> Option<&str>
+    ensures { MatchOption result (is_name word.now ≡ false) (λ name. (is_name word.now ≡ true) × (name.now ≡ word.now)) }
+{
+    if !is_name_word(word) {
+        return None;
+    }
+    match str::from_utf8(word) {
+        Ok(name) => Some(name),
+        Err(_) => unreachable!(),
+    }
+}
+
+// The value that the word is.
+fn value_in(word: &[u8]) -> Option<u64>
+    ensures { result ≡ value_of word.now }
+{
+    if !has_one_form(word) {
+        return None;
+    }
+    let Ok(text) = str::from_utf8(word) else {
+        return None;
+    };
+    text.parse().ok()
+}
+
+// Whether the word, if it is a number, is that number's only form: without a sign, and without a zero in front.
+fn has_one_form(word: &[u8]) -> bool
+    ensures { IsTrue result ↔ HasOneForm word.now }
+{
+    match word.first() {
+        None => false,
+        Some(first) => *first != b'+' && (*first != b'0' || word.len() == 1),
+    }
+}
+
+// What a line of a word and a name asks for.
+fn by_name<'a>(word: &[u8], name: &'a str) -> Line<'a>
+    ensures { asked result ≡ named_request word.now name.now }
+{
+    if word == b"get".as_slice() {
+        Line::Get { name }
+    } else if word == b"del".as_slice() {
+        Line::Del { name }
+    } else {
+        Line::Bad
+    }
+}
+
+// What a line of a word, a name and a value asks for.
+fn by_name_and_value<'a>(word: &[u8], name: &'a str, value: &[u8]) -> Line<'a>
+    ensures { asked result ≡ valued_request word.now name.now (value_of value.now) }
+{
+    match value_in(value) {
+        Some(value) if word == b"add".as_slice() => Line::Add { name, value },
+        _ => Line::Bad,
+    }
+}
