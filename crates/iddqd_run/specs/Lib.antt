@@ -1,3 +1,4 @@
+pub mod Answer
 pub mod Asked
 pub mod Contents
 pub mod Errors
@@ -6,4 +7,6 @@ pub mod OrdItems
 pub mod OrdMap
 pub mod Refusal
 pub mod Search
+pub mod Shown
 pub mod Step
+pub mod Words

@@ -1,0 +1,42 @@
+-- One line more is answered.
+use Rattle.std.proofs.Common.{◌≡◌, ◌≤◌, ℕ, suc, ◌+◌, List, [], ◌∷◌, ◌++◌, sym, refl, ap, ◌∙◌, subst, arith, zero-add, inl, inr, ⊎_elim}
+use Rattle.iddqd_run.specs.Answer.{RepliesWithRefusals, replies, line_reply, entries_after}
+use Rattle.iddqd_run.specs.Lines.{request_of, Request}
+use Rattle.iddqd_run.specs.Shown.{entries_of, shown, refusals_of, AnswersPlainly, AnswersRequest}
+use Rattle.iddqd_run.specs.declared.entries.Entry.{Entry}
+use Rattle.iddqd_run.specs.declared.entries.LineReply.{LineReply}
+use Rattle.iddqd_run.specs.declared.entries.LineReply.TheVariants.{Added, Duplicate, Found, Removed, Absent, Length, Bad, RefusedCapacity, RefusedMemory}
+
+module _ (line : List ℕ) (lines : List (List ℕ)) (old new : List Entry) (more : ℕ) (rest : List ℕ) (later : RepliesWithRefusals lines (entries_of new) more rest) where
+  plain_step : (r : LineReply) → AnswersPlainly (request_of line) old r new → RepliesWithRefusals (line ∷ lines) (entries_of old) (0 + more) (shown r ++ 10 ∷ rest)
+  plain_step r a = inl (rest, ap (λ bytes. bytes ++ 10 ∷ rest) a.reply, subst (λ n. RepliesWithRefusals lines (entries_after (request_of line) (entries_of old)) n rest) (sym (zero-add more)) (subst (λ es. RepliesWithRefusals lines es more rest) a.entries later))
+
+  pub line_step : (r : LineReply) → AnswersRequest (request_of line) old r new → RepliesWithRefusals (line ∷ lines) (entries_of old) (refusals_of r + more) (shown r ++ 10 ∷ rest)
+  line_step Added a = plain_step Added a
+  line_step (Duplicate name value) a = plain_step (Duplicate name value) a
+  line_step (Found value) a = plain_step (Found value) a
+  line_step (Removed value) a = plain_step (Removed value) a
+  line_step Absent a = plain_step Absent a
+  line_step (Length count) a = plain_step (Length count) a
+  line_step Bad a = plain_step Bad a
+  line_step RefusedCapacity a = plain_step RefusedCapacity a
+  line_step RefusedMemory a = inr (a.0, more, rest, omega arith, refl, subst (λ es. RepliesWithRefusals lines es more rest) a.1 later)
+
+-- without a refusal the replies are the plain ones
+pub plain_replies : (lines : List (List ℕ)) (entries : _) (text : List ℕ) → RepliesWithRefusals lines entries 0 text → text ≡ replies lines entries
+plain_replies [] entries text r = r.1
+plain_replies (line ∷ lines) entries text r = ⊎_elim
+    (λ plain. plain.1 ∙ ap (λ rest. line_reply (request_of line) entries ++ 10 ∷ rest) (plain_replies lines (entries_after (request_of line) entries) plain.0 plain.2))
+    (λ refused. cc (refused.3))
+    r
+
+pub refusals_of-le : (r : LineReply) → refusals_of r ≤ 1
+refusals_of-le RefusedMemory = omega arith
+refusals_of-le Added = omega arith
+refusals_of-le (Duplicate name value) = omega arith
+refusals_of-le (Found value) = omega arith
+refusals_of-le (Removed value) = omega arith
+refusals_of-le Absent = omega arith
+refusals_of-le (Length count) = omega arith
+refusals_of-le Bad = omega arith
+refusals_of-le RefusedCapacity = omega arith

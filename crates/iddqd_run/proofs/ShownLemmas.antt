@@ -1,0 +1,81 @@
+-- What the map answers is what the entries answer that its items are seen as.
+use Rattle.std.proofs.Common.{◌≡◌, ◌≢◌, ℕ, ◌<◌, Bor, Bool, true, false, List, length, map, Option, Some, None, sym, refl, ap, ◌∙◌, subst, ◌++◌, eq-eqb, arith}
+use Rattle.std.specs.Prelude.{string_bytes, bytes_eq, codes, decimal}
+use Rattle.std.specs.Option.{option_map}
+use Rattle.std.specs.String.{string_cmp_total}
+use Rattle.std.proofs.lemmas.Bool.{ne_eqb}
+use Rattle.std.proofs.lemmas.List.{length-map}
+use Rattle.std.proofs.Common.{String, Global}
+use Rattle.iddqd_run.specs.Answer.{name_of, name_cmp, entry_named, is_full}
+use Rattle.iddqd_run.specs.Contents.{AddsItem, find_item, without, placed}
+use Rattle.iddqd_run.specs.Lines.{Add, Get, Del}
+use Rattle.iddqd_run.specs.Shown.{entry_of, entries_of, IsNameOrdered, AnswersPlainly}
+use Rattle.iddqd_run.specs.declared.id_ord_map.TheConstants.{MAX_ITEMS}
+use Rattle.iddqd_run.specs.declared.entries.Entry.{Entry}
+use Rattle.iddqd_run.specs.declared.entries.LineReply.TheVariants.{Added, Duplicate, Found, Removed, Absent, RefusedCapacity}
+use Rattle.iddqd_run.proofs.PlacedLemmas.{placed-added, find_item-map, without-map, placed-map}
+
+key : Entry → String Global
+key entry = entry.name
+
+-- a search by name finds the same entry
+pub found_shown : (name : List ℕ) (items : List Entry) → entry_named name (entries_of items) ≡ option_map entry_of (find_item (λ entry. entry.name) (λ k. bytes_eq name (string_bytes k)) items)
+found_shown name items = find_item-map entry_of name_of (bytes_eq name) items
+
+module _ (name : List ℕ) (items : List Entry) where
+  test : String Global → Bool
+  test k = bytes_eq name (string_bytes k)
+
+  absent_shown : find_item (λ entry. entry.name) (λ k. bytes_eq name (string_bytes k)) items ≡ None → entry_named name (entries_of items) ≡ None
+  absent_shown e = found_shown name items ∙ ap (option_map entry_of) e
+
+  there_shown : (y : Entry) → find_item (λ entry. entry.name) (λ k. bytes_eq name (string_bytes k)) items ≡ Some y → entry_named name (entries_of items) ≡ Some (entry_of y)
+  there_shown y e = found_shown name items ∙ ap (option_map entry_of) e
+
+  pub get_found : (y : Entry) → Some y ≡ find_item (λ entry. entry.name) (λ k. bytes_eq name (string_bytes k)) items → AnswersPlainly (Get name) items (Found y.value) items
+  get_found y e = record { reply = rw (there_shown y (sym e)) refl; entries = refl }
+
+  pub get_absent : None ≡ find_item (λ entry. entry.name) (λ k. bytes_eq name (string_bytes k)) items → AnswersPlainly (Get name) items Absent items
+  get_absent e = record { reply = rw (absent_shown (sym e)) refl; entries = refl }
+
+  pub removed_plainly : (y : Entry) (new : List Entry) → Some y ≡ find_item (λ entry. entry.name) (λ k. bytes_eq name (string_bytes k)) items → new ≡ without (λ entry. entry.name) (λ k. bytes_eq name (string_bytes k)) items → AnswersPlainly (Del name) items (Removed y.value) new
+  removed_plainly y new e f = record {
+    reply = rw (there_shown y (sym e)) refl;
+    entries = ap entries_of f ∙ without-map entry_of name_of (bytes_eq name) items;
+  }
+
+  pub not_removed : (new : List Entry) → None ≡ find_item (λ entry. entry.name) (λ k. bytes_eq name (string_bytes k)) items → new ≡ without (λ entry. entry.name) (λ k. bytes_eq name (string_bytes k)) items → AnswersPlainly (Del name) items Absent new
+  not_removed new e f = record {
+    reply = rw (absent_shown (sym e)) refl;
+    entries = ap entries_of f ∙ without-map entry_of name_of (bytes_eq name) items;
+  }
+
+not_full : (items : List Entry) → length items ≢ MAX_ITEMS → is_full (entries_of items) ≡ false
+not_full items ne = ne_eqb (length (entries_of items)) MAX_ITEMS (λ e. ne (sym (length-map items entry_of) ∙ e))
+
+module _ (x : Entry) (items : List Entry) where
+  abbrev IsAbsentHere : Type 0
+  IsAbsentHere = find_item (λ entry. entry.name) (λ k. bytes_eq (string_bytes x.name) (string_bytes k)) items ≡ None
+
+  pub added_plainly : (name : List ℕ) (new : List Entry) → string_bytes x.name ≡ name → IsAbsentHere → length items < MAX_ITEMS → AddsItem x items new → IsNameOrdered new → AnswersPlainly (Add name x.value) items Added new
+  added_plainly name new same absent few added keyed =
+      let none = subst (λ n. entry_named n (entries_of items) ≡ None) same (absent_shown (string_bytes x.name) items absent) in
+      let room : is_full (entries_of items) ≡ false = not_full items (λ e. omega (arith, few, e)) in
+      record {
+        reply = rw none (rw room refl);
+        entries = ap entries_of (placed-added (λ entry. entry.name) string_cmp_total x items new added keyed) ∙ placed-map entry_of name_of name_cmp x items ∙ ap (λ n. placed name_of name_cmp (n, x.value) (entries_of items)) same ∙ sym (rw none (rw room refl));
+      }
+
+  pub duplicate_plainly : (y : Entry) (name : Bor (List ℕ)) (value : ℕ) (new : List Entry) → string_bytes x.name ≡ name.now → value ≡ y.value → find_item (λ entry. entry.name) (λ k. bytes_eq (string_bytes x.name) (string_bytes k)) items ≡ Some y → new ≡ items → AnswersPlainly (Add name.now x.value) items (Duplicate name value) new
+  duplicate_plainly y name value new same old_value there stays =
+      let shows = subst (λ n. entry_named n (entries_of items) ≡ Some (entry_of y)) same (there_shown (string_bytes x.name) items y there) in
+      record {
+        reply = rw shows (ap (λ v. codes "duplicate " ++ name.now ++ codes " " ++ decimal v) old_value);
+        entries = ap entries_of stays ∙ sym (rw shows refl);
+      }
+
+  pub full_plainly : (name : List ℕ) (new : List Entry) → string_bytes x.name ≡ name → IsAbsentHere → length items ≡ MAX_ITEMS → new ≡ items → AnswersPlainly (Add name x.value) items RefusedCapacity new
+  full_plainly name new same absent full stays =
+      let none = subst (λ n. entry_named n (entries_of items) ≡ None) same (absent_shown (string_bytes x.name) items absent) in
+      let no_room : is_full (entries_of items) ≡ true = eq-eqb (length (entries_of items)) MAX_ITEMS (length-map items entry_of ∙ full) in
+      record { reply = rw none (rw no_room refl); entries = ap entries_of stays ∙ sym (rw none (rw no_room refl)) }

@@ -1,0 +1,45 @@
+-- What the program's own types for an entry and a reply stand for.
+use Rattle.std.specs.Prelude.{◌≡◌, ℕ, List, map, ◌++◌, decimal, codes, string_bytes}
+use Rattle.iddqd_run.specs.Answer as answer
+use Rattle.iddqd_run.specs.Contents.{Ascends}
+use Rattle.iddqd_run.specs.Lines.{Request}
+use Rattle.iddqd_run.specs.declared.entries.Entry.{Entry}
+use Rattle.iddqd_run.specs.declared.entries.LineReply.{LineReply}
+use Rattle.iddqd_run.specs.declared.entries.LineReply.TheVariants.{Added, Duplicate, Found, Removed, Absent, Length, Bad, RefusedCapacity, RefusedMemory}
+
+abbrev pub entry_of : Entry → answer.Entry
+entry_of entry = (string_bytes entry.name, entry.value)
+
+abbrev pub entries_of : List Entry → List answer.Entry
+entries_of items = map entry_of items
+
+-- the items ascend by name
+abbrev pub IsNameOrdered : List Entry → Type 0
+IsNameOrdered items = Ascends (λ entry. entry.name) (λ a b. answer.name_cmp (string_bytes a) (string_bytes b)) items
+
+-- the text of a reply
+abbrev pub shown : LineReply → List ℕ
+shown Added = codes "added"
+shown (Duplicate name value) = codes "duplicate " ++ name.now ++ codes " " ++ decimal value
+shown (Found value) = decimal value
+shown (Removed value) = codes "removed " ++ decimal value
+shown Absent = codes "none"
+shown (Length count) = decimal count
+shown Bad = codes "bad"
+shown RefusedCapacity = codes "refused capacity"
+shown RefusedMemory = codes "refused memory"
+
+-- how many refusals for want of memory a reply is
+abbrev pub refusals_of : LineReply → ℕ
+refusals_of RefusedMemory = 1
+refusals_of reply = 0
+
+-- the reply and the entries then, where memory was there
+pub record AnswersPlainly (request : Request) (old : List Entry) (answered : LineReply) (new : List Entry) : Type 0 where
+  pub reply : shown answered ≡ answer.line_reply request (entries_of old)
+  pub entries : entries_of new ≡ answer.entries_after request (entries_of old)
+
+-- only a line that makes an item is refused for want of memory, and then nothing has changed
+abbrev pub AnswersRequest : Request → List Entry → LineReply → List Entry → Type 0
+AnswersRequest request old RefusedMemory new = answer.TakesMemory request × (entries_of new ≡ entries_of old)
+AnswersRequest request old reply new = AnswersPlainly request old reply new

@@ -1,0 +1,21 @@
+//! The program's arguments.
+ghost use Rattle.std.specs.Prelude.{◌≡◌, map, string_bytes};
+ghost use Rattle.iddqd_run.specs.Words.{kind_for};
+
+/// The map that answers the lines (ours).
+#[derive(Clone, Copy, Debug, PartialEq, Eq)]
+pub enum Kind {
+    /// `IdOrdMap`.
+    Ord,
+}
+
+/// The kind that the words after the program's name ask for: the ordered map where there are none. `None` where they are wrong (ours).
+pub fn kind_of(args: &[String]) -> Option<Kind>
+    ensures { result ≡ kind_for (map string_bytes args.now) }
+{
+    match args {
+        [] => Some(Kind::Ord),
+        [word] if word.as_str() == "ord" => Some(Kind::Ord),
+        _ => None,
+    }
+}
