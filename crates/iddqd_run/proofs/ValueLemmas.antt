@@ -31,6 +31,7 @@ spelled word = by (bytes_eq word (decimal n)) refl (nat_lt n (2 ^ 64)) refl
   where
     n : ℕ
     n = digits_value 10 word
+
     by : (a : Bool) → bytes_eq word (decimal n) ≡ a → (b : Bool) → nat_lt n (2 ^ 64) ≡ b → (cond (a && b) (Some n) None ≡ None) ⊎ Spells word n
     by true e true f = inr record { text = (bytes_eq-Decides word (decimal n)).0 e; fits = search rules }
     by true e false f = inl refl
@@ -52,8 +53,10 @@ one_form word n s = subst HasOneForm (sym s.text) (decimal_nonempty n s.fits, no
   where
     digits : AllDigits 10 (decimal n)
     digits = digits_decimal numerals n s.fits
+
     no_sign : get_or (decimal n) 0 0 ≢ 43
     no_sign e = let range = digit_at (decimal n) 0 digits (decimal_nonempty n s.fits) in omega (arith, range.0, range.1)
+
     no_zero : get_or (decimal n) 0 0 ≡ 48 → length (decimal n) ≡ 1
     no_zero e = ⊎_elim
         (λ z. ap (λ m. length (decimal m)) z ∙ ap length (decimal_digit 0 (omega arith)))

@@ -81,11 +81,7 @@ fn add<'a>(alloc: Global, map: &mut IdOrdMap<Entry>, name: &'a str, value: u64) 
 }
 
 // Looks for a copy of the name.
-fn get<'a>(
-    alloc: Global,
-    map: &IdOrdMap<Entry>,
-    name: &'a str,
-) -> Result<LineReply<'a>, AllocError>
+fn get<'a>(alloc: Global, map: &IdOrdMap<Entry>, name: &'a str) -> Result<LineReply<'a>, AllocError>
     requires keyed { IsNameOrdered map.now.items }
     ensures { IfOk result (λ reply. AnswersRequest (Get name.now) map.now.items reply map.now.items) }
 {

@@ -2,7 +2,7 @@
 use crate::errors::TryReserveError;
 
 /// One call on a map of items `T` with keys `K` (ours).
-#[derive(Drop)]
+#[derive(Debug, PartialEq, Eq, Drop)]
 pub enum Command<T, K> {
     /// `insert_unique`.
     InsertUnique(T),
@@ -15,12 +15,15 @@ pub enum Command<T, K> {
 }
 
 /// What one command is answered (ours).
-#[derive(Drop)]
+#[derive(Debug, PartialEq, Eq, Drop)]
 pub enum Reply<T> {
     /// The item is in.
     Inserted,
     /// An item of its key is there: a clone of that one, `None` only where memory for the clone was refused.
-    Duplicate { new: T, existing: Option<T> },
+    Duplicate {
+        new: T,
+        existing: Option<T>,
+    },
     /// A clone of the item.
     Found(T),
     /// The item, taken out.
@@ -37,7 +40,7 @@ pub enum Reply<T> {
 }
 
 /// Commands that were not run, for want of memory for the replies (ours).
-#[derive(Drop)]
+#[derive(Debug, Drop)]
 pub struct RunStop<T, K> {
     /// All of them, as they were handed in.
     pub commands: Vec<Command<T, K>>,

@@ -83,7 +83,7 @@ impl<T: IdOrdItem> IdOrdMap<T> {
         ensures { IsPlaceAmong (T.Key.cmp key.now) (keys T.key self.now.items) result }
     {
         let mut low = 0;
-        let mut high = self.items.len();
+        let mut high = self.len();
         while low < high {
             let middle = low + (high - low) / 2;
             match key.cmp(self.items[middle].key()) {
@@ -144,7 +144,7 @@ impl<T: IdOrdItem> IdOrdMap<T> {
         ensures item { IfErr result (λ refused. refused.item ≡ item) }
         ensures kind { IfErr result (λ refused. refused.error ≡ refusal_kind self.old.limit self.old.items) }
     {
-        if self.items.len() == self.limit as usize {
+        if self.len() == self.limit as usize {
             let error = TryReserveError::capacity_overflow();
             return Err(Refused { item, error });
         }

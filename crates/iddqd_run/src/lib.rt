@@ -19,3 +19,6 @@ pub use id_ord_map::{IdOrdMap, MAX_ITEMS};
 pub use items::IdOrdItem;
 pub use running::run;
 pub use serving::{Fault, fault_text, serve};
+
+#[cfg(test)]
+mod tests;

@@ -1,0 +1,4 @@
+//! What no clause says: worked rows, printed texts, and that each call succeeds with memory at hand.
+mod errors;
+mod maps;
+mod texts;

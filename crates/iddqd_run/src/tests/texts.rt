@@ -1,0 +1,89 @@
+//! Lines of text and their replies, through `serve`.
+use crate::{Fault, Kind, fault_text, kind_of, serve};
+use std::alloc::{AllocError, Global};
+use std::test::Fail;
+
+fn answer(alloc: Global, input: &[u8]) -> Result<(u64, Vec<u8>), Fault> {
+    let mut reader = input;
+    let mut text = Vec::new(alloc);
+    let refusals = serve(alloc, Kind::Ord, &mut reader, &mut text)?;
+    Ok((refusals, text))
+}
+
+fn kind_of_words(alloc: Global, words: &[&str]) -> Result<Option<Kind>, AllocError> {
+    let mut args = Vec::new(alloc);
+    for word in words {
+        args.push(String::from_str(alloc, word)?)?;
+    }
+    Ok(kind_of(args.as_slice()))
+}
+
+#[test]
+fn answers_texts(rt: HostRuntime) -> Result<(), Fail> {
+    for (input, text) in [
+        (b"".as_slice(), b"".as_slice()),
+        (b"\n", b"bad\n"),
+        (
+            b"add bob 2\nadd bob 9\nget bob\ndel bob\nlen\n",
+            b"added\nduplicate bob 2\n2\nremoved 2\n0\n",
+        ),
+        // no newline at the end
+        (
+            b"add a 0\nget a\nget b\ndel b\nlen",
+            b"added\n0\nnone\nnone\n1\n",
+        ),
+        // bytes that are no text
+        (b"add \xff 1\n\xc3\x28\nlen\n", b"bad\nbad\n0\n"),
+        // the greatest value, one more, a leading zero, a sign
+        (
+            b"add a 18446744073709551615\nadd b 18446744073709551616\nadd c 01\nadd d +1\nlen\n",
+            b"added\nbad\nbad\nbad\n1\n",
+        ),
+        // a field too few, a field too many, an empty field
+        (
+            b"add a\nadd a 1 2\nadd  1\nget\nlen 1\n len\n",
+            b"bad\nbad\nbad\nbad\nbad\nbad\n",
+        ),
+        // words that later versions know
+        (b"put a 1\nlist\naddall a 1\n", b"bad\nbad\nbad\n"),
+    ] {
+        let (refusals, answered) = answer(rt.alloc(), input).map_err(|_| "a fault")?;
+        assert_eq!(rt; refusals, 0);
+        assert_eq!(rt; answered.as_slice(), text);
+    }
+    Ok(())
+}
+
+#[test]
+fn bad_lines(rt: HostRuntime) -> Result<(), Fail> {
+    let alloc = rt.alloc();
+    let input =
+        b"add Bob 2\nlen \nadd aaaaaaaaaaaaaaaaaaaaaaaaaaaaaaaaa 1\nadd aaaaaaaaaaaaaaaaaaaaaaaaaaaaaaaa 0\nlen\n";
+    let (refusals, text) = answer(alloc, input).map_err(|_| "a fault")?;
+    assert_eq!(rt; refusals, 0);
+    assert_eq!(rt; text.as_slice(), b"bad\nbad\nbad\nadded\n1\n".as_slice());
+    for (words, kind) in [
+        ([].as_slice(), Some(Kind::Ord)),
+        (["ord"].as_slice(), Some(Kind::Ord)),
+        (["tree"].as_slice(), None),
+        (["hash"].as_slice(), None),
+        (["ord", "ord"].as_slice(), None),
+    ] {
+        assert_eq!(rt; kind_of_words(alloc, words)?, kind);
+    }
+    assert_eq!(rt; fault_text(&Fault::Read), "read failed");
+    assert_eq!(rt; fault_text(&Fault::Write), "write failed");
+    assert_eq!(rt; fault_text(&Fault::Memory), "no memory");
+    Ok(())
+}
+
+#[test]
+fn long_line(rt: HostRuntime) -> Result<(), Fail> {
+    let alloc = rt.alloc();
+    let mut input = vec![in alloc; b'a'; 1 << 20]?;
+    input.extend_from_slice(b"\nlen\n")?;
+    let (refusals, text) = answer(alloc, input.as_slice()).map_err(|_| "a fault")?;
+    assert_eq!(rt; refusals, 0);
+    assert_eq!(rt; text.as_slice(), b"bad\n0\n".as_slice());
+    Ok(())
+}
