@@ -1,6 +1,8 @@
 //! Items in numbered slots. A vacant slot is used again.
 mod chain;
 mod moves;
+#[cfg(test)]
+mod tests;
 
 ghost use Rattle.std.specs.Prelude.{◌≡◌, ◌≢◌, ℕ, ◌+◌, ◌-◌, ◌<◌, ◌≤◌, [], length, IfSome, IfNone, IfOk, OnOk, OnErr, IsSome, Some, None, option_copied, slice_set, Err, ◌↔◌, min, max};
 ghost use Rattle.std.specs.Borrow.{sem};
@@ -8,7 +10,7 @@ ghost use Rattle.iddqd_core.specs.Store.{item_at, IsOccupied, store_len, vacant,
 ghost use Rattle.iddqd_core.specs.declared.errors.TryReserveErrorKind.TheVariants.{CapacityOverflow, AllocError as OutOfMemory};
 
 use crate::errors::TryReserveError;
-use chain::{fill_first, vacate, Slot, NO_SLOT};
+use chain::{NO_SLOT, Slot, fill_first, vacate};
 use moves::{cut_vacant, move_last};
 use std::alloc::{AllocError, Global};
 use std::marker::Model;
@@ -81,13 +83,13 @@ impl<T> ItemStore<T> {
 
     /// How many slots there are: each number below it is that of a slot, occupied or vacant.
     #[inline]
-    pub fn slots(&self) -> usize
+    pub fn slots(&self) -> u32
         ensures slots { result ≡ length self.now.slots }
         ensures parts { store_len self.now + vacant self.now ≡ result }
         ensures limit { result ≤ self.now.limit }
         ensures capacity { result ≤ self.now.capacity }
     {
-        self.slots.len()
+        self.slots.len() as u32
     }
 
     /// How many items fit before memory is needed.

@@ -3,7 +3,7 @@ ghost use Rattle.std.specs.Prelude.{◌≡◌, ◌≢◌, ◌-◌, ◌<◌, ◌�
 ghost use Rattle.iddqd_core.specs.Store.{MovesLast};
 ghost use Rattle.iddqd_core.specs.Slots.{no_slot, items_of, links_at, IsChained, SameSlots};
 
-use super::chain::{fill_first, unlink, Slot};
+use super::chain::{Slot, fill_first, unlink};
 
 // Takes off the vacant slots at the end, and returns the first of those that are left.
 pub(super) fn cut_vacant<T>(slots: &mut Vec<Slot<T>>, first: u32) -> u32
