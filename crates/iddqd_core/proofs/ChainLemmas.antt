@@ -91,7 +91,7 @@ module _ (links links' : ℕ → Option (ℕ × ℕ)) (first at : ℕ) (free : l
         ]
       ]
 
-  -- the links that another names as its next is as it was
+  -- the links of a slot that another names as its next are as they were
   kept_next : (s m n : ℕ) → links n ≡ Some (s, m) → s ≢ no_slot → links' n ≡ Some (s, m)
   kept_next s m n is ne =
       others n (not_at n s m is) (λ some e. let head = chained.head some in ne (same_links (links n) s m no_slot head.0 is (ap links e ∙ head.1)).0) ∙ is
@@ -173,10 +173,6 @@ module _ (links links' : ℕ → Option (ℕ × ℕ)) (first first' at p n : ℕ
       let b = chained.back at p n was some in
       (b.0, b.1, (chained.forth p b.0 at b.1 (is_slot at p n was)).2)
 
-  -- a links far from the one that leaves
-  kept : (s : ℕ) → s ≢ at → (n ≢ no_slot → s ≢ n) → (p ≢ no_slot → s ≢ p) → (o : Option (ℕ × ℕ)) → links s ≡ o → links' s ≡ o
-  kept s a b c o is = others s a b c ∙ is
-
   LeaveCases : ℕ → ℕ → ℕ → Type 0
   LeaveCases s a b =
       ((s ≡ n) × (n ≢ no_slot) × (a ≡ p) × (links n ≡ Some (at, b)))
@@ -217,7 +213,7 @@ module _ (links links' : ℕ → Option (ℕ × ℕ)) (first first' at p n : ℕ
             ]
           ]
 
-  -- what a links that stays names is as it was, unless it names the one that leaves
+  -- a slot far from the one that leaves has the links that it had
   kept_links : (x : ℕ) (o : ℕ × ℕ) → links x ≡ Some o → x ≢ at → (n ≢ no_slot → x ≢ n) → (p ≢ no_slot → x ≢ p) → links' x ≡ Some o
   kept_links x o is a b c = others x a b c ∙ is
 
@@ -336,7 +332,7 @@ module _ (links links' : ℕ → Option (ℕ × ℕ)) (first first' at p n : ℕ
             ]
           ]
 
--- a links, the one before and the one after are three
+-- a slot, the one before it and the one after it are three
 pub apart : (links : ℕ → Option (ℕ × ℕ)) (first at p n : ℕ) → IsChained links first → links at ≡ Some (p, n) → (at ≢ no_slot) × (n ≢ no_slot → (m : ℕ) × (links n ≡ Some (at, m)) × (n ≢ at)) × (p ≢ no_slot → (q : ℕ) × (links p ≡ Some (q, at)) × (p ≢ at)) × (n ≢ no_slot → p ≢ no_slot → n ≢ p)
 apart links first at p n chained is =
     let number : at ≢ no_slot = λ e. some_not_none (links at) (p, n) (ap links e ∙ chained.none) is in

@@ -24,14 +24,14 @@ module _ {T : Type 0} where
   links_at-set_other es at e s other =
       ap (λ gs. get_or gs s None) (map-set links_of es at e) ∙ get_or-set_other (map links_of es) at s (links_of e) None other
 
-  -- a write of one links over another keeps the items
+  -- a write of other links keeps the items
   pub items_of-links : (es : List (Slot T)) (at : ℕ) (d : Slot T) (g h : Links) → at < length es → get_or es at d ≡ Vacant g → items_of (set es at (Vacant h)) ≡ items_of es
   items_of-links es at d g h within read =
       map-set item_of es at (Vacant h)
       ∙ ap (set (items_of es) at) (sym (get_or-map item_of es at d None within ∙ ap item_of read))
       ∙ set-get_or (items_of es) at None
 
-  -- a links lies inside
+  -- a vacant slot lies inside
   pub vacant_within : (es : List (Slot T)) (at : ℕ) → IsSome (links_at es at) → at < length es
   vacant_within es at some = elim (cases_lt at (length es)) [
     | inl p ↦ p
@@ -49,9 +49,6 @@ module _ {T : Type 0} where
 
   -- what `set_previous` and then `set_next` leave, list by list
   module _ (es es₁ es₂ : List (Slot T)) (first at p n : ℕ) (chained : IsChained (links_at es) first) (is : links_at es at ≡ Some (p, n)) (previous : n ≢ no_slot → (a m : ℕ) → links_at es n ≡ Some (a, m) → links_at es₁ n ≡ Some (p, m)) (others₁ : (s : ℕ) → (n ≢ no_slot → s ≢ n) → links_at es₁ s ≡ links_at es s) where
-    pub next_is_vacant : n ≢ no_slot → IsSome (links_at es n)
-    next_is_vacant ne = let f = (apart (links_at es) first at p n chained is).1 ne in rw f.1 refl
-
     pub previous_is_vacant : p ≢ no_slot → IsSome (links_at es₁ p)
     previous_is_vacant ne =
         let far = apart (links_at es) first at p n chained is in
@@ -63,7 +60,7 @@ module _ {T : Type 0} where
         let far = apart (links_at es) first at p n chained is in
         rw (others₂ at (λ ne e. (far.2 ne).2 (sym e)) ∙ others₁ at (λ ne e. (far.1 ne).2 (sym e)) ∙ is) refl
 
-  -- a slot holds an item or a links
+  -- a slot holds an item or links
   pub vacant_no_item : (es : List (Slot T)) (at : ℕ) → IsSome (links_at es at) → get_or (items_of es) at None ≡ None
   vacant_no_item [] at some = refl
   vacant_no_item (Vacant g ∷ es) zero some = refl
@@ -87,7 +84,7 @@ module _ {T : Type 0} where
   item_within (e ∷ es) zero some = omega arith
   item_within (e ∷ es) (suc at) some = omega (arith, item_within es at some)
 
-  -- with no links every slot holds an item
+  -- with none vacant every slot holds an item
   pub full_count : (es : List (Slot T)) → ((s : ℕ) → s < length es → links_at es s ≡ None) → count_by is_some (items_of es) ≡ length es
   full_count [] none = refl
   full_count (Vacant g ∷ es) none = let z = none 0 (omega arith) in absurd (cc)
@@ -226,7 +223,7 @@ module _ {T : Type 0} where
         chained = IsChained-along (links_at es) _ first (links-push es item) sound.chained;
       }
 
-  -- with no links there are as many items as slots
+  -- with none vacant there are as many items as slots
   pub full_is : (es : List (Slot T)) (len first limit : ℕ) → IsSound es len first limit → first ≡ no_slot → len ≡ length es
   full_is es len first limit sound full = sound.counted ∙ full_at_none es (subst (IsChained (links_at es)) full sound.chained)
 
@@ -246,18 +243,7 @@ module _ {T : Type 0} where
         chained = chained;
       }
 
-  pub IsSound-vacate : (es ws : List (Slot T)) (len first first' at limit : ℕ) (item : T) → IsSound es len first limit → at < length es → get_or (items_of es) at None ≡ Some item → items_of ws ≡ set (items_of es) at None → IsChained (links_at ws) first' → IsSound ws (len - 1) first' limit
-  IsSound-vacate es ws len first first' at limit item sound within held items chained =
-      let counted = count-set (items_of es) at (Some item) None (omega (arith, length-map es item_of)) held in
-      let same : length ws ≡ length es = sym (length-map ws item_of) ∙ ap length items ∙ length-set (items_of es) at None ∙ length-map es item_of in
-      record {
-        counted = rw items (omega (arith, sound.counted));
-        within = omega (arith, sound.within);
-        fits = sound.fits;
-        chained = chained;
-      }
-
-  -- how many slots have an item, after `fill` and `vacate`
+  -- how many slots are occupied and vacant, after `fill_first`
   pub count-filled : (os : List (Option T)) (at : ℕ) (item : T) → at < length os → get_or os at None ≡ None → count_by is_some (set os at (Some item)) ≡ count_by is_some os + 1
   count-filled os at item within vacant =
       omega (arith, count-set os at None (Some item) within vacant)
@@ -275,10 +261,6 @@ module _ {T : Type 0} where
   pub vacant-pushed : (es : List (Slot T)) (item : T) → count_by is_none (items_of (es ++ Occupied item ∷ [])) ≡ count_by is_none (items_of es)
   vacant-pushed es item =
       rw (map_push item_of es (Occupied item), sum_by_push (λ o. cond (is_none o) 1 0) (items_of es) (Some item)) (omega arith)
-
-  pub count-vacated : (os : List (Option T)) (at : ℕ) (item : T) → at < length os → get_or os at None ≡ Some item → count_by is_some (set os at None) + 1 ≡ count_by is_some os
-  count-vacated os at item within held =
-      omega (arith, count-set os at (Some item) None within held)
 
   pub Updates-set : (old new : Store T) (slot : ℕ) (item : Option T) → slot < length old.slots → new.slots ≡ set old.slots slot item → Updates old new slot item
   Updates-set old new slot item within written =
@@ -332,7 +314,7 @@ module _ {T : Type 0} where
     others = λ other x y. after.at other ∙ moves.others other x y ∙ before.at other;
   }
 
-  -- what taking the last slot, which has an item, and `fill` leave
+  -- what taking the last slot, which has an item, and `fill_first` leave
   module _ (es ws : List (Slot T)) (n hole : ℕ) (item : T) (long : length es ≡ suc n) (held : get_or (items_of es) n None ≡ Some item) (links : IsSome (links_at es hole)) (filled : items_of ws ≡ set (items_of (take n es)) hole (Some item)) where
     pub hole_below : hole < n
     hole_below = elim (cases_eq hole n) [

@@ -41,14 +41,16 @@ module _ {T : Type 0} where
 abbrev pub without : (ℕ → Option (ℕ × ℕ)) → ℕ → ℕ → Option (ℕ × ℕ)
 without links at slot = if slot == at then None else links slot
 
--- the links form one chain from `first`: each slot in it names the one before and the one after, and the rank falls
--- along it, so that it ends
+-- the links (previous, next) of the vacant slots form one chain from `first`. A rank falls along it, so it ends
 pub record IsChained (links : ℕ → Option (ℕ × ℕ)) (first : ℕ) : Type 0 where
   pub rank : ℕ → ℕ
   pub top : ℕ
+  -- the number that stands for no slot is none
   pub none : links no_slot ≡ None
+  -- the first is vacant and has none before it, and no other has none before it
   pub head : first ≢ no_slot → (n : ℕ) × (links first ≡ Some (no_slot, n))
   pub start : (s n : ℕ) → links s ≡ Some (no_slot, n) → s ≡ first
+  -- the next names this one as its previous, and the previous names it as its next
   pub forth : (s p n : ℕ) → links s ≡ Some (p, n) → n ≢ no_slot → (m : ℕ) × (links n ≡ Some (s, m)) × (rank n < rank s)
   pub back : (s p n : ℕ) → links s ≡ Some (p, n) → p ≢ no_slot → (q : ℕ) × (links p ≡ Some (q, s))
   pub below : (s p n : ℕ) → links s ≡ Some (p, n) → rank s < top

@@ -1,9 +1,9 @@
--- What a contract sees of an `ItemStore`: ours, for the crate's `ItemSet`, which is the numbered slots of its maps.
+-- What a contract sees of an `ItemStore`, which is the crate's `ItemSet`: the numbered slots that hold a map's items.
 use Rattle.std.specs.Prelude.{◌≡◌, ◌≢◌, ℕ, ◌+◌, ◌-◌, ◌<◌, ◌≤◌, List, length, Option, Some, None, is_some, is_none, IsSome, count_by, slice_index_or, slice_set, refl, IsSomeAnd}
 use Rattle.std.specs.List.{AllZip}
 use Rattle.std.specs.Coded.{Coded, code_by, coded×, coded_ℕ, coded_list, coded_option}
 
--- the item or nothing of each slot by its number, how many items fit before memory is needed, and the limit
+-- the item or nothing at each slot, how many items fit before memory is needed, and the limit, which is ours
 pub record Store (T : Type 0) : Type 0 where
   pub slots : List (Option T)
   pub capacity : ℕ
@@ -40,7 +40,7 @@ module _ {T : Type 0} where
   abbrev pub with_item : Store T → ℕ → T → Store T
   with_item s slot item = record s { slots = slice_set s.slots slot (Some item) }
 
-  -- so many more items fit, in memory and below the limit
+  -- so many more items fit, in memory and within the limit (ours)
   abbrev pub HasRoomFor : Store T → ℕ → Type 0
   HasRoomFor s more = (store_len s + more ≤ s.capacity) × (store_len s + more ≤ s.limit)
 
@@ -53,11 +53,11 @@ module _ {T : Type 0} where
   abbrev pub SameItems : Store T → Store T → Type 0
   SameItems old new = (slot : ℕ) → item_at new slot ≡ item_at old slot
 
-  -- the last slot, if there is one, is occupied
+  -- the last slot, if there is one, is occupied: no vacant slot is left at the end (ours)
   abbrev pub EndsOccupied : List (Option T) → Type 0
   EndsOccupied slots = 0 < length slots → IsSome (slice_index_or slots (length slots - 1) None)
 
-  -- the item of the greatest occupied slot stands in a lower slot, which was vacant
+  -- the item of the greatest occupied slot stands in a lower slot, which was vacant (a step of the crate's `compact`)
   pub record MovesLast (old new : List (Option T)) (last hole : ℕ) : Type 0 where
     pub lower : hole < last
     pub was_vacant : slice_index_or old hole None ≡ None
@@ -65,7 +65,8 @@ module _ {T : Type 0} where
     pub greatest : (other : ℕ) → last < other → slice_index_or old other None ≡ None
     pub moved : slice_index_or new hole None ≡ slice_index_or old last None
     pub left : slice_index_or new last None ≡ None
-    pub others : (other : ℕ) → other ≢ hole → other ≢ last → slice_index_or new other None ≡ slice_index_or old other None
+    pub others : (other : ℕ) → other ≢ hole → other ≢ last
+        → slice_index_or new other None ≡ slice_index_or old other None
 
   -- both slots are vacant, or the second has a clone of the first's item
   abbrev pub IsItemClone : (T → T → Type 0) → Option T → Option T → Type 0

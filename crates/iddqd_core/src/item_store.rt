@@ -4,7 +4,7 @@ mod moves;
 #[cfg(test)]
 mod tests;
 
-ghost use Rattle.std.specs.Prelude.{◌≡◌, ◌≢◌, ℕ, ◌+◌, ◌-◌, ◌<◌, ◌≤◌, [], length, IfSome, IfNone, IfOk, OnOk, OnErr, IsSome, Some, None, option_copied, slice_set, Err, ◌↔◌, min, max};
+ghost use Rattle.std.specs.Prelude.{◌≡◌, ◌≢◌, ℕ, ◌+◌, ◌-◌, ◌<◌, ◌≤◌, [], length, IfSome, IfNone, IfOk, OnOk, OnErr, IsSome, Some, None, OnSome, option_copied, slice_set, Err, ◌↔◌, min};
 ghost use Rattle.std.specs.Borrow.{sem};
 ghost use Rattle.iddqd_core.specs.Store.{item_at, IsOccupied, store_len, vacant, HasRoomFor, Updates, SameItems, MovesLast, EndsOccupied, IsStoreClone};
 ghost use Rattle.iddqd_core.specs.declared.errors.TryReserveErrorKind.TheVariants.{CapacityOverflow, AllocError as OutOfMemory};
@@ -16,9 +16,9 @@ use std::alloc::{AllocError, Global};
 use std::marker::Model;
 use std::mem;
 
-/// Items in numbered slots, as the crate's `ItemSet` keeps them: an item keeps its slot until it is removed or moved
-/// into a lower one, and the slot of a removed item is used again. Contracts see it as the list of its slots, each
-/// with its item or vacant, with its capacity and its limit.
+/// Items in numbered slots, as the crate's `ItemSet`: an item stays in its slot until it is removed
+/// or moved into a lower one, and the slot of a removed item is used again. Contracts see the list
+/// of the slots, each with its item or vacant, the capacity and the limit.
 #[derive(Drop)]
 pub struct ItemStore<T> {
     slots: Vec<Slot<T>>,
@@ -68,12 +68,13 @@ impl<T> ItemStore<T> {
     /// How many items there are. It counts none of them.
     #[inline]
     pub fn len(&self) -> usize
-        ensures { result ≡ store_len self.now }
+        ensures items { result ≡ store_len self.now }
+        ensures limit { result ≤ self.now.limit }
     {
         self.len
     }
 
-    /// How many slots are vacant. It counts none of them.
+    /// How many slots are vacant (ours). It counts none of them.
     #[inline]
     pub fn vacant(&self) -> u32
         ensures { result ≡ vacant self.now }
@@ -81,7 +82,7 @@ impl<T> ItemStore<T> {
         (self.slots.len() - self.len) as u32
     }
 
-    /// How many slots there are: each number below it is that of a slot, occupied or vacant.
+    /// How many slots there are (ours): each number below it is a slot's, occupied or vacant.
     #[inline]
     pub fn slots(&self) -> u32
         ensures slots { result ≡ length self.now.slots }
@@ -100,7 +101,7 @@ impl<T> ItemStore<T> {
         self.slots.capacity()
     }
 
-    /// The most items that the store ever holds, as `new` was told.
+    /// The most items that the store ever holds, as `new` was told (ours).
     #[inline]
     pub fn limit(&self) -> u32
         ensures { result ≡ self.now.limit }
@@ -108,12 +109,13 @@ impl<T> ItemStore<T> {
         self.limit
     }
 
-    /// Makes room for `additional` more items. `CapacityOverflow` where the limit has no room for them, and else
-    /// `AllocError` where memory was refused; the slots stay as they were. It takes no memory where room is there.
+    /// Makes room for `additional` more items. `CapacityOverflow` where the limit has no room for
+    /// them, else `AllocError` where memory was refused; the slots stay as they were, and where
+    /// there is room it takes no memory.
     #[inline]
     pub fn try_reserve(&mut self, additional: usize) -> Result<(), TryReserveError>
         ensures ok { OnOk result (HasRoomFor self.new additional) }
-        ensures overflow { result ≡ Err CapacityOverflow ↔ (self.old.limit < store_len self.old + additional) }
+        ensures overflow { (result ≡ Err CapacityOverflow) ↔ (self.old.limit < store_len self.old + additional) }
         ensures memory { result ≡ Err OutOfMemory → self.old.capacity < store_len self.old + additional }
         ensures rest { self.new ≡ record self.old { capacity = self.new.capacity } }
         ensures capacity { self.old.capacity ≤ self.new.capacity }
@@ -166,8 +168,8 @@ impl<T> ItemStore<T> {
         self.slots[slot as usize].item_mut()
     }
 
-    /// Puts the item into a vacant slot if there is one, and else into a new one, the next number; answers the slot.
-    /// Room for it is to be there, as `try_reserve(1)` makes it, so that it takes no memory.
+    /// Puts the item into a vacant slot if there is one, and else into a new one of the next number;
+    /// answers the slot. There must be room, as `try_reserve(1)` makes it, so it takes no memory.
     #[inline]
     pub fn insert_reserved(&mut self, item: T) -> u32
         requires { HasRoomFor self.old 1 }
@@ -177,7 +179,8 @@ impl<T> ItemStore<T> {
         ensures next { vacant self.old ≡ 0 → result ≡ length self.old.slots }
         ensures len { store_len self.new ≡ store_len self.old + 1 }
         ensures vacant { vacant self.new ≡ vacant self.old - 1 }
-        ensures rest { (self.new.capacity ≡ self.old.capacity) × (self.new.limit ≡ self.old.limit) }
+        ensures capacity { self.new.capacity ≡ self.old.capacity }
+        ensures limit { self.new.limit ≡ self.old.limit }
     {
         let slot = self.first_vacant;
         self.len += 1;
@@ -231,16 +234,19 @@ impl<T> ItemStore<T> {
         self.first_vacant = NO_SLOT;
     }
 
-    /// Moves the item of the greatest occupied slot into a lower vacant one, and answers the old slot and the new one;
-    /// `None` where no slot is vacant but such as end the list. Vacant slots at the end are cut off. It takes no
-    /// memory, and its cost is the number of slots that go.
+    /// Moves the item of the greatest occupied slot into a lower vacant one, and answers the old slot
+    /// and the new one; `None` where there is no such move, and then no slot is vacant any more (ours,
+    /// a step of the crate's `compact`). Vacant slots at the end are cut off. It takes no memory, and
+    /// looks only at the slots that go.
     pub fn last_into_hole(&mut self) -> Option<(u32, u32)>
         ensures moves { IfSome result (λ m. MovesLast self.old.slots self.new.slots m.0 m.1) }
-        ensures fewer { IfSome result (λ _. vacant self.new < vacant self.old) }
-        ensures none { IfNone result ((vacant self.new ≡ 0) × SameItems self.old self.new) }
+        ensures fewer { OnSome result (vacant self.new < vacant self.old) }
+        ensures none_vacant { IfNone result (vacant self.new ≡ 0) }
+        ensures none_moves { IfNone result (SameItems self.old self.new) }
         ensures cut { EndsOccupied self.new.slots }
         ensures len { store_len self.new ≡ store_len self.old }
-        ensures rest { (self.new.capacity ≡ self.old.capacity) × (self.new.limit ≡ self.old.limit) }
+        ensures capacity { self.new.capacity ≡ self.old.capacity }
+        ensures limit { self.new.limit ≡ self.old.limit }
     {
         self.first_vacant = cut_vacant(&mut self.slots, self.first_vacant);
         if self.first_vacant == NO_SLOT {
@@ -253,21 +259,23 @@ impl<T> ItemStore<T> {
         Some((last as u32, hole))
     }
 
-    /// Gives memory back, but for room for `min_capacity` items and for those that are there. No slot may be vacant, as after
-    /// `last_into_hole` answered `None`. Refused or not, the slots stay as they were.
+    /// Gives memory back, but for room for `min_capacity` items and for those that are there (the
+    /// crate's `shrink_capacity_to`). No slot may be vacant, as after `last_into_hole` answered
+    /// `None`. Refused or not, the slots stay as they were.
     pub fn shrink_to(&mut self, min_capacity: usize) -> Result<(), TryReserveError>
         requires { vacant self.old ≡ 0 }
         ensures err { OnErr result (result ≡ Err OutOfMemory) }
         ensures rest { self.new ≡ record self.old { capacity = self.new.capacity } }
         ensures lowers { self.new.capacity ≤ self.old.capacity }
-        ensures keeps { max (store_len self.old) (min min_capacity self.old.capacity) ≤ self.new.capacity }
+        ensures keeps_items { store_len self.old ≤ self.new.capacity }
+        ensures keeps_room { min min_capacity self.old.capacity ≤ self.new.capacity }
     {
         self.slots.shrink_to(min_capacity);
         Ok(())
     }
 
-    /// A store of the same limit with a clone of each item in the same slot, the vacant slots too. `Err` where a clone
-    /// or the slots' memory was refused, and then nothing is made.
+    /// A store of the same limit with a clone of each item in its slot, and the same slots vacant.
+    /// `Err` where memory for a clone or for the slots was refused, and then nothing is made.
     pub fn try_clone(&self) -> Result<Self, AllocError>
     where
         T: Clone,

@@ -56,7 +56,8 @@ impl<T> Slot<T> {
 fn set_next<T>(slots: &mut [Slot<T>], at: u32, next: u32)
     requires { at ≢ no_slot → IsSome (links_at slots.old at) }
     ensures items { items_of slots.new ≡ items_of slots.old }
-    ensures links { at ≢ no_slot → (p n : ℕ) → links_at slots.old at ≡ Some (p, n) → links_at slots.new at ≡ Some (p, next) }
+    ensures links { at ≢ no_slot → (p n : ℕ) → links_at slots.old at ≡ Some (p, n)
+        → links_at slots.new at ≡ Some (p, next) }
     ensures others { (s : ℕ) → (at ≢ no_slot → s ≢ at) → links_at slots.new s ≡ links_at slots.old s }
 {
     if at == NO_SLOT {
@@ -72,7 +73,8 @@ fn set_next<T>(slots: &mut [Slot<T>], at: u32, next: u32)
 fn set_previous<T>(slots: &mut [Slot<T>], at: u32, previous: u32)
     requires { at ≢ no_slot → IsSome (links_at slots.old at) }
     ensures items { items_of slots.new ≡ items_of slots.old }
-    ensures links { at ≢ no_slot → (p n : ℕ) → links_at slots.old at ≡ Some (p, n) → links_at slots.new at ≡ Some (previous, n) }
+    ensures links { at ≢ no_slot → (p n : ℕ) → links_at slots.old at ≡ Some (p, n)
+        → links_at slots.new at ≡ Some (previous, n) }
     ensures others { (s : ℕ) → (at ≢ no_slot → s ≢ at) → links_at slots.new s ≡ links_at slots.old s }
 {
     if at == NO_SLOT {

@@ -1,4 +1,4 @@
-//! How a store closes up: vacant slots at its end are cut off, and its last item moves into one before it.
+//! How a store closes up: vacant slots at its end are cut off, and its last item moves into a vacant one.
 ghost use Rattle.std.specs.Prelude.{◌≡◌, ◌≢◌, ◌-◌, ◌<◌, ◌≤◌, None, is_some, count_by, vec_len, vec_capacity};
 ghost use Rattle.iddqd_core.specs.Store.{MovesLast};
 ghost use Rattle.iddqd_core.specs.Slots.{no_slot, items_of, links_at, IsChained, SameSlots};
@@ -26,7 +26,8 @@ pub(super) fn cut_vacant<T>(slots: &mut Vec<Slot<T>>, first: u32) -> u32
     first
 }
 
-// Moves the item of the last slot into the first vacant one, and returns the first of those that are left.
+// Moves the item of the last slot into the first vacant one, and returns the first of those that
+// are left.
 pub(super) fn move_last<T>(slots: &mut Vec<Slot<T>>, hole: u32) -> u32
     requires hole { hole ≢ no_slot }
     requires chained { IsChained (links_at slots.old.items) hole }

@@ -53,5 +53,6 @@ returns g c =
       next = λ none. absurd (omega (arith, some_vacant (items_of es) first within nothing));
       len = rw items (count-filled (items_of es) first item within nothing);
       vacant = rw items (omega (arith, vacant-filled (items_of es) first item within nothing));
-      rest = (refl, refl);
+      capacity = refl;
+      limit = refl;
     })

@@ -4,11 +4,14 @@ use Rattle.iddqd_core.specs.Slots.{item_of, items_of, links_at, IsChained}
 use Rattle.iddqd_core.proofs.SlotLemmas.{full_at_none, both_counts, ends_occupied, fewer_vacant, MovesLast-along}
 use Rattle.iddqd_core.proofs.item_store.ItemStore.last_into_hole.Goals as goal
 
-pub returns-then-self-clause-none : goal.returns-then-self-clause-none
-returns-then-self-clause-none g c =
+pub returns-then-self-clause-none_vacant : goal.returns-then-self-clause-none_vacant
+returns-then-self-clause-none_vacant g c =
     let es = c.cut_vacant-self-inside.new.slots.items in
     let full = full_at_none es (subst (IsChained (links_at es)) c.if-self.true c.cut_vacant-self-inside.ensures.chained) in
-    (omega (arith, full, both_counts (items_of es), length-map es item_of), rw (← c.self.view_is) c.cut_vacant-self-inside.ensures.items.at)
+    omega (arith, full, both_counts (items_of es), length-map es item_of)
+
+pub returns-then-self-clause-none_moves : goal.returns-then-self-clause-none_moves
+returns-then-self-clause-none_moves g c = rw (← c.self.view_is) c.cut_vacant-self-inside.ensures.items.at
 
 pub returns-clause-moves : goal.returns-clause-moves
 returns-clause-moves g c =
