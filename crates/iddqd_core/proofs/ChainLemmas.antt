@@ -4,6 +4,7 @@ use Rattle.std.proofs.lemmas.Bool.{cases_eq}
 use Rattle.std.proofs.lemmas.Bool.{eq-eqb, ne_eqb}
 use Rattle.iddqd_core.specs.Slots.{no_slot, without, IsChained}
 
+-- one slot has one pair of links
 pub same_links : (o : Option (ℕ × ℕ)) (a b c d : ℕ) → o ≡ Some (a, b) → o ≡ Some (c, d) → (a ≡ c) × (b ≡ d)
 same_links o a b c d x y =
     let e : ◌≡◌ {A = Option (ℕ × ℕ)} (Some (a, b)) (Some (c, d)) = sym x ∙ y in
@@ -25,6 +26,7 @@ at_place-other : (rank : ℕ → ℕ) (at value s : ℕ) → s ≢ at → at_pla
 unfolding at_place
 at_place-other rank at value s other = ap (λ t. cond t value (rank s)) (ne_eqb s at other)
 
+-- the links of all slots but one, at that slot and at another
 pub without-same : (links : ℕ → Option (ℕ × ℕ)) (at : ℕ) → without links at at ≡ None
 without-same links at = ap (λ t. cond t None (links at)) (eq-eqb at at refl)
 
@@ -68,6 +70,7 @@ module _ (links links' : ℕ → Option (ℕ × ℕ)) (first at : ℕ) (free : l
   a_slot : (s p n : ℕ) → links s ≡ Some (p, n) → s ≢ no_slot
   a_slot s p n is e = some_not_none (links s) (p, n) (ap links e ∙ chained.none) is
 
+  -- a slot that is vacant afterwards is the one that joins, the first before it, or another
   JoinCases : ℕ → ℕ → ℕ → Type 0
   JoinCases s p n =
       ((s ≡ at) × (p ≡ no_slot) × (n ≡ first))
@@ -96,6 +99,7 @@ module _ (links links' : ℕ → Option (ℕ × ℕ)) (first at : ℕ) (free : l
   kept_next s m n is ne =
       others n (not_at n s m is) (λ some e. let head = chained.head some in ne (same_links (links n) s m no_slot head.0 is (ap links e ∙ head.1)).0) ∙ is
 
+  -- the chain with the slot that joined
   pub IsChained-put : IsChained links' at
   unfolding JoinCases
   IsChained-put = record {
@@ -173,6 +177,7 @@ module _ (links links' : ℕ → Option (ℕ × ℕ)) (first first' at p n : ℕ
       let b = chained.back at p n was some in
       (b.0, b.1, (chained.forth p b.0 at b.1 (is_slot at p n was)).2)
 
+  -- a slot that is vacant afterwards is the next of the one that leaves, its previous, or another
   LeaveCases : ℕ → ℕ → ℕ → Type 0
   LeaveCases s a b =
       ((s ≡ n) × (n ≢ no_slot) × (a ≡ p) × (links n ≡ Some (at, b)))
@@ -217,6 +222,7 @@ module _ (links links' : ℕ → Option (ℕ × ℕ)) (first first' at p n : ℕ
   kept_links : (x : ℕ) (o : ℕ × ℕ) → links x ≡ Some o → x ≢ at → (n ≢ no_slot → x ≢ n) → (p ≢ no_slot → x ≢ p) → links' x ≡ Some o
   kept_links x o is a b c = others x a b c ∙ is
 
+  -- the chain without the slot that left
   pub IsChained-taken : IsChained links' first'
   unfolding LeaveCases after before
   IsChained-taken = record {

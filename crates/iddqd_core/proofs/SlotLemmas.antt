@@ -13,9 +13,11 @@ use Rattle.iddqd_core.specs.Slots.{no_slot, item_of, links_of, items_of, links_a
 use Rattle.iddqd_core.proofs.ChainLemmas.{without-same, without-other, IsChained-along, first_exists, same_links, head_links, apart}
 
 module _ {T : Type 0} where
+  -- the links of a slot that was read
   pub links_at-read : (es : List (Slot T)) (at : ℕ) (d e : Slot T) → at < length es → get_or es at d ≡ e → links_at es at ≡ links_of e
   links_at-read es at d e within read = get_or-map links_of es at d None within ∙ ap links_of read
 
+  -- the links of the slot that was written, and of another
   pub links_at-set_same : (es : List (Slot T)) (at : ℕ) (e : Slot T) → at < length es → links_at (set es at e) at ≡ links_of e
   links_at-set_same es at e within =
       ap (λ gs. get_or gs at None) (map-set links_of es at e) ∙ get_or-set_same (map links_of es) at (links_of e) None (omega (arith, length-map es links_of))
@@ -49,12 +51,14 @@ module _ {T : Type 0} where
 
   -- what `set_previous` and then `set_next` leave, list by list
   module _ (es es₁ es₂ : List (Slot T)) (first at p n : ℕ) (chained : IsChained (links_at es) first) (is : links_at es at ≡ Some (p, n)) (previous : n ≢ no_slot → (a m : ℕ) → links_at es n ≡ Some (a, m) → links_at es₁ n ≡ Some (p, m)) (others₁ : (s : ℕ) → (n ≢ no_slot → s ≢ n) → links_at es₁ s ≡ links_at es s) where
+    -- the slot before is vacant still after `set_previous`
     pub previous_is_vacant : p ≢ no_slot → IsSome (links_at es₁ p)
     previous_is_vacant ne =
         let far = apart (links_at es) first at p n chained is in
         let b = far.2 ne in
         rw (others₁ p (λ ne' e. far.3 ne' ne (sym e)) ∙ b.1) refl
 
+    -- the slot that leaves is vacant still after both
     pub still_vacant : ((s : ℕ) → (p ≢ no_slot → s ≢ p) → links_at es₂ s ≡ links_at es₁ s) → IsSome (links_at es₂ at)
     still_vacant others₂ =
         let far = apart (links_at es) first at p n chained is in
@@ -91,6 +95,7 @@ module _ {T : Type 0} where
   full_count (Occupied x ∷ es) none =
       omega (arith, full_count es (λ s below. none (suc s) (omega arith)), sum_by-cons (λ o. cond (is_some o) 1 0) (Some x) (items_of es))
 
+  -- where the chain has no first no slot is vacant
   pub no_links_at_none : (es : List (Slot T)) (s : ℕ) → IsChained (links_at es) no_slot → links_at es s ≡ None
   no_links_at_none es s chained = by_links (links_at es s) refl
     where
@@ -105,11 +110,13 @@ module _ {T : Type 0} where
   pub first_is_vacant : (es : List (Slot T)) (first : ℕ) → IsChained (links_at es) first → first ≢ no_slot → IsSome (links_at es first)
   first_is_vacant es first chained some = let h = chained.head some in rw h.1 refl
 
+  -- the first of the chain has none before it
   pub first_links : (es : List (Slot T)) (first : ℕ) (d : Slot T) (links : Links) → IsChained (links_at es) first → first ≢ no_slot → get_or es first d ≡ Vacant links → links_at es first ≡ Some (no_slot, links.next)
   first_links es first d links chained some read =
       let within = vacant_within es first (first_is_vacant es first chained some) in
       head_links (links_at es) first links.previous links.next chained some (links_at-read es first d (Vacant links) within read)
 
+  -- the links after a slot is filled, vacated, replaced
   pub links-filled : (es : List (Slot T)) (at : ℕ) (item : T) → at < length es → (s : ℕ) → links_at (set es at (Occupied item)) s ≡ without (links_at es) at s
   links-filled es at item within s = elim (cases_eq s at) [
     | inl e ↦ rw e (links_at-set_same es at (Occupied item) within ∙ sym (without-same (links_at es) at))
@@ -135,6 +142,7 @@ module _ {T : Type 0} where
     | inr other ↦ links_at-set_other es at (Occupied item) s other
   ]
 
+  -- a slot before the last is as it was once the last is taken off
   front_other : {X : Type 0} (f : Slot T → Option X) (es : List (Slot T)) (n : ℕ) → length es ≡ suc n → (s : ℕ) → s ≢ n → get_or (map f (take n es)) s None ≡ get_or (map f es) s None
   front_other f es n long s other = elim (cases_lt s n) [
     | inl p ↦ ap (λ xs. get_or xs s None) (sym (take-map f n es)) ∙ get_or-take n (map f es) s None p
@@ -154,6 +162,7 @@ module _ {T : Type 0} where
   pub items-front_last : (es : List (Slot T)) (n : ℕ) → length es ≡ suc n → get_or (items_of (take n es)) n None ≡ None
   items-front_last es n long = get_or_past (items_of (take n es)) n None (omega (arith, length-map (take n es) item_of, length-take n es))
 
+  -- the count of one slot more
   sum_by-more : (os : List (Option T)) (n : ℕ) → n < length os → count_by is_some (take (n + 1) os) ≡ count_by is_some (take n os) + cond (is_some (get_or os n None)) 1 0
   sum_by-more os n below = ap (count_by is_some) (take_more os n None below) ∙ sum_by_push (λ o. cond (is_some o) 1 0) (take n os) (get_or os n None)
 
@@ -188,6 +197,7 @@ module _ {T : Type 0} where
   count-set os at old o within read =
       subst (λ x. count_by is_some (set os at o) + cond (is_some x) 1 0 ≡ count_by is_some os + cond (is_some o) 1 0) read (sum_by-set (λ x. cond (is_some x) 1 0) os at o None within)
 
+  -- a store without slots
   pub IsSound-empty : (limit : ℕ) → limit < 2 ^ 32 → IsSound {T = T} [] 0 no_slot limit
   IsSound-empty limit fits = record {
     counted = refl;
@@ -212,6 +222,7 @@ module _ {T : Type 0} where
   links-push (e ∷ es) item zero = refl
   links-push (e ∷ es) item (suc s) = links-push es item s
 
+  -- the invariant after an item at the end
   pub IsSound-push : (es : List (Slot T)) (len first limit : ℕ) (item : T) → IsSound es len first limit → first ≡ no_slot → len + 1 ≤ limit → IsSound (es ++ Occupied item ∷ []) (len + 1) first limit
   IsSound-push es len first limit item sound full room =
       let longer = length_push es (Occupied item) in
@@ -227,6 +238,7 @@ module _ {T : Type 0} where
   pub full_is : (es : List (Slot T)) (len first limit : ℕ) → IsSound es len first limit → first ≡ no_slot → len ≡ length es
   full_is es len first limit sound full = sound.counted ∙ full_at_none es (subst (IsChained (links_at es)) full sound.chained)
 
+  -- where the chain has no first none is counted as vacant
   pub none_vacant : (es : List (Slot T)) (len first limit : ℕ) → IsSound es len first limit → first ≡ no_slot → count_by is_none (items_of es) ≡ 0
   none_vacant es len first limit sound full =
       omega (arith, full_is es len first limit sound full, sound.counted, both_counts (items_of es), length-map es item_of)
@@ -258,10 +270,12 @@ module _ {T : Type 0} where
       let one : 1 ≤ count_by is_none os = subst (λ o. cond (is_none o) 1 0 ≤ count_by is_none os) vacant (get_or-le-sum_by (λ o. cond (is_none o) 1 0) os at None within) in
       omega arith
 
+  -- an item at the end is not counted as vacant
   pub vacant-pushed : (es : List (Slot T)) (item : T) → count_by is_none (items_of (es ++ Occupied item ∷ [])) ≡ count_by is_none (items_of es)
   vacant-pushed es item =
       rw (map_push item_of es (Occupied item), sum_by_push (λ o. cond (is_none o) 1 0) (items_of es) (Some item)) (omega arith)
 
+  -- a written list of slots is an update of that slot
   pub Updates-set : (old new : Store T) (slot : ℕ) (item : Option T) → slot < length old.slots → new.slots ≡ set old.slots slot item → Updates old new slot item
   Updates-set old new slot item within written =
       record {
@@ -273,6 +287,7 @@ module _ {T : Type 0} where
   some_of None some = absurd (cc)
   some_of (Some x) some = (x, refl)
 
+  -- replacing an item keeps both counts and the invariant
   pub count-replaced : (es : List (Slot T)) (at : ℕ) (item : T) → IsSome (get_or (items_of es) at None) → count_by is_some (items_of (set es at (Occupied item))) ≡ count_by is_some (items_of es)
   count-replaced es at item occupied =
       let old = some_of (get_or (items_of es) at None) occupied in
@@ -303,6 +318,7 @@ module _ {T : Type 0} where
   fewer_vacant es ws same shorter =
       omega (arith, both_counts (items_of es), both_counts (items_of ws), length-map es item_of, length-map ws item_of)
 
+  -- a move between two changes that keep what each slot holds
   pub MovesLast-along : (a b c d : List (Option T)) (last hole : ℕ) → SameSlots a b → MovesLast b c last hole → SameSlots c d → MovesLast a d last hole
   MovesLast-along a b c d last hole before moves after = record {
     lower = moves.lower;
@@ -325,6 +341,7 @@ module _ {T : Type 0} where
     inside : hole < length (items_of (take n es))
     inside = omega (arith, hole_below, length-map (take n es) item_of, length-take n es)
 
+    -- the move, and the count after it
     pub MovesLast-fill : MovesLast (items_of es) (items_of ws) n hole
     MovesLast-fill = record {
       lower = hole_below;
@@ -353,6 +370,7 @@ module _ {T : Type 0} where
       chained
 
 module _ {T : Type 0} (is_clone : T → T → Type 0) where
+  -- clones of slots are clones of their items, with the same links and counts
   pub items_are_clones : (es copies : List (Slot T)) → AllZip (IsSlotClone is_clone) es copies → AllZip (IsItemClone is_clone) (items_of es) (items_of copies)
   items_are_clones [] [] all = tt
   items_are_clones [] (c ∷ copies) all = absurd all
@@ -382,6 +400,7 @@ module _ {T : Type 0} (is_clone : T → T → Type 0) where
   vacant_of_clones es copies all =
       omega (arith, count_of_clones es copies all, both_counts (items_of es), both_counts (items_of copies), length-map es item_of, length-map copies item_of, length_all_zip (IsSlotClone is_clone) es copies all)
 
+  -- a clone keeps the invariant
   pub IsSound-clone : (es copies : List (Slot T)) (len first limit : ℕ) → AllZip (IsSlotClone is_clone) es copies → IsSound es len first limit → IsSound copies len first limit
   IsSound-clone es copies len first limit all sound = record {
     counted = sound.counted ∙ sym (count_of_clones es copies all);

@@ -141,10 +141,9 @@ impl<T> ItemStore<T> {
         ensures capacity { self.old.capacity ≤ self.new.capacity }
     {
         let vacant = self.slots.len() - self.len;
-        match self.slots.reserve(additional - vacant) {
-            Ok(()) => Ok(()),
-            Err(_) => Err(TryReserveError::alloc_error()),
-        }
+        self.slots
+            .reserve(additional - vacant)
+            .map_err(|_| TryReserveError::alloc_error())
     }
 
     /// The item of the slot; `None` where the slot is vacant or there is no such slot.
