@@ -1,0 +1,4 @@
+pub mod Errors
+pub mod Store
+pub mod Slots
+pub mod Lends
