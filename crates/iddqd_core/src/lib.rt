@@ -1,0 +1,4 @@
+//! What both maps stand on: errors, items, queries, the item store and the indexes.
+#![tactic(auto)]
+
+pub mod errors;
