@@ -1,1 +1,4 @@
 pub mod Errors
+pub mod Lends
+pub mod Slots
+pub mod Store

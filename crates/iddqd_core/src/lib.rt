@@ -2,3 +2,4 @@
 #![tactic(auto)]
 
 pub mod errors;
+pub mod item_store;

@@ -1,0 +1,10 @@
+use Rattle.std.proofs.Common.{refl}
+use Rattle.iddqd_core.proofs.SlotLemmas.{items_are_clones, IsSound-clone}
+use Rattle.iddqd_core.proofs.item_store.ItemStore.try_clone.Goals as goal
+
+pub invariant_of-result : goal.invariant_of-result
+invariant_of-result g c = IsSound-clone g.T.Clone.is_clone _ _ _ _ _ c.in_ok-clone.ensures.cases.0 c.self.invariant
+
+pub returns : goal.returns
+returns g c =
+    rw (← c.self.view_is) (record { slots = items_are_clones g.T.Clone.is_clone _ _ c.in_ok-clone.ensures.cases.0; limit = refl })
