@@ -1,4 +1,10 @@
+pub mod Contents
+pub mod Digits
 pub mod Errors
+pub mod Hashing
 pub mod Lends
+pub mod Listed
+pub mod Query
+pub mod Search
 pub mod Slots
 pub mod Store

@@ -3,3 +3,8 @@
 
 pub mod errors;
 pub mod item_store;
+pub mod items;
+pub mod laws;
+pub mod queries;
+pub mod steps;
+pub mod text;

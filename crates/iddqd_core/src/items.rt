@@ -1,0 +1,91 @@
+//! Items that hold their own key.
+ghost use Rattle.std.specs.Prelude.{◌≡◌};
+
+use std::hash::Hash;
+use std::rc::Rc;
+
+/// An item of a hash map, which shows its key by a reference into itself (the crate's `IdHashItem`).
+pub trait IdHashItem {
+    /// What tells the item from others, and where it is looked for.
+    type Key: Eq + Hash;
+
+    // The key that an item shows: it depends on the item's value alone.
+    ghost key: { Self → Self.Key };
+
+    /// The item's key.
+    fn key(&self) -> &Self::Key
+        ensures { result.now ≡ key self.now };
+}
+
+/// An item of an ordered map, which shows its key by a reference into itself.
+pub trait IdOrdItem {
+    /// What tells the item from others, and orders it among them.
+    type Key: Ord;
+
+    // The key that an item shows: it depends on the item's value alone.
+    ghost key: { Self → Self.Key };
+
+    /// The item's key.
+    fn key(&self) -> &Self::Key
+        ensures { result.now ≡ key self.now };
+}
+
+impl<T: IdHashItem> IdHashItem for &T {
+    type Key = T::Key;
+
+    ghost key = { λ item. T.key item.now };
+
+    fn key(&self) -> &T::Key {
+        (**self).key()
+    }
+}
+
+impl<T: IdHashItem> IdHashItem for Box<T> {
+    type Key = T::Key;
+
+    ghost key = { λ item. T.key item.value };
+
+    fn key(&self) -> &T::Key {
+        (**self).key()
+    }
+}
+
+impl<T: IdHashItem> IdHashItem for Rc<T> {
+    type Key = T::Key;
+
+    ghost key = { λ item. T.key item.value };
+
+    fn key(&self) -> &T::Key {
+        (**self).key()
+    }
+}
+
+impl<T: IdOrdItem> IdOrdItem for &T {
+    type Key = T::Key;
+
+    ghost key = { λ item. T.key item.now };
+
+    fn key(&self) -> &T::Key {
+        (**self).key()
+    }
+}
+
+impl<T: IdOrdItem> IdOrdItem for Box<T> {
+    type Key = T::Key;
+
+    ghost key = { λ item. T.key item.value };
+
+    fn key(&self) -> &T::Key {
+        (**self).key()
+    }
+}
+
+impl<T: IdOrdItem> IdOrdItem for Rc<T> {
+    type Key = T::Key;
+
+    ghost key = { λ item. T.key item.value };
+
+    fn key(&self) -> &T::Key {
+        (**self).key()
+    }
+}
