@@ -1,0 +1,82 @@
+-- The items at a list of occupied slots, as the list and the store change.
+--     length-listed, item-listed, get-listed      one item for each slot, in the slots' order
+--     listed-insert, listed-remove, listed-set      what a change of the list makes of the items
+--     listed-same, listed-updated      what a change of the store does
+use Rattle.std.proofs.Common.{◌≡◌, ◌≢◌, ℕ, zero, suc, ◌<◌, ◌≤◌, List, [], ◌∷◌, length, get_or, set, Option, Some, None, IsSome, refl, sym, ap, ◌∙◌, arith, true≢false, suc-le-suc, option_and_then}
+use Rattle.std.proofs.Math.Nat.{le_of_suc-le-suc}
+use Rattle.std.specs.List.{All, filter_map, cons_option, insert, remove, slice_get}
+use Rattle.iddqd_core.specs.Listed.{listed_items, AreOccupied}
+use Rattle.iddqd_core.specs.Store.{Store, item_at}
+
+-- a function that gives a value at each element
+module _ {X Y : Type 0} (h : X → Option Y) where
+  abbrev Gives : List X → Type 0
+  Gives xs = All (λ x. IsSome (h x)) xs
+
+  given : (o : Option Y) → IsSome o → (y : Y) × (o ≡ Some y)
+  given (Some y) some = (y, refl)
+  given None some = absurd (true≢false (sym some))
+
+  first_given : (x : X) (xs : List X) → Gives (x ∷ xs) → (y : Y) × (h x ≡ Some y)
+  first_given x xs all = given (h x) (all zero x (omega arith))
+
+  rest_given : (x : X) (xs : List X) → Gives (x ∷ xs) → Gives xs
+  rest_given x xs all k d within = all (suc k) d (suc-le-suc within)
+
+  length-given : (xs : List X) → Gives xs → length (filter_map h xs) ≡ length xs
+  length-given [] all = refl
+  length-given (x ∷ xs) all =
+      let y = first_given x xs all in
+      rw y.1 (ap suc (length-given xs (rest_given x xs all)))
+
+  get-given : (xs : List X) (i : ℕ) → Gives xs → slice_get (filter_map h xs) i ≡ option_and_then h (slice_get xs i)
+  get-given [] i all = refl
+  get-given (x ∷ xs) zero all = let y = first_given x xs all in rw y.1 refl
+  get-given (x ∷ xs) (suc i) all = let y = first_given x xs all in rw y.1 (get-given xs i (rest_given x xs all))
+
+  insert-given : (xs : List X) (i : ℕ) (x : X) (y : Y) → Gives xs → h x ≡ Some y → filter_map h (insert xs i x) ≡ insert (filter_map h xs) i y
+  insert-given xs zero x y all e = rw e refl
+  insert-given [] (suc i) x y all e = rw e refl
+  insert-given (z ∷ zs) (suc i) x y all e =
+      let w = first_given z zs all in
+      rw w.1 (ap (λ ys. w.0 ∷ ys) (insert-given zs i x y (rest_given z zs all) e))
+
+  remove-given : (xs : List X) (i : ℕ) → Gives xs → filter_map h (remove xs i) ≡ remove (filter_map h xs) i
+  remove-given [] zero all = refl
+  remove-given [] (suc i) all = refl
+  remove-given (z ∷ zs) zero all = let w = first_given z zs all in rw w.1 refl
+  remove-given (z ∷ zs) (suc i) all =
+      let w = first_given z zs all in
+      rw w.1 (ap (λ ys. w.0 ∷ ys) (remove-given zs i (rest_given z zs all)))
+
+  set-given : (xs : List X) (i : ℕ) (x : X) (y : Y) → Gives xs → h x ≡ Some y → filter_map h (set xs i x) ≡ set (filter_map h xs) i y
+  set-given [] i x y all e = refl
+  set-given (z ∷ zs) zero x y all e = let w = first_given z zs all in rw (e, w.1) refl
+  set-given (z ∷ zs) (suc i) x y all e =
+      let w = first_given z zs all in
+      rw w.1 (ap (λ ys. w.0 ∷ ys) (set-given zs i x y (rest_given z zs all) e))
+
+same-given : {X Y : Type 0} (g h : X → Option Y) (xs : List X) → All (λ x. g x ≡ h x) xs → filter_map g xs ≡ filter_map h xs
+same-given g h [] all = refl
+same-given g h (x ∷ xs) all =
+    rw (all zero x (omega arith)) (ap (cons_option (h x)) (same-given g h xs (λ k d within. all (suc k) d (suc-le-suc within))))
+
+module _ {T : Type 0} (store : Store T) (slots : List ℕ) (occupied : AreOccupied store slots) where
+  pub length-listed : length (listed_items store slots) ≡ length slots
+  length-listed = length-given (item_at store) slots occupied
+
+  pub get-listed : (i : ℕ) → slice_get (listed_items store slots) i ≡ option_and_then (item_at store) (slice_get slots i)
+  get-listed i = get-given (item_at store) slots i occupied
+
+  pub listed-insert : (i slot : ℕ) (x : T) → item_at store slot ≡ Some x → listed_items store (insert slots i slot) ≡ insert (listed_items store slots) i x
+  listed-insert i slot x e = insert-given (item_at store) slots i slot x occupied e
+
+  pub listed-remove : (i : ℕ) → listed_items store (remove slots i) ≡ remove (listed_items store slots) i
+  listed-remove i = remove-given (item_at store) slots i occupied
+
+  pub listed-set : (i slot : ℕ) (x : T) → item_at store slot ≡ Some x → listed_items store (set slots i slot) ≡ set (listed_items store slots) i x
+  listed-set i slot x e = set-given (item_at store) slots i slot x occupied e
+
+-- a store that has the same at each listed slot lists the same items
+pub listed-same : {T : Type 0} (old new : Store T) (slots : List ℕ) → All (λ slot. item_at new slot ≡ item_at old slot) slots → listed_items new slots ≡ listed_items old slots
+listed-same old new slots same = same-given (item_at new) (item_at old) slots same
