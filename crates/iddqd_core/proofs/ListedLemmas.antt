@@ -1,11 +1,12 @@
 -- The items at a list of occupied slots, as the list and the store change.
---     length-listed, item-listed, get-listed      one item for each slot, in the slots' order
+--     length-listed, get-listed, read-listed      one item for each slot, in the slots' order
 --     listed-insert, listed-remove, listed-set      what a change of the list makes of the items
 --     listed-same, listed-updated      what a change of the store does
-use Rattle.std.proofs.Common.{◌≡◌, ◌≢◌, ℕ, zero, suc, ◌<◌, ◌≤◌, List, [], ◌∷◌, length, get_or, set, Option, Some, None, IsSome, refl, sym, ap, ◌∙◌, arith, true≢false, suc-le-suc, option_and_then}
+use Rattle.std.proofs.Common.{◌≡◌, ◌≢◌, ℕ, zero, suc, ◌<◌, ◌≤◌, List, [], ◌∷◌, length, map, get_or, set, Option, Some, None, IsSome, refl, sym, ap, ◌∙◌, arith, true≢false, suc-le-suc, option_and_then}
 use Rattle.std.proofs.Math.Nat.{le_of_suc-le-suc}
-use Rattle.std.specs.List.{All, filter_map, cons_option, insert, remove, slice_get}
+use Rattle.std.specs.List.{All, HoldsAt, filter_map, cons_option, insert, remove, slice_get}
 use Rattle.iddqd_core.specs.Listed.{listed_items, AreOccupied}
+use Rattle.iddqd_core.proofs.SearchLemmas.{at_key}
 use Rattle.iddqd_core.specs.Store.{Store, item_at}
 
 -- a function that gives a value at each element
@@ -33,6 +34,13 @@ module _ {X Y : Type 0} (h : X → Option Y) where
   get-given [] i all = refl
   get-given (x ∷ xs) zero all = let y = first_given x xs all in rw y.1 refl
   get-given (x ∷ xs) (suc i) all = let y = first_given x xs all in rw y.1 (get-given xs i (rest_given x xs all))
+
+  read-given : (xs : List X) (i : ℕ) (d : X) (y e : Y) → Gives xs → i < length xs → h (get_or xs i d) ≡ Some y → get_or (filter_map h xs) i e ≡ y
+  read-given [] i d y e all within read = absurd (omega arith)
+  read-given (x ∷ xs) zero d y e all within read = rw read refl
+  read-given (x ∷ xs) (suc i) d y e all within read =
+      let z = first_given x xs all in
+      rw z.1 (read-given xs i d y e (rest_given x xs all) (le_of_suc-le-suc within) read)
 
   insert-given : (xs : List X) (i : ℕ) (x : X) (y : Y) → Gives xs → h x ≡ Some y → filter_map h (insert xs i x) ≡ insert (filter_map h xs) i y
   insert-given xs zero x y all e = rw e refl
@@ -68,6 +76,9 @@ module _ {T : Type 0} (store : Store T) (slots : List ℕ) (occupied : AreOccupi
   pub get-listed : (i : ℕ) → slice_get (listed_items store slots) i ≡ option_and_then (item_at store) (slice_get slots i)
   get-listed i = get-given (item_at store) slots i occupied
 
+  pub read-listed : (i : ℕ) (x : T) → i < length slots → item_at store (get_or slots i 0) ≡ Some x → x ≡ get_or (listed_items store slots) i x
+  read-listed i x within read = sym (read-given (item_at store) slots i 0 x x occupied within read)
+
   pub listed-insert : (i slot : ℕ) (x : T) → item_at store slot ≡ Some x → listed_items store (insert slots i slot) ≡ insert (listed_items store slots) i x
   listed-insert i slot x e = insert-given (item_at store) slots i slot x occupied e
 
@@ -80,3 +91,8 @@ module _ {T : Type 0} (store : Store T) (slots : List ℕ) (occupied : AreOccupi
 -- a store that has the same at each listed slot lists the same items
 pub listed-same : {T : Type 0} (old new : Store T) (slots : List ℕ) → All (λ slot. item_at new slot ≡ item_at old slot) slots → listed_items new slots ≡ listed_items old slots
 listed-same old new slots same = same-given (item_at new) (item_at old) slots same
+
+-- what holds of the key of the item at a slot holds of the key at its place
+pub key-listed : {T K : Type 0} (key : T → K) (P : K → Type 0) (store : Store T) (slots : List ℕ) (i : ℕ) (x : T) → AreOccupied store slots → i < length slots → item_at store (get_or slots i 0) ≡ Some x → P (key x) → HoldsAt P (map key (listed_items store slots)) i
+key-listed key P store slots i x occupied within read p =
+    at_key key P (listed_items store slots) i x (omega (arith, length-listed store slots occupied)) (read-listed store slots occupied i x within read) p
