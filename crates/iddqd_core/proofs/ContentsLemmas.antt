@@ -1,15 +1,15 @@
 -- Laws of a list of items of different keys: what is found is one item, and what it is to take it out, replace it or add one.
 --     IsOnlyPlace p xs i      of the elements, that at i alone passes p
---     find_at, without_at, replaced_at      what the search, the removal and the replacement give there
---     find-none, without-none      the same where none passes
+--     find_at, filter_at, map_at      what the search, the removal and the replacement give there
+--     find_none, filter_none, map_none      the same where none passes
 --     only_place      where the keys differ, the test of a query passes at one place at most
-use Rattle.std.proofs.Common.{◌≡◌, ℕ, zero, suc, ◌<◌, ◌≢◌, ⊎_elim, Bool, true, false, cond, not, List, [], ◌∷◌, length, map, get_or, set, suc-le-suc, Some, None, refl, sym, ap, ◌∙◌, arith, true≢false, filter, find}
+use Rattle.std.proofs.Common.{◌≡◌, ℕ, zero, suc, ◌<◌, ◌≢◌, ⊎_elim, Bool, true, false, cond, not, List, [], ◌∷◌, length, map, get_or, set, suc-le-suc, None, refl, sym, ap, ◌∙◌, arith, true≢false, filter, find}
 use Rattle.std.proofs.Math.Nat.{le_of_suc-le-suc}
 use Rattle.std.proofs.lemmas.Bool.{cases_lt, cases_eq}
 use Rattle.std.proofs.lemmas.List.{get_or-map, length-map}
 use Rattle.std.proofs.lemmas.Map.Keys.{apart_from_distinct}
 use Rattle.std.specs.Cmp.{IsEquivalence}
-use Rattle.std.specs.List.{remove}
+use Rattle.std.specs.List.{remove, slice_get}
 use Rattle.iddqd_core.specs.Contents.{IsKeyTest, NoTwoAkin}
 
 pub record IsOnlyPlace {X : Type 0} (p : X → Bool) (xs : List X) (i : ℕ) : Type 0 where
@@ -49,10 +49,10 @@ module _ {X : Type 0} (p : X → Bool) where
   first_fails : (x : X) (xs : List X) (i : ℕ) → IsOnlyPlace p (x ∷ xs) (suc i) → p x ≡ false
   first_fails x xs i o = o.elsewhere zero x (omega arith) (omega arith)
 
-  pub find_at : (xs : List X) (i : ℕ) (d : X) → IsOnlyPlace p xs i → find p xs ≡ Some (get_or xs i d)
-  find_at [] i d o = absurd (omega (arith, o.within))
-  find_at (x ∷ xs) zero d o = rw (o.here d) refl
-  find_at (x ∷ xs) (suc i) d o = rw (first_fails x xs i o) (find_at xs i d (only_tail x xs i o))
+  pub find_at : (xs : List X) (i : ℕ) → IsOnlyPlace p xs i → find p xs ≡ slice_get xs i
+  find_at [] i o = refl
+  find_at (x ∷ xs) zero o = rw (o.here x) refl
+  find_at (x ∷ xs) (suc i) o = rw (first_fails x xs i o) (find_at xs i (only_tail x xs i o))
 
   pub filter_at : (xs : List X) (i : ℕ) → IsOnlyPlace p xs i → filter (λ x. not (p x)) xs ≡ remove xs i
   filter_at [] i o = absurd (omega (arith, o.within))

@@ -31,12 +31,15 @@ pub digits_least : (k n : ℕ) → n < 2 ^ k → digits n ≤ k
 digits_least zero n h = let e : n ≡ 0 = omega arith in rw e (omega (arith, digits-zero))
 digits_least (suc k) n h = ⊎_elim (λ e. rw e (omega (arith, digits-zero))) (λ p. omega (arith, digits-half n p, digits_least k (n / 2) (omega arith))) (eq-zero-or-pos n)
 
+doubled : (n k : ℕ) → n / 2 < 2 ^ k → n < 2 ^ suc k
+doubled n k h = omega arith
+
 -- and so many do
 pub below_digits_within : (f n : ℕ) → n ≤ f → n < 2 ^ digits n
 below_digits_within zero n h = let e : n ≡ 0 = omega arith in rw e (rw digits-zero (omega arith))
 below_digits_within (suc f) n h = ⊎_elim
     (λ e. rw e (rw digits-zero (omega arith)))
-    (λ p. let b : n / 2 < 2 ^ digits (n / 2) = below_digits_within f (n / 2) (omega arith) in rw (digits-half n p) (omega arith))
+    (λ p. rw (digits-half n p) (doubled n (digits (n / 2)) (below_digits_within f (n / 2) (omega arith))))
     (eq-zero-or-pos n)
 
 pub digits_mono_within : (f m n : ℕ) → n ≤ f → m ≤ n → digits m ≤ digits n

@@ -2,9 +2,10 @@
 --     length-listed, get-listed, read-listed      one item for each slot, in the slots' order
 --     listed-insert, listed-remove, listed-set      what a change of the list makes of the items
 --     listed-same, listed-updated      what a change of the store does
-use Rattle.std.proofs.Common.{◌≡◌, ◌≢◌, ℕ, zero, suc, ◌<◌, ◌≤◌, List, [], ◌∷◌, length, map, get_or, set, Option, Some, None, IsSome, refl, sym, ap, ◌∙◌, arith, true≢false, suc-le-suc, option_and_then}
+use Rattle.std.proofs.Common.{◌≡◌, ◌≢◌, ℕ, zero, suc, ◌<◌, ◌≤◌, List, [], ◌∷◌, length, map, get_or, set, Option, Some, None, IsSome, refl, sym, ap, ◌∙◌, arith, true≢false, subst, false, nat_eq, suc-le-suc, option_and_then}
 use Rattle.std.proofs.Math.Nat.{le_of_suc-le-suc}
-use Rattle.std.specs.List.{All, HoldsAt, filter_map, cons_option, insert, remove, slice_get}
+use Rattle.std.proofs.lemmas.Bool.{eqb-false}
+use Rattle.std.specs.List.{All, AllByRecursion, HoldsAt, IsDistinct, filter_map, cons_option, insert, remove, slice_get}
 use Rattle.iddqd_core.specs.Listed.{listed_items, AreOccupied}
 use Rattle.iddqd_core.proofs.SearchLemmas.{at_key}
 use Rattle.iddqd_core.specs.Store.{Store, item_at}
@@ -96,3 +97,32 @@ listed-same old new slots same = same-given (item_at new) (item_at old) slots sa
 pub key-listed : {T K : Type 0} (key : T → K) (P : K → Type 0) (store : Store T) (slots : List ℕ) (i : ℕ) (x : T) → AreOccupied store slots → i < length slots → item_at store (get_or slots i 0) ≡ Some x → P (key x) → HoldsAt P (map key (listed_items store slots)) i
 key-listed key P store slots i x occupied within read p =
     at_key key P (listed_items store slots) i x (omega (arith, length-listed store slots occupied)) (read-listed store slots occupied i x within read) p
+
+-- two functions that differ at one element alone
+module _ {Y : Type 0} (g h : ℕ → Option Y) (slot : ℕ) (y : Y) (here : g slot ≡ Some y) (others : (other : ℕ) → other ≢ slot → g other ≡ h other) where
+  of_place : (P : ℕ → Type 0) (slots : List ℕ) (i : ℕ) → AllByRecursion P slots → slice_get slots i ≡ Some slot → P slot
+  of_place P [] i all at = cc
+  of_place P (s ∷ ss) zero all at = let e : s ≡ slot = cc in subst P e all.0
+  of_place P (s ∷ ss) (suc i) all at = of_place P ss i all.1 at
+
+  same-apart : (slots : List ℕ) → AllByRecursion (λ s. nat_eq slot s ≡ false) slots → filter_map g slots ≡ filter_map h slots
+  same-apart [] all = refl
+  same-apart (s ∷ ss) all =
+      rw (others s (λ e. eqb-false slot s all.0 (sym e))) (ap (cons_option (h s)) (same-apart ss all.1))
+
+  updated-given : (slots : List ℕ) (i : ℕ) → IsDistinct nat_eq slots → Gives h slots → slice_get slots i ≡ Some slot → filter_map g slots ≡ set (filter_map h slots) i y
+  unfolding IsDistinct
+  updated-given [] i once all at = refl
+  updated-given (s ∷ ss) zero once all at =
+      let e : s ≡ slot = cc in
+      let w = first_given h s ss all in
+      let read : g s ≡ Some y = ap g e ∙ here in
+      rw (read, w.1) (ap (λ ys. y ∷ ys) (same-apart ss (subst (λ n. AllByRecursion (λ z. nat_eq n z ≡ false) ss) e once.0)))
+  updated-given (s ∷ ss) (suc i) once all at =
+      let w = first_given h s ss all in
+      let apart : nat_eq s slot ≡ false = of_place (λ z. nat_eq s z ≡ false) ss i once.0 at in
+      rw (others s (eqb-false s slot apart), w.1) (ap (λ ys. w.0 ∷ ys) (updated-given ss i once.1 (rest_given h s ss all) at))
+
+-- a store that has another item at one listed slot lists that item in its place
+pub listed-updated : {T : Type 0} (old new : Store T) (slots : List ℕ) (i slot : ℕ) (x : T) → IsDistinct nat_eq slots → AreOccupied old slots → slice_get slots i ≡ Some slot → item_at new slot ≡ Some x → ((other : ℕ) → other ≢ slot → item_at new other ≡ item_at old other) → listed_items new slots ≡ set (listed_items old slots) i x
+listed-updated old new slots i slot x once occupied at here others = updated-given (item_at new) (item_at old) slot x here others slots i once occupied at

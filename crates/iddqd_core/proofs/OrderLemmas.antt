@@ -1,7 +1,8 @@
 -- The search does not depend on the order of items of different keys.
-use Rattle.std.proofs.Common.{◌≡◌, zero, suc, Bool, true, false, cond, List, [], ◌∷◌, map, get_or, Option, Some, None, refl, sym, ap, ◌∙◌, arith, find, suc-le-suc}
+use Rattle.std.proofs.Common.{◌≡◌, zero, suc, Bool, true, false, cond, List, [], ◌∷◌, length, map, get_or, Option, Some, None, refl, sym, ap, ◌∙◌, arith, find, suc-le-suc}
 use Rattle.std.proofs.Math.Nat.{le_of_suc-le-suc}
 use Rattle.std.proofs.lemmas.List.{get_or_read}
+use Rattle.std.proofs.lemmas.Option.{slice_get_read}
 use Rattle.std.proofs.lemmas.List.Sorted.{All-permutation, Contains-permutation, IsPermutation-map}
 use Rattle.std.proofs.lemmas.Map.Keys.{IsDistinct-IsPermutation}
 use Rattle.std.specs.Cmp.{IsEquivalence}
@@ -41,7 +42,7 @@ module _ {T K : Type 0} (key : T → K) {eq : K → K → Bool} (equivalence : I
   same (Some x) t =
       let there = Contains-permutation xs ys x moved t.0 in
       let at : (d : T) → get_or ys there.0 d ≡ x = λ d. sym (get_or_read ys there.0 x there.1 (sym there.2) d) in
-      find_at (λ y. test (key y)) ys there.0 x (only_place key equivalence test tests ys differ_moved there.0 there.1 (λ d. ap (λ y. test (key y)) (at d) ∙ t.1)) ∙ ap Some (at x)
+      find_at (λ y. test (key y)) ys there.0 (only_place key equivalence test tests ys differ_moved there.0 there.1 (λ d. ap (λ y. test (key y)) (at d) ∙ t.1)) ∙ slice_get_read ys (length ys) there.0 x refl there.1 (sym (at x))
 
   -- a query finds the same item in whatever order
   pub find_moved : find_item key test ys ≡ find_item key test xs

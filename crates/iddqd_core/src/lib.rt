@@ -6,6 +6,7 @@ pub mod halves;
 pub mod item_store;
 pub mod items;
 pub mod laws;
+pub mod ord_index;
 pub mod queries;
 pub mod steps;
 pub mod text;

@@ -75,7 +75,7 @@ loop-low-preserved g c =
       ordered = omega arith;
       within = omega arith;
       before = c.loop-low.invariant.before;
-      behind = less_behind g.met.T.Key.Ord.total compare (map key items) c.requires.ascending (g.met.Q.Comparable.less_above c.args.query.now) middle (omega (arith, length-map items key)) (key-listed key (λ k. compare k ≡ Less) c.args.store.now c.args.slots.now middle item c.requires.occupied within read answer);
+      behind = less_behind g.met.T.Key.Ord.total compare (map key items) c.requires.ascending (g.met.Q.Comparable.less_above c.args.query.now) middle (key-listed key (λ k. compare k ≡ Less) c.args.store.now c.args.slots.now middle item c.requires.occupied within read answer);
       counted = omega (arith, digits-fewer (high - low) (middle - low) (omega arith) (omega arith));
     }
 
