@@ -1,5 +1,5 @@
 -- An index stays one as its list changes.
-use Rattle.std.proofs.Common.{◌≡◌, ℕ, zero, suc, ◌<◌, ◌≤◌, Bool, false, IsTrue, List, [], ◌++◌, length, set, Option, Some, None, Bor, refl, sym, ap, subst, true≢false, arith, nat_eq, length-append}
+use Rattle.std.proofs.Common.{◌≡◌, ℕ, ◌<◌, ◌≤◌, Bool, false, IsTrue, List, [], ◌++◌, length, set, Option, Some, None, Bor, refl, sym, ap, subst, true≢false, arith, nat_eq, length-append}
 use Rattle.std.proofs.lemmas.List.{length-set}
 use Rattle.std.proofs.lemmas.List.Edits.{length-insert, length-remove}
 use Rattle.std.proofs.lemmas.Option.{slice_get_past, slice_get_read}

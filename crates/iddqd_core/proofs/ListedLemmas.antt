@@ -2,7 +2,7 @@
 --     length-listed, get-listed, read-listed      one item for each slot, in the slots' order
 --     listed-insert, listed-remove, listed-set      what a change of the list makes of the items
 --     listed-same, listed-updated      what a change of the store does
-use Rattle.std.proofs.Common.{◌≡◌, ◌≢◌, ℕ, zero, suc, ◌<◌, ◌≤◌, List, [], ◌∷◌, length, map, get_or, set, Option, Some, None, IsSome, refl, sym, ap, ◌∙◌, arith, true≢false, subst, false, nat_eq, suc-le-suc, option_and_then}
+use Rattle.std.proofs.Common.{◌≡◌, ◌≢◌, ℕ, zero, suc, ◌<◌, List, [], ◌∷◌, length, map, get_or, set, Option, Some, None, IsSome, refl, sym, ap, ◌∙◌, arith, true≢false, subst, false, nat_eq, suc-le-suc, option_and_then}
 use Rattle.std.proofs.Math.Nat.{le_of_suc-le-suc}
 use Rattle.std.proofs.lemmas.Bool.{eqb-false}
 use Rattle.std.specs.List.{All, AllByRecursion, HoldsAt, IsDistinct, filter_map, cons_option, insert, remove, slice_get}

@@ -89,3 +89,57 @@ impl<T: IdOrdItem> IdOrdItem for Rc<T> {
         (**self).key()
     }
 }
+
+#[cfg(test)]
+mod tests {
+    use super::*;
+    use std::test::Fail;
+
+    #[derive(Drop)]
+    struct Coin {
+        year: u32,
+    }
+
+    impl IdHashItem for Coin {
+        type Key = u32;
+
+        ghost key = { λ coin. coin.year };
+
+        fn key(&self) -> &u32 {
+            &self.year
+        }
+    }
+
+    impl IdOrdItem for Coin {
+        type Key = u32;
+
+        ghost key = { λ coin. coin.year };
+
+        fn key(&self) -> &u32 {
+            &self.year
+        }
+    }
+
+    fn hash_key<T: IdHashItem<Key = u32>>(item: &T) -> u32 {
+        *item.key()
+    }
+
+    fn ord_key<T: IdOrdItem<Key = u32>>(item: &T) -> u32 {
+        *item.key()
+    }
+
+    // What holds an item shows the key of what it holds.
+    #[test]
+    fn keys_of_what_is_held(rt: HostRuntime) -> Result<(), Fail> {
+        let coin = Coin { year: 1806 };
+        assert_eq!(rt; hash_key(&&coin), 1806);
+        assert_eq!(rt; ord_key(&&coin), 1806);
+        let boxed = Box::new(rt.alloc(), Coin { year: 1807 })?;
+        assert_eq!(rt; hash_key(&boxed), 1807);
+        assert_eq!(rt; ord_key(&boxed), 1807);
+        let shared = Rc::new(rt.alloc(), Coin { year: 1808 })?;
+        assert_eq!(rt; hash_key(&shared), 1808);
+        assert_eq!(rt; ord_key(&shared), 1808);
+        Ok(())
+    }
+}

@@ -2,7 +2,7 @@
 #![tactic(auto)]
 
 pub mod errors;
-pub mod halves;
+mod halves;
 pub mod item_store;
 pub mod items;
 pub mod laws;

@@ -10,6 +10,8 @@ ghost use Rattle.iddqd_core.specs.Search.{IsPlaceAmong};
 ghost use Rattle.iddqd_core.specs.Store.{item_at};
 ghost use Rattle.iddqd_core.specs.declared.errors.TryReserveErrorKind.TheVariants.{AllocError};
 
+#[cfg(test)]
+mod tests;
 pub mod walk;
 
 use crate::errors::TryReserveError;

@@ -4,8 +4,7 @@ ghost use Rattle.std.specs.Iterator.{YieldsFirst, item_count};
 
 use std::iter::FusedIterator;
 use std::marker::Model;
-use std::slice;
-use std::vec;
+use std::{slice, vec};
 
 /// The slots of an index in order, each once.
 #[derive(Drop)]

@@ -1,6 +1,5 @@
-use Rattle.std.proofs.Common.{◌≡◌, ◌+◌, ◌-◌, ◌/◌, ◌<◌, ◌∙◌, ℕ, length, map, get_or, arith, sym, ap, Some, Ordering, Less, Equal, Greater}
+use Rattle.std.proofs.Common.{◌≡◌, ◌+◌, ◌-◌, ◌/◌, ◌<◌, ◌∙◌, length, map, get_or, arith, sym, ap, Some, Less, Equal, Greater}
 use Rattle.std.proofs.lemmas.List.{length-map}
-use Rattle.std.specs.List.{HoldsAt}
 use Rattle.std.specs.Option.{option_copied}
 use Rattle.iddqd_core.specs.Listed.{listed_items}
 use Rattle.iddqd_core.specs.Store.{item_at}

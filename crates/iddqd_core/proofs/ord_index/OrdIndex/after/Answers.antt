@@ -1,5 +1,4 @@
-use Rattle.std.proofs.Common.{◌≡◌, ◌∙◌, ◌+◌, sym, ap, length}
-use Rattle.std.proofs.lemmas.Option.{get_or_from_slice_get}
+use Rattle.std.proofs.Common.{◌≡◌, ◌∙◌, ◌+◌, sym, ap}
 use Rattle.std.specs.List.{slice_get}
 use Rattle.std.specs.Option.{option_and_then}
 use Rattle.std.specs.Ordering.{is_lt}
@@ -32,13 +31,13 @@ returns-clause-item g c =
     let key = g.T.IdOrdItem.key in
     let compare = g.Q.Comparable.compare c.args.query.now in
     let next : find_item key (λ k. is_lt (compare k)) items ≡ slice_get items c.match-find.next =
-        elim c.match-find.branch [
-          | in-Ok w ↦ (above_there key (query g c.args.query.now) items c.requires.ascending w.in-Ok.place w.in-Ok.ensures.place.0 w.in-Ok.ensures.place.1
-            ∙ ap (slice_get items) (sym (w.next-is ∙ ap (λ n. n + 1) w.place.view_is)))
-          | in-Err w ↦ (above_nowhere key (query g c.args.query.now) items c.requires.ascending w.in-Err.place w.in-Err.ensures.place.0 w.in-Err.ensures.place.1 w.in-Err.ensures.place.2
-            ∙ ap (slice_get items) (sym (w.next-is ∙ w.place-in-Err.view_is)))
-        ] in
-    let read : slice_get slots c.match-find.next ≡ c.copied.result = 
-        sym (c.copied.ensures ∙ copied_item c.deref.result.now c.match-find.next c.get.result c.get.ensures.lookup
-          ∙ ap (λ xs. slice_get xs c.match-find.next) c.deref.ensures.value ∙ ap (λ i. slice_get i.slots c.match-find.next) c.self.view_is) in
+    elim c.match-find.branch [
+      | in-Ok w ↦ (above_there key (query g c.args.query.now) items c.requires.ascending w.in-Ok.place w.in-Ok.ensures.place.0 w.in-Ok.ensures.place.1
+          ∙ ap (slice_get items) (sym (w.next-is ∙ ap (λ n. n + 1) w.place.view_is)))
+      | in-Err w ↦ (above_nowhere key (query g c.args.query.now) items c.requires.ascending w.in-Err.place w.in-Err.ensures.place.0 w.in-Err.ensures.place.1 w.in-Err.ensures.place.2
+          ∙ ap (slice_get items) (sym (w.next-is ∙ w.place-in-Err.view_is)))
+    ] in
+    let read : slice_get slots c.match-find.next ≡ c.copied.result =
+    sym (c.copied.ensures ∙ copied_item c.deref.result.now c.match-find.next c.get.result c.get.ensures.lookup
+    ∙ ap (λ xs. slice_get xs c.match-find.next) c.deref.ensures.value ∙ ap (λ i. slice_get i.slots c.match-find.next) c.self.view_is) in
     sym (next ∙ get-listed store slots c.requires.occupied c.match-find.next ∙ ap (option_and_then (item_at store)) read)

@@ -1,6 +1,4 @@
-use Rattle.std.proofs.Common.{sym, subst, false}
 use Rattle.std.specs.Vec.{vec_capacity}
-use Rattle.iddqd_core.specs.IndexParts.{IsIndex}
 use Rattle.iddqd_core.proofs.IndexLemmas.{empty_index}
 use Rattle.iddqd_core.proofs.ord_index.OrdIndex.new.Goals as goal
 
