@@ -2,7 +2,7 @@
 --     length-listed, get-listed, read-listed      one item for each slot, in the slots' order
 --     listed-insert, listed-remove, listed-set      what a change of the list makes of the items
 --     listed-same, listed-updated      what a change of the store does
-use Rattle.std.proofs.Common.{◌≡◌, ◌≢◌, ℕ, zero, suc, ◌<◌, List, [], ◌∷◌, length, map, get_or, set, Option, Some, None, IsSome, refl, sym, ap, ◌∙◌, arith, true≢false, subst, false, nat_eq, suc-le-suc, option_and_then}
+use Rattle.std.proofs.Common.{◌≡◌, ◌≢◌, ℕ, zero, suc, ◌<◌, List, [], ◌∷◌, length, map, get_or, set, Option, Some, None, IsSome, is_some, refl, sym, ap, ◌∙◌, arith, true≢false, subst, false, nat_eq, suc-le-suc, option_and_then}
 use Rattle.std.proofs.Math.Nat.{le_of_suc-le-suc}
 use Rattle.std.proofs.lemmas.Bool.{eqb-false}
 use Rattle.std.specs.List.{All, AllByRecursion, HoldsAt, IsDistinct, filter_map, cons_option, insert, remove, slice_get}
@@ -126,3 +126,11 @@ module _ {Y : Type 0} (g h : ℕ → Option Y) (slot : ℕ) (y : Y) (here : g sl
 -- a store that has another item at one listed slot lists that item in its place
 pub listed-updated : {T : Type 0} (old new : Store T) (slots : List ℕ) (i slot : ℕ) (x : T) → IsDistinct nat_eq slots → AreOccupied old slots → slice_get slots i ≡ Some slot → item_at new slot ≡ Some x → ((other : ℕ) → other ≢ slot → item_at new other ≡ item_at old other) → listed_items new slots ≡ set (listed_items old slots) i x
 listed-updated old new slots i slot x once occupied at here others = updated-given (item_at new) (item_at old) slot x here others slots i once occupied at
+
+-- a store that has an item at one more slot lists it where that slot was put in
+pub listed-added : {T : Type 0} (old new : Store T) (slots : List ℕ) (i slot : ℕ) (x : T) → AreOccupied old slots → item_at old slot ≡ None → item_at new slot ≡ Some x → ((other : ℕ) → other ≢ slot → item_at new other ≡ item_at old other) → listed_items new (insert slots i slot) ≡ insert (listed_items old slots) i x
+listed-added old new slots i slot x occupied vacant here others =
+    let differs : All (λ s. s ≢ slot) slots = λ k d within e. true≢false (sym (occupied k d within) ∙ ap is_some (ap (item_at old) e ∙ vacant)) in
+    let same : All (λ s. item_at new s ≡ item_at old s) slots = λ k d within. others _ (differs k d within) in
+    let still : AreOccupied new slots = λ k d within. ap is_some (same k d within) ∙ occupied k d within in
+    listed-insert new slots still i slot x here ∙ ap (λ items. insert items i x) (listed-same old new slots same)

@@ -50,6 +50,11 @@ fn mint(
     Ok(())
 }
 
+// The face of the coin at the slot.
+fn face(store: &ItemStore<Coin>, slot: Option<u32>) -> Option<u32> {
+    Some(store.get(slot?)?.face)
+}
+
 // Whether the slot is in the index.
 fn holds(index: &OrdIndex, slot: u32) -> bool
     ensures { result ≡ false → ¬ Contains index.now.slots slot }
@@ -96,9 +101,9 @@ fn searches(rt: HostRuntime) -> Result<(), Fail> {
         (1830, Some(2), None),
     ] {
         let at = index.get(&store, &year, &mut steps);
-        assert_eq!(rt; at.and_then(|slot| store.get(slot)).map(|coin| coin.face), found);
+        assert_eq!(rt; face(&store, at), found);
         let behind = index.after(&store, &year, &mut steps);
-        assert_eq!(rt; behind.and_then(|slot| store.get(slot)).map(|coin| coin.face), next);
+        assert_eq!(rt; face(&store, behind), next);
     }
     Ok(())
 }
