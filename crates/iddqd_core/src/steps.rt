@@ -34,12 +34,18 @@ impl Steps {
         self.count
     }
 
+    fn add_one(&mut self)
+        ensures { self.new ≡ min (self.old + 1) u32.MAX }
+    {
+        self.count = self.count.saturating_add(1);
+    }
+
     /// Where the query stands to the key: one step.
     pub fn compare<K: Ord, Q: Comparable<K>>(&mut self, query: &Q, key: &K) -> Ordering
         ensures value { result ≡ Q.compare query.now key.now }
         ensures step { self.new ≡ min (self.old + 1) u32.MAX }
     {
-        self.count = self.count.saturating_add(1);
+        self.add_one();
         query.compare(key)
     }
 
@@ -48,7 +54,7 @@ impl Steps {
         ensures value { result ≡ Q.equivalent query.now key.now }
         ensures step { self.new ≡ min (self.old + 1) u32.MAX }
     {
-        self.count = self.count.saturating_add(1);
+        self.add_one();
         query.equivalent(key)
     }
 }

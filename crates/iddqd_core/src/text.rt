@@ -71,7 +71,10 @@ mod tests {
             ("fop", false, Ordering::Greater),
         ] {
             assert_eq!(rt; stands_for(&Text(text), &key), (equal, order));
-            assert_eq!(rt; stands_for(&text.to_string(rt.alloc())?, &key), (equal, order));
+            assert_eq!(rt;
+                stands_for(&text.to_string(rt.alloc())?, &key),
+                (equal, order)
+            );
         }
         let hasher: BuildHasherDefault<FoldHasher> = BuildHasherDefault::new();
         assert_eq!(rt; hasher.hash_one(Text("foo")), hasher.hash_one(&key));

@@ -89,9 +89,15 @@ fn searches(rt: HostRuntime) -> Result<(), Fail> {
     mint(&rt, &mut store, &mut index, 1820, 5)?;
     assert_eq!(rt; index.len(), 3);
     let mut steps = Steps::new();
-    assert_eq!(rt; index.find(&store, &1820, &mut steps), Ok(Place { position: 1 }));
+    assert_eq!(rt;
+        index.find(&store, &1820, &mut steps),
+        Ok(Place { position: 1 })
+    );
     assert_eq!(rt; steps.count(), 1);
-    assert_eq!(rt; index.find(&store, &1825, &mut steps), Err(Place { position: 2 }));
+    assert_eq!(rt;
+        index.find(&store, &1825, &mut steps),
+        Err(Place { position: 2 })
+    );
     assert_eq!(rt; steps.count(), 3);
     for (year, found, next) in [
         (1800, None, Some(1)),
@@ -166,7 +172,10 @@ fn index_against_vec(rt: HostRuntime) -> Result<(), Fail> {
             assert!(rt; model.len() == len as usize);
             assert!(rt; len > 0);
             let position = (slot * 5 + 1) % len;
-            assert_eq!(rt; index.remove(Place { position }), model.remove(position as usize));
+            assert_eq!(rt;
+                index.remove(Place { position }),
+                model.remove(position as usize)
+            );
         }
         same(&rt, &index, model.as_slice());
     }

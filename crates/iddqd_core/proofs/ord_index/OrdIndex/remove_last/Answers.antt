@@ -1,13 +1,12 @@
 use Rattle.std.proofs.Common.{rules, ◌≡◌, ◌∙◌, ◌-◌, ◌<◌, ℕ, List, [], ◌∷◌, length, get_or, Option, Some, None, IsSome, refl, sym, ap, arith}
 use Rattle.std.proofs.lemmas.Option.{slice_get-get_or}
 use Rattle.std.specs.List.{slice_get}
-use Rattle.std.specs.Option.{option_to_list}
-use Rattle.std.specs.Vec.{vec_capacity, vec_len}
+use Rattle.std.specs.Vec.{vec_len}
 use Rattle.iddqd_core.proofs.IndexLemmas.{index_front}
 use Rattle.iddqd_core.proofs.ord_index.OrdIndex.remove_last.Goals as goal
 
 pub invariant_of-self : goal.invariant_of-self
-invariant_of-self c = index_front c.self.invariant (vec_capacity c.pop.new.self) c.pop.new.self.items (option_to_list c.pop.result) c.pop.ensures.items
+invariant_of-self c = index_front c.self.invariant _ _ _ c.pop.ensures.items
 
 -- what a `pop` answers, by the place of the last element
 popped : (slots : List ℕ) (o : Option ℕ) → (IsSome o → 0 < length slots) → ((d : ℕ) → 0 < length slots → o ≡ Some (get_or slots (length slots - 1) d)) → o ≡ slice_get slots (length slots - 1)

@@ -19,7 +19,7 @@ returns-clause-ascending g c =
     let kept : reserved.slots ≡ old.slots = ap (λ s. s.slots) c.try_reserve.ensures.rest in
     let prepared : c.prepare.new.self.slots ≡ slots = ap (λ i. i.slots) c.in_ok-prepare.ensures.ok in
     let index : c.add_prepared.new.self.slots ≡ insert slots c.in-Err.place slot =
-        ap (λ i. i.slots) c.add_prepared.ensures ∙ ap (λ xs. insert xs c.in-Err.place slot) prepared in
+    ap (λ i. i.slots) c.add_prepared.ensures ∙ ap (λ xs. insert xs c.in-Err.place slot) prepared in
     let coin : Coin = record { year = c.args.year; face = c.args.face } in
     let updates = c.insert_reserved-slot.ensures.updates in
     let vacant : item_at old slot ≡ None = ap (λ xs. slice_index_or xs slot None) (sym kept) ∙ c.insert_reserved-slot.ensures.was_vacant in
