@@ -1,4 +1,12 @@
+pub mod Contents
+pub mod Digits
 pub mod Errors
-pub mod Store
-pub mod Slots
+pub mod Hashing
+pub mod IndexParts
 pub mod Lends
+pub mod Listed
+pub mod Query
+pub mod Refusal
+pub mod Search
+pub mod Slots
+pub mod Store

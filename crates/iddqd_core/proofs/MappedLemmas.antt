@@ -1,0 +1,31 @@
+-- Search, removal and placing of what a function shows of each item.
+use Rattle.std.proofs.Common.{◌≡◌, Bool, true, false, cond, not, List, [], ◌∷◌, ◌++◌, map, filter, Some, sym, refl, ap, ◌∙◌, Ordering}
+use Rattle.std.proofs.lemmas.List.{map-append}
+use Rattle.std.specs.Option.{option_map}
+use Rattle.std.specs.Ordering.{is_lt}
+use Rattle.iddqd_core.specs.Contents.{find_item, without, placed}
+
+choose : {A B : Type 0} (f : A → B) (b : Bool) (x y : A) → cond b (f x) (f y) ≡ f (cond b x y)
+choose f true x y = refl
+choose f false x y = refl
+
+module _ {T U K : Type 0} (shown : T → U) (key : U → K) where
+  pub find_item-map : (test : K → Bool) (xs : List T) → find_item key test (map shown xs) ≡ option_map shown (find_item (λ x. key (shown x)) test xs)
+  find_item-map test [] = refl
+  find_item-map test (x ∷ xs) =
+      ap (cond (test (key (shown x))) (Some (shown x))) (find_item-map test xs)
+      ∙ choose (option_map shown) (test (key (shown x))) (Some x) (find_item (λ y. key (shown y)) test xs)
+
+  filter-map : (p : U → Bool) (xs : List T) → filter p (map shown xs) ≡ map shown (filter (λ x. p (shown x)) xs)
+  filter-map p [] = refl
+  filter-map p (x ∷ xs) =
+      let rest = filter (λ y. p (shown y)) xs in
+      ap (λ ys. cond (p (shown x)) (shown x ∷ ys) ys) (filter-map p xs) ∙ choose (map shown) (p (shown x)) (x ∷ rest) rest
+
+  pub without-map : (test : K → Bool) (xs : List T) → map shown (without (λ x. key (shown x)) test xs) ≡ without key test (map shown xs)
+  without-map test xs = sym (filter-map (λ y. not (test (key y))) xs)
+
+  pub placed-map : (cmp : K → K → Ordering) (x : T) (xs : List T) → map shown (placed (λ y. key (shown y)) cmp x xs) ≡ placed key cmp (shown x) (map shown xs)
+  placed-map cmp x xs =
+      map-append shown (filter (λ y. is_lt (cmp (key (shown y)) (key (shown x)))) xs) (x ∷ filter (λ y. is_lt (cmp (key (shown x)) (key (shown y)))) xs)
+      ∙ sym (rw (filter-map (λ y. is_lt (cmp (key y) (key (shown x)))) xs) (rw (filter-map (λ y. is_lt (cmp (key (shown x)) (key y))) xs) refl))

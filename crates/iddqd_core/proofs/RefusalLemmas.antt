@@ -1,0 +1,14 @@
+-- What the kind of a refusal says of the items.
+use Rattle.std.proofs.Common.{◌≡◌, ℕ, Bool, true, false, cond, eqb, List, length, refl}
+use Rattle.std.proofs.lemmas.Bool.{eqb-true}
+use Rattle.iddqd_core.specs.Refusal.{refusal_kind}
+use Rattle.iddqd_core.specs.declared.errors.TryReserveErrorKind.{TryReserveErrorKind}
+use Rattle.iddqd_core.specs.declared.errors.TryReserveErrorKind.TheVariants.{CapacityOverflow, AllocError}
+
+-- by its limit only a full map refuses
+pub full_from_kind : {T : Type 0} (limit : ℕ) (items : List T) → refusal_kind limit items ≡ CapacityOverflow → length items ≡ limit
+full_from_kind limit items e = by (eqb (length items) limit) refl e
+  where
+    by : (b : Bool) → eqb (length items) limit ≡ b → cond b CapacityOverflow AllocError ≡ CapacityOverflow → length items ≡ limit
+    by true f k = eqb-true (length items) limit f
+    by false f k = cc

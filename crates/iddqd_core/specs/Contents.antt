@@ -1,0 +1,55 @@
+-- What a map holds, as a plain list of items that is searched, filtered and replaced item by item. How the items are kept plays no part.
+--     key      the key that an item shows, by the item's value alone (the crate's `key`)
+--     a test of keys      what a query answers of each key; of the query that is a key itself, the key's own `==`
+use Rattle.std.specs.declared.cmp.Ordering.{Ordering}
+use Rattle.std.specs.Prelude.{◌≡◌, ℕ, ◌≤◌, Bool, true, not, List, Option, None, length, map, filter, find, insert, ◌∷◌, ◌++◌, if◌then◌else◌}
+use Rattle.std.specs.List.{IsDistinct}
+use Rattle.std.specs.List.Sorted.{IsStrictlySortedBy}
+use Rattle.std.specs.Ordering.{is_lt}
+
+-- the test holds of one key, of those equal to it, and of no other
+abbrev pub IsKeyTest : {K : Type 0} → (K → K → Bool) → (K → Bool) → Type 0
+IsKeyTest eq test = (x y : _) → test x ≡ true → test y ≡ eq x y
+
+-- new is old with x put in at some place (`insert_unique`)
+pub record AddsItem {T : Type 0} (x : T) (old new : List T) : Type 0 where
+  pub place : ℕ
+  pub within : place ≤ length old
+  pub put : new ≡ insert old place x
+
+-- each clone is the value that it was made of (ours, a premise of each call that shows a clone)
+abbrev pub ClonesAreEqual : {T : Type 0} → (T → T → Type 0) → Type 0
+ClonesAreEqual is_clone = (x y : _) → is_clone x y → y ≡ x
+
+module _ {T K : Type 0} (key : T → K) where
+  -- the keys that the items show
+  abbrev pub keys : List T → List K
+  keys items = map key items
+
+  -- the item whose key passes the test, or none (`get`)
+  abbrev pub find_item : (K → Bool) → List T → Option T
+  find_item test items = find (λ x. test (key x)) items
+
+  -- no item's key passes the test
+  abbrev pub IsAbsent : (K → Bool) → List T → Type 0
+  IsAbsent test items = find_item test items ≡ None
+
+  -- the items but for the one whose key passes the test (`remove`)
+  abbrev pub without : (K → Bool) → List T → List T
+  without test items = filter (λ x. not (test (key x))) items
+
+  -- the items with y in the place of the one whose key passes the test (`insert_overwrite`)
+  abbrev pub replaced : (K → Bool) → T → List T → List T
+  replaced test y items = map (λ x. if test (key x) then y else x) items
+
+  -- no two items are akin: their keys differ
+  abbrev pub NoTwoAkin : (K → K → Bool) → List T → Type 0
+  NoTwoAkin eq items = IsDistinct eq (keys items)
+
+  -- the keys ascend strictly along the items
+  abbrev pub Ascends : (K → K → Ordering) → List T → Type 0
+  Ascends cmp items = IsStrictlySortedBy cmp (keys items)
+
+  -- x at its place among items that ascend: the lesser ones before it, the greater ones behind it
+  abbrev pub placed : (K → K → Ordering) → T → List T → List T
+  placed cmp x items = filter (λ y. is_lt (cmp (key y) (key x))) items ++ x ∷ filter (λ y. is_lt (cmp (key x) (key y))) items

@@ -1,0 +1,30 @@
+-- Why and how an insertion is refused. The list stays, and the item that was handed in comes back whole.
+--     An akin item is looked for first, then the limit, then memory.
+use Rattle.std.specs.Prelude.{◌≡◌, ℕ, Bool, List, [], ◌∷◌, Option, Some, None, length, ◌==◌, if◌then◌else◌}
+use Rattle.std.specs.Borrow.{Bor}
+use Rattle.iddqd_core.specs.Contents.{find_item, IsAbsent}
+use Rattle.iddqd_core.specs.Errors.{new_item_of, duplicates_of}
+use Rattle.iddqd_core.specs.declared.errors.TryReserveErrorKind.{TryReserveErrorKind}
+use Rattle.iddqd_core.specs.declared.errors.TryReserveErrorKind.TheVariants.{CapacityOverflow, AllocError}
+use Rattle.iddqd_core.specs.declared.errors.InsertError.{InsertError}
+use Rattle.iddqd_core.specs.declared.errors.InsertError.TheVariants.{Duplicate, Refused}
+
+-- the kind of a refusal: a full map's where it is full, and else for want of memory (ours: the crate leaves open where a map is full)
+abbrev pub refusal_kind : {T : Type 0} → ℕ → List T → TryReserveErrorKind
+refusal_kind limit items = if length items == limit then CapacityOverflow else AllocError
+
+-- the one value that is lent
+abbrev pub IsLent : {T : Type 0} → List (Bor T) → T → Type 0
+IsLent [] x = ⊥
+IsLent (d ∷ []) x = d.now ≡ x
+IsLent (d ∷ e ∷ more) x = ⊥
+
+module _ {T K : Type 0} (key : T → K) (eq : K → K → Bool) (limit : ℕ) where
+  -- x finds no room: its key is absent, and the kind is told by the limit (ours: the crate panics or aborts)
+  abbrev pub FindsNoRoom : List T → T → TryReserveErrorKind → Type 0
+  FindsNoRoom items x kind = IsAbsent key (eq (key x)) items × (kind ≡ refusal_kind limit items)
+
+  -- x comes back: beside the akin item that is there, which is shown alone (`DuplicateItem`), or for want of room
+  abbrev pub RefusesInsertion : List T → T → InsertError T → Type 0
+  RefusesInsertion items x (Duplicate d) = (new_item_of d ≡ x) × (y : T) × IsLent (duplicates_of d) y × (find_item key (eq (key x)) items ≡ Some y)
+  RefusesInsertion items x (Refused r) = (r.item ≡ x) × FindsNoRoom items x r.error

@@ -1,0 +1,79 @@
+//! A counter of comparisons.
+ghost use Rattle.std.specs.Prelude.{◌≡◌, ◌+◌, min};
+
+use crate::queries::{Comparable, Equivalent};
+use std::cmp::Ordering;
+use std::marker::Model;
+
+/// How many times a lookup compared a key (ours). At `u32::MAX` the count stays.
+#[derive(Drop)]
+pub struct Steps {
+    count: u32,
+}
+
+impl Model for Steps {
+    ghost use Rattle.std.specs.Prelude.{ℕ};
+
+    ghost Value = { ℕ };
+
+    ghost view = { λ s. s.count };
+}
+
+impl Steps {
+    /// No steps.
+    pub fn new() -> Steps
+        ensures { result ≡ 0 }
+    {
+        Steps { count: 0 }
+    }
+
+    /// How many steps there were.
+    pub fn count(&self) -> u32
+        ensures { result ≡ self.now }
+    {
+        self.count
+    }
+
+    fn add_one(&mut self)
+        ensures { self.new ≡ min (self.old + 1) u32.MAX }
+    {
+        self.count = self.count.saturating_add(1);
+    }
+
+    /// Where the query stands to the key: one step.
+    pub fn compare<K: Ord, Q: Comparable<K>>(&mut self, query: &Q, key: &K) -> Ordering
+        ensures value { result ≡ Q.compare query.now key.now }
+        ensures step { self.new ≡ min (self.old + 1) u32.MAX }
+    {
+        self.add_one();
+        query.compare(key)
+    }
+
+    /// Whether the query stands for the key: one step.
+    pub fn equal<K: Eq, Q: Equivalent<K>>(&mut self, query: &Q, key: &K) -> bool
+        ensures value { result ≡ Q.equivalent query.now key.now }
+        ensures step { self.new ≡ min (self.old + 1) u32.MAX }
+    {
+        self.add_one();
+        query.equivalent(key)
+    }
+}
+
+#[cfg(test)]
+mod tests {
+    use super::*;
+
+    // Each comparison is one step, and at the greatest count the count stays.
+    #[test]
+    fn counts(rt: HostRuntime) {
+        let mut steps = Steps::new();
+        assert_eq!(rt; steps.compare(&1u32, &2), Ordering::Less);
+        assert_eq!(rt; steps.compare(&2u32, &2), Ordering::Equal);
+        assert!(rt; steps.equal(&2u32, &2));
+        assert!(rt; !steps.equal(&2u32, &3));
+        assert_eq!(rt; steps.count(), 4);
+        let mut full = Steps { count: u32::MAX };
+        assert!(rt; full.equal(&2u32, &2));
+        assert_eq!(rt; full.count(), 4_294_967_295);
+    }
+}
