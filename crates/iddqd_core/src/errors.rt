@@ -1,8 +1,13 @@
 //! What is answered where an item is not taken.
-ghost use Rattle.std.specs.Prelude.{◌≡◌, ◌↔◌, IsTrue, length, slice_get, option_copied};
+ghost use Rattle.std.specs.Prelude.{◌≡◌, ◌↔◌, IsTrue, IfOk, IfErr, map, length, slice_get, option_copied};
 ghost use Rattle.iddqd_core.specs.declared.errors.TryReserveErrorKind.TheVariants.{CapacityOverflow, AllocError};
+ghost use Rattle.iddqd_core.specs.Contents.{ClonesAreEqual};
 ghost use Rattle.iddqd_core.specs.Errors.{new_item_of, duplicates_of, listed};
 
+#[cfg(test)]
+mod tests;
+
+use std::alloc;
 use std::error::Error;
 use std::fmt::{self, Debug, Display, Formatter, Write};
 use std::marker::Model;
@@ -133,6 +138,38 @@ impl<T, D> DuplicateItem<T, D> {
     {
         let DuplicateItem { new, duplicates } = self;
         (new, duplicates)
+    }
+}
+
+impl<'a, T: Clone> DuplicateItem<T, &'a T> {
+    /// The same with clones of the items that are lent. Where memory for one was refused, it hands itself back.
+    pub fn into_owned(self) -> Result<DuplicateItem<T>, Self>
+        requires clones { ClonesAreEqual T.is_clone }
+        ensures new { IfOk result (λ owned. new_item_of owned ≡ new_item_of self.entry) }
+        ensures duplicates { IfOk result (λ owned. duplicates_of owned ≡ map (λ lent. lent.now) (duplicates_of self.entry)) }
+        ensures back { IfErr result (λ back. back ≡ self.entry) }
+    {
+        match self.duplicates.cloned() {
+            Ok(duplicates) => Ok(DuplicateItem {
+                new: self.new,
+                duplicates,
+            }),
+            Err(_) => Err(self),
+        }
+    }
+}
+
+impl<T: Clone> Few<&T> {
+    // A clone of each value.
+    fn cloned(&self) -> Result<Few<T>, alloc::AllocError>
+        requires clones { ClonesAreEqual T.is_clone }
+        ensures { IfOk result (λ few. listed few ≡ map (λ lent. lent.now) (listed self.now)) }
+    {
+        match self {
+            Few::One(a) => Ok(Few::One((**a).clone()?)),
+            Few::Two(a, b) => Ok(Few::Two((**a).clone()?, (**b).clone()?)),
+            Few::Three(a, b, c) => Ok(Few::Three((**a).clone()?, (**b).clone()?, (**c).clone()?)),
+        }
     }
 }
 

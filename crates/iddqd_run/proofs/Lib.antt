@@ -1,13 +1,6 @@
-pub mod ContentsLemmas
 pub mod Cuts
-pub mod KeepsLemmas
 pub mod NameLemmas
-pub mod OrderChains
-pub mod PlacedLemmas
-pub mod QueryLemmas
-pub mod RefusalLemmas
 pub mod ReplyLemmas
-pub mod SearchLemmas
 pub mod ShownLemmas
 pub mod StepLemmas
 pub mod ValueLemmas

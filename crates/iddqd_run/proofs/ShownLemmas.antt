@@ -7,13 +7,14 @@ use Rattle.std.proofs.lemmas.Bool.{ne_eqb}
 use Rattle.std.proofs.lemmas.List.{length-map}
 use Rattle.std.proofs.Common.{String, Global}
 use Rattle.iddqd_run.specs.Answer.{name_of, name_cmp, entry_named, is_full}
-use Rattle.iddqd_run.specs.Contents.{AddsItem, find_item, without, placed}
+use Rattle.iddqd_core.specs.Contents.{AddsItem, find_item, without, placed}
 use Rattle.iddqd_run.specs.Lines.{Add, Get, Del}
 use Rattle.iddqd_run.specs.Shown.{entry_of, entries_of, IsNameOrdered, AnswersPlainly}
 use Rattle.iddqd_run.specs.declared.id_ord_map.TheConstants.{MAX_ITEMS}
 use Rattle.iddqd_run.specs.declared.entries.Entry.{Entry}
 use Rattle.iddqd_run.specs.declared.entries.LineReply.TheVariants.{Added, Duplicate, Found, Removed, Absent, RefusedCapacity}
-use Rattle.iddqd_run.proofs.PlacedLemmas.{placed-added, find_item-map, without-map, placed-map}
+use Rattle.iddqd_core.proofs.MappedLemmas.{find_item-map, without-map, placed-map}
+use Rattle.iddqd_core.proofs.PlacedLemmas.{added_placed}
 
 key : Entry → String Global
 key entry = entry.name
@@ -63,7 +64,7 @@ module _ (x : Entry) (items : List Entry) where
       let room : is_full (entries_of items) ≡ false = not_full items (λ e. omega (arith, few, e)) in
       record {
         reply = rw none (rw room refl);
-        entries = ap entries_of (placed-added (λ entry. entry.name) string_cmp_total x items new added keyed) ∙ placed-map entry_of name_of name_cmp x items ∙ ap (λ n. placed name_of name_cmp (n, x.value) (entries_of items)) same ∙ sym (rw none (rw room refl));
+        entries = ap entries_of (added_placed (λ entry. entry.name) string_cmp_total x items new added keyed) ∙ placed-map entry_of name_of name_cmp x items ∙ ap (λ n. placed name_of name_cmp (n, x.value) (entries_of items)) same ∙ sym (rw none (rw room refl));
       }
 
   pub duplicate_plainly : (y : Entry) (name : Bor (List ℕ)) (value : ℕ) (new : List Entry) → string_bytes x.name ≡ name.now → value ≡ y.value → find_item (λ entry. entry.name) (λ k. bytes_eq (string_bytes x.name) (string_bytes k)) items ≡ Some y → new ≡ items → AnswersPlainly (Add name.now x.value) items (Duplicate name value) new

@@ -1,12 +1,8 @@
 pub mod Answer
 pub mod Asked
-pub mod Contents
-pub mod Errors
 pub mod Lines
 pub mod OrdItems
 pub mod OrdMap
-pub mod Refusal
-pub mod Search
 pub mod Shown
 pub mod Step
 pub mod Words

@@ -2,7 +2,7 @@
 use Rattle.std.specs.Prelude.{◌≡◌, ◌<◌, length, Result}
 use Rattle.std.specs.Borrow.{Fml, RattleType, MutBor, LendsSoOk, unit}
 use Rattle.std.specs.declared.cmp.Ordering.{Ordering}
-use Rattle.iddqd_run.specs.Contents.{AddsItem, Ascends}
+use Rattle.iddqd_core.specs.Contents.{AddsItem, Ascends}
 use Rattle.iddqd_run.specs.OrdItems.{OrdItems}
 use Rattle.iddqd_run.specs.contracts.id_ord_map.IdOrdMap.{the_row}
 

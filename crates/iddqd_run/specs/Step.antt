@@ -3,10 +3,10 @@
 --     SpareRule      whether a map keeps a spare
 --     Step, Run      one command and its reply; a list of commands and their replies
 use Rattle.std.specs.Prelude.{◌≡◌, ℕ, ◌+◌, ◌<◌, ◌≤◌, Bool, List, [], ◌∷◌, length, Option, Some, None, IfSome}
-use Rattle.iddqd_run.specs.Contents.{find_item, IsAbsent, AddsItem, without}
-use Rattle.iddqd_run.specs.Refusal.{FindsNoRoom}
-use Rattle.iddqd_run.specs.declared.errors.TryReserveErrorKind.{TryReserveErrorKind}
-use Rattle.iddqd_run.specs.declared.errors.TryReserveErrorKind.TheVariants.{AllocError}
+use Rattle.iddqd_core.specs.Contents.{find_item, IsAbsent, AddsItem, without}
+use Rattle.iddqd_core.specs.Refusal.{FindsNoRoom}
+use Rattle.iddqd_core.specs.declared.errors.TryReserveErrorKind.{TryReserveErrorKind}
+use Rattle.iddqd_core.specs.declared.errors.TryReserveErrorKind.TheVariants.{AllocError}
 use Rattle.iddqd_run.specs.declared.commands.Command.{Command}
 use Rattle.iddqd_run.specs.declared.commands.Command.TheVariants.{InsertUnique, Get, Remove, Len}
 use Rattle.iddqd_run.specs.declared.commands.Reply.{Reply}

@@ -2,13 +2,13 @@
 ghost use Rattle.std.specs.Prelude.{◌≡◌, IfOk, string_bytes};
 ghost use Rattle.iddqd_run.specs.Answer.{AnswersWithRefusals};
 ghost use Rattle.iddqd_run.specs.Asked.{asked};
-ghost use Rattle.iddqd_run.specs.Errors.{listed};
+ghost use Rattle.iddqd_core.specs.Errors.{listed};
 ghost use Rattle.iddqd_run.specs.Lines.{Add, Get, Del};
-ghost use Rattle.iddqd_run.specs.Refusal.{IsLent};
+ghost use Rattle.iddqd_core.specs.Refusal.{IsLent};
 ghost use Rattle.iddqd_run.specs.Shown.{AnswersRequest, IsNameOrdered};
 
 use crate::entries::{Entry, LineReply};
-use crate::errors::{Few, InsertError};
+use iddqd_core::{Few, InsertError};
 use crate::id_ord_map::{IdOrdMap, MAX_ITEMS};
 use crate::lines::{Line, first_line, parse};
 use std::alloc::{AllocError, Global};

@@ -1,12 +1,12 @@
 //! An ordered map over one vector of items that ascends by key.
 ghost use Rattle.std.specs.Prelude.{◌≡◌, ◌<◌, ◌≤◌, ◌↔◌, [], length, map, IsTrue, IfNone, OnOk, IfErr, OnErr, Some, option_copied, is_some, slice_get, MatchResult, insert};
 ghost use Rattle.std.specs.Borrow.{sem};
-ghost use Rattle.iddqd_run.specs.Contents.{keys, find_item, without, IsAbsent, AddsItem, Ascends};
-ghost use Rattle.iddqd_run.specs.Search.{IsPlaceAmong};
-ghost use Rattle.iddqd_run.specs.Refusal.{RefusesInsertion, refusal_kind};
+ghost use Rattle.iddqd_core.specs.Contents.{keys, find_item, without, IsAbsent, AddsItem, Ascends};
+ghost use Rattle.iddqd_core.specs.Search.{IsPlaceAmong};
+ghost use Rattle.iddqd_core.specs.Refusal.{RefusesInsertion, refusal_kind};
 
-use crate::errors::{DuplicateItem, Few, InsertError, Refused, TryReserveError};
-use crate::items::IdOrdItem;
+use iddqd_core::{DuplicateItem, Few, InsertError, Refused, TryReserveError};
+use iddqd_core::IdOrdItem;
 use std::alloc::Global;
 use std::cmp::Ordering;
 use std::marker::Model;

@@ -5,18 +5,15 @@ mod answering;
 mod arguments;
 mod commands;
 mod entries;
-mod errors;
 mod id_ord_map;
-mod items;
 mod lines;
 mod running;
 mod serving;
 
 pub use arguments::{Kind, kind_of};
 pub use commands::{Command, Reply, RunStop};
-pub use errors::{DuplicateItem, Few, InsertError, Refused, TryReserveError};
+pub use iddqd_core::{DuplicateItem, Few, IdOrdItem, InsertError, Refused, TryReserveError};
 pub use id_ord_map::{IdOrdMap, MAX_ITEMS};
-pub use items::IdOrdItem;
 pub use running::run;
 pub use serving::{Fault, fault_text, serve};
 

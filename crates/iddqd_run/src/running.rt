@@ -1,14 +1,14 @@
 //! Lists of commands.
 ghost use Rattle.std.specs.Prelude.{◌≡◌, OnErr, IfOk, IfErr, IfSome};
-ghost use Rattle.iddqd_run.specs.Contents.{Ascends, ClonesAreEqual};
-ghost use Rattle.iddqd_run.specs.Errors.{listed};
-ghost use Rattle.iddqd_run.specs.Refusal.{IsLent};
+ghost use Rattle.iddqd_core.specs.Contents.{Ascends, ClonesAreEqual};
+ghost use Rattle.iddqd_core.specs.Errors.{listed};
+ghost use Rattle.iddqd_core.specs.Refusal.{IsLent};
 ghost use Rattle.iddqd_run.specs.Step.{MapState, SpareRule, KeepsNone, spareless, AnswersInsertUnique, AnswersGet, Step, Run};
 
 use crate::commands::{Command, Reply, RunStop};
-use crate::errors::{Few, InsertError, TryReserveError};
+use iddqd_core::{Few, InsertError, TryReserveError};
 use crate::id_ord_map::IdOrdMap;
-use crate::items::IdOrdItem;
+use iddqd_core::IdOrdItem;
 use std::alloc::Global;
 
 /// Runs the commands in order on a map: one reply for each (ours). Room for all replies is taken first; where it is refused,

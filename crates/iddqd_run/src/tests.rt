@@ -1,4 +1,3 @@
 //! What no clause says: worked rows, printed texts, and that each call succeeds with memory at hand.
-mod errors;
 mod maps;
 mod texts;

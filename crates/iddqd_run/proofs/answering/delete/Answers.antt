@@ -1,6 +1,6 @@
 use Rattle.std.proofs.Common.{◌≡◌, Some, None, subst}
 use Rattle.std.specs.Prelude.{bytes_eq, string_bytes}
-use Rattle.iddqd_run.specs.Contents.{find_item, without}
+use Rattle.iddqd_core.specs.Contents.{find_item, without}
 use Rattle.iddqd_run.proofs.ShownLemmas.{removed_plainly, not_removed}
 use Rattle.iddqd_run.proofs.answering.delete.Goals as goal
 

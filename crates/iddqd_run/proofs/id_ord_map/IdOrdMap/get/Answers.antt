@@ -1,5 +1,5 @@
 use Rattle.std.proofs.Common.{◌≡◌, ◌∙◌, ap, get_or}
-use Rattle.iddqd_run.proofs.QueryLemmas.{own_query, find_there, find_nowhere}
+use Rattle.iddqd_core.proofs.QueryLemmas.{own_query, find_there, find_nowhere}
 use Rattle.iddqd_run.proofs.id_ord_map.IdOrdMap.get.Goals as goal
 
 pub returns-in-Ok : goal.returns-in-Ok

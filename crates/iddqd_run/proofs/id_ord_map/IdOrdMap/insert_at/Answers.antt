@@ -1,8 +1,8 @@
 use Rattle.std.proofs.Common.{◌≡◌, ◌<◌, ◌∙◌, ap, subst, sym, refl, length, arith}
 use Rattle.std.proofs.lemmas.List.{length-map}
 use Rattle.std.specs.List.{insert}
-use Rattle.iddqd_run.specs.Contents.{Ascends}
-use Rattle.iddqd_run.proofs.KeepsLemmas.{ascends_insert}
+use Rattle.iddqd_core.specs.Contents.{Ascends}
+use Rattle.iddqd_core.proofs.KeepsLemmas.{ascends_insert}
 use Rattle.iddqd_run.proofs.id_ord_map.IdOrdMap.insert_at.Goals as goal
 
 pub returns-clause-inserted : goal.returns-clause-inserted

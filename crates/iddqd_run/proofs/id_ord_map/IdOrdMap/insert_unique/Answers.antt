@@ -1,10 +1,10 @@
 use Rattle.std.proofs.Common.{◌≡◌, ◌∙◌, ap, subst, sym, refl, Ok, Err, List, length, arith}
 use Rattle.std.proofs.lemmas.Option.{get_or_from_slice_get}
-use Rattle.iddqd_run.specs.Contents.{keys}
+use Rattle.iddqd_core.specs.Contents.{keys}
 use Rattle.iddqd_run.specs.OrdMap.{InsertsItem}
-use Rattle.iddqd_run.specs.Refusal.{IsLent}
-use Rattle.iddqd_run.specs.Search.{IsPlaceAmong}
-use Rattle.iddqd_run.proofs.QueryLemmas.{OrderedQuery, own_query, find_there, find_nowhere}
+use Rattle.iddqd_core.specs.Refusal.{IsLent}
+use Rattle.iddqd_core.specs.Search.{IsPlaceAmong}
+use Rattle.iddqd_core.proofs.QueryLemmas.{OrderedQuery, own_query, find_there, find_nowhere}
 use Rattle.iddqd_run.proofs.id_ord_map.IdOrdMap.insert_unique.Given.{Over}
 use Rattle.iddqd_run.proofs.id_ord_map.IdOrdMap.insert_unique.Goals as goal
 

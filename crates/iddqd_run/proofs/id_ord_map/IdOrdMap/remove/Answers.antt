@@ -1,8 +1,8 @@
 use Rattle.std.proofs.Common.{◌≡◌, ◌∙◌, sym, ap, subst, not, get_or}
 use Rattle.std.specs.List.{remove}
-use Rattle.iddqd_run.specs.Contents.{Ascends}
-use Rattle.iddqd_run.proofs.KeepsLemmas.{ascends_filter}
-use Rattle.iddqd_run.proofs.QueryLemmas.{OrderedQuery, own_query, find_there, find_nowhere, without_there, without_nowhere}
+use Rattle.iddqd_core.specs.Contents.{Ascends}
+use Rattle.iddqd_core.proofs.KeepsLemmas.{ascends_filter}
+use Rattle.iddqd_core.proofs.QueryLemmas.{OrderedQuery, own_query, find_there, find_nowhere, without_there, without_nowhere}
 use Rattle.iddqd_run.proofs.id_ord_map.IdOrdMap.remove.Given.{Over}
 use Rattle.iddqd_run.proofs.id_ord_map.IdOrdMap.remove.Goals as goal
 

@@ -1,8 +1,8 @@
 use Rattle.std.proofs.Common.{ℕ, ◌+◌, ◌-◌, ◌/◌, ◌≡◌, ◌<◌, length, map, arith, sym, ap, subst, Ordering, Less, Greater}
 use Rattle.std.proofs.lemmas.List.{length-map}
-use Rattle.iddqd_run.specs.Contents.{Ascends}
-use Rattle.iddqd_run.proofs.OrderChains.{le_then_less, ge_then_greater}
-use Rattle.iddqd_run.proofs.SearchLemmas.{at_key, greater_before, less_behind}
+use Rattle.iddqd_core.specs.Contents.{Ascends}
+use Rattle.iddqd_core.specs.Query.{le_then_less, ge_then_greater}
+use Rattle.iddqd_core.proofs.SearchLemmas.{at_key, greater_before, less_behind}
 use Rattle.iddqd_run.proofs.id_ord_map.IdOrdMap.search.Goals as goal
 
 pub loop-low-preserved-in-Greater : goal.loop-low-preserved-in-Greater

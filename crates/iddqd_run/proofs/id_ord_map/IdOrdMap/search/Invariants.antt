@@ -1,6 +1,6 @@
 use Rattle.std.proofs.Common.{◌≡◌, ◌-◌, ◌≤◌, length, Less, Greater}
 use Rattle.std.specs.List.{AllWithin}
-use Rattle.iddqd_run.specs.Contents.{keys}
+use Rattle.iddqd_core.specs.Contents.{keys}
 use Rattle.iddqd_run.proofs.id_ord_map.IdOrdMap.search.Given as goal
 
 -- the key is above each one before low, and below each one from high on

@@ -7,6 +7,12 @@ fn error_texts(rt: HostRuntime) -> Result<(), Fail> {
     let alloc = rt.alloc();
     let duplicate = DuplicateItem::internal_new(5, Few::One(5));
     let three = DuplicateItem::internal_new(5, Few::Three(5, 6, 7));
+    let there = 5;
+    let lent = DuplicateItem::internal_new(5, Few::One(&there));
+    let Ok(owned) = lent.into_owned() else {
+        return Err(Fail::from("no memory for a number"));
+    };
+    assert_eq!(rt; owned.to_string(alloc)?.as_str(), "new item: 5 conflicts with existing: [5]");
     let full = TryReserveError::capacity_overflow();
     let no_memory = TryReserveError::alloc_error();
     assert_eq!(rt;
