@@ -145,11 +145,13 @@ fn changes(rt: HostRuntime) -> Result<(), Fail> {
     assert_eq!(rt; walk.len(), 4);
     assert_eq!(rt; walk.next(), Some(4));
     assert_eq!(rt; walk.len(), 3);
+    assert_eq!(rt; walk.size_hint(), (3, Some(3)));
     let mut walk = copy.into_walk();
     for slot in [4, 8, 9, 2] {
         assert_eq!(rt; walk.next(), Some(slot));
     }
     assert_eq!(rt; walk.len(), 0);
+    assert_eq!(rt; walk.size_hint(), (0, Some(0)));
     assert_eq!(rt; walk.next(), None);
     assert_eq!(rt; walk.next(), None);
     Ok(())

@@ -1,6 +1,7 @@
 //! A walk over the slots of an ordered index. Contracts see the slots that are still to come.
-ghost use Rattle.std.specs.Prelude.{◌≡◌};
-ghost use Rattle.std.specs.Iterator.{YieldsFirst, item_count};
+ghost use Rattle.std.specs.Prelude.{◌≡◌, length, IfSome};
+ghost use Rattle.std.specs.Iterator.{UpTo, YieldsFirst, at_most, item_count};
+ghost use Rattle.std.specs.Iterator.SizeHint.{IsWithinCount};
 
 use std::iter::FusedIterator;
 use std::marker::Model;
@@ -42,8 +43,13 @@ impl Iterator for Walk<'_> {
         self.slots.next().copied()
     }
 
-    fn size_hint(&self) -> (usize, Option<usize>) {
-        self.slots.size_hint()
+    fn size_hint(&self) -> (usize, Option<usize>)
+        ensures exact { result ≡ (length self.now, Some (length self.now)) }
+        ensures lower { IsWithinCount result.0 (at_most (length self.now)) }
+        ensures upper { IfSome result.1 (UpTo (at_most (length self.now))) }
+    {
+        let len = self.len();
+        (len, Some(len))
     }
 }
 
