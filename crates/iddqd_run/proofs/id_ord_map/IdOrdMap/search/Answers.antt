@@ -36,5 +36,5 @@ loop-low-preserved g c =
       ordered = omega arith;
       within = omega arith;
       before = c.loop-low.invariant.before;
-      behind = less_behind g.met.T.Key.Ord.total compare (map key items) keyed (le_then_less g.met.T.Key.Ord.total c.args.key.now) middle (omega (arith, length-map items key)) (at_key key (λ k. compare k ≡ Less) items middle c.index.result.now within c.index.ensures answer);
+      behind = less_behind g.met.T.Key.Ord.total compare (map key items) keyed (le_then_less g.met.T.Key.Ord.total c.args.key.now) middle (at_key key (λ k. compare k ≡ Less) items middle c.index.result.now within c.index.ensures answer);
     }
