@@ -1,12 +1,20 @@
-//! What both maps stand on: errors, items, queries, the item store and the indexes.
+//! What the maps stand on: their errors, the store that holds their items, item traits, queries, and the indexes.
 #![tactic(auto)]
 
-pub mod errors;
+mod errors;
 mod halves;
-pub mod item_store;
-pub mod items;
+mod item_store;
+mod items;
 pub mod laws;
-pub mod ord_index;
-pub mod queries;
-pub mod steps;
-pub mod text;
+mod ord_index;
+mod queries;
+mod steps;
+mod text;
+
+pub use errors::{DuplicateItem, Few, InsertError, Refused, TryReserveError};
+pub use item_store::ItemStore;
+pub use items::{IdHashItem, IdOrdItem};
+pub use ord_index::{IntoWalk, OrdIndex, Place, Walk};
+pub use queries::{Comparable, Equivalent};
+pub use steps::Steps;
+pub use text::Text;
