@@ -10,10 +10,10 @@ ghost use Rattle.iddqd_core.specs.Search.{IsPlaceAmong};
 ghost use Rattle.iddqd_core.specs.Store.{item_at};
 ghost use Rattle.iddqd_core.specs.declared.errors.TryReserveErrorKind.TheVariants.{AllocError};
 
-pub mod into_walk;
+mod into_walk;
 #[cfg(test)]
 mod tests;
-pub mod walk;
+mod walk;
 
 use crate::errors::TryReserveError;
 use crate::halves::search;
@@ -21,10 +21,10 @@ use crate::item_store::ItemStore;
 use crate::items::IdOrdItem;
 use crate::queries::Comparable;
 use crate::steps::Steps;
-use into_walk::IntoWalk;
+pub use into_walk::IntoWalk;
 use std::alloc::Global;
 use std::marker::Model;
-use walk::Walk;
+pub use walk::Walk;
 
 /// A place in the list of an index, or the one behind its last slot. Contracts see its position.
 #[derive(Clone, Copy, Debug, PartialEq, Eq)]
