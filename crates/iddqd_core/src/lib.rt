@@ -1,4 +1,4 @@
-//! What the maps stand on: their errors, the store that holds their items, item traits, queries, and the indexes.
+//! What both maps stand on: errors, items, queries, steps, the item store and the ordered index.
 #![tactic(auto)]
 
 mod errors;
@@ -14,13 +14,7 @@ mod text;
 pub use errors::{DuplicateItem, Few, InsertError, Refused, TryReserveError};
 pub use item_store::ItemStore;
 pub use items::{IdHashItem, IdOrdItem};
-<<<<<<< HEAD
-pub use ord_index::into_walk::IntoWalk;
-pub use ord_index::walk::Walk;
-pub use ord_index::{OrdIndex, Place};
-=======
 pub use ord_index::{IntoWalk, OrdIndex, Place, Walk};
->>>>>>> index
 pub use queries::{Comparable, Equivalent};
 pub use steps::Steps;
 pub use text::Text;

@@ -12,7 +12,10 @@ fn error_texts(rt: HostRuntime) -> Result<(), Fail> {
     let Ok(owned) = lent.into_owned() else {
         return Err(Fail::from("no memory for a number"));
     };
-    assert_eq!(rt; owned.to_string(alloc)?.as_str(), "new item: 5 conflicts with existing: [5]");
+    assert_eq!(rt;
+        owned.to_string(alloc)?.as_str(),
+        "new item: 5 conflicts with existing: [5]"
+    );
     let full = TryReserveError::capacity_overflow();
     let no_memory = TryReserveError::alloc_error();
     assert_eq!(rt;
