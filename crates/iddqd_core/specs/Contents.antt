@@ -2,7 +2,7 @@
 --     key      the key that an item shows, by the item's value alone (the crate's `key`)
 --     a test of keys      what a query answers of each key; of the query that is a key itself, the key's own `==`
 use Rattle.std.specs.declared.cmp.Ordering.{Ordering}
-use Rattle.std.specs.Prelude.{◌≡◌, ℕ, ◌≤◌, Bool, true, not, List, Option, None, length, map, filter, find, insert, ◌∷◌, ◌++◌, if◌then◌else◌}
+use Rattle.std.specs.Prelude.{◌≡◌, ℕ, ◌<◌, ◌≤◌, Bool, true, not, List, Option, Some, None, length, map, filter, find, insert, ◌∷◌, ◌++◌, if◌then◌else◌}
 use Rattle.std.specs.List.{IsDistinct}
 use Rattle.std.specs.List.Sorted.{IsStrictlySortedBy}
 use Rattle.std.specs.Ordering.{is_lt}
@@ -53,3 +53,8 @@ module _ {T K : Type 0} (key : T → K) where
   -- x at its place among items that ascend: the lesser ones before it, the greater ones behind it
   abbrev pub placed : (K → K → Ordering) → T → List T → List T
   placed cmp x items = filter (λ y. is_lt (cmp (key y) (key x))) items ++ x ∷ filter (λ y. is_lt (cmp (key x) (key y))) items
+
+  -- an akin item comes back, and x stands whole in its place; or there is none, the map is not full, and x is put in (`insert_overwrite`)
+  abbrev pub OverwritesItem : (K → K → Bool) → T → ℕ → List T → Option T → List T → Type 0
+  OverwritesItem eq x limit old (Some y) new = (find_item (eq (key x)) old ≡ Some y) × (new ≡ replaced (eq (key x)) x old)
+  OverwritesItem eq x limit old None new = IsAbsent (eq (key x)) old × (length old < limit) × AddsItem x old new

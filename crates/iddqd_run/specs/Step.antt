@@ -3,14 +3,14 @@
 --     SpareRule      whether a map keeps a spare
 --     Step, Run      one command and its reply; a list of commands and their replies
 use Rattle.std.specs.Prelude.{◌≡◌, ℕ, ◌+◌, ◌<◌, ◌≤◌, Bool, List, [], ◌∷◌, length, Option, Some, None, IfSome}
-use Rattle.iddqd_core.specs.Contents.{find_item, IsAbsent, AddsItem, without}
+use Rattle.iddqd_core.specs.Contents.{find_item, IsAbsent, AddsItem, without, OverwritesItem}
 use Rattle.iddqd_core.specs.Refusal.{FindsNoRoom}
 use Rattle.iddqd_core.specs.declared.errors.TryReserveErrorKind.{TryReserveErrorKind}
 use Rattle.iddqd_core.specs.declared.errors.TryReserveErrorKind.TheVariants.{AllocError}
 use Rattle.iddqd_run.specs.declared.commands.Command.{Command}
-use Rattle.iddqd_run.specs.declared.commands.Command.TheVariants.{InsertUnique, Get, Remove, Len}
+use Rattle.iddqd_run.specs.declared.commands.Command.TheVariants.{InsertUnique, InsertOverwrite, Get, Remove, Clear, Len}
 use Rattle.iddqd_run.specs.declared.commands.Reply.{Reply}
-use Rattle.iddqd_run.specs.declared.commands.Reply.TheVariants.{Inserted, Duplicate, Found, Removed, Absent, Length, Refused}
+use Rattle.iddqd_run.specs.declared.commands.Reply.TheVariants.{Inserted, Duplicate, Replaced, Found, Removed, Absent, Done, Length, Refused}
 
 pub record MapState (T : Type 0) : Type 0 where
   pub items : List T
@@ -31,15 +31,33 @@ KeepsRoom KeepsNone limit old new = (old.spare ≡ 0) × (new.spare ≡ 0)
 KeepsRoom KeepsSpare limit old new = (old.spare + length old.items ≤ new.spare + length new.items) × (new.spare + length new.items ≤ limit)
 
 module _ {T K : Type 0} (key : T → K) (eq : K → K → Bool) (limit : ℕ) where
-  -- the item is taken where its key is absent and the map is not full; at a spare above 0 it is never refused for want of room
+  -- x comes back for want of room; at a spare above 0 this never comes
+  abbrev pub RefusesItem : T → MapState T → Option T → TryReserveErrorKind → Type 0
+  RefusesItem x old back kind = (back ≡ Some x) × FindsNoRoom key eq limit old.items x kind × (old.spare ≡ 0)
+
+  -- the item is put in where its key is absent and the map is not full
   abbrev pub AnswersInsertUnique : T → MapState T → Reply T → List T → Type 0
-  AnswersInsertUnique x old Inserted new = IsAbsent key (eq (key x)) old.items × (length old.items < limit) × AddsItem x old.items new
+  AnswersInsertUnique x old Inserted new = OverwritesItem key eq x limit old.items None new
   AnswersInsertUnique x old (Duplicate back existing) new = (back ≡ x) × (y : T) × (find_item key (eq (key x)) old.items ≡ Some y) × IfSome existing (λ e. e ≡ y) × (new ≡ old.items)
-  AnswersInsertUnique x old (Refused back kind) new = (back ≡ Some x) × FindsNoRoom key eq limit old.items x kind × (old.spare ≡ 0) × (new ≡ old.items)
+  AnswersInsertUnique x old (Refused back kind) new = RefusesItem x old back kind × (new ≡ old.items)
+  AnswersInsertUnique x old (Replaced y) new = ⊥
   AnswersInsertUnique x old (Found y) new = ⊥
   AnswersInsertUnique x old (Removed y) new = ⊥
   AnswersInsertUnique x old Absent new = ⊥
+  AnswersInsertUnique x old Done new = ⊥
   AnswersInsertUnique x old (Length n) new = ⊥
+
+  -- the same, and an akin item that is there is replaced whole and comes back
+  abbrev pub AnswersInsertOverwrite : T → MapState T → Reply T → List T → Type 0
+  AnswersInsertOverwrite x old Inserted new = OverwritesItem key eq x limit old.items None new
+  AnswersInsertOverwrite x old (Replaced y) new = OverwritesItem key eq x limit old.items (Some y) new
+  AnswersInsertOverwrite x old (Refused back kind) new = RefusesItem x old back kind × (new ≡ old.items)
+  AnswersInsertOverwrite x old (Duplicate back existing) new = ⊥
+  AnswersInsertOverwrite x old (Found y) new = ⊥
+  AnswersInsertOverwrite x old (Removed y) new = ⊥
+  AnswersInsertOverwrite x old Absent new = ⊥
+  AnswersInsertOverwrite x old Done new = ⊥
+  AnswersInsertOverwrite x old (Length n) new = ⊥
 
   -- a clone of the item is shown; only memory for the clone can be refused
   abbrev pub AnswersGet : K → MapState T → Reply T → List T → Type 0
@@ -48,7 +66,9 @@ module _ {T K : Type 0} (key : T → K) (eq : K → K → Bool) (limit : ℕ) wh
   AnswersGet k old (Refused back kind) new = (back ≡ None) × (kind ≡ AllocError) × (y : T) × (find_item key (eq k) old.items ≡ Some y) × (new ≡ old.items)
   AnswersGet k old Inserted new = ⊥
   AnswersGet k old (Duplicate back existing) new = ⊥
+  AnswersGet k old (Replaced y) new = ⊥
   AnswersGet k old (Removed y) new = ⊥
+  AnswersGet k old Done new = ⊥
   AnswersGet k old (Length n) new = ⊥
 
   -- the item is taken out
@@ -57,24 +77,42 @@ module _ {T K : Type 0} (key : T → K) (eq : K → K → Bool) (limit : ℕ) wh
   AnswersRemove k old Absent new = IsAbsent key (eq k) old.items × (new ≡ old.items)
   AnswersRemove k old Inserted new = ⊥
   AnswersRemove k old (Duplicate back existing) new = ⊥
+  AnswersRemove k old (Replaced y) new = ⊥
   AnswersRemove k old (Found y) new = ⊥
+  AnswersRemove k old Done new = ⊥
   AnswersRemove k old (Length n) new = ⊥
   AnswersRemove k old (Refused back kind) new = ⊥
+
+  -- no item is left
+  abbrev pub AnswersClear : MapState T → Reply T → List T → Type 0
+  AnswersClear old Done new = new ≡ []
+  AnswersClear old Inserted new = ⊥
+  AnswersClear old (Duplicate back existing) new = ⊥
+  AnswersClear old (Replaced y) new = ⊥
+  AnswersClear old (Found y) new = ⊥
+  AnswersClear old (Removed y) new = ⊥
+  AnswersClear old Absent new = ⊥
+  AnswersClear old (Length n) new = ⊥
+  AnswersClear old (Refused back kind) new = ⊥
 
   -- the number of items is told
   abbrev pub AnswersLen : MapState T → Reply T → List T → Type 0
   AnswersLen old (Length n) new = (n ≡ length old.items) × (new ≡ old.items)
   AnswersLen old Inserted new = ⊥
   AnswersLen old (Duplicate back existing) new = ⊥
+  AnswersLen old (Replaced y) new = ⊥
   AnswersLen old (Found y) new = ⊥
   AnswersLen old (Removed y) new = ⊥
   AnswersLen old Absent new = ⊥
+  AnswersLen old Done new = ⊥
   AnswersLen old (Refused back kind) new = ⊥
 
   abbrev pub Answers : Command T K → MapState T → Reply T → List T → Type 0
   Answers (InsertUnique x) = AnswersInsertUnique x
+  Answers (InsertOverwrite x) = AnswersInsertOverwrite x
   Answers (Get k) = AnswersGet k
   Answers (Remove k) = AnswersRemove k
+  Answers Clear = AnswersClear
   Answers Len = AnswersLen
 
   -- one command: the reply and the items then, and the room that is kept

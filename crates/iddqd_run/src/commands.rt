@@ -6,10 +6,14 @@ use iddqd_core::TryReserveError;
 pub enum Command<T, K> {
     /// `insert_unique`.
     InsertUnique(T),
+    /// `insert_overwrite`.
+    InsertOverwrite(T),
     /// `get`, answered by a clone.
     Get(K),
     /// `remove`.
     Remove(K),
+    /// `clear`.
+    Clear,
     /// `len`.
     Len,
 }
@@ -24,12 +28,16 @@ pub enum Reply<T> {
         new: T,
         existing: Option<T>,
     },
+    /// The item is in, in the place of this one of its key.
+    Replaced(T),
     /// A clone of the item.
     Found(T),
     /// The item, taken out.
     Removed(T),
     /// No item has the key.
     Absent,
+    /// It was done.
+    Done,
     /// How many items there are.
     Length(usize),
     /// There was no room: for the item, which comes back, or for the clone that `Get` answers.

@@ -1,15 +1,16 @@
 //! An ordered map over one vector of items that ascends by key.
-ghost use Rattle.std.specs.Prelude.{◌≡◌, ◌<◌, ◌≤◌, ◌↔◌, [], length, map, IsTrue, IfNone, OnOk, IfErr, OnErr, Some, option_copied, is_some, slice_get, MatchResult, insert};
+ghost use Rattle.std.specs.Prelude.{◌≡◌, ◌<◌, ◌≤◌, ◌↔◌, [], length, map, IsTrue, IfNone, OnOk, IfOk, IfErr, OnErr, Some, option_copied, is_some, slice_get, MatchResult, insert};
 ghost use Rattle.std.specs.Borrow.{sem};
-ghost use Rattle.iddqd_core.specs.Contents.{keys, find_item, without, IsAbsent, AddsItem, Ascends};
+ghost use Rattle.iddqd_core.specs.Contents.{keys, find_item, without, IsAbsent, AddsItem, Ascends, OverwritesItem};
 ghost use Rattle.iddqd_core.specs.Search.{IsPlaceAmong};
-ghost use Rattle.iddqd_core.specs.Refusal.{RefusesInsertion, refusal_kind};
+ghost use Rattle.iddqd_core.specs.Refusal.{FindsNoRoom, RefusesInsertion, refusal_kind};
 
 use iddqd_core::{DuplicateItem, Few, InsertError, Refused, TryReserveError};
-use iddqd_core::IdOrdItem;
+use iddqd_core::{Comparable, IdOrdItem};
 use std::alloc::Global;
 use std::cmp::Ordering;
 use std::marker::Model;
+use std::mem;
 
 /// The most items that a map holds (ours: the crate leaves it open).
 pub const MAX_ITEMS: u32 = u32::MAX;
@@ -77,16 +78,16 @@ impl<T: IdOrdItem> IdOrdMap<T> {
         }
     }
 
-    // The place of the item of this key, or the place where it belongs. At most one comparison for each binary digit of the count.
-    fn search(&self, key: &T::Key) -> Result<usize, usize>
+    // The place of the item of this query, or the place where it belongs. At most one comparison for each binary digit of the count.
+    fn search<Q: Comparable<T::Key>>(&self, query: &Q) -> Result<usize, usize>
         requires keyed { Ascends T.key T.Key.cmp self.now.items }
-        ensures { IsPlaceAmong (T.Key.cmp key.now) (keys T.key self.now.items) result }
+        ensures { IsPlaceAmong (Q.compare query.now) (keys T.key self.now.items) result }
     {
         let mut low = 0;
         let mut high = self.len();
         while low < high {
             let middle = low + (high - low) / 2;
-            match key.cmp(self.items[middle].key()) {
+            match query.compare(self.items[middle].key()) {
                 Ordering::Equal => return Ok(middle),
                 Ordering::Greater => low = middle + 1,
                 Ordering::Less => high = middle,
@@ -95,23 +96,23 @@ impl<T: IdOrdItem> IdOrdMap<T> {
         Err(low)
     }
 
-    /// The item of this key.
-    pub fn get(&self, key: &T::Key) -> Option<&T>
+    /// The item that the query finds.
+    pub fn get<Q: Comparable<T::Key>>(&self, query: &Q) -> Option<&T>
         requires keyed { Ascends T.key T.Key.cmp self.now.items }
-        ensures { option_copied result ≡ find_item T.key (T.Key.eq key.now) self.now.items }
+        ensures { option_copied result ≡ find_item T.key (Q.equivalent query.now) self.now.items }
     {
-        match self.search(key) {
+        match self.search(query) {
             Ok(place) => Some(&self.items[place]),
             Err(_) => None,
         }
     }
 
-    /// Whether an item of this key is there.
-    pub fn contains_key(&self, key: &T::Key) -> bool
+    /// Whether the query finds an item.
+    pub fn contains_key<Q: Comparable<T::Key>>(&self, query: &Q) -> bool
         requires keyed { Ascends T.key T.Key.cmp self.now.items }
-        ensures { result ≡ is_some (find_item T.key (T.Key.eq key.now) self.now.items) }
+        ensures { result ≡ is_some (find_item T.key (Q.equivalent query.now) self.now.items) }
     {
-        self.get(key).is_some()
+        self.get(query).is_some()
     }
 
     /// Inserts the item where none of an equal key is there. A duplicate needs no memory and lends the item that is there;
@@ -135,6 +136,39 @@ impl<T: IdOrdItem> IdOrdMap<T> {
         }
     }
 
+    /// Puts the item in the place of the one of an equal key, which comes back, or inserts it. The first needs no memory.
+    pub fn insert_overwrite(&mut self, item: T) -> Result<Option<T>, Refused<T>>
+        requires keyed { Ascends T.key T.Key.cmp self.old.items }
+        ensures replaced { IfOk result (λ old. OverwritesItem T.key T.Key.eq item self.old.limit self.old.items old self.new.items) }
+        ensures refused { IfErr result (λ refused. (refused.item ≡ item) × FindsNoRoom T.key T.Key.eq self.old.limit self.old.items item refused.error) }
+        ensures unchanged { OnErr result (self.new.items ≡ self.old.items) }
+        ensures limit { self.new.limit ≡ self.old.limit }
+        ensures keyed { Ascends T.key T.Key.cmp self.new.items }
+    {
+        let place = match self.search(item.key()) {
+            Ok(place) => {
+                let slot = &mut self.items[place];
+                return Ok(Some(mem::replace(slot, item)));
+            }
+            Err(place) => place,
+        };
+        match self.insert_at(place, item) {
+            Ok(()) => Ok(None),
+            Err(refused) => Err(refused),
+        }
+    }
+
+    /// Drops every item. Gives no memory back.
+    pub fn clear(&mut self)
+    where
+        T: Drop,
+        ensures items { self.new.items ≡ [] }
+        ensures limit { self.new.limit ≡ self.old.limit }
+        ensures keyed { Ascends T.key T.Key.cmp self.new.items }
+    {
+        self.items.clear();
+    }
+
     // Puts the item in at the place where its key belongs.
     fn insert_at(&mut self, place: usize, item: T) -> Result<(), Refused<T>>
         requires keyed { Ascends T.key T.Key.cmp self.old.items }
@@ -156,16 +190,16 @@ impl<T: IdOrdItem> IdOrdMap<T> {
         Ok(())
     }
 
-    /// Takes out the item of this key. Takes no memory.
-    pub fn remove(&mut self, key: &T::Key) -> Option<T>
+    /// Takes out the item that the query finds. Takes no memory.
+    pub fn remove<Q: Comparable<T::Key>>(&mut self, query: &Q) -> Option<T>
         requires keyed { Ascends T.key T.Key.cmp self.old.items }
-        ensures value { result ≡ find_item T.key (T.Key.eq key.now) self.old.items }
-        ensures items { self.new.items ≡ without T.key (T.Key.eq key.now) self.old.items }
+        ensures value { result ≡ find_item T.key (Q.equivalent query.now) self.old.items }
+        ensures items { self.new.items ≡ without T.key (Q.equivalent query.now) self.old.items }
         ensures unchanged { IfNone result (self.new ≡ self.old) }
         ensures limit { self.new.limit ≡ self.old.limit }
         ensures keyed { Ascends T.key T.Key.cmp self.new.items }
     {
-        match self.search(key) {
+        match self.search(query) {
             Ok(place) => Some(self.items.remove(place)),
             Err(_) => None,
         }

@@ -3,7 +3,7 @@ ghost use Rattle.std.specs.Prelude.{◌≡◌, OnErr, IfOk, IfErr, IfSome};
 ghost use Rattle.iddqd_core.specs.Contents.{Ascends, ClonesAreEqual};
 ghost use Rattle.iddqd_core.specs.Errors.{listed};
 ghost use Rattle.iddqd_core.specs.Refusal.{IsLent};
-ghost use Rattle.iddqd_run.specs.Step.{MapState, SpareRule, KeepsNone, spareless, AnswersInsertUnique, AnswersGet, Step, Run};
+ghost use Rattle.iddqd_run.specs.Step.{MapState, SpareRule, KeepsNone, spareless, AnswersInsertUnique, AnswersInsertOverwrite, AnswersGet, Step, Run};
 
 use crate::commands::{Command, Reply, RunStop};
 use iddqd_core::{Few, InsertError, TryReserveError};
@@ -49,11 +49,16 @@ where
 {
     match command {
         Command::InsertUnique(item) => insert_unique(map, item),
+        Command::InsertOverwrite(item) => insert_overwrite(map, item),
         Command::Get(key) => get(map, &key),
         Command::Remove(key) => match map.remove(&key) {
             Some(item) => Reply::Removed(item),
             None => Reply::Absent,
         },
+        Command::Clear => {
+            map.clear();
+            Reply::Done
+        }
         Command::Len => Reply::Length(map.len()),
     }
 }
@@ -74,6 +79,23 @@ fn insert_unique<T: IdOrdItem + Clone>(map: &mut IdOrdMap<T>, item: T) -> Reply<
             Reply::Duplicate { new, existing }
         }
         Err(InsertError::Refused(refused)) => Reply::Refused {
+            item: Some(refused.item),
+            error: refused.error,
+        },
+    }
+}
+
+// `InsertOverwrite`.
+fn insert_overwrite<T: IdOrdItem>(map: &mut IdOrdMap<T>, item: T) -> Reply<T>
+    requires keyed { Ascends T.key T.Key.cmp map.old.items }
+    ensures answers { AnswersInsertOverwrite T.key T.Key.eq map.old.limit item (spareless map.old.items) result map.new.items }
+    ensures keyed { Ascends T.key T.Key.cmp map.new.items }
+    ensures limit { map.new.limit ≡ map.old.limit }
+{
+    match map.insert_overwrite(item) {
+        Ok(Some(old)) => Reply::Replaced(old),
+        Ok(None) => Reply::Inserted,
+        Err(refused) => Reply::Refused {
             item: Some(refused.item),
             error: refused.error,
         },

@@ -8,8 +8,8 @@ abbrev pub invariant-loop-low : goal.invariant-loop-low
 invariant-loop-low g l = record {
   ordered : l.low ≤ l.high;
   within : l.high ≤ length l.self-inside.items.items;
-  before : AllWithin (λ k. g.T.Key.Ord.cmp l.key k ≡ Greater) (keys g.T.IdOrdItem.key l.self-inside.items.items) 0 l.low;
-  behind : AllWithin (λ k. g.T.Key.Ord.cmp l.key k ≡ Less) (keys g.T.IdOrdItem.key l.self-inside.items.items) l.high (length (keys g.T.IdOrdItem.key l.self-inside.items.items));
+  before : AllWithin (λ k. g.Q.Comparable.compare l.query k ≡ Greater) (keys g.T.IdOrdItem.key l.self-inside.items.items) 0 l.low;
+  behind : AllWithin (λ k. g.Q.Comparable.compare l.query k ≡ Less) (keys g.T.IdOrdItem.key l.self-inside.items.items) l.high (length (keys g.T.IdOrdItem.key l.self-inside.items.items));
 }
 
 abbrev pub decreases-loop-low : goal.decreases-loop-low
