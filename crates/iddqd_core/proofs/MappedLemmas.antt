@@ -3,7 +3,7 @@ use Rattle.std.proofs.Common.{◌≡◌, Bool, true, false, cond, not, List, [],
 use Rattle.std.proofs.lemmas.List.{map-append}
 use Rattle.std.specs.Option.{option_map}
 use Rattle.std.specs.Ordering.{is_lt}
-use Rattle.iddqd_core.specs.Contents.{find_item, without, placed}
+use Rattle.iddqd_core.specs.Contents.{find_item, without, replaced, placed}
 
 choose : {A B : Type 0} (f : A → B) (b : Bool) (x y : A) → cond b (f x) (f y) ≡ f (cond b x y)
 choose f true x y = refl
@@ -29,3 +29,9 @@ module _ {T U K : Type 0} (shown : T → U) (key : U → K) where
   placed-map cmp x xs =
       map-append shown (filter (λ y. is_lt (cmp (key (shown y)) (key (shown x)))) xs) (x ∷ filter (λ y. is_lt (cmp (key (shown x)) (key (shown y)))) xs)
       ∙ sym (rw (filter-map (λ y. is_lt (cmp (key y) (key (shown x)))) xs) (rw (filter-map (λ y. is_lt (cmp (key (shown x)) (key y))) xs) refl))
+
+  pub replaced-map : (test : K → Bool) (y : T) (xs : List T) → map shown (replaced (λ x. key (shown x)) test y xs) ≡ replaced key test (shown y) (map shown xs)
+  replaced-map test y [] = refl
+  replaced-map test y (x ∷ xs) =
+      ap (λ z. z ∷ map shown (replaced (λ w. key (shown w)) test y xs)) (sym (choose shown (test (key (shown x))) y x))
+      ∙ ap (λ zs. cond (test (key (shown x))) (shown y) (shown x) ∷ zs) (replaced-map test y xs)

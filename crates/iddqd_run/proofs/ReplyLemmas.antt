@@ -5,7 +5,7 @@ use Rattle.iddqd_run.specs.Lines.{request_of, Request}
 use Rattle.iddqd_run.specs.Shown.{entries_of, shown, refusals_of, AnswersPlainly, AnswersRequest}
 use Rattle.iddqd_run.specs.declared.entries.Entry.{Entry}
 use Rattle.iddqd_run.specs.declared.entries.LineReply.{LineReply}
-use Rattle.iddqd_run.specs.declared.entries.LineReply.TheVariants.{Added, Duplicate, Found, Removed, Absent, Length, Bad, RefusedCapacity, RefusedMemory}
+use Rattle.iddqd_run.specs.declared.entries.LineReply.TheVariants.{Added, Duplicate, New, Replaced, Found, Removed, Absent, Length, Bad, RefusedCapacity, RefusedMemory}
 
 module _ (line : List ℕ) (lines : List (List ℕ)) (old new : List Entry) (more : ℕ) (rest : List ℕ) (later : RepliesWithRefusals lines (entries_of new) more rest) where
   plain_step : (r : LineReply) → AnswersPlainly (request_of line) old r new → RepliesWithRefusals (line ∷ lines) (entries_of old) (0 + more) (shown r ++ 10 ∷ rest)
@@ -14,6 +14,8 @@ module _ (line : List ℕ) (lines : List (List ℕ)) (old new : List Entry) (mor
   pub line_step : (r : LineReply) → AnswersRequest (request_of line) old r new → RepliesWithRefusals (line ∷ lines) (entries_of old) (refusals_of r + more) (shown r ++ 10 ∷ rest)
   line_step Added a = plain_step Added a
   line_step (Duplicate name value) a = plain_step (Duplicate name value) a
+  line_step New a = plain_step New a
+  line_step (Replaced value) a = plain_step (Replaced value) a
   line_step (Found value) a = plain_step (Found value) a
   line_step (Removed value) a = plain_step (Removed value) a
   line_step Absent a = plain_step Absent a
@@ -34,6 +36,8 @@ pub refusals_of-le : (r : LineReply) → refusals_of r ≤ 1
 refusals_of-le RefusedMemory = omega arith
 refusals_of-le Added = omega arith
 refusals_of-le (Duplicate name value) = omega arith
+refusals_of-le New = omega arith
+refusals_of-le (Replaced value) = omega arith
 refusals_of-le (Found value) = omega arith
 refusals_of-le (Removed value) = omega arith
 refusals_of-le Absent = omega arith

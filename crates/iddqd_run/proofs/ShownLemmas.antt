@@ -7,13 +7,13 @@ use Rattle.std.proofs.lemmas.Bool.{ne_eqb}
 use Rattle.std.proofs.lemmas.List.{length-map}
 use Rattle.std.proofs.Common.{String, Global}
 use Rattle.iddqd_run.specs.Answer.{name_of, name_cmp, entry_named, is_full}
-use Rattle.iddqd_core.specs.Contents.{AddsItem, find_item, without, placed}
-use Rattle.iddqd_run.specs.Lines.{Add, Get, Del}
+use Rattle.iddqd_core.specs.Contents.{AddsItem, find_item, without, replaced, placed}
+use Rattle.iddqd_run.specs.Lines.{Add, Put, Get, Del}
 use Rattle.iddqd_run.specs.Shown.{entry_of, entries_of, IsNameOrdered, AnswersPlainly}
 use Rattle.iddqd_run.specs.declared.id_ord_map.TheConstants.{MAX_ITEMS}
 use Rattle.iddqd_run.specs.declared.entries.Entry.{Entry}
-use Rattle.iddqd_run.specs.declared.entries.LineReply.TheVariants.{Added, Duplicate, Found, Removed, Absent, RefusedCapacity}
-use Rattle.iddqd_core.proofs.MappedLemmas.{find_item-map, without-map, placed-map}
+use Rattle.iddqd_run.specs.declared.entries.LineReply.TheVariants.{Added, Duplicate, New, Replaced, Found, Removed, Absent, RefusedCapacity}
+use Rattle.iddqd_core.proofs.MappedLemmas.{find_item-map, without-map, replaced-map, placed-map}
 use Rattle.iddqd_core.proofs.PlacedLemmas.{added_placed}
 
 key : Entry → String Global
@@ -54,29 +54,62 @@ module _ (name : List ℕ) (items : List Entry) where
 not_full : (items : List Entry) → length items ≢ MAX_ITEMS → is_full (entries_of items) ≡ false
 not_full items ne = ne_eqb (length (entries_of items)) MAX_ITEMS (λ e. ne (sym (length-map items entry_of) ∙ e))
 
-module _ (x : Entry) (items : List Entry) where
-  abbrev IsAbsentHere : Type 0
-  IsAbsentHere = find_item (λ entry. entry.name) (λ k. bytes_eq (string_bytes x.name) (string_bytes k)) items ≡ None
+-- x is an entry of the name
+module _ (x : Entry) (items : List Entry) (name : List ℕ) (same : string_bytes x.name ≡ name) where
+  abbrev found : Option Entry
+  found = find_item (λ entry. entry.name) (λ k. bytes_eq (string_bytes x.name) (string_bytes k)) items
 
-  pub added_plainly : (name : List ℕ) (new : List Entry) → string_bytes x.name ≡ name → IsAbsentHere → length items < MAX_ITEMS → AddsItem x items new → IsNameOrdered new → AnswersPlainly (Add name x.value) items Added new
-  added_plainly name new same absent few added keyed =
-      let none = subst (λ n. entry_named n (entries_of items) ≡ None) same (absent_shown (string_bytes x.name) items absent) in
-      let room : is_full (entries_of items) ≡ false = not_full items (λ e. omega (arith, few, e)) in
-      record {
-        reply = rw none (rw room refl);
-        entries = ap entries_of (added_placed (λ entry. entry.name) string_cmp_total x items new added keyed) ∙ placed-map entry_of name_of name_cmp x items ∙ ap (λ n. placed name_of name_cmp (n, x.value) (entries_of items)) same ∙ sym (rw none (rw room refl));
-      }
+  none_named : found ≡ None → entry_named name (entries_of items) ≡ None
+  none_named absent = subst (λ n. entry_named n (entries_of items) ≡ None) same (absent_shown (string_bytes x.name) items absent)
 
-  pub duplicate_plainly : (y : Entry) (name : Bor (List ℕ)) (value : ℕ) (new : List Entry) → string_bytes x.name ≡ name.now → value ≡ y.value → find_item (λ entry. entry.name) (λ k. bytes_eq (string_bytes x.name) (string_bytes k)) items ≡ Some y → new ≡ items → AnswersPlainly (Add name.now x.value) items (Duplicate name value) new
-  duplicate_plainly y name value new same old_value there stays =
-      let shows = subst (λ n. entry_named n (entries_of items) ≡ Some (entry_of y)) same (there_shown (string_bytes x.name) items y there) in
-      record {
-        reply = rw shows (ap (λ v. codes "duplicate " ++ name.now ++ codes " " ++ decimal v) old_value);
-        entries = ap entries_of stays ∙ sym (rw shows refl);
-      }
+  one_named : (y : Entry) → found ≡ Some y → entry_named name (entries_of items) ≡ Some (entry_of y)
+  one_named y there = subst (λ n. entry_named n (entries_of items) ≡ Some (entry_of y)) same (there_shown (string_bytes x.name) items y there)
 
-  pub full_plainly : (name : List ℕ) (new : List Entry) → string_bytes x.name ≡ name → IsAbsentHere → length items ≡ MAX_ITEMS → new ≡ items → AnswersPlainly (Add name x.value) items RefusedCapacity new
-  full_plainly name new same absent full stays =
-      let none = subst (λ n. entry_named n (entries_of items) ≡ None) same (absent_shown (string_bytes x.name) items absent) in
-      let no_room : is_full (entries_of items) ≡ true = eq-eqb (length (entries_of items)) MAX_ITEMS (length-map items entry_of ∙ full) in
-      record { reply = rw none (rw no_room refl); entries = ap entries_of stays ∙ sym (rw none (rw no_room refl)) }
+  has_room : length items < MAX_ITEMS → is_full (entries_of items) ≡ false
+  has_room few = not_full items (λ e. omega (arith, few, e))
+
+  has_no_room : length items ≡ MAX_ITEMS → is_full (entries_of items) ≡ true
+  has_no_room full = eq-eqb (length (entries_of items)) MAX_ITEMS (length-map items entry_of ∙ full)
+
+  placed_shown : (new : List Entry) → AddsItem x items new → IsNameOrdered new → entries_of new ≡ placed name_of name_cmp (name, x.value) (entries_of items)
+  placed_shown new added keyed =
+      ap entries_of (added_placed (λ entry. entry.name) string_cmp_total x items new added keyed)
+      ∙ placed-map entry_of name_of name_cmp x items
+      ∙ ap (λ n. placed name_of name_cmp (n, x.value) (entries_of items)) same
+
+  module _ (new : List Entry) where
+    pub added_plainly : found ≡ None → length items < MAX_ITEMS → AddsItem x items new → IsNameOrdered new → AnswersPlainly (Add name x.value) items Added new
+    added_plainly absent few added keyed = record {
+      reply = rw (none_named absent) (rw (has_room few) refl);
+      entries = placed_shown new added keyed ∙ sym (rw (none_named absent) (rw (has_room few) refl));
+    }
+
+    pub new_plainly : found ≡ None → length items < MAX_ITEMS → AddsItem x items new → IsNameOrdered new → AnswersPlainly (Put name x.value) items New new
+    new_plainly absent few added keyed = record {
+      reply = rw (none_named absent) (rw (has_room few) refl);
+      entries = placed_shown new added keyed ∙ sym (rw (none_named absent) (rw (has_room few) refl));
+    }
+
+    pub duplicate_plainly : (y : Entry) (shown : Bor (List ℕ)) (value : ℕ) → shown.now ≡ name → value ≡ y.value → found ≡ Some y → new ≡ items → AnswersPlainly (Add name x.value) items (Duplicate shown value) new
+    duplicate_plainly y shown value e old_value there stays = record {
+      reply = rw (one_named y there) (ap (λ n. codes "duplicate " ++ n ++ codes " " ++ decimal value) e ∙ ap (λ v. codes "duplicate " ++ name ++ codes " " ++ decimal v) old_value);
+      entries = ap entries_of stays ∙ sym (rw (one_named y there) refl);
+    }
+
+    pub replaced_plainly : (y : Entry) → found ≡ Some y → new ≡ replaced (λ entry. entry.name) (λ k. bytes_eq (string_bytes x.name) (string_bytes k)) x items → AnswersPlainly (Put name x.value) items (Replaced y.value) new
+    replaced_plainly y there after = record {
+      reply = rw (one_named y there) refl;
+      entries = ap entries_of after ∙ replaced-map entry_of name_of (bytes_eq (string_bytes x.name)) x items ∙ ap (λ n. replaced name_of (bytes_eq n) (n, x.value) (entries_of items)) same ∙ sym (rw (one_named y there) refl);
+    }
+
+    pub full_add : found ≡ None → length items ≡ MAX_ITEMS → new ≡ items → AnswersPlainly (Add name x.value) items RefusedCapacity new
+    full_add absent full stays = record {
+      reply = rw (none_named absent) (rw (has_no_room full) refl);
+      entries = ap entries_of stays ∙ sym (rw (none_named absent) (rw (has_no_room full) refl));
+    }
+
+    pub full_put : found ≡ None → length items ≡ MAX_ITEMS → new ≡ items → AnswersPlainly (Put name x.value) items RefusedCapacity new
+    full_put absent full stays = record {
+      reply = rw (none_named absent) (rw (has_no_room full) refl);
+      entries = ap entries_of stays ∙ sym (rw (none_named absent) (rw (has_no_room full) refl));
+    }

@@ -7,8 +7,8 @@ use Rattle.std.specs.declared.cmp.Ordering.{Ordering}
 use Rattle.std.specs.Ordering.{nat_cmp}
 use Rattle.std.specs.Option.{option_map_or}
 use Rattle.std.specs.Cmp.Lexicographic.{slice_cmp}
-use Rattle.iddqd_core.specs.Contents.{find_item, without, placed}
-use Rattle.iddqd_run.specs.Lines.{Request, Add, Get, Del, Len, Bad, lines_of, request_of}
+use Rattle.iddqd_core.specs.Contents.{find_item, without, replaced, placed}
+use Rattle.iddqd_run.specs.Lines.{Request, Add, Put, Get, Del, Len, Bad, lines_of, request_of}
 use Rattle.iddqd_run.specs.declared.id_ord_map.TheConstants.{MAX_ITEMS}
 
 -- a name and its value; entries ascend by name, whose bytes are compared
@@ -30,14 +30,16 @@ is_full entries = length entries == MAX_ITEMS
 -- the reply, without the byte that ends it
 abbrev pub line_reply : Request → List Entry → List ℕ
 line_reply (Add name value) entries = option_map_or (λ old. codes "duplicate " ++ name ++ codes " " ++ decimal old.1) (entry_named name entries) (if is_full entries then codes "refused capacity" else codes "added")
+line_reply (Put name value) entries = option_map_or (λ old. codes "replaced " ++ decimal old.1) (entry_named name entries) (if is_full entries then codes "refused capacity" else codes "new")
 line_reply (Get name) entries = option_map_or (λ old. decimal old.1) (entry_named name entries) (codes "none")
 line_reply (Del name) entries = option_map_or (λ old. codes "removed " ++ decimal old.1) (entry_named name entries) (codes "none")
 line_reply Len entries = decimal (length entries)
 line_reply Bad entries = codes "bad"
 
--- a name that is there keeps its entry, and a full map takes no other
+-- `add` leaves the entry of a name that is there, `put` replaces it; a full map takes no other
 abbrev pub entries_after : Request → List Entry → List Entry
 entries_after (Add name value) entries = option_map_or (λ _. entries) (entry_named name entries) (if is_full entries then entries else placed name_of name_cmp (name, value) entries)
+entries_after (Put name value) entries = option_map_or (λ _. replaced name_of (bytes_eq name) (name, value) entries) (entry_named name entries) (if is_full entries then entries else placed name_of name_cmp (name, value) entries)
 entries_after (Get name) entries = entries
 entries_after (Del name) entries = without name_of (bytes_eq name) entries
 entries_after Len entries = entries
@@ -54,6 +56,7 @@ answer_text input = replies (lines_of input) []
 -- only a line that makes an item is refused for want of memory
 abbrev pub TakesMemory : Request → Type 0
 TakesMemory (Add name value) = Unit {0}
+TakesMemory (Put name value) = Unit {0}
 TakesMemory (Get name) = ⊥
 TakesMemory (Del name) = ⊥
 TakesMemory Len = ⊥

@@ -32,6 +32,7 @@ HasOneForm word = (0 < length word) × (slice_index word 0 ≢ 43) × (slice_ind
 
 pub data Request : Type 0 where
   Add : List ℕ → ℕ → Request
+  Put : List ℕ → ℕ → Request
   Get : List ℕ → Request
   Del : List ℕ → Request
   Len : Request
@@ -44,7 +45,7 @@ named_request word name = if bytes_eq word (codes "get") then Get name else (if 
 -- a request by its word, a name and a value
 abbrev pub valued_request : List ℕ → List ℕ → Option ℕ → Request
 valued_request word name None = Bad
-valued_request word name (Some value) = if bytes_eq word (codes "add") then Add name value else Bad
+valued_request word name (Some value) = if bytes_eq word (codes "add") then Add name value else (if bytes_eq word (codes "put") then Put name value else Bad)
 
 abbrev pub request_of_words : List (List ℕ) → Request
 request_of_words [] = Bad

@@ -5,7 +5,7 @@ use Rattle.iddqd_core.specs.Contents.{Ascends}
 use Rattle.iddqd_run.specs.Lines.{Request}
 use Rattle.iddqd_run.specs.declared.entries.Entry.{Entry}
 use Rattle.iddqd_run.specs.declared.entries.LineReply.{LineReply}
-use Rattle.iddqd_run.specs.declared.entries.LineReply.TheVariants.{Added, Duplicate, Found, Removed, Absent, Length, Bad, RefusedCapacity, RefusedMemory}
+use Rattle.iddqd_run.specs.declared.entries.LineReply.TheVariants.{Added, Duplicate, New, Replaced, Found, Removed, Absent, Length, Bad, RefusedCapacity, RefusedMemory}
 
 abbrev pub entry_of : Entry → answer.Entry
 entry_of entry = (string_bytes entry.name, entry.value)
@@ -21,6 +21,8 @@ IsNameOrdered items = Ascends (λ entry. entry.name) (λ a b. answer.name_cmp (s
 abbrev pub shown : LineReply → List ℕ
 shown Added = codes "added"
 shown (Duplicate name value) = codes "duplicate " ++ name.now ++ codes " " ++ decimal value
+shown New = codes "new"
+shown (Replaced value) = codes "replaced " ++ decimal value
 shown (Found value) = decimal value
 shown (Removed value) = codes "removed " ++ decimal value
 shown Absent = codes "none"

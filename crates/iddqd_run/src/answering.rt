@@ -3,12 +3,12 @@ ghost use Rattle.std.specs.Prelude.{◌≡◌, IfOk, string_bytes};
 ghost use Rattle.iddqd_run.specs.Answer.{AnswersWithRefusals};
 ghost use Rattle.iddqd_run.specs.Asked.{asked};
 ghost use Rattle.iddqd_core.specs.Errors.{listed};
-ghost use Rattle.iddqd_run.specs.Lines.{Add, Get, Del};
+ghost use Rattle.iddqd_run.specs.Lines.{Add, Put, Get, Del};
 ghost use Rattle.iddqd_core.specs.Refusal.{IsLent};
 ghost use Rattle.iddqd_run.specs.Shown.{AnswersRequest, IsNameOrdered};
 
 use crate::entries::{Entry, LineReply};
-use iddqd_core::{Few, InsertError};
+use iddqd_core::{Few, InsertError, Text};
 use crate::id_ord_map::{IdOrdMap, MAX_ITEMS};
 use crate::lines::{Line, first_line, parse};
 use std::alloc::{AllocError, Global};
@@ -24,7 +24,7 @@ pub(crate) fn answer(alloc: Global, input: &[u8]) -> Result<(String, u64), Alloc
     let mut rest = input;
     while !rest.is_empty() {
         let (line, after) = first_line(rest);
-        let reply = reply(alloc, &mut map, parse(line))?;
+        let reply = reply(alloc, &mut map, parse(line));
         refusals += reply.refusals();
         writeln!(text, "{reply}")?;
         rest = after;
@@ -32,24 +32,21 @@ pub(crate) fn answer(alloc: Global, input: &[u8]) -> Result<(String, u64), Alloc
     Ok((text, refusals))
 }
 
-// The reply to one line. A name that is looked up is copied, and where memory for the copy is refused there is no reply.
-fn reply<'a>(
-    alloc: Global,
-    map: &mut IdOrdMap<Entry>,
-    line: Line<'a>,
-) -> Result<LineReply<'a>, AllocError>
+// The reply to one line. Only the making of an entry takes memory.
+fn reply<'a>(alloc: Global, map: &mut IdOrdMap<Entry>, line: Line<'a>) -> LineReply<'a>
     requires keyed { IsNameOrdered map.old.items }
     requires limit { map.old.limit ≡ MAX_ITEMS }
-    ensures answered { IfOk result (λ reply. AnswersRequest (asked line.entry) map.old.items reply map.new.items) }
+    ensures answered { AnswersRequest (asked line.entry) map.old.items result map.new.items }
     ensures keyed { IsNameOrdered map.new.items }
     ensures limit { map.new.limit ≡ MAX_ITEMS }
 {
     match line {
-        Line::Add { name, value } => Ok(add(alloc, map, name, value)),
-        Line::Get { name } => get(alloc, map, name),
-        Line::Del { name } => delete(alloc, map, name),
-        Line::Len => Ok(LineReply::Length(map.len())),
-        Line::Bad => Ok(LineReply::Bad),
+        Line::Add { name, value } => add(alloc, map, name, value),
+        Line::Put { name, value } => put(alloc, map, name, value),
+        Line::Get { name } => get(map, name),
+        Line::Del { name } => delete(map, name),
+        Line::Len => LineReply::Length(map.len()),
+        Line::Bad => LineReply::Bad,
     }
 }
 
@@ -80,33 +77,51 @@ fn add<'a>(alloc: Global, map: &mut IdOrdMap<Entry>, name: &'a str, value: u64) 
     }
 }
 
-// Looks for a copy of the name.
-fn get<'a>(alloc: Global, map: &IdOrdMap<Entry>, name: &'a str) -> Result<LineReply<'a>, AllocError>
-    requires keyed { IsNameOrdered map.now.items }
-    ensures { IfOk result (λ reply. AnswersRequest (Get name.now) map.now.items reply map.now.items) }
+// Makes the entry, and then puts it in the place of the one of its name, if there is one.
+fn put<'a>(alloc: Global, map: &mut IdOrdMap<Entry>, name: &'a str, value: u64) -> LineReply<'a>
+    requires keyed { IsNameOrdered map.old.items }
+    requires limit { map.old.limit ≡ MAX_ITEMS }
+    ensures answered { AnswersRequest (Put name.now value) map.old.items result map.new.items }
+    ensures keyed { IsNameOrdered map.new.items }
+    ensures limit { map.new.limit ≡ MAX_ITEMS }
 {
-    let copy = String::from_str(alloc, name)?;
-    match map.get(&copy) {
-        Some(entry) => Ok(LineReply::Found(entry.value)),
-        None => Ok(LineReply::Absent),
+    let Ok(copy) = String::from_str(alloc, name) else {
+        return LineReply::RefusedMemory;
+    };
+    match map.insert_overwrite(Entry { name: copy, value }) {
+        Ok(Some(old)) => LineReply::Replaced(old.value),
+        Ok(None) => LineReply::New,
+        Err(refused) => {
+            if refused.error.is_capacity_overflow() {
+                LineReply::RefusedCapacity
+            } else {
+                LineReply::RefusedMemory
+            }
+        }
     }
 }
 
-// Takes out the entry of a copy of the name.
-fn delete<'a>(
-    alloc: Global,
-    map: &mut IdOrdMap<Entry>,
-    name: &'a str,
-) -> Result<LineReply<'a>, AllocError>
+// Looks the name up.
+fn get<'a>(map: &IdOrdMap<Entry>, name: &'a str) -> LineReply<'a>
+    requires keyed { IsNameOrdered map.now.items }
+    ensures { AnswersRequest (Get name.now) map.now.items result map.now.items }
+{
+    match map.get(&Text(name)) {
+        Some(entry) => LineReply::Found(entry.value),
+        None => LineReply::Absent,
+    }
+}
+
+// Takes out the entry of the name.
+fn delete<'a>(map: &mut IdOrdMap<Entry>, name: &'a str) -> LineReply<'a>
     requires keyed { IsNameOrdered map.old.items }
-    ensures answered { IfOk result (λ reply. AnswersRequest (Del name.now) map.old.items reply map.new.items) }
+    ensures answered { AnswersRequest (Del name.now) map.old.items result map.new.items }
     ensures keyed { IsNameOrdered map.new.items }
     ensures limit { map.new.limit ≡ map.old.limit }
 {
-    let copy = String::from_str(alloc, name)?;
-    match map.remove(&copy) {
-        Some(entry) => Ok(LineReply::Removed(entry.value)),
-        None => Ok(LineReply::Absent),
+    match map.remove(&Text(name)) {
+        Some(entry) => LineReply::Removed(entry.value),
+        None => LineReply::Absent,
     }
 }
 

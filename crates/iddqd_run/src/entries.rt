@@ -26,6 +26,8 @@ impl IdOrdItem for Entry {
 pub(crate) enum LineReply<'a> {
     Added,
     Duplicate { name: &'a str, value: u64 },
+    New,
+    Replaced(u64),
     Found(u64),
     Removed(u64),
     Absent,
@@ -59,6 +61,8 @@ impl Display for LineReply<'_> {
         match self {
             LineReply::Added => write!(f, "added"),
             LineReply::Duplicate { name, value } => write!(f, "duplicate {name} {value}"),
+            LineReply::New => write!(f, "new"),
+            LineReply::Replaced(value) => write!(f, "replaced {value}"),
             LineReply::Found(value) => write!(f, "{value}"),
             LineReply::Removed(value) => write!(f, "removed {value}"),
             LineReply::Absent => write!(f, "none"),

@@ -8,6 +8,7 @@ ghost use Rattle.iddqd_run.specs.Asked.{asked};
 #[derive(Clone, Copy)]
 pub(crate) enum Line<'a> {
     Add { name: &'a str, value: u64 },
+    Put { name: &'a str, value: u64 },
     Get { name: &'a str },
     Del { name: &'a str },
     Len,
@@ -133,8 +134,14 @@ fn by_name<'a>(word: &[u8], name: &'a str) -> Line<'a>
 fn by_name_and_value<'a>(word: &[u8], name: &'a str, value: &[u8]) -> Line<'a>
     ensures { asked result ≡ valued_request word.now name.now (value_of value.now) }
 {
-    match value_in(value) {
-        Some(value) if word == b"add".as_slice() => Line::Add { name, value },
-        _ => Line::Bad,
+    let Some(value) = value_in(value) else {
+        return Line::Bad;
+    };
+    if word == b"add".as_slice() {
+        Line::Add { name, value }
+    } else if word == b"put".as_slice() {
+        Line::Put { name, value }
+    } else {
+        Line::Bad
     }
 }

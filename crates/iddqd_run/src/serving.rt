@@ -16,7 +16,7 @@ pub enum Fault {
     Read,
     /// The writer failed. A beginning of the text may be out.
     Write,
-    /// Memory was refused for the input, for the text, or for the copy of a name that is looked up.
+    /// Memory was refused for the input or for the text.
     Memory,
 }
 

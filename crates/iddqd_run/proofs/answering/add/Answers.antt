@@ -3,7 +3,7 @@ use Rattle.std.specs.Result.{IsOk}
 use Rattle.iddqd_core.specs.Refusal.{IsLent}
 use Rattle.iddqd_run.specs.declared.entries.Entry.{Entry}
 use Rattle.iddqd_core.proofs.RefusalLemmas.{full_from_kind}
-use Rattle.iddqd_run.proofs.ShownLemmas.{added_plainly, duplicate_plainly, full_plainly}
+use Rattle.iddqd_run.proofs.ShownLemmas.{added_plainly, duplicate_plainly, full_add}
 use Rattle.iddqd_run.proofs.answering.add.Goals as goal
 
 pub returns-in-Ok-insert_unique-clause-answered : goal.returns-in-Ok-insert_unique-clause-answered
@@ -11,18 +11,18 @@ returns-in-Ok-insert_unique-clause-answered c =
     let x : Entry = record { name = c.in-Ok.copy; value = c.args.value } in
     let is : IsOk c.insert_unique.result = search rules in
     let room = (c.insert_unique.follows.holds tt is).room in
-    added_plainly x c.args.map.now.items c.args.name.now _ c.in-Ok.ensures.ok c.in-Ok-insert_unique.ensures.absent (omega (arith, room, c.requires.limit)) (search rules) (search rules)
+    added_plainly x c.args.map.now.items c.args.name.now c.in-Ok.ensures.ok _ c.in-Ok-insert_unique.ensures.absent (omega (arith, room, c.requires.limit)) (search rules) (search rules)
 
 pub returns-in-Err-Duplicate-clause-answered : goal.returns-in-Err-Duplicate-clause-answered
 returns-in-Err-Duplicate-clause-answered c =
     let x : Entry = record { name = c.in-Ok.copy; value = c.args.value } in
     let refused = rw c.in-Err-Duplicate.field-0-is at c.in-Err-Duplicate.ensures.refused in
     let lent = subst (λ ds. IsLent ds refused.1) (sym c.duplicates.ensures) refused.2 in
-    duplicate_plainly x c.args.map.now.items refused.1 c.args.name c.value_of.result _ c.in-Ok.ensures.ok (c.value_of.ensures refused.1 lent) refused.3 (search rules)
+    duplicate_plainly x c.args.map.now.items c.args.name.now c.in-Ok.ensures.ok _ refused.1 c.args.name c.value_of.result refl (c.value_of.ensures refused.1 lent) refused.3 (search rules)
 
 pub returns-then-is_capacity_overflow-clause-answered : goal.returns-then-is_capacity_overflow-clause-answered
 returns-then-is_capacity_overflow-clause-answered c =
     let x : Entry = record { name = c.in-Ok.copy; value = c.args.value } in
     let refused = rw c.in-Err-Refused.field-0-is at c.in-Err-Refused.ensures.refused in
     let kind = sym refused.1.1 ∙ c.if-is_capacity_overflow.ensures.0 refl in
-    full_plainly x c.args.map.now.items c.args.name.now _ c.in-Ok.ensures.ok refused.1.0 (full_from_kind c.args.map.now.limit c.args.map.now.items kind ∙ c.requires.limit) (search rules)
+    full_add x c.args.map.now.items c.args.name.now c.in-Ok.ensures.ok _ refused.1.0 (full_from_kind c.args.map.now.limit c.args.map.now.items kind ∙ c.requires.limit) (search rules)

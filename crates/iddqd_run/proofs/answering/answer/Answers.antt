@@ -15,11 +15,11 @@ loop-rest-preserved c =
     let kept = c.loop-rest.invariant in
     let line = c.first_line.result.0.now in
     let after = c.first_line.result.1.now in
-    let reply = c.in_ok-reply.reply in
-    let new = c.reply.new.map.items in
+    let reply = c.reply-reply.result in
+    let new = c.reply-reply.new.map.items in
     let input = c.args.input.now in
     let front = string_bytes c.loop-rest.text in
-    let answered = subst (λ request. AnswersRequest request c.loop-rest.map.items reply new) c.parse.ensures c.in_ok-reply.ensures.answered in
+    let answered = subst (λ request. AnswersRequest request c.loop-rest.map.items reply new) c.parse.ensures c.reply-reply.ensures.answered in
     record {
       replied = λ more text later.
           let step = line_step line (lines_of after) c.loop-rest.map.items new more text later reply answered in
@@ -28,8 +28,8 @@ loop-rest-preserved c =
           let count : c.loop-rest.refusals + (refusals_of reply + more) ≡ c.loop-rest.refusals + c.refusals-refusals.result + more = omega (arith, c.refusals-refusals.ensures) in
           let bytes : front ++ (shown reply ++ 10 ∷ text) ≡ string_bytes c.writeln.new.self ++ text = joined front (shown reply) text ∙ ap (λ bs. bs ++ text) (sym c.in_ok-writeln.ensures.bytes) in
           subst (λ n. RepliesWithRefusals (lines_of input) [] n (string_bytes c.writeln.new.self ++ text)) count (subst (λ bs. RepliesWithRefusals (lines_of input) [] (c.loop-rest.refusals + (refusals_of reply + more)) bs) bytes all);
-      keyed = c.in_ok-reply.ensures.keyed;
-      limit = c.in_ok-reply.ensures.limit;
+      keyed = c.reply-reply.ensures.keyed;
+      limit = c.reply-reply.ensures.limit;
       counted = omega (arith, kept.counted, c.first_line.ensures.shorter, c.refusals-refusals.ensures, refusals_of-le reply);
     }
 
