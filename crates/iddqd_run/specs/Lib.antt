@@ -1,5 +1,6 @@
 pub mod Answer
 pub mod Asked
+pub mod Folded
 pub mod Lines
 pub mod OrdItems
 pub mod OrdMap

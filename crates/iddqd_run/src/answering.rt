@@ -8,9 +8,9 @@ ghost use Rattle.iddqd_core.specs.Refusal.{IsLent};
 ghost use Rattle.iddqd_run.specs.Shown.{AnswersRequest, IsNameOrdered};
 
 use crate::entries::{Entry, LineReply};
-use iddqd_core::{Few, InsertError, Text};
 use crate::id_ord_map::{IdOrdMap, MAX_ITEMS};
 use crate::lines::{Line, first_line, parse};
+use iddqd_core::{Few, InsertError, Text};
 use std::alloc::{AllocError, Global};
 use std::fmt::Write;
 

@@ -5,8 +5,9 @@ ghost use Rattle.iddqd_core.specs.Contents.{keys, find_item, without, IsAbsent, 
 ghost use Rattle.iddqd_core.specs.Search.{IsPlaceAmong};
 ghost use Rattle.iddqd_core.specs.Refusal.{FindsNoRoom, RefusesInsertion, refusal_kind};
 
-use iddqd_core::{DuplicateItem, Few, InsertError, Refused, TryReserveError};
-use iddqd_core::{Comparable, IdOrdItem};
+use iddqd_core::{
+    Comparable, DuplicateItem, Few, IdOrdItem, InsertError, Refused, TryReserveError,
+};
 use std::alloc::Global;
 use std::cmp::Ordering;
 use std::marker::Model;

@@ -12,8 +12,8 @@ mod serving;
 
 pub use arguments::{Kind, kind_of};
 pub use commands::{Command, Reply, RunStop};
-pub use iddqd_core::{DuplicateItem, Few, IdOrdItem, InsertError, Refused, TryReserveError};
 pub use id_ord_map::{IdOrdMap, MAX_ITEMS};
+pub use iddqd_core::{DuplicateItem, Few, IdOrdItem, InsertError, Refused, TryReserveError};
 pub use running::run;
 pub use serving::{Fault, fault_text, serve};
 

@@ -6,9 +6,8 @@ ghost use Rattle.iddqd_core.specs.Refusal.{IsLent};
 ghost use Rattle.iddqd_run.specs.Step.{MapState, SpareRule, KeepsNone, spareless, AnswersInsertUnique, AnswersInsertOverwrite, AnswersGet, Step, Run};
 
 use crate::commands::{Command, Reply, RunStop};
-use iddqd_core::{Few, InsertError, TryReserveError};
 use crate::id_ord_map::IdOrdMap;
-use iddqd_core::IdOrdItem;
+use iddqd_core::{Few, IdOrdItem, InsertError, TryReserveError};
 use std::alloc::Global;
 
 /// Runs the commands in order on a map: one reply for each (ours). Room for all replies is taken first; where it is refused,

@@ -45,7 +45,7 @@ fn answers_texts(rt: HostRuntime) -> Result<(), Fail> {
             b"bad\nbad\nbad\nbad\nbad\nbad\n",
         ),
         // words that later versions know
-        (b"put a 1\nlist\naddall a 1\n", b"bad\nbad\nbad\n"),
+        (b"list\naddall a 1\n", b"bad\nbad\n"),
     ] {
         let (refusals, answered) = answer(rt.alloc(), input).map_err(|_| "a fault")?;
         assert_eq!(rt; refusals, 0);
@@ -85,5 +85,17 @@ fn long_line(rt: HostRuntime) -> Result<(), Fail> {
     let (refusals, text) = answer(alloc, input.as_slice()).map_err(|_| "a fault")?;
     assert_eq!(rt; refusals, 0);
     assert_eq!(rt; text.as_slice(), b"bad\n0\n".as_slice());
+    Ok(())
+}
+
+#[test]
+fn put_and_delete(rt: HostRuntime) -> Result<(), Fail> {
+    let input = b"put a 1\nput a 2\ndel a\nput b 3\nlen\n";
+    let (refusals, text) = answer(rt.alloc(), input).map_err(|_| "a fault")?;
+    assert_eq!(rt; refusals, 0);
+    assert_eq!(rt;
+        text.as_slice(),
+        b"new\nreplaced 1\nremoved 2\nnew\n1\n".as_slice()
+    );
     Ok(())
 }
