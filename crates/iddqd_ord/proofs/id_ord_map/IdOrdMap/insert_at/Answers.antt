@@ -1,0 +1,45 @@
+use Rattle.std.proofs.Common.{◌≡◌, ◌-◌, ◌∙◌, List, insert, ap, subst, sym, length, arith, ℕ, cond, eqb}
+use Rattle.std.proofs.lemmas.List.{length-map}
+use Rattle.iddqd_core.specs.Contents.{Ascends}
+use Rattle.iddqd_core.specs.Listed.{listed_items}
+use Rattle.iddqd_core.specs.Refusal.{refusal_kind}
+use Rattle.iddqd_core.specs.Store.{vacant}
+use Rattle.iddqd_core.specs.declared.errors.TryReserveErrorKind.TheVariants.{CapacityOverflow, AllocError}
+use Rattle.iddqd_core.proofs.KeepsLemmas.{ascends_insert}
+use Rattle.iddqd_core.proofs.ListedLemmas.{length-listed}
+use Rattle.iddqd_ord.proofs.id_ord_map.IdOrdMap.insert_at.Goals as goal
+
+-- the kind of a refusal is told by the number of items
+kind_by_length : {X Y : Type 0} (limit : ℕ) (xs : List X) (ys : List Y) → length xs ≡ length ys → refusal_kind limit xs ≡ refusal_kind limit ys
+kind_by_length limit xs ys e = ap (λ n. cond (eqb n limit) CapacityOverflow AllocError) e
+
+pub returns-in-Err-clause-kind : goal.returns-in-Err-clause-kind
+returns-in-Err-clause-kind g c =
+    let m = c.self.inside in
+    c.in-Err.ensures.kind
+    ∙ kind_by_length m.store.limit m.index.slots (listed_items m.store m.index.slots) (sym (length-listed m.store m.index.slots c.self.invariant.occupied))
+    ∙ ap (λ v. refusal_kind v.limit v.items) c.self.view_is
+
+pub put_in-requires-clause-in_list : goal.put_in-requires-clause-in_list
+put_in-requires-clause-in_list g c =
+    let m = c.self.inside in
+    omega (arith, c.requires.place.0, length-map c.args.self.now.items g.T.IdOrdItem.key, ap (λ v. length v.items) c.self.view_is, length-listed m.store m.index.slots c.self.invariant.occupied, ap length c.in_default.ensures.slots)
+
+pub returns-clause-inserted : goal.returns-clause-inserted
+returns-clause-inserted g c =
+    let key = g.T.IdOrdItem.key in
+    let m = c.self.inside in
+    let items = c.args.self.now.items in
+    let place = c.args.place in
+    let room = c.reserve_one.new in
+    let kept : listed_items room.store room.index.slots ≡ items =
+    ap (λ s. listed_items s room.index.slots) c.in_default.ensures.store ∙ ap (listed_items m.store) c.in_default.ensures.slots ∙ ap (λ v. v.items) c.self.view_is in
+    let put : listed_items c.put_in.new.store c.put_in.new.index.slots ≡ insert items place c.args.item = c.put_in.ensures.items ∙ ap (λ xs. insert xs place c.args.item) kept in
+    record {
+      room = omega (arith, c.in_default.ensures.below_limit, length-listed m.store m.index.slots c.self.invariant.occupied, ap (λ v. length v.items) c.self.view_is, ap (λ v. v.limit) c.self.view_is);
+      added = record { place = place; within = omega (arith, c.requires.place.0, length-map items key); put = put };
+      keyed = subst (Ascends key g.T.Key.Ord.cmp) (sym put) (ascends_insert key g.met.T.Key.Ord.total c.args.item items place c.requires.keyed c.requires.place.0 c.requires.place.1 c.requires.place.2);
+      vacant = c.put_in.ensures.vacant ∙ ap (λ s. vacant s - 1) c.in_default.ensures.store ∙ ap (λ v. v.vacant - 1) c.self.view_is;
+      capacity = omega (arith, c.put_in.ensures.capacity, c.in_default.ensures.capacity, ap (λ v. v.capacity) c.self.view_is);
+      limit = c.put_in.ensures.limit ∙ ap (λ s. s.limit) c.in_default.ensures.store ∙ ap (λ v. v.limit) c.self.view_is;
+    }

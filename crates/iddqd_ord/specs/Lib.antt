@@ -1,0 +1,3 @@
+pub mod OrdItems
+pub mod OrdMap
+pub mod Paired

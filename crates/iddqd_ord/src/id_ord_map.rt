@@ -1,0 +1,113 @@
+//! An ordered map over an item store and an ordered index.
+ghost use Rattle.std.specs.Prelude.{◌≡◌, ◌↔◌, ◌≤◌, [], length, IsTrue};
+ghost use Rattle.iddqd_core.specs.Contents.{Ascends};
+
+mod imp;
+mod insert;
+mod paired;
+
+use iddqd_core::{IdOrdItem, ItemStore, OrdIndex};
+use std::alloc::Global;
+use std::marker::Model;
+
+/// The most items that a map holds (ours: the crate leaves it open).
+pub const MAX_ITEMS: u32 = u32::MAX;
+
+/// Items of pairwise different keys, in ascending order of the keys that they show (the crate's `IdOrdMap`). Each item
+/// lies in a numbered slot of a store, and an index lists the slots in the order of the keys. Contracts see the items
+/// in that order, how many slots are vacant, the capacity and the limit.
+#[derive(Drop)]
+pub struct IdOrdMap<T> {
+    store: ItemStore<T>,
+    index: OrdIndex,
+    // What an insertion lends where it succeeds, so that its caller learns what the map is then.
+    done: (),
+}
+
+impl<T> Model for IdOrdMap<T> {
+    ghost use Rattle.iddqd_core.specs.Listed.{listed_items};
+    ghost use Rattle.iddqd_core.specs.Store.{vacant};
+    ghost use Rattle.iddqd_ord.specs.OrdItems.{OrdItems, ord_items_code};
+    ghost use Rattle.iddqd_ord.specs.Paired.{ListsOccupied};
+
+    ghost Value = { OrdItems T };
+
+    ghost coded = { ord_items_code T.code };
+
+    ghost view = { λ m. record {
+      items = listed_items m.store m.index.slots;
+      vacant = vacant m.store;
+      capacity = m.store.capacity;
+      limit = m.store.limit;
+    } };
+
+    ghost invariant = { λ m. ListsOccupied m.store m.index.slots };
+}
+
+impl<T> IdOrdMap<T> {
+    /// How many items there are. It counts none of them.
+    #[inline]
+    pub fn len(&self) -> usize
+        ensures len { result ≡ length self.now.items }
+        ensures within_limit { result ≤ self.now.limit }
+    {
+        self.store.len()
+    }
+
+    /// Whether there is no item.
+    #[inline]
+    pub fn is_empty(&self) -> bool
+        ensures { IsTrue result ↔ (self.now.items ≡ []) }
+    {
+        self.len() == 0
+    }
+
+    /// How many items fit before the store needs memory.
+    #[inline]
+    pub fn capacity(&self) -> usize
+        ensures { result ≡ self.now.capacity }
+    {
+        self.store.capacity()
+    }
+
+    /// How many slots are vacant, as removed items left them (ours). It counts none of them.
+    #[inline]
+    pub fn vacant(&self) -> u32
+        ensures { result ≡ self.now.vacant }
+    {
+        self.store.vacant()
+    }
+
+    /// The most items that the map ever holds (ours).
+    #[inline]
+    pub fn limit(&self) -> u32
+        ensures { result ≡ self.now.limit }
+    {
+        self.store.limit()
+    }
+}
+
+impl<T: IdOrdItem> IdOrdMap<T> {
+    /// A map without items. It takes no memory.
+    pub fn new(alloc: Global) -> Self
+        ensures empty { result ≡ record { items = []; vacant = 0; capacity = 0; limit = MAX_ITEMS } }
+        ensures keyed { Ascends T.key T.Key.cmp result.items }
+    {
+        IdOrdMap {
+            store: ItemStore::new(alloc, MAX_ITEMS),
+            index: OrdIndex::new(alloc),
+            done: (),
+        }
+    }
+
+    /// Drops every item, and leaves no slot. The capacity stays.
+    pub fn clear(&mut self)
+    where
+        T: Drop,
+        ensures after { self.new ≡ record self.old { items = []; vacant = 0 } }
+        ensures keyed { Ascends T.key T.Key.cmp self.new.items }
+    {
+        self.store.clear();
+        self.index.clear();
+    }
+}

@@ -1,0 +1,55 @@
+//! Lookups and removals.
+ghost use Rattle.std.specs.Prelude.{◌≡◌, ◌+◌, ◌<◌, length, IfNone, OnSome, Some, option_copied, is_some, slice_get};
+ghost use Rattle.iddqd_core.specs.Contents.{Ascends, find_item, without};
+
+use super::IdOrdMap;
+use super::paired::take_out;
+use iddqd_core::{Comparable, IdOrdItem, Place, Steps};
+
+impl<T: IdOrdItem> IdOrdMap<T> {
+    /// The item that the query finds, or `None`. It goes down the index once and touches the item found once.
+    #[inline]
+    pub fn get<Q: Comparable<T::Key>>(&self, query: &Q) -> Option<&T>
+        requires keyed { Ascends T.key T.Key.cmp self.now.items }
+        ensures { option_copied result ≡ find_item T.key (Q.equivalent query.now) self.now.items }
+    {
+        let slot = self.index.get(&self.store, query, &mut Steps::new())?;
+        self.store.get(slot)
+    }
+
+    // The item at the place.
+    #[inline]
+    pub(super) fn item(&self, place: Place) -> &T
+        requires { place < length self.now.items }
+        ensures { slice_get self.now.items place ≡ Some result.now }
+    {
+        self.store.get(self.index.slot_at(place)).unwrap()
+    }
+
+    /// Whether the query finds an item, by as many comparisons as `get`.
+    #[inline]
+    pub fn contains_key<Q: Comparable<T::Key>>(&self, query: &Q) -> bool
+        requires keyed { Ascends T.key T.Key.cmp self.now.items }
+        ensures { result ≡ is_some (find_item T.key (Q.equivalent query.now) self.now.items) }
+    {
+        self.get(query).is_some()
+    }
+
+    /// Takes out the item that the query finds, and answers it; `None` where there is none, and then nothing has
+    /// changed. The item's slot is vacant then. It takes no memory.
+    pub fn remove<Q: Comparable<T::Key>>(&mut self, query: &Q) -> Option<T>
+        requires keyed { Ascends T.key T.Key.cmp self.old.items }
+        ensures value { result ≡ find_item T.key (Q.equivalent query.now) self.old.items }
+        ensures items { self.new.items ≡ without T.key (Q.equivalent query.now) self.old.items }
+        ensures vacant { OnSome result (self.new.vacant ≡ self.old.vacant + 1) }
+        ensures unchanged { IfNone result (self.new ≡ self.old) }
+        ensures capacity { self.new.capacity ≡ self.old.capacity }
+        ensures limit { self.new.limit ≡ self.old.limit }
+        ensures keyed { Ascends T.key T.Key.cmp self.new.items }
+    {
+        match self.index.find(&self.store, query, &mut Steps::new()) {
+            Ok(place) => Some(take_out(&mut self.store, &mut self.index, place)),
+            Err(_) => None,
+        }
+    }
+}

@@ -1,0 +1,74 @@
+//! Insertions. An akin item is looked for first, then the limit, then memory, and only then is anything changed.
+ghost use Rattle.std.specs.Prelude.{◌≡◌, IfOk, IfErr, IfNone, OnOk, OnErr, OnSome, Err};
+ghost use Rattle.std.specs.Borrow.{sem};
+ghost use Rattle.iddqd_core.specs.Contents.{Ascends, IsAbsent, find_item, keys, replaced};
+ghost use Rattle.iddqd_core.specs.Refusal.{FindsNoRoom, RefusesInsertion, refusal_kind};
+ghost use Rattle.iddqd_core.specs.Search.{IsPlaceAmong};
+
+use super::IdOrdMap;
+use super::paired::{exchange, put_in, reserve_one};
+use iddqd_core::{DuplicateItem, Few, IdOrdItem, InsertError, Place, Refused, Steps};
+
+impl<T: IdOrdItem> IdOrdMap<T> {
+    ghost use Rattle.iddqd_ord.specs.OrdMap.{InsertsItem, KeepsItems, ends_inserted};
+
+    /// Inserts the item where none of an equal key is there. A duplicate needs no memory and lends the item that is
+    /// there; a full map and refused memory hand the item back. Then the items are as they were (ours: the crate
+    /// panics or aborts for want of room).
+    pub fn insert_unique(&mut self, item: T) -> Result<&mut (), InsertError<'_, T>>
+        requires keyed { Ascends T.key T.Key.cmp self.old.items }
+        ensures* after { sem 𝓛 (ends_inserted T.row T.key T.Key.cmp self.entry result item) }
+        ensures absent { OnOk result (IsAbsent T.key (T.Key.eq (T.key item)) self.old.items) }
+        ensures refused { IfErr result (RefusesInsertion T.key T.Key.eq self.old.limit self.old.items item) }
+    {
+        let place = match self.index.find(&self.store, item.key(), &mut Steps::new()) {
+            Ok(place) => {
+                let existing = Few::One(self.item(place));
+                return Err(InsertError::Duplicate(DuplicateItem::internal_new(item, existing)));
+            }
+            Err(place) => place,
+        };
+        match self.insert_at(place, item) {
+            Ok(()) => Ok(&mut self.done),
+            Err(refused) => Err(InsertError::Refused(refused)),
+        }
+    }
+
+    /// Puts the item in the stead of one of an equal key, which it answers: the whole item, its key's spelling too.
+    /// That takes no memory and is never refused. Where there is none, it inserts the item as `insert_unique` does and
+    /// answers `None`; a full map and refused memory hand the item back, and then the items are as they were.
+    pub fn insert_overwrite(&mut self, item: T) -> Result<Option<T>, Refused<T>>
+        requires keyed { Ascends T.key T.Key.cmp self.old.items }
+        ensures found { IfOk result (λ found. found ≡ find_item T.key (T.Key.eq (T.key item)) self.old.items) }
+        ensures replaced { IfOk result (λ found. OnSome found (self.new ≡ record self.old { items = replaced T.key (T.Key.eq (T.key item)) item self.old.items })) }
+        ensures inserted { IfOk result (λ found. IfNone found (InsertsItem T.key T.Key.cmp item self.old self.new)) }
+        ensures item { IfErr result (λ refused. refused.item ≡ item) }
+        ensures refused { IfErr result (λ refused. FindsNoRoom T.key T.Key.eq self.old.limit self.old.items item refused.error) }
+        ensures kept { OnErr result (KeepsItems T.key T.Key.cmp self.old self.new) }
+        ensures keyed { Ascends T.key T.Key.cmp self.new.items }
+    {
+        match self.index.find(&self.store, item.key(), &mut Steps::new()) {
+            Ok(place) => Ok(Some(exchange(&mut self.store, &self.index, place, item))),
+            Err(place) => {
+                self.insert_at(place, item)?;
+                Ok(None)
+            }
+        }
+    }
+
+    // Puts the item in at the place where its key belongs.
+    fn insert_at(&mut self, place: Place, item: T) -> Result<(), Refused<T>>
+        requires keyed { Ascends T.key T.Key.cmp self.old.items }
+        requires place { IsPlaceAmong (T.Key.cmp (T.key item)) (keys T.key self.old.items) (Err place) }
+        ensures inserted { OnOk result (InsertsItem T.key T.Key.cmp item self.old self.new) }
+        ensures kept { OnErr result (KeepsItems T.key T.Key.cmp self.old self.new) }
+        ensures item { IfErr result (λ refused. refused.item ≡ item) }
+        ensures kind { IfErr result (λ refused. refused.error ≡ refusal_kind self.old.limit self.old.items) }
+    {
+        if let Err(error) = reserve_one(&mut self.store, &mut self.index) {
+            return Err(Refused { item, error });
+        }
+        put_in(&mut self.store, &mut self.index, place, item);
+        Ok(())
+    }
+}
