@@ -2,8 +2,6 @@ pub mod Answer
 pub mod Asked
 pub mod Folded
 pub mod Lines
-pub mod OrdItems
-pub mod OrdMap
 pub mod Shown
 pub mod Step
 pub mod Words

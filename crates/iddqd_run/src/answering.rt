@@ -8,7 +8,7 @@ ghost use Rattle.iddqd_core.specs.Refusal.{IsLent};
 ghost use Rattle.iddqd_run.specs.Shown.{AnswersRequest, IsNameOrdered};
 
 use crate::entries::{Entry, LineReply};
-use crate::id_ord_map::{IdOrdMap, MAX_ITEMS};
+use iddqd_ord::{IdOrdMap, MAX_ITEMS};
 use crate::lines::{Line, first_line, parse};
 use iddqd_core::{Few, InsertError, Text};
 use std::alloc::{AllocError, Global};

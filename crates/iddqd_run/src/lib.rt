@@ -5,14 +5,13 @@ mod answering;
 mod arguments;
 mod commands;
 mod entries;
-mod id_ord_map;
 mod lines;
 mod running;
 mod serving;
 
 pub use arguments::{Kind, kind_of};
 pub use commands::{Command, Reply, RunStop};
-pub use id_ord_map::{IdOrdMap, MAX_ITEMS};
+pub use iddqd_ord::{IdOrdMap, MAX_ITEMS};
 pub use iddqd_core::{DuplicateItem, Few, IdOrdItem, InsertError, Refused, TryReserveError};
 pub use running::run;
 pub use serving::{Fault, fault_text, serve};

@@ -6,7 +6,7 @@ ghost use Rattle.iddqd_core.specs.Refusal.{IsLent};
 ghost use Rattle.iddqd_run.specs.Step.{MapState, SpareRule, KeepsNone, spareless, AnswersInsertUnique, AnswersInsertOverwrite, AnswersGet, Step, Run};
 
 use crate::commands::{Command, Reply, RunStop};
-use crate::id_ord_map::IdOrdMap;
+use iddqd_ord::IdOrdMap;
 use iddqd_core::{Few, IdOrdItem, InsertError, TryReserveError};
 use std::alloc::Global;
 

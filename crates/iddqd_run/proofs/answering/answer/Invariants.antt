@@ -2,7 +2,7 @@ use Rattle.std.proofs.Common.{◌≡◌, ℕ, ◌+◌, ◌≤◌, List, [], ◌+
 use Rattle.iddqd_run.specs.Answer.{RepliesWithRefusals}
 use Rattle.iddqd_run.specs.Lines.{lines_of}
 use Rattle.iddqd_run.specs.Shown.{entries_of, IsNameOrdered}
-use Rattle.iddqd_run.specs.declared.id_ord_map.TheConstants.{MAX_ITEMS}
+use Rattle.iddqd_ord.specs.declared.id_ord_map.TheConstants.{MAX_ITEMS}
 use Rattle.iddqd_run.proofs.answering.answer.Given as goal
 
 -- whatever the replies to the lines that are left, they complete those so far
