@@ -9,8 +9,15 @@ use Rattle.iddqd_core.specs.declared.errors.TryReserveErrorKind.TheVariants.{Cap
 use Rattle.iddqd_core.specs.declared.errors.InsertError.{InsertError}
 use Rattle.iddqd_core.specs.declared.errors.InsertError.TheVariants.{Duplicate, Refused}
 
+-- why room was refused, and that it was for want of memory (`TryReserveError`)
+abbrev pub RefusalKind : Type 0
+RefusalKind = TryReserveErrorKind
+
+abbrev pub memory_refused : RefusalKind
+memory_refused = AllocError
+
 -- the kind of a refusal: a full map's where it is full, and else for want of memory (ours: the crate leaves open where a map is full)
-abbrev pub refusal_kind : {T : Type 0} → ℕ → List T → TryReserveErrorKind
+abbrev pub refusal_kind : {T : Type 0} → ℕ → List T → RefusalKind
 refusal_kind limit items = if length items == limit then CapacityOverflow else AllocError
 
 -- the one value that is lent
@@ -21,7 +28,7 @@ IsLent (d ∷ e ∷ more) x = ⊥
 
 module _ {T K : Type 0} (key : T → K) (eq : K → K → Bool) (limit : ℕ) where
   -- x finds no room: its key is absent, and the kind is told by the limit (ours: the crate panics or aborts)
-  abbrev pub FindsNoRoom : List T → T → TryReserveErrorKind → Type 0
+  abbrev pub FindsNoRoom : List T → T → RefusalKind → Type 0
   FindsNoRoom items x kind = IsAbsent key (eq (key x)) items × (kind ≡ refusal_kind limit items)
 
   -- x comes back: beside the akin item that is there, which is shown alone (`DuplicateItem`), or for want of room

@@ -1,1 +1,4 @@
 pub mod PairedLemmas
+pub use Rattle.iddqd_core.proofs.MappedLemmas
+pub use Rattle.iddqd_core.proofs.PlacedLemmas
+pub use Rattle.iddqd_core.proofs.RefusalLemmas

@@ -7,14 +7,14 @@ use Rattle.std.proofs.lemmas.Bool.{ne_eqb}
 use Rattle.std.proofs.lemmas.List.{length-map}
 use Rattle.std.proofs.Common.{String, Global}
 use Rattle.iddqd_run.specs.Answer.{name_of, name_cmp, entry_named, is_full}
-use Rattle.iddqd_core.specs.Contents.{AddsItem, find_item, without, replaced, placed}
+use Rattle.iddqd_ord.specs.Contents.{AddsItem, find_item, without, replaced, placed}
 use Rattle.iddqd_run.specs.Lines.{Add, Put, Get, Del}
 use Rattle.iddqd_run.specs.Shown.{entry_of, entries_of, IsNameOrdered, AnswersPlainly}
 use Rattle.iddqd_ord.specs.declared.id_ord_map.TheConstants.{MAX_ITEMS}
 use Rattle.iddqd_run.specs.declared.entries.Entry.{Entry}
 use Rattle.iddqd_run.specs.declared.entries.LineReply.TheVariants.{Added, Duplicate, New, Replaced, Found, Removed, Absent, RefusedCapacity}
-use Rattle.iddqd_core.proofs.MappedLemmas.{find_item-map, without-map, replaced-map, placed-map}
-use Rattle.iddqd_core.proofs.PlacedLemmas.{added_placed}
+use Rattle.iddqd_ord.proofs.MappedLemmas.{find_item-map, without-map, replaced-map, placed-map}
+use Rattle.iddqd_ord.proofs.PlacedLemmas.{added_placed}
 
 key : Entry → String Global
 key entry = entry.name

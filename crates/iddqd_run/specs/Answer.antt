@@ -7,7 +7,7 @@ use Rattle.std.specs.declared.cmp.Ordering.{Ordering}
 use Rattle.std.specs.Ordering.{nat_cmp}
 use Rattle.std.specs.Option.{option_map_or}
 use Rattle.std.specs.Cmp.Lexicographic.{slice_cmp}
-use Rattle.iddqd_core.specs.Contents.{find_item, without, replaced, placed}
+use Rattle.iddqd_ord.specs.Contents.{find_item, without, replaced, placed}
 use Rattle.iddqd_run.specs.Lines.{Request, Add, Put, Get, Del, Len, Bad, lines_of, request_of}
 use Rattle.iddqd_ord.specs.declared.id_ord_map.TheConstants.{MAX_ITEMS}
 

@@ -3,10 +3,8 @@
 --     SpareRule      whether a map keeps a spare
 --     Step, Run      one command and its reply; a list of commands and their replies
 use Rattle.std.specs.Prelude.{◌≡◌, ℕ, ◌+◌, ◌<◌, ◌≤◌, Bool, List, [], ◌∷◌, length, Option, Some, None, IfSome}
-use Rattle.iddqd_core.specs.Contents.{find_item, IsAbsent, AddsItem, without, OverwritesItem}
-use Rattle.iddqd_core.specs.Refusal.{FindsNoRoom}
-use Rattle.iddqd_core.specs.declared.errors.TryReserveErrorKind.{TryReserveErrorKind}
-use Rattle.iddqd_core.specs.declared.errors.TryReserveErrorKind.TheVariants.{AllocError}
+use Rattle.iddqd_ord.specs.Contents.{find_item, IsAbsent, AddsItem, without, OverwritesItem}
+use Rattle.iddqd_ord.specs.Refusal.{FindsNoRoom, RefusalKind, memory_refused}
 use Rattle.iddqd_run.specs.declared.commands.Command.{Command}
 use Rattle.iddqd_run.specs.declared.commands.Command.TheVariants.{InsertUnique, InsertOverwrite, Get, Remove, Clear, Len}
 use Rattle.iddqd_run.specs.declared.commands.Reply.{Reply}
@@ -32,7 +30,7 @@ KeepsRoom KeepsSpare limit old new = (old.spare + length old.items ≤ new.spare
 
 module _ {T K : Type 0} (key : T → K) (eq : K → K → Bool) (limit : ℕ) where
   -- x comes back for want of room; at a spare above 0 this never comes
-  abbrev pub RefusesItem : T → MapState T → Option T → TryReserveErrorKind → Type 0
+  abbrev pub RefusesItem : T → MapState T → Option T → RefusalKind → Type 0
   RefusesItem x old back kind = (back ≡ Some x) × FindsNoRoom key eq limit old.items x kind × (old.spare ≡ 0)
 
   -- the item is put in where its key is absent and the map is not full
@@ -63,7 +61,7 @@ module _ {T K : Type 0} (key : T → K) (eq : K → K → Bool) (limit : ℕ) wh
   abbrev pub AnswersGet : K → MapState T → Reply T → List T → Type 0
   AnswersGet k old (Found y) new = (find_item key (eq k) old.items ≡ Some y) × (new ≡ old.items)
   AnswersGet k old Absent new = IsAbsent key (eq k) old.items × (new ≡ old.items)
-  AnswersGet k old (Refused back kind) new = (back ≡ None) × (kind ≡ AllocError) × (y : T) × (find_item key (eq k) old.items ≡ Some y) × (new ≡ old.items)
+  AnswersGet k old (Refused back kind) new = (back ≡ None) × (kind ≡ memory_refused) × (y : T) × (find_item key (eq k) old.items ≡ Some y) × (new ≡ old.items)
   AnswersGet k old Inserted new = ⊥
   AnswersGet k old (Duplicate back existing) new = ⊥
   AnswersGet k old (Replaced y) new = ⊥

@@ -2,15 +2,14 @@
 ghost use Rattle.std.specs.Prelude.{◌≡◌, IfOk, string_bytes};
 ghost use Rattle.iddqd_run.specs.Answer.{AnswersWithRefusals};
 ghost use Rattle.iddqd_run.specs.Asked.{asked};
-ghost use Rattle.iddqd_core.specs.Errors.{listed};
+ghost use Rattle.iddqd_ord.specs.Errors.{listed};
 ghost use Rattle.iddqd_run.specs.Lines.{Add, Put, Get, Del};
-ghost use Rattle.iddqd_core.specs.Refusal.{IsLent};
+ghost use Rattle.iddqd_ord.specs.Refusal.{IsLent};
 ghost use Rattle.iddqd_run.specs.Shown.{AnswersRequest, IsNameOrdered};
 
 use crate::entries::{Entry, LineReply};
-use iddqd_ord::{IdOrdMap, MAX_ITEMS};
 use crate::lines::{Line, first_line, parse};
-use iddqd_core::{Few, InsertError, Text};
+use iddqd_ord::{Few, IdOrdMap, InsertError, MAX_ITEMS, Text};
 use std::alloc::{AllocError, Global};
 use std::fmt::Write;
 

@@ -11,8 +11,9 @@ mod serving;
 
 pub use arguments::{Kind, kind_of};
 pub use commands::{Command, Reply, RunStop};
-pub use iddqd_ord::{IdOrdMap, MAX_ITEMS};
-pub use iddqd_core::{DuplicateItem, Few, IdOrdItem, InsertError, Refused, TryReserveError};
+pub use iddqd_ord::{
+    DuplicateItem, Few, IdOrdItem, IdOrdMap, InsertError, MAX_ITEMS, Refused, TryReserveError,
+};
 pub use running::run;
 pub use serving::{Fault, fault_text, serve};
 

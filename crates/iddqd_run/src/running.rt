@@ -1,13 +1,12 @@
 //! Lists of commands.
 ghost use Rattle.std.specs.Prelude.{◌≡◌, OnErr, IfOk, IfErr, IfSome};
-ghost use Rattle.iddqd_core.specs.Contents.{Ascends, ClonesAreEqual};
-ghost use Rattle.iddqd_core.specs.Errors.{listed};
-ghost use Rattle.iddqd_core.specs.Refusal.{IsLent};
+ghost use Rattle.iddqd_ord.specs.Contents.{Ascends, ClonesAreEqual};
+ghost use Rattle.iddqd_ord.specs.Errors.{listed};
+ghost use Rattle.iddqd_ord.specs.Refusal.{IsLent};
 ghost use Rattle.iddqd_run.specs.Step.{MapState, SpareRule, KeepsNone, spareless, AnswersInsertUnique, AnswersInsertOverwrite, AnswersGet, Step, Run};
 
 use crate::commands::{Command, Reply, RunStop};
-use iddqd_ord::IdOrdMap;
-use iddqd_core::{Few, IdOrdItem, InsertError, TryReserveError};
+use iddqd_ord::{Few, IdOrdItem, IdOrdMap, InsertError, TryReserveError};
 use std::alloc::Global;
 
 /// Runs the commands in order on a map: one reply for each (ours). Room for all replies is taken first; where it is refused,

@@ -1,5 +1,5 @@
 //! Rows of insertions, on the map and through `run`.
-ghost use Rattle.iddqd_core.specs.Contents.{Ascends, ClonesAreEqual};
+ghost use Rattle.iddqd_ord.specs.Contents.{Ascends, ClonesAreEqual};
 
 use crate::{Command, IdOrdItem, IdOrdMap, InsertError, Reply, TryReserveError, run};
 use std::alloc::Global;
