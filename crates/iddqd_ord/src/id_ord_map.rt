@@ -5,6 +5,8 @@ ghost use Rattle.iddqd_core.specs.Contents.{Ascends};
 mod imp;
 mod insert;
 mod paired;
+#[cfg(test)]
+mod tests;
 
 use iddqd_core::{IdOrdItem, ItemStore, OrdIndex};
 use std::alloc::Global;
