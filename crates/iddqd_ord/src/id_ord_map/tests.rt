@@ -1,17 +1,9 @@
 //! Rows of calls on the map.
-ghost use Rattle.std.specs.Prelude.{◌≡◌, nat_eq};
-ghost use Rattle.std.proofs.Common.{rules};
-ghost use Rattle.std.specs.Cmp.{partial_equiv_from_equiv, partial_order_from_own_ties};
-ghost use Rattle.std.specs.Cmp.Lexicographic.{slice_cmp, pointwise, on_texts, on_texts_equal, texts_ties};
-ghost use Rattle.std.specs.Cmp.Rules.{comparing};
-ghost use Rattle.std.specs.Ordering.{nat_cmp, on, as_partial_cmp};
-ghost use Rattle.std.specs.Str.{str_to_ascii_lowercase};
 ghost use Rattle.iddqd_core.specs.Contents.{Ascends};
 
 use super::IdOrdMap;
 use iddqd_core::{IdOrdItem, InsertError, Text};
 use std::alloc::Global;
-use std::cmp::Ordering;
 use std::test::Fail;
 
 /// A name and its value.
@@ -104,120 +96,13 @@ fn calls(rt: HostRuntime) -> Result<(), Fail> {
     assert_eq!(rt; map.len(), 2);
     map.clear();
     assert!(rt; map.is_empty() && map.vacant() == 0 && map.capacity() >= 2);
+    let Ok(None) = map.insert_overwrite(make_named(alloc, "foo", 1)?) else {
+        return Err(Fail::from("not inserted"));
+    };
+    let Ok(Some(old)) = map.insert_overwrite(make_named(alloc, "foo", 2)?) else {
+        return Err(Fail::from("not replaced"));
+    };
+    assert_eq!(rt; old.value, 1);
+    assert_eq!(rt; map.get(&Text("foo")).map(|x| x.value), Some(2));
     Ok(())
-}
-
-/// Three letters whose case does not count.
-#[derive(Clone, Copy, Debug)]
-struct Word {
-    letters: [u8; 3],
-}
-
-impl Word {
-    fn lowered(&self) -> [u8; 3]
-        ensures { result ≡ str_to_ascii_lowercase self.now.letters }
-    {
-        let mut letters = self.letters;
-        letters.make_ascii_lowercase();
-        letters
-    }
-}
-
-impl PartialEq for Word {
-    ghost eq = { on (λ w. str_to_ascii_lowercase w.letters) (pointwise nat_eq) };
-
-    ghost laws = { partial_equiv_from_equiv (on_texts_equal (λ w. str_to_ascii_lowercase w.letters)) };
-
-    fn eq(&self, other: &Word) -> bool {
-        self.lowered() == other.lowered()
-    }
-}
-
-impl Eq for Word {
-    ghost laws = { on_texts_equal (λ w. str_to_ascii_lowercase w.letters) };
-}
-
-impl Ord for Word {
-    ghost cmp = { on (λ w. str_to_ascii_lowercase w.letters) (slice_cmp nat_cmp) };
-
-    ghost total = { on_texts (λ w. str_to_ascii_lowercase w.letters) };
-
-    ghost matches_partial_cmp = { Prim.search rules };
-
-    ghost matches_eq = { λ x y. texts_ties (str_to_ascii_lowercase x.letters) (str_to_ascii_lowercase y.letters) };
-
-    fn cmp(&self, other: &Word) -> Ordering {
-        self.lowered().cmp(&other.lowered())
-    }
-}
-
-impl PartialOrd for Word {
-    ghost partial_cmp = { as_partial_cmp (on (λ w. str_to_ascii_lowercase w.letters) (slice_cmp nat_cmp)) };
-
-    ghost laws = { partial_order_from_own_ties (Prim.search (comparing, rules)) (Prim.search (comparing, rules)) };
-
-    fn partial_cmp(&self, other: &Word) -> Option<Ordering> {
-        Some(self.cmp(other))
-    }
-}
-
-/// A word and its value.
-#[derive(Clone, Copy, Debug)]
-struct Entry {
-    word: Word,
-    value: u32,
-}
-
-impl IdOrdItem for Entry {
-    type Key = Word;
-
-    ghost key = { λ item. item.word };
-
-    fn key(&self) -> &Word {
-        &self.word
-    }
-}
-
-fn make_entry(letters: &[u8; 3], value: u32) -> Entry {
-    Entry {
-        word: Word { letters: *letters },
-        value,
-    }
-}
-
-fn shown(item: &Entry) -> ([u8; 3], u32) {
-    let letters = item.word.letters;
-    (letters, item.value)
-}
-
-// What was replaced, as its letters and its value; `None` within where nothing was, and without where it was refused.
-fn overwrite(map: &mut IdOrdMap<Entry>, item: Entry) -> Option<Option<([u8; 3], u32)>>
-    requires { Ascends ⟦<Entry as IdOrdItem>⟧.key ⟦<Word as Ord>⟧.cmp map.old.items }
-    ensures { Ascends ⟦<Entry as IdOrdItem>⟧.key ⟦<Word as Ord>⟧.cmp map.new.items }
-{
-    match map.insert_overwrite(item) {
-        Ok(old) => Some(old.map(|x| shown(&x))),
-        Err(_) => None,
-    }
-}
-
-// The whole item is replaced, its key's spelling too.
-#[test]
-fn coarse_overwrite(rt: HostRuntime) {
-    let mut map = IdOrdMap::new(rt.alloc());
-    assert_eq!(rt; overwrite(&mut map, make_entry(b"Foo", 1)), Some(None));
-    assert_eq!(rt; overwrite(&mut map, make_entry(b"bar", 5)), Some(None));
-    assert_eq!(rt;
-        map.remove(&make_entry(b"BAR", 0).word).map(|x| x.value),
-        Some(5)
-    );
-    assert_eq!(rt;
-        overwrite(&mut map, make_entry(b"FOO", 2)),
-        Some(Some((*b"Foo", 1)))
-    );
-    assert_eq!(rt;
-        map.get(&make_entry(b"foo", 0).word).map(shown),
-        Some((*b"FOO", 2))
-    );
-    assert_eq!(rt; map.len(), 1);
 }
