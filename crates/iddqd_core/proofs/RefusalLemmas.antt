@@ -2,7 +2,6 @@
 use Rattle.std.proofs.Common.{◌≡◌, ℕ, Bool, true, false, cond, eqb, List, length, refl}
 use Rattle.std.proofs.lemmas.Bool.{eqb-true}
 use Rattle.iddqd_core.specs.Refusal.{refusal_kind}
-use Rattle.iddqd_core.specs.declared.errors.TryReserveErrorKind.{TryReserveErrorKind}
 use Rattle.iddqd_core.specs.declared.errors.TryReserveErrorKind.TheVariants.{CapacityOverflow, AllocError}
 
 -- by its limit only a full map refuses

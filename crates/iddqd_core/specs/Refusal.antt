@@ -1,6 +1,6 @@
 -- Why and how an insertion is refused. The list stays, and the item that was handed in comes back whole.
 --     An akin item is looked for first, then the limit, then memory.
-use Rattle.std.specs.Prelude.{◌≡◌, ℕ, Bool, List, [], ◌∷◌, Option, Some, None, length, ◌==◌, if◌then◌else◌}
+use Rattle.std.specs.Prelude.{◌≡◌, ℕ, Bool, List, [], ◌∷◌, Some, length, ◌==◌, if◌then◌else◌}
 use Rattle.std.specs.Borrow.{Bor}
 use Rattle.iddqd_core.specs.Contents.{find_item, IsAbsent}
 use Rattle.iddqd_core.specs.Errors.{new_item_of, duplicates_of}

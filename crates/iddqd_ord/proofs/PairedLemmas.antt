@@ -1,10 +1,10 @@
--- An index and a store belong together still where a slot is added to both, taken out of both, or given another item.
+-- An index and a store belong together still where a slot is added to both, or taken out of both.
 --     updates-set      what a write to an occupied slot changes
 --     vacant_absent      a vacant slot is not listed
 --     paired_empty      nothing is listed where there is no slot
 --     listed_occupied      a listed slot is occupied
 --     some_lent      what is lent is the item, if there is one
---     paired_added, paired_removed, paired_replaced      the pair after the change
+--     paired_added, paired_removed      the pair after the change
 --     items_removed      the items that are left; `listed-added` and `listed-updated` of the core have the others
 use Rattle.std.proofs.Common.{◌≡◌, ◌≢◌, ℕ, ◌+◌, ◌-◌, ◌<◌, ◌≤◌, ⊎_elim, List, length, get_or, set, Option, Some, None, IsSome, is_some, refl, sym, ap, ◌∙◌, arith, true≢false, nat_eq, count_by, subst, [], Bor, option_copied}
 use Rattle.std.proofs.lemmas.Bool.{cases_lt, cases_eq, eqb-false}
@@ -152,17 +152,3 @@ module _ {T : Type 0} where
       items_removed =
           listed-same old new (remove slots i) (all-removed slots i slot at paired.each_once (λ s. item_at new s ≡ item_at old s) (λ k d h n. updates.others _ n))
           ∙ listed-remove old slots paired.occupied i
-
-    pub paired_replaced : (x : T) → IsOccupied old slot → Updates old new slot (Some x) → store_len new ≡ store_len old → ListsOccupied new slots
-    paired_replaced x some updates len = record {
-      each_once = paired.each_once;
-      occupied = λ k d h. ⊎_elim
-          (λ e. ap (λ s. is_some (item_at new s)) e ∙ ap is_some updates.changed)
-          (λ n. ap is_some (updates.others _ n) ∙ paired.occupied k d h)
-          (cases_eq (get_or slots k d) slot);
-      listed = λ other is. ⊎_elim
-          (λ e. rw e (paired.listed slot some))
-          (λ n. paired.listed other (ap is_some (sym (updates.others other n)) ∙ is))
-          (cases_eq other slot);
-      counted = paired.counted ∙ sym len;
-    }

@@ -1,5 +1,5 @@
 -- Where the first line of a text ends, and the first word of a line.
-use Rattle.std.proofs.Common.{◌≡◌, ℕ, zero, suc, ◌+◌, ◌<◌, List, [], ◌∷◌, length, get_or, take, drop, refl, ap, arith, rules}
+use Rattle.std.proofs.Common.{◌≡◌, ℕ, zero, suc, ◌<◌, List, [], ◌∷◌, length, get_or, take, drop, refl, arith}
 use Rattle.iddqd_run.specs.Lines.{lines_of, words_of}
 
 -- a line that the byte 10 ends

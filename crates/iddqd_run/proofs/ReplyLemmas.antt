@@ -1,7 +1,7 @@
 -- One line more is answered.
-use Rattle.std.proofs.Common.{◌≡◌, ◌≤◌, ℕ, suc, ◌+◌, List, [], ◌∷◌, ◌++◌, sym, refl, ap, ◌∙◌, subst, arith, zero-add, inl, inr, ⊎_elim}
+use Rattle.std.proofs.Common.{◌≡◌, ◌≤◌, ℕ, ◌+◌, List, [], ◌∷◌, ◌++◌, sym, refl, ap, ◌∙◌, subst, arith, zero-add, inl, inr, ⊎_elim}
 use Rattle.iddqd_run.specs.Answer.{RepliesWithRefusals, replies, line_reply, entries_after}
-use Rattle.iddqd_run.specs.Lines.{request_of, Request}
+use Rattle.iddqd_run.specs.Lines.{request_of}
 use Rattle.iddqd_run.specs.Shown.{entries_of, shown, refusals_of, AnswersPlainly, AnswersRequest}
 use Rattle.iddqd_run.specs.declared.entries.Entry.{Entry}
 use Rattle.iddqd_run.specs.declared.entries.LineReply.{LineReply}

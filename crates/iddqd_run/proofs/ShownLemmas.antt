@@ -1,5 +1,5 @@
 -- What the map answers is what the entries answer that its items are seen as.
-use Rattle.std.proofs.Common.{◌≡◌, ◌≢◌, ℕ, ◌<◌, Bor, Bool, true, false, List, length, map, Option, Some, None, sym, refl, ap, ◌∙◌, subst, ◌++◌, eq-eqb, arith}
+use Rattle.std.proofs.Common.{◌≡◌, ◌≢◌, ℕ, ◌<◌, Bor, Bool, true, false, List, length, Option, Some, None, sym, refl, ap, ◌∙◌, subst, ◌++◌, eq-eqb, arith}
 use Rattle.std.specs.Prelude.{string_bytes, bytes_eq, codes, decimal}
 use Rattle.std.specs.Option.{option_map}
 use Rattle.std.specs.String.{string_cmp_total}

@@ -2,8 +2,8 @@
 --     MapState      the items of a map, and its spare: how many new items it takes without a refusal
 --     SpareRule      whether a map keeps a spare
 --     Step, Run      one command and its reply; a list of commands and their replies
-use Rattle.std.specs.Prelude.{◌≡◌, ℕ, ◌+◌, ◌<◌, ◌≤◌, Bool, List, [], ◌∷◌, length, Option, Some, None, IfSome}
-use Rattle.iddqd_ord.specs.Contents.{find_item, IsAbsent, AddsItem, without, OverwritesItem}
+use Rattle.std.specs.Prelude.{◌≡◌, ℕ, ◌+◌, ◌≤◌, Bool, List, [], ◌∷◌, length, Option, Some, None, IfSome}
+use Rattle.iddqd_ord.specs.Contents.{find_item, IsAbsent, without, OverwritesItem}
 use Rattle.iddqd_ord.specs.Refusal.{FindsNoRoom, RefusalKind, memory_refused}
 use Rattle.iddqd_run.specs.declared.commands.Command.{Command}
 use Rattle.iddqd_run.specs.declared.commands.Command.TheVariants.{InsertUnique, InsertOverwrite, Get, Remove, Clear, Len}

@@ -1,4 +1,4 @@
-use Rattle.std.proofs.Common.{◌≡◌, ◌<◌, ◌∙◌, sym, refl, subst, rules, arith}
+use Rattle.std.proofs.Common.{◌∙◌, sym, refl, subst, rules, arith}
 use Rattle.std.specs.Result.{IsOk}
 use Rattle.iddqd_ord.specs.Refusal.{IsLent}
 use Rattle.iddqd_run.specs.declared.entries.Entry.{Entry}

@@ -1,4 +1,4 @@
-use Rattle.std.proofs.Common.{◌≡◌, ℕ, suc, ◌+◌, ◌-◌, ◌<◌, ◌≤◌, ◌∷◌, length, take, drop, arith, rules, add-one}
+use Rattle.std.proofs.Common.{◌≡◌, suc, ◌∷◌, take, drop, arith, add-one}
 use Rattle.std.proofs.lemmas.List.{take_rest}
 use Rattle.iddqd_run.specs.Lines.{lines_of}
 use Rattle.iddqd_run.proofs.Cuts.{lines-cut, lines-whole}

@@ -1,6 +1,5 @@
-use Rattle.std.proofs.Common.{◌≡◌, ◌<◌, ◌+◌, ℕ, suc, length, take, drop, arith, rules, add-one}
+use Rattle.std.proofs.Common.{arith, add-one}
 use Rattle.std.proofs.lemmas.List.{take_rest}
-use Rattle.iddqd_run.specs.Lines.{words_of}
 use Rattle.iddqd_run.proofs.Cuts.{words-cut, words-whole}
 use Rattle.iddqd_run.proofs.lines.first_word.Goals as goal
 

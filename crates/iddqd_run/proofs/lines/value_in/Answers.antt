@@ -1,4 +1,4 @@
-use Rattle.std.proofs.Common.{◌≡◌, ◌∙◌, sym, subst}
+use Rattle.std.proofs.Common.{◌∙◌, subst}
 use Rattle.std.specs.Str.Parse.{ParsesUnsigned}
 use Rattle.iddqd_run.proofs.ValueLemmas.{no_value, one_form, spelled_utf8, value_read}
 use Rattle.iddqd_run.proofs.lines.value_in.Goals as goal

@@ -1,5 +1,5 @@
-use Rattle.std.proofs.Common.{rules, ap, sym, ◌∙◌}
-use Rattle.std.specs.Result.{IsOk, is_ok}
+use Rattle.std.proofs.Common.{rules}
+use Rattle.std.specs.Result.{IsOk}
 use Rattle.iddqd_run.proofs.running.insert_unique.Goals as goal
 
 pub returns-in-Ok-clause-answers : goal.returns-in-Ok-clause-answers

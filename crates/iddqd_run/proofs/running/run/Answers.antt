@@ -1,4 +1,4 @@
-use Rattle.std.proofs.Common.{◌∙◌, ◌++◌, ◌∷◌, [], length, length-append, arith, subst, sym}
+use Rattle.std.proofs.Common.{◌∙◌, ◌++◌, ◌∷◌, [], length-append, arith, subst, sym}
 use Rattle.iddqd_run.specs.Step.{KeepsNone, spareless, Step, Run}
 use Rattle.iddqd_run.proofs.StepLemmas.{run_more}
 use Rattle.iddqd_run.proofs.running.run.Goals as goal

@@ -1,4 +1,4 @@
-use Rattle.std.proofs.Common.{◌≡◌, ◌+◌, ◌≤◌, length, vec_len, vec_capacity}
+use Rattle.std.proofs.Common.{◌≡◌, ◌≤◌, length, vec_len, vec_capacity}
 use Rattle.iddqd_ord.specs.Contents.{Ascends}
 use Rattle.iddqd_run.specs.Step.{KeepsNone, spareless, Run}
 use Rattle.iddqd_run.proofs.running.run.Given as goal
