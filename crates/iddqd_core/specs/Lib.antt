@@ -1,6 +1,7 @@
 pub mod Contents
 pub mod Digits
 pub mod Errors
+pub mod HashPairs
 pub mod Hashing
 pub mod IndexParts
 pub mod Lends
