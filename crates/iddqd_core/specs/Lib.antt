@@ -3,6 +3,7 @@ pub mod Digits
 pub mod Errors
 pub mod HashPairs
 pub mod Hashing
+pub mod Holding
 pub mod IndexParts
 pub mod Lends
 pub mod Listed

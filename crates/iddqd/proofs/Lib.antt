@@ -1,0 +1,4 @@
+pub mod FoundLemmas
+pub mod PairLemmas
+pub mod PairedLemmas
+pub mod SlotItemLemmas

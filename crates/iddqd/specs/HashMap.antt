@@ -1,0 +1,39 @@
+-- What the calls of a hash map leave.
+--     IsEmptyMap      there is no item, and no memory has been taken
+--     KeepsSpare      what is there and what is spare never fall together, and both fit the limit (`reserve`; the number is ours)
+--     InsertsItem      the item was put in
+--     KeepsMap      nothing has changed but the room, which may have grown
+use Rattle.std.specs.Prelude.{◌≡◌, ℕ, ◌+◌, ◌≤◌, Bool, [], length, Result}
+use Rattle.std.specs.Borrow.{Fml, RattleType, MutBor, LendsSoOk, unit}
+use Rattle.std.specs.Hash.{HashWrites}
+use Rattle.iddqd_core.specs.Holding.{TakesItem, KeepsItems}
+use Rattle.iddqd.specs.HashItems.{HashItems, Keyed, held}
+use Rattle.iddqd.specs.contracts.id_hash_map.IdHashMap.{the_row}
+
+module _ {S T : Type 0} where
+  abbrev pub IsEmptyMap : ℕ → HashItems S T → Type 0
+  IsEmptyMap limit m = m ≡ record m { items = []; hashes = []; spare = 0; vacant = 0; capacity = 0; limit = limit }
+
+  pub record KeepsSpare (old new : HashItems S T) : Type 0 where
+    pub never_less : old.spare + length old.items ≤ new.spare + length new.items
+    pub in_limit : new.spare + length new.items ≤ new.limit
+
+  module _ {K : Type 0} (key : T → K) (eq : K → K → Bool) (input : K → HashWrites) (hash : S → HashWrites → ℕ) where
+    pub record InsertsItem (x : T) (old new : HashItems S T) : Type 0 where
+      pub takes : TakesItem x (held old) (held new)
+      pub keyed : Keyed key eq input hash new
+      pub spare : KeepsSpare old new
+      pub hasher : new.hasher ≡ old.hasher
+
+    pub record KeepsMap (old new : HashItems S T) : Type 0 where
+      pub keeps : KeepsItems (held old) (held new)
+      pub keyed : Keyed key eq input hash new
+      pub spare : KeepsSpare old new
+      pub hasher : new.hasher ≡ old.hasher
+
+-- what the map is once what an insertion shows is let go: at `Ok` the item is in, at `Err` the items are as they were
+abbrev pub ends_inserted : (S T : RattleType) {K E : Type 0} (key : T.Denot → K) (eq : K → K → Bool) (input : K → HashWrites) (hash : S.Denot → HashWrites → ℕ) → MutBor (HashItems S.Denot T.Denot) → Result (MutBor unit.Denot) E → T.Denot → Fml
+ends_inserted S T key eq input hash map result x =
+    LendsSoOk (the_row T S) unit map result
+    (λ new _. InsertsItem key eq input hash x map.now new)
+    (λ new. KeepsMap key eq input hash map.now new)

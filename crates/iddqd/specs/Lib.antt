@@ -1,0 +1,8 @@
+pub mod HashItems
+pub mod HashMap
+pub mod Paired
+pub use Rattle.iddqd_core.specs.Contents
+pub use Rattle.iddqd_core.specs.Errors
+pub use Rattle.iddqd_core.specs.Hashing
+pub use Rattle.iddqd_core.specs.Holding
+pub use Rattle.iddqd_core.specs.Refusal

@@ -1,0 +1,154 @@
+//! A hash map over an item store and a hash index.
+ghost use Rattle.std.specs.Prelude.{◌≡◌, ◌↔◌, ◌+◌, ◌≤◌, [], length, IsTrue};
+ghost use Rattle.iddqd_core.specs.Hashing.{hash_under};
+
+mod imp;
+mod insert;
+mod paired;
+#[cfg(test)]
+mod tests;
+
+use iddqd_core::{HashIndex, IdHashItem, ItemStore};
+use std::alloc::Global;
+use std::hash::{BuildHasher, BuildHasherDefault, FoldHasher};
+use std::marker::Model;
+
+/// The most items that a map holds (ours: the crate leaves it open).
+pub const MAX_ITEMS: u32 = u32::MAX;
+
+/// The hasher's builder where none is named: std's, with the fixed seed. Where strangers choose the keys, hand in a
+/// `RandomState` instead.
+pub type DefaultHashBuilder = BuildHasherDefault<FoldHasher>;
+
+/// Items of pairwise different keys, in no order that a caller may rely on (the crate's `IdHashMap`). Each item lies in
+/// a numbered slot of a store, and an index finds the slot by the hash of the key that the item shows. Contracts see the
+/// items, each with its stored hash, the hasher, `spare`, how many slots are vacant, the capacity and the limit.
+#[derive(Drop)]
+pub struct IdHashMap<T, S = DefaultHashBuilder> {
+    store: ItemStore<T>,
+    index: HashIndex,
+    hasher: S,
+    // What an insertion lends where it succeeds, so that its caller learns what the map is then.
+    done: (),
+}
+
+impl<T, S> Model for IdHashMap<T, S> {
+    ghost use Rattle.iddqd_core.specs.Store.{vacant};
+    ghost use Rattle.iddqd.specs.HashItems.{HashItems, hash_items_code};
+    ghost use Rattle.iddqd.specs.Paired.{ListsOccupied, hashes_in, items_in, spare_in};
+
+    ghost Value = { HashItems S T };
+
+    ghost coded = { hash_items_code S.code T.code };
+
+    ghost view = { λ m. record {
+      items = items_in m.store;
+      hashes = hashes_in m.store m.index.pairs;
+      hasher = m.hasher;
+      spare = spare_in m.store m.index;
+      vacant = vacant m.store;
+      capacity = m.store.capacity;
+      limit = m.store.limit;
+    } };
+
+    ghost invariant = { λ m. ListsOccupied m.store m.index.pairs };
+}
+
+impl<T, S> IdHashMap<T, S> {
+    /// How many items there are. It counts none of them.
+    #[inline]
+    pub fn len(&self) -> usize
+        ensures len { result ≡ length self.now.items }
+        ensures within_limit { result ≤ self.now.limit }
+    {
+        self.store.len()
+    }
+
+    /// Whether there is no item.
+    #[inline]
+    pub fn is_empty(&self) -> bool
+        ensures { IsTrue result ↔ (self.now.items ≡ []) }
+    {
+        self.len() == 0
+    }
+
+    /// How many items fit before the store needs memory.
+    #[inline]
+    pub fn capacity(&self) -> usize
+        ensures { result ≡ self.now.capacity }
+    {
+        self.store.capacity()
+    }
+
+    /// How many items of new keys the map takes without a refusal (ours). It counts none of them.
+    #[inline]
+    pub fn spare(&self) -> usize
+        ensures number { result ≡ self.now.spare }
+        ensures within_limit { result + length self.now.items ≤ self.now.limit }
+    {
+        let len = self.store.len();
+        let in_store = self.store.capacity().min(self.store.limit() as usize) - len;
+        self.index.spare().min(in_store)
+    }
+
+    /// How many slots are vacant, as removed items left them (ours). It counts none of them.
+    #[inline]
+    pub fn vacant(&self) -> u32
+        ensures { result ≡ self.now.vacant }
+    {
+        self.store.vacant()
+    }
+
+    /// The most items that the map ever holds (ours).
+    #[inline]
+    pub fn limit(&self) -> u32
+        ensures { result ≡ self.now.limit }
+    {
+        self.store.limit()
+    }
+}
+
+impl<T: IdHashItem> IdHashMap<T> {
+    /// A map without items, over the default hasher. It takes no memory.
+    pub fn new(alloc: Global) -> Self
+        ensures empty { IsEmptyMap MAX_ITEMS result }
+        ensures keyed { Keyed T.key T.Key.eq T.Key.hash_input (hash_under ⟦<DefaultHashBuilder as BuildHasher>⟧ ⟦<FoldHasher as Hasher>⟧) result }
+    {
+        IdHashMap::with_hasher(alloc, DefaultHashBuilder::new())
+    }
+}
+
+impl<T: IdHashItem, S: BuildHasher> IdHashMap<T, S> {
+    ghost use Rattle.iddqd.specs.HashItems.{Keyed};
+    ghost use Rattle.iddqd.specs.HashMap.{IsEmptyMap, KeepsSpare};
+
+    /// A map without items, over the hasher that is handed in. It takes no memory.
+    pub fn with_hasher(alloc: Global, hasher: S) -> Self
+        ensures empty { IsEmptyMap MAX_ITEMS result }
+        ensures hasher { result.hasher ≡ hasher }
+        ensures keyed { Keyed T.key T.Key.eq T.Key.hash_input (hash_under S.BuildHasher S.Hasher.Hasher) result }
+    {
+        IdHashMap {
+            store: ItemStore::new(alloc, MAX_ITEMS),
+            index: HashIndex::new(alloc),
+            hasher,
+            done: (),
+        }
+    }
+
+    /// Drops every item, and leaves no slot. The capacity stays, and the room of the items is spare again.
+    pub fn clear(&mut self)
+    where
+        T: Drop,
+        ensures items { self.new.items ≡ [] }
+        ensures vacant { self.new.vacant ≡ 0 }
+        ensures spare { KeepsSpare self.old self.new }
+        ensures capacity { self.new.capacity ≡ self.old.capacity }
+        ensures limit { self.new.limit ≡ self.old.limit }
+        ensures hasher { self.new.hasher ≡ self.old.hasher }
+        ensures keyed { Keyed T.key T.Key.eq T.Key.hash_input (hash_under S.BuildHasher S.Hasher.Hasher) self.new }
+    {
+        self.store.clear();
+        self.index.clear();
+    }
+}

@@ -1,0 +1,79 @@
+//! Insertions. An akin item is looked for first, then the limit, then memory, and only then is anything changed.
+ghost use Rattle.std.specs.Prelude.{◌≡◌, IfOk, IfErr, IfNone, OnOk, OnErr, OnSome, Err};
+ghost use Rattle.std.specs.Borrow.{sem};
+ghost use Rattle.iddqd_core.specs.Contents.{IsAbsent, find_item, replaced};
+ghost use Rattle.iddqd_core.specs.Hashing.{hash_under};
+ghost use Rattle.iddqd_core.specs.Refusal.{FindsNoRoom, OnRefused, RefusesInsertion, refusal_kind};
+
+use super::IdHashMap;
+use super::paired::{exchange, find_slot, put_in, reserve_one};
+use iddqd_core::{DuplicateItem, Few, IdHashItem, InsertError, Refused};
+use std::hash::BuildHasher;
+
+impl<T: IdHashItem, S: BuildHasher> IdHashMap<T, S> {
+    ghost use Rattle.iddqd.specs.HashItems.{Keyed};
+    ghost use Rattle.iddqd.specs.HashMap.{InsertsItem, KeepsMap, ends_inserted};
+
+    /// Inserts the item where none of an equal key is there. A duplicate needs no memory and lends the item that is
+    /// there; a full map and refused memory hand the item back, which never comes where `spare` is above 0. Then the items
+    /// are as they were (ours: the crate panics or aborts for want of room).
+    pub fn insert_unique(&mut self, item: T) -> Result<&mut (), InsertError<'_, T>>
+        requires keyed { Keyed T.key T.Key.eq T.Key.hash_input (hash_under S.BuildHasher S.Hasher.Hasher) self.old }
+        ensures* after { sem 𝓛 (ends_inserted S.row T.row T.key T.Key.eq T.Key.hash_input (hash_under S.BuildHasher S.Hasher.Hasher) self.entry result item) }
+        ensures absent { OnOk result (IsAbsent T.key (T.Key.eq (T.key item)) self.old.items) }
+        ensures refused { IfErr result (RefusesInsertion T.key T.Key.eq self.old.limit self.old.items item) }
+        ensures no_spare { IfErr result (OnRefused (self.old.spare ≡ 0)) }
+    {
+        let hash = self.hasher.hash_one(item.key());
+        if let Some(slot) = find_slot(&self.store, &self.index, hash, item.key()) {
+            let existing = Few::One(self.store.get(slot).unwrap());
+            return Err(InsertError::Duplicate(DuplicateItem::internal_new(item, existing)));
+        }
+        match self.insert_new(hash, item) {
+            Ok(()) => Ok(&mut self.done),
+            Err(refused) => Err(InsertError::Refused(refused)),
+        }
+    }
+
+    /// Puts the item in the stead of one of an equal key, which it answers: the whole item, its key's spelling too.
+    /// That takes no memory and is never refused. Where there is none, it inserts the item as `insert_unique` does and
+    /// answers `None`; a full map and refused memory hand the item back, and then the items are as they were.
+    pub fn insert_overwrite(&mut self, item: T) -> Result<Option<T>, Refused<T>>
+        requires keyed { Keyed T.key T.Key.eq T.Key.hash_input (hash_under S.BuildHasher S.Hasher.Hasher) self.old }
+        ensures found { IfOk result (λ found. found ≡ find_item T.key (T.Key.eq (T.key item)) self.old.items) }
+        ensures replaced { IfOk result (λ found. OnSome found (self.new ≡ record self.old { items = replaced T.key (T.Key.eq (T.key item)) item self.old.items })) }
+        ensures inserted { IfOk result (λ found. IfNone found (InsertsItem T.key T.Key.eq T.Key.hash_input (hash_under S.BuildHasher S.Hasher.Hasher) item self.old self.new)) }
+        ensures item { IfErr result (λ refused. refused.item ≡ item) }
+        ensures refused { IfErr result (λ refused. FindsNoRoom T.key T.Key.eq self.old.limit self.old.items item refused.error) }
+        ensures no_spare { OnErr result (self.old.spare ≡ 0) }
+        ensures kept { OnErr result (KeepsMap T.key T.Key.eq T.Key.hash_input (hash_under S.BuildHasher S.Hasher.Hasher) self.old self.new) }
+        ensures keyed { Keyed T.key T.Key.eq T.Key.hash_input (hash_under S.BuildHasher S.Hasher.Hasher) self.new }
+    {
+        let hash = self.hasher.hash_one(item.key());
+        match find_slot(&self.store, &self.index, hash, item.key()) {
+            Some(slot) => Ok(Some(exchange(&mut self.store, &self.index, hash, slot, item))),
+            None => {
+                self.insert_new(hash, item)?;
+                Ok(None)
+            }
+        }
+    }
+
+    // Puts in an item whose key no other has.
+    fn insert_new(&mut self, hash: u64, item: T) -> Result<(), Refused<T>>
+        requires keyed { Keyed T.key T.Key.eq T.Key.hash_input (hash_under S.BuildHasher S.Hasher.Hasher) self.old }
+        requires absent { IsAbsent T.key (T.Key.eq (T.key item)) self.old.items }
+        requires hash { hash ≡ hash_under S.BuildHasher S.Hasher.Hasher self.old.hasher (T.Key.hash_input (T.key item)) }
+        ensures inserted { OnOk result (InsertsItem T.key T.Key.eq T.Key.hash_input (hash_under S.BuildHasher S.Hasher.Hasher) item self.old self.new) }
+        ensures kept { OnErr result (KeepsMap T.key T.Key.eq T.Key.hash_input (hash_under S.BuildHasher S.Hasher.Hasher) self.old self.new) }
+        ensures item { IfErr result (λ refused. refused.item ≡ item) }
+        ensures kind { IfErr result (λ refused. refused.error ≡ refusal_kind self.old.limit self.old.items) }
+        ensures no_spare { OnErr result (self.old.spare ≡ 0) }
+    {
+        if let Err(error) = reserve_one(&mut self.store, &mut self.index) {
+            return Err(Refused { item, error });
+        }
+        put_in(&mut self.store, &mut self.index, hash, item);
+        Ok(())
+    }
+}

@@ -1,0 +1,117 @@
+//! What looks into the store and the index together, or changes both. Only the search looks at keys.
+ghost use Rattle.std.specs.Prelude.{◌≡◌, ℕ, ◌+◌, ◌-◌, ◌<◌, ◌≤◌, length, IfErr, IfSome, OnOk, OnErr, Some, None, IsTrue, Contains, set};
+ghost use Rattle.std.specs.Option.{option_and_then};
+ghost use Rattle.iddqd_core.specs.Contents.{NoTwoAkin, find_item};
+ghost use Rattle.iddqd_core.specs.HashPairs.{HasOneMore, SamePairs};
+ghost use Rattle.iddqd_core.specs.Refusal.{refusal_kind};
+ghost use Rattle.iddqd_core.specs.Store.{item_at, vacant, HasRoomFor, Updates};
+ghost use Rattle.iddqd.specs.Paired.{ListsOccupied, hash_of_slot, items_in, spare_in};
+
+use iddqd_core::{Equivalent, HashIndex, IdHashItem, ItemStore, Steps, TryReserveError};
+
+// The slot of the item that the query finds. Keys are compared only at slots that are listed with this hash.
+#[inline]
+pub(super) fn find_slot<T: IdHashItem, Q: Equivalent<T::Key>>(
+    store: &ItemStore<T>,
+    index: &HashIndex,
+    hash: u64,
+    query: &Q,
+) -> Option<u32>
+    requires paired { ListsOccupied store.now index.now.pairs }
+    requires differ { NoTwoAkin T.key T.Key.eq (items_in store.now) }
+    requires stored { (slot : ℕ) (x : T) → item_at store.now slot ≡ Some x → IsTrue (Q.equivalent query.now (T.key x)) → hash_of_slot index.now.pairs slot ≡ hash }
+    ensures item { option_and_then (item_at store.now) result ≡ find_item T.key (Q.equivalent query.now) (items_in store.now) }
+    ensures listed { IfSome result (λ slot. Contains index.now.pairs (hash, slot)) }
+{
+    index.find(store, hash, query, &mut Steps::new())
+}
+
+// Makes room for one more item in both: the limit is asked first, then memory.
+#[inline]
+pub(super) fn reserve_one<T>(
+    store: &mut ItemStore<T>,
+    index: &mut HashIndex,
+) -> Result<(), TryReserveError>
+    requires paired { ListsOccupied store.old index.old.pairs }
+    ensures below_limit { OnOk result (length index.old.pairs < store.old.limit) }
+    ensures room { OnOk result (HasRoomFor store.new 1) }
+    ensures listable { OnOk result (0 < index.new.spare) }
+    ensures fits { OnOk result (length index.new.pairs < u32.MAX) }
+    ensures kind { IfErr result (λ e. e ≡ refusal_kind store.old.limit index.old.pairs) }
+    ensures needed { OnErr result (spare_in store.old index.old ≡ 0) }
+    ensures store { store.new ≡ record store.old { capacity = store.new.capacity } }
+    ensures capacity { store.old.capacity ≤ store.new.capacity }
+    ensures pairs { SamePairs index.old index.new }
+    ensures spare { index.old.spare ≤ index.new.spare }
+{
+    if store.len() == store.limit() as usize {
+        return Err(TryReserveError::capacity_overflow());
+    }
+    store.try_reserve(1)?;
+    index.try_reserve(1)
+}
+
+// Puts the item into a slot, and the slot into the index under the hash. It takes no memory.
+#[inline]
+pub(super) fn put_in<T>(
+    store: &mut ItemStore<T>,
+    index: &mut HashIndex,
+    hash: u64,
+    item: T,
+) -> u32
+    requires paired { ListsOccupied store.old index.old.pairs }
+    requires room { HasRoomFor store.old 1 }
+    requires listable { 0 < index.old.spare }
+    requires fits { length index.old.pairs < u32.MAX }
+    ensures paired { ListsOccupied store.new index.new.pairs }
+    ensures was_vacant { item_at store.old result ≡ None }
+    ensures updates { Updates store.old store.new result (Some item) }
+    ensures pairs { HasOneMore index.old index.new (hash, result) }
+    ensures spare { index.old.spare ≤ index.new.spare + 1 }
+    ensures vacant { vacant store.new ≡ vacant store.old - 1 }
+    ensures capacity { store.new.capacity ≡ store.old.capacity }
+    ensures limit { store.new.limit ≡ store.old.limit }
+{
+    let slot = store.insert_reserved(item);
+    index.add_reserved(hash, slot);
+    slot
+}
+
+// Takes the slot out of the index, and its item out of the store.
+#[inline]
+pub(super) fn take_out<T>(
+    store: &mut ItemStore<T>,
+    index: &mut HashIndex,
+    hash: u64,
+    slot: u32,
+) -> T
+    requires paired { ListsOccupied store.old index.old.pairs }
+    requires listed { Contains index.old.pairs (hash, slot) }
+    ensures paired { ListsOccupied store.new index.new.pairs }
+    ensures item { item_at store.old slot ≡ Some result }
+    ensures updates { Updates store.old store.new slot None }
+    ensures pairs { HasOneMore index.new index.old (hash, slot) }
+    ensures spare { index.old.spare + 1 ≤ index.new.spare }
+    ensures vacant { vacant store.new ≡ vacant store.old + 1 }
+    ensures capacity { store.new.capacity ≡ store.old.capacity }
+    ensures limit { store.new.limit ≡ store.old.limit }
+{
+    index.remove(hash, slot);
+    store.remove(slot)
+}
+
+// Puts the item in the stead of the one in the slot, which it answers. The index stays.
+#[inline]
+pub(super) fn exchange<T>(store: &mut ItemStore<T>, index: &HashIndex, hash: u64, slot: u32, item: T) -> T
+    requires paired { ListsOccupied store.old index.now.pairs }
+    requires listed { Contains index.now.pairs (hash, slot) }
+    ensures paired { ListsOccupied store.new index.now.pairs }
+    ensures item { item_at store.old slot ≡ Some result }
+    ensures updates { Updates store.old store.new slot (Some item) }
+    ensures spare { spare_in store.new index.now ≡ spare_in store.old index.now }
+    ensures vacant { vacant store.new ≡ vacant store.old }
+    ensures capacity { store.new.capacity ≡ store.old.capacity }
+    ensures limit { store.new.limit ≡ store.old.limit }
+{
+    store.replace(slot, item)
+}
