@@ -1,3 +1,4 @@
+pub mod Buckets
 pub mod Contents
 pub mod Digits
 pub mod Errors

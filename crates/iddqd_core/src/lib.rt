@@ -3,6 +3,7 @@
 
 mod errors;
 mod halves;
+mod hash_index;
 mod item_store;
 mod items;
 pub mod laws;
@@ -12,6 +13,7 @@ mod steps;
 mod text;
 
 pub use errors::{DuplicateItem, Few, InsertError, Refused, TryReserveError};
+pub use hash_index::HashIndex;
 pub use item_store::ItemStore;
 pub use items::{IdHashItem, IdOrdItem};
 pub use ord_index::{IntoWalk, OrdIndex, Place, Walk};
