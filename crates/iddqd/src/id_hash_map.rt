@@ -10,7 +10,7 @@ mod tests;
 
 use iddqd_core::{HashIndex, IdHashItem, ItemStore};
 use std::alloc::Global;
-use std::hash::{BuildHasher, BuildHasherDefault, FoldHasher};
+use std::hash::{BuildHasher, BuildHasherDefault, FoldHasher, Hasher};
 use std::marker::Model;
 
 /// The most items that a map holds (ours: the crate leaves it open).
@@ -109,6 +109,9 @@ impl<T, S> IdHashMap<T, S> {
 }
 
 impl<T: IdHashItem> IdHashMap<T> {
+    ghost use Rattle.iddqd.specs.HashItems.{Keyed};
+    ghost use Rattle.iddqd.specs.HashMap.{IsEmptyMap};
+
     /// A map without items, over the default hasher. It takes no memory.
     pub fn new(alloc: Global) -> Self
         ensures empty { IsEmptyMap MAX_ITEMS result }
