@@ -3,11 +3,13 @@
 --     hash_of_slot pairs slot      the hash that is listed with a slot
 --     hashes_in store pairs      the hash that is stored for each item, in the items' order
 --     spare_in store index      how many new items fit without memory: in the index, in the store, and within the limit
+--     shown store index hasher      what a contract sees of a map of these
 use Rattle.std.specs.Prelude.{◌≡◌, ℕ, ◌-◌, ◌≤◌, ◌==◌, min, List, [], ◌∷◌, length, Option, Some, None, is_some, if◌then◌else◌}
 use Rattle.std.proofs.Common.{suc}
 use Rattle.std.specs.List.{filter_map, sum_by}
 use Rattle.iddqd_core.specs.HashPairs.{HashPairs, of_slot}
-use Rattle.iddqd_core.specs.Store.{Store, item_at, store_len}
+use Rattle.iddqd_core.specs.Store.{Store, item_at, store_len, vacant}
+use Rattle.iddqd.specs.HashItems.{HashItems}
 
 -- each slot is listed once, so the sum is its one hash
 abbrev pub hash_of_slot : List (ℕ × ℕ) → ℕ → ℕ
@@ -28,6 +30,17 @@ module _ {T : Type 0} where
 
   abbrev pub spare_in : Store T → HashPairs → ℕ
   spare_in store index = min index.spare (min (store.capacity - store_len store) (store.limit - store_len store))
+
+  abbrev pub shown : {S : Type 0} → Store T → HashPairs → S → HashItems S T
+  shown store index hasher = record {
+    items = items_in store;
+    hashes = hashes_in store index.pairs;
+    hasher = hasher;
+    spare = spare_in store index;
+    vacant = vacant store;
+    capacity = store.capacity;
+    limit = store.limit;
+  }
 
   -- a slot is listed exactly where it is occupied, and once; there is memory for the items, and no more of them than the limit
   pub record ListsOccupied (store : Store T) (pairs : List (ℕ × ℕ)) : Type 0 where

@@ -33,23 +33,14 @@ pub struct IdHashMap<T, S = DefaultHashBuilder> {
 }
 
 impl<T, S> Model for IdHashMap<T, S> {
-    ghost use Rattle.iddqd_core.specs.Store.{vacant};
     ghost use Rattle.iddqd.specs.HashItems.{HashItems, hash_items_code};
-    ghost use Rattle.iddqd.specs.Paired.{ListsOccupied, hashes_in, items_in, spare_in};
+    ghost use Rattle.iddqd.specs.Paired.{ListsOccupied, shown};
 
     ghost Value = { HashItems S T };
 
     ghost coded = { hash_items_code S.code T.code };
 
-    ghost view = { λ m. record {
-      items = items_in m.store;
-      hashes = hashes_in m.store m.index.pairs;
-      hasher = m.hasher;
-      spare = spare_in m.store m.index;
-      vacant = vacant m.store;
-      capacity = m.store.capacity;
-      limit = m.store.limit;
-    } };
+    ghost view = { λ m. shown m.store m.index m.hasher };
 
     ghost invariant = { λ m. ListsOccupied m.store m.index.pairs };
 }

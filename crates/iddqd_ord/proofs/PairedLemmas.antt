@@ -1,9 +1,7 @@
 -- An index and a store belong together still where a slot is added to both, or taken out of both.
---     updates-set      what a write to an occupied slot changes
 --     vacant_absent      a vacant slot is not listed
 --     paired_empty      nothing is listed where there is no slot
 --     listed_occupied      a listed slot is occupied
---     some_lent      what is lent is the item, if there is one
 --     paired_added, paired_removed      the pair after the change
 --     items_removed      the items that are left; `listed-added` and `listed-updated` of the core have the others
 use Rattle.std.proofs.Common.{◌≡◌, ◌≢◌, ℕ, ◌+◌, ◌-◌, ◌<◌, ◌≤◌, ⊎_elim, List, length, get_or, set, Option, Some, None, IsSome, is_some, refl, sym, ap, ◌∙◌, arith, true≢false, nat_eq, count_by, subst, [], Bor, option_copied}
@@ -85,19 +83,6 @@ module _ (xs : List ℕ) (i s : ℕ) (at : slice_get xs i ≡ Some s) where
         (cases_lt k i)
 
 module _ {T : Type 0} where
-  -- an occupied slot is one of the slots
-  occupied_within : (store : Store T) (slot : ℕ) → IsOccupied store slot → slot < length store.slots
-  occupied_within store slot some = ⊎_elim
-      (λ l. l)
-      (λ l. absurd (true≢false (sym some ∙ ap is_some (get_or_past store.slots slot None l))))
-      (cases_lt slot (length store.slots))
-
-  pub updates-set : (store : Store T) (slot : ℕ) (o : Option T) → IsOccupied store slot → Updates store (record store { slots = set store.slots slot o }) slot o
-  updates-set store slot o some = record {
-    changed = get_or-set_same store.slots slot o None (occupied_within store slot some);
-    others = λ other n. get_or-set_other store.slots slot other o None n;
-  }
-
   pub paired_empty : (store : Store T) (slots : List ℕ) → store.slots ≡ [] → slots ≡ [] → ListsOccupied store slots
   unfolding IsDistinct
   paired_empty store slots none nothing = record {
@@ -111,11 +96,6 @@ module _ {T : Type 0} where
   pub listed_occupied : (store : Store T) (slots : List ℕ) → AreOccupied store slots → (i slot : ℕ) → slice_get slots i ≡ Some slot → IsOccupied store slot
   listed_occupied store slots occupied i slot at =
       subst (IsOccupied store) (get_or_from_slice_get slots i slot slot at) (occupied i slot (slice_get_within slots i slot at))
-
-  -- what is lent is the item, if there is one
-  pub some_lent : (lent : Option (Bor T)) (o : Option T) → option_copied lent ≡ o → IsSome o → IsSome lent
-  some_lent None o e some = absurd (true≢false (sym some ∙ ap is_some (sym e)))
-  some_lent (Some x) o e some = refl
 
   module _ (old new : Store T) (slots : List ℕ) (paired : ListsOccupied old slots) (slot : ℕ) where
     pub vacant_absent : item_at old slot ≡ None → ¬ Contains slots slot
