@@ -2,6 +2,7 @@ pub mod Contents
 pub mod Digits
 pub mod Errors
 pub mod Hashing
+pub mod Holding
 pub mod IndexParts
 pub mod Lends
 pub mod Listed

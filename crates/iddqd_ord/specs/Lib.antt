@@ -1,6 +1,6 @@
-pub mod OrdItems
 pub mod OrdMap
 pub mod Paired
 pub use Rattle.iddqd_core.specs.Contents
 pub use Rattle.iddqd_core.specs.Errors
+pub use Rattle.iddqd_core.specs.Holding
 pub use Rattle.iddqd_core.specs.Refusal

@@ -27,14 +27,14 @@ pub struct IdOrdMap<T> {
 }
 
 impl<T> Model for IdOrdMap<T> {
+    ghost use Rattle.iddqd_core.specs.Holding.{Holding, holding_code};
     ghost use Rattle.iddqd_core.specs.Listed.{listed_items};
     ghost use Rattle.iddqd_core.specs.Store.{vacant};
-    ghost use Rattle.iddqd_ord.specs.OrdItems.{OrdItems, ord_items_code};
     ghost use Rattle.iddqd_ord.specs.Paired.{ListsOccupied};
 
-    ghost Value = { OrdItems T };
+    ghost Value = { Holding T };
 
-    ghost coded = { ord_items_code T.code };
+    ghost coded = { holding_code T.code };
 
     ghost view = { λ m. record {
       items = listed_items m.store m.index.slots;

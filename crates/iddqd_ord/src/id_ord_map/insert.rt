@@ -10,7 +10,7 @@ use super::paired::{exchange, put_in, reserve_one};
 use iddqd_core::{DuplicateItem, Few, IdOrdItem, InsertError, Place, Refused, Steps};
 
 impl<T: IdOrdItem> IdOrdMap<T> {
-    ghost use Rattle.iddqd_ord.specs.OrdMap.{InsertsItem, KeepsItems, ends_inserted};
+    ghost use Rattle.iddqd_ord.specs.OrdMap.{InsertsItem, KeepsMap, ends_inserted};
 
     /// Inserts the item where none of an equal key is there. A duplicate needs no memory and lends the item that is
     /// there; a full map and refused memory hand the item back. Then the items are as they were (ours: the crate
@@ -44,7 +44,7 @@ impl<T: IdOrdItem> IdOrdMap<T> {
         ensures inserted { IfOk result (λ found. IfNone found (InsertsItem T.key T.Key.cmp item self.old self.new)) }
         ensures item { IfErr result (λ refused. refused.item ≡ item) }
         ensures refused { IfErr result (λ refused. FindsNoRoom T.key T.Key.eq self.old.limit self.old.items item refused.error) }
-        ensures kept { OnErr result (KeepsItems T.key T.Key.cmp self.old self.new) }
+        ensures kept { OnErr result (KeepsMap T.key T.Key.cmp self.old self.new) }
         ensures keyed { Ascends T.key T.Key.cmp self.new.items }
     {
         match self.index.find(&self.store, item.key(), &mut Steps::new()) {
@@ -61,7 +61,7 @@ impl<T: IdOrdItem> IdOrdMap<T> {
         requires keyed { Ascends T.key T.Key.cmp self.old.items }
         requires place { IsPlaceAmong (T.Key.cmp (T.key item)) (keys T.key self.old.items) (Err place) }
         ensures inserted { OnOk result (InsertsItem T.key T.Key.cmp item self.old self.new) }
-        ensures kept { OnErr result (KeepsItems T.key T.Key.cmp self.old self.new) }
+        ensures kept { OnErr result (KeepsMap T.key T.Key.cmp self.old self.new) }
         ensures item { IfErr result (λ refused. refused.item ≡ item) }
         ensures kind { IfErr result (λ refused. refused.error ≡ refusal_kind self.old.limit self.old.items) }
     {

@@ -10,7 +10,7 @@ pub returns-in-Ok-insert_unique-clause-answered : goal.returns-in-Ok-insert_uniq
 returns-in-Ok-insert_unique-clause-answered c =
     let x : Entry = record { name = c.in-Ok.copy; value = c.args.value } in
     let is : IsOk c.insert_unique.result = search rules in
-    let room = (c.insert_unique.follows.holds tt is).room in
+    let room = (c.insert_unique.follows.holds tt is).takes.room in
     added_plainly x c.args.map.now.items c.args.name.now c.in-Ok.ensures.ok _ c.in-Ok-insert_unique.ensures.absent (omega (arith, room, c.requires.limit)) (search rules) (search rules)
 
 pub returns-in-Err-Duplicate-clause-answered : goal.returns-in-Err-Duplicate-clause-answered

@@ -16,11 +16,11 @@ returns-in-Ok-None-clause-answered c =
     let x : Entry = record { name = c.in-Ok.copy; value = c.args.value } in
     let found = rw c.in-Ok-None.field-0-is at c.in-Ok-None.ensures.found in
     let inserted = rw c.in-Ok-None.field-0-is at c.in-Ok-None.ensures.inserted in
-    new_plainly x c.args.map.now.items c.args.name.now c.in-Ok.ensures.ok c.insert_overwrite.new.self.items (sym found) (omega (arith, inserted.room, c.requires.limit)) inserted.added inserted.keyed
+    new_plainly x c.args.map.now.items c.args.name.now c.in-Ok.ensures.ok c.insert_overwrite.new.self.items (sym found) (omega (arith, inserted.takes.room, c.requires.limit)) inserted.takes.added inserted.keyed
 
 pub returns-then-is_capacity_overflow-clause-answered : goal.returns-then-is_capacity_overflow-clause-answered
 returns-then-is_capacity_overflow-clause-answered c =
     let x : Entry = record { name = c.in-Ok.copy; value = c.args.value } in
     let refused = c.in-Err.ensures.refused in
     let kind = sym refused.1 ∙ c.if-is_capacity_overflow.ensures.0 refl in
-    full_put x c.args.map.now.items c.args.name.now c.in-Ok.ensures.ok c.insert_overwrite.new.self.items refused.0 (full_from_kind c.args.map.now.limit c.args.map.now.items kind ∙ c.requires.limit) c.in-Err.ensures.kept.items
+    full_put x c.args.map.now.items c.args.name.now c.in-Ok.ensures.ok c.insert_overwrite.new.self.items refused.0 (full_from_kind c.args.map.now.limit c.args.map.now.items kind ∙ c.requires.limit) c.in-Err.ensures.kept.keeps.items

@@ -5,4 +5,4 @@ use Rattle.iddqd_run.proofs.running.insert_unique.Goals as goal
 pub returns-in-Ok-clause-answers : goal.returns-in-Ok-clause-answers
 returns-in-Ok-clause-answers g c =
     let is : IsOk c.insert_unique.result = search rules in
-    (c.in-Ok.ensures.absent, (c.insert_unique.follows.holds tt is).room, search rules)
+    (c.in-Ok.ensures.absent, (c.insert_unique.follows.holds tt is).takes.room, search rules)

@@ -36,10 +36,12 @@ returns-clause-inserted g c =
     ap (λ s. listed_items s room.index.slots) c.in_default.ensures.store ∙ ap (listed_items m.store) c.in_default.ensures.slots ∙ ap (λ v. v.items) c.self.view_is in
     let put : listed_items c.put_in.new.store c.put_in.new.index.slots ≡ insert items place c.args.item = c.put_in.ensures.items ∙ ap (λ xs. insert xs place c.args.item) kept in
     record {
-      room = omega (arith, c.in_default.ensures.below_limit, length-listed m.store m.index.slots c.self.invariant.occupied, ap (λ v. length v.items) c.self.view_is, ap (λ v. v.limit) c.self.view_is);
-      added = record { place = place; within = omega (arith, c.requires.place.0, length-map items key); put = put };
+      takes = record {
+        room = omega (arith, c.in_default.ensures.below_limit, length-listed m.store m.index.slots c.self.invariant.occupied, ap (λ v. length v.items) c.self.view_is, ap (λ v. v.limit) c.self.view_is);
+        added = record { place = place; within = omega (arith, c.requires.place.0, length-map items key); put = put };
+        vacant = c.put_in.ensures.vacant ∙ ap (λ s. vacant s - 1) c.in_default.ensures.store ∙ ap (λ v. v.vacant - 1) c.self.view_is;
+        capacity = omega (arith, c.put_in.ensures.capacity, c.in_default.ensures.capacity, ap (λ v. v.capacity) c.self.view_is);
+        limit = c.put_in.ensures.limit ∙ ap (λ s. s.limit) c.in_default.ensures.store ∙ ap (λ v. v.limit) c.self.view_is;
+      };
       keyed = subst (Ascends key g.T.Key.Ord.cmp) (sym put) (ascends_insert key g.met.T.Key.Ord.total c.args.item items place c.requires.keyed c.requires.place.0 c.requires.place.1 c.requires.place.2);
-      vacant = c.put_in.ensures.vacant ∙ ap (λ s. vacant s - 1) c.in_default.ensures.store ∙ ap (λ v. v.vacant - 1) c.self.view_is;
-      capacity = omega (arith, c.put_in.ensures.capacity, c.in_default.ensures.capacity, ap (λ v. v.capacity) c.self.view_is);
-      limit = c.put_in.ensures.limit ∙ ap (λ s. s.limit) c.in_default.ensures.store ∙ ap (λ v. v.limit) c.self.view_is;
     }
