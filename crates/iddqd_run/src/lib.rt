@@ -5,6 +5,7 @@ mod answering;
 mod arguments;
 mod commands;
 mod entries;
+pub mod laws;
 mod lines;
 mod running;
 mod serving;

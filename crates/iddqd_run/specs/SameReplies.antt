@@ -1,0 +1,42 @@
+-- The law that no reply tells one map from another while nothing is refused. It speaks of step and run alone (Step), so of every map whose calls keep to them.
+--     It rests on three facts of those definitions. A search finds at most one item, since no two are akin, so their order plays no part in it.
+--     A new item may stand anywhere among the others. The limit and the spare tell only whether something is refused.
+use Rattle.std.specs.Prelude.{◌≡◌, ℕ, Bool, List, IsSome, ⊤, All, IsPermutation}
+use Rattle.std.specs.Cmp.{IsEquivalence}
+use Rattle.iddqd_ord.specs.Contents.{NoTwoAkin}
+use Rattle.iddqd_run.specs.Step.{MapState, SpareRule, Run}
+use Rattle.iddqd_run.specs.declared.commands.Command.{Command}
+use Rattle.iddqd_run.specs.declared.commands.Reply.{Reply}
+use Rattle.iddqd_run.specs.declared.commands.Reply.TheVariants.{Inserted, Duplicate, Replaced, Found, Removed, Absent, Done, Length, Refused}
+
+-- neither room for an item nor memory for a clone was refused
+abbrev pub IsUnrefused : {T : Type 0} → Reply T → Type 0
+IsUnrefused (Refused back kind) = ⊥
+IsUnrefused (Duplicate back existing) = IsSome existing
+IsUnrefused Inserted = ⊤
+IsUnrefused (Replaced y) = ⊤
+IsUnrefused (Found y) = ⊤
+IsUnrefused (Removed y) = ⊤
+IsUnrefused Absent = ⊤
+IsUnrefused Done = ⊤
+IsUnrefused (Length n) = ⊤
+
+module _ {T K : Type 0} (key : T → K) (eq : K → K → Bool) where
+  -- two maps hold the same items, each in an order of its own, and no two of them are akin
+  pub record HoldSameItems (one other : List T) : Type 0 where
+    pub same : IsPermutation one other
+    pub differ : NoTwoAkin key eq one
+
+  -- one map's run, in which nothing was refused
+  abbrev pub RunUnrefused : ℕ → SpareRule → MapState T → List (Command T K) → List (Reply T) → MapState T → Type 0
+  RunUnrefused limit rule old commands replies new = Run key eq limit rule old commands replies new × All IsUnrefused replies
+
+-- two maps that hold the same items, of whatever limits and rules, give the same replies to the same commands and hold the same items then, where neither refused anything
+abbrev pub SameReplies : Type 0 → Type 0 → Type 0
+SameReplies T K =
+    (key : T → K) (eq : K → K → Bool) → IsEquivalence eq
+    → (limit1 limit2 : ℕ) (rule1 rule2 : SpareRule) (old1 old2 new1 new2 : MapState T) (commands : List (Command T K)) (replies1 replies2 : List (Reply T))
+    → HoldSameItems key eq old1.items old2.items
+    → RunUnrefused key eq limit1 rule1 old1 commands replies1 new1
+    → RunUnrefused key eq limit2 rule2 old2 commands replies2 new2
+    → (replies1 ≡ replies2) × HoldSameItems key eq new1.items new2.items
