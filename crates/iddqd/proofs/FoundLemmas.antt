@@ -1,4 +1,6 @@
 -- What a slot whose item's key passes a test says of the items: the search, the removal and the replacement.
+--     found_passes      what is found passes
+--     without_absent      where nothing is found nothing is taken out
 --     item_absent      no slot's item passes, and so none is found
 --     item_found      the item of the slot is the one that is found
 --     item_taken, item_exchanged      what the items are without it, and with another in its stead
@@ -21,6 +23,23 @@ module _ {T K : Type 0} (key : T → K) where
 
   abbrev at : List (Option T) → ℕ → Option T
   at slots slot = get_or slots slot None
+
+  -- what is found passes, and where nothing is found nothing is taken out
+  pub found_passes : (test : K → Bool) (items : List T) (x : T) → find_item key test items ≡ Some x → test (key x) ≡ true
+  found_passes test [] x found = cc
+  found_passes test (y ∷ ys) x found = by (test (key y)) refl (found_passes test ys x)
+    where
+      by : (b : Bool) → test (key y) ≡ b → (find_item key test ys ≡ Some x → test (key x) ≡ true) → test (key x) ≡ true
+      by true e rest = (let first = sym (ap (λ b. cond b (Some y) (find_item key test ys)) e) ∙ found in let same : y ≡ x = cc in ap (λ z. test (key z)) (sym same) ∙ e)
+      by false e rest = rest (sym (ap (λ b. cond b (Some y) (find_item key test ys)) e) ∙ found)
+
+  pub without_absent : (test : K → Bool) (items : List T) → IsAbsent key test items → items ≡ without key test items
+  without_absent test [] absent = refl
+  without_absent test (y ∷ ys) absent = by (test (key y)) refl (without_absent test ys)
+    where
+      by : (b : Bool) → test (key y) ≡ b → (IsAbsent key test ys → ys ≡ without key test ys) → y ∷ ys ≡ without key test (y ∷ ys)
+      by true e rest = (let first = sym (ap (λ b. cond b (Some y) (find_item key test ys)) e) ∙ absent in cc)
+      by false e rest = rw e (ap (λ zs. y ∷ zs) (rest (sym (ap (λ b. cond b (Some y) (find_item key test ys)) e) ∙ absent)))
 
   pub item_absent : (test : K → Bool) (slots : List (Option T)) → ((slot : ℕ) (x : T) → at slots slot ≡ Some x → test (key x) ≡ false) → IsAbsent key test (items_of slots)
   item_absent test [] none = refl

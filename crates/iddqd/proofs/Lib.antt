@@ -1,4 +1,5 @@
 pub mod FoundLemmas
+pub mod MapLemmas
 pub mod PairLemmas
 pub mod PairedLemmas
 pub mod SlotItemLemmas

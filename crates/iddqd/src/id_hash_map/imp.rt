@@ -1,5 +1,5 @@
 //! Lookups and removals.
-ghost use Rattle.std.specs.Prelude.{◌≡◌, ◌+◌, IfNone, OnSome, option_copied, is_some};
+ghost use Rattle.std.specs.Prelude.{◌≡◌, ◌+◌, IfNone, OnSome, IsTrue, option_copied, is_some};
 ghost use Rattle.iddqd_core.specs.Contents.{find_item, without};
 ghost use Rattle.iddqd_core.specs.Hashing.{HashesAs, hash_under};
 
@@ -20,7 +20,16 @@ impl<T: IdHashItem, S: BuildHasher> IdHashMap<T, S> {
         requires hashes { HashesAs (Q.equivalent query.now) (Q.hash_input query.now) T.Key.hash_input }
         ensures { option_copied result ≡ find_item T.key (Q.equivalent query.now) self.now.items }
     {
-        let hash = self.hasher.hash_one(query);
+        self.get_hashed(self.hasher.hash_one(query), query)
+    }
+
+    // The same, where the query's hash is known.
+    #[inline]
+    pub(super) fn get_hashed<Q: Equivalent<T::Key>>(&self, hash: u64, query: &Q) -> Option<&T>
+        requires keyed { Keyed T.key T.Key.eq T.Key.hash_input (hash_under S.BuildHasher S.Hasher.Hasher) self.now }
+        requires hash { (k : T.Key) → IsTrue (Q.equivalent query.now k) → hash_under S.BuildHasher S.Hasher.Hasher self.now.hasher (T.Key.hash_input k) ≡ hash }
+        ensures { option_copied result ≡ find_item T.key (Q.equivalent query.now) self.now.items }
+    {
         let slot = find_slot(&self.store, &self.index, hash, query)?;
         self.store.get(slot)
     }

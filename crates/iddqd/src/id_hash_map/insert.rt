@@ -25,8 +25,9 @@ impl<T: IdHashItem, S: BuildHasher> IdHashMap<T, S> {
         ensures no_spare { IfErr result (OnRefused (self.old.spare ≡ 0)) }
     {
         let hash = self.hasher.hash_one(item.key());
-        if let Some(slot) = find_slot(&self.store, &self.index, hash, item.key()) {
-            let existing = Few::One(self.store.get(slot).unwrap());
+        if find_slot(&self.store, &self.index, hash, item.key()).is_some() {
+            // Only the whole map can lend what outlives this call, so the item is looked for once more.
+            let existing = Few::One(self.get_hashed(hash, item.key()).unwrap());
             return Err(InsertError::Duplicate(DuplicateItem::internal_new(item, existing)));
         }
         match self.insert_new(hash, item) {

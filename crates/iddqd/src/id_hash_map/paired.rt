@@ -4,7 +4,7 @@ ghost use Rattle.std.specs.Option.{option_and_then};
 ghost use Rattle.iddqd_core.specs.Contents.{NoTwoAkin, find_item};
 ghost use Rattle.iddqd_core.specs.HashPairs.{HasOneMore, SamePairs};
 ghost use Rattle.iddqd_core.specs.Refusal.{refusal_kind};
-ghost use Rattle.iddqd_core.specs.Store.{item_at, vacant, HasRoomFor, Updates};
+ghost use Rattle.iddqd_core.specs.Store.{item_at, store_len, vacant, HasRoomFor, Updates};
 ghost use Rattle.iddqd.specs.Paired.{ListsOccupied, hash_of_slot, items_in, spare_in};
 
 use iddqd_core::{Equivalent, HashIndex, IdHashItem, ItemStore, Steps, TryReserveError};
@@ -68,6 +68,7 @@ pub(super) fn put_in<T>(
     ensures updates { Updates store.old store.new result (Some item) }
     ensures pairs { HasOneMore index.old index.new (hash, result) }
     ensures spare { index.old.spare ≤ index.new.spare + 1 }
+    ensures len { store_len store.new ≡ store_len store.old + 1 }
     ensures vacant { vacant store.new ≡ vacant store.old - 1 }
     ensures capacity { store.new.capacity ≡ store.old.capacity }
     ensures limit { store.new.limit ≡ store.old.limit }
@@ -92,6 +93,7 @@ pub(super) fn take_out<T>(
     ensures updates { Updates store.old store.new slot None }
     ensures pairs { HasOneMore index.new index.old (hash, slot) }
     ensures spare { index.old.spare + 1 ≤ index.new.spare }
+    ensures len { store_len store.new + 1 ≡ store_len store.old }
     ensures vacant { vacant store.new ≡ vacant store.old + 1 }
     ensures capacity { store.new.capacity ≡ store.old.capacity }
     ensures limit { store.new.limit ≡ store.old.limit }

@@ -1,0 +1,73 @@
+use Rattle.std.proofs.Common.{◌≡◌, ◌∙◌, ◌<◌, ℕ, List, length, sym, ap, subst, arith, cond, eqb}
+use Rattle.iddqd_core.specs.Contents.{IsAbsent}
+use Rattle.iddqd_core.specs.Hashing.{hash_under}
+use Rattle.iddqd_core.specs.HashPairs.{HasOneMore}
+use Rattle.iddqd_core.specs.Refusal.{refusal_kind}
+use Rattle.iddqd_core.specs.declared.errors.TryReserveErrorKind.TheVariants.{CapacityOverflow, AllocError}
+use Rattle.iddqd.specs.HashItems.{Keyed}
+use Rattle.iddqd.specs.HashMap.{InsertsItem, KeepsMap}
+use Rattle.iddqd.specs.Paired.{ListsOccupied, items_in, shown}
+use Rattle.iddqd.proofs.MapLemmas.{inserted_after, map_inserted, map_kept}
+use Rattle.iddqd.proofs.PairedLemmas.{paired_grown}
+use Rattle.iddqd.proofs.SlotItemLemmas.{length-items}
+use Rattle.iddqd.proofs.id_hash_map.IdHashMap.insert_new.Goals as goal
+
+pub invariant_of-self : goal.invariant_of-self
+invariant_of-self g c =
+    let m = c.self.inside in
+    let room = c.reserve_one.new in
+    paired_grown m.store room.store m.index.pairs room.index.pairs c.self.invariant c.reserve_one.ensures.store c.reserve_one.ensures.capacity c.reserve_one.ensures.pairs
+
+pub put_in-requires-clause-paired : goal.put_in-requires-clause-paired
+put_in-requires-clause-paired g c =
+    let m = c.self.inside in
+    let room = c.reserve_one.new in
+    paired_grown m.store room.store m.index.pairs room.index.pairs c.self.invariant c.reserve_one.ensures.store c.reserve_one.ensures.capacity c.reserve_one.ensures.pairs
+
+-- the kind of a refusal is told by the number of items
+kind_by_length : {X Y : Type 0} (limit : ℕ) (xs : List X) (ys : List Y) → length xs ≡ length ys → refusal_kind limit xs ≡ refusal_kind limit ys
+kind_by_length limit xs ys e = ap (λ n. cond (eqb n limit) CapacityOverflow AllocError) e
+
+pub returns-in-Err-clause-kind : goal.returns-in-Err-clause-kind
+returns-in-Err-clause-kind g c =
+    let m = c.self.inside in
+    c.in-Err.ensures.kind
+    ∙ kind_by_length m.store.limit m.index.pairs (items_in m.store) (c.self.invariant.counted ∙ sym (length-items m.store.slots))
+    ∙ ap (λ v. refusal_kind v.limit v.items) c.self.view_is
+
+pub returns-in-Err-clause-kept : goal.returns-in-Err-clause-kept
+returns-in-Err-clause-kept g c =
+    let key = g.T.IdHashItem.key in
+    let eq = g.T.Key.PartialEq.eq in
+    let input = g.T.Key.Hash.hash_input in
+    let hash = hash_under g.S.BuildHasher g.S.Hasher.Hasher in
+    let m = c.self.inside in
+    let room = c.reserve_one.new in
+    let keyed = subst (Keyed key eq input hash) (sym c.self.view_is) c.requires.keyed in
+    subst (λ old. KeepsMap key eq input hash old (shown room.store room.index m.hasher)) c.self.view_is
+    (map_kept key eq input hash m.hasher m.store room.store m.index room.index c.self.invariant (invariant_of-self g c) keyed c.reserve_one.ensures.store c.reserve_one.ensures.capacity c.reserve_one.ensures.pairs c.reserve_one.ensures.spare)
+
+pub returns-clause-inserted : goal.returns-clause-inserted
+returns-clause-inserted g c =
+    let key = g.T.IdHashItem.key in
+    let eq = g.T.Key.PartialEq.eq in
+    let input = g.T.Key.Hash.hash_input in
+    let hash = hash_under g.S.BuildHasher g.S.Hasher.Hasher in
+    let m = c.self.inside in
+    let room = c.reserve_one.new in
+    let put = c.put_in in
+    let x = c.args.item in
+    let keyed = subst (Keyed key eq input hash) (sym c.self.view_is) c.requires.keyed in
+    let grown = paired_grown m.store room.store m.index.pairs room.index.pairs c.self.invariant c.reserve_one.ensures.store c.reserve_one.ensures.capacity c.reserve_one.ensures.pairs in
+    let kept = map_kept key eq input hash m.hasher m.store room.store m.index room.index c.self.invariant grown keyed c.reserve_one.ensures.store c.reserve_one.ensures.capacity c.reserve_one.ensures.pairs c.reserve_one.ensures.spare in
+    let absent = subst (λ v. IsAbsent key (eq (key x)) v.items) (sym c.self.view_is) c.requires.absent in
+    let told = c.requires.hash ∙ ap (λ v. hash v.hasher (input (key x))) (sym c.self.view_is) in
+    let below : length (items_in m.store) < m.store.limit = omega (arith, c.in_default.ensures.below_limit, c.self.invariant.counted, length-items m.store.slots) in
+    let room_left : length (items_in room.store) < room.store.limit = omega (arith, below, ap length kept.keeps.items, kept.keeps.limit) in
+    let inserted = map_inserted key eq input hash m.hasher room.store put.new.store room.index put.new.index grown put.ensures.paired g.met.T.Key.Eq.laws kept.keyed x put.result
+        (subst (IsAbsent key (eq (key x))) (sym kept.keeps.items) absent)
+        room_left
+        (subst (λ h. HasOneMore room.index put.new.index (h, put.result)) told put.ensures.pairs)
+        put.ensures.was_vacant put.ensures.updates put.ensures.spare put.ensures.len put.ensures.vacant put.ensures.capacity put.ensures.limit in
+    subst (λ old. InsertsItem key eq input hash x old (shown put.new.store put.new.index m.hasher)) c.self.view_is
+    (inserted_after key eq input hash x (shown m.store m.index m.hasher) (shown room.store room.index m.hasher) (shown put.new.store put.new.index m.hasher) kept inserted)

@@ -1,0 +1,55 @@
+use Rattle.std.proofs.Common.{◌∙◌, ◌≡◌, Some, sym, ap, subst, refl}
+use Rattle.iddqd_core.specs.Contents.{find_item, replaced}
+use Rattle.iddqd_core.specs.Hashing.{hash_under}
+use Rattle.iddqd.specs.HashItems.{Keyed}
+use Rattle.iddqd.specs.Paired.{hashes_in, items_in, shown}
+use Rattle.iddqd.proofs.FoundLemmas.{found_passes}
+use Rattle.iddqd.proofs.MapLemmas.{exchanged_hashes, exchanged_items, exchanged_keyed, listed_under_query}
+use Rattle.iddqd.proofs.id_hash_map.IdHashMap.insert_overwrite.Given.{Over}
+use Rattle.iddqd.proofs.id_hash_map.IdHashMap.insert_overwrite.Goals as goal
+
+keyed_inside : (g : Over) (c : goal.After-key-2 g) → Keyed g.T.IdHashItem.key g.T.Key.PartialEq.eq g.T.Key.Hash.hash_input (hash_under g.S.BuildHasher g.S.Hasher.Hasher) (shown c.self.inside.store c.self.inside.index c.self.inside.hasher)
+keyed_inside g c = subst (Keyed g.T.IdHashItem.key g.T.Key.PartialEq.eq g.T.Key.Hash.hash_input (hash_under g.S.BuildHasher g.S.Hasher.Hasher)) (sym c.self.view_is) c.requires.keyed
+
+pub find_slot-requires-clause-stored : goal.find_slot-requires-clause-stored
+find_slot-requires-clause-stored g c =
+    let input = g.T.Key.Hash.hash_input in
+    let hash = hash_under g.S.BuildHasher g.S.Hasher.Hasher in
+    let m = c.self.inside in
+    listed_under_query g.T.IdHashItem.key g.T.Key.PartialEq.eq input hash m.hasher m.store m.index (keyed_inside g c) (g.T.Key.PartialEq.eq c.key-2.result.now) c.hash_one-hash.result
+    (λ k stands. ap (hash m.hasher) (sym (g.met.T.Key.Hash.respects_eq c.key-2.result.now k stands) ∙ ap input (c.key-2.ensures ∙ sym c.key.ensures)) ∙ sym c.hash_one-hash.ensures)
+
+pub returns-in-Some-clause-keyed : goal.returns-in-Some-clause-keyed
+returns-in-Some-clause-keyed g c =
+    let key = g.T.IdHashItem.key in
+    let eq = g.T.Key.PartialEq.eq in
+    let input = g.T.Key.Hash.hash_input in
+    let hash = hash_under g.S.BuildHasher g.S.Hasher.Hasher in
+    let m = c.self.inside in
+    let y = c.args.item in
+    let x = c.exchange.result in
+    let keyed = subst (Keyed key eq input hash) (sym c.self.view_is) c.requires.keyed in
+    let found : find_item key (eq (key y)) (items_in m.store) ≡ Some x = ap (λ k. find_item key (eq k) (items_in m.store)) (sym c.key-2.ensures) ∙ sym c.in-Some.ensures.item ∙ c.exchange.ensures.item in
+    let alike = found_passes key (eq (key y)) (items_in m.store) x found in
+    exchanged_keyed key eq input hash m.hasher m.store c.exchange.new.store m.index g.met.T.Key.Eq.laws keyed c.in-Some.slot x y c.exchange.ensures.item alike c.exchange.ensures.updates g.met.T.Key.Hash.respects_eq
+
+pub returns-in-Some-clause-replaced : goal.returns-in-Some-clause-replaced
+returns-in-Some-clause-replaced g c =
+    let key = g.T.IdHashItem.key in
+    let eq = g.T.Key.PartialEq.eq in
+    let input = g.T.Key.Hash.hash_input in
+    let hash = hash_under g.S.BuildHasher g.S.Hasher.Hasher in
+    let m = c.self.inside in
+    let y = c.args.item in
+    let x = c.exchange.result in
+    let keyed = subst (Keyed key eq input hash) (sym c.self.view_is) c.requires.keyed in
+    let found : find_item key (eq (key y)) (items_in m.store) ≡ Some x = ap (λ k. find_item key (eq k) (items_in m.store)) (sym c.key-2.ensures) ∙ sym c.in-Some.ensures.item ∙ c.exchange.ensures.item in
+    let alike = found_passes key (eq (key y)) (items_in m.store) x found in
+    let items : items_in c.exchange.new.store ≡ replaced key (eq (key y)) y c.args.self.now.items = exchanged_items key eq input hash m.hasher m.store c.exchange.new.store m.index g.met.T.Key.Eq.laws keyed c.in-Some.slot x y c.exchange.ensures.item alike c.exchange.ensures.updates ∙ ap (λ v. replaced key (eq (key y)) y v.items) c.self.view_is in
+    let hashes : hashes_in c.exchange.new.store m.index.pairs ≡ c.args.self.now.hashes = exchanged_hashes key eq input hash m.hasher m.store c.exchange.new.store m.index g.met.T.Key.Eq.laws keyed c.in-Some.slot x y c.exchange.ensures.item alike c.exchange.ensures.updates ∙ ap (λ v. v.hashes) c.self.view_is in
+    let hasher = ap (λ v. v.hasher) c.self.view_is in
+    let spare = c.exchange.ensures.spare ∙ ap (λ v. v.spare) c.self.view_is in
+    let vacant = c.exchange.ensures.vacant ∙ ap (λ v. v.vacant) c.self.view_is in
+    let capacity = c.exchange.ensures.capacity ∙ ap (λ v. v.capacity) c.self.view_is in
+    let limit = c.exchange.ensures.limit ∙ ap (λ v. v.limit) c.self.view_is in
+    cc
