@@ -49,6 +49,7 @@ module _ {T : Type 0} where
       where
         some : 0 < of_slot pairs slot
         some = listed_some pairs hash slot listed
+
         by : (b : Bool) → is_some (item_at store slot) ≡ b → is_some (item_at store slot) ≡ true
         by true e = e
         by false e = absurd (omega (arith, some, paired.each_once slot ∙ ap (λ b. cond b 1 0) e))

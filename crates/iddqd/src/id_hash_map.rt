@@ -5,16 +5,13 @@ ghost use Rattle.iddqd_core.specs.Hashing.{hash_under};
 mod imp;
 mod insert;
 mod paired;
-#[cfg(test)]
-mod tests;
 
-use iddqd_core::{HashIndex, IdHashItem, ItemStore};
+pub use iddqd_core::IdHashItem;
+use iddqd_core::{HashIndex, ItemStore};
+use iddqd_ord::MAX_ITEMS;
 use std::alloc::Global;
 use std::hash::{BuildHasher, BuildHasherDefault, FoldHasher, Hasher};
 use std::marker::Model;
-
-/// The most items that a map holds (ours: the crate leaves it open).
-pub const MAX_ITEMS: u32 = u32::MAX;
 
 /// The hasher's builder where none is named: std's, with the fixed seed. Where strangers choose the keys, hand in a
 /// `RandomState` instead.

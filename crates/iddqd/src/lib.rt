@@ -1,10 +1,11 @@
 //! Maps whose keys live in their items: a hash map here, and the ordered one of the crate below.
 #![tactic(auto)]
 
+pub mod errors;
 pub mod id_hash_map;
+#[cfg(test)]
+mod tests;
 
-pub use id_hash_map::{DefaultHashBuilder, IdHashMap, MAX_ITEMS};
-pub use iddqd_core::{
-    Comparable, DuplicateItem, Equivalent, Few, IdHashItem, IdOrdItem, InsertError, Refused, Steps,
-    Text, TryReserveError,
-};
+pub use id_hash_map::{DefaultHashBuilder, IdHashItem, IdHashMap};
+pub use iddqd_core::{Comparable, Equivalent, Steps, Text};
+pub use iddqd_ord::{IdOrdItem, IdOrdMap, MAX_ITEMS, id_ord_map};

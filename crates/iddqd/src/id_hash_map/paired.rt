@@ -53,12 +53,7 @@ pub(super) fn reserve_one<T>(
 
 // Puts the item into a slot, and the slot into the index under the hash. It takes no memory.
 #[inline]
-pub(super) fn put_in<T>(
-    store: &mut ItemStore<T>,
-    index: &mut HashIndex,
-    hash: u64,
-    item: T,
-) -> u32
+pub(super) fn put_in<T>(store: &mut ItemStore<T>, index: &mut HashIndex, hash: u64, item: T) -> u32
     requires paired { ListsOccupied store.old index.old.pairs }
     requires room { HasRoomFor store.old 1 }
     requires listable { 0 < index.old.spare }
@@ -104,7 +99,13 @@ pub(super) fn take_out<T>(
 
 // Puts the item in the stead of the one in the slot, which it answers. The index stays.
 #[inline]
-pub(super) fn exchange<T>(store: &mut ItemStore<T>, index: &HashIndex, hash: u64, slot: u32, item: T) -> T
+pub(super) fn exchange<T>(
+    store: &mut ItemStore<T>,
+    index: &HashIndex,
+    hash: u64,
+    slot: u32,
+    item: T,
+) -> T
     requires paired { ListsOccupied store.old index.now.pairs }
     requires listed { Contains index.now.pairs (hash, slot) }
     ensures paired { ListsOccupied store.new index.now.pairs }

@@ -65,9 +65,9 @@ returns-clause-inserted g c =
     let below : length (items_in m.store) < m.store.limit = omega (arith, c.in_default.ensures.below_limit, c.self.invariant.counted, length-items m.store.slots) in
     let room_left : length (items_in room.store) < room.store.limit = omega (arith, below, ap length kept.keeps.items, kept.keeps.limit) in
     let inserted = map_inserted key eq input hash m.hasher room.store put.new.store room.index put.new.index grown put.ensures.paired g.met.T.Key.Eq.laws kept.keyed x put.result
-        (subst (IsAbsent key (eq (key x))) (sym kept.keeps.items) absent)
-        room_left
-        (subst (λ h. HasOneMore room.index put.new.index (h, put.result)) told put.ensures.pairs)
-        put.ensures.was_vacant put.ensures.updates put.ensures.spare put.ensures.len put.ensures.vacant put.ensures.capacity put.ensures.limit in
+    (subst (IsAbsent key (eq (key x))) (sym kept.keeps.items) absent)
+    room_left
+    (subst (λ h. HasOneMore room.index put.new.index (h, put.result)) told put.ensures.pairs)
+    put.ensures.was_vacant put.ensures.updates put.ensures.spare put.ensures.len put.ensures.vacant put.ensures.capacity put.ensures.limit in
     subst (λ old. InsertsItem key eq input hash x old (shown put.new.store put.new.index m.hasher)) c.self.view_is
     (inserted_after key eq input hash x (shown m.store m.index m.hasher) (shown room.store room.index m.hasher) (shown put.new.store put.new.index m.hasher) kept inserted)
