@@ -1,6 +1,8 @@
 //! The hash index: pairs of a hash and a slot, found by hash.
 mod chains;
 mod search;
+#[cfg(test)]
+mod tests;
 
 ghost use Rattle.std.specs.Prelude.{◌≡◌, ℕ, ◌+◌, ◌-◌, ◌<◌, ◌≤◌, [], length, OnOk, OnErr, IfOk, IfErr, IfSome, IfNone, Contains};
 ghost use Rattle.std.specs.Prelude.{min as least};
