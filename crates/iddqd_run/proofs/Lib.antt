@@ -1,5 +1,6 @@
 pub mod Cuts
 pub mod NameLemmas
+pub mod NameOrderLemmas
 pub mod ReplyLemmas
 pub mod SameItemsLemmas
 pub mod SameRepliesLemmas
