@@ -35,3 +35,8 @@ module _ {T K : Type 0} (key : T → K) (eq : K → K → Bool) (limit : ℕ) wh
   abbrev pub RefusesInsertion : List T → T → InsertError T → Type 0
   RefusesInsertion items x (Duplicate d) = (new_item_of d ≡ x) × (y : T) × IsLent (duplicates_of d) y × (find_item key (eq (key x)) items ≡ Some y)
   RefusesInsertion items x (Refused r) = (r.item ≡ x) × FindsNoRoom items x r.error
+
+-- what holds where the item comes back for want of room
+abbrev pub OnRefused : {T : Type 0} → Type 0 → InsertError T → Type 0
+OnRefused P (Duplicate d) = Unit
+OnRefused P (Refused r) = P
