@@ -1,6 +1,7 @@
 pub mod Answer
 pub mod Asked
 pub mod Folded
+pub mod KeyedMap
 pub mod Lines
 pub mod SameReplies
 pub mod Shown

@@ -5,6 +5,7 @@ mod answering;
 mod arguments;
 mod commands;
 mod entries;
+mod keyed_map;
 pub mod laws;
 mod lines;
 mod running;
@@ -15,6 +16,7 @@ pub use commands::{Command, Reply, RunStop};
 pub use iddqd_ord::{
     DuplicateItem, Few, IdOrdItem, IdOrdMap, InsertError, MAX_ITEMS, Refused, TryReserveError,
 };
+pub use keyed_map::KeyedMap;
 pub use running::run;
 pub use serving::{Fault, fault_text, serve};
 

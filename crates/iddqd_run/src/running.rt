@@ -1,30 +1,33 @@
 //! Lists of commands.
 ghost use Rattle.std.specs.Prelude.{◌≡◌, OnErr, IfOk, IfErr, IfSome};
-ghost use Rattle.iddqd_ord.specs.Contents.{Ascends, ClonesAreEqual};
+ghost use Rattle.iddqd_ord.specs.Contents.{ClonesAreEqual};
 ghost use Rattle.iddqd_ord.specs.Errors.{listed};
 ghost use Rattle.iddqd_ord.specs.Refusal.{IsLent};
-ghost use Rattle.iddqd_run.specs.Step.{MapState, SpareRule, KeepsNone, spareless, AnswersInsertUnique, AnswersInsertOverwrite, AnswersGet, Step, Run};
+ghost use Rattle.iddqd_run.specs.KeyedMap.{StaysKeyed};
+ghost use Rattle.iddqd_run.specs.Step.{AnswersInsertUnique, AnswersInsertOverwrite, AnswersGet, KeepsRoom, Step, Run};
 
 use crate::commands::{Command, Reply, RunStop};
-use iddqd_ord::{Few, IdOrdItem, IdOrdMap, InsertError, TryReserveError};
+use crate::keyed_map::KeyedMap;
+use iddqd_ord::{Few, InsertError, TryReserveError};
 use std::alloc::Global;
 
-/// Runs the commands in order on a map: one reply for each (ours). Room for all replies is taken first; where it is refused,
+/// Runs the commands in order on a map of either kind: one reply for each (ours). Room for all replies is taken first; where it is refused,
 /// none has run, and the commands come back. Shown items are clones, which have to equal what they were made of.
-pub fn run<T: IdOrdItem + Clone>(
+pub fn run<M: KeyedMap>(
     alloc: Global,
-    map: &mut IdOrdMap<T>,
-    commands: Vec<Command<T, T::Key>>,
-) -> Result<Vec<Reply<T>>, RunStop<T, T::Key>>
+    map: &mut M,
+    commands: Vec<Command<M::Item, M::Key>>,
+) -> Result<Vec<Reply<M::Item>>, RunStop<M::Item, M::Key>>
 where
-    T::Key: Drop,
-    requires keyed { Ascends T.key T.Key.cmp map.old.items }
-    requires clones { ClonesAreEqual T.is_clone }
-    ensures run { IfOk result (λ replies. Run T.key T.Key.eq map.old.limit KeepsNone (spareless map.old.items) commands.items replies.items (spareless map.new.items)) }
+    M::Item: Clone,
+    M::Key: Drop,
+    requires keyed { M.keyed map.old }
+    requires clones { ClonesAreEqual M.Item.is_clone }
+    ensures run { IfOk result (λ replies. Run M.key M.Key.eq (M.limit map.old) M.rule (M.state map.old) commands.items replies.items (M.state map.new)) }
     ensures handed_back { IfErr result (λ stop. stop.commands ≡ commands) }
     ensures unchanged { OnErr result (map.new ≡ map.old) }
-    ensures keyed { Ascends T.key T.Key.cmp map.new.items }
-    ensures limit { map.new.limit ≡ map.old.limit }
+    ensures keyed { M.keyed map.new }
+    ensures limit { M.limit map.new ≡ M.limit map.old }
 {
     let Ok(mut replies) = Vec::with_capacity(alloc, commands.len()) else {
         return Err(RunStop { commands });
@@ -36,14 +39,15 @@ where
 }
 
 // The reply to one command.
-fn answer<T: IdOrdItem + Clone>(map: &mut IdOrdMap<T>, command: Command<T, T::Key>) -> Reply<T>
+fn answer<M: KeyedMap>(map: &mut M, command: Command<M::Item, M::Key>) -> Reply<M::Item>
 where
-    T::Key: Drop,
-    requires keyed { Ascends T.key T.Key.cmp map.old.items }
-    requires clones { ClonesAreEqual T.is_clone }
-    ensures step { Step T.key T.Key.eq map.old.limit KeepsNone (spareless map.old.items) command result (spareless map.new.items) }
-    ensures keyed { Ascends T.key T.Key.cmp map.new.items }
-    ensures limit { map.new.limit ≡ map.old.limit }
+    M::Item: Clone,
+    M::Key: Drop,
+    requires keyed { M.keyed map.old }
+    requires clones { ClonesAreEqual M.Item.is_clone }
+    ensures step { Step M.key M.Key.eq (M.limit map.old) M.rule (M.state map.old) command result (M.state map.new) }
+    ensures keyed { M.keyed map.new }
+    ensures limit { M.limit map.new ≡ M.limit map.old }
 {
     match command {
         Command::InsertUnique(item) => insert_unique(map, item),
@@ -62,12 +66,13 @@ where
 }
 
 // `InsertUnique`.
-fn insert_unique<T: IdOrdItem + Clone>(map: &mut IdOrdMap<T>, item: T) -> Reply<T>
-    requires keyed { Ascends T.key T.Key.cmp map.old.items }
-    requires clones { ClonesAreEqual T.is_clone }
-    ensures answers { AnswersInsertUnique T.key T.Key.eq map.old.limit item (spareless map.old.items) result map.new.items }
-    ensures keyed { Ascends T.key T.Key.cmp map.new.items }
-    ensures limit { map.new.limit ≡ map.old.limit }
+fn insert_unique<M: KeyedMap>(map: &mut M, item: M::Item) -> Reply<M::Item>
+where
+    M::Item: Clone,
+    requires keyed { M.keyed map.old }
+    requires clones { ClonesAreEqual M.Item.is_clone }
+    ensures answers { AnswersInsertUnique M.key M.Key.eq (M.limit map.old) item (M.state map.old) result (M.state map.new).items }
+    ensures stays { StaysKeyed M.state M.limit M.rule M.keyed map.old map.new }
 {
     match map.insert_unique(item) {
         Ok(()) => Reply::Inserted,
@@ -84,11 +89,12 @@ fn insert_unique<T: IdOrdItem + Clone>(map: &mut IdOrdMap<T>, item: T) -> Reply<
 }
 
 // `InsertOverwrite`.
-fn insert_overwrite<T: IdOrdItem>(map: &mut IdOrdMap<T>, item: T) -> Reply<T>
-    requires keyed { Ascends T.key T.Key.cmp map.old.items }
-    ensures answers { AnswersInsertOverwrite T.key T.Key.eq map.old.limit item (spareless map.old.items) result map.new.items }
-    ensures keyed { Ascends T.key T.Key.cmp map.new.items }
-    ensures limit { map.new.limit ≡ map.old.limit }
+fn insert_overwrite<M: KeyedMap>(map: &mut M, item: M::Item) -> Reply<M::Item>
+where
+    M::Item: Drop,
+    requires keyed { M.keyed map.old }
+    ensures answers { AnswersInsertOverwrite M.key M.Key.eq (M.limit map.old) item (M.state map.old) result (M.state map.new).items }
+    ensures stays { StaysKeyed M.state M.limit M.rule M.keyed map.old map.new }
 {
     match map.insert_overwrite(item) {
         Ok(Some(old)) => Reply::Replaced(old),
@@ -110,10 +116,13 @@ fn first_clone<T: Clone>(shown: &Few<&T>) -> Option<T>
 }
 
 // `Get`.
-fn get<T: IdOrdItem + Clone>(map: &IdOrdMap<T>, key: &T::Key) -> Reply<T>
-    requires keyed { Ascends T.key T.Key.cmp map.now.items }
-    requires clones { ClonesAreEqual T.is_clone }
-    ensures answers { AnswersGet T.key T.Key.eq map.now.limit key.now (spareless map.now.items) result map.now.items }
+fn get<M: KeyedMap>(map: &M, key: &M::Key) -> Reply<M::Item>
+where
+    M::Item: Clone,
+    requires keyed { M.keyed map.now }
+    requires clones { ClonesAreEqual M.Item.is_clone }
+    ensures answers { AnswersGet M.key M.Key.eq (M.limit map.now) key.now (M.state map.now) result (M.state map.now).items }
+    ensures room { KeepsRoom M.rule (M.limit map.now) (M.state map.now) (M.state map.now) }
 {
     let Some(item) = map.get(key) else {
         return Reply::Absent;

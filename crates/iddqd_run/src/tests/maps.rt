@@ -1,7 +1,9 @@
 //! Rows of insertions, on the map and through `run`.
+ghost use Rattle.std.specs.Prelude.{◌≡◌, IfOk, IfErr, OnErr};
 ghost use Rattle.iddqd_ord.specs.Contents.{Ascends, ClonesAreEqual};
+ghost use Rattle.iddqd_run.specs.Step.{KeepsNone, spareless, Run};
 
-use crate::{Command, IdOrdItem, IdOrdMap, InsertError, Reply, TryReserveError, run};
+use crate::{Command, IdOrdItem, IdOrdMap, InsertError, Reply, RunStop, TryReserveError, run};
 use std::alloc::Global;
 use std::test::Fail;
 
@@ -131,6 +133,25 @@ fn duplicate_chain(rt: HostRuntime) {
     assert_eq!(rt; map.len(), 2);
 }
 
+/// What `run` tells of an ordered map, in the map's own words.
+fn run_ordered<T: IdOrdItem + Clone>(
+    alloc: Global,
+    map: &mut IdOrdMap<T>,
+    commands: Vec<Command<T, T::Key>>,
+) -> Result<Vec<Reply<T>>, RunStop<T, T::Key>>
+where
+    T::Key: Drop,
+    requires keyed { Ascends T.key T.Key.cmp map.old.items }
+    requires clones { ClonesAreEqual T.is_clone }
+    ensures run { IfOk result (λ replies. Run T.key T.Key.eq map.old.limit KeepsNone (spareless map.old.items) commands.items replies.items (spareless map.new.items)) }
+    ensures handed_back { IfErr result (λ stop. stop.commands ≡ commands) }
+    ensures unchanged { OnErr result (map.new ≡ map.old) }
+    ensures keyed { Ascends T.key T.Key.cmp map.new.items }
+    ensures limit { map.new.limit ≡ map.old.limit }
+{
+    run(alloc, map, commands)
+}
+
 /// Whether these are the replies to the commands on a new map.
 fn answers_with<T: IdOrdItem + Clone + PartialEq>(
     alloc: Global,
@@ -142,7 +163,7 @@ where
     requires { ClonesAreEqual T.is_clone }
 {
     let mut map = IdOrdMap::new(alloc);
-    match run(alloc, &mut map, commands) {
+    match run_ordered(alloc, &mut map, commands) {
         Ok(replies) => replies.as_slice() == expected.as_slice(),
         Err(_) => false,
     }

@@ -5,4 +5,5 @@ use Rattle.iddqd_run.proofs.running.insert_unique.Goals as goal
 pub returns-in-Ok-clause-answers : goal.returns-in-Ok-clause-answers
 returns-in-Ok-clause-answers g c =
     let is : IsOk c.insert_unique.result = search rules in
-    (c.in-Ok.ensures.absent, (c.insert_unique.follows.holds tt is).takes.room, search rules)
+    let inserted = (c.insert_unique.follows.holds tt is).inserted in
+    (inserted.0, inserted.1, search rules)

@@ -1,0 +1,128 @@
+//! What generic code asks of a map of either kind.
+ghost use Rattle.std.specs.Prelude.{◌≡◌, ℕ, [], length, Some, IfOk, IfErr, IfNone, OnErr, option_copied};
+ghost use Rattle.std.specs.Borrow.{sem};
+ghost use Rattle.iddqd_ord.specs.Contents.{Ascends, OverwritesItem, find_item, without};
+ghost use Rattle.iddqd_ord.specs.Refusal.{OnRefused, RefusesInsertion};
+ghost use Rattle.iddqd_run.specs.KeyedMap.{StaysKeyed, ends_inserted};
+ghost use Rattle.iddqd_run.specs.Step.{MapState, SpareRule, KeepsNone, KeepsRoom, RefusesItem, spareless};
+
+use iddqd_ord::{IdOrdItem, IdOrdMap, InsertError, Refused};
+
+/// A map whose keys live in its items, for callers that take any (ours). Contracts see its items and its spare, the most
+/// items that it ever holds, and whether it is keyed: each call leaves it keyed, under the same limit and with the room that
+/// its rule promises. A call is answered as its command is (`run`), and costs what the map's own call of that name does.
+pub trait KeyedMap {
+    /// What the map holds.
+    type Item;
+
+    /// What tells an item from others, and where it is looked for.
+    type Key: Eq;
+
+    // The key that an item shows.
+    ghost key: { Self.Item → Self.Key };
+
+    // The items, and the spare: how many items of new keys the map takes without a refusal.
+    ghost state: { Self → MapState Self.Item };
+
+    // The most items that the map ever holds.
+    ghost limit: { Self → ℕ };
+
+    // Whether the map keeps a spare.
+    ghost rule: { SpareRule };
+
+    // The items lie as the map's lookups expect them.
+    ghost keyed: { Self → Type 0 };
+
+    /// Inserts the item where none of an equal key is there. A duplicate needs no memory and lends the item that is
+    /// there; a full map and refused memory hand the item back, which never comes where the spare is above 0. Then the
+    /// items are as they were.
+    fn insert_unique(&mut self, item: Self::Item) -> Result<&mut (), InsertError<'_, Self::Item>>
+        requires keyed { keyed self.old }
+        ensures* after { sem 𝓛 (ends_inserted Self.row state limit rule keyed key Self.Key.eq self.entry result item) }
+        ensures refused { IfErr result (RefusesInsertion key Self.Key.eq (limit self.old) (state self.old).items item) }
+        ensures no_spare { IfErr result (OnRefused ((state self.old).spare ≡ 0)) };
+
+    /// Puts the item in the stead of one of an equal key, which it answers: the whole item, its key's spelling too.
+    /// That takes no memory and is never refused. Where there is none, it inserts the item as `insert_unique` does and
+    /// answers `None`; a full map and refused memory hand the item back, and then the items are as they were.
+    fn insert_overwrite(
+        &mut self,
+        item: Self::Item,
+    ) -> Result<Option<Self::Item>, Refused<Self::Item>>
+        requires keyed { keyed self.old }
+        ensures overwritten { IfOk result (λ found. OverwritesItem key Self.Key.eq item (limit self.old) (state self.old).items found (state self.new).items) }
+        ensures refused { IfErr result (λ refused. RefusesItem key Self.Key.eq (limit self.old) item (state self.old) (Some refused.item) refused.error) }
+        ensures unchanged { OnErr result ((state self.new).items ≡ (state self.old).items) }
+        ensures stays { StaysKeyed state limit rule keyed self.old self.new };
+
+    /// The item of an equal key, or `None`.
+    fn get(&self, query: &Self::Key) -> Option<&Self::Item>
+        requires keyed { keyed self.now }
+        ensures found { option_copied result ≡ find_item key (Self.Key.eq query.now) (state self.now).items }
+        ensures room { KeepsRoom rule (limit self.now) (state self.now) (state self.now) };
+
+    /// Takes out the item of an equal key, and answers it; `None` where there is none, and then nothing has changed. It
+    /// takes no memory.
+    fn remove(&mut self, query: &Self::Key) -> Option<Self::Item>
+        requires keyed { keyed self.old }
+        ensures value { result ≡ find_item key (Self.Key.eq query.now) (state self.old).items }
+        ensures items { (state self.new).items ≡ without key (Self.Key.eq query.now) (state self.old).items }
+        ensures unchanged { IfNone result (self.new ≡ self.old) }
+        ensures stays { StaysKeyed state limit rule keyed self.old self.new };
+
+    /// Drops every item.
+    fn clear(&mut self)
+    where
+        Self::Item: Drop,
+        ensures empty { (state self.new).items ≡ [] }
+        ensures stays { StaysKeyed state limit rule keyed self.old self.new };
+
+    /// How many items there are.
+    fn len(&self) -> usize
+        ensures len { result ≡ length (state self.now).items }
+        ensures room { KeepsRoom rule (limit self.now) (state self.now) (state self.now) };
+}
+
+// Each call is the map's own of that name.
+impl<T: IdOrdItem> KeyedMap for IdOrdMap<T> {
+    type Item = T;
+
+    type Key = T::Key;
+
+    ghost key = { T.key };
+
+    ghost state = { λ m. spareless m.items };
+
+    ghost limit = { λ m. m.limit };
+
+    ghost rule = { KeepsNone };
+
+    ghost keyed = { λ m. Ascends T.key T.Key.cmp m.items };
+
+    fn insert_unique(&mut self, item: T) -> Result<&mut (), InsertError<'_, T>> {
+        self.insert_unique(item)
+    }
+
+    fn insert_overwrite(&mut self, item: T) -> Result<Option<T>, Refused<T>> {
+        self.insert_overwrite(item)
+    }
+
+    fn get(&self, query: &T::Key) -> Option<&T> {
+        self.get(query)
+    }
+
+    fn remove(&mut self, query: &T::Key) -> Option<T> {
+        self.remove(query)
+    }
+
+    fn clear(&mut self)
+    where
+        T: Drop,
+    {
+        self.clear();
+    }
+
+    fn len(&self) -> usize {
+        self.len()
+    }
+}
