@@ -21,7 +21,7 @@ use std::alloc::{AllocError, Global};
 use std::marker::Model;
 
 /// Pairs of a hash and a slot, each slot once (ours: the crate has hashbrown's `HashTable`). It computes no hash, and
-/// looks at items only where it searches. Contracts see the pairs, in no order, and how many more can be added.
+/// only `find` looks at items. Contracts see the pairs, in no order, and how many more can be added.
 ///
 /// A pair takes 16 bytes, and the heads of the buckets, of which at least half are empty, 8 to 16 more where there is
 /// room for two pairs. A removal leaves nothing behind, and a growth reads the hashes that are there.
@@ -77,7 +77,7 @@ impl HashIndex {
     }
 
     /// Makes room for `additional` more pairs. It is refused only for want of memory, and takes none where there is
-    /// room. Where it takes some, the room at least doubles.
+    /// room. Where it takes some, it makes room for at least as many more as there was room for, and reads every pair.
     #[inline]
     pub fn try_reserve(&mut self, additional: usize) -> Result<(), TryReserveError>
         ensures pairs { SamePairs self.old self.new }
@@ -97,7 +97,6 @@ impl HashIndex {
     #[cold]
     #[inline(never)]
     fn grow(&mut self, additional: usize) -> Result<(), AllocError>
-        requires needed { self.old.spare < additional }
         ensures pairs { SamePairs self.old self.new }
         ensures ok { OnOk result (additional ≤ self.new.spare) }
         ensures spare { self.old.spare ≤ self.new.spare }
