@@ -3,3 +3,9 @@ pub mod MapLemmas
 pub mod PairLemmas
 pub mod PairedLemmas
 pub mod SlotItemLemmas
+pub use Rattle.iddqd_core.proofs.DistinctLemmas
+pub use Rattle.iddqd_core.proofs.KeepsLemmas
+pub use Rattle.iddqd_core.proofs.MappedLemmas
+pub use Rattle.iddqd_core.proofs.PlacedLemmas
+pub use Rattle.iddqd_core.proofs.QueryLemmas
+pub use Rattle.iddqd_core.proofs.RefusalLemmas

@@ -10,6 +10,10 @@ pub record Holding (T : Type 0) : Type 0 where
   pub capacity : ℕ
   pub limit : ℕ
 
+-- the most items of a map that was given no smaller limit (ours: the crate leaves it open)
+abbrev pub max_items : ℕ
+max_items = 4294967295
+
 -- it is stored as the tuple of its fields
 abbrev pub holding_code : {T : Type 0} → Coded T → Coded (Holding T)
 holding_code {T} code =

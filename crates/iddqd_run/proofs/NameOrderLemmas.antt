@@ -8,11 +8,11 @@ use Rattle.std.specs.Cmp.{IsEquivalence, IsTotalOrder}
 use Rattle.std.specs.List.{AllByRecursion, insert}
 use Rattle.std.specs.List.Sorted.{IsStrictlySortedBy}
 use Rattle.std.specs.Ordering.{is_eq, ordering_reverse}
-use Rattle.iddqd_ord.specs.Contents.{AddsItem, Ascends, IsAbsent, IsKeyTest, find_item, placed, replaced, without}
-use Rattle.iddqd_ord.proofs.DistinctLemmas.{all_insert, weaken}
-use Rattle.iddqd_ord.proofs.KeepsLemmas.{ascends_filter}
-use Rattle.iddqd_ord.proofs.PlacedLemmas.{insert_placed}
-use Rattle.iddqd_ord.proofs.QueryLemmas.{differ_from_ascends}
+use Rattle.iddqd.specs.Contents.{AddsItem, Ascends, IsAbsent, IsKeyTest, find_item, placed, replaced, without}
+use Rattle.iddqd.proofs.DistinctLemmas.{all_insert, weaken}
+use Rattle.iddqd.proofs.KeepsLemmas.{ascends_filter}
+use Rattle.iddqd.proofs.PlacedLemmas.{insert_placed}
+use Rattle.iddqd.proofs.QueryLemmas.{differ_from_ascends}
 use Rattle.iddqd_run.proofs.SameItemsLemmas.{filter_permutation, find_permutation}
 
 module _ {T K : Type 0} (key : T → K) {eq : K → K → Bool} {cmp : K → K → Ordering} (equivalence : IsEquivalence eq) (total : IsTotalOrder cmp) (ties : (x y : K) → eq x y ≡ is_eq (cmp x y)) where

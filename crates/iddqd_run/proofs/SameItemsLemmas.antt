@@ -8,8 +8,8 @@ use Rattle.std.proofs.lemmas.List.Sorted.{IsPermutation-refl, IsPermutation-tran
 use Rattle.std.proofs.lemmas.Map.Keys.{IsDistinct-IsPermutation}
 use Rattle.std.specs.Cmp.{IsEquivalence}
 use Rattle.std.specs.List.{AllByRecursion, IsDistinct, swap}
-use Rattle.iddqd_ord.specs.Contents.{IsKeyTest, find_item, replaced, NoTwoAkin}
-use Rattle.iddqd_ord.proofs.DistinctLemmas.{weaken}
+use Rattle.iddqd.specs.Contents.{IsKeyTest, find_item, replaced, NoTwoAkin}
+use Rattle.iddqd.proofs.DistinctLemmas.{weaken}
 
 -- R holds of a list and itself, under one more element in front, where the first two change places, and from one list to the next
 module _ {X : Type 0} (R : List X → List X → Type 0) (same : (xs : List X) → R xs xs) (under : (x : X) (xs ys : List X) → R xs ys → R (x ∷ xs) (x ∷ ys)) (flipped : (x y : X) (xs : List X) → R (x ∷ y ∷ xs) (y ∷ x ∷ xs)) (again : (xs ys zs : List X) → R xs ys → R ys zs → R xs zs) where

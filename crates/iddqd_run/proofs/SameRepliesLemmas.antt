@@ -7,14 +7,14 @@ use Rattle.std.proofs.lemmas.List.Elements.{All-head, All-tail}
 use Rattle.std.proofs.lemmas.List.Sorted.{IsPermutation-refl, IsPermutation-sym, IsPermutation-trans, IsPermutation-cons, IsPermutation-insert, IsPermutation-map, length_permutation}
 use Rattle.std.specs.Cmp.{IsEquivalence}
 use Rattle.std.specs.List.{IsDistinct}
-use Rattle.iddqd_ord.specs.Contents.{AddsItem, find_item, without, replaced}
+use Rattle.iddqd.specs.Contents.{AddsItem, find_item, without, replaced}
 use Rattle.iddqd_run.specs.SameReplies.{IsUnrefused, HoldSameItems, RunUnrefused, SameReplies}
 use Rattle.iddqd_run.specs.Step.{MapState, SpareRule, Answers}
 use Rattle.iddqd_run.specs.declared.commands.Command.{Command}
 use Rattle.iddqd_run.specs.declared.commands.Command.TheVariants.{InsertUnique, InsertOverwrite, Get, Remove, Clear, Len}
 use Rattle.iddqd_run.specs.declared.commands.Reply.{Reply}
 use Rattle.iddqd_run.specs.declared.commands.Reply.TheVariants.{Inserted, Duplicate, Replaced, Found, Removed, Absent, Done, Length, Refused}
-use Rattle.iddqd_ord.proofs.KeepsLemmas.{differ_filter, differ_insert}
+use Rattle.iddqd.proofs.KeepsLemmas.{differ_filter, differ_insert}
 use Rattle.iddqd_run.proofs.SameItemsLemmas.{filter_permutation, differ_permutation, find_permutation, differ_replaced}
 
 module _ {T K : Type 0} (key : T → K) (eq : K → K → Bool) where

@@ -7,14 +7,14 @@ use Rattle.std.proofs.lemmas.Bool.{ne_eqb}
 use Rattle.std.proofs.lemmas.List.{length-map}
 use Rattle.std.proofs.Common.{String, Global}
 use Rattle.iddqd_run.specs.Answer.{name_of, name_cmp, entry_named, is_full}
-use Rattle.iddqd_ord.specs.Contents.{AddsItem, find_item, without, replaced, placed}
+use Rattle.iddqd.specs.Contents.{AddsItem, find_item, without, replaced, placed}
 use Rattle.iddqd_run.specs.Lines.{Add, Put, Get, Del}
 use Rattle.iddqd_run.specs.Shown.{entry_of, entries_of, IsNameOrdered, AnswersPlainly}
-use Rattle.iddqd_ord.specs.declared.id_ord_map.TheConstants.{MAX_ITEMS}
+use Rattle.iddqd.specs.Holding.{max_items}
 use Rattle.iddqd_run.specs.declared.entries.Entry.{Entry}
 use Rattle.iddqd_run.specs.declared.entries.LineReply.TheVariants.{Added, Duplicate, New, Replaced, Found, Removed, Absent, RefusedCapacity}
-use Rattle.iddqd_ord.proofs.MappedLemmas.{find_item-map, without-map, replaced-map, placed-map}
-use Rattle.iddqd_ord.proofs.PlacedLemmas.{added_placed}
+use Rattle.iddqd.proofs.MappedLemmas.{find_item-map, without-map, replaced-map, placed-map}
+use Rattle.iddqd.proofs.PlacedLemmas.{added_placed}
 
 key : Entry → String Global
 key entry = entry.name
@@ -51,8 +51,8 @@ module _ (name : List ℕ) (items : List Entry) where
     entries = ap entries_of f ∙ without-map entry_of name_of (bytes_eq name) items;
   }
 
-not_full : (items : List Entry) → length items ≢ MAX_ITEMS → is_full (entries_of items) ≡ false
-not_full items ne = ne_eqb (length (entries_of items)) MAX_ITEMS (λ e. ne (sym (length-map items entry_of) ∙ e))
+not_full : (items : List Entry) → length items ≢ max_items → is_full (entries_of items) ≡ false
+not_full items ne = ne_eqb (length (entries_of items)) max_items (λ e. ne (sym (length-map items entry_of) ∙ e))
 
 -- x is an entry of the name
 module _ (x : Entry) (items : List Entry) (name : List ℕ) (same : string_bytes x.name ≡ name) where
@@ -65,11 +65,11 @@ module _ (x : Entry) (items : List Entry) (name : List ℕ) (same : string_bytes
   one_named : (y : Entry) → found ≡ Some y → entry_named name (entries_of items) ≡ Some (entry_of y)
   one_named y there = subst (λ n. entry_named n (entries_of items) ≡ Some (entry_of y)) same (there_shown (string_bytes x.name) items y there)
 
-  has_room : length items < MAX_ITEMS → is_full (entries_of items) ≡ false
+  has_room : length items < max_items → is_full (entries_of items) ≡ false
   has_room few = not_full items (λ e. omega (arith, few, e))
 
-  has_no_room : length items ≡ MAX_ITEMS → is_full (entries_of items) ≡ true
-  has_no_room full = eq-eqb (length (entries_of items)) MAX_ITEMS (length-map items entry_of ∙ full)
+  has_no_room : length items ≡ max_items → is_full (entries_of items) ≡ true
+  has_no_room full = eq-eqb (length (entries_of items)) max_items (length-map items entry_of ∙ full)
 
   placed_shown : (new : List Entry) → AddsItem x items new → IsNameOrdered new → entries_of new ≡ placed name_of name_cmp (name, x.value) (entries_of items)
   placed_shown new added keyed =
@@ -78,13 +78,13 @@ module _ (x : Entry) (items : List Entry) (name : List ℕ) (same : string_bytes
       ∙ ap (λ n. placed name_of name_cmp (n, x.value) (entries_of items)) same
 
   module _ (new : List Entry) where
-    pub added_plainly : found ≡ None → length items < MAX_ITEMS → AddsItem x items new → IsNameOrdered new → AnswersPlainly (Add name x.value) items Added new
+    pub added_plainly : found ≡ None → length items < max_items → AddsItem x items new → IsNameOrdered new → AnswersPlainly (Add name x.value) items Added new
     added_plainly absent few added keyed = record {
       reply = rw (none_named absent) (rw (has_room few) refl);
       entries = placed_shown new added keyed ∙ sym (rw (none_named absent) (rw (has_room few) refl));
     }
 
-    pub new_plainly : found ≡ None → length items < MAX_ITEMS → AddsItem x items new → IsNameOrdered new → AnswersPlainly (Put name x.value) items New new
+    pub new_plainly : found ≡ None → length items < max_items → AddsItem x items new → IsNameOrdered new → AnswersPlainly (Put name x.value) items New new
     new_plainly absent few added keyed = record {
       reply = rw (none_named absent) (rw (has_room few) refl);
       entries = placed_shown new added keyed ∙ sym (rw (none_named absent) (rw (has_room few) refl));
@@ -102,13 +102,13 @@ module _ (x : Entry) (items : List Entry) (name : List ℕ) (same : string_bytes
       entries = ap entries_of after ∙ replaced-map entry_of name_of (bytes_eq (string_bytes x.name)) x items ∙ ap (λ n. replaced name_of (bytes_eq n) (n, x.value) (entries_of items)) same ∙ sym (rw (one_named y there) refl);
     }
 
-    pub full_add : found ≡ None → length items ≡ MAX_ITEMS → new ≡ items → AnswersPlainly (Add name x.value) items RefusedCapacity new
+    pub full_add : found ≡ None → length items ≡ max_items → new ≡ items → AnswersPlainly (Add name x.value) items RefusedCapacity new
     full_add absent full stays = record {
       reply = rw (none_named absent) (rw (has_no_room full) refl);
       entries = ap entries_of stays ∙ sym (rw (none_named absent) (rw (has_no_room full) refl));
     }
 
-    pub full_put : found ≡ None → length items ≡ MAX_ITEMS → new ≡ items → AnswersPlainly (Put name x.value) items RefusedCapacity new
+    pub full_put : found ≡ None → length items ≡ max_items → new ≡ items → AnswersPlainly (Put name x.value) items RefusedCapacity new
     full_put absent full stays = record {
       reply = rw (none_named absent) (rw (has_no_room full) refl);
       entries = ap entries_of stays ∙ sym (rw (none_named absent) (rw (has_no_room full) refl));

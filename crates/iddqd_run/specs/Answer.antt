@@ -7,9 +7,9 @@ use Rattle.std.specs.declared.cmp.Ordering.{Ordering}
 use Rattle.std.specs.Ordering.{nat_cmp}
 use Rattle.std.specs.Option.{option_map_or}
 use Rattle.std.specs.Cmp.Lexicographic.{slice_cmp}
-use Rattle.iddqd_ord.specs.Contents.{find_item, without, replaced, placed}
+use Rattle.iddqd.specs.Contents.{find_item, without, replaced, placed}
 use Rattle.iddqd_run.specs.Lines.{Request, Add, Put, Get, Del, Len, Bad, lines_of, request_of}
-use Rattle.iddqd_ord.specs.declared.id_ord_map.TheConstants.{MAX_ITEMS}
+use Rattle.iddqd.specs.Holding.{max_items}
 
 -- a name and its value; entries ascend by name, whose bytes are compared
 abbrev pub Entry : Type 0
@@ -25,7 +25,7 @@ abbrev pub entry_named : List ℕ → List Entry → Option Entry
 entry_named name entries = find_item name_of (bytes_eq name) entries
 
 abbrev pub is_full : List Entry → Bool
-is_full entries = length entries == MAX_ITEMS
+is_full entries = length entries == max_items
 
 -- the reply, without the byte that ends it
 abbrev pub line_reply : Request → List Entry → List ℕ

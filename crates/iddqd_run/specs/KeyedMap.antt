@@ -5,7 +5,7 @@
 --     IsKeyed      its items lie as its lookups expect them
 use Rattle.std.specs.Prelude.{◌≡◌, ℕ, Bool, None, Result}
 use Rattle.std.specs.Borrow.{Fml, RattleType, MutBor, LendsSoOk, unit}
-use Rattle.iddqd_ord.specs.Contents.{OverwritesItem}
+use Rattle.iddqd.specs.Contents.{OverwritesItem}
 use Rattle.iddqd_run.specs.Step.{MapState, SpareRule, KeepsRoom}
 
 module _ {M T : Type 0} (state : M → MapState T) (limit_of : M → ℕ) (rule : SpareRule) (IsKeyed : M → Type 0) where

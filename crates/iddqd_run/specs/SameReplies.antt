@@ -3,7 +3,7 @@
 --     A new item may stand anywhere among the others. The limit and the spare tell only whether something is refused.
 use Rattle.std.specs.Prelude.{◌≡◌, ℕ, Bool, List, IsSome, ⊤, All, IsPermutation}
 use Rattle.std.specs.Cmp.{IsEquivalence}
-use Rattle.iddqd_ord.specs.Contents.{NoTwoAkin}
+use Rattle.iddqd.specs.Contents.{NoTwoAkin}
 use Rattle.iddqd_run.specs.Step.{MapState, SpareRule, Run}
 use Rattle.iddqd_run.specs.declared.commands.Command.{Command}
 use Rattle.iddqd_run.specs.declared.commands.Reply.{Reply}

@@ -1,7 +1,7 @@
 -- What the program's own types for an entry and a reply stand for.
 use Rattle.std.specs.Prelude.{◌≡◌, ℕ, List, map, ◌++◌, decimal, codes, string_bytes}
 use Rattle.iddqd_run.specs.Answer as answer
-use Rattle.iddqd_ord.specs.Contents.{Ascends}
+use Rattle.iddqd.specs.Contents.{Ascends}
 use Rattle.iddqd_run.specs.Lines.{Request}
 use Rattle.iddqd_run.specs.declared.entries.Entry.{Entry}
 use Rattle.iddqd_run.specs.declared.entries.LineReply.{LineReply}

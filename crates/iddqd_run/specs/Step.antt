@@ -3,8 +3,8 @@
 --     SpareRule      whether a map keeps a spare
 --     Step, Run      one command and its reply; a list of commands and their replies
 use Rattle.std.specs.Prelude.{◌≡◌, ℕ, ◌+◌, ◌≤◌, Bool, List, [], ◌∷◌, length, Option, Some, None, IfSome}
-use Rattle.iddqd_ord.specs.Contents.{find_item, IsAbsent, without, OverwritesItem}
-use Rattle.iddqd_ord.specs.Refusal.{FindsNoRoom, RefusalKind, memory_refused}
+use Rattle.iddqd.specs.Contents.{find_item, IsAbsent, without, OverwritesItem}
+use Rattle.iddqd.specs.Refusal.{FindsNoRoom, RefusalKind, memory_refused}
 use Rattle.iddqd_run.specs.declared.commands.Command.{Command}
 use Rattle.iddqd_run.specs.declared.commands.Command.TheVariants.{InsertUnique, InsertOverwrite, Get, Remove, Clear, Len}
 use Rattle.iddqd_run.specs.declared.commands.Reply.{Reply}

@@ -2,14 +2,15 @@
 ghost use Rattle.std.specs.Prelude.{◌≡◌, IfOk, string_bytes};
 ghost use Rattle.iddqd_run.specs.Answer.{AnswersWithRefusals};
 ghost use Rattle.iddqd_run.specs.Asked.{asked};
-ghost use Rattle.iddqd_ord.specs.Errors.{listed};
+ghost use Rattle.iddqd.specs.Errors.{listed};
 ghost use Rattle.iddqd_run.specs.Lines.{Add, Put, Get, Del};
-ghost use Rattle.iddqd_ord.specs.Refusal.{IsLent};
+ghost use Rattle.iddqd.specs.Refusal.{IsLent};
 ghost use Rattle.iddqd_run.specs.Shown.{AnswersRequest, IsNameOrdered};
 
 use crate::entries::{Entry, LineReply};
 use crate::lines::{Line, first_line, parse};
-use iddqd_ord::{Few, IdOrdMap, InsertError, MAX_ITEMS, Text};
+use iddqd::errors::{Few, InsertError};
+use iddqd::{IdOrdMap, MAX_ITEMS, Text};
 use std::alloc::{AllocError, Global};
 use std::fmt::Write;
 

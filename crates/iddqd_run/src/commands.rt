@@ -1,5 +1,5 @@
 //! What a map is told, and what it answers.
-use iddqd_ord::TryReserveError;
+use iddqd::errors::TryReserveError;
 
 /// One call on a map of items `T` with keys `K` (ours).
 #[derive(Debug, PartialEq, Eq, Drop)]

@@ -1,7 +1,7 @@
 //! What the lines of a text put into a map, and what they are answered.
 ghost use Rattle.std.specs.Prelude.{Some};
 
-use iddqd_ord::IdOrdItem;
+use iddqd::IdOrdItem;
 use std::fmt::{self, Display, Formatter, Write};
 
 /// A name and its value.

@@ -1,12 +1,13 @@
 //! What generic code asks of a map of either kind.
 ghost use Rattle.std.specs.Prelude.{◌≡◌, ℕ, [], length, Some, IfOk, IfErr, IfNone, OnErr, option_copied};
 ghost use Rattle.std.specs.Borrow.{sem};
-ghost use Rattle.iddqd_ord.specs.Contents.{Ascends, OverwritesItem, find_item, without};
-ghost use Rattle.iddqd_ord.specs.Refusal.{OnRefused, RefusesInsertion};
+ghost use Rattle.iddqd.specs.Contents.{Ascends, OverwritesItem, find_item, without};
+ghost use Rattle.iddqd.specs.Refusal.{OnRefused, RefusesInsertion};
 ghost use Rattle.iddqd_run.specs.KeyedMap.{StaysKeyed, ends_inserted};
 ghost use Rattle.iddqd_run.specs.Step.{MapState, SpareRule, KeepsNone, KeepsRoom, RefusesItem, spareless};
 
-use iddqd_ord::{IdOrdItem, IdOrdMap, InsertError, Refused};
+use iddqd::errors::{InsertError, Refused};
+use iddqd::{IdOrdItem, IdOrdMap};
 
 /// A map whose keys live in its items, for callers that take any (ours). Contracts see its items and its spare, the most
 /// items that it ever holds, and whether it is keyed: each call leaves it keyed, under the same limit and with the room that

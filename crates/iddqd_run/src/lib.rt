@@ -13,9 +13,8 @@ mod serving;
 
 pub use arguments::{Kind, kind_of};
 pub use commands::{Command, Reply, RunStop};
-pub use iddqd_ord::{
-    DuplicateItem, Few, IdOrdItem, IdOrdMap, InsertError, MAX_ITEMS, Refused, TryReserveError,
-};
+pub use iddqd::errors::{DuplicateItem, Few, InsertError, Refused, TryReserveError};
+pub use iddqd::{IdHashItem, IdHashMap, IdOrdItem, IdOrdMap, MAX_ITEMS};
 pub use keyed_map::KeyedMap;
 pub use running::run;
 pub use serving::{Fault, fault_text, serve};

@@ -1,14 +1,14 @@
 //! Lists of commands.
 ghost use Rattle.std.specs.Prelude.{◌≡◌, OnErr, IfOk, IfErr, IfSome};
-ghost use Rattle.iddqd_ord.specs.Contents.{ClonesAreEqual};
-ghost use Rattle.iddqd_ord.specs.Errors.{listed};
-ghost use Rattle.iddqd_ord.specs.Refusal.{IsLent};
+ghost use Rattle.iddqd.specs.Contents.{ClonesAreEqual};
+ghost use Rattle.iddqd.specs.Errors.{listed};
+ghost use Rattle.iddqd.specs.Refusal.{IsLent};
 ghost use Rattle.iddqd_run.specs.KeyedMap.{StaysKeyed};
 ghost use Rattle.iddqd_run.specs.Step.{AnswersInsertUnique, AnswersInsertOverwrite, AnswersGet, KeepsRoom, Step, Run};
 
 use crate::commands::{Command, Reply, RunStop};
 use crate::keyed_map::KeyedMap;
-use iddqd_ord::{Few, InsertError, TryReserveError};
+use iddqd::errors::{Few, InsertError, TryReserveError};
 use std::alloc::Global;
 
 /// Runs the commands in order on a map of either kind: one reply for each (ours). Room for all replies is taken first; where it is refused,

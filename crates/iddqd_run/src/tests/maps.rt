@@ -1,6 +1,6 @@
 //! Rows of insertions, on the map and through `run`.
 ghost use Rattle.std.specs.Prelude.{◌≡◌, IfOk, IfErr, OnErr};
-ghost use Rattle.iddqd_ord.specs.Contents.{Ascends, ClonesAreEqual};
+ghost use Rattle.iddqd.specs.Contents.{Ascends, ClonesAreEqual};
 ghost use Rattle.iddqd_run.specs.Step.{KeepsNone, spareless, Run};
 
 use crate::{Command, IdOrdItem, IdOrdMap, InsertError, Reply, RunStop, TryReserveError, run};

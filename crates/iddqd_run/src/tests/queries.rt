@@ -1,6 +1,6 @@
 //! Rows of lookups by texts, by keys of two fields, and among items that are boxed or lent.
 use crate::{IdOrdItem, IdOrdMap};
-use iddqd_ord::Text;
+use iddqd::Text;
 use std::alloc::{AllocError, Global};
 use std::rc::Rc;
 use std::test::Fail;

@@ -1,8 +1,8 @@
 use Rattle.std.proofs.Common.{◌∙◌, sym, refl, subst, rules, arith}
 use Rattle.std.specs.Result.{IsOk}
-use Rattle.iddqd_ord.specs.Refusal.{IsLent}
+use Rattle.iddqd.specs.Refusal.{IsLent}
 use Rattle.iddqd_run.specs.declared.entries.Entry.{Entry}
-use Rattle.iddqd_ord.proofs.RefusalLemmas.{full_from_kind}
+use Rattle.iddqd.proofs.RefusalLemmas.{full_from_kind}
 use Rattle.iddqd_run.proofs.ShownLemmas.{added_plainly, duplicate_plainly, full_add}
 use Rattle.iddqd_run.proofs.answering.add.Goals as goal
 

@@ -2,7 +2,7 @@ use Rattle.std.proofs.Common.{◌≡◌, ℕ, ◌+◌, ◌≤◌, List, [], ◌+
 use Rattle.iddqd_run.specs.Answer.{RepliesWithRefusals}
 use Rattle.iddqd_run.specs.Lines.{lines_of}
 use Rattle.iddqd_run.specs.Shown.{entries_of, IsNameOrdered}
-use Rattle.iddqd_ord.specs.declared.id_ord_map.TheConstants.{MAX_ITEMS}
+use Rattle.iddqd.specs.Holding.{max_items}
 use Rattle.iddqd_run.proofs.answering.answer.Given as goal
 
 -- whatever the replies to the lines that are left, they complete those so far
@@ -10,7 +10,7 @@ abbrev pub invariant-loop-rest : goal.invariant-loop-rest
 invariant-loop-rest l = record {
   replied : (more : ℕ) (text : List ℕ) → RepliesWithRefusals (lines_of l.rest) (entries_of l.map.items) more text → RepliesWithRefusals (lines_of l.input) [] (l.refusals + more) (string_bytes l.text ++ text);
   keyed : IsNameOrdered l.map.items;
-  limit : l.map.limit ≡ MAX_ITEMS;
+  limit : l.map.limit ≡ max_items;
   counted : l.refusals + length l.rest ≤ length l.input;
 }
 

@@ -1,5 +1,5 @@
 use Rattle.std.proofs.Common.{◌∙◌, sym, refl, ap, arith}
-use Rattle.iddqd_ord.proofs.RefusalLemmas.{full_from_kind}
+use Rattle.iddqd.proofs.RefusalLemmas.{full_from_kind}
 use Rattle.iddqd_run.specs.declared.entries.Entry.{Entry}
 use Rattle.iddqd_run.proofs.ShownLemmas.{new_plainly, replaced_plainly, full_put}
 use Rattle.iddqd_run.proofs.answering.put.Goals as goal
