@@ -1,28 +1,43 @@
 -- One line more is answered.
 use Rattle.std.proofs.Common.{◌≡◌, ◌≤◌, ℕ, ◌+◌, List, [], ◌∷◌, ◌++◌, sym, refl, ap, ◌∙◌, subst, arith, zero-add, inl, inr, ⊎_elim}
+use Rattle.iddqd_run.specs.Answer as answer
 use Rattle.iddqd_run.specs.Answer.{RepliesWithRefusals, replies, line_reply, entries_after}
 use Rattle.iddqd_run.specs.Lines.{request_of}
-use Rattle.iddqd_run.specs.Shown.{entries_of, shown, refusals_of, AnswersPlainly, AnswersRequest}
+use Rattle.iddqd_run.specs.Shown.{shown, refusals_of, AnswersPlainly, AnswersRequest, ShowsEntries}
 use Rattle.iddqd_run.specs.declared.entries.Entry.{Entry}
 use Rattle.iddqd_run.specs.declared.entries.LineReply.{LineReply}
 use Rattle.iddqd_run.specs.declared.entries.LineReply.TheVariants.{Added, Duplicate, New, Replaced, Found, Removed, Absent, Length, Bad, RefusedCapacity, RefusedMemory}
 
-module _ (line : List ℕ) (lines : List (List ℕ)) (old new : List Entry) (more : ℕ) (rest : List ℕ) (later : RepliesWithRefusals lines (entries_of new) more rest) where
-  plain_step : (r : LineReply) → AnswersPlainly (request_of line) old r new → RepliesWithRefusals (line ∷ lines) (entries_of old) (0 + more) (shown r ++ 10 ∷ rest)
-  plain_step r a = inl (rest, ap (λ bytes. bytes ++ 10 ∷ rest) a.reply, subst (λ n. RepliesWithRefusals lines (entries_after (request_of line) (entries_of old)) n rest) (sym (zero-add more)) (subst (λ es. RepliesWithRefusals lines es more rest) a.entries later))
+module _ (line : List ℕ) (lines : List (List ℕ)) (old new : List Entry) (entries : List answer.Entry) (shows : ShowsEntries old entries) where
+  -- the entries then, and what the later lines make of the reply
+  pub record IsStep (r : LineReply) : Type 0 where
+    pub after : List answer.Entry
+    pub is : ShowsEntries new after
+    pub step : (more : ℕ) (rest : List ℕ) → RepliesWithRefusals lines after more rest → RepliesWithRefusals (line ∷ lines) entries (refusals_of r + more) (shown r ++ 10 ∷ rest)
 
-  pub line_step : (r : LineReply) → AnswersRequest (request_of line) old r new → RepliesWithRefusals (line ∷ lines) (entries_of old) (refusals_of r + more) (shown r ++ 10 ∷ rest)
-  line_step Added a = plain_step Added a
-  line_step (Duplicate name value) a = plain_step (Duplicate name value) a
-  line_step New a = plain_step New a
-  line_step (Replaced value) a = plain_step (Replaced value) a
-  line_step (Found value) a = plain_step (Found value) a
-  line_step (Removed value) a = plain_step (Removed value) a
-  line_step Absent a = plain_step Absent a
-  line_step (Length count) a = plain_step (Length count) a
-  line_step Bad a = plain_step Bad a
-  line_step RefusedCapacity a = plain_step RefusedCapacity a
-  line_step RefusedMemory a = inr (a.0, more, rest, omega arith, refl, subst (λ es. RepliesWithRefusals lines es more rest) a.1 later)
+  plain_step : (r : LineReply) → refusals_of r ≡ 0 → AnswersPlainly (request_of line) entries r new → IsStep r
+  plain_step r none a = record {
+    after = entries_after (request_of line) entries;
+    is = a.after;
+    step = λ more rest later. inl (rest, ap (λ bytes. bytes ++ 10 ∷ rest) a.reply, subst (λ n. RepliesWithRefusals lines (entries_after (request_of line) entries) n rest) (omega (arith, none)) later);
+  }
+
+  pub line_step : (r : LineReply) → AnswersRequest (request_of line) old r new → IsStep r
+  line_step Added a = plain_step Added refl (a entries shows)
+  line_step (Duplicate name value) a = plain_step (Duplicate name value) refl (a entries shows)
+  line_step New a = plain_step New refl (a entries shows)
+  line_step (Replaced value) a = plain_step (Replaced value) refl (a entries shows)
+  line_step (Found value) a = plain_step (Found value) refl (a entries shows)
+  line_step (Removed value) a = plain_step (Removed value) refl (a entries shows)
+  line_step Absent a = plain_step Absent refl (a entries shows)
+  line_step (Length count) a = plain_step (Length count) refl (a entries shows)
+  line_step Bad a = plain_step Bad refl (a entries shows)
+  line_step RefusedCapacity a = plain_step RefusedCapacity refl (a entries shows)
+  line_step RefusedMemory a = record {
+    after = entries;
+    is = subst (λ items. ShowsEntries items entries) (sym a.1) shows;
+    step = λ more rest later. inr (a.0, more, rest, omega arith, refl, later);
+  }
 
 -- without a refusal the replies are the plain ones
 pub plain_replies : (lines : List (List ℕ)) (entries : _) (text : List ℕ) → RepliesWithRefusals lines entries 0 text → text ≡ replies lines entries

@@ -1,5 +1,5 @@
 -- What the program's own types for an entry and a reply stand for.
-use Rattle.std.specs.Prelude.{◌≡◌, ℕ, List, map, ◌++◌, decimal, codes, string_bytes}
+use Rattle.std.specs.Prelude.{◌≡◌, ℕ, List, Option, Some, None, map, ◌++◌, IsPermutation, decimal, codes, string_bytes}
 use Rattle.iddqd_run.specs.Answer as answer
 use Rattle.iddqd.specs.Contents.{Ascends}
 use Rattle.iddqd_run.specs.Lines.{Request}
@@ -12,10 +12,6 @@ entry_of entry = (string_bytes entry.name, entry.value)
 
 abbrev pub entries_of : List Entry → List answer.Entry
 entries_of items = map entry_of items
-
--- the items ascend by name
-abbrev pub IsNameOrdered : List Entry → Type 0
-IsNameOrdered items = Ascends (λ entry. entry.name) (λ a b. answer.name_cmp (string_bytes a) (string_bytes b)) items
 
 -- the text of a reply
 abbrev pub shown : LineReply → List ℕ
@@ -31,17 +27,31 @@ shown Bad = codes "bad"
 shown RefusedCapacity = codes "refused capacity"
 shown RefusedMemory = codes "refused memory"
 
+-- the replies to `get` and `del`
+abbrev pub found_reply : Option Entry → LineReply
+found_reply (Some entry) = Found entry.value
+found_reply None = Absent
+
+abbrev pub removed_reply : Option Entry → LineReply
+removed_reply (Some entry) = Removed entry.value
+removed_reply None = Absent
+
 -- how many refusals for want of memory a reply is
 abbrev pub refusals_of : LineReply → ℕ
 refusals_of RefusedMemory = 1
 refusals_of reply = 0
 
+-- the entries are those of the items, which may lie in whatever order
+pub record ShowsEntries (items : List Entry) (entries : List answer.Entry) : Type 0 where
+  pub same : IsPermutation (entries_of items) entries
+  pub ascending : Ascends answer.name_of answer.name_cmp entries
+
 -- the reply and the entries then, where memory was there
-pub record AnswersPlainly (request : Request) (old : List Entry) (answered : LineReply) (new : List Entry) : Type 0 where
-  pub reply : shown answered ≡ answer.line_reply request (entries_of old)
-  pub entries : entries_of new ≡ answer.entries_after request (entries_of old)
+pub record AnswersPlainly (request : Request) (entries : List answer.Entry) (answered : LineReply) (new : List Entry) : Type 0 where
+  pub reply : shown answered ≡ answer.line_reply request entries
+  pub after : ShowsEntries new (answer.entries_after request entries)
 
 -- only a line that makes an item is refused for want of memory, and then nothing has changed
 abbrev pub AnswersRequest : Request → List Entry → LineReply → List Entry → Type 0
-AnswersRequest request old RefusedMemory new = answer.TakesMemory request × (entries_of new ≡ entries_of old)
-AnswersRequest request old reply new = AnswersPlainly request old reply new
+AnswersRequest request old RefusedMemory new = answer.TakesMemory request × (new ≡ old)
+AnswersRequest request old reply new = (entries : List answer.Entry) → ShowsEntries old entries → AnswersPlainly request entries reply new

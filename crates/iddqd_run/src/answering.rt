@@ -1,24 +1,25 @@
-//! The answer to a text, line by line, over an ordered map.
-ghost use Rattle.std.specs.Prelude.{◌≡◌, IfOk, string_bytes};
+//! The answer to a text, line by line, over a map of either kind.
+ghost use Rattle.std.specs.Prelude.{◌≡◌, [], IfOk, string_bytes};
 ghost use Rattle.iddqd_run.specs.Answer.{AnswersWithRefusals};
 ghost use Rattle.iddqd_run.specs.Asked.{asked};
-ghost use Rattle.iddqd.specs.Errors.{listed};
-ghost use Rattle.iddqd_run.specs.Lines.{Add, Put, Get, Del};
-ghost use Rattle.iddqd.specs.Refusal.{IsLent};
-ghost use Rattle.iddqd_run.specs.Shown.{AnswersRequest, IsNameOrdered};
+ghost use Rattle.iddqd_run.specs.Shown.{AnswersRequest};
 
-use crate::entries::{Entry, LineReply};
+use crate::entries::LineReply;
 use crate::lines::{Line, first_line, parse};
-use iddqd::errors::{Few, InsertError};
-use iddqd::{IdOrdMap, MAX_ITEMS, Text};
+use crate::table::Table;
 use std::alloc::{AllocError, Global};
 use std::fmt::Write;
 
-/// The answer to a text, and how many of its lines were refused for want of memory.
-pub(crate) fn answer(alloc: Global, input: &[u8]) -> Result<(String, u64), AllocError>
+/// The answer to a text from a map without entries, and how many of its lines were refused for want of memory.
+pub(crate) fn answer<M: Table + Drop>(
+    alloc: Global,
+    mut map: M,
+    input: &[u8],
+) -> Result<(String, u64), AllocError>
+    requires sound { M.sound map }
+    requires empty { M.items map ≡ [] }
     ensures { IfOk result (λ answered. AnswersWithRefusals input.now answered.1 (string_bytes answered.0)) }
 {
-    let mut map = IdOrdMap::new(alloc);
     let mut text = String::new(alloc);
     let mut refusals = 0;
     let mut rest = input;
@@ -33,103 +34,17 @@ pub(crate) fn answer(alloc: Global, input: &[u8]) -> Result<(String, u64), Alloc
 }
 
 // The reply to one line. Only the making of an entry takes memory.
-fn reply<'a>(alloc: Global, map: &mut IdOrdMap<Entry>, line: Line<'a>) -> LineReply<'a>
-    requires keyed { IsNameOrdered map.old.items }
-    requires limit { map.old.limit ≡ MAX_ITEMS }
-    ensures answered { AnswersRequest (asked line.entry) map.old.items result map.new.items }
-    ensures keyed { IsNameOrdered map.new.items }
-    ensures limit { map.new.limit ≡ MAX_ITEMS }
+fn reply<'a, M: Table>(alloc: Global, map: &mut M, line: Line<'a>) -> LineReply<'a>
+    requires { M.sound map.old }
+    ensures answered { AnswersRequest (asked line.entry) (M.items map.old) result (M.items map.new) }
+    ensures sound { M.sound map.new }
 {
     match line {
-        Line::Add { name, value } => add(alloc, map, name, value),
-        Line::Put { name, value } => put(alloc, map, name, value),
-        Line::Get { name } => get(map, name),
-        Line::Del { name } => delete(map, name),
+        Line::Add { name, value } => map.add(alloc, name, value),
+        Line::Put { name, value } => map.put(alloc, name, value),
+        Line::Get { name } => map.get(name),
+        Line::Del { name } => map.delete(name),
         Line::Len => LineReply::Length(map.len()),
         Line::Bad => LineReply::Bad,
-    }
-}
-
-// Makes the entry, and then looks for its name.
-fn add<'a>(alloc: Global, map: &mut IdOrdMap<Entry>, name: &'a str, value: u64) -> LineReply<'a>
-    requires keyed { IsNameOrdered map.old.items }
-    requires limit { map.old.limit ≡ MAX_ITEMS }
-    ensures answered { AnswersRequest (Add name.now value) map.old.items result map.new.items }
-    ensures keyed { IsNameOrdered map.new.items }
-    ensures limit { map.new.limit ≡ MAX_ITEMS }
-{
-    let Ok(copy) = String::from_str(alloc, name) else {
-        return LineReply::RefusedMemory;
-    };
-    match map.insert_unique(Entry { name: copy, value }) {
-        Ok(()) => LineReply::Added,
-        Err(InsertError::Duplicate(duplicate)) => LineReply::Duplicate {
-            name,
-            value: value_of(duplicate.duplicates()),
-        },
-        Err(InsertError::Refused(refused)) => {
-            if refused.error.is_capacity_overflow() {
-                LineReply::RefusedCapacity
-            } else {
-                LineReply::RefusedMemory
-            }
-        }
-    }
-}
-
-// Makes the entry, and then puts it in the place of the one of its name, if there is one.
-fn put<'a>(alloc: Global, map: &mut IdOrdMap<Entry>, name: &'a str, value: u64) -> LineReply<'a>
-    requires keyed { IsNameOrdered map.old.items }
-    requires limit { map.old.limit ≡ MAX_ITEMS }
-    ensures answered { AnswersRequest (Put name.now value) map.old.items result map.new.items }
-    ensures keyed { IsNameOrdered map.new.items }
-    ensures limit { map.new.limit ≡ MAX_ITEMS }
-{
-    let Ok(copy) = String::from_str(alloc, name) else {
-        return LineReply::RefusedMemory;
-    };
-    match map.insert_overwrite(Entry { name: copy, value }) {
-        Ok(Some(old)) => LineReply::Replaced(old.value),
-        Ok(None) => LineReply::New,
-        Err(refused) => {
-            if refused.error.is_capacity_overflow() {
-                LineReply::RefusedCapacity
-            } else {
-                LineReply::RefusedMemory
-            }
-        }
-    }
-}
-
-// Looks the name up.
-fn get<'a>(map: &IdOrdMap<Entry>, name: &'a str) -> LineReply<'a>
-    requires keyed { IsNameOrdered map.now.items }
-    ensures { AnswersRequest (Get name.now) map.now.items result map.now.items }
-{
-    match map.get(&Text(name)) {
-        Some(entry) => LineReply::Found(entry.value),
-        None => LineReply::Absent,
-    }
-}
-
-// Takes out the entry of the name.
-fn delete<'a>(map: &mut IdOrdMap<Entry>, name: &'a str) -> LineReply<'a>
-    requires keyed { IsNameOrdered map.old.items }
-    ensures answered { AnswersRequest (Del name.now) map.old.items result map.new.items }
-    ensures keyed { IsNameOrdered map.new.items }
-    ensures limit { map.new.limit ≡ map.old.limit }
-{
-    match map.remove(&Text(name)) {
-        Some(entry) => LineReply::Removed(entry.value),
-        None => LineReply::Absent,
-    }
-}
-
-// The value of the one entry that is lent.
-fn value_of(shown: &Few<&Entry>) -> u64
-    ensures { (entry : _) → IsLent (listed shown.now) entry → result ≡ entry.value }
-{
-    match shown {
-        Few::One(entry) | Few::Two(entry, _) | Few::Three(entry, _, _) => entry.value,
     }
 }

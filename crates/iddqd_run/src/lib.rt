@@ -10,6 +10,7 @@ pub mod laws;
 mod lines;
 mod running;
 mod serving;
+mod table;
 
 pub use arguments::{Kind, kind_of};
 pub use commands::{Command, Reply, RunStop};
