@@ -2,8 +2,9 @@
 --     search_item      what a search of the index says of the items
 --     keyed_under      in a keyed map each item's slot is listed with the hash of the item's key
 --     listed_under_query      ... and with that of a query that stands for it
---     emptied_keyed, emptied_spare      ... where no item is left
 --     same_spare, unchanged      ... where nothing has changed
+--     emptied_keyed, emptied_spare      ... where no item is left
+--     keeps_spare      the room of a map whose numbers say so
 --     map_kept, map_inserted      what an insertion leaves, refused or not
 --     map_taken, map_exchanged      what a removal and a replacement leave
 use Rattle.std.proofs.Common.{◌≡◌, ◌≢◌, ℕ, zero, suc, ◌+◌, ◌-◌, ◌<◌, ◌≤◌, min, Bool, true, false, List, [], ◌∷◌, length, map, get_or, Option, Some, None, IsSome, IfSome, IfNone, IsSomeAnd, is_some, refl, sym, ap, ◌∙◌, arith, subst, count_by, ⊎_elim}
@@ -43,6 +44,13 @@ module _ {T K : Type 0} (key : T → K) {eq : K → K → Bool} (equivalence : I
 keeps_least : (a b c n a' b' c' n' : ℕ) → n ≤ b → n ≤ c → n' ≤ b' → n' ≤ c' → a + n ≤ a' + n' → b ≤ b' → c' ≡ c → (min a (min (b - n) (c - n)) + n ≤ min a' (min (b' - n') (c' - n')) + n') × (min a' (min (b' - n') (c' - n')) + n' ≤ c')
 keeps_least a b c n a' b' c' n' h i j k l m e = (omega arith, omega arith)
 
+module _ {S T : Type 0} (hasher : S) where
+  -- where nothing changes the spare is kept
+  pub same_spare : (store : Store T) (index : HashPairs) → ListsOccupied store index.pairs → KeepsSpare (shown store index hasher) (shown store index hasher)
+  same_spare store index paired =
+      let room = keeps_least index.spare store.capacity store.limit (store_len store) index.spare store.capacity store.limit (store_len store) paired.in_memory paired.in_limit paired.in_memory paired.in_limit (omega arith) (omega arith) refl in
+      record { never_less = omega arith; in_limit = omega (arith, room.1, length-items store.slots) }
+
 module _ {S T K : Type 0} (key : T → K) (eq : K → K → Bool) (input : K → HashWrites) (hash : S → HashWrites → ℕ) (hasher : S) where
   abbrev tell : T → ℕ
   tell x = hash hasher (input (key x))
@@ -62,23 +70,17 @@ module _ {S T K : Type 0} (key : T → K) (eq : K → K → Bool) (input : K →
   emptied_keyed store index none =
       make_keyed store index (subst (λ slots. NoTwoAkin key eq (items_in (record store { slots = slots }))) (sym none) tt) (λ slot x there. (let empty = ap (λ slots. get_or slots slot None) none in cc))
 
-  -- where nothing changes the spare is kept
-  pub same_spare : (store : Store T) (index : HashPairs) → ListsOccupied store index.pairs → KeepsSpare (shown store index hasher) (shown store index hasher)
-  same_spare store index paired =
-      let room = keeps_least index.spare store.capacity store.limit (store_len store) index.spare store.capacity store.limit (store_len store) paired.in_memory paired.in_limit paired.in_memory paired.in_limit (omega arith) (omega arith) refl in
-      record { never_less = omega arith; in_limit = omega (arith, room.1, length-items store.slots) }
-
   pub unchanged : (store : Store T) (index : HashPairs) → ListsOccupied store index.pairs → Keyed key eq input hash (shown store index hasher) → KeepsMap key eq input hash (shown store index hasher) (shown store index hasher)
   unchanged store index paired keyed = record {
     keeps = record { items = refl; vacant = refl; capacity = omega arith; limit = refl };
     keyed = keyed;
-    spare = same_spare store index paired;
+    spare = same_spare hasher store index paired;
     hasher = refl;
   }
 
   -- the room of two maps
   module _ (old new : Store T) (p q : HashPairs) (was : ListsOccupied old p.pairs) (is : ListsOccupied new q.pairs) where
-    keeps_spare : p.spare + store_len old ≤ q.spare + store_len new → old.capacity ≤ new.capacity → new.limit ≡ old.limit → KeepsSpare (shown old p hasher) (shown new q hasher)
+    pub keeps_spare : p.spare + store_len old ≤ q.spare + store_len new → old.capacity ≤ new.capacity → new.limit ≡ old.limit → KeepsSpare (shown old p hasher) (shown new q hasher)
     keeps_spare listed capacity limit =
         let room = keeps_least p.spare old.capacity old.limit (store_len old) q.spare new.capacity new.limit (store_len new) was.in_memory was.in_limit is.in_memory is.in_limit listed capacity limit in
         let before = length-items old.slots in

@@ -43,11 +43,14 @@ impl<T, S> Model for IdHashMap<T, S> {
 }
 
 impl<T, S> IdHashMap<T, S> {
+    ghost use Rattle.iddqd.specs.HashMap.{KeepsSpare};
+
     /// How many items there are. It counts none of them.
     #[inline]
     pub fn len(&self) -> usize
         ensures len { result ≡ length self.now.items }
         ensures within_limit { result ≤ self.now.limit }
+        ensures spare { KeepsSpare self.now self.now }
     {
         self.store.len()
     }

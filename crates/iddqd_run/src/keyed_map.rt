@@ -1,13 +1,15 @@
 //! What generic code asks of a map of either kind.
 ghost use Rattle.std.specs.Prelude.{◌≡◌, ℕ, [], length, Some, IfOk, IfErr, IfNone, OnErr, option_copied};
 ghost use Rattle.std.specs.Borrow.{sem};
-ghost use Rattle.iddqd.specs.Contents.{Ascends, OverwritesItem, find_item, without};
+ghost use Rattle.iddqd.specs.Contents.{OverwritesItem, find_item, without};
 ghost use Rattle.iddqd.specs.Refusal.{OnRefused, RefusesInsertion};
 ghost use Rattle.iddqd_run.specs.KeyedMap.{StaysKeyed, ends_inserted};
-ghost use Rattle.iddqd_run.specs.Step.{MapState, SpareRule, KeepsNone, KeepsRoom, RefusesItem, spareless};
+ghost use Rattle.iddqd_run.specs.Step.{MapState, SpareRule, KeepsRoom, RefusesItem};
+
+mod hash;
+mod ord;
 
 use iddqd::errors::{InsertError, Refused};
-use iddqd::{IdOrdItem, IdOrdMap};
 
 /// A map whose keys live in its items, for callers that take any (ours). Contracts see its items and its spare, the most
 /// items that it ever holds, and whether it is keyed: each call leaves it keyed, under the same limit and with the room that
@@ -82,48 +84,4 @@ pub trait KeyedMap {
     fn len(&self) -> usize
         ensures len { result ≡ length (state self.now).items }
         ensures room { KeepsRoom rule (limit self.now) (state self.now) (state self.now) };
-}
-
-// Each call is the map's own of that name.
-impl<T: IdOrdItem> KeyedMap for IdOrdMap<T> {
-    type Item = T;
-
-    type Key = T::Key;
-
-    ghost key = { T.key };
-
-    ghost state = { λ m. spareless m.items };
-
-    ghost limit = { λ m. m.limit };
-
-    ghost rule = { KeepsNone };
-
-    ghost keyed = { λ m. Ascends T.key T.Key.cmp m.items };
-
-    fn insert_unique(&mut self, item: T) -> Result<&mut (), InsertError<'_, T>> {
-        self.insert_unique(item)
-    }
-
-    fn insert_overwrite(&mut self, item: T) -> Result<Option<T>, Refused<T>> {
-        self.insert_overwrite(item)
-    }
-
-    fn get(&self, query: &T::Key) -> Option<&T> {
-        self.get(query)
-    }
-
-    fn remove(&mut self, query: &T::Key) -> Option<T> {
-        self.remove(query)
-    }
-
-    fn clear(&mut self)
-    where
-        T: Drop,
-    {
-        self.clear();
-    }
-
-    fn len(&self) -> usize {
-        self.len()
-    }
 }

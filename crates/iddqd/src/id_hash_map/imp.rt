@@ -18,7 +18,8 @@ impl<T: IdHashItem, S: BuildHasher> IdHashMap<T, S> {
     pub fn get<Q: Hash + Equivalent<T::Key>>(&self, query: &Q) -> Option<&T>
         requires keyed { Keyed T.key T.Key.eq T.Key.hash_input (hash_under S.BuildHasher S.Hasher.Hasher) self.now }
         requires hashes { HashesAs (Q.equivalent query.now) (Q.hash_input query.now) T.Key.hash_input }
-        ensures { option_copied result ≡ find_item T.key (Q.equivalent query.now) self.now.items }
+        ensures found { option_copied result ≡ find_item T.key (Q.equivalent query.now) self.now.items }
+        ensures spare { KeepsSpare self.now self.now }
     {
         self.get_hashed(self.hasher.hash_one(query), query)
     }

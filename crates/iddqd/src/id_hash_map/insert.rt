@@ -12,7 +12,7 @@ use std::hash::BuildHasher;
 
 impl<T: IdHashItem, S: BuildHasher> IdHashMap<T, S> {
     ghost use Rattle.iddqd.specs.HashItems.{Keyed};
-    ghost use Rattle.iddqd.specs.HashMap.{InsertsItem, KeepsMap, ends_inserted};
+    ghost use Rattle.iddqd.specs.HashMap.{InsertsItem, KeepsMap, KeepsSpare, ends_inserted};
 
     /// Inserts the item where none of an equal key is there. A duplicate needs no memory and lends the item that is
     /// there; a full map and refused memory hand the item back, which never comes where `spare` is above 0. Then the items
@@ -48,6 +48,7 @@ impl<T: IdHashItem, S: BuildHasher> IdHashMap<T, S> {
         ensures refused { IfErr result (λ refused. FindsNoRoom T.key T.Key.eq self.old.limit self.old.items item refused.error) }
         ensures no_spare { OnErr result (self.old.spare ≡ 0) }
         ensures kept { OnErr result (KeepsMap T.key T.Key.eq T.Key.hash_input (hash_under S.BuildHasher S.Hasher.Hasher) self.old self.new) }
+        ensures spare { KeepsSpare self.old self.new }
         ensures keyed { Keyed T.key T.Key.eq T.Key.hash_input (hash_under S.BuildHasher S.Hasher.Hasher) self.new }
     {
         let hash = self.hasher.hash_one(item.key());

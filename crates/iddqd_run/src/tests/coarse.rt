@@ -1,14 +1,17 @@
 //! Keys that are equal without regard to case.
 ghost use Rattle.std.specs.Prelude.{◌≡◌, map, nat_eq};
-ghost use Rattle.std.proofs.Common.{rules};
+ghost use Rattle.std.proofs.Common.{ap, rules};
 ghost use Rattle.std.specs.Char.{to_ascii_lowercase};
 ghost use Rattle.std.specs.Cmp.{partial_equiv_from_equiv};
-ghost use Rattle.std.specs.Cmp.Lexicographic.{slice_cmp, pointwise, on_texts, on_texts_equal, texts_ties};
+ghost use Rattle.std.specs.Cmp.Lexicographic.{bytes_decides, slice_cmp, pointwise, on_texts, on_texts_equal, texts_ties};
+ghost use Rattle.std.specs.Hash as fed;
 ghost use Rattle.std.specs.Ordering.{nat_cmp, on, as_partial_cmp};
 ghost use Rattle.iddqd_run.specs.Folded.{folded_po};
 
-use crate::{Command, IdOrdItem, IdOrdMap, Reply, run};
+use crate::{Command, IdHashItem, IdHashMap, IdOrdItem, IdOrdMap, Reply, run};
+use std::alloc::Global;
 use std::cmp::Ordering;
+use std::hash::{Hash, Hasher};
 use std::test::Fail;
 
 /// A name that is equal to each of the same letters, in whatever case.
@@ -59,6 +62,16 @@ impl PartialOrd for Caseless {
     }
 }
 
+impl Hash for Caseless {
+    ghost hash_input = { λ name. fed.slice fed.u8 (map to_ascii_lowercase name.0) };
+
+    ghost respects_eq = { λ x y alike. ap (fed.slice fed.u8) ((bytes_decides (map to_ascii_lowercase x.0) (map to_ascii_lowercase y.0)).0 alike) };
+
+    fn hash<H: Hasher>(&self, state: &mut H) {
+        folded(self).hash(state);
+    }
+}
+
 /// An item of such a name.
 #[derive(Clone, Copy, Debug)]
 struct Coarse {
@@ -67,6 +80,16 @@ struct Coarse {
 }
 
 impl IdOrdItem for Coarse {
+    type Key = Caseless;
+
+    ghost key = { λ item. item.name };
+
+    fn key(&self) -> &Caseless {
+        &self.name
+    }
+}
+
+impl IdHashItem for Coarse {
     type Key = Caseless;
 
     ghost key = { λ item. item.name };
@@ -109,19 +132,8 @@ fn coarse_overwrite(rt: HostRuntime) -> Result<(), Fail> {
     Ok(())
 }
 
-/// The name and the value that a reply shows.
-fn shown(reply: &Reply<Coarse>) -> Option<([u8; 3], u32)> {
-    match reply {
-        Reply::Replaced(item) | Reply::Found(item) => Some(spelled(item)),
-        _ => None,
-    }
-}
-
-#[test]
-fn coarse_overwrite_by_commands(rt: HostRuntime) -> Result<(), Fail> {
-    let alloc = rt.alloc();
-    let mut map = IdOrdMap::new(alloc);
-    let commands = Vec::from_array(
+fn coarse_commands(alloc: Global) -> Result<Vec<Command<Coarse, Caseless>>, Fail> {
+    Ok(Vec::from_array(
         alloc,
         [
             Command::InsertOverwrite(item_of(*b"Foo", 1)),
@@ -131,16 +143,36 @@ fn coarse_overwrite_by_commands(rt: HostRuntime) -> Result<(), Fail> {
             Command::Clear,
             Command::Len,
         ],
-    )?;
-    let Ok(replies) = run(alloc, &mut map, commands) else {
-        return Err(Fail::from("no memory for the replies"));
+    )?)
+}
+
+/// Whether these are the replies to those commands, by the name's spelling and the value.
+fn are_coarse_replies(replies: &[Reply<Coarse>]) -> bool {
+    match replies {
+        [
+            Reply::Inserted,
+            Reply::Replaced(first),
+            Reply::Found(second),
+            Reply::Length(1),
+            Reply::Done,
+            Reply::Length(0),
+        ] => spelled(first) == (*b"Foo", 1) && spelled(second) == (*b"FOO", 2),
+        _ => false,
+    }
+}
+
+#[test]
+fn coarse_overwrite_by_commands_on_both_maps(rt: HostRuntime) -> Result<(), Fail> {
+    let alloc = rt.alloc();
+    let mut ordered = IdOrdMap::new(alloc);
+    let Ok(replies) = run(alloc, &mut ordered, coarse_commands(alloc)?) else {
+        return Err(Fail::from("no memory for the replies of the ordered map"));
     };
-    assert_eq!(rt; replies.len(), 6);
-    assert!(rt; matches!(&replies[0], Reply::Inserted));
-    assert_eq!(rt; shown(&replies[1]), Some((*b"Foo", 1)));
-    assert_eq!(rt; shown(&replies[2]), Some((*b"FOO", 2)));
-    assert!(rt; matches!(&replies[3], Reply::Length(1)));
-    assert!(rt; matches!(&replies[4], Reply::Done));
-    assert!(rt; matches!(&replies[5], Reply::Length(0)));
+    assert!(rt; are_coarse_replies(replies.as_slice()));
+    let mut hashed = IdHashMap::new(alloc);
+    let Ok(replies) = run(alloc, &mut hashed, coarse_commands(alloc)?) else {
+        return Err(Fail::from("no memory for the replies of the hash map"));
+    };
+    assert!(rt; are_coarse_replies(replies.as_slice()));
     Ok(())
 }

@@ -1,9 +1,10 @@
-//! Rows of insertions, on the map and through `run`.
-ghost use Rattle.std.specs.Prelude.{◌≡◌, IfOk, IfErr, OnErr};
+//! Rows of insertions, on the ordered map, and on both maps through `run`.
 ghost use Rattle.iddqd.specs.Contents.{Ascends, ClonesAreEqual};
-ghost use Rattle.iddqd_run.specs.Step.{KeepsNone, spareless, Run};
 
-use crate::{Command, IdOrdItem, IdOrdMap, InsertError, Reply, RunStop, TryReserveError, run};
+use crate::{
+    Command, IdHashItem, IdHashMap, IdOrdItem, IdOrdMap, InsertError, KeyedMap, Reply,
+    TryReserveError, run,
+};
 use std::alloc::Global;
 use std::test::Fail;
 
@@ -24,6 +25,16 @@ impl IdOrdItem for Named {
     }
 }
 
+impl IdHashItem for Named {
+    type Key = [u8; 3];
+
+    ghost key = { λ item. item.name };
+
+    fn key(&self) -> &[u8; 3] {
+        &self.name
+    }
+}
+
 /// An item whose first field is its key, with further fields.
 #[derive(Clone, Copy, Debug, PartialEq, Eq)]
 struct Wide {
@@ -34,6 +45,16 @@ struct Wide {
 }
 
 impl IdOrdItem for Wide {
+    type Key = u8;
+
+    ghost key = { λ item. item.number };
+
+    fn key(&self) -> &u8 {
+        &self.number
+    }
+}
+
+impl IdHashItem for Wide {
     type Key = u8;
 
     ghost key = { λ item. item.number };
@@ -133,46 +154,27 @@ fn duplicate_chain(rt: HostRuntime) {
     assert_eq!(rt; map.len(), 2);
 }
 
-/// What `run` tells of an ordered map, in the map's own words.
-fn run_ordered<T: IdOrdItem + Clone>(
+/// Whether the map gives these replies to the commands.
+fn answers_with<M: KeyedMap>(
     alloc: Global,
-    map: &mut IdOrdMap<T>,
-    commands: Vec<Command<T, T::Key>>,
-) -> Result<Vec<Reply<T>>, RunStop<T, T::Key>>
-where
-    T::Key: Drop,
-    requires keyed { Ascends T.key T.Key.cmp map.old.items }
-    requires clones { ClonesAreEqual T.is_clone }
-    ensures run { IfOk result (λ replies. Run T.key T.Key.eq map.old.limit KeepsNone (spareless map.old.items) commands.items replies.items (spareless map.new.items)) }
-    ensures handed_back { IfErr result (λ stop. stop.commands ≡ commands) }
-    ensures unchanged { OnErr result (map.new ≡ map.old) }
-    ensures keyed { Ascends T.key T.Key.cmp map.new.items }
-    ensures limit { map.new.limit ≡ map.old.limit }
-{
-    run(alloc, map, commands)
-}
-
-/// Whether these are the replies to the commands on a new map.
-fn answers_with<T: IdOrdItem + Clone + PartialEq>(
-    alloc: Global,
-    commands: Vec<Command<T, T::Key>>,
-    expected: Vec<Reply<T>>,
+    map: &mut M,
+    commands: Vec<Command<M::Item, M::Key>>,
+    expected: &[Reply<M::Item>],
 ) -> bool
 where
-    T::Key: Drop,
-    requires { ClonesAreEqual T.is_clone }
+    M::Item: Clone + PartialEq,
+    M::Key: Drop,
+    requires keyed { M.keyed map.old }
+    requires clones { ClonesAreEqual M.Item.is_clone }
 {
-    let mut map = IdOrdMap::new(alloc);
-    match run_ordered(alloc, &mut map, commands) {
-        Ok(replies) => replies.as_slice() == expected.as_slice(),
+    match run(alloc, map, commands) {
+        Ok(replies) => replies.as_slice() == expected,
         Err(_) => false,
     }
 }
 
-#[test]
-fn insert_unique_by_commands(rt: HostRuntime) -> Result<(), Fail> {
-    let alloc = rt.alloc();
-    let commands = Vec::from_array(
+fn named_commands(alloc: Global) -> Result<Vec<Command<Named, [u8; 3]>>, Fail> {
+    Ok(Vec::from_array(
         alloc,
         [
             Command::InsertUnique(FOO),
@@ -187,69 +189,85 @@ fn insert_unique_by_commands(rt: HostRuntime) -> Result<(), Fail> {
             Command::Get(*b"foo"),
             Command::Len,
         ],
-    )?;
-    let expected = Vec::from_array(
-        alloc,
-        [
-            Reply::Inserted,
-            Reply::Inserted,
-            Reply::Duplicate {
-                new: OTHER_FOO,
-                existing: Some(FOO),
-            },
-            Reply::Length(2),
-            Reply::Found(FOO),
-            Reply::Found(BAR),
-            Reply::Absent,
-            Reply::Absent,
-            Reply::Removed(FOO),
-            Reply::Absent,
-            Reply::Length(1),
-        ],
-    )?;
-    assert!(rt; answers_with(alloc, commands, expected));
-    Ok(())
+    )?)
+}
+
+fn named_replies() -> [Reply<Named>; 11] {
+    [
+        Reply::Inserted,
+        Reply::Inserted,
+        Reply::Duplicate {
+            new: OTHER_FOO,
+            existing: Some(FOO),
+        },
+        Reply::Length(2),
+        Reply::Found(FOO),
+        Reply::Found(BAR),
+        Reply::Absent,
+        Reply::Absent,
+        Reply::Removed(FOO),
+        Reply::Absent,
+        Reply::Length(1),
+    ]
 }
 
 #[test]
-fn duplicate_chain_by_commands(rt: HostRuntime) -> Result<(), Fail> {
+fn insert_unique_by_commands_on_both_maps(rt: HostRuntime) -> Result<(), Fail> {
     let alloc = rt.alloc();
-    let first = wide_item(20, 'a', 'x');
-    let fourth = wide_item(5, 'a', 'y');
-    let commands = Vec::from_array(
+    let expected = named_replies();
+    let mut ordered = IdOrdMap::new(alloc);
+    assert!(rt; answers_with(alloc, &mut ordered, named_commands(alloc)?, &expected));
+    let mut hashed = IdHashMap::new(alloc);
+    assert!(rt; answers_with(alloc, &mut hashed, named_commands(alloc)?, &expected));
+    Ok(())
+}
+
+fn wide_commands(alloc: Global) -> Result<Vec<Command<Wide, u8>>, Fail> {
+    Ok(Vec::from_array(
         alloc,
         [
-            Command::InsertUnique(first),
-            Command::InsertUnique(first),
+            Command::InsertUnique(wide_item(20, 'a', 'x')),
+            Command::InsertUnique(wide_item(20, 'a', 'x')),
             Command::InsertUnique(wide_item(20, 'b', 'y')),
-            Command::InsertUnique(fourth),
+            Command::InsertUnique(wide_item(5, 'a', 'y')),
             Command::InsertUnique(wide_item(5, 'b', 'x')),
             Command::Get(20),
             Command::Get(5),
         ],
-    )?;
-    let expected = Vec::from_array(
-        alloc,
-        [
-            Reply::Inserted,
-            Reply::Duplicate {
-                new: first,
-                existing: Some(first),
-            },
-            Reply::Duplicate {
-                new: wide_item(20, 'b', 'y'),
-                existing: Some(first),
-            },
-            Reply::Inserted,
-            Reply::Duplicate {
-                new: wide_item(5, 'b', 'x'),
-                existing: Some(fourth),
-            },
-            Reply::Found(first),
-            Reply::Found(fourth),
-        ],
-    )?;
-    assert!(rt; answers_with(alloc, commands, expected));
+    )?)
+}
+
+fn wide_replies() -> [Reply<Wide>; 7] {
+    let first = wide_item(20, 'a', 'x');
+    let fourth = wide_item(5, 'a', 'y');
+    [
+        Reply::Inserted,
+        Reply::Duplicate {
+            new: first,
+            existing: Some(first),
+        },
+        Reply::Duplicate {
+            new: wide_item(20, 'b', 'y'),
+            existing: Some(first),
+        },
+        Reply::Inserted,
+        Reply::Duplicate {
+            new: wide_item(5, 'b', 'x'),
+            existing: Some(fourth),
+        },
+        Reply::Found(first),
+        Reply::Found(fourth),
+    ]
+}
+
+#[test]
+fn duplicate_chain_by_commands_on_both_maps(rt: HostRuntime) -> Result<(), Fail> {
+    let alloc = rt.alloc();
+    let expected = wide_replies();
+    let mut ordered = IdOrdMap::new(alloc);
+    assert!(rt; answers_with(alloc, &mut ordered, wide_commands(alloc)?, &expected));
+    let mut hashed = IdHashMap::new(alloc);
+    assert!(rt; answers_with(alloc, &mut hashed, wide_commands(alloc)?, &expected));
     Ok(())
 }
 

@@ -1,10 +1,11 @@
-use Rattle.std.proofs.Common.{◌∙◌, ◌≡◌, Some, sym, ap, subst, refl}
+use Rattle.std.proofs.Common.{◌∙◌, ◌≡◌, Some, sym, ap, subst, refl, arith}
 use Rattle.iddqd_core.specs.Contents.{find_item, replaced}
 use Rattle.iddqd_core.specs.Hashing.{hash_under}
 use Rattle.iddqd.specs.HashItems.{Keyed}
+use Rattle.iddqd.specs.HashMap.{KeepsSpare}
 use Rattle.iddqd.specs.Paired.{hashes_in, items_in, shown}
 use Rattle.iddqd.proofs.FoundLemmas.{found_passes}
-use Rattle.iddqd.proofs.MapLemmas.{exchanged_hashes, exchanged_items, exchanged_keyed, listed_under_query}
+use Rattle.iddqd.proofs.MapLemmas.{exchanged_hashes, exchanged_items, exchanged_keyed, keeps_spare, listed_under_query}
 use Rattle.iddqd.proofs.id_hash_map.IdHashMap.insert_overwrite.Given.{Over}
 use Rattle.iddqd.proofs.id_hash_map.IdHashMap.insert_overwrite.Goals as goal
 
@@ -53,3 +54,11 @@ returns-in-Some-clause-replaced g c =
     let capacity = c.exchange.ensures.capacity ∙ ap (λ v. v.capacity) c.self.view_is in
     let limit = c.exchange.ensures.limit ∙ ap (λ v. v.limit) c.self.view_is in
     cc
+
+pub returns-in-Some-clause-spare : goal.returns-in-Some-clause-spare
+returns-in-Some-clause-spare g c =
+    let m = c.self.inside in
+    let new = c.exchange.new.store in
+    let paired = c.exchange.ensures.paired in
+    subst (λ old. KeepsSpare old (shown new m.index m.hasher)) c.self.view_is
+    (keeps_spare g.T.IdHashItem.key g.T.Key.PartialEq.eq g.T.Key.Hash.hash_input (hash_under g.S.BuildHasher g.S.Hasher.Hasher) m.hasher m.store new m.index m.index c.self.invariant paired (omega (arith, c.self.invariant.counted, paired.counted)) (omega (arith, c.exchange.ensures.capacity)) c.exchange.ensures.limit)

@@ -25,7 +25,7 @@ returns-in_err-slot-clause-items g c =
 pub returns-in_err-slot-clause-spare : goal.returns-in_err-slot-clause-spare
 returns-in_err-slot-clause-spare g c =
     let m = c.self.inside in
-    subst (λ v. KeepsSpare v v) c.self.view_is (same_spare g.T.IdHashItem.key g.T.Key.PartialEq.eq g.T.Key.Hash.hash_input (hash_under g.S.BuildHasher g.S.Hasher.Hasher) m.hasher m.store m.index c.self.invariant)
+    subst (λ v. KeepsSpare v v) c.self.view_is (same_spare m.hasher m.store m.index c.self.invariant)
 
 pub returns-clause-items : goal.returns-clause-items
 returns-clause-items g c =

@@ -1,5 +1,5 @@
 use Rattle.std.proofs.Common.{rules, refl}
-use Rattle.iddqd_run.proofs.keyed_map.IdOrdMapKeyedMap.insert_unique.Goals as goal
+use Rattle.iddqd_run.proofs.keyed_map.ord.IdOrdMapKeyedMap.insert_unique.Goals as goal
 
 pub returns : goal.returns
 returns g c = (

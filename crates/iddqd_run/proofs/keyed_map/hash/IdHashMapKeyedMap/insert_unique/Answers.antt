@@ -1,0 +1,31 @@
+use Rattle.std.proofs.Common.{rules, refl, arith}
+use Rattle.std.proofs.lemmas.Result.{on_err_weaker}
+use Rattle.iddqd_run.proofs.keyed_map.hash.IdHashMapKeyedMap.insert_unique.Goals as goal
+
+pub returns : goal.returns
+returns g c = (
+  (
+    refl,
+    (λ w is.
+        let inserts = c.insert_unique.follows.holds w is in
+        record {
+          inserted = (search rules, inserts.takes.room, inserts.takes.added);
+          stays = record {
+            keyed = inserts.keyed;
+            limit = inserts.takes.limit;
+            room = (inserts.spare.never_less, omega (arith, inserts.spare.in_limit, inserts.takes.limit));
+          };
+        }),
+    on_err_weaker c.insert_unique.result
+        (λ kept. record {
+          items = kept.keeps.items;
+          stays = record {
+            keyed = kept.keyed;
+            limit = kept.keeps.limit;
+            room = (kept.spare.never_less, omega (arith, kept.spare.in_limit, kept.keeps.limit));
+          };
+        })
+        c.insert_unique.follows.holds-at-none,
+  ),
+  record { after = tt; refused = c.insert_unique.ensures.refused; no_spare = search rules },
+)

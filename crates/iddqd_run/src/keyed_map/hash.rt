@@ -1,0 +1,53 @@
+//! The hash map, which keeps its spare.
+ghost use Rattle.iddqd.specs.HashItems.{Keyed};
+ghost use Rattle.iddqd.specs.Hashing.{hash_under};
+ghost use Rattle.iddqd_run.specs.Step.{KeepsSpare};
+
+use super::KeyedMap;
+use iddqd::errors::{InsertError, Refused};
+use iddqd::{IdHashItem, IdHashMap};
+use std::hash::BuildHasher;
+
+// Each call is the map's own of that name.
+impl<T: IdHashItem, S: BuildHasher> KeyedMap for IdHashMap<T, S> {
+    type Item = T;
+
+    type Key = T::Key;
+
+    ghost key = { T.key };
+
+    ghost state = { λ m. record { items = m.items; spare = m.spare } };
+
+    ghost limit = { λ m. m.limit };
+
+    ghost rule = { KeepsSpare };
+
+    ghost keyed = { Keyed T.key T.Key.eq T.Key.hash_input (hash_under S.BuildHasher S.Hasher.Hasher) };
+
+    fn insert_unique(&mut self, item: T) -> Result<&mut (), InsertError<'_, T>> {
+        self.insert_unique(item)
+    }
+
+    fn insert_overwrite(&mut self, item: T) -> Result<Option<T>, Refused<T>> {
+        self.insert_overwrite(item)
+    }
+
+    fn get(&self, query: &T::Key) -> Option<&T> {
+        self.get(query)
+    }
+
+    fn remove(&mut self, query: &T::Key) -> Option<T> {
+        self.remove(query)
+    }
+
+    fn clear(&mut self)
+    where
+        T: Drop,
+    {
+        self.clear();
+    }
+
+    fn len(&self) -> usize {
+        self.len()
+    }
+}

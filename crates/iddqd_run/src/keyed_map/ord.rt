@@ -1,0 +1,51 @@
+//! The ordered map, which keeps no spare.
+ghost use Rattle.iddqd.specs.Contents.{Ascends};
+ghost use Rattle.iddqd_run.specs.Step.{KeepsNone, spareless};
+
+use super::KeyedMap;
+use iddqd::errors::{InsertError, Refused};
+use iddqd::{IdOrdItem, IdOrdMap};
+
+// Each call is the map's own of that name.
+impl<T: IdOrdItem> KeyedMap for IdOrdMap<T> {
+    type Item = T;
+
+    type Key = T::Key;
+
+    ghost key = { T.key };
+
+    ghost state = { λ m. spareless m.items };
+
+    ghost limit = { λ m. m.limit };
+
+    ghost rule = { KeepsNone };
+
+    ghost keyed = { λ m. Ascends T.key T.Key.cmp m.items };
+
+    fn insert_unique(&mut self, item: T) -> Result<&mut (), InsertError<'_, T>> {
+        self.insert_unique(item)
+    }
+
+    fn insert_overwrite(&mut self, item: T) -> Result<Option<T>, Refused<T>> {
+        self.insert_overwrite(item)
+    }
+
+    fn get(&self, query: &T::Key) -> Option<&T> {
+        self.get(query)
+    }
+
+    fn remove(&mut self, query: &T::Key) -> Option<T> {
+        self.remove(query)
+    }
+
+    fn clear(&mut self)
+    where
+        T: Drop,
+    {
+        self.clear();
+    }
+
+    fn len(&self) -> usize {
+        self.len()
+    }
+}
