@@ -4,7 +4,7 @@ mod search;
 #[cfg(test)]
 mod tests;
 
-ghost use Rattle.std.specs.Prelude.{◌≡◌, ℕ, ◌+◌, ◌-◌, ◌<◌, ◌≤◌, [], length, OnOk, OnErr, IfOk, IfErr, IfSome, IfNone, Contains};
+ghost use Rattle.std.specs.Prelude.{◌≡◌, ℕ, ◌+◌, ◌-◌, ◌<◌, ◌≤◌, [], length, max, OnOk, OnErr, IfOk, IfErr, IfSome, IfNone, Contains};
 ghost use Rattle.std.specs.Prelude.{min as least};
 ghost use Rattle.iddqd_core.specs.HashPairs.{SamePairs, HasOneMore, HasInstead, IsMatch, of_hash, of_slot};
 ghost use Rattle.iddqd_core.specs.Store.{IsOccupied};
@@ -192,10 +192,12 @@ impl HashIndex {
     }
 
     /// Gives memory back, but for room for `min` pairs and for those that are there. Refused or not, the pairs stay. It
-    /// needs no memory, so that it is never refused today.
+    /// needs no memory, so that it is never refused today. Where it gives some back, it reads every pair.
     pub fn shrink(&mut self, min: usize) -> Result<(), TryReserveError>
         ensures pairs { SamePairs self.old self.new }
         ensures only_memory { IfErr result (λ e. e ≡ OutOfMemory) }
+        ensures ok { OnOk result (self.new.spare + length self.new.pairs ≤ max min (length self.old.pairs)) }
+        ensures needed { OnErr result (max min (length self.old.pairs) < self.old.spare + length self.old.pairs) }
         ensures room { least min (self.old.spare + length self.old.pairs) ≤ self.new.spare + length self.new.pairs }
     {
         let room = min.max(self.links.len());

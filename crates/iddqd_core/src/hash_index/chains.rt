@@ -1,5 +1,6 @@
 //! The pairs of an index in one vector, and the chain of each bucket by falling number.
-ghost use Rattle.std.specs.Prelude.{◌≡◌, ◌-◌, ◌*◌, ◌^◌, ◌<◌, ◌≤◌, length, replicate, take, slice_index_or, Contains};
+ghost use Rattle.std.specs.Prelude.{◌≡◌, ◌-◌, ◌*◌, ◌^◌, ◌<◌, ◌≤◌, min, length, replicate, take, slice_index_or, Contains};
+ghost use Rattle.std.specs.Int.{IsPowerOfTwo};
 ghost use Rattle.std.specs.List.{swap_remove};
 ghost use Rattle.iddqd_core.specs.Buckets.{bucket_of, pairs_of, head_at, next_at, IsLinked, Relinks};
 
@@ -23,20 +24,18 @@ pub(super) fn bucket(hash: u64, count: usize) -> usize
     mixed as usize & (count - 1)
 }
 
-// How many buckets serve so many pairs: a power of two, at least twice as many. There are never
-// more than `u32::MAX` pairs.
+// How many buckets serve so many pairs: a power of two, so that at least half are empty. There are
+// never more than `u32::MAX` pairs.
 pub(super) fn buckets_for(room: usize) -> usize
-    ensures { 0 < room → 0 < result }
+    ensures some { 0 < room → 0 < result }
+    ensures enough { 2 * min room u32.MAX ≤ result }
+    ensures power { 0 < room → IsPowerOfTwo result }
 {
     if room == 0 {
         return 0;
     }
     let pairs = room.min(u32::MAX as usize);
-    let mut count = 8;
-    while count < 2 * pairs {
-        count *= 2;
-    }
-    count
+    (2 * pairs).max(8).next_power_of_two()
 }
 
 // Writes the head of the bucket, or the link of the pair before.

@@ -23,7 +23,7 @@ invariant_of-self-2 c =
     let links = with_items_is c.reserve.new.self c.link_all.new.links (omega arith) in
     let used : length c.self.inside.links.items ≤ c.len.result + c.max-more.result = omega (arith, valid.used, ap length c.reserve.ensures.items) in
     let held : c.len.result + c.max-more.result ≤ vec_capacity c.reserve.new.self = omega (arith, c.in_ok-reserve.ensures.ok) in
-    let count : 0 < c.len.result + c.max-more.result → 0 < length c.link_all.new.heads = λ some. omega (arith, c.buckets_for.ensures some, c.in_ok-resize.ensures.len) in
+    let count : 0 < c.len.result + c.max-more.result → 0 < length c.link_all.new.heads = λ some. omega (arith, c.buckets_for.ensures.some some, c.in_ok-resize.ensures.len) in
     let same = c.as_mut_slice-3.ensures.value ∙ c.reserve.ensures.items in
     rw (heads, links)
     (relinked-index _ c.self.inside.links.items _ _ _ used held valid.fits count
