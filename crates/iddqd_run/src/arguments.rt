@@ -5,6 +5,8 @@ ghost use Rattle.iddqd_run.specs.Words.{kind_for};
 /// The map that answers the lines (ours).
 #[derive(Clone, Copy, Debug, PartialEq, Eq)]
 pub enum Kind {
+    /// `IdHashMap`, over the default hasher.
+    Hash,
     /// `IdOrdMap`.
     Ord,
 }
@@ -15,6 +17,7 @@ pub fn kind_of(args: &[String]) -> Option<Kind>
 {
     match args {
         [] => Some(Kind::Ord),
+        [word] if word.as_str() == "hash" => Some(Kind::Hash),
         [word] if word.as_str() == "ord" => Some(Kind::Ord),
         _ => None,
     }

@@ -1,7 +1,7 @@
 //! What the lines of a text put into a map, and what they are answered.
 ghost use Rattle.std.specs.Prelude.{Some};
 
-use iddqd::IdOrdItem;
+use iddqd::{IdHashItem, IdOrdItem};
 use std::fmt::{self, Display, Formatter, Write};
 
 /// A name and its value.
@@ -12,6 +12,16 @@ pub(crate) struct Entry {
 }
 
 impl IdOrdItem for Entry {
+    type Key = String;
+
+    ghost key = { λ entry. entry.name };
+
+    fn key(&self) -> &String {
+        &self.name
+    }
+}
+
+impl IdHashItem for Entry {
     type Key = String;
 
     ghost key = { λ entry. entry.name };

@@ -6,7 +6,7 @@ ghost use Rattle.iddqd_run.specs.Words.{text_for};
 
 use crate::answering::answer;
 use crate::arguments::Kind;
-use iddqd::IdOrdMap;
+use iddqd::{IdHashMap, IdOrdMap};
 use std::alloc::Global;
 use std::io::{ErrorKind, Read, Write};
 
@@ -46,6 +46,7 @@ pub fn serve<R: Read, W: Write>(
 {
     let input = read_whole(alloc, reader)?;
     let answered = match kind {
+        Kind::Hash => answer(alloc, IdHashMap::new(alloc), input.as_slice()),
         Kind::Ord => answer(alloc, IdOrdMap::new(alloc), input.as_slice()),
     };
     let Ok((text, refusals)) = answered else {

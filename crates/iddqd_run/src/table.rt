@@ -2,6 +2,8 @@
 ghost use Rattle.std.specs.Prelude.{◌≡◌, List, length};
 ghost use Rattle.iddqd.specs.Contents.{Ascends};
 ghost use Rattle.iddqd.specs.Errors.{listed};
+ghost use Rattle.iddqd.specs.HashItems.{Keyed};
+ghost use Rattle.iddqd.specs.Hashing.{hash_under};
 ghost use Rattle.iddqd.specs.Holding.{max_items};
 ghost use Rattle.iddqd.specs.Refusal.{IsLent};
 ghost use Rattle.iddqd_run.specs.Lines.{Add, Put, Get, Del};
@@ -11,8 +13,9 @@ ghost use Rattle.iddqd_run.specs.Shown.{AnswersRequest};
 use crate::entries::{Entry, LineReply};
 use crate::keyed_map::KeyedMap;
 use iddqd::errors::{Few, InsertError};
-use iddqd::{IdOrdItem, IdOrdMap, MAX_ITEMS, Text};
+use iddqd::{DefaultHashBuilder, IdHashItem, IdHashMap, IdOrdItem, IdOrdMap, MAX_ITEMS, Text};
 use std::alloc::Global;
+use std::hash::{BuildHasher, FoldHasher, Hash, Hasher};
 
 /// A map of entries of either kind. Each call answers a line of its word, and leaves the map as the line does.
 pub(crate) trait Table {
@@ -54,6 +57,38 @@ impl Table for IdOrdMap<Entry> {
     ghost items = { λ map. map.items };
 
     ghost sound = { λ map. Ascends ⟦<Entry as IdOrdItem>⟧.key ⟦<String as Ord>⟧.cmp map.items × (map.limit ≡ max_items) };
+
+    fn add<'a>(&mut self, alloc: Global, name: &'a str, value: u64) -> LineReply<'a> {
+        add_entry(alloc, self, name, value)
+    }
+
+    fn put<'a>(&mut self, alloc: Global, name: &'a str, value: u64) -> LineReply<'a> {
+        put_entry(alloc, self, name, value)
+    }
+
+    fn get<'a>(&self, name: &'a str) -> LineReply<'a> {
+        match self.get(&Text(name)) {
+            Some(entry) => LineReply::Found(entry.value),
+            None => LineReply::Absent,
+        }
+    }
+
+    fn delete<'a>(&mut self, name: &'a str) -> LineReply<'a> {
+        match self.remove(&Text(name)) {
+            Some(entry) => LineReply::Removed(entry.value),
+            None => LineReply::Absent,
+        }
+    }
+
+    fn len(&self) -> usize {
+        self.len()
+    }
+}
+
+impl Table for IdHashMap<Entry> {
+    ghost items = { λ map. map.items };
+
+    ghost sound = { λ map. Keyed ⟦<Entry as IdHashItem>⟧.key ⟦<String as PartialEq>⟧.eq ⟦<String as Hash>⟧.hash_input (hash_under ⟦<DefaultHashBuilder as BuildHasher>⟧ ⟦<FoldHasher as Hasher>⟧) map × (map.limit ≡ max_items) };
 
     fn add<'a>(&mut self, alloc: Global, name: &'a str, value: u64) -> LineReply<'a> {
         add_entry(alloc, self, name, value)
