@@ -1,0 +1,5 @@
+use Rattle.iddqd_run.specs.Shown.{IsNameOrdered}
+use Rattle.iddqd_run.proofs.tests.refusals.maps.filled.Given as goal
+
+abbrev pub invariant-loop-name : goal.invariant-loop-name
+invariant-loop-name l = IsNameOrdered l.map.items
