@@ -14,7 +14,7 @@ fn served(alloc: Global, input: &[u8]) -> Result<(Vec<u8>, Result<u64, Fault>, b
     Ok((text, outcome, is_met))
 }
 
-// The row that the five lines are answered by.
+// The row that the five lines are answered by, which is one of those that a refusal allows.
 fn row_of_lines(alloc: Global) -> Result<&'static str, Fail> {
     let (text, outcome, is_met) = served(alloc, b"add bob 2\nadd bob 9\nget bob\ndel bob\nlen\n")?;
     for (name, answer, refused, written) in [
@@ -45,12 +45,14 @@ fn row_of_lines(alloc: Global) -> Result<&'static str, Fail> {
     Err(Fail::from("the answer is no row"))
 }
 
+// Memory for the item of `add bob 2` is refused: the row of this name comes in some run, as `tools/sweeps` wants it.
 #[test]
 fn first_item_refused(rt: HostRuntime) -> Result<(), Fail> {
     println!(rt; "{}", row_of_lines(rt.alloc())?)?;
     Ok(())
 }
 
+// The same of `add bob 9`.
 #[test]
 fn second_item_refused(rt: HostRuntime) -> Result<(), Fail> {
     println!(rt; "{}", row_of_lines(rt.alloc())?)?;

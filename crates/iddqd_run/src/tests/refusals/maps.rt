@@ -9,7 +9,7 @@ use iddqd_ord::Text;
 use std::alloc::{AllocError, Global};
 use std::test::Fail;
 
-// The names 0 up to the count.
+// As many names: 0, 1 and so on.
 fn names(alloc: Global, count: u64) -> Result<Vec<String>, AllocError> {
     let mut names = Vec::new(alloc);
     for value in 0..count {
