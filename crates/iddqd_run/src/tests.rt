@@ -1,5 +1,6 @@
-//! What no clause says: worked rows, printed texts, and that each call succeeds with memory at hand.
+//! What no clause says: worked rows, printed texts, that each call succeeds with memory at hand, and runs with memory refused.
 mod coarse;
 mod maps;
 mod queries;
+mod refusals;
 mod texts;

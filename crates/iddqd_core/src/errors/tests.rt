@@ -1,4 +1,6 @@
 //! Errors and their texts.
+mod refusals;
+
 use crate::{DuplicateItem, Few, TryReserveError};
 use std::test::Fail;
 

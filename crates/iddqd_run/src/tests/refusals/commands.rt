@@ -1,0 +1,178 @@
+//! `run` with a request refused: the commands come back, or the replies are one of the rows that a refusal allows.
+ghost use Rattle.std.specs.Prelude.{◌≡◌, ℕ};
+
+use super::{arm, is_met};
+use crate::{Command, IdOrdItem, IdOrdMap, Reply, run};
+use std::alloc::{AllocError, Global};
+use std::marker::Model;
+use std::test::Fail;
+
+/// A name, and a value in memory of its own, so that a clone can be refused. Contracts see the two.
+#[derive(Drop)]
+struct Kept {
+    name: u32,
+    value: Box<u32>,
+}
+
+impl Model for Kept {
+    ghost Value = { ℕ × ℕ };
+
+    ghost view = { λ kept. (kept.name, kept.value.value) };
+}
+
+impl Clone for Kept {
+    ghost is_clone = { λ kept clone. clone ≡ kept };
+
+    fn clone(&self) -> Result<Kept, AllocError> {
+        let value = self.value.clone()?;
+        Ok(Kept {
+            name: self.name,
+            value,
+        })
+    }
+}
+
+impl IdOrdItem for Kept {
+    type Key = u32;
+
+    ghost key = { λ kept. kept.0 };
+
+    fn key(&self) -> &u32 {
+        &self.name
+    }
+}
+
+fn make_kept(alloc: Global, value: u32) -> Result<Kept, AllocError> {
+    Ok(Kept {
+        name: 7,
+        value: Box::new(alloc, value)?,
+    })
+}
+
+// Six commands, all of one name.
+fn commands(alloc: Global) -> Result<Vec<Command<Kept, u32>>, AllocError> {
+    let mut commands = Vec::new(alloc);
+    commands.push(Command::InsertUnique(make_kept(alloc, 1)?))?;
+    commands.push(Command::InsertUnique(make_kept(alloc, 2)?))?;
+    commands.push(Command::Get(7))?;
+    commands.push(Command::InsertOverwrite(make_kept(alloc, 3)?))?;
+    commands.push(Command::Remove(7))?;
+    commands.push(Command::Len)?;
+    Ok(commands)
+}
+
+/// What a reply says, its items by their values; where memory was refused, the item that came back.
+#[derive(Clone, Copy, Debug, PartialEq, Eq)]
+enum Said {
+    Inserted,
+    Duplicate(u32, Option<u32>),
+    Replaced(u32),
+    Found(u32),
+    Removed(u32),
+    Length(usize),
+    NoMemory(Option<u32>),
+    Other,
+}
+
+fn reply_says(reply: &Reply<Kept>) -> Said {
+    match reply {
+        Reply::Inserted => Said::Inserted,
+        Reply::Duplicate { new, existing } => {
+            Said::Duplicate(*new.value, existing.as_ref().map(|kept| *kept.value))
+        }
+        Reply::Replaced(kept) => Said::Replaced(*kept.value),
+        Reply::Found(kept) => Said::Found(*kept.value),
+        Reply::Removed(kept) => Said::Removed(*kept.value),
+        Reply::Length(count) => Said::Length(*count),
+        Reply::Refused { item, error } if !error.is_capacity_overflow() => {
+            Said::NoMemory(item.as_ref().map(|kept| *kept.value))
+        }
+        _ => Said::Other,
+    }
+}
+
+const ROWS: [(&str, [Said; 6]); 4] = [
+    (
+        "answered",
+        [
+            Said::Inserted,
+            Said::Duplicate(2, Some(1)),
+            Said::Found(1),
+            Said::Replaced(1),
+            Said::Removed(3),
+            Said::Length(0),
+        ],
+    ),
+    (
+        "insertion_refused",
+        [
+            Said::NoMemory(Some(1)),
+            Said::Inserted,
+            Said::Found(2),
+            Said::Replaced(2),
+            Said::Removed(3),
+            Said::Length(0),
+        ],
+    ),
+    (
+        "duplicate_not_shown",
+        [
+            Said::Inserted,
+            Said::Duplicate(2, None),
+            Said::Found(1),
+            Said::Replaced(1),
+            Said::Removed(3),
+            Said::Length(0),
+        ],
+    ),
+    (
+        "clone_refused",
+        [
+            Said::Inserted,
+            Said::Duplicate(2, Some(1)),
+            Said::NoMemory(None),
+            Said::Replaced(1),
+            Said::Removed(3),
+            Said::Length(0),
+        ],
+    ),
+];
+
+// The name of the row that the replies are.
+fn row_of(replies: &[Reply<Kept>]) -> Option<&'static str> {
+    for (name, row) in ROWS {
+        if replies.len() == 6 && replies.iter().map(reply_says).eq(row) {
+            return Some(name);
+        }
+    }
+    None
+}
+
+#[test]
+fn run_of_commands(rt: HostRuntime) -> Result<(), Fail> {
+    let alloc = rt.alloc();
+    let mut map = IdOrdMap::new(alloc);
+    let commands = commands(alloc)?;
+    arm(alloc);
+    let outcome = run(alloc, &mut map, commands);
+    let is_met = is_met(alloc);
+    match outcome {
+        Ok(replies) => {
+            let Some(row) = row_of(replies.as_slice()) else {
+                return Err(Fail::from("the replies are no row"));
+            };
+            println!(rt; "{row}")?;
+            assert_eq!(rt; row != "answered", is_met);
+        }
+        Err(stop) => {
+            println!(rt; "commands_back")?;
+            assert!(rt; is_met && map.is_empty());
+            let Ok(replies) = run(alloc, &mut map, stop.commands) else {
+                return Err(Fail::from("no memory for the replies"));
+            };
+            assert_eq!(rt; row_of(replies.as_slice()), Some("answered"));
+        }
+    }
+    assert!(rt; map.is_empty());
+    Ok(())
+}

@@ -1,0 +1,86 @@
+/* A heap that refuses one request for memory. It is preloaded into a test program and hands every other request on to the C library.
+
+   The test begins and ends the count itself, by two requests that no heap grants, since they are greater than the address space:
+
+     ARM bytes   from here on requests are counted, and the one numbered REFUSE_AT (of the environment) is refused
+     END bytes   the count ends; the request is granted (by a block of one byte, which is not to be touched) exactly where
+                 one was refused since it began
+
+   Without this heap both are refused, so the same test learns that it met no refusal. What happens is written to the file
+   descriptor REFUSE_TELLS (of the environment), a line each: 'armed', 'refused', 'ended'. The five functions below are the
+   C library's ways to ask for memory; free stays as it is. No header is needed. */
+
+typedef unsigned long size;
+
+extern void *dlsym(void *, const char *);
+extern char *getenv(const char *);
+extern unsigned long strtoul(const char *, char **, int);
+extern long write(int, const void *, size);
+
+#define ARM ((size)1 << 48)
+#define END (((size)1 << 49) + 1)
+#define NEXT ((void *)-1) /* dlsym's RTLD_NEXT: the C library's function of the name */
+#define OUT_OF_MEMORY 12  /* ENOMEM, which posix_memalign answers */
+
+static size left; /* how many requests there are up to the one to refuse; 0: none is counted */
+static int met;   /* whether one was refused since the count began */
+
+static size given(const char *name) {
+    const char *number = getenv(name);
+    return number ? strtoul(number, 0, 10) : 0;
+}
+
+static void tell(const char *line, size length) {
+    if (write(given("REFUSE_TELLS"), line, length) != (long)length) __builtin_trap();
+}
+
+static void *arm(void) {
+    left = given("REFUSE_AT");
+    met = 0;
+    tell("armed\n", 6);
+    return 0;
+}
+
+/* Whether this request is the one to refuse. */
+static int refuses(void) {
+    if (left == 0 || --left != 0) return 0;
+    met = 1;
+    tell("refused\n", 8);
+    return 1;
+}
+
+void *malloc(size bytes) {
+    static void *(*next)(size);
+    if (!next) next = (void *(*)(size))dlsym(NEXT, "malloc");
+    if (bytes == ARM) return arm();
+    if (bytes == END) {
+        left = 0;
+        tell("ended\n", 6);
+        return met ? next(1) : 0;
+    }
+    return refuses() ? 0 : next(bytes);
+}
+
+void *realloc(void *block, size bytes) {
+    static void *(*next)(void *, size);
+    if (!next) next = (void *(*)(void *, size))dlsym(NEXT, "realloc");
+    return refuses() ? 0 : next(block, bytes);
+}
+
+void *calloc(size count, size bytes) {
+    static void *(*next)(size, size);
+    if (!next) next = (void *(*)(size, size))dlsym(NEXT, "calloc");
+    return refuses() ? 0 : next(count, bytes);
+}
+
+void *aligned_alloc(size alignment, size bytes) {
+    static void *(*next)(size, size);
+    if (!next) next = (void *(*)(size, size))dlsym(NEXT, "aligned_alloc");
+    return refuses() ? 0 : next(alignment, bytes);
+}
+
+int posix_memalign(void **block, size alignment, size bytes) {
+    static int (*next)(void **, size, size);
+    if (!next) next = (int (*)(void **, size, size))dlsym(NEXT, "posix_memalign");
+    return refuses() ? OUT_OF_MEMORY : next(block, alignment, bytes);
+}
