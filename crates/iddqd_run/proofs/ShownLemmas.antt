@@ -1,5 +1,5 @@
 -- What the map answers is what the entries answer that its items are seen as, in the order of their names.
-use Rattle.std.proofs.Common.{◌≡◌, ◌≢◌, ℕ, zero, suc, ◌<◌, [], ◌∷◌, Bor, Bool, true, false, cond, List, length, map, Option, Some, None, IsPermutation, sym, refl, ap, ◌∙◌, subst, ◌++◌, eq-eqb, arith}
+use Rattle.std.proofs.Common.{◌≡◌, ℕ, zero, suc, ◌<◌, [], ◌∷◌, Bor, true, false, List, length, Option, Some, None, IsPermutation, sym, refl, ap, ◌∙◌, subst, ◌++◌, eq-eqb, arith}
 use Rattle.std.specs.Prelude.{string_bytes, bytes_eq, codes, decimal}
 use Rattle.std.specs.Cmp.Lexicographic.{bytes_decides, nat_list_cmp_total, nat_list_eq_equiv, texts_ties}
 use Rattle.std.specs.List.{insert}
@@ -12,10 +12,11 @@ use Rattle.std.proofs.Common.{String, Global}
 use Rattle.iddqd_run.specs.Answer as answer
 use Rattle.iddqd_run.specs.Answer.{name_of, name_cmp, entry_named, is_full}
 use Rattle.iddqd.specs.Contents.{AddsItem, find_item, without, replaced, placed}
-use Rattle.iddqd_run.specs.Lines.{Add, Put, Get, Del, Len, Bad}
-use Rattle.iddqd_run.specs.Shown.{entry_of, entries_of, AnswersPlainly, AnswersRequest, ShowsEntries, found_reply, removed_reply}
+use Rattle.iddqd_run.specs.Lines.{Add, Put, Get, Del, Len}
+use Rattle.iddqd_run.specs.Shown.{entry_of, entries_of, AnswersPlainly, AnswersRequest, ShowsEntries}
 use Rattle.iddqd.specs.Holding.{max_items}
 use Rattle.iddqd_run.specs.declared.entries.Entry.{Entry}
+use Rattle.iddqd_run.specs.declared.entries.LineReply.{LineReply}
 use Rattle.iddqd_run.specs.declared.entries.LineReply.TheVariants.{Added, Duplicate, New, Replaced, Found, Removed, Absent, Length, RefusedCapacity}
 use Rattle.iddqd.proofs.MappedLemmas.{find_item-map, without-map, replaced-map}
 use Rattle.iddqd_run.proofs.NameOrderLemmas.{AreInOrder, found_in_order, placed_in_order, replaced_in_order, without_in_order}
@@ -61,6 +62,15 @@ module _ (name : List ℕ) (items : List Entry) (entries : List answer.Entry) (s
       shown_by new (without name_of (bytes_eq name) entries)
       (subst (λ es. InOrder es (without name_of (bytes_eq name) entries)) (sym (ap entries_of e ∙ without-map entry_of name_of (bytes_eq name) items))
       (without_in_order name_of nat_list_eq_equiv nat_list_cmp_total texts_ties (bytes_eq name) (entries_of items) entries (order items entries shows)))
+
+-- the replies to `get` and `del`
+abbrev found_reply : Option Entry → LineReply
+found_reply (Some entry) = Found entry.value
+found_reply None = Absent
+
+abbrev removed_reply : Option Entry → LineReply
+removed_reply (Some entry) = Removed entry.value
+removed_reply None = Absent
 
 module _ (name : List ℕ) (items : List Entry) where
   -- what `get` answers

@@ -1,5 +1,5 @@
 -- What the program's own types for an entry and a reply stand for.
-use Rattle.std.specs.Prelude.{◌≡◌, ℕ, List, Option, Some, None, map, ◌++◌, IsPermutation, decimal, codes, string_bytes}
+use Rattle.std.specs.Prelude.{◌≡◌, ℕ, List, map, ◌++◌, IsPermutation, decimal, codes, string_bytes}
 use Rattle.iddqd_run.specs.Answer as answer
 use Rattle.iddqd.specs.Contents.{Ascends}
 use Rattle.iddqd_run.specs.Lines.{Request}
@@ -26,15 +26,6 @@ shown (Length count) = decimal count
 shown Bad = codes "bad"
 shown RefusedCapacity = codes "refused capacity"
 shown RefusedMemory = codes "refused memory"
-
--- the replies to `get` and `del`
-abbrev pub found_reply : Option Entry → LineReply
-found_reply (Some entry) = Found entry.value
-found_reply None = Absent
-
-abbrev pub removed_reply : Option Entry → LineReply
-removed_reply (Some entry) = Removed entry.value
-removed_reply None = Absent
 
 -- how many refusals for want of memory a reply is
 abbrev pub refusals_of : LineReply → ℕ

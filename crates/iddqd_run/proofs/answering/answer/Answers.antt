@@ -3,7 +3,7 @@ use Rattle.std.proofs.lemmas.Bool.{eqb-true}
 use Rattle.std.proofs.lemmas.List.{nil_from_length}
 use Rattle.iddqd_run.specs.Answer.{RepliesWithRefusals}
 use Rattle.iddqd_run.specs.Lines.{lines_of}
-use Rattle.iddqd_run.specs.Shown.{shown, refusals_of, AnswersRequest, ShowsEntries}
+use Rattle.iddqd_run.specs.Shown.{shown, refusals_of, AnswersRequest}
 use Rattle.iddqd_run.proofs.ReplyLemmas.{line_step, plain_replies, refusals_of-le}
 use Rattle.iddqd_run.proofs.ShownLemmas.{nothing_shown}
 use Rattle.iddqd_run.proofs.answering.answer.Goals as goal

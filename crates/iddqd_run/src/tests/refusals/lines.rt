@@ -5,7 +5,11 @@ use std::alloc::Global;
 use std::test::Fail;
 
 // The text that `serve` writes, with room for it taken first, and what it answers. Whether a request was refused stands last.
-fn served(alloc: Global, kind: Kind, input: &[u8]) -> Result<(Vec<u8>, Result<u64, Fault>, bool), Fail> {
+fn served(
+    alloc: Global,
+    kind: Kind,
+    input: &[u8],
+) -> Result<(Vec<u8>, Result<u64, Fault>, bool), Fail> {
     let mut reader = input;
     let mut text = Vec::with_capacity(alloc, 200)?;
     arm(alloc);
@@ -16,7 +20,11 @@ fn served(alloc: Global, kind: Kind, input: &[u8]) -> Result<(Vec<u8>, Result<u6
 
 // The row that the five lines are answered by, which is one of those that a refusal allows.
 fn row_of_lines(alloc: Global, kind: Kind) -> Result<&'static str, Fail> {
-    let (text, outcome, is_met) = served(alloc, kind, b"add bob 2\nadd bob 9\nget bob\ndel bob\nlen\n")?;
+    let (text, outcome, is_met) = served(
+        alloc,
+        kind,
+        b"add bob 2\nadd bob 9\nget bob\ndel bob\nlen\n",
+    )?;
     for (name, answer, refused, written) in [
         (
             "answered",
@@ -75,7 +83,11 @@ fn refused_lines(text: &[u8]) -> usize {
 
 #[test]
 fn served_lines(rt: HostRuntime) -> Result<(), Fail> {
-    let (text, outcome, is_met) = served(rt.alloc(), Kind::Ord, b"put a 1\nadd b 2\nput c 3\nlen\n")?;
+    let (text, outcome, is_met) = served(
+        rt.alloc(),
+        Kind::Ord,
+        b"put a 1\nadd b 2\nput c 3\nlen\n",
+    )?;
     match outcome {
         Ok(refusals) => {
             assert_eq!(rt; refused_lines(text.as_slice()) as u64, refusals);

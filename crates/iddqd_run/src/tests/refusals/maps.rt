@@ -41,7 +41,11 @@ fn insert<M: KeyedMap<Item = Entry, Key = String>>(map: &mut M, name: String, va
     }
 }
 
-fn overwrite<M: KeyedMap<Item = Entry, Key = String>>(map: &mut M, name: String, value: u64) -> Outcome
+fn overwrite<M: KeyedMap<Item = Entry, Key = String>>(
+    map: &mut M,
+    name: String,
+    value: u64,
+) -> Outcome
     requires { M.keyed map.old }
     ensures { M.keyed map.new }
 {
@@ -59,7 +63,12 @@ enum Call {
     Overwrite,
 }
 
-fn put<M: KeyedMap<Item = Entry, Key = String>>(map: &mut M, call: Call, name: String, value: u64) -> Outcome
+fn put<M: KeyedMap<Item = Entry, Key = String>>(
+    map: &mut M,
+    call: Call,
+    name: String,
+    value: u64,
+) -> Outcome
     requires { M.keyed map.old }
     ensures { M.keyed map.new }
 {
@@ -70,7 +79,11 @@ fn put<M: KeyedMap<Item = Entry, Key = String>>(map: &mut M, call: Call, name: S
 }
 
 // Whether the map holds these names, each with the value 5, and no other but for `new` where a value is given.
-fn holds<M: KeyedMap<Item = Entry, Key = String>>(map: &M, names: &[String], new: (&String, Option<u64>)) -> bool
+fn holds<M: KeyedMap<Item = Entry, Key = String>>(
+    map: &M,
+    names: &[String],
+    new: (&String, Option<u64>),
+) -> bool
     requires { M.keyed map.now }
 {
     for name in names {
@@ -85,7 +98,11 @@ fn holds<M: KeyedMap<Item = Entry, Key = String>>(map: &M, names: &[String], new
 }
 
 // Fills the map with four names, and then tries the insertion of a new one with a request refused: the word for what was seen.
-fn insertion<M: KeyedMap<Item = Entry, Key = String>>(alloc: Global, map: &mut M, call: Call) -> Result<&'static str, Fail>
+fn insertion<M: KeyedMap<Item = Entry, Key = String>>(
+    alloc: Global,
+    map: &mut M,
+    call: Call,
+) -> Result<&'static str, Fail>
     requires { M.keyed map.old }
 {
     let names = names(alloc, 4)?;
@@ -100,11 +117,16 @@ fn insertion<M: KeyedMap<Item = Entry, Key = String>>(alloc: Global, map: &mut M
     let outcome = put(map, call, name, 6);
     let is_met = is_met(alloc);
     match outcome {
-        Outcome::Inserted if !is_met && holds(map, names.as_slice(), (&new, Some(6))) => Ok("inserted"),
+        Outcome::Inserted if !is_met && holds(map, names.as_slice(), (&new, Some(6))) => Ok(
+            "inserted",
+        ),
         Outcome::Back(name, value) if is_met && name == new && value == 6 => {
             let is_as_before = holds(map, names.as_slice(), (&new, None));
             let again = put(map, call, name, value);
-            if is_as_before && again == Outcome::Inserted && holds(map, names.as_slice(), (&new, Some(6))) {
+            if is_as_before
+                && again == Outcome::Inserted
+                && holds(map, names.as_slice(), (&new, Some(6)))
+            {
                 return Ok("item_back");
             }
             Err(Fail::from("the map is not as it was, or refuses again"))
