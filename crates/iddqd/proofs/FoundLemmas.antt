@@ -6,11 +6,11 @@
 --     item_taken, item_exchanged      what the items are without it, and with another in its stead
 --     differ_taken, differ_exchanged, differ_added      their keys differ still
 --     same_numbers      the numbers of the occupied slots do not look at the items
-use Rattle.std.proofs.Common.{◌≡◌, ◌≢◌, ℕ, zero, suc, ◌<◌, Bool, true, false, cond, not, filter, List, [], ◌∷◌, length, map, get_or, set, Option, Some, None, is_some, refl, sym, ap, ◌∙◌, arith, true≢false, subst}
+use Rattle.std.proofs.Common.{◌≡◌, ◌≢◌, ℕ, zero, suc, Bool, true, false, cond, not, List, [], ◌∷◌, map, get_or, Option, Some, None, is_some, refl, sym, ap, ◌∙◌, true≢false, subst}
 use Rattle.std.proofs.lemmas.List.{get_or-map}
 use Rattle.std.proofs.lemmas.Option.{get_or_from_slice_get, slice_get_within}
 use Rattle.std.specs.Cmp.{IsEquivalence}
-use Rattle.std.specs.List.{HoldsAt, filter_map, slice_get}
+use Rattle.std.specs.List.{HoldsAt, filter_map}
 use Rattle.iddqd_core.specs.Contents.{AddsItem, IsAbsent, IsKeyTest, NoTwoAkin, find_item, replaced, without}
 use Rattle.iddqd_core.proofs.ContentsLemmas.{IsOnlyPlace, only_place, find_at, filter_at, map_at}
 use Rattle.iddqd_core.proofs.KeepsLemmas.{differ_filter, differ_insert, differ_set}

@@ -7,7 +7,7 @@
 --     keeps_spare      the room of a map whose numbers say so
 --     map_kept, map_inserted      what an insertion leaves, refused or not
 --     map_taken, map_exchanged      what a removal and a replacement leave
-use Rattle.std.proofs.Common.{◌≡◌, ◌≢◌, ℕ, zero, suc, ◌+◌, ◌-◌, ◌<◌, ◌≤◌, min, Bool, true, false, List, [], ◌∷◌, length, map, get_or, Option, Some, None, IsSome, IfSome, IfNone, IsSomeAnd, is_some, refl, sym, ap, ◌∙◌, arith, subst, count_by, ⊎_elim}
+use Rattle.std.proofs.Common.{◌≡◌, ℕ, ◌+◌, ◌-◌, ◌<◌, ◌≤◌, min, Bool, true, false, List, [], length, get_or, Option, Some, None, IfSome, IfNone, IsSomeAnd, is_some, refl, sym, ap, ◌∙◌, arith, subst, count_by, ⊎_elim}
 use Rattle.std.proofs.lemmas.Bool.{cases_eq}
 use Rattle.std.specs.Cmp.{IsEquivalence}
 use Rattle.std.specs.Hash.{HashWrites}
@@ -15,10 +15,10 @@ use Rattle.std.specs.List.{Contains, IsDistinct}
 use Rattle.std.specs.Option.{option_and_then}
 use Rattle.iddqd_core.specs.Contents.{AddsItem, IsAbsent, IsKeyTest, NoTwoAkin, find_item, replaced, without}
 use Rattle.iddqd_core.specs.HashPairs.{HashPairs, HasOneMore, IsMatch, SamePairs}
-use Rattle.iddqd_core.specs.Store.{Store, item_at, IsOccupied, store_len, vacant, Updates}
+use Rattle.iddqd_core.specs.Store.{Store, item_at, store_len, vacant, Updates}
 use Rattle.iddqd.specs.HashItems.{HashItems, Keyed}
 use Rattle.iddqd.specs.HashMap.{InsertsItem, KeepsMap, KeepsSpare}
-use Rattle.iddqd.specs.Paired.{ListsOccupied, hash_of_slot, hashes_in, items_in, shown, spare_in}
+use Rattle.iddqd.specs.Paired.{ListsOccupied, hash_of_slot, hashes_in, items_in, shown}
 use Rattle.iddqd.proofs.FoundLemmas.{differ_added, differ_exchanged, differ_taken, item_absent, item_exchanged, item_found, item_taken, same_numbers}
 use Rattle.iddqd.proofs.PairLemmas.{listed_hash}
 use Rattle.iddqd.proofs.PairedLemmas.{AreListedUnder, hashes_agree, listed_under, occupied_listed, under_added, under_removed, under_same}

@@ -2,7 +2,7 @@
 --     length-weight      a list's length is the sum of ones
 --     listed_some      a slot that is listed is counted
 --     listed_hash, hash_listed      a slot that is listed once is listed with its hash
-use Rattle.std.proofs.Common.{◌≡◌, ◌≢◌, ℕ, zero, suc, ◌+◌, ◌<◌, ◌≤◌, List, [], ◌∷◌, length, get_or, cond, eqb, Bool, true, false, refl, sym, ap, ◌∙◌, arith, ◌⊎◌, inl, inr, ⊎_elim, suc-le-suc}
+use Rattle.std.proofs.Common.{◌≡◌, ℕ, zero, suc, ◌+◌, ◌<◌, List, [], ◌∷◌, length, get_or, cond, eqb, Bool, true, false, refl, ap, ◌∙◌, arith, ◌⊎◌, inl, inr, ⊎_elim, suc-le-suc}
 use Rattle.std.proofs.Math.Nat.{le_of_suc-le-suc}
 use Rattle.std.proofs.lemmas.Bool.{eqb-true, eq-eqb}
 use Rattle.std.proofs.lemmas.List.Sums.{sum_by-cons}

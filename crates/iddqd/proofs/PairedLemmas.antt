@@ -4,13 +4,13 @@
 --     AreListedUnder      each item's slot is listed with the hash that is told of the item
 --     listed_under, hashes_agree      the same, of the list of hashes
 --     under_same, under_added, under_removed, under_kept      ... after a change
-use Rattle.std.proofs.Common.{◌≡◌, ◌≢◌, ℕ, zero, ◌+◌, ◌-◌, ◌<◌, ◌≤◌, List, [], ◌∷◌, length, map, get_or, set, Option, Some, None, IsSome, is_some, cond, eqb, Bool, true, false, refl, sym, ap, ◌∙◌, arith, true≢false, subst, ⊎_elim, count_by}
+use Rattle.std.proofs.Common.{◌≡◌, ◌≢◌, ℕ, ◌+◌, ◌<◌, ◌≤◌, List, [], length, map, get_or, Some, None, is_some, cond, Bool, true, false, refl, sym, ap, ◌∙◌, arith, subst, ⊎_elim, count_by}
 use Rattle.std.proofs.lemmas.Bool.{cases_eq, eq-eqb, ne_eqb}
 use Rattle.std.specs.List.{Contains, sum_by}
 use Rattle.iddqd_core.specs.HashPairs.{of_slot}
 use Rattle.iddqd_core.specs.Store.{Store, item_at, IsOccupied, store_len, Updates}
 use Rattle.iddqd.specs.Paired.{ListsOccupied, hash_of_slot, hashes_in, items_in}
-use Rattle.iddqd.proofs.PairLemmas.{length-weight, listed_some, listed_hash, no_hash, counts, tells}
+use Rattle.iddqd.proofs.PairLemmas.{length-weight, listed_some, no_hash, counts, tells}
 use Rattle.iddqd.proofs.SlotItemLemmas.{number_at, numbers_agree}
 
 -- the sums of the weights differ by one pair

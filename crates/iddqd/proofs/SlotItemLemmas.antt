@@ -5,7 +5,7 @@
 --     slot_of      each item has a slot
 --     length-items      there are as many items as occupied slots
 --     number_at, numbers_agree      a number for each slot, told by its item
-use Rattle.std.proofs.Common.{◌≡◌, ◌≢◌, ℕ, zero, suc, ◌+◌, ◌<◌, ◌≤◌, List, [], ◌∷◌, ◌++◌, length, map, set, get_or, drop, Option, Some, None, is_some, cond, refl, sym, ap, ◌∙◌, arith, subst, count_by}
+use Rattle.std.proofs.Common.{◌≡◌, ◌≢◌, ℕ, zero, suc, ◌≤◌, List, [], ◌∷◌, ◌++◌, length, map, set, get_or, drop, Option, Some, None, is_some, cond, refl, sym, ap, ◌∙◌, arith, subst, count_by}
 use Rattle.std.proofs.lemmas.List.Sums.{sum_by-cons}
 use Rattle.std.specs.List.{filter_map, cons_option, insert, remove, slice_get}
 use Rattle.iddqd_core.specs.Contents.{AddsItem}

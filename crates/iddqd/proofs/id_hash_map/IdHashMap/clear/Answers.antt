@@ -1,4 +1,4 @@
-use Rattle.std.proofs.Common.{◌∙◌, sym, ap, subst, refl, arith}
+use Rattle.std.proofs.Common.{ap, subst, arith}
 use Rattle.iddqd_core.specs.Hashing.{hash_under}
 use Rattle.iddqd.specs.HashMap.{KeepsSpare}
 use Rattle.iddqd.specs.Paired.{shown}

@@ -6,7 +6,7 @@ use Rattle.iddqd_core.specs.Refusal.{refusal_kind}
 use Rattle.iddqd_core.specs.declared.errors.TryReserveErrorKind.TheVariants.{CapacityOverflow, AllocError}
 use Rattle.iddqd.specs.HashItems.{Keyed}
 use Rattle.iddqd.specs.HashMap.{InsertsItem, KeepsMap}
-use Rattle.iddqd.specs.Paired.{ListsOccupied, items_in, shown}
+use Rattle.iddqd.specs.Paired.{items_in, shown}
 use Rattle.iddqd.proofs.MapLemmas.{inserted_after, map_inserted, map_kept}
 use Rattle.iddqd.proofs.PairedLemmas.{paired_grown}
 use Rattle.iddqd.proofs.SlotItemLemmas.{length-items}

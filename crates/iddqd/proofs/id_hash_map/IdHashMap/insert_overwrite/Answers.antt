@@ -1,4 +1,4 @@
-use Rattle.std.proofs.Common.{◌∙◌, ◌≡◌, Some, sym, ap, subst, refl, arith}
+use Rattle.std.proofs.Common.{◌∙◌, ◌≡◌, Some, sym, ap, subst, arith}
 use Rattle.iddqd_core.specs.Contents.{find_item, replaced}
 use Rattle.iddqd_core.specs.Hashing.{hash_under}
 use Rattle.iddqd.specs.HashItems.{Keyed}

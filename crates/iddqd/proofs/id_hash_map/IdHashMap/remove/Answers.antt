@@ -1,5 +1,5 @@
-use Rattle.std.proofs.Common.{◌∙◌, ◌≡◌, true, None, Some, sym, ap, subst, arith, refl}
-use Rattle.iddqd_core.specs.Contents.{IsAbsent, find_item, without}
+use Rattle.std.proofs.Common.{◌∙◌, sym, ap, subst}
+use Rattle.iddqd_core.specs.Contents.{IsAbsent, without}
 use Rattle.iddqd_core.specs.Hashing.{hash_under}
 use Rattle.iddqd.specs.HashItems.{Keyed}
 use Rattle.iddqd.specs.HashMap.{KeepsSpare}

@@ -1,4 +1,4 @@
-use Rattle.std.proofs.Common.{◌<◌, ℕ, Result, Ok, Err, length, arith}
+use Rattle.std.proofs.Common.{Result, Ok, Err, arith}
 use Rattle.std.specs.Result.{OnOk}
 use Rattle.iddqd.proofs.PairLemmas.{length-weight}
 use Rattle.iddqd.proofs.id_hash_map.paired.reserve_one.Goals as goal
