@@ -8,9 +8,11 @@ mod paired;
 #[cfg(test)]
 mod tests;
 
-use iddqd_core::{IdOrdItem, ItemStore, OrdIndex};
+use iddqd_core::{ItemStore, OrdIndex};
 use std::alloc::Global;
 use std::marker::Model;
+
+pub use iddqd_core::IdOrdItem;
 
 /// The most items that a map holds (ours: the crate leaves it open).
 pub const MAX_ITEMS: u32 = u32::MAX;

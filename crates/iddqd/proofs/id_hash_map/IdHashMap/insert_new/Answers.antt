@@ -1,9 +1,9 @@
-use Rattle.std.proofs.Common.{◌≡◌, ◌∙◌, ◌<◌, ℕ, List, length, sym, ap, subst, arith, cond, eqb}
+use Rattle.std.proofs.Common.{◌∙◌, ◌<◌, length, sym, ap, subst, arith}
 use Rattle.iddqd_core.specs.Contents.{IsAbsent}
 use Rattle.iddqd_core.specs.Hashing.{hash_under}
 use Rattle.iddqd_core.specs.HashPairs.{HasOneMore}
 use Rattle.iddqd_core.specs.Refusal.{refusal_kind}
-use Rattle.iddqd_core.specs.declared.errors.TryReserveErrorKind.TheVariants.{CapacityOverflow, AllocError}
+use Rattle.iddqd_core.proofs.RefusalLemmas.{kind_by_length}
 use Rattle.iddqd.specs.HashItems.{Keyed}
 use Rattle.iddqd.specs.HashMap.{InsertsItem, KeepsMap}
 use Rattle.iddqd.specs.Paired.{items_in, shown}
@@ -23,10 +23,6 @@ put_in-requires-clause-paired g c =
     let m = c.self.inside in
     let room = c.reserve_one.new in
     paired_grown m.store room.store m.index.pairs room.index.pairs c.self.invariant c.reserve_one.ensures.store c.reserve_one.ensures.capacity c.reserve_one.ensures.pairs
-
--- the kind of a refusal is told by the number of items
-kind_by_length : {X Y : Type 0} (limit : ℕ) (xs : List X) (ys : List Y) → length xs ≡ length ys → refusal_kind limit xs ≡ refusal_kind limit ys
-kind_by_length limit xs ys e = ap (λ n. cond (eqb n limit) CapacityOverflow AllocError) e
 
 pub returns-in-Err-clause-kind : goal.returns-in-Err-clause-kind
 returns-in-Err-clause-kind g c =

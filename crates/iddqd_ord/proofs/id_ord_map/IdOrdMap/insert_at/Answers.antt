@@ -1,17 +1,13 @@
-use Rattle.std.proofs.Common.{◌≡◌, ◌-◌, ◌∙◌, List, insert, ap, subst, sym, length, arith, ℕ, cond, eqb}
+use Rattle.std.proofs.Common.{◌≡◌, ◌-◌, ◌∙◌, insert, ap, subst, sym, length, arith}
 use Rattle.std.proofs.lemmas.List.{length-map}
 use Rattle.iddqd_core.specs.Contents.{Ascends}
 use Rattle.iddqd_core.specs.Listed.{listed_items}
 use Rattle.iddqd_core.specs.Refusal.{refusal_kind}
 use Rattle.iddqd_core.specs.Store.{vacant}
-use Rattle.iddqd_core.specs.declared.errors.TryReserveErrorKind.TheVariants.{CapacityOverflow, AllocError}
 use Rattle.iddqd_core.proofs.KeepsLemmas.{ascends_insert}
 use Rattle.iddqd_core.proofs.ListedLemmas.{length-listed}
+use Rattle.iddqd_core.proofs.RefusalLemmas.{kind_by_length}
 use Rattle.iddqd_ord.proofs.id_ord_map.IdOrdMap.insert_at.Goals as goal
-
--- the kind of a refusal is told by the number of items
-kind_by_length : {X Y : Type 0} (limit : ℕ) (xs : List X) (ys : List Y) → length xs ≡ length ys → refusal_kind limit xs ≡ refusal_kind limit ys
-kind_by_length limit xs ys e = ap (λ n. cond (eqb n limit) CapacityOverflow AllocError) e
 
 pub returns-in-Err-clause-kind : goal.returns-in-Err-clause-kind
 returns-in-Err-clause-kind g c =
