@@ -8,7 +8,7 @@
 
    Without this heap both are refused, so the same test learns that it met no refusal. What happens is written to the file
    descriptor REFUSE_TELLS (of the environment), a line each: 'armed', 'refused', 'ended'. The five functions below are the
-   C library's ways to ask for memory; free stays as it is. No header is needed. */
+   C library's calls by which the tests' heap asks for memory; free stays as it is. No header is needed. */
 
 typedef unsigned long size;
 

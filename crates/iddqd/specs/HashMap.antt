@@ -3,10 +3,12 @@
 --     KeepsSpare      what is there and what is spare never fall together, and both fit the limit (`reserve`; the number is ours)
 --     InsertsItem      the item was put in
 --     KeepsMap      nothing has changed but the room, which may have grown
-use Rattle.std.specs.Prelude.{◌≡◌, ℕ, ◌+◌, ◌≤◌, Bool, [], length, Result}
+use Rattle.std.specs.Prelude.{◌≡◌, ℕ, ◌+◌, ◌≤◌, Bool, [], length, IfErr, Result}
 use Rattle.std.specs.Borrow.{Fml, RattleType, MutBor, LendsSoOk, unit}
 use Rattle.std.specs.Hash.{HashWrites}
 use Rattle.iddqd_core.specs.Holding.{TakesItem, KeepsItems}
+use Rattle.iddqd_core.specs.Refusal.{OnDuplicate}
+use Rattle.iddqd_core.specs.declared.errors.InsertError.{InsertError}
 use Rattle.iddqd.specs.HashItems.{HashItems, Keyed, held}
 use Rattle.iddqd.specs.contracts.id_hash_map.IdHashMap.{the_row}
 
@@ -31,9 +33,9 @@ module _ {S T : Type 0} where
       pub spare : KeepsSpare old new
       pub hasher : new.hasher ≡ old.hasher
 
--- what the map is once what an insertion shows is let go: at `Ok` the item is in, at `Err` the items are as they were
-abbrev pub ends_inserted : (S T : RattleType) {K E : Type 0} (key : T.Denot → K) (eq : K → K → Bool) (input : K → HashWrites) (hash : S.Denot → HashWrites → ℕ) → MutBor (HashItems S.Denot T.Denot) → Result (MutBor unit.Denot) E → T.Denot → Fml
+-- what the map is once what an insertion shows is let go: at `Ok` the item is in; at `Err` the items are as they were, and beside a duplicate all is
+abbrev pub ends_inserted : (S T : RattleType) {K : Type 0} (key : T.Denot → K) (eq : K → K → Bool) (input : K → HashWrites) (hash : S.Denot → HashWrites → ℕ) → MutBor (HashItems S.Denot T.Denot) → Result (MutBor unit.Denot) (InsertError T.Denot) → T.Denot → Fml
 ends_inserted S T key eq input hash map result x =
     LendsSoOk (the_row T S) unit map result
     (λ new _. InsertsItem key eq input hash x map.now new)
-    (λ new. KeepsMap key eq input hash map.now new)
+    (λ new. KeepsMap key eq input hash map.now new × IfErr result (OnDuplicate (new ≡ map.now)))

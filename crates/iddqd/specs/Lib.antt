@@ -5,4 +5,5 @@ pub use Rattle.iddqd_core.specs.Contents
 pub use Rattle.iddqd_core.specs.Errors
 pub use Rattle.iddqd_core.specs.Hashing
 pub use Rattle.iddqd_core.specs.Holding
+pub use Rattle.iddqd_core.specs.Query
 pub use Rattle.iddqd_core.specs.Refusal

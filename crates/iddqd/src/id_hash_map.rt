@@ -130,7 +130,7 @@ impl<T: IdHashItem, S: BuildHasher> IdHashMap<T, S> {
         }
     }
 
-    /// Drops every item, and leaves no slot. The capacity stays, and the room of the items is spare again.
+    /// Drops every item, and leaves no slot. The capacity stays, and the room of the items is spare again. It takes no memory.
     pub fn clear(&mut self)
     where
         T: Drop,

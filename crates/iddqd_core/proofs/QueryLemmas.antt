@@ -8,11 +8,10 @@ use Rattle.std.proofs.Common.{◌≡◌, ℕ, ◌+◌, ◌<◌, ◌≤◌, ⊎_e
 use Rattle.std.proofs.lemmas.Bool.{cases_lt}
 use Rattle.std.proofs.lemmas.List.{get_or-map, length-map}
 use Rattle.std.proofs.lemmas.Option.{slice_get_read}
-use Rattle.std.proofs.lemmas.Map.Keys.{IsDistinct-from_sorted}
 use Rattle.std.specs.Cmp.{IsEquivalence, IsTotalOrder}
 use Rattle.std.specs.List.{AllWithin, HoldsAt, IsDistinct, remove, slice_get}
 use Rattle.std.specs.Ordering.{is_eq, is_lt, is_le, is_ge}
-use Rattle.iddqd_core.specs.Query.{le_then_less, ge_then_greater}
+use Rattle.iddqd_core.specs.Query.{differ_from_ascends, le_then_less, ge_then_greater}
 use Rattle.iddqd_core.specs.Contents.{IsKeyTest, find_item, without, replaced, Ascends, NoTwoAkin}
 use Rattle.iddqd_core.proofs.ContentsLemmas.{IsOnlyPlace, NonePasses, only_place, find_at, find_none, filter_at, filter_none, map_at}
 use Rattle.iddqd_core.proofs.SearchLemmas.{greater_in_front, less_at_back, find_from}
@@ -36,11 +35,6 @@ own_query eq cmp equivalence total ties k = record {
   above = le_then_less total k;
   below = ge_then_greater total k;
 }
-
--- items that ascend by key have different keys
-pub differ_from_ascends : {T K : Type 0} (key : T → K) {eq : K → K → Bool} (cmp : K → K → Ordering) → ((x y : K) → eq x y ≡ is_eq (cmp x y)) → (items : List T) → Ascends key cmp items → NoTwoAkin key eq items
-differ_from_ascends key cmp ties items sorted =
-    subst (λ e. IsDistinct e (map key items)) (λ i x y. sym (ties x y) i) (IsDistinct-from_sorted cmp (map key items) sorted)
 
 module _ {T K : Type 0} (key : T → K) {eq : K → K → Bool} {cmp : K → K → Ordering} {test : K → Bool} {compare : K → Ordering} (q : OrderedQuery eq cmp test compare) (items : List T) (sorted : Ascends key cmp items) where
   pub only_at : (i : ℕ) → i < length (map key items) → HoldsAt (λ k. compare k ≡ Equal) (map key items) i → IsOnlyPlace (λ x. test (key x)) items i

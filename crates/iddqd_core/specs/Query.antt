@@ -1,10 +1,13 @@
--- Chains of an order, by which a key meets the laws of a query for itself.
-use Rattle.std.specs.Prelude.{◌≡◌, IsTrue}
-use Rattle.std.proofs.Common.{refl, sym, ap, ◌∙◌, true≢false}
+-- Chains of an order, by which a key meets the laws of a query for itself, and keys that ascend differ.
+use Rattle.std.specs.Prelude.{◌≡◌, Bool, List, IsTrue, map}
+use Rattle.std.proofs.Common.{refl, sym, ap, ◌∙◌, subst, true≢false}
+use Rattle.std.proofs.lemmas.Map.Keys.{IsDistinct-from_sorted}
+use Rattle.std.specs.List.{IsDistinct}
 use Rattle.std.specs.declared.cmp.Ordering.{Ordering}
 use Rattle.std.specs.declared.cmp.Ordering.TheVariants.{Less, Equal, Greater}
-use Rattle.std.specs.Ordering.{is_le, is_ge, ordering_reverse}
+use Rattle.std.specs.Ordering.{is_eq, is_le, is_ge, ordering_reverse}
 use Rattle.std.specs.Cmp.{IsTotalOrder}
+use Rattle.iddqd_core.specs.Contents.{Ascends, NoTwoAkin}
 
 module _ {K : Type 0} {cmp : K → K → Ordering} (o : IsTotalOrder cmp) where
   -- from x <= y and y < z, x < z
@@ -28,3 +31,8 @@ module _ {K : Type 0} {cmp : K → K → Ordering} (o : IsTotalOrder cmp) where
       by Less e = absurd (true≢false (sym ge ∙ ap is_ge e))
       by Equal e = o.congr x y z e ∙ gt
       by Greater e = o.antisymm x z ∙ ap ordering_reverse (o.trans z y x (turned y z gt) (turned x y e))
+
+-- items that ascend by key have different keys
+pub differ_from_ascends : {T K : Type 0} (key : T → K) {eq : K → K → Bool} (cmp : K → K → Ordering) → ((x y : K) → eq x y ≡ is_eq (cmp x y)) → (items : List T) → Ascends key cmp items → NoTwoAkin key eq items
+differ_from_ascends key cmp ties items sorted =
+    subst (λ e. IsDistinct e (map key items)) (λ i x y. sym (ties x y) i) (IsDistinct-from_sorted cmp (map key items) sorted)

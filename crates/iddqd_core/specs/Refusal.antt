@@ -9,6 +9,10 @@ use Rattle.iddqd_core.specs.declared.errors.TryReserveErrorKind.TheVariants.{Cap
 use Rattle.iddqd_core.specs.declared.errors.InsertError.{InsertError}
 use Rattle.iddqd_core.specs.declared.errors.InsertError.TheVariants.{Duplicate, Refused}
 
+-- why an insertion was refused (`InsertError`)
+abbrev pub InsertionError : Type 0 → Type 0
+InsertionError T = InsertError T
+
 -- why room was refused, and that it was for want of memory (`TryReserveError`)
 abbrev pub RefusalKind : Type 0
 RefusalKind = TryReserveErrorKind
@@ -40,3 +44,8 @@ module _ {T K : Type 0} (key : T → K) (eq : K → K → Bool) (limit : ℕ) wh
 abbrev pub OnRefused : {T : Type 0} → Type 0 → InsertError T → Type 0
 OnRefused P (Duplicate d) = Unit
 OnRefused P (Refused r) = P
+
+-- what holds where an akin item was there
+abbrev pub OnDuplicate : {T : Type 0} → Type 0 → InsertError T → Type 0
+OnDuplicate P (Duplicate d) = P
+OnDuplicate P (Refused r) = Unit

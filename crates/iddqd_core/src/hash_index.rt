@@ -23,8 +23,9 @@ use std::marker::Model;
 /// Pairs of a hash and a slot, each slot once (ours: the crate has hashbrown's `HashTable`). It computes no hash, and
 /// only `find` looks at items. Contracts see the pairs, in no order, and how many more can be added.
 ///
-/// A pair takes 16 bytes, and the heads of the buckets, of which at least half are empty, 8 to 16 more where there is
-/// room for two pairs. A removal leaves nothing behind, and a growth reads the hashes that are there.
+/// A pair takes 16 bytes. From room for two pairs on, the heads of the buckets, of which at least half are empty, take 8
+/// to 16 more for each pair that there is room for. A removal leaves nothing behind, and a growth reads the hashes that
+/// are there.
 #[derive(Drop)]
 pub struct HashIndex {
     // One more than the number of the bucket's last pair, or 0.
@@ -111,8 +112,9 @@ impl HashIndex {
         Ok(())
     }
 
-    /// The slot beside this hash whose item has the query's key, or `None`. It compares the keys of the pairs of exactly
-    /// this hash, at most each once.
+    /// The slot beside this hash whose item has the query's key, or `None`. Each slot that is listed beside the hash must
+    /// have an item. It walks the chain of one bucket, and compares the keys of the pairs of exactly this hash, at most
+    /// each once.
     #[inline]
     pub fn find<T: IdHashItem, Q: Equivalent<T::Key>>(
         &self,
@@ -136,7 +138,8 @@ impl HashIndex {
         )
     }
 
-    /// Adds the pair. There must be room, as `try_reserve(1)` makes it, so it takes no memory.
+    /// Adds the pair, whose slot no other pair has. There must be room, as `try_reserve(1)` makes it, so it takes no memory;
+    /// and fewer than 4,294,967,295 pairs. It takes constant time.
     #[inline]
     pub fn add_reserved(&mut self, hash: u64, slot: u32)
         requires room { 0 < self.old.spare }
@@ -159,7 +162,8 @@ impl HashIndex {
         );
     }
 
-    /// Takes the pair out. Its room is there again at once. It takes no memory.
+    /// Takes the pair out, which must be there. Its room is there again at once. It walks the chains of that pair and of
+    /// the last one, and takes no memory.
     pub fn remove(&mut self, hash: u64, slot: u32)
         requires present { Contains self.old.pairs (hash, slot) }
         ensures pairs { HasOneMore self.new self.old (hash, slot) }
@@ -171,7 +175,7 @@ impl HashIndex {
         self.links.truncate(last);
     }
 
-    /// Gives the pair a new slot, which no other pair has. It takes no memory.
+    /// Gives the pair, which must be there, a new slot, which no other pair has. It walks one chain, and takes no memory.
     pub fn rename(&mut self, hash: u64, old: u32, new: u32)
         requires present { Contains self.old.pairs (hash, old) }
         requires absent { of_slot self.old.pairs new ≡ 0 }
@@ -182,7 +186,7 @@ impl HashIndex {
         self.links[at].slot = new;
     }
 
-    /// Takes every pair out. It takes and gives back no memory.
+    /// Takes every pair out. It writes the head of each bucket, and takes and gives back no memory.
     pub fn clear(&mut self)
         ensures pairs { self.new.pairs ≡ [] }
         ensures spare { self.old.spare + length self.old.pairs ≤ self.new.spare }
@@ -212,7 +216,8 @@ impl HashIndex {
         Ok(())
     }
 
-    /// An index of the same pairs, with as much room. It is refused only for want of memory.
+    /// An index of the same pairs, with as much room. It copies each pair and each head, and is refused only for want of
+    /// memory.
     pub fn try_clone(&self) -> Result<Self, TryReserveError>
         ensures ok { IfOk result (λ copy. copy ≡ self.now) }
         ensures only_memory { IfErr result (λ e. e ≡ OutOfMemory) }

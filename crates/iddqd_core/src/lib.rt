@@ -1,4 +1,4 @@
-//! What both maps stand on: errors, items, queries, steps, the item store and the ordered index.
+//! What both maps stand on: errors, items, queries, steps, the item store and both indexes.
 #![tactic(auto)]
 
 mod errors;

@@ -8,11 +8,10 @@ mod paired;
 #[cfg(test)]
 mod tests;
 
+pub use iddqd_core::IdOrdItem;
 use iddqd_core::{ItemStore, OrdIndex};
 use std::alloc::Global;
 use std::marker::Model;
-
-pub use iddqd_core::IdOrdItem;
 
 /// The most items that a map holds (ours: the crate leaves it open).
 pub const MAX_ITEMS: u32 = u32::MAX;

@@ -12,7 +12,7 @@ use Rattle.iddqd.specs.Contents.{AddsItem, Ascends, IsAbsent, IsKeyTest, find_it
 use Rattle.iddqd.proofs.DistinctLemmas.{all_insert, weaken}
 use Rattle.iddqd.proofs.KeepsLemmas.{ascends_filter}
 use Rattle.iddqd.proofs.PlacedLemmas.{insert_placed}
-use Rattle.iddqd.proofs.QueryLemmas.{differ_from_ascends}
+use Rattle.iddqd.specs.Query.{differ_from_ascends}
 use Rattle.iddqd_run.proofs.SameItemsLemmas.{filter_permutation, find_permutation}
 
 module _ {T K : Type 0} (key : T → K) {eq : K → K → Bool} {cmp : K → K → Ordering} (equivalence : IsEquivalence eq) (total : IsTotalOrder cmp) (ties : (x y : K) → eq x y ≡ is_eq (cmp x y)) where

@@ -3,9 +3,10 @@
 --     limit_of      the most items that it ever holds
 --     rule      whether it keeps a spare
 --     IsKeyed      its items lie as its lookups expect them
-use Rattle.std.specs.Prelude.{◌≡◌, ℕ, Bool, None, Result}
+use Rattle.std.specs.Prelude.{◌≡◌, ℕ, Bool, None, IfErr, Result}
 use Rattle.std.specs.Borrow.{Fml, RattleType, MutBor, LendsSoOk, unit}
 use Rattle.iddqd.specs.Contents.{OverwritesItem}
+use Rattle.iddqd.specs.Refusal.{InsertionError, OnDuplicate}
 use Rattle.iddqd_run.specs.Step.{MapState, SpareRule, KeepsRoom}
 
 module _ {M T : Type 0} (state : M → MapState T) (limit_of : M → ℕ) (rule : SpareRule) (IsKeyed : M → Type 0) where
@@ -25,9 +26,9 @@ module _ {M T : Type 0} (state : M → MapState T) (limit_of : M → ℕ) (rule 
     pub inserted : OverwritesItem key eq x (limit_of old) (state old).items None (state new).items
     pub stays : StaysKeyed old new
 
--- what the map is once what an insertion shows is let go: at `Ok` the item is in, at `Err` the items are as they were
-abbrev pub ends_inserted : (M : RattleType) {T K E : Type 0} (state : M.Denot → MapState T) (limit_of : M.Denot → ℕ) (rule : SpareRule) (IsKeyed : M.Denot → Type 0) (key : T → K) (eq : K → K → Bool) → MutBor M.Denot → Result (MutBor unit.Denot) E → T → Fml
+-- what the map is once what an insertion shows is let go: at `Ok` the item is in; at `Err` the items are as they were, and beside a duplicate all is
+abbrev pub ends_inserted : (M : RattleType) {T K : Type 0} (state : M.Denot → MapState T) (limit_of : M.Denot → ℕ) (rule : SpareRule) (IsKeyed : M.Denot → Type 0) (key : T → K) (eq : K → K → Bool) → MutBor M.Denot → Result (MutBor unit.Denot) (InsertionError T) → T → Fml
 ends_inserted M state limit_of rule IsKeyed key eq map result x =
     LendsSoOk M unit map result
     (λ new _. InsertsItem state limit_of rule IsKeyed key eq x map.now new)
-    (λ new. KeepsMap state limit_of rule IsKeyed map.now new)
+    (λ new. KeepsMap state limit_of rule IsKeyed map.now new × IfErr result (OnDuplicate (new ≡ map.now)))

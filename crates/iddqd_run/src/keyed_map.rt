@@ -1,7 +1,7 @@
 //! What generic code asks of a map of either kind.
 ghost use Rattle.std.specs.Prelude.{◌≡◌, ℕ, [], length, Some, IfOk, IfErr, IfNone, OnErr, option_copied};
 ghost use Rattle.std.specs.Borrow.{sem};
-ghost use Rattle.iddqd.specs.Contents.{OverwritesItem, find_item, without};
+ghost use Rattle.iddqd.specs.Contents.{NoTwoAkin, OverwritesItem, find_item, without};
 ghost use Rattle.iddqd.specs.Refusal.{OnRefused, RefusesInsertion};
 ghost use Rattle.iddqd_run.specs.KeyedMap.{StaysKeyed, ends_inserted};
 ghost use Rattle.iddqd_run.specs.Step.{MapState, SpareRule, KeepsRoom, RefusesItem};
@@ -73,7 +73,7 @@ pub trait KeyedMap {
         ensures unchanged { IfNone result (self.new ≡ self.old) }
         ensures stays { StaysKeyed state limit rule keyed self.old self.new };
 
-    /// Drops every item.
+    /// Drops every item. It takes no memory, and the room of the items is spare again where the map keeps a spare.
     fn clear(&mut self)
     where
         Self::Item: Drop,
@@ -84,4 +84,7 @@ pub trait KeyedMap {
     fn len(&self) -> usize
         ensures len { result ≡ length (state self.now).items }
         ensures room { KeepsRoom rule (limit self.now) (state self.now) (state self.now) };
+
+    // No two items of a keyed map are akin.
+    ghost differ: { (m : Self) → keyed m → NoTwoAkin key Self.Key.eq (state m).items };
 }

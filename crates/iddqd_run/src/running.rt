@@ -11,7 +11,8 @@ use crate::keyed_map::KeyedMap;
 use iddqd::errors::{Few, InsertError, TryReserveError};
 use std::alloc::Global;
 
-/// Runs the commands in order on a map of either kind: one reply for each (ours). Room for all replies is taken first; where it is refused,
+/// Runs the commands in order on a map of either kind: one reply for each (ours). It takes one vector
+/// of replies, and a clone for each `Get` that finds and each duplicate. Room for all replies is taken first; where it is refused,
 /// none has run, and the commands come back. Shown items are clones, which have to equal what they were made of.
 pub fn run<M: KeyedMap>(
     alloc: Global,

@@ -34,6 +34,7 @@ pub fn fault_text(fault: &Fault) -> &'static str
 
 /// Reads all input, answers each line from the entries so far, and then writes the whole text at once (ours). `Ok` tells how many
 /// lines were refused for want of memory. After `Fault::Read` and `Fault::Memory` nothing was written. The kind of map changes no reply.
+/// The whole input and the whole text stand in memory at once.
 pub fn serve<R: Read, W: Write>(
     alloc: Global,
     kind: Kind,

@@ -13,7 +13,7 @@ impl<T: IdHashItem, S: BuildHasher> IdHashMap<T, S> {
     ghost use Rattle.iddqd.specs.HashMap.{KeepsSpare};
 
     /// The item that the query finds, or `None`. It hashes the query once, compares keys only at items of the same stored
-    /// hash, and touches the item found once.
+    /// hash, and fetches the item found once more to lend it.
     #[inline]
     pub fn get<Q: Hash + Equivalent<T::Key>>(&self, query: &Q) -> Option<&T>
         requires keyed { Keyed T.key T.Key.eq T.Key.hash_input (hash_under S.BuildHasher S.Hasher.Hasher) self.now }
@@ -46,7 +46,7 @@ impl<T: IdHashItem, S: BuildHasher> IdHashMap<T, S> {
     }
 
     /// Takes out the item that the query finds, and answers it; `None` where there is none, and then nothing has
-    /// changed. The item's slot is vacant then, and its room is spare. It takes no memory.
+    /// changed. The item's slot is vacant then, and its room is spare. It hashes the query once, and takes no memory.
     pub fn remove<Q: Hash + Equivalent<T::Key>>(&mut self, query: &Q) -> Option<T>
         requires keyed { Keyed T.key T.Key.eq T.Key.hash_input (hash_under S.BuildHasher S.Hasher.Hasher) self.old }
         requires hashes { HashesAs (Q.equivalent query.now) (Q.hash_input query.now) T.Key.hash_input }

@@ -14,9 +14,10 @@ impl<T: IdHashItem, S: BuildHasher> IdHashMap<T, S> {
     ghost use Rattle.iddqd.specs.HashItems.{Keyed};
     ghost use Rattle.iddqd.specs.HashMap.{InsertsItem, KeepsMap, KeepsSpare, ends_inserted};
 
-    /// Inserts the item where none of an equal key is there. A duplicate needs no memory and lends the item that is
-    /// there; a full map and refused memory hand the item back, which never comes where `spare` is above 0. Then the items
-    /// are as they were (ours: the crate panics or aborts for want of room).
+    /// Inserts the item where none of an equal key is there. A duplicate takes no memory and lends the item that is there;
+    /// then the map is as it was. A full map and refused memory hand the item back, and then the items are as they were
+    /// (ours: the crate panics or aborts for want of room). Where `spare` is above 0 a new key is never refused. It hashes
+    /// the key once and searches once, for a duplicate twice; a growth reads each pair of the index.
     pub fn insert_unique(&mut self, item: T) -> Result<&mut (), InsertError<'_, T>>
         requires keyed { Keyed T.key T.Key.eq T.Key.hash_input (hash_under S.BuildHasher S.Hasher.Hasher) self.old }
         ensures* after { sem 𝓛 (ends_inserted S.row T.row T.key T.Key.eq T.Key.hash_input (hash_under S.BuildHasher S.Hasher.Hasher) self.entry result item) }
@@ -38,7 +39,8 @@ impl<T: IdHashItem, S: BuildHasher> IdHashMap<T, S> {
 
     /// Puts the item in the stead of one of an equal key, which it answers: the whole item, its key's spelling too.
     /// That takes no memory and is never refused. Where there is none, it inserts the item as `insert_unique` does and
-    /// answers `None`; a full map and refused memory hand the item back, and then the items are as they were.
+    /// answers `None`; a full map and refused memory hand the item back, and then the items are as they were (ours: the
+    /// crate panics or aborts for want of room). It hashes the key once and searches once.
     pub fn insert_overwrite(&mut self, item: T) -> Result<Option<T>, Refused<T>>
         requires keyed { Keyed T.key T.Key.eq T.Key.hash_input (hash_under S.BuildHasher S.Hasher.Hasher) self.old }
         ensures found { IfOk result (λ found. found ≡ find_item T.key (T.Key.eq (T.key item)) self.old.items) }

@@ -12,9 +12,9 @@ use iddqd_core::{DuplicateItem, Few, IdOrdItem, InsertError, Place, Refused, Ste
 impl<T: IdOrdItem> IdOrdMap<T> {
     ghost use Rattle.iddqd_ord.specs.OrdMap.{InsertsItem, KeepsMap, ends_inserted};
 
-    /// Inserts the item where none of an equal key is there. A duplicate needs no memory and lends the item that is
-    /// there; a full map and refused memory hand the item back. Then the items are as they were (ours: the crate
-    /// panics or aborts for want of room).
+    /// Inserts the item where none of an equal key is there. A duplicate takes no memory and lends the item that is
+    /// there; then the map is as it was. A full map and refused memory hand the item back, and then the items are as they
+    /// were (ours: the crate panics or aborts for want of room).
     pub fn insert_unique(&mut self, item: T) -> Result<&mut (), InsertError<'_, T>>
         requires keyed { Ascends T.key T.Key.cmp self.old.items }
         ensures* after { sem 𝓛 (ends_inserted T.row T.key T.Key.cmp self.entry result item) }

@@ -24,6 +24,8 @@ impl<T: IdHashItem, S: BuildHasher> KeyedMap for IdHashMap<T, S> {
 
     ghost keyed = { Keyed T.key T.Key.eq T.Key.hash_input (hash_under S.BuildHasher S.Hasher.Hasher) };
 
+    ghost differ = { λ m is. is.differ };
+
     fn insert_unique(&mut self, item: T) -> Result<&mut (), InsertError<'_, T>> {
         self.insert_unique(item)
     }

@@ -1,5 +1,6 @@
 //! The ordered map, which keeps no spare.
 ghost use Rattle.iddqd.specs.Contents.{Ascends};
+ghost use Rattle.iddqd.specs.Query.{differ_from_ascends};
 ghost use Rattle.iddqd_run.specs.Step.{KeepsNone, spareless};
 
 use super::KeyedMap;
@@ -21,6 +22,8 @@ impl<T: IdOrdItem> KeyedMap for IdOrdMap<T> {
     ghost rule = { KeepsNone };
 
     ghost keyed = { λ m. Ascends T.key T.Key.cmp m.items };
+
+    ghost differ = { λ m ascends. differ_from_ascends T.key T.Key.cmp T.Key.matches_eq m.items ascends };
 
     fn insert_unique(&mut self, item: T) -> Result<&mut (), InsertError<'_, T>> {
         self.insert_unique(item)

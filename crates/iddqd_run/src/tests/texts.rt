@@ -55,7 +55,7 @@ fn answers_texts(rt: HostRuntime) -> Result<(), Fail> {
             b"add a\nadd a 1 2\nadd  1\nget\nlen 1\n len\n",
             b"bad\nbad\nbad\nbad\nbad\nbad\n",
         ),
-        // words that later versions know
+        // unknown words
         (b"list\naddall a 1\n", b"bad\nbad\n"),
     ] {
         assert!(rt; are_answered(rt.alloc(), input, text)?);

@@ -17,14 +17,17 @@ returns g c = (
           };
         }),
     on_err_weaker c.insert_unique.result
-        (λ kept. record {
-          items = kept.keeps.items;
-          stays = record {
-            keyed = kept.keyed;
-            limit = kept.keeps.limit;
-            room = (kept.spare.never_less, omega (arith, kept.spare.in_limit, kept.keeps.limit));
-          };
-        })
+        (λ kept. (
+          record {
+            items = kept.0.keeps.items;
+            stays = record {
+              keyed = kept.0.keyed;
+              limit = kept.0.keeps.limit;
+              room = (kept.0.spare.never_less, omega (arith, kept.0.spare.in_limit, kept.0.keeps.limit));
+            };
+          },
+          kept.1,
+        ))
         c.insert_unique.follows.holds-at-none,
   ),
   record { after = tt; refused = c.insert_unique.ensures.refused; no_spare = search rules },

@@ -1,4 +1,5 @@
 use Rattle.std.proofs.Common.{rules, refl}
+use Rattle.std.proofs.lemmas.Result.{on_err_weaker}
 use Rattle.iddqd_run.proofs.keyed_map.ord.IdOrdMapKeyedMap.insert_unique.Goals as goal
 
 pub returns : goal.returns
@@ -11,7 +12,9 @@ returns g c = (
           inserted = (search rules, inserts.takes.room, inserts.takes.added);
           stays = record { keyed = inserts.keyed; limit = inserts.takes.limit; room = (refl, refl) };
         }),
-    search rules,
+    on_err_weaker c.insert_unique.result
+        (λ kept. (record { items = kept.0.keeps.items; stays = record { keyed = kept.0.keyed; limit = kept.0.keeps.limit; room = (refl, refl) } }, kept.1))
+        c.insert_unique.follows.holds-at-none,
   ),
   record { after = tt; refused = c.insert_unique.ensures.refused; no_spare = search rules },
 )
