@@ -88,7 +88,7 @@ module _ {S T K : Type 0} (key : T → K) (eq : K → K → Bool) (input : K →
         record { never_less = omega (arith, room.0, before, after); in_limit = omega (arith, room.1, after) }
 
     -- nothing has changed but the room
-    pub map_kept : Keyed key eq input hash (shown old p hasher) → new ≡ record old { capacity = new.capacity } → old.capacity ≤ new.capacity → SamePairs p q → p.spare ≤ q.spare → KeepsMap key eq input hash (shown old p hasher) (shown new q hasher)
+    pub map_kept : Keyed key eq input hash (shown old p hasher) → new ≡ record old { capacity = new.capacity } → old.capacity ≤ new.capacity → SamePairs p.pairs q.pairs → p.spare ≤ q.spare → KeepsMap key eq input hash (shown old p hasher) (shown new q hasher)
     map_kept keyed rest capacity same spare =
         let slots = ap (λ s. s.slots) rest in
         let limit = ap (λ s. s.limit) rest in
@@ -105,7 +105,7 @@ module _ {S T K : Type 0} (key : T → K) (eq : K → K → Bool) (input : K →
         keeps_spare (omega (arith, spare, was.counted, ap (λ xs. count_by is_some xs) none)) capacity limit
 
     -- a new item is there
-    pub map_inserted : IsEquivalence eq → Keyed key eq input hash (shown old p hasher) → (x : T) (slot : ℕ) → IsAbsent key (eq (key x)) (items_in old) → length (items_in old) < old.limit → HasOneMore p q (tell x, slot) → item_at old slot ≡ None → Updates old new slot (Some x) → p.spare ≤ q.spare + 1 → store_len new ≡ store_len old + 1 → vacant new ≡ vacant old - 1 → new.capacity ≡ old.capacity → new.limit ≡ old.limit → InsertsItem key eq input hash x (shown old p hasher) (shown new q hasher)
+    pub map_inserted : IsEquivalence eq → Keyed key eq input hash (shown old p hasher) → (x : T) (slot : ℕ) → IsAbsent key (eq (key x)) (items_in old) → length (items_in old) < old.limit → HasOneMore p.pairs q.pairs (tell x, slot) → item_at old slot ≡ None → Updates old new slot (Some x) → p.spare ≤ q.spare + 1 → store_len new ≡ store_len old + 1 → vacant new ≡ vacant old - 1 → new.capacity ≡ old.capacity → new.limit ≡ old.limit → InsertsItem key eq input hash x (shown old p hasher) (shown new q hasher)
     map_inserted equivalence keyed x slot absent room more none updates spare len gone capacity limit =
         let adds = item_added old.slots new.slots slot x none updates.changed updates.others in
         record {
@@ -120,7 +120,7 @@ module _ {S T K : Type 0} (key : T → K) (eq : K → K → Bool) (input : K →
       pub taken_items : Updates old new slot None → items_in new ≡ without key test (items_in old)
       taken_items updates = item_taken key equivalence test tests old.slots new.slots keyed.differ slot x there passes updates.others updates.changed
 
-      pub taken_keyed : (h : ℕ) → HasOneMore q p (h, slot) → Updates old new slot None → Keyed key eq input hash (shown new q hasher)
+      pub taken_keyed : (h : ℕ) → HasOneMore q.pairs p.pairs (h, slot) → Updates old new slot None → Keyed key eq input hash (shown new q hasher)
       taken_keyed h more updates =
           make_keyed new q (differ_taken key equivalence test tests old.slots new.slots keyed.differ slot x there passes updates.others updates.changed) (under_removed tell old new p.pairs q.pairs (keyed_under old p keyed) h slot more updates)
 

@@ -7,20 +7,13 @@
 use Rattle.std.proofs.Common.{◌≡◌, ◌≢◌, ℕ, ◌+◌, ◌<◌, ◌≤◌, List, [], length, map, get_or, Some, None, is_some, cond, Bool, true, false, refl, sym, ap, ◌∙◌, arith, subst, ⊎_elim, count_by}
 use Rattle.std.proofs.lemmas.Bool.{cases_eq, eq-eqb, ne_eqb}
 use Rattle.std.specs.List.{Contains, sum_by}
-use Rattle.iddqd_core.specs.HashPairs.{of_slot}
+use Rattle.iddqd_core.specs.HashPairs.{HasOneMore, SamePairs, of_slot}
 use Rattle.iddqd_core.specs.Store.{Store, item_at, IsOccupied, store_len, Updates}
 use Rattle.iddqd.specs.Paired.{ListsOccupied, hash_of_slot, hashes_in, items_in}
 use Rattle.iddqd.proofs.PairLemmas.{length-weight, listed_some, no_hash, counts, tells}
 use Rattle.iddqd.proofs.SlotItemLemmas.{number_at, numbers_agree}
 
--- the sums of the weights differ by one pair
-abbrev pub IsOneMore : List (ℕ × ℕ) → List (ℕ × ℕ) → ℕ × ℕ → Type 0
-IsOneMore ps qs pair = (weight : ℕ × ℕ → ℕ) → sum_by weight qs ≡ sum_by weight ps + weight pair
-
-abbrev pub AreSame : List (ℕ × ℕ) → List (ℕ × ℕ) → Type 0
-AreSame ps qs = (weight : ℕ × ℕ → ℕ) → sum_by weight qs ≡ sum_by weight ps
-
-module _ (ps qs : List (ℕ × ℕ)) (hash slot : ℕ) (more : IsOneMore ps qs (hash, slot)) where
+module _ (ps qs : List (ℕ × ℕ)) (hash slot : ℕ) (more : HasOneMore ps qs (hash, slot)) where
   count_here : of_slot qs slot ≡ of_slot ps slot + 1
   count_here = more (counts slot) ∙ ap (λ b. of_slot ps slot + cond b 1 0) (eq-eqb slot slot refl)
 
@@ -66,7 +59,7 @@ module _ {T : Type 0} where
 
   module _ (old new : Store T) (ps qs : List (ℕ × ℕ)) (paired : ListsOccupied old ps) where
     -- the pairs may stand in another order, and there may be more room
-    pub paired_grown : new ≡ record old { capacity = new.capacity } → old.capacity ≤ new.capacity → AreSame ps qs → ListsOccupied new qs
+    pub paired_grown : new ≡ record old { capacity = new.capacity } → old.capacity ≤ new.capacity → SamePairs ps qs → ListsOccupied new qs
     paired_grown rest more same =
         let slots = ap (λ s. s.slots) rest in
         let len : store_len new ≡ store_len old = ap (λ xs. count_by is_some xs) slots in
@@ -77,7 +70,7 @@ module _ {T : Type 0} where
           in_limit = omega (arith, len, paired.in_limit, ap (λ s. s.limit) rest);
         }
 
-    pub paired_added : (hash slot : ℕ) (x : T) → IsOneMore ps qs (hash, slot) → item_at old slot ≡ None → Updates old new slot (Some x) → store_len new ≡ store_len old + 1 → store_len old + 1 ≤ old.capacity → store_len old + 1 ≤ old.limit → new.capacity ≡ old.capacity → new.limit ≡ old.limit → ListsOccupied new qs
+    pub paired_added : (hash slot : ℕ) (x : T) → HasOneMore ps qs (hash, slot) → item_at old slot ≡ None → Updates old new slot (Some x) → store_len new ≡ store_len old + 1 → store_len old + 1 ≤ old.capacity → store_len old + 1 ≤ old.limit → new.capacity ≡ old.capacity → new.limit ≡ old.limit → ListsOccupied new qs
     paired_added hash slot x more vacant updates len memory limit same_capacity same_limit =
         record {
           each_once = λ other. ⊎_elim
@@ -89,7 +82,7 @@ module _ {T : Type 0} where
           in_limit = omega (arith, len, limit, same_limit);
         }
 
-    pub paired_removed : (hash slot : ℕ) → IsOneMore qs ps (hash, slot) → Contains ps (hash, slot) → Updates old new slot None → store_len new + 1 ≡ store_len old → new.capacity ≡ old.capacity → new.limit ≡ old.limit → ListsOccupied new qs
+    pub paired_removed : (hash slot : ℕ) → HasOneMore qs ps (hash, slot) → Contains ps (hash, slot) → Updates old new slot None → store_len new + 1 ≡ store_len old → new.capacity ≡ old.capacity → new.limit ≡ old.limit → ListsOccupied new qs
     paired_removed hash slot more listed updates len same_capacity same_limit =
         let was = occupied_listed old ps paired slot (listed_occupied old ps paired hash slot listed) in
         let gone : of_slot qs slot ≡ 0 = omega (arith, count_here qs ps hash slot more, was) in
@@ -127,10 +120,10 @@ module _ {T : Type 0} where
     hashes_agree store pairs under = numbers_agree tell (hash_of_slot pairs) store.slots under
 
     module _ (old new : Store T) (ps qs : List (ℕ × ℕ)) (under : AreListedUnder old ps) where
-      pub under_same : new.slots ≡ old.slots → AreSame ps qs → AreListedUnder new qs
+      pub under_same : new.slots ≡ old.slots → SamePairs ps qs → AreListedUnder new qs
       under_same slots same slot x there = same (tells slot) ∙ under slot x (ap (λ xs. get_or xs slot None) (sym slots) ∙ there)
 
-      pub under_added : (hash slot : ℕ) (x : T) → ListsOccupied old ps → IsOneMore ps qs (hash, slot) → item_at old slot ≡ None → Updates old new slot (Some x) → hash ≡ tell x → AreListedUnder new qs
+      pub under_added : (hash slot : ℕ) (x : T) → ListsOccupied old ps → HasOneMore ps qs (hash, slot) → item_at old slot ≡ None → Updates old new slot (Some x) → hash ≡ tell x → AreListedUnder new qs
       under_added hash slot x paired more vacant updates told other y there = ⊎_elim
           (λ e. let same : x ≡ y = (let now = updates.changed in let seen = ap (item_at new) (sym e) ∙ there in cc) in
           let none = no_hash ps slot (vacant_unlisted old ps paired slot vacant) in
@@ -139,7 +132,7 @@ module _ {T : Type 0} where
           (λ n. hash_other ps qs hash slot more other n ∙ under other y (sym (updates.others other n) ∙ there))
           (cases_eq other slot)
 
-      pub under_removed : (hash slot : ℕ) → IsOneMore qs ps (hash, slot) → Updates old new slot None → AreListedUnder new qs
+      pub under_removed : (hash slot : ℕ) → HasOneMore qs ps (hash, slot) → Updates old new slot None → AreListedUnder new qs
       under_removed hash slot more updates other y there = ⊎_elim
           (λ e. (let now = updates.changed in let seen = ap (item_at new) (sym e) ∙ there in cc))
           (λ n. sym (hash_other qs ps hash slot more other n) ∙ under other y (sym (updates.others other n) ∙ there))

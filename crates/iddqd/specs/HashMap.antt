@@ -1,12 +1,12 @@
 -- What the calls of a hash map leave.
 --     IsEmptyMap      there is no item, and no memory has been taken
---     KeepsSpare      what is there and what is spare never fall together, and both fit the limit (`reserve`; the number is ours)
+--     KeepsSpare      the spare stays (SpareStays of the core)
 --     InsertsItem      the item was put in
 --     KeepsMap      nothing has changed but the room, which may have grown
 use Rattle.std.specs.Prelude.{◌≡◌, ℕ, ◌+◌, ◌≤◌, Bool, [], length, IfErr, Result}
 use Rattle.std.specs.Borrow.{Fml, RattleType, MutBor, LendsSoOk, unit}
 use Rattle.std.specs.Hash.{HashWrites}
-use Rattle.iddqd_core.specs.Holding.{TakesItem, KeepsItems}
+use Rattle.iddqd_core.specs.Holding.{TakesItem, KeepsItems, SpareStays}
 use Rattle.iddqd_core.specs.Refusal.{OnDuplicate}
 use Rattle.iddqd_core.specs.declared.errors.InsertError.{InsertError}
 use Rattle.iddqd.specs.HashItems.{HashItems, Keyed, held}
@@ -16,9 +16,8 @@ module _ {S T : Type 0} where
   abbrev pub IsEmptyMap : ℕ → HashItems S T → Type 0
   IsEmptyMap limit m = m ≡ record m { items = []; hashes = []; spare = 0; vacant = 0; capacity = 0; limit = limit }
 
-  pub record KeepsSpare (old new : HashItems S T) : Type 0 where
-    pub never_less : old.spare + length old.items ≤ new.spare + length new.items
-    pub in_limit : new.spare + length new.items ≤ new.limit
+  abbrev pub KeepsSpare : HashItems S T → HashItems S T → Type 0
+  KeepsSpare old new = SpareStays new.limit old.spare old.items new.spare new.items
 
   module _ {K : Type 0} (key : T → K) (eq : K → K → Bool) (input : K → HashWrites) (hash : S → HashWrites → ℕ) where
     pub record InsertsItem (x : T) (old new : HashItems S T) : Type 0 where

@@ -12,16 +12,16 @@ pub record HashPairs : Type 0 where
   pub spare : ℕ
 
 -- the same pairs: every weight of a pair sums to as much
-abbrev pub SamePairs : HashPairs → HashPairs → Type 0
-SamePairs old new = (weight : ℕ × ℕ → ℕ) → sum_by weight new.pairs ≡ sum_by weight old.pairs
+abbrev pub SamePairs : List (ℕ × ℕ) → List (ℕ × ℕ) → Type 0
+SamePairs old new = (weight : ℕ × ℕ → ℕ) → sum_by weight new ≡ sum_by weight old
 
 -- new has this pair beside those of old
-abbrev pub HasOneMore : HashPairs → HashPairs → ℕ × ℕ → Type 0
-HasOneMore old new pair = (weight : ℕ × ℕ → ℕ) → sum_by weight new.pairs ≡ sum_by weight old.pairs + weight pair
+abbrev pub HasOneMore : List (ℕ × ℕ) → List (ℕ × ℕ) → ℕ × ℕ → Type 0
+HasOneMore old new pair = (weight : ℕ × ℕ → ℕ) → sum_by weight new ≡ sum_by weight old + weight pair
 
 -- the pair `after` stands in the stead of `before`
-abbrev pub HasInstead : HashPairs → HashPairs → ℕ × ℕ → ℕ × ℕ → Type 0
-HasInstead old new before after = (weight : ℕ × ℕ → ℕ) → sum_by weight new.pairs + weight before ≡ sum_by weight old.pairs + weight after
+abbrev pub HasInstead : List (ℕ × ℕ) → List (ℕ × ℕ) → ℕ × ℕ → ℕ × ℕ → Type 0
+HasInstead old new before after = (weight : ℕ × ℕ → ℕ) → sum_by weight new + weight before ≡ sum_by weight old + weight after
 
 -- how many pairs have this hash
 abbrev pub of_hash : List (ℕ × ℕ) → ℕ → ℕ

@@ -1,5 +1,5 @@
 -- What either map holds, and what a call does to it, whatever the keys are.
-use Rattle.std.specs.Prelude.{◌≡◌, ℕ, ◌-◌, ◌<◌, ◌≤◌, List, length, refl}
+use Rattle.std.specs.Prelude.{◌≡◌, ℕ, ◌+◌, ◌-◌, ◌<◌, ◌≤◌, List, length, refl}
 use Rattle.std.specs.Coded.{Coded, code_by, coded×, coded_ℕ, coded_list}
 use Rattle.iddqd_core.specs.Contents.{AddsItem}
 
@@ -38,3 +38,8 @@ pub record KeepsItems {T : Type 0} (old new : Holding T) : Type 0 where
   pub vacant : new.vacant ≡ old.vacant
   pub capacity : old.capacity ≤ new.capacity
   pub limit : new.limit ≡ old.limit
+
+-- of a map that keeps a spare: what is there and what is spare never fall together, and both fit the limit (`reserve`; the number is ours)
+pub record SpareStays {T : Type 0} (limit old_spare : ℕ) (old : List T) (new_spare : ℕ) (new : List T) : Type 0 where
+  pub never_less : old_spare + length old ≤ new_spare + length new
+  pub in_limit : new_spare + length new ≤ limit

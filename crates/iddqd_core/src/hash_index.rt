@@ -81,7 +81,7 @@ impl HashIndex {
     /// room. Where it takes some, it makes room for at least as many more as there was room for, and reads every pair.
     #[inline]
     pub fn try_reserve(&mut self, additional: usize) -> Result<(), TryReserveError>
-        ensures pairs { SamePairs self.old self.new }
+        ensures pairs { SamePairs self.old.pairs self.new.pairs }
         ensures ok { OnOk result (additional ≤ self.new.spare) }
         ensures only_memory { IfErr result (λ e. e ≡ OutOfMemory) }
         ensures needed { OnErr result (self.old.spare < additional) }
@@ -98,7 +98,7 @@ impl HashIndex {
     #[cold]
     #[inline(never)]
     fn grow(&mut self, additional: usize) -> Result<(), AllocError>
-        ensures pairs { SamePairs self.old self.new }
+        ensures pairs { SamePairs self.old.pairs self.new.pairs }
         ensures ok { OnOk result (additional ≤ self.new.spare) }
         ensures spare { self.old.spare ≤ self.new.spare }
     {
@@ -145,7 +145,7 @@ impl HashIndex {
         requires room { 0 < self.old.spare }
         requires absent { of_slot self.old.pairs slot ≡ 0 }
         requires fits { length self.old.pairs < u32.MAX }
-        ensures pairs { HasOneMore self.old self.new (hash, slot) }
+        ensures pairs { HasOneMore self.old.pairs self.new.pairs (hash, slot) }
         ensures spare { self.old.spare ≤ self.new.spare + 1 }
     {
         let at = self.links.len();
@@ -166,7 +166,7 @@ impl HashIndex {
     /// the last one, and takes no memory.
     pub fn remove(&mut self, hash: u64, slot: u32)
         requires present { Contains self.old.pairs (hash, slot) }
-        ensures pairs { HasOneMore self.new self.old (hash, slot) }
+        ensures pairs { HasOneMore self.new.pairs self.old.pairs (hash, slot) }
         ensures spare { self.old.spare + 1 ≤ self.new.spare }
     {
         let at = position(self.heads.as_slice(), self.links.as_slice(), hash, slot);
@@ -179,7 +179,7 @@ impl HashIndex {
     pub fn rename(&mut self, hash: u64, old: u32, new: u32)
         requires present { Contains self.old.pairs (hash, old) }
         requires absent { of_slot self.old.pairs new ≡ 0 }
-        ensures pairs { HasInstead self.old self.new (hash, old) (hash, new) }
+        ensures pairs { HasInstead self.old.pairs self.new.pairs (hash, old) (hash, new) }
         ensures spare { self.new.spare ≡ self.old.spare }
     {
         let at = position(self.heads.as_slice(), self.links.as_slice(), hash, old);
@@ -198,7 +198,7 @@ impl HashIndex {
     /// Gives memory back, but for room for `min` pairs and for those that are there. Refused or not, the pairs stay. It
     /// needs no memory, so that it is never refused today. Where it gives some back, it reads every pair.
     pub fn shrink(&mut self, min: usize) -> Result<(), TryReserveError>
-        ensures pairs { SamePairs self.old self.new }
+        ensures pairs { SamePairs self.old.pairs self.new.pairs }
         ensures only_memory { IfErr result (λ e. e ≡ OutOfMemory) }
         ensures ok { OnOk result (self.new.spare + length self.new.pairs ≤ max min (length self.old.pairs)) }
         ensures needed { OnErr result (max min (length self.old.pairs) < self.old.spare + length self.old.pairs) }

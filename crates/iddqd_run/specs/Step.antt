@@ -2,7 +2,8 @@
 --     MapState      the items of a map, and its spare: how many new items it takes without a refusal
 --     SpareRule      whether a map keeps a spare
 --     Step, Run      one command and its reply; a list of commands and their replies
-use Rattle.std.specs.Prelude.{◌≡◌, ℕ, ◌+◌, ◌≤◌, Bool, List, [], ◌∷◌, length, Option, Some, None, IfSome}
+use Rattle.std.specs.Prelude.{◌≡◌, ℕ, Bool, List, [], ◌∷◌, length, Option, Some, None, IfSome}
+use Rattle.iddqd.specs.Holding.{SpareStays}
 use Rattle.iddqd.specs.Contents.{find_item, IsAbsent, without, OverwritesItem}
 use Rattle.iddqd.specs.Refusal.{FindsNoRoom, RefusalKind, memory_refused}
 use Rattle.iddqd_run.specs.declared.commands.Command.{Command}
@@ -16,8 +17,8 @@ pub record MapState (T : Type 0) : Type 0 where
 
 -- a map that keeps no spare has 0 throughout; one that keeps a spare never loses room (`reserve`; the number is ours)
 pub data SpareRule : Type 0 where
-  KeepsNone : SpareRule
-  KeepsSpare : SpareRule
+  WithoutSpare : SpareRule
+  WithSpare : SpareRule
 
 -- a map with these items that keeps no spare
 abbrev pub spareless : {T : Type 0} → List T → MapState T
@@ -25,8 +26,8 @@ spareless items = record { items = items; spare = 0 }
 
 -- what is there and what is spare never fall together, and both fit the limit
 abbrev pub KeepsRoom : {T : Type 0} → SpareRule → ℕ → MapState T → MapState T → Type 0
-KeepsRoom KeepsNone limit old new = (old.spare ≡ 0) × (new.spare ≡ 0)
-KeepsRoom KeepsSpare limit old new = (old.spare + length old.items ≤ new.spare + length new.items) × (new.spare + length new.items ≤ limit)
+KeepsRoom WithoutSpare limit old new = (old.spare ≡ 0) × (new.spare ≡ 0)
+KeepsRoom WithSpare limit old new = SpareStays limit old.spare old.items new.spare new.items
 
 module _ {T K : Type 0} (key : T → K) (eq : K → K → Bool) (limit : ℕ) where
   -- x comes back for want of room; at a spare above 0 this never comes

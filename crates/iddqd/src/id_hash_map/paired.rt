@@ -41,7 +41,7 @@ pub(super) fn reserve_one<T>(
     ensures needed { OnErr result (spare_in store.old index.old ≡ 0) }
     ensures store { store.new ≡ record store.old { capacity = store.new.capacity } }
     ensures capacity { store.old.capacity ≤ store.new.capacity }
-    ensures pairs { SamePairs index.old index.new }
+    ensures pairs { SamePairs index.old.pairs index.new.pairs }
     ensures spare { index.old.spare ≤ index.new.spare }
 {
     if store.len() == store.limit() as usize {
@@ -61,7 +61,7 @@ pub(super) fn put_in<T>(store: &mut ItemStore<T>, index: &mut HashIndex, hash: u
     ensures paired { ListsOccupied store.new index.new.pairs }
     ensures was_vacant { item_at store.old result ≡ None }
     ensures updates { Updates store.old store.new result (Some item) }
-    ensures pairs { HasOneMore index.old index.new (hash, result) }
+    ensures pairs { HasOneMore index.old.pairs index.new.pairs (hash, result) }
     ensures spare { index.old.spare ≤ index.new.spare + 1 }
     ensures len { store_len store.new ≡ store_len store.old + 1 }
     ensures vacant { vacant store.new ≡ vacant store.old - 1 }
@@ -86,7 +86,7 @@ pub(super) fn take_out<T>(
     ensures paired { ListsOccupied store.new index.new.pairs }
     ensures item { item_at store.old slot ≡ Some result }
     ensures updates { Updates store.old store.new slot None }
-    ensures pairs { HasOneMore index.new index.old (hash, slot) }
+    ensures pairs { HasOneMore index.new.pairs index.old.pairs (hash, slot) }
     ensures spare { index.old.spare + 1 ≤ index.new.spare }
     ensures len { store_len store.new + 1 ≡ store_len store.old }
     ensures vacant { vacant store.new ≡ vacant store.old + 1 }

@@ -1,7 +1,7 @@
 //! The hash map, which keeps its spare.
 ghost use Rattle.iddqd.specs.HashItems.{Keyed};
 ghost use Rattle.iddqd.specs.Hashing.{hash_under};
-ghost use Rattle.iddqd_run.specs.Step.{KeepsSpare};
+ghost use Rattle.iddqd_run.specs.Step.{WithSpare};
 
 use super::KeyedMap;
 use iddqd::errors::{InsertError, Refused};
@@ -20,7 +20,7 @@ impl<T: IdHashItem, S: BuildHasher> KeyedMap for IdHashMap<T, S> {
 
     ghost limit = { λ m. m.limit };
 
-    ghost rule = { KeepsSpare };
+    ghost rule = { WithSpare };
 
     ghost keyed = { Keyed T.key T.Key.eq T.Key.hash_input (hash_under S.BuildHasher S.Hasher.Hasher) };
 

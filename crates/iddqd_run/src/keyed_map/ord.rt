@@ -1,7 +1,7 @@
 //! The ordered map, which keeps no spare.
 ghost use Rattle.iddqd.specs.Contents.{Ascends};
 ghost use Rattle.iddqd.specs.Query.{differ_from_ascends};
-ghost use Rattle.iddqd_run.specs.Step.{KeepsNone, spareless};
+ghost use Rattle.iddqd_run.specs.Step.{WithoutSpare, spareless};
 
 use super::KeyedMap;
 use iddqd::errors::{InsertError, Refused};
@@ -19,7 +19,7 @@ impl<T: IdOrdItem> KeyedMap for IdOrdMap<T> {
 
     ghost limit = { λ m. m.limit };
 
-    ghost rule = { KeepsNone };
+    ghost rule = { WithoutSpare };
 
     ghost keyed = { λ m. Ascends T.key T.Key.cmp m.items };
 

@@ -63,7 +63,7 @@ returns-clause-inserted g c =
     let inserted = map_inserted key eq input hash m.hasher room.store put.new.store room.index put.new.index grown put.ensures.paired g.met.T.Key.Eq.laws kept.keyed x put.result
     (subst (IsAbsent key (eq (key x))) (sym kept.keeps.items) absent)
     room_left
-    (subst (λ h. HasOneMore room.index put.new.index (h, put.result)) told put.ensures.pairs)
+    (subst (λ h. HasOneMore room.index.pairs put.new.index.pairs (h, put.result)) told put.ensures.pairs)
     put.ensures.was_vacant put.ensures.updates put.ensures.spare put.ensures.len put.ensures.vacant put.ensures.capacity put.ensures.limit in
     subst (λ old. InsertsItem key eq input hash x old (shown put.new.store put.new.index m.hasher)) c.self.view_is
     (inserted_after key eq input hash x (shown m.store m.index m.hasher) (shown room.store room.index m.hasher) (shown put.new.store put.new.index m.hasher) kept inserted)
