@@ -6,7 +6,7 @@
 --     under_same, under_added, under_removed, under_kept      ... after a change
 use Rattle.std.proofs.Common.{◌≡◌, ◌≢◌, ℕ, ◌+◌, ◌<◌, ◌≤◌, List, [], length, map, get_or, Some, None, is_some, cond, Bool, true, false, refl, sym, ap, ◌∙◌, arith, subst, ⊎_elim, count_by}
 use Rattle.std.proofs.lemmas.Bool.{cases_eq, eq-eqb, ne_eqb}
-use Rattle.std.specs.List.{Contains, sum_by}
+use Rattle.std.specs.List.{Contains}
 use Rattle.iddqd_core.specs.HashPairs.{HasOneMore, SamePairs, of_slot}
 use Rattle.iddqd_core.specs.Store.{Store, item_at, IsOccupied, store_len, Updates}
 use Rattle.iddqd.specs.Paired.{ListsOccupied, hash_of_slot, hashes_in, items_in}

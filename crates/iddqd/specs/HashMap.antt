@@ -3,7 +3,7 @@
 --     KeepsSpare      the spare stays (SpareStays of the core)
 --     InsertsItem      the item was put in
 --     KeepsMap      nothing has changed but the room, which may have grown
-use Rattle.std.specs.Prelude.{◌≡◌, ℕ, ◌+◌, ◌≤◌, Bool, [], length, IfErr, Result}
+use Rattle.std.specs.Prelude.{◌≡◌, ℕ, Bool, [], IfErr, Result}
 use Rattle.std.specs.Borrow.{Fml, RattleType, MutBor, LendsSoOk, unit}
 use Rattle.std.specs.Hash.{HashWrites}
 use Rattle.iddqd_core.specs.Holding.{TakesItem, KeepsItems, SpareStays}

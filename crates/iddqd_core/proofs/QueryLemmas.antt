@@ -4,15 +4,15 @@
 --     only_at, none_at      the item at the place found is the only one that the query is equivalent to; where the query belongs, there is none
 --     find_there, place_there, without_there, replaced_there, find_nowhere, without_nowhere      what the search, the removal and the replacement give
 --     above_there, above_nowhere      where the first item stands whose key is above the query
-use Rattle.std.proofs.Common.{◌≡◌, ℕ, ◌+◌, ◌<◌, ◌≤◌, ⊎_elim, Bool, false, List, length, map, get_or, set, Some, None, IsTrue, sym, ap, ◌∙◌, subst, arith, Ordering, Less, Equal, Greater, refl, below_more}
+use Rattle.std.proofs.Common.{◌≡◌, ℕ, ◌+◌, ◌<◌, ◌≤◌, ⊎_elim, Bool, false, List, length, map, get_or, set, Some, None, IsTrue, sym, ap, ◌∙◌, arith, Ordering, Less, Equal, Greater, refl, below_more}
 use Rattle.std.proofs.lemmas.Bool.{cases_lt}
 use Rattle.std.proofs.lemmas.List.{get_or-map, length-map}
 use Rattle.std.proofs.lemmas.Option.{slice_get_read}
 use Rattle.std.specs.Cmp.{IsEquivalence, IsTotalOrder}
-use Rattle.std.specs.List.{AllWithin, HoldsAt, IsDistinct, remove, slice_get}
+use Rattle.std.specs.List.{AllWithin, HoldsAt, remove, slice_get}
 use Rattle.std.specs.Ordering.{is_eq, is_lt, is_le, is_ge}
 use Rattle.iddqd_core.specs.Query.{differ_from_ascends, le_then_less, ge_then_greater}
-use Rattle.iddqd_core.specs.Contents.{IsKeyTest, find_item, without, replaced, Ascends, NoTwoAkin}
+use Rattle.iddqd_core.specs.Contents.{IsKeyTest, find_item, without, replaced, Ascends}
 use Rattle.iddqd_core.proofs.ContentsLemmas.{IsOnlyPlace, NonePasses, only_place, find_at, find_none, filter_at, filter_none, map_at}
 use Rattle.iddqd_core.proofs.SearchLemmas.{greater_in_front, less_at_back, find_from}
 
