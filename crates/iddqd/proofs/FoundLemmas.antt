@@ -10,28 +10,18 @@ use Rattle.std.proofs.Common.{◌≡◌, ◌≢◌, ℕ, zero, suc, Bool, true, 
 use Rattle.std.proofs.lemmas.List.{get_or-map}
 use Rattle.std.proofs.lemmas.Option.{get_or_from_slice_get, slice_get_within}
 use Rattle.std.specs.Cmp.{IsEquivalence}
-use Rattle.std.specs.List.{HoldsAt, filter_map}
+use Rattle.std.specs.List.{HoldsAt}
 use Rattle.iddqd_core.specs.Contents.{AddsItem, IsAbsent, IsKeyTest, NoTwoAkin, find_item, replaced, without}
 use Rattle.iddqd_core.proofs.ContentsLemmas.{IsOnlyPlace, only_place, find_at, filter_at, map_at}
 use Rattle.iddqd_core.proofs.KeepsLemmas.{differ_filter, differ_insert, differ_set}
+use Rattle.iddqd_core.proofs.OrderLemmas.{Tells, find_tells}
 use Rattle.iddqd.specs.Paired.{numbers_of}
-use Rattle.iddqd.proofs.SlotItemLemmas.{PlaceOf, place_of}
+use Rattle.iddqd.proofs.SlotItemLemmas.{PlaceOf, at, items_of, place_of}
 
 module _ {T K : Type 0} (key : T → K) where
-  abbrev items_of : List (Option T) → List T
-  items_of slots = filter_map (λ item. item) slots
-
-  abbrev at : List (Option T) → ℕ → Option T
-  at slots slot = get_or slots slot None
-
   -- what is found passes, and where nothing is found nothing is taken out
   pub found_passes : (test : K → Bool) (items : List T) (x : T) → find_item key test items ≡ Some x → test (key x) ≡ true
-  found_passes test [] x found = cc
-  found_passes test (y ∷ ys) x found = by (test (key y)) refl (found_passes test ys x)
-    where
-      by : (b : Bool) → test (key y) ≡ b → (find_item key test ys ≡ Some x → test (key x) ≡ true) → test (key x) ≡ true
-      by true e rest = (let first = sym (ap (λ b. cond b (Some y) (find_item key test ys)) e) ∙ found in let same : y ≡ x = cc in ap (λ z. test (key z)) (sym same) ∙ e)
-      by false e rest = rest (sym (ap (λ b. cond b (Some y) (find_item key test ys)) e) ∙ found)
+  found_passes test items x found = (subst (Tells (λ y. test (key y)) items) found (find_tells (λ y. test (key y)) items)).1
 
   pub without_absent : (test : K → Bool) (items : List T) → IsAbsent key test items → items ≡ without key test items
   without_absent test [] absent = refl

@@ -6,6 +6,7 @@ pub mod SlotItemLemmas
 pub use Rattle.iddqd_core.proofs.DistinctLemmas
 pub use Rattle.iddqd_core.proofs.KeepsLemmas
 pub use Rattle.iddqd_core.proofs.MappedLemmas
+pub use Rattle.iddqd_core.proofs.OrderLemmas
 pub use Rattle.iddqd_core.proofs.PlacedLemmas
 pub use Rattle.iddqd_core.proofs.QueryLemmas
 pub use Rattle.iddqd_core.proofs.RefusalLemmas

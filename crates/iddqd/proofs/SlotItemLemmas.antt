@@ -5,7 +5,7 @@
 --     slot_of      each item has a slot
 --     length-items      there are as many items as occupied slots
 --     number_at, numbers_agree      a number for each slot, told by its item
-use Rattle.std.proofs.Common.{◌≡◌, ◌≢◌, ℕ, zero, suc, ◌≤◌, List, [], ◌∷◌, ◌++◌, length, map, set, get_or, drop, Option, Some, None, is_some, cond, refl, sym, ap, ◌∙◌, arith, subst, count_by}
+use Rattle.std.proofs.Common.{append_assoc, ◌≡◌, ◌≢◌, ℕ, zero, suc, ◌≤◌, List, [], ◌∷◌, ◌++◌, length, map, set, get_or, drop, Option, Some, None, is_some, cond, refl, sym, ap, ◌∙◌, arith, subst, count_by}
 use Rattle.std.proofs.lemmas.List.Sums.{sum_by-cons}
 use Rattle.std.specs.List.{filter_map, cons_option, insert, remove, slice_get}
 use Rattle.iddqd_core.specs.Contents.{AddsItem}
@@ -13,10 +13,6 @@ use Rattle.iddqd.specs.Paired.{numbers_of}
 
 -- an element in the middle
 module _ {T : Type 0} where
-  append-assoc : (xs ys zs : List T) → (xs ++ ys) ++ zs ≡ xs ++ (ys ++ zs)
-  append-assoc [] ys zs = refl
-  append-assoc (x ∷ xs) ys zs = ap (λ vs. x ∷ vs) (append-assoc xs ys zs)
-
   insert-middle : (xs ys : List T) (x : T) → insert (xs ++ ys) (length xs) x ≡ xs ++ x ∷ ys
   insert-middle [] ys x = refl
   insert-middle (y ∷ xs) ys x = ap (λ vs. y ∷ vs) (insert-middle xs ys x)
@@ -38,10 +34,10 @@ module _ {T : Type 0} where
   front-within (x ∷ xs) ys = let rest = front-within xs ys in omega arith
 
 module _ {T : Type 0} where
-  abbrev items_of : List (Option T) → List T
+  abbrev pub items_of : List (Option T) → List T
   items_of slots = filter_map (λ item. item) slots
 
-  abbrev at : List (Option T) → ℕ → Option T
+  abbrev pub at : List (Option T) → ℕ → Option T
   at slots slot = get_or slots slot None
 
   -- the item of a slot, as a list
@@ -88,8 +84,8 @@ module _ {T : Type 0} where
       record {
         before = head ++ rest.before;
         behind = rest.behind;
-        first = first_item xs ∙ ap (λ vs. head ++ vs) (rest.first ∙ ap (λ o. rest.before ++ (one o ++ rest.behind)) (at_rest xs slot)) ∙ sym (append-assoc head rest.before (one (at xs (suc slot)) ++ rest.behind));
-        second = first_item ys ∙ ap (λ o. one o ++ items_of (drop 1 ys)) (sym (others zero (λ e. omega arith))) ∙ ap (λ vs. head ++ vs) (rest.second ∙ ap (λ o. rest.before ++ (one o ++ rest.behind)) (at_rest ys slot)) ∙ sym (append-assoc head rest.before (one (at ys (suc slot)) ++ rest.behind));
+        first = first_item xs ∙ ap (λ vs. head ++ vs) (rest.first ∙ ap (λ o. rest.before ++ (one o ++ rest.behind)) (at_rest xs slot)) ∙ sym (append_assoc head rest.before (one (at xs (suc slot)) ++ rest.behind));
+        second = first_item ys ∙ ap (λ o. one o ++ items_of (drop 1 ys)) (sym (others zero (λ e. omega arith))) ∙ ap (λ vs. head ++ vs) (rest.second ∙ ap (λ o. rest.before ++ (one o ++ rest.behind)) (at_rest ys slot)) ∙ sym (append_assoc head rest.before (one (at ys (suc slot)) ++ rest.behind));
       }
 
   -- a slot that was vacant has an item

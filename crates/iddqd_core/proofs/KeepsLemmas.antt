@@ -8,6 +8,7 @@ use Rattle.std.specs.List.{AllByRecursion, AllWithin, HoldsAt, IsDistinct, inser
 use Rattle.std.specs.List.Sorted.{IsStrictlySortedBy}
 use Rattle.std.specs.Ordering.{ordering_reverse}
 use Rattle.iddqd_core.specs.Contents.{find_item, IsAbsent, Ascends, NoTwoAkin}
+use Rattle.iddqd_core.proofs.MappedLemmas.{insert-map}
 use Rattle.iddqd_core.proofs.DistinctLemmas.{weaken, all_insert, distinct_insert, distinct_alike}
 
 absent_first : {T : Type 0} (b : Bool) (y : T) (o : Option T) → cond b (Some y) o ≡ None → (b ≡ false) × (o ≡ None)
@@ -15,11 +16,6 @@ absent_first true y o e = cc
 absent_first false y o e = (refl, e)
 
 module _ {T K : Type 0} (key : T → K) where
-  map-insert : (items : List T) (i : ℕ) (x : T) → map key (insert items i x) ≡ insert (map key items) i (key x)
-  map-insert items zero x = refl
-  map-insert [] (suc i) x = refl
-  map-insert (y ∷ ys) (suc i) x = ap (λ ks. key y ∷ ks) (map-insert ys i x)
-
   all_filter : (P : K → Type 0) (p : T → Bool) (items : List T) → AllByRecursion P (map key items) → AllByRecursion P (map key (filter p items))
   all_filter P p [] a = tt
   all_filter P p (y ∷ ys) a =
@@ -43,7 +39,7 @@ module _ {T K : Type 0} (key : T → K) where
 
     -- one more item, whose key no other has
     pub differ_insert : (items : List T) (i : ℕ) → IsAbsent key (eq (key x)) items → NoTwoAkin key eq items → NoTwoAkin key eq (insert items i x)
-    differ_insert items i absent d = rw (map-insert items i x) (distinct_insert eq equivalence.symm (key x) (map key items) i (absent_differs items absent) d)
+    differ_insert items i absent d = rw (insert-map key items i x) (distinct_insert eq equivalence.symm (key x) (map key items) i (absent_differs items absent) d)
 
     -- x takes the place of an item of an equal key
     pub differ_set : (items : List T) (i : ℕ) → HoldsAt (λ k. eq (key x) k ≡ true) (map key items) i → NoTwoAkin key eq items → NoTwoAkin key eq (set items i x)
@@ -68,7 +64,7 @@ module _ {T K : Type 0} (key : T → K) where
         ((first, weaken (λ k l. o.trans (key x) (key y) k first l) (map key ys) s.0), s)
     ascends_insert (y ∷ ys) (suc i) s h above below =
         let first : cmp (key y) (key x) ≡ Less = o.antisymm (key y) (key x) ∙ ap ordering_reverse (above zero (key y) (omega arith) (omega arith)) in
-        (rw (map-insert ys i x) (all_insert (λ k. cmp (key y) k ≡ Less) (map key ys) i (key x) first s.0), ascends_insert ys i s.1 (le_of_suc-le-suc h) (λ k d a b. above (suc k) d (omega arith) (suc-le-suc b)) (λ k d a b. below (suc k) d (suc-le-suc a) (suc-le-suc b)))
+        (rw (insert-map key ys i x) (all_insert (λ k. cmp (key y) k ≡ Less) (map key ys) i (key x) first s.0), ascends_insert ys i s.1 (le_of_suc-le-suc h) (λ k d a b. above (suc k) d (omega arith) (suc-le-suc b)) (λ k d a b. below (suc k) d (suc-le-suc a) (suc-le-suc b)))
 
     all_set : (z : K) (items : List T) (i : ℕ) → HoldsAt (λ k. cmp (key x) k ≡ Equal) (map key items) i → i < length items → AllByRecursion (λ k. cmp z k ≡ Less) (map key items) → AllByRecursion (λ k. cmp z k ≡ Less) (map key (set items i x))
     all_set z [] i e h a = absurd (omega arith)

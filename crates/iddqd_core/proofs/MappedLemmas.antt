@@ -1,6 +1,7 @@
 -- Search, removal and placing of what a function shows of each item.
-use Rattle.std.proofs.Common.{◌≡◌, Bool, true, false, cond, not, List, [], ◌∷◌, map, filter, Some, sym, refl, ap, ◌∙◌, Ordering}
+use Rattle.std.proofs.Common.{◌≡◌, ℕ, zero, suc, Bool, true, false, cond, not, List, [], ◌∷◌, map, filter, Some, sym, refl, ap, ◌∙◌, Ordering}
 use Rattle.std.proofs.lemmas.List.{map-append}
+use Rattle.std.specs.List.{insert}
 use Rattle.std.specs.Option.{option_map}
 use Rattle.std.specs.Ordering.{is_lt}
 use Rattle.iddqd_core.specs.Contents.{find_item, without, replaced, placed}
@@ -8,6 +9,11 @@ use Rattle.iddqd_core.specs.Contents.{find_item, without, replaced, placed}
 choose : {A B : Type 0} (f : A → B) (b : Bool) (x y : A) → cond b (f x) (f y) ≡ f (cond b x y)
 choose f true x y = refl
 choose f false x y = refl
+
+pub insert-map : {T U : Type 0} (shown : T → U) (xs : List T) (i : ℕ) (x : T) → map shown (insert xs i x) ≡ insert (map shown xs) i (shown x)
+insert-map shown xs zero x = refl
+insert-map shown [] (suc i) x = refl
+insert-map shown (y ∷ ys) (suc i) x = ap (λ us. shown y ∷ us) (insert-map shown ys i x)
 
 module _ {T U K : Type 0} (shown : T → U) (key : U → K) where
   pub find_item-map : (test : K → Bool) (xs : List T) → find_item key test (map shown xs) ≡ option_map shown (find_item (λ x. key (shown x)) test xs)

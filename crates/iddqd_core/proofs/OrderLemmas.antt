@@ -1,4 +1,6 @@
--- The search does not depend on the order of items of different keys.
+-- The order plays no part in what is found among items of different keys.
+--     Tells, find_tells      what a search says of the elements
+--     differ_moved, find_moved      no two are akin, and one item is found, whatever the order
 use Rattle.std.proofs.Common.{◌≡◌, zero, suc, Bool, true, false, cond, List, [], ◌∷◌, length, map, get_or, Option, Some, None, refl, sym, ap, ◌∙◌, arith, find, suc-le-suc}
 use Rattle.std.proofs.Math.Nat.{le_of_suc-le-suc}
 use Rattle.std.proofs.lemmas.List.{get_or_read}
@@ -13,7 +15,7 @@ use Rattle.iddqd_core.proofs.ContentsLemmas.{NonePasses, only_place, find_at, fi
 
 module _ {X : Type 0} (p : X → Bool) where
   -- what a search says: nothing passes, or it is an element that passes
-  abbrev Tells : List X → Option X → Type 0
+  abbrev pub Tells : List X → Option X → Type 0
   Tells xs None = NonePasses p xs
   Tells xs (Some x) = Contains xs x × (p x ≡ true)
 
@@ -33,16 +35,16 @@ module _ {X : Type 0} (p : X → Bool) where
   find_tells [] = λ j d h. absurd (omega arith)
   find_tells (y ∷ xs) = first y xs (p y) refl (find_tells xs)
 
-module _ {T K : Type 0} (key : T → K) {eq : K → K → Bool} (equivalence : IsEquivalence eq) (test : K → Bool) (tests : IsKeyTest eq test) (xs ys : List T) (moved : IsPermutation xs ys) (differ : NoTwoAkin key eq xs) where
-  pub differ_moved : NoTwoAkin key eq ys
-  differ_moved = IsDistinct-IsPermutation eq equivalence.symm (map key xs) (map key ys) (IsPermutation-map key xs ys moved) differ
+pub differ_moved : {T K : Type 0} (key : T → K) {eq : K → K → Bool} → IsEquivalence eq → (xs ys : List T) → IsPermutation xs ys → NoTwoAkin key eq xs → NoTwoAkin key eq ys
+differ_moved key {eq} equivalence xs ys moved differ = IsDistinct-IsPermutation eq equivalence.symm (map key xs) (map key ys) (IsPermutation-map key xs ys moved) differ
 
+module _ {T K : Type 0} (key : T → K) {eq : K → K → Bool} (equivalence : IsEquivalence eq) (test : K → Bool) (tests : IsKeyTest eq test) (xs ys : List T) (moved : IsPermutation xs ys) (differ : NoTwoAkin key eq xs) where
   same : (o : Option T) → Tells (λ x. test (key x)) xs o → find_item key test ys ≡ o
   same None n = find_none (λ x. test (key x)) ys (λ j d h. All-permutation (λ x. test (key x) ≡ false) xs ys moved (λ k e l. n k e l) j d h)
   same (Some x) t =
       let there = Contains-permutation xs ys x moved t.0 in
       let at : (d : T) → get_or ys there.0 d ≡ x = λ d. sym (get_or_read ys there.0 x there.1 (sym there.2) d) in
-      find_at (λ y. test (key y)) ys there.0 (only_place key equivalence test tests ys differ_moved there.0 there.1 (λ d. ap (λ y. test (key y)) (at d) ∙ t.1)) ∙ slice_get_read ys (length ys) there.0 x refl there.1 (sym (at x))
+      find_at (λ y. test (key y)) ys there.0 (only_place key equivalence test tests ys (differ_moved key equivalence xs ys moved differ) there.0 there.1 (λ d. ap (λ y. test (key y)) (at d) ∙ t.1)) ∙ slice_get_read ys (length ys) there.0 x refl there.1 (sym (at x))
 
   -- a query finds the same item in whatever order
   pub find_moved : find_item key test ys ≡ find_item key test xs

@@ -11,9 +11,11 @@ use Rattle.std.specs.Ordering.{is_eq, ordering_reverse}
 use Rattle.iddqd.specs.Contents.{AddsItem, Ascends, IsAbsent, IsKeyTest, find_item, placed, replaced, without}
 use Rattle.iddqd.proofs.DistinctLemmas.{all_insert, weaken}
 use Rattle.iddqd.proofs.KeepsLemmas.{ascends_filter}
+use Rattle.iddqd.proofs.MappedLemmas.{insert-map}
+use Rattle.iddqd.proofs.OrderLemmas.{find_moved}
 use Rattle.iddqd.proofs.PlacedLemmas.{insert_placed}
 use Rattle.iddqd.specs.Query.{differ_from_ascends}
-use Rattle.iddqd_run.proofs.SameItemsLemmas.{filter_permutation, find_permutation}
+use Rattle.iddqd_run.proofs.SameItemsLemmas.{filter_permutation}
 
 module _ {T K : Type 0} (key : T → K) {eq : K → K → Bool} {cmp : K → K → Ordering} (equivalence : IsEquivalence eq) (total : IsTotalOrder cmp) (ties : (x y : K) → eq x y ≡ is_eq (cmp x y)) where
   -- the items in the order of their keys
@@ -23,14 +25,9 @@ module _ {T K : Type 0} (key : T → K) {eq : K → K → Bool} {cmp : K → K �
 
   pub found_in_order : (test : K → Bool) → IsKeyTest eq test → (items ordered : List T) → AreInOrder items ordered → find_item key test items ≡ find_item key test ordered
   found_in_order test tests items ordered are =
-      sym (find_permutation key equivalence test tests ordered items (IsPermutation-sym items ordered are.same) (differ_from_ascends key cmp ties ordered are.ascending))
+      find_moved key equivalence test tests ordered items (IsPermutation-sym items ordered are.same) (differ_from_ascends key cmp ties ordered are.ascending)
 
   module _ (x : T) where
-    map-insert : (items : List T) (i : ℕ) → map key (insert items i x) ≡ insert (map key items) i (key x)
-    map-insert items zero = refl
-    map-insert [] (suc i) = refl
-    map-insert (y ∷ ys) (suc i) = ap (λ ks. key y ∷ ks) (map-insert ys i)
-
     -- among items that ascend, and of which none is akin to x, there is a place for x
     place_for : (ordered : List T) → IsAbsent key (eq (key x)) ordered → Ascends key cmp ordered → (i : ℕ) × Ascends key cmp (insert ordered i x)
     unfolding IsStrictlySortedBy
@@ -44,7 +41,7 @@ module _ {T K : Type 0} (key : T → K) {eq : K → K → Bool} {cmp : K → K �
         by Greater e false apart more =
             let rest = more (sym (ap (λ b. cond b (Some y) (find_item key (eq (key x)) ys)) apart) ∙ absent) in
             let below : cmp (key y) (key x) ≡ Less = total.antisymm (key y) (key x) ∙ ap ordering_reverse e in
-            (suc rest.0, (subst (AllByRecursion (λ k. cmp (key y) k ≡ Less)) (sym (map-insert ys rest.0)) (all_insert (λ k. cmp (key y) k ≡ Less) (map key ys) rest.0 (key x) below s.0), rest.1))
+            (suc rest.0, (subst (AllByRecursion (λ k. cmp (key y) k ≡ Less)) (sym (insert-map key ys rest.0 x)) (all_insert (λ k. cmp (key y) k ≡ Less) (map key ys) rest.0 (key x) below s.0), rest.1))
 
     pub placed_in_order : (old new ordered : List T) → AddsItem x old new → IsAbsent key (eq (key x)) ordered → AreInOrder old ordered → AreInOrder new (placed key cmp x ordered)
     placed_in_order old new ordered adds absent are =

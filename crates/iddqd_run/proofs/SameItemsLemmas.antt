@@ -1,14 +1,12 @@
--- The same items in another order: what is found, passed on and akin among them is the same.
+-- The same items in another order: what passes a test is the same, and no two are akin after a replacement.
 --     permutation_relates      a relation that exchanges of neighbours have holds of a list and its permutations
 --     filter_permutation      the elements that pass a test, of a list and of a permutation of it
---     differ_permutation, find_permutation      no two are akin, and one item is found, whatever the order
 --     differ_replaced      no two are akin after a replacement
-use Rattle.std.proofs.Common.{◌≡◌, ℕ, zero, suc, ◌<◌, Bool, true, false, cond, List, [], ◌∷◌, length, map, filter, get_or, set, Option, Some, IsPermutation, refl, ap, ◌∙◌, arith, le_of_suc-le-suc, true≢false}
-use Rattle.std.proofs.lemmas.List.Sorted.{IsPermutation-refl, IsPermutation-trans, IsPermutation-cons, IsPermutation-middle, IsPermutation-map, IsPermutation-keeps}
-use Rattle.std.proofs.lemmas.Map.Keys.{IsDistinct-IsPermutation}
+use Rattle.std.proofs.Common.{◌≡◌, ℕ, zero, suc, ◌<◌, Bool, true, false, cond, List, [], ◌∷◌, length, map, filter, get_or, set, IsPermutation, refl, ◌∙◌, arith, le_of_suc-le-suc}
+use Rattle.std.proofs.lemmas.List.Sorted.{IsPermutation-refl, IsPermutation-trans, IsPermutation-cons, IsPermutation-middle, IsPermutation-keeps}
 use Rattle.std.specs.Cmp.{IsEquivalence}
 use Rattle.std.specs.List.{AllByRecursion, IsDistinct, swap}
-use Rattle.iddqd.specs.Contents.{IsKeyTest, find_item, replaced, NoTwoAkin}
+use Rattle.iddqd.specs.Contents.{replaced, NoTwoAkin}
 use Rattle.iddqd.proofs.DistinctLemmas.{weaken}
 
 -- R holds of a list and itself, under one more element in front, where the first two change places, and from one list to the next
@@ -56,37 +54,6 @@ module _ {X : Type 0} (p : X → Bool) where
       (λ xs ys zs h k. IsPermutation-trans (filter p xs) (filter p ys) (filter p zs) h k)
 
 module _ {T K : Type 0} (key : T → K) {eq : K → K → Bool} (equivalence : IsEquivalence eq) where
-  -- the order plays no part in whether two are akin
-  pub differ_permutation : (xs ys : List T) → IsPermutation xs ys → NoTwoAkin key eq xs → NoTwoAkin key eq ys
-  differ_permutation xs ys p d = IsDistinct-IsPermutation eq equivalence.symm (map key xs) (map key ys) (IsPermutation-map key xs ys p) d
-
-  -- nor in what is found, since one item at most passes the test of a key
-  module _ (test : K → Bool) (tests : IsKeyTest eq test) where
-    one_passes : (b c : Bool) (x y : T) (o : Option T) → (b ≡ true → c ≡ false) → cond b (Some x) (cond c (Some y) o) ≡ cond c (Some y) (cond b (Some x) o)
-    one_passes true true x y o n = absurd (true≢false (n refl))
-    one_passes true false x y o n = refl
-    one_passes false c x y o n = refl
-
-    -- a permutation in which the same item is found
-    abbrev FindsSame : List T → List T → Type 0
-    FindsSame xs ys = IsPermutation xs ys × (NoTwoAkin key eq xs → find_item key test xs ≡ find_item key test ys)
-
-    finds_under : (x : T) (xs ys : List T) → FindsSame xs ys → FindsSame (x ∷ xs) (x ∷ ys)
-    unfolding IsDistinct
-    finds_under x xs ys h = (IsPermutation-cons x xs ys h.0, λ d. ap (λ o. cond (test (key x)) (Some x) o) (h.1 d.1))
-
-    finds_flipped : (x y : T) (xs : List T) → FindsSame (x ∷ y ∷ xs) (y ∷ x ∷ xs)
-    unfolding IsDistinct
-    finds_flipped x y xs = (IsPermutation-middle (x ∷ []) y xs, λ d. one_passes (test (key x)) (test (key y)) x y (find_item key test xs) (λ h. tests (key x) (key y) h ∙ d.0.0))
-
-    pub find_permutation : (xs ys : List T) → IsPermutation xs ys → NoTwoAkin key eq xs → find_item key test xs ≡ find_item key test ys
-    find_permutation xs ys p = (permutation_relates FindsSame
-        (λ xs. (IsPermutation-refl xs, λ d. refl))
-        finds_under
-        finds_flipped
-        (λ xs ys zs h k. (IsPermutation-trans xs ys zs h.0 k.0, λ d. h.1 d ∙ k.1 (differ_permutation xs ys h.0 d)))
-        xs ys p).1
-
   -- items whose keys stay alike stay apart
   module _ (f : T → T) (alike : (w : T) (k : K) → eq (key (f w)) k ≡ eq (key w) k) where
     apart_mapped : (k : K) (xs : List T) → AllByRecursion (λ j. eq k j ≡ false) (map key xs) → AllByRecursion (λ j. eq k j ≡ false) (map key (map f xs))

@@ -15,7 +15,8 @@ use Rattle.iddqd_run.specs.declared.commands.Command.TheVariants.{InsertUnique, 
 use Rattle.iddqd_run.specs.declared.commands.Reply.{Reply}
 use Rattle.iddqd_run.specs.declared.commands.Reply.TheVariants.{Inserted, Duplicate, Replaced, Found, Removed, Absent, Done, Length, Refused}
 use Rattle.iddqd.proofs.KeepsLemmas.{differ_filter, differ_insert}
-use Rattle.iddqd_run.proofs.SameItemsLemmas.{filter_permutation, differ_permutation, find_permutation, differ_replaced}
+use Rattle.iddqd.proofs.OrderLemmas.{differ_moved, find_moved}
+use Rattle.iddqd_run.proofs.SameItemsLemmas.{filter_permutation, differ_replaced}
 
 module _ {T K : Type 0} (key : T → K) (eq : K → K → Bool) where
   abbrev sought : Command T K → List T → Option T
@@ -108,10 +109,10 @@ module _ {T K : Type 0} (key : T → K) (eq : K → K → Bool) where
 
 module _ {T K : Type 0} (key : T → K) (eq : K → K → Bool) (equivalence : IsEquivalence eq) where
   sought_same : (command : Command T K) (xs ys : List T) → HoldSameItems key eq xs ys → sought key eq command xs ≡ sought key eq command ys
-  sought_same (InsertUnique x) xs ys h = find_permutation key equivalence (eq (key x)) (equivalence.congr (key x)) xs ys h.same h.differ
-  sought_same (InsertOverwrite x) xs ys h = find_permutation key equivalence (eq (key x)) (equivalence.congr (key x)) xs ys h.same h.differ
-  sought_same (Get k) xs ys h = find_permutation key equivalence (eq k) (equivalence.congr k) xs ys h.same h.differ
-  sought_same (Remove k) xs ys h = find_permutation key equivalence (eq k) (equivalence.congr k) xs ys h.same h.differ
+  sought_same (InsertUnique x) xs ys h = sym (find_moved key equivalence (eq (key x)) (equivalence.congr (key x)) xs ys h.same h.differ)
+  sought_same (InsertOverwrite x) xs ys h = sym (find_moved key equivalence (eq (key x)) (equivalence.congr (key x)) xs ys h.same h.differ)
+  sought_same (Get k) xs ys h = sym (find_moved key equivalence (eq k) (equivalence.congr k) xs ys h.same h.differ)
+  sought_same (Remove k) xs ys h = sym (find_moved key equivalence (eq k) (equivalence.congr k) xs ys h.same h.differ)
   sought_same Clear xs ys h = refl
   sought_same Len xs ys h = refl
 
@@ -136,7 +137,7 @@ module _ {T K : Type 0} (key : T → K) (eq : K → K → Bool) (equivalence : I
         p.replied ∙ (ap₂ (λ o n. plain_reply key eq command o n) alike (sym (length_permutation xs ys h.same)) ∙ sym q.replied),
         record {
           same = IsPermutation-trans new1 (plain_items key eq command found xs) new2 (IsPermutation-sym (plain_items key eq command found xs) new1 p.held) (IsPermutation-trans (plain_items key eq command found xs) (plain_items key eq command found ys) new2 then.same other);
-          differ = differ_permutation key equivalence (plain_items key eq command found xs) new1 p.held then.differ;
+          differ = differ_moved key equivalence (plain_items key eq command found xs) new1 p.held then.differ;
         },
       )
 

@@ -1,8 +1,7 @@
 -- What the map answers is what the entries answer that its items are seen as, in the order of their names.
-use Rattle.std.proofs.Common.{◌≡◌, ℕ, zero, suc, ◌<◌, [], ◌∷◌, Bor, true, false, List, length, Option, Some, None, IsPermutation, sym, refl, ap, ◌∙◌, subst, ◌++◌, eq-eqb, arith}
+use Rattle.std.proofs.Common.{◌≡◌, ℕ, ◌<◌, [], Bor, true, false, List, length, Option, Some, None, IsPermutation, sym, refl, ap, ◌∙◌, subst, ◌++◌, eq-eqb, arith}
 use Rattle.std.specs.Prelude.{string_bytes, bytes_eq, codes, decimal}
 use Rattle.std.specs.Cmp.Lexicographic.{bytes_decides, nat_list_cmp_total, nat_list_eq_equiv, texts_ties}
-use Rattle.std.specs.List.{insert}
 use Rattle.std.specs.Option.{option_map}
 use Rattle.std.proofs.lemmas.Bool.{ne_eqb}
 use Rattle.std.proofs.lemmas.List.{length-map}
@@ -18,7 +17,7 @@ use Rattle.iddqd.specs.Holding.{max_items}
 use Rattle.iddqd_run.specs.declared.entries.Entry.{Entry}
 use Rattle.iddqd_run.specs.declared.entries.LineReply.{LineReply}
 use Rattle.iddqd_run.specs.declared.entries.LineReply.TheVariants.{Added, Duplicate, New, Replaced, Found, Removed, Absent, Length, RefusedCapacity}
-use Rattle.iddqd.proofs.MappedLemmas.{find_item-map, without-map, replaced-map}
+use Rattle.iddqd.proofs.MappedLemmas.{find_item-map, insert-map, without-map, replaced-map}
 use Rattle.iddqd_run.proofs.NameOrderLemmas.{AreInOrder, found_in_order, placed_in_order, replaced_in_order, without_in_order}
 
 abbrev by_name : Entry → String Global
@@ -87,12 +86,6 @@ module _ (name : List ℕ) (items : List Entry) where
 pub len_answered : (items : List Entry) (n : ℕ) → n ≡ length items → AnswersRequest Len items (Length n) items
 len_answered items n e = λ entries shows. record { reply = ap decimal (e ∙ sym (length_shown items entries shows)); after = shows }
 
--- an item put in somewhere is an entry put in somewhere
-entries-insert : (items : List Entry) (i : ℕ) (x : Entry) → entries_of (insert items i x) ≡ insert (entries_of items) i (entry_of x)
-entries-insert items zero x = refl
-entries-insert [] (suc i) x = refl
-entries-insert (y ∷ ys) (suc i) x = ap (λ es. entry_of y ∷ es) (entries-insert ys i x)
-
 -- x is an entry of the name
 module _ (x : Entry) (items : List Entry) (name : List ℕ) (same : string_bytes x.name ≡ name) (entries : List answer.Entry) (shows : ShowsEntries items entries) where
   abbrev akin : Option Entry
@@ -115,7 +108,7 @@ module _ (x : Entry) (items : List Entry) (name : List ℕ) (same : string_bytes
       let adds_entry : AddsItem (entry_of x) (entries_of items) (entries_of new) = record {
         place = adds.place;
         within = omega (arith, adds.within, length-map items entry_of);
-        put = ap entries_of adds.put ∙ entries-insert items adds.place x;
+        put = ap entries_of adds.put ∙ insert-map entry_of items adds.place x;
       } in
       subst (λ n. ShowsEntries new (placed name_of name_cmp (n, x.value) entries)) same
       (shown_by new _ (placed_in_order name_of nat_list_eq_equiv nat_list_cmp_total texts_ties (entry_of x) (entries_of items) (entries_of new) entries adds_entry (absent_shown (string_bytes x.name) items entries shows absent) (order items entries shows)))

@@ -1,5 +1,5 @@
 //! What looks into the store and the index together, or changes both. Only the search looks at keys.
-ghost use Rattle.std.specs.Prelude.{◌≡◌, ℕ, ◌+◌, ◌-◌, ◌<◌, ◌≤◌, length, IfErr, IfSome, OnOk, OnErr, Some, None, IsTrue, Contains, set};
+ghost use Rattle.std.specs.Prelude.{◌≡◌, ℕ, ◌+◌, ◌-◌, ◌<◌, ◌≤◌, length, IfErr, IfSome, OnOk, OnErr, Some, None, IsTrue, Contains};
 ghost use Rattle.std.specs.Option.{option_and_then};
 ghost use Rattle.iddqd_core.specs.Contents.{NoTwoAkin, find_item};
 ghost use Rattle.iddqd_core.specs.HashPairs.{HasOneMore, SamePairs};
