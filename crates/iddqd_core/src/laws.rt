@@ -1,23 +1,3 @@
 //! Laws of the definitions that contracts cite. They run nothing.
-ghost use Rattle.std.specs.String.{string_bytes};
-ghost use Rattle.iddqd_core.specs.Digits.{DigitsAreLeast};
-ghost use Rattle.iddqd_core.specs.Hashing.{HashesAs};
-
-use crate::queries::Equivalent;
-use crate::text::Text;
-use std::hash::Hash;
-
-/// `digits n` is the least number k such that n is below 2 to the k.
-pub fn digits_are_least()
-    ensures { DigitsAreLeast }
-{}
-
-/// A key hashes as each key that it is equivalent to.
-pub fn key_hashes_as_equal_keys<K: Hash>(query: &K)
-    ensures { HashesAs (⟦<K as Equivalent<K>>⟧.equivalent query.now) (K.hash_input query.now) K.hash_input }
-{}
-
-/// A text hashes as each `String` that it is equivalent to.
-pub fn text_hashes_as_strings<'a>(query: &Text<'a>)
-    ensures { HashesAs (⟦<Text<'a> as Equivalent<String>>⟧.equivalent query.now) (⟦<Text<'a> as Hash>⟧.hash_input query.now) ⟦<String as Hash>⟧.hash_input }
-{}
+pub use iddqd_ord_index::laws::digits_are_least;
+pub use iddqd_store::laws::{key_hashes_as_equal_keys, text_hashes_as_strings};

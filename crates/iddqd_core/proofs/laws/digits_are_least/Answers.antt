@@ -1,5 +1,0 @@
-use Rattle.iddqd_core.proofs.DigitLemmas as digit
-use Rattle.iddqd_core.proofs.laws.digits_are_least.Goals as goal
-
-pub returns : goal.returns
-returns c = digit.digits_are_least

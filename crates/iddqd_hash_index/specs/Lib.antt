@@ -1,0 +1,4 @@
+pub mod Buckets
+pub mod HashPairs
+pub use Rattle.iddqd_store.specs.Contents
+pub use Rattle.iddqd_store.specs.Store

@@ -1,0 +1,4 @@
+pub mod Digits
+pub mod IndexParts
+pub mod Listed
+pub mod Search

@@ -1,0 +1,40 @@
+//! A search by halves among slots whose items ascend by key.
+ghost use Rattle.std.specs.Prelude.{◌≡◌, ◌+◌, ◌<◌, ◌≤◌, length, MatchResult};
+ghost use Rattle.iddqd_store.specs.Contents.{Ascends, keys};
+ghost use Rattle.iddqd_ord_index.specs.Digits.{digits};
+ghost use Rattle.iddqd_ord_index.specs.Listed.{listed_items, AreOccupied};
+ghost use Rattle.iddqd_ord_index.specs.Search.{IsPlaceAmong};
+
+use iddqd_store::ItemStore;
+use iddqd_store::IdOrdItem;
+use iddqd_store::Comparable;
+use iddqd_store::Steps;
+use std::cmp::Ordering;
+
+/// The place of the slot whose item the query stands for, or the place where it belongs. It makes at most as many
+/// comparisons as the number of slots has binary digits.
+pub fn search<T: IdOrdItem, Q: Comparable<T::Key>>(
+    slots: &[u32],
+    store: &ItemStore<T>,
+    query: &Q,
+    steps: &mut Steps,
+) -> Result<usize, usize>
+    requires occupied { AreOccupied store.now slots.now }
+    requires ascending { Ascends T.key T.Key.cmp (listed_items store.now slots.now) }
+    ensures place { IsPlaceAmong (Q.compare query.now) (keys T.key (listed_items store.now slots.now)) result }
+    ensures within { MatchResult result (λ i. i < length slots.now) (λ i. i ≤ length slots.now) }
+    ensures steps { steps.new ≤ steps.old + digits (length slots.now) }
+{
+    let mut low = 0;
+    let mut high = slots.len();
+    while low < high {
+        let middle = low + (high - low) / 2;
+        let item = store.get(slots[middle]).unwrap();
+        match steps.compare(query, item.key()) {
+            Ordering::Equal => return Ok(middle),
+            Ordering::Greater => low = middle + 1,
+            Ordering::Less => high = middle,
+        }
+    }
+    Err(low)
+}

@@ -1,0 +1,12 @@
+pub mod ChainLemmas
+pub mod ContentsLemmas
+pub mod DistinctLemmas
+pub mod KeepsLemmas
+pub mod MappedLemmas
+pub mod OrderLemmas
+pub mod PlacedLemmas
+pub mod QueryLemmas
+pub mod RefusalLemmas
+pub mod SearchLemmas
+pub mod SlotLemmas
+pub mod StoreLemmas

@@ -1,0 +1,22 @@
+use Rattle.std.proofs.Common.{refl}
+use Rattle.std.proofs.lemmas.List.{map-set}
+use Rattle.iddqd_store.proofs.SlotLemmas.{IsSound-replace, count-replaced, vacant-replaced}
+use Rattle.iddqd_store.proofs.item_store.ItemStore.replace.Goals as goal
+
+pub invariant_of-self : goal.invariant_of-self
+invariant_of-self g c =
+    let occupied = rw (← c.self.view_is) at c.requires in
+    rw c.replace.ensures.after (IsSound-replace c.self.inside.slots.items _ _ _ c.args.slot c.args.item c.self.invariant occupied)
+
+pub returns-clause-store : goal.returns-clause-store
+returns-clause-store g c = rw (← c.self.view_is, c.replace.ensures.after, map-set) refl
+
+pub returns-clause-len : goal.returns-clause-len
+returns-clause-len g c =
+    let occupied = rw (← c.self.view_is) at c.requires in
+    rw (← c.self.view_is, c.replace.ensures.after) (count-replaced c.self.inside.slots.items c.args.slot c.args.item occupied)
+
+pub returns-clause-vacant : goal.returns-clause-vacant
+returns-clause-vacant g c =
+    let occupied = rw (← c.self.view_is) at c.requires in
+    rw (← c.self.view_is, c.replace.ensures.after) (vacant-replaced c.self.inside.slots.items c.args.slot c.args.item occupied)

@@ -1,0 +1,45 @@
+-- What either map holds, and what a call does to it, whatever the keys are.
+use Rattle.std.specs.Prelude.{◌≡◌, ℕ, ◌+◌, ◌-◌, ◌<◌, ◌≤◌, List, length, refl}
+use Rattle.std.specs.Coded.{Coded, code_by, coded×, coded_ℕ, coded_list}
+use Rattle.iddqd_store.specs.Contents.{AddsItem}
+
+-- what either map holds, as contracts see it: the items, how many slots are vacant, how many items fit before memory is needed, and the most that the map can hold
+pub record Holding (T : Type 0) : Type 0 where
+  pub items : List T
+  pub vacant : ℕ
+  pub capacity : ℕ
+  pub limit : ℕ
+
+-- the most items of a map that was given no smaller limit (ours: the crate leaves it open)
+abbrev pub max_items : ℕ
+max_items = 4294967295
+
+-- it is stored as the tuple of its fields
+abbrev pub holding_code : {T : Type 0} → Coded T → Coded (Holding T)
+holding_code {T} code =
+    code_by
+    (List T × (ℕ × (ℕ × ℕ)))
+    (coded× (coded_list code) (coded× coded_ℕ (coded× coded_ℕ coded_ℕ)))
+    (λ m. (m.items, (m.vacant, (m.capacity, m.limit))))
+    (λ p. record { items = p.0; vacant = p.1.0; capacity = p.1.1.0; limit = p.1.1.1 })
+    (λ _. refl)
+
+-- the item was put in where the map was not full; it took a vacant slot where there was one
+pub record TakesItem {T : Type 0} (x : T) (old new : Holding T) : Type 0 where
+  pub room : length old.items < old.limit
+  pub added : AddsItem x old.items new.items
+  pub vacant : new.vacant ≡ old.vacant - 1
+  pub capacity : old.capacity ≤ new.capacity
+  pub limit : new.limit ≡ old.limit
+
+-- nothing has changed but the room, which may have grown
+pub record KeepsItems {T : Type 0} (old new : Holding T) : Type 0 where
+  pub items : new.items ≡ old.items
+  pub vacant : new.vacant ≡ old.vacant
+  pub capacity : old.capacity ≤ new.capacity
+  pub limit : new.limit ≡ old.limit
+
+-- of a map that keeps a spare: what is there and what is spare never fall together, and both fit the limit (`reserve`; the number is ours)
+pub record SpareStays {T : Type 0} (limit old_spare : ℕ) (old : List T) (new_spare : ℕ) (new : List T) : Type 0 where
+  pub never_less : old_spare + length old ≤ new_spare + length new
+  pub in_limit : new_spare + length new ≤ limit

@@ -1,0 +1,9 @@
+pub mod Contents
+pub mod Errors
+pub mod Hashing
+pub mod Holding
+pub mod Lends
+pub mod Query
+pub mod Refusal
+pub mod Slots
+pub mod Store

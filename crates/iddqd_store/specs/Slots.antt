@@ -1,0 +1,64 @@
+-- How the slots of an `ItemStore` lie, and the chain of the vacant ones. No public clause cites this file.
+use Rattle.std.specs.Prelude.{◌≡◌, ◌≢◌, ℕ, ◌^◌, ◌<◌, ◌≤◌, List, map, length, Option, Some, None, is_some, count_by, slice_index_or, if◌then◌else◌, ◌==◌}
+use Rattle.iddqd_store.specs.declared.item_store.chain.Slot.{Slot}
+use Rattle.iddqd_store.specs.declared.item_store.chain.Slot.TheVariants.{Vacant, Occupied}
+
+-- the number that stands for no slot, `u32::MAX`
+abbrev pub no_slot : ℕ
+no_slot = 4294967295
+
+module _ {T : Type 0} where
+  -- the item of a slot
+  abbrev pub item_of : Slot T → Option T
+  item_of (Vacant _) = None
+  item_of (Occupied item) = Some item
+
+  -- the slots before and after a vacant one in the chain
+  abbrev pub links_of : Slot T → Option (ℕ × ℕ)
+  links_of (Vacant links) = Some (links.previous, links.next)
+  links_of (Occupied _) = None
+
+  -- the item of each slot
+  abbrev pub items_of : List (Slot T) → List (Option T)
+  items_of es = map item_of es
+
+  -- the links of the slot of this number
+  abbrev pub links_at : List (Slot T) → ℕ → Option (ℕ × ℕ)
+  links_at es slot = slice_index_or (map links_of es) slot None
+
+  -- the copy is vacant with the same links, or has a clone of the item
+  abbrev pub IsSlotClone : (T → T → Type 0) → Slot T → Slot T → Type 0
+  IsSlotClone is_clone (Vacant links) copy = copy ≡ Vacant links
+  IsSlotClone is_clone (Occupied item) copy = (other : T) × (copy ≡ Occupied other) × is_clone item other
+
+module _ {T : Type 0} where
+  -- each slot has what it had, and as many have an item
+  pub record SameSlots (old new : List (Option T)) : Type 0 where
+    pub at : (slot : ℕ) → slice_index_or new slot None ≡ slice_index_or old slot None
+    pub count : count_by is_some new ≡ count_by is_some old
+
+-- the links of all slots but one
+abbrev pub without : (ℕ → Option (ℕ × ℕ)) → ℕ → ℕ → Option (ℕ × ℕ)
+without links at slot = if slot == at then None else links slot
+
+-- the links (previous, next) of the vacant slots form one chain from `first`. A rank falls along it, so it ends
+pub record IsChained (links : ℕ → Option (ℕ × ℕ)) (first : ℕ) : Type 0 where
+  pub rank : ℕ → ℕ
+  pub top : ℕ
+  -- the number that stands for no slot is none
+  pub none : links no_slot ≡ None
+  -- the first is vacant and has none before it, and no other has none before it
+  pub head : first ≢ no_slot → (n : ℕ) × (links first ≡ Some (no_slot, n))
+  pub start : (s n : ℕ) → links s ≡ Some (no_slot, n) → s ≡ first
+  -- the next names this one as its previous, and the previous names it as its next
+  pub forth : (s p n : ℕ) → links s ≡ Some (p, n) → n ≢ no_slot → (m : ℕ) × (links n ≡ Some (s, m)) × (rank n < rank s)
+  pub back : (s p n : ℕ) → links s ≡ Some (p, n) → p ≢ no_slot → (q : ℕ) × (links p ≡ Some (q, s))
+  pub below : (s p n : ℕ) → links s ≡ Some (p, n) → rank s < top
+
+module _ {T : Type 0} where
+  -- the invariant, over the slots, the number of items, the first vacant slot and the limit
+  pub record IsSound (es : List (Slot T)) (len first limit : ℕ) : Type 0 where
+    pub counted : len ≡ count_by is_some (items_of es)
+    pub within : length es ≤ limit
+    pub fits : limit < 2 ^ 32
+    pub chained : IsChained (links_at es) first

@@ -1,0 +1,205 @@
+//! What is answered where an item is not taken.
+ghost use Rattle.std.specs.Prelude.{◌≡◌, ◌↔◌, IsTrue, IfOk, IfErr, map, length, slice_get, option_copied};
+ghost use Rattle.iddqd_store.specs.declared.errors.TryReserveErrorKind.TheVariants.{CapacityOverflow, AllocError};
+ghost use Rattle.iddqd_store.specs.Contents.{ClonesAreEqual};
+ghost use Rattle.iddqd_store.specs.Errors.{new_item_of, duplicates_of, listed};
+
+#[cfg(test)]
+mod tests;
+
+use std::alloc;
+use std::error::Error;
+use std::fmt::{self, Debug, Display, Formatter, Write};
+use std::marker::Model;
+
+/// Why room was refused.
+#[derive(Clone, Copy, Debug, PartialEq, Eq, thiserror::Error)]
+pub(crate) enum TryReserveErrorKind {
+    #[error("capacity overflow")]
+    CapacityOverflow,
+    #[error("memory allocation failed")]
+    AllocError,
+}
+
+/// Room that was refused: by the map's limit, or for want of memory. Contracts see its kind.
+#[derive(Clone, Copy, Debug, PartialEq, Eq, thiserror::Error)]
+#[error(transparent)]
+pub struct TryReserveError {
+    kind: TryReserveErrorKind,
+}
+
+impl Model for TryReserveError {
+    ghost use Rattle.iddqd_store.specs.declared.errors.TryReserveErrorKind.{TryReserveErrorKind};
+
+    ghost Value = { TryReserveErrorKind };
+
+    ghost view = { λ e. e.kind };
+
+    ghost inverse = { λ k. record { kind = k } };
+}
+
+impl TryReserveError {
+    /// The refusal of a map that is full (ours: the crate's constructor is private).
+    #[doc(hidden)]
+    pub fn capacity_overflow() -> Self
+        ensures { result ≡ CapacityOverflow }
+    {
+        TryReserveError {
+            kind: TryReserveErrorKind::CapacityOverflow,
+        }
+    }
+
+    /// The refusal for want of memory (ours: the crate's constructor is private).
+    #[doc(hidden)]
+    pub fn alloc_error() -> Self
+        ensures { result ≡ AllocError }
+    {
+        TryReserveError {
+            kind: TryReserveErrorKind::AllocError,
+        }
+    }
+
+    /// Whether the map's limit refused it (ours: the crate's kind is private).
+    pub fn is_capacity_overflow(&self) -> bool
+        ensures { IsTrue result ↔ (self.now ≡ CapacityOverflow) }
+    {
+        self.kind == TryReserveErrorKind::CapacityOverflow
+    }
+}
+
+/// One, two or three values, without memory of their own (ours: the crate has a vector). Seen as a list.
+#[derive(Clone, Copy, Debug, Drop)]
+pub enum Few<D> {
+    One(D),
+    Two(D, D),
+    Three(D, D, D),
+}
+
+impl<D> Few<D> {
+    /// How many there are.
+    pub fn len(&self) -> usize
+        ensures { result ≡ length (listed self.now) }
+    {
+        match self {
+            Few::One(_) => 1,
+            Few::Two(_, _) => 2,
+            Few::Three(_, _, _) => 3,
+        }
+    }
+
+    /// The one at the place, counted from 0; `None` past the end.
+    pub fn get(&self, at: usize) -> Option<&D>
+        ensures { option_copied result ≡ slice_get (listed self.now) at }
+    {
+        match (self, at) {
+            (Few::One(a) | Few::Two(a, _) | Few::Three(a, _, _), 0) => Some(a),
+            (Few::Two(_, b) | Few::Three(_, b, _), 1) => Some(b),
+            (Few::Three(_, _, c), 2) => Some(c),
+            _ => None,
+        }
+    }
+}
+
+/// A new item, and the items that have its key.
+#[derive(Clone, Debug, Drop)]
+pub struct DuplicateItem<T, D = T> {
+    new: T,
+    duplicates: Few<D>,
+}
+
+impl<T, D> DuplicateItem<T, D> {
+    /// A new item and the items that stand in its way.
+    #[doc(hidden)]
+    pub fn internal_new(new: T, duplicates: Few<D>) -> Self
+        ensures new { new_item_of result ≡ new }
+        ensures duplicates { duplicates_of result ≡ listed duplicates }
+    {
+        DuplicateItem { new, duplicates }
+    }
+
+    /// The item that was handed in.
+    pub fn new_item(&self) -> &T
+        ensures { result.now ≡ new_item_of self.now }
+    {
+        &self.new
+    }
+
+    /// The items that have its key.
+    pub fn duplicates(&self) -> &Few<D>
+        ensures { listed result.now ≡ duplicates_of self.now }
+    {
+        &self.duplicates
+    }
+
+    /// The item that was handed in, and the items that have its key.
+    pub fn into_parts(self) -> (T, Few<D>)
+        ensures new { result.0 ≡ new_item_of self }
+        ensures duplicates { listed result.1 ≡ duplicates_of self }
+    {
+        let DuplicateItem { new, duplicates } = self;
+        (new, duplicates)
+    }
+}
+
+impl<'a, T: Clone> DuplicateItem<T, &'a T> {
+    /// The same with clones of the items that are lent. Where memory for one was refused, it hands itself back.
+    pub fn into_owned(self) -> Result<DuplicateItem<T>, Self>
+        requires clones { ClonesAreEqual T.is_clone }
+        ensures new { IfOk result (λ owned. new_item_of owned ≡ new_item_of self.entry) }
+        ensures duplicates { IfOk result (λ owned. duplicates_of owned ≡ map (λ lent. lent.now) (duplicates_of self.entry)) }
+        ensures back { IfErr result (λ back. back ≡ self.entry) }
+    {
+        match self.duplicates.cloned() {
+            Ok(duplicates) => Ok(DuplicateItem {
+                new: self.new,
+                duplicates,
+            }),
+            Err(_) => Err(self),
+        }
+    }
+}
+
+impl<T: Clone> Few<&T> {
+    // A clone of each value.
+    fn cloned(&self) -> Result<Few<T>, alloc::AllocError>
+        requires clones { ClonesAreEqual T.is_clone }
+        ensures { IfOk result (λ few. listed few ≡ map (λ lent. lent.now) (listed self.now)) }
+    {
+        match self {
+            Few::One(a) => Ok(Few::One((**a).clone()?)),
+            Few::Two(a, b) => Ok(Few::Two((**a).clone()?, (**b).clone()?)),
+            Few::Three(a, b, c) => Ok(Few::Three((**a).clone()?, (**b).clone()?, (**c).clone()?)),
+        }
+    }
+}
+
+impl<T: Debug, D: Debug> Display for DuplicateItem<T, D> {
+    fn fmt<W: Write>(&self, f: &mut Formatter<W>) -> fmt::Result {
+        write!(f, "new item: {:?} conflicts with existing: ", self.new)?;
+        match &self.duplicates {
+            Few::One(a) => write!(f, "[{a:?}]"),
+            Few::Two(a, b) => write!(f, "[{a:?}, {b:?}]"),
+            Few::Three(a, b, c) => write!(f, "[{a:?}, {b:?}, {c:?}]"),
+        }
+    }
+}
+
+impl<T: Debug + Drop, D: Debug + Drop> Error for DuplicateItem<T, D> {}
+
+/// An item that was not taken, and why (ours: the crate panics or aborts).
+#[derive(Debug, Drop)]
+pub struct Refused<T> {
+    /// The item that was handed in.
+    pub item: T,
+    /// Whether the map is full or memory was refused.
+    pub error: TryReserveError,
+}
+
+/// Why an item was not inserted (ours).
+#[derive(Drop)]
+pub enum InsertError<'a, T> {
+    /// An item of an equal key is there: the new item, and that one alone.
+    Duplicate(DuplicateItem<T, &'a T>),
+    /// There was no room.
+    Refused(Refused<T>),
+}

@@ -1,0 +1,292 @@
+//! Items in numbered slots. A vacant slot is used again.
+mod chain;
+mod moves;
+#[cfg(test)]
+mod tests;
+
+ghost use Rattle.std.specs.Prelude.{◌≡◌, ◌≢◌, ℕ, ◌+◌, ◌-◌, ◌<◌, ◌≤◌, [], length, IfSome, IfNone, IfOk, OnOk, OnErr, IsSome, Some, None, OnSome, option_copied, slice_set, Err, ◌↔◌, min};
+ghost use Rattle.std.specs.Borrow.{sem};
+ghost use Rattle.iddqd_store.specs.Store.{item_at, IsOccupied, store_len, vacant, HasRoomFor, Updates, SameItems, MovesLast, EndsOccupied, IsStoreClone};
+ghost use Rattle.iddqd_store.specs.declared.errors.TryReserveErrorKind.TheVariants.{CapacityOverflow, AllocError as OutOfMemory};
+
+use crate::errors::TryReserveError;
+use chain::{NO_SLOT, Slot, fill_first, vacate};
+use moves::{cut_vacant, move_last};
+use std::alloc::{AllocError, Global};
+use std::marker::Model;
+use std::mem;
+
+/// Items in numbered slots, as the crate's `ItemSet`: an item stays in its slot until it is removed
+/// or moved into a lower one, and the slot of a removed item is used again. Contracts see the list
+/// of the slots, each with its item or vacant, the capacity and the limit.
+#[derive(Drop)]
+pub struct ItemStore<T> {
+    slots: Vec<Slot<T>>,
+    // How many slots are occupied.
+    len: usize,
+    // The head of the chain of vacant slots, or `NO_SLOT`.
+    first_vacant: u32,
+    limit: u32,
+}
+
+impl<T> Model for ItemStore<T> {
+    ghost use Rattle.std.specs.Prelude.{vec_capacity};
+    ghost use Rattle.iddqd_store.specs.Store.{Store, store_code};
+
+    ghost Value = { Store T };
+
+    ghost coded = { store_code T.code };
+
+    ghost use Rattle.iddqd_store.specs.Slots.{items_of, IsSound};
+
+    ghost view = { λ s. record {
+      slots = items_of s.slots.items;
+      capacity = vec_capacity s.slots;
+      limit = s.limit;
+    } };
+
+    ghost invariant = { λ s. IsSound s.slots.items s.len s.first_vacant s.limit };
+}
+
+impl<T> ItemStore<T> {
+    ghost use Rattle.iddqd_store.specs.Lends.{lends_item};
+
+    /// A store without items that holds at most `limit`. It takes no memory.
+    pub fn new(alloc: Global, limit: u32) -> Self
+        ensures slots { result.slots ≡ [] }
+        ensures capacity { result.capacity ≡ 0 }
+        ensures limit { result.limit ≡ limit }
+    {
+        ItemStore {
+            slots: Vec::new(alloc),
+            len: 0,
+            first_vacant: NO_SLOT,
+            limit,
+        }
+    }
+
+    /// How many items there are. It counts none of them.
+    #[inline]
+    pub fn len(&self) -> usize
+        ensures items { result ≡ store_len self.now }
+        ensures limit { result ≤ self.now.limit }
+    {
+        self.len
+    }
+
+    /// How many slots are vacant (ours). It counts none of them.
+    #[inline]
+    pub fn vacant(&self) -> u32
+        ensures { result ≡ vacant self.now }
+    {
+        (self.slots.len() - self.len) as u32
+    }
+
+    /// How many slots there are (ours): each number below it is a slot's, occupied or vacant.
+    #[inline]
+    pub fn slots(&self) -> u32
+        ensures slots { result ≡ length self.now.slots }
+        ensures parts { store_len self.now + vacant self.now ≡ result }
+        ensures limit { result ≤ self.now.limit }
+        ensures capacity { result ≤ self.now.capacity }
+    {
+        self.slots.len() as u32
+    }
+
+    /// How many items fit before memory is needed.
+    #[inline]
+    pub fn capacity(&self) -> usize
+        ensures { result ≡ self.now.capacity }
+    {
+        self.slots.capacity()
+    }
+
+    /// The most items that the store ever holds, as `new` was told (ours).
+    #[inline]
+    pub fn limit(&self) -> u32
+        ensures { result ≡ self.now.limit }
+    {
+        self.limit
+    }
+
+    /// Makes room for `additional` more items. `CapacityOverflow` where the limit has no room for
+    /// them, else `AllocError` where memory was refused; the slots stay as they were, and where
+    /// there is room it takes no memory.
+    #[inline]
+    pub fn try_reserve(&mut self, additional: usize) -> Result<(), TryReserveError>
+        ensures ok { OnOk result (HasRoomFor self.new additional) }
+        ensures overflow { (result ≡ Err CapacityOverflow) ↔ (self.old.limit < store_len self.old + additional) }
+        ensures memory { result ≡ Err OutOfMemory → self.old.capacity < store_len self.old + additional }
+        ensures rest { self.new ≡ record self.old { capacity = self.new.capacity } }
+        ensures capacity { self.old.capacity ≤ self.new.capacity }
+    {
+        if additional > self.limit as usize - self.len {
+            return Err(TryReserveError::capacity_overflow());
+        }
+        if additional > self.slots.capacity() - self.len {
+            return self.grow(additional);
+        }
+        Ok(())
+    }
+
+    // Makes room that is not there yet.
+    #[cold]
+    #[inline(never)]
+    fn grow(&mut self, additional: usize) -> Result<(), TryReserveError>
+        requires limit { store_len self.old + additional ≤ self.old.limit }
+        requires needed { self.old.capacity < store_len self.old + additional }
+        ensures ok { OnOk result (HasRoomFor self.new additional) }
+        ensures err { OnErr result (result ≡ Err OutOfMemory) }
+        ensures rest { self.new ≡ record self.old { capacity = self.new.capacity } }
+        ensures capacity { self.old.capacity ≤ self.new.capacity }
+    {
+        let vacant = self.slots.len() - self.len;
+        self.slots
+            .reserve(additional - vacant)
+            .map_err(|_| TryReserveError::alloc_error())
+    }
+
+    /// The item of the slot; `None` where the slot is vacant or there is no such slot.
+    #[inline]
+    pub fn get(&self, slot: u32) -> Option<&T>
+        ensures { option_copied result ≡ item_at self.now slot }
+    {
+        match self.slots.get(slot as usize) {
+            Some(Slot::Occupied(item)) => Some(item),
+            _ => None,
+        }
+    }
+
+    /// The item of an occupied slot, for writing.
+    #[inline]
+    pub fn get_mut(&mut self, slot: u32) -> &mut T
+        requires { IsOccupied self.old slot }
+        ensures* writes_back { sem 𝓛 (lends_item T.row self.entry slot result) }
+        ensures item { item_at self.old slot ≡ Some result.now }
+    {
+        self.slots[slot as usize].item_mut()
+    }
+
+    /// Puts the item into a vacant slot if there is one, and else into a new one of the next number;
+    /// answers the slot. There must be room, as `try_reserve(1)` makes it, so it takes no memory.
+    #[inline]
+    pub fn insert_reserved(&mut self, item: T) -> u32
+        requires { HasRoomFor self.old 1 }
+        ensures was_vacant { item_at self.old result ≡ None }
+        ensures updates { Updates self.old self.new result (Some item) }
+        ensures reuses { 0 < vacant self.old → result < length self.old.slots }
+        ensures next { vacant self.old ≡ 0 → result ≡ length self.old.slots }
+        ensures len { store_len self.new ≡ store_len self.old + 1 }
+        ensures vacant { vacant self.new ≡ vacant self.old - 1 }
+        ensures capacity { self.new.capacity ≡ self.old.capacity }
+        ensures limit { self.new.limit ≡ self.old.limit }
+    {
+        let slot = self.first_vacant;
+        self.len += 1;
+        if slot == NO_SLOT {
+            let next = self.slots.len() as u32;
+            self.slots.push_reserved(Slot::Occupied(item));
+            return next;
+        }
+        self.first_vacant = fill_first(self.slots.as_mut_slice(), slot, item);
+        slot
+    }
+
+    /// Puts the item into an occupied slot, and answers the item that was there. It takes no memory.
+    #[inline]
+    pub fn replace(&mut self, slot: u32, item: T) -> T
+        requires { IsOccupied self.old slot }
+        ensures item { item_at self.old slot ≡ Some result }
+        ensures store { self.new ≡ record self.old { slots = slice_set self.old.slots slot (Some item) } }
+        ensures len { store_len self.new ≡ store_len self.old }
+        ensures vacant { vacant self.new ≡ vacant self.old }
+    {
+        match mem::replace(&mut self.slots[slot as usize], Slot::Occupied(item)) {
+            Slot::Occupied(old) => old,
+            Slot::Vacant(_) => unreachable!(),
+        }
+    }
+
+    /// Takes the item out of an occupied slot, which is then vacant. It takes and gives back no memory.
+    #[inline]
+    pub fn remove(&mut self, slot: u32) -> T
+        requires { IsOccupied self.old slot }
+        ensures item { item_at self.old slot ≡ Some result }
+        ensures store { self.new ≡ record self.old { slots = slice_set self.old.slots slot None } }
+        ensures len { store_len self.new + 1 ≡ store_len self.old }
+        ensures vacant { vacant self.new ≡ vacant self.old + 1 }
+    {
+        let item = vacate(self.slots.as_mut_slice(), self.first_vacant, slot);
+        self.len -= 1;
+        self.first_vacant = slot;
+        item
+    }
+
+    /// Drops every item, and leaves no slot. The capacity stays.
+    pub fn clear(&mut self)
+    where
+        T: Drop,
+        ensures { self.new ≡ record self.old { slots = [] } }
+    {
+        self.slots.clear();
+        self.len = 0;
+        self.first_vacant = NO_SLOT;
+    }
+
+    /// Moves the item of the greatest occupied slot into a lower vacant one, and answers the old slot
+    /// and the new one; `None` where there is no such move, and then no slot is vacant any more (ours,
+    /// a step of the crate's `compact`). Vacant slots at the end are cut off. It takes no memory, and
+    /// looks only at the slots that go.
+    pub fn last_into_hole(&mut self) -> Option<(u32, u32)>
+        ensures moves { IfSome result (λ m. MovesLast self.old.slots self.new.slots m.0 m.1) }
+        ensures fewer { OnSome result (vacant self.new < vacant self.old) }
+        ensures none_vacant { IfNone result (vacant self.new ≡ 0) }
+        ensures none_moves { IfNone result (SameItems self.old self.new) }
+        ensures cut { EndsOccupied self.new.slots }
+        ensures len { store_len self.new ≡ store_len self.old }
+        ensures capacity { self.new.capacity ≡ self.old.capacity }
+        ensures limit { self.new.limit ≡ self.old.limit }
+    {
+        self.first_vacant = cut_vacant(&mut self.slots, self.first_vacant);
+        if self.first_vacant == NO_SLOT {
+            return None;
+        }
+        let hole = self.first_vacant;
+        let last = self.slots.len() - 1;
+        self.first_vacant = move_last(&mut self.slots, hole);
+        self.first_vacant = cut_vacant(&mut self.slots, self.first_vacant);
+        Some((last as u32, hole))
+    }
+
+    /// Gives memory back, but for room for `min_capacity` items and for those that are there (the
+    /// crate's `shrink_capacity_to`). No slot may be vacant, as after `last_into_hole` answered
+    /// `None`. Refused or not, the slots stay as they were.
+    pub fn shrink_to(&mut self, min_capacity: usize) -> Result<(), TryReserveError>
+        requires { vacant self.old ≡ 0 }
+        ensures err { OnErr result (result ≡ Err OutOfMemory) }
+        ensures rest { self.new ≡ record self.old { capacity = self.new.capacity } }
+        ensures lowers { self.new.capacity ≤ self.old.capacity }
+        ensures keeps_items { store_len self.old ≤ self.new.capacity }
+        ensures keeps_room { min min_capacity self.old.capacity ≤ self.new.capacity }
+    {
+        self.slots.shrink_to(min_capacity);
+        Ok(())
+    }
+
+    /// A store of the same limit with a clone of each item in its slot, and the same slots vacant.
+    /// `Err` where memory for a clone or for the slots was refused, and then nothing is made.
+    pub fn try_clone(&self) -> Result<Self, AllocError>
+    where
+        T: Clone,
+        ensures clones { IfOk result (IsStoreClone T.is_clone self.now) }
+        ensures len { IfOk result (λ copy. store_len copy ≡ store_len self.now) }
+        ensures vacant { IfOk result (λ copy. vacant copy ≡ vacant self.now) }
+    {
+        Ok(ItemStore {
+            slots: self.slots.clone()?,
+            len: self.len,
+            first_vacant: self.first_vacant,
+            limit: self.limit,
+        })
+    }
+}

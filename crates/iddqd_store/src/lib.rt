@@ -1,0 +1,17 @@
+//! What both indexes and both maps stand on: errors, items, queries, steps and the item store.
+#![tactic(auto)]
+
+mod errors;
+mod item_store;
+mod items;
+pub mod laws;
+mod queries;
+mod steps;
+mod text;
+
+pub use errors::{DuplicateItem, Few, InsertError, Refused, TryReserveError};
+pub use item_store::ItemStore;
+pub use items::{IdHashItem, IdOrdItem};
+pub use queries::{Comparable, Equivalent};
+pub use steps::Steps;
+pub use text::Text;
