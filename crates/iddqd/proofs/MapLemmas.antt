@@ -2,6 +2,7 @@
 --     search_item      what a search of the index says of the items
 --     keyed_under      in a keyed map each item's slot is listed with the hash of the item's key
 --     listed_under_query      ... and with that of a query that stands for it
+--     spare_fits      what is there and what is spare fit the limit
 --     same_spare, unchanged      ... where nothing has changed
 --     emptied_keyed, emptied_spare      ... where no item is left
 --     keeps_spare      the room of a map whose numbers say so
@@ -17,15 +18,15 @@ use Rattle.iddqd_core.specs.Contents.{AddsItem, IsAbsent, IsKeyTest, NoTwoAkin, 
 use Rattle.iddqd_core.specs.HashPairs.{HashPairs, HasOneMore, IsMatch, SamePairs}
 use Rattle.iddqd_core.specs.Store.{Store, item_at, store_len, vacant, Updates}
 use Rattle.iddqd.specs.HashItems.{HashItems, Keyed}
-use Rattle.iddqd.specs.HashMap.{InsertsItem, KeepsMap, KeepsSpare}
-use Rattle.iddqd.specs.Paired.{ListsOccupied, hash_of_slot, hashes_in, items_in, shown}
+use Rattle.iddqd.specs.HashMap.{HashInserts, HashKeeps, KeepsSpare, SpareFits}
+use Rattle.iddqd.specs.Paired.{PairsOccupied, hash_of_slot, items_in, numbers_of, shown, slots_in}
 use Rattle.iddqd.proofs.FoundLemmas.{differ_added, differ_exchanged, differ_taken, item_absent, item_exchanged, item_found, item_taken, same_numbers}
 use Rattle.iddqd.proofs.PairLemmas.{listed_hash}
 use Rattle.iddqd.proofs.PairedLemmas.{AreListedUnder, hashes_agree, listed_under, occupied_listed, under_added, under_removed, under_same}
-use Rattle.iddqd.proofs.SlotItemLemmas.{item_added, length-items}
+use Rattle.iddqd.proofs.SlotItemLemmas.{item_added, length-items, slots_apart}
 
 -- what a search of the index says of the items
-module _ {T K : Type 0} (key : T → K) {eq : K → K → Bool} (equivalence : IsEquivalence eq) (test : K → Bool) (tests : IsKeyTest eq test) (store : Store T) (pairs : List (ℕ × ℕ)) (hash : ℕ) (paired : ListsOccupied store pairs) (differ : NoTwoAkin key eq (items_in store)) (under : (slot : ℕ) (x : T) → item_at store slot ≡ Some x → test (key x) ≡ true → hash_of_slot pairs slot ≡ hash) where
+module _ {T K : Type 0} (key : T → K) {eq : K → K → Bool} (equivalence : IsEquivalence eq) (test : K → Bool) (tests : IsKeyTest eq test) (store : Store T) (pairs : List (ℕ × ℕ)) (hash : ℕ) (paired : PairsOccupied store pairs) (differ : NoTwoAkin key eq (items_in store)) (under : (slot : ℕ) (x : T) → item_at store slot ≡ Some x → test (key x) ≡ true → hash_of_slot pairs slot ≡ hash) where
   pub search_item : (found : Option ℕ) → IfSome found (IsMatch store pairs hash (λ x. test (key x))) → IfNone found ((slot : ℕ) → ¬ IsMatch store pairs hash (λ x. test (key x)) slot) → option_and_then (item_at store) found ≡ find_item key test (items_in store)
   search_item (Some slot) found absent = by (item_at store slot) refl found.1
     where
@@ -46,10 +47,14 @@ keeps_least a b c n a' b' c' n' h i j k l m e = (omega arith, omega arith)
 
 module _ {S T : Type 0} (hasher : S) where
   -- where nothing changes the spare is kept
-  pub same_spare : (store : Store T) (index : HashPairs) → ListsOccupied store index.pairs → KeepsSpare (shown store index hasher) (shown store index hasher)
+  pub same_spare : (store : Store T) (index : HashPairs) → PairsOccupied store index.pairs → KeepsSpare (shown store index hasher) (shown store index hasher)
   same_spare store index paired =
       let room = keeps_least index.spare store.capacity store.limit (store_len store) index.spare store.capacity store.limit (store_len store) paired.in_memory paired.in_limit paired.in_memory paired.in_limit (omega arith) (omega arith) refl in
       record { never_less = omega arith; in_limit = omega (arith, room.1, length-items store.slots) }
+
+  -- what is there and what is spare fit the limit
+  pub spare_fits : (store : Store T) (index : HashPairs) → PairsOccupied store index.pairs → SpareFits (shown store index hasher)
+  spare_fits store index paired = (same_spare store index paired).in_limit
 
 module _ {S T K : Type 0} (key : T → K) (eq : K → K → Bool) (input : K → HashWrites) (hash : S → HashWrites → ℕ) (hasher : S) where
   abbrev tell : T → ℕ
@@ -70,16 +75,16 @@ module _ {S T K : Type 0} (key : T → K) (eq : K → K → Bool) (input : K →
   emptied_keyed store index none =
       make_keyed store index (subst (λ slots. NoTwoAkin key eq (items_in (record store { slots = slots }))) (sym none) tt) (λ slot x there. (let empty = ap (λ slots. get_or slots slot None) none in cc))
 
-  pub unchanged : (store : Store T) (index : HashPairs) → ListsOccupied store index.pairs → Keyed key eq input hash (shown store index hasher) → KeepsMap key eq input hash (shown store index hasher) (shown store index hasher)
+  pub unchanged : (store : Store T) (index : HashPairs) → PairsOccupied store index.pairs → Keyed key eq input hash (shown store index hasher) → HashKeeps (Keyed key eq input hash) (shown store index hasher) (shown store index hasher)
   unchanged store index paired keyed = record {
-    keeps = record { items = refl; vacant = refl; capacity = omega arith; limit = refl };
+    keeps = record { items = refl; slots = refl; vacant = refl; capacity = omega arith; limit = refl };
     keyed = keyed;
     spare = same_spare hasher store index paired;
     hasher = refl;
   }
 
   -- the room of two maps
-  module _ (old new : Store T) (p q : HashPairs) (was : ListsOccupied old p.pairs) (is : ListsOccupied new q.pairs) where
+  module _ (old new : Store T) (p q : HashPairs) (was : PairsOccupied old p.pairs) (is : PairsOccupied new q.pairs) where
     pub keeps_spare : p.spare + store_len old ≤ q.spare + store_len new → old.capacity ≤ new.capacity → new.limit ≡ old.limit → KeepsSpare (shown old p hasher) (shown new q hasher)
     keeps_spare listed capacity limit =
         let room = keeps_least p.spare old.capacity old.limit (store_len old) q.spare new.capacity new.limit (store_len new) was.in_memory was.in_limit is.in_memory is.in_limit listed capacity limit in
@@ -88,13 +93,13 @@ module _ {S T K : Type 0} (key : T → K) (eq : K → K → Bool) (input : K →
         record { never_less = omega (arith, room.0, before, after); in_limit = omega (arith, room.1, after) }
 
     -- nothing has changed but the room
-    pub map_kept : Keyed key eq input hash (shown old p hasher) → new ≡ record old { capacity = new.capacity } → old.capacity ≤ new.capacity → SamePairs p.pairs q.pairs → p.spare ≤ q.spare → KeepsMap key eq input hash (shown old p hasher) (shown new q hasher)
+    pub map_kept : Keyed key eq input hash (shown old p hasher) → new ≡ record old { capacity = new.capacity } → old.capacity ≤ new.capacity → SamePairs p.pairs q.pairs → p.spare ≤ q.spare → HashKeeps (Keyed key eq input hash) (shown old p hasher) (shown new q hasher)
     map_kept keyed rest capacity same spare =
         let slots = ap (λ s. s.slots) rest in
         let limit = ap (λ s. s.limit) rest in
         let len : store_len new ≡ store_len old = ap (λ xs. count_by is_some xs) slots in
         record {
-          keeps = record { items = ap (λ s. items_in s) rest; vacant = ap (λ s. vacant s) rest; capacity = capacity; limit = limit };
+          keeps = record { items = ap (λ s. items_in s) rest; slots = ap (λ s. slots_in s) rest; vacant = ap (λ s. vacant s) rest; capacity = capacity; limit = limit };
           keyed = make_keyed new q (subst (λ s. NoTwoAkin key eq (items_in s)) (sym rest) keyed.differ) (under_same tell old new p.pairs q.pairs (keyed_under old p keyed) slots same);
           spare = keeps_spare (omega (arith, spare, len)) capacity limit;
           hasher = refl;
@@ -105,11 +110,11 @@ module _ {S T K : Type 0} (key : T → K) (eq : K → K → Bool) (input : K →
         keeps_spare (omega (arith, spare, was.counted, ap (λ xs. count_by is_some xs) none)) capacity limit
 
     -- a new item is there
-    pub map_inserted : IsEquivalence eq → Keyed key eq input hash (shown old p hasher) → (x : T) (slot : ℕ) → IsAbsent key (eq (key x)) (items_in old) → length (items_in old) < old.limit → HasOneMore p.pairs q.pairs (tell x, slot) → item_at old slot ≡ None → Updates old new slot (Some x) → p.spare ≤ q.spare + 1 → store_len new ≡ store_len old + 1 → vacant new ≡ vacant old - 1 → new.capacity ≡ old.capacity → new.limit ≡ old.limit → InsertsItem key eq input hash x (shown old p hasher) (shown new q hasher)
+    pub map_inserted : IsEquivalence eq → Keyed key eq input hash (shown old p hasher) → (x : T) (slot : ℕ) → IsAbsent key (eq (key x)) (items_in old) → length (items_in old) < old.limit → HasOneMore p.pairs q.pairs (tell x, slot) → item_at old slot ≡ None → Updates old new slot (Some x) → p.spare ≤ q.spare + 1 → store_len new ≡ store_len old + 1 → vacant new ≡ vacant old - 1 → new.capacity ≡ old.capacity → new.limit ≡ old.limit → HashInserts (Keyed key eq input hash) x (shown old p hasher) (shown new q hasher)
     map_inserted equivalence keyed x slot absent room more none updates spare len gone capacity limit =
         let adds = item_added old.slots new.slots slot x none updates.changed updates.others in
         record {
-          takes = record { room = room; added = adds; vacant = gone; capacity = omega (arith, capacity); limit = limit };
+          takes = record { room = room; added = adds; slots = slots_apart new.slots; vacant = gone; capacity = omega (arith, capacity); limit = limit };
           keyed = make_keyed new q (differ_added key equivalence x (items_in old) (items_in new) adds absent keyed.differ) (under_added tell old new p.pairs q.pairs (keyed_under old p keyed) (tell x) slot x was more none updates refl);
           spare = keeps_spare (omega (arith, spare, len)) (omega (arith, capacity)) limit;
           hasher = refl;
@@ -132,8 +137,9 @@ module _ {S T K : Type 0} (key : T → K) (eq : K → K → Bool) (input : K →
     pub exchanged_items : items_in new ≡ replaced key (eq (key y)) y (items_in old)
     exchanged_items = item_exchanged key equivalence (eq (key y)) (equivalence.congr (key y)) old.slots new.slots keyed.differ slot x there alike updates.others y updates.changed
 
-    pub exchanged_hashes : hashes_in new p.pairs ≡ hashes_in old p.pairs
-    exchanged_hashes = same_numbers key _ new.slots old.slots (λ other. ⊎_elim
+    -- the slots and the hashes stay
+    pub exchanged_numbers : (number : ℕ → ℕ) → numbers_of number new.slots ≡ numbers_of number old.slots
+    exchanged_numbers number = same_numbers key number new.slots old.slots (λ other. ⊎_elim
         (λ e. ap (λ s. is_some (item_at new s)) e ∙ ap is_some updates.changed ∙ sym (ap is_some there) ∙ sym (ap (λ s. is_some (item_at old s)) e))
         (λ n. ap is_some (updates.others other n))
         (cases_eq other slot))
@@ -148,13 +154,14 @@ module _ {S T K : Type 0} (key : T → K) (eq : K → K → Bool) (input : K →
         (cases_eq other slot))
 
 -- an insertion after a growth
-pub inserted_after : {S T K : Type 0} (key : T → K) (eq : K → K → Bool) (input : K → HashWrites) (hash : S → HashWrites → ℕ) (x : T) (old room new : HashItems S T) → KeepsMap key eq input hash old room → InsertsItem key eq input hash x room new → InsertsItem key eq input hash x old new
+pub inserted_after : {S T K : Type 0} (key : T → K) (eq : K → K → Bool) (input : K → HashWrites) (hash : S → HashWrites → ℕ) (x : T) (old room new : HashItems S T) → HashKeeps (Keyed key eq input hash) old room → HashInserts (Keyed key eq input hash) x room new → HashInserts (Keyed key eq input hash) x old new
 inserted_after key eq input hash x old room new kept inserted =
     let same = kept.keeps.items in
     record {
       takes = record {
         room = omega (arith, inserted.takes.room, ap length same, kept.keeps.limit);
         added = subst (λ items. AddsItem x items new.items) same inserted.takes.added;
+        slots = inserted.takes.slots;
         vacant = inserted.takes.vacant ∙ ap (λ n. n - 1) kept.keeps.vacant;
         capacity = omega (arith, inserted.takes.capacity, kept.keeps.capacity);
         limit = inserted.takes.limit ∙ kept.keeps.limit;

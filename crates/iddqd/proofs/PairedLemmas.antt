@@ -9,7 +9,7 @@ use Rattle.std.proofs.lemmas.Bool.{cases_eq, eq-eqb, ne_eqb}
 use Rattle.std.specs.List.{Contains}
 use Rattle.iddqd_core.specs.HashPairs.{HasOneMore, SamePairs, of_slot}
 use Rattle.iddqd_core.specs.Store.{Store, item_at, IsOccupied, store_len, Updates}
-use Rattle.iddqd.specs.Paired.{ListsOccupied, hash_of_slot, hashes_in, items_in}
+use Rattle.iddqd.specs.Paired.{PairsOccupied, hash_of_slot, hashes_in, items_in}
 use Rattle.iddqd.proofs.PairLemmas.{length-weight, listed_some, no_hash, counts, tells}
 use Rattle.iddqd.proofs.SlotItemLemmas.{number_at, numbers_agree}
 
@@ -30,7 +30,7 @@ module _ (ps qs : List (ℕ × ℕ)) (hash slot : ℕ) (more : HasOneMore ps qs 
   length_more = omega (arith, more (λ _. 1), length-weight ps, length-weight qs)
 
 module _ {T : Type 0} where
-  module _ (store : Store T) (pairs : List (ℕ × ℕ)) (paired : ListsOccupied store pairs) where
+  module _ (store : Store T) (pairs : List (ℕ × ℕ)) (paired : PairsOccupied store pairs) where
     pub occupied_listed : (slot : ℕ) → IsOccupied store slot → of_slot pairs slot ≡ 1
     occupied_listed slot some = paired.each_once slot ∙ ap (λ b. cond b 1 0) some
 
@@ -47,7 +47,7 @@ module _ {T : Type 0} where
         by true e = e
         by false e = absurd (omega (arith, some, paired.each_once slot ∙ ap (λ b. cond b 1 0) e))
 
-  pub paired_empty : (store : Store T) (pairs : List (ℕ × ℕ)) → store.slots ≡ [] → pairs ≡ [] → ListsOccupied store pairs
+  pub paired_empty : (store : Store T) (pairs : List (ℕ × ℕ)) → store.slots ≡ [] → pairs ≡ [] → PairsOccupied store pairs
   paired_empty store pairs none nothing =
       let empty : store_len store ≡ 0 = ap (λ xs. count_by is_some xs) none in
       record {
@@ -57,9 +57,9 @@ module _ {T : Type 0} where
         in_limit = omega (arith, empty);
       }
 
-  module _ (old new : Store T) (ps qs : List (ℕ × ℕ)) (paired : ListsOccupied old ps) where
+  module _ (old new : Store T) (ps qs : List (ℕ × ℕ)) (paired : PairsOccupied old ps) where
     -- the pairs may stand in another order, and there may be more room
-    pub paired_grown : new ≡ record old { capacity = new.capacity } → old.capacity ≤ new.capacity → SamePairs ps qs → ListsOccupied new qs
+    pub paired_grown : new ≡ record old { capacity = new.capacity } → old.capacity ≤ new.capacity → SamePairs ps qs → PairsOccupied new qs
     paired_grown rest more same =
         let slots = ap (λ s. s.slots) rest in
         let len : store_len new ≡ store_len old = ap (λ xs. count_by is_some xs) slots in
@@ -70,7 +70,7 @@ module _ {T : Type 0} where
           in_limit = omega (arith, len, paired.in_limit, ap (λ s. s.limit) rest);
         }
 
-    pub paired_added : (hash slot : ℕ) (x : T) → HasOneMore ps qs (hash, slot) → item_at old slot ≡ None → Updates old new slot (Some x) → store_len new ≡ store_len old + 1 → store_len old + 1 ≤ old.capacity → store_len old + 1 ≤ old.limit → new.capacity ≡ old.capacity → new.limit ≡ old.limit → ListsOccupied new qs
+    pub paired_added : (hash slot : ℕ) (x : T) → HasOneMore ps qs (hash, slot) → item_at old slot ≡ None → Updates old new slot (Some x) → store_len new ≡ store_len old + 1 → store_len old + 1 ≤ old.capacity → store_len old + 1 ≤ old.limit → new.capacity ≡ old.capacity → new.limit ≡ old.limit → PairsOccupied new qs
     paired_added hash slot x more vacant updates len memory limit same_capacity same_limit =
         record {
           each_once = λ other. ⊎_elim
@@ -82,7 +82,7 @@ module _ {T : Type 0} where
           in_limit = omega (arith, len, limit, same_limit);
         }
 
-    pub paired_removed : (hash slot : ℕ) → HasOneMore qs ps (hash, slot) → Contains ps (hash, slot) → Updates old new slot None → store_len new + 1 ≡ store_len old → new.capacity ≡ old.capacity → new.limit ≡ old.limit → ListsOccupied new qs
+    pub paired_removed : (hash slot : ℕ) → HasOneMore qs ps (hash, slot) → Contains ps (hash, slot) → Updates old new slot None → store_len new + 1 ≡ store_len old → new.capacity ≡ old.capacity → new.limit ≡ old.limit → PairsOccupied new qs
     paired_removed hash slot more listed updates len same_capacity same_limit =
         let was = occupied_listed old ps paired slot (listed_occupied old ps paired hash slot listed) in
         let gone : of_slot qs slot ≡ 0 = omega (arith, count_here qs ps hash slot more, was) in
@@ -97,7 +97,7 @@ module _ {T : Type 0} where
         }
 
     -- one slot has another item
-    pub paired_kept : (slot : ℕ) (x : T) → qs ≡ ps → IsOccupied old slot → Updates old new slot (Some x) → store_len new ≡ store_len old → new.capacity ≡ old.capacity → new.limit ≡ old.limit → ListsOccupied new qs
+    pub paired_kept : (slot : ℕ) (x : T) → qs ≡ ps → IsOccupied old slot → Updates old new slot (Some x) → store_len new ≡ store_len old → new.capacity ≡ old.capacity → new.limit ≡ old.limit → PairsOccupied new qs
     paired_kept slot x same occupied updates len same_capacity same_limit =
         record {
           each_once = λ other. ap (λ ps. of_slot ps other) same ∙ ⊎_elim
@@ -123,7 +123,7 @@ module _ {T : Type 0} where
       pub under_same : new.slots ≡ old.slots → SamePairs ps qs → AreListedUnder new qs
       under_same slots same slot x there = same (tells slot) ∙ under slot x (ap (λ xs. get_or xs slot None) (sym slots) ∙ there)
 
-      pub under_added : (hash slot : ℕ) (x : T) → ListsOccupied old ps → HasOneMore ps qs (hash, slot) → item_at old slot ≡ None → Updates old new slot (Some x) → hash ≡ tell x → AreListedUnder new qs
+      pub under_added : (hash slot : ℕ) (x : T) → PairsOccupied old ps → HasOneMore ps qs (hash, slot) → item_at old slot ≡ None → Updates old new slot (Some x) → hash ≡ tell x → AreListedUnder new qs
       under_added hash slot x paired more vacant updates told other y there = ⊎_elim
           (λ e. let same : x ≡ y = (let now = updates.changed in let seen = ap (item_at new) (sym e) ∙ there in cc) in
           let none = no_hash ps slot (vacant_unlisted old ps paired slot vacant) in

@@ -5,10 +5,18 @@
 --     slot_of      each item has a slot
 --     length-items      there are as many items as occupied slots
 --     number_at, numbers_agree      a number for each slot, told by its item
-use Rattle.std.proofs.Common.{append_assoc, ◌≡◌, ◌≢◌, ℕ, zero, suc, ◌≤◌, List, [], ◌∷◌, ◌++◌, length, map, set, get_or, drop, Option, Some, None, is_some, cond, refl, sym, ap, ◌∙◌, arith, subst, count_by}
+--     slots_apart      each item has a slot of its own
+--     slot_left      an item that is taken out leaves its place and its slot
+use Rattle.std.proofs.Common.{append_assoc, ◌≡◌, ◌≢◌, ℕ, zero, suc, ◌≤◌, List, [], ◌∷◌, ◌++◌, length, map, set, get_or, drop, ◌<◌, nat_eq, false, Option, Some, None, is_some, cond, refl, sym, ap, ◌∙◌, arith, subst, count_by}
+use Rattle.std.proofs.lemmas.List.{length-map}
 use Rattle.std.proofs.lemmas.List.Sums.{sum_by-cons}
-use Rattle.std.specs.List.{filter_map, cons_option, insert, remove, slice_get}
+use Rattle.std.proofs.lemmas.Bool.{ne_eqb}
+use Rattle.std.proofs.lemmas.Option.{slice_get-map}
+use Rattle.std.specs.List.{AllByRecursion, IsDistinct, filter_map, cons_option, insert, remove, slice_get}
+use Rattle.std.specs.Option.{option_map}
 use Rattle.iddqd_core.specs.Contents.{AddsItem}
+use Rattle.iddqd_core.specs.SlotItems.{HaveSlots}
+use Rattle.iddqd_core.proofs.MappedLemmas.{remove-map}
 use Rattle.iddqd.specs.Paired.{numbers_of}
 
 -- an element in the middle
@@ -145,3 +153,67 @@ module _ {T : Type 0} where
       let first = same zero y refl in
       let rest = numbers_agree tell (λ s. number (suc s)) slots (λ slot. same (suc slot)) in
       cc
+
+module _ {T : Type 0} where
+  -- a rising number tells the items apart
+  above_all : (number : ℕ → ℕ) (slots : List (Option T)) (n : ℕ) → ((slot : ℕ) → n < number slot) → AllByRecursion (λ m. nat_eq n m ≡ false) (numbers_of number slots)
+  above_all number [] n above = tt
+  above_all number (None ∷ slots) n above = above_all (λ s. number (suc s)) slots n (λ slot. above (suc slot))
+  above_all number (Some x ∷ slots) n above = (ne_eqb n (number 0) (λ e. (let h = above 0 in omega arith)), above_all (λ s. number (suc s)) slots n (λ slot. above (suc slot)))
+
+  numbers_apart : (number : ℕ → ℕ) (slots : List (Option T)) → ((s t : ℕ) → s < t → number s < number t) → IsDistinct nat_eq (numbers_of number slots)
+  unfolding IsDistinct
+  numbers_apart number [] rises = tt
+  numbers_apart number (None ∷ slots) rises = numbers_apart (λ s. number (suc s)) slots (λ s t h. rises (suc s) (suc t) (omega arith))
+  numbers_apart number (Some x ∷ slots) rises =
+      (above_all (λ s. number (suc s)) slots (number 0) (λ slot. rises 0 (suc slot) (omega arith)), numbers_apart (λ s. number (suc s)) slots (λ s t h. rises (suc s) (suc t) (omega arith)))
+
+  -- the items, each with a number of its slot
+  lodged : (ℕ → ℕ) → List (Option T) → List (Option (ℕ × T))
+  lodged number [] = []
+  lodged number (o ∷ slots) = option_map (λ x. (number 0, x)) o ∷ lodged (λ s. number (suc s)) slots
+
+  lodged_items : (number : ℕ → ℕ) (slots : List (Option T)) → map (λ p. p.1) (items_of (lodged number slots)) ≡ items_of slots
+  unfolding lodged
+  lodged_items number [] = refl
+  lodged_items number (None ∷ slots) = lodged_items (λ s. number (suc s)) slots
+  lodged_items number (Some x ∷ slots) = ap (λ xs. x ∷ xs) (lodged_items (λ s. number (suc s)) slots)
+
+  lodged_numbers : (number : ℕ → ℕ) (slots : List (Option T)) → map (λ p. p.0) (items_of (lodged number slots)) ≡ numbers_of number slots
+  unfolding lodged
+  lodged_numbers number [] = refl
+  lodged_numbers number (None ∷ slots) = lodged_numbers (λ s. number (suc s)) slots
+  lodged_numbers number (Some x ∷ slots) = ap (λ ns. number 0 ∷ ns) (lodged_numbers (λ s. number (suc s)) slots)
+
+  at_lodged : (number : ℕ → ℕ) (slots : List (Option T)) (slot : ℕ) → at (lodged number slots) slot ≡ option_map (λ x. (number slot, x)) (at slots slot)
+  unfolding lodged
+  at_lodged number [] slot = refl
+  at_lodged number (o ∷ slots) zero = refl
+  at_lodged number (o ∷ slots) (suc slot) = at_lodged (λ s. number (suc s)) slots slot
+
+  abbrev slot_numbers : List (Option T) → List ℕ
+  slot_numbers slots = numbers_of (λ slot. slot) slots
+
+  pub slots_apart : (slots : List (Option T)) → HaveSlots (slot_numbers slots) (items_of slots)
+  slots_apart slots = record {
+    as_many = ap length (sym (lodged_numbers (λ slot. slot) slots)) ∙ length-map _ _ ∙ sym (length-map _ _) ∙ ap length (lodged_items (λ slot. slot) slots);
+    each_once = numbers_apart (λ slot. slot) slots (λ s t h. h);
+  }
+
+  -- the place that an item leaves, and its slot with it
+  pub record SlotLeft (old new : List (Option T)) (x : T) : Type 0 where
+    pub place : ℕ
+    pub there : slice_get (items_of old) place ≡ Some x
+    pub slots : slot_numbers new ≡ remove (slot_numbers old) place
+
+  pub slot_left : (old new : List (Option T)) (slot : ℕ) (x : T) → at old slot ≡ Some x → at new slot ≡ None → ((other : ℕ) → other ≢ slot → at new other ≡ at old other) → SlotLeft old new x
+  slot_left old new slot x there none others =
+      let before = lodged (λ s. s) old in
+      let after = lodged (λ s. s) new in
+      let pair = option_map (λ y. (slot, y)) in
+      let p = place_of before after slot (slot, x) (at_lodged (λ s. s) old slot ∙ ap pair there) (λ other n. at_lodged (λ s. s) new other ∙ ap (option_map (λ y. (other, y))) (others other n) ∙ sym (at_lodged (λ s. s) old other)) in
+      record {
+        place = p.place;
+        there = ap (λ xs. slice_get xs p.place) (sym (lodged_items (λ s. s) old)) ∙ slice_get-map (λ q. q.1) (items_of before) p.place ∙ ap (option_map (λ q. q.1)) p.there;
+        slots = sym (lodged_numbers (λ s. s) new) ∙ ap (map (λ q. q.0)) (p.removed (at_lodged (λ s. s) new slot ∙ ap pair none)) ∙ remove-map (λ q. q.0) (items_of before) p.place ∙ ap (λ ns. remove ns p.place) (lodged_numbers (λ s. s) old);
+      }

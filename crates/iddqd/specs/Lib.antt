@@ -7,3 +7,4 @@ pub use Rattle.iddqd_core.specs.Hashing
 pub use Rattle.iddqd_core.specs.Holding
 pub use Rattle.iddqd_core.specs.Query
 pub use Rattle.iddqd_core.specs.Refusal
+pub use Rattle.iddqd_core.specs.SlotItems

@@ -1,5 +1,6 @@
 -- How the index and the store of a hash map belong together, and what they hold as lists.
 --     items_in store      the items, in the order of their slots' numbers
+--     slots_in store      the slot of each
 --     hash_of_slot pairs slot      the hash that is listed with a slot
 --     hashes_in store pairs      the hash that is stored for each item, in the items' order
 --     spare_in store index      how many new items fit without memory: in the index, in the store, and within the limit
@@ -25,6 +26,9 @@ module _ {T : Type 0} where
   numbers_of number (Some x ∷ slots) = number 0 ∷ numbers_of (λ slot. number (suc slot)) slots
   numbers_of number (None ∷ slots) = numbers_of (λ slot. number (suc slot)) slots
 
+  abbrev pub slots_in : Store T → List ℕ
+  slots_in store = numbers_of (λ slot. slot) store.slots
+
   abbrev pub hashes_in : Store T → List (ℕ × ℕ) → List ℕ
   hashes_in store pairs = numbers_of (hash_of_slot pairs) store.slots
 
@@ -34,6 +38,7 @@ module _ {T : Type 0} where
   abbrev pub shown : {S : Type 0} → Store T → HashPairs → S → HashItems S T
   shown store index hasher = record {
     items = items_in store;
+    slots = slots_in store;
     hashes = hashes_in store index.pairs;
     hasher = hasher;
     spare = spare_in store index;
@@ -43,7 +48,7 @@ module _ {T : Type 0} where
   }
 
   -- a slot is listed exactly where it is occupied, and once; there is memory for the items, and no more of them than the limit
-  pub record ListsOccupied (store : Store T) (pairs : List (ℕ × ℕ)) : Type 0 where
+  pub record PairsOccupied (store : Store T) (pairs : List (ℕ × ℕ)) : Type 0 where
     pub each_once : (slot : ℕ) → of_slot pairs slot ≡ (if is_some (item_at store slot) then 1 else 0)
     pub counted : length pairs ≡ store_len store
     pub in_memory : store_len store ≤ store.capacity

@@ -1,6 +1,7 @@
 //! A hash map over an item store and a hash index.
 ghost use Rattle.std.specs.Prelude.{◌≡◌, ◌↔◌, ◌+◌, ◌≤◌, [], length, IsTrue};
 ghost use Rattle.iddqd_core.specs.Hashing.{hash_under};
+ghost use Rattle.iddqd_core.specs.SlotItems.{HaveSlots};
 
 mod imp;
 mod insert;
@@ -19,7 +20,7 @@ pub type DefaultHashBuilder = BuildHasherDefault<FoldHasher>;
 
 /// Items of pairwise different keys, in no order that a caller may rely on (the crate's `IdHashMap`). Each item lies in
 /// a numbered slot of a store, and an index finds the slot by the hash of the key that the item shows. Contracts see the
-/// items, each with its stored hash, the hasher, `spare`, how many slots are vacant, the capacity and the limit.
+/// items, each with its slot and its stored hash, the hasher, `spare`, how many slots are vacant, the capacity and the limit.
 #[derive(Drop)]
 pub struct IdHashMap<T, S = DefaultHashBuilder> {
     store: ItemStore<T>,
@@ -31,7 +32,7 @@ pub struct IdHashMap<T, S = DefaultHashBuilder> {
 
 impl<T, S> Model for IdHashMap<T, S> {
     ghost use Rattle.iddqd.specs.HashItems.{HashItems, hash_items_code};
-    ghost use Rattle.iddqd.specs.Paired.{ListsOccupied, shown};
+    ghost use Rattle.iddqd.specs.Paired.{PairsOccupied, shown};
 
     ghost Value = { HashItems S T };
 
@@ -39,18 +40,31 @@ impl<T, S> Model for IdHashMap<T, S> {
 
     ghost view = { λ m. shown m.store m.index m.hasher };
 
-    ghost invariant = { λ m. ListsOccupied m.store m.index.pairs };
+    ghost invariant = { λ m. PairsOccupied m.store m.index.pairs };
+}
+
+/// What a map asks of its items before they can be looked for (ours). It has no code: contracts cite it.
+pub trait Lookups {
+    // The items lie as lookups expect them.
+    ghost keyed: { Self → Type 0 };
+}
+
+impl<T: IdHashItem, S: BuildHasher> Lookups for IdHashMap<T, S> {
+    ghost use Rattle.iddqd.specs.HashItems.{Keyed};
+
+    ghost keyed = { Keyed T.key T.Key.eq T.Key.hash_input (hash_under S.BuildHasher S.Hasher.Hasher) };
 }
 
 impl<T, S> IdHashMap<T, S> {
-    ghost use Rattle.iddqd.specs.HashMap.{KeepsSpare};
+    ghost use Rattle.iddqd.specs.HashMap.{SpareFits};
 
     /// How many items there are. It counts none of them.
     #[inline]
     pub fn len(&self) -> usize
         ensures len { result ≡ length self.now.items }
         ensures within_limit { result ≤ self.now.limit }
-        ensures spare { KeepsSpare self.now self.now }
+        ensures spare { SpareFits self.now }
+        ensures slots { HaveSlots self.now.slots self.now.items }
     {
         self.store.len()
     }
@@ -75,7 +89,7 @@ impl<T, S> IdHashMap<T, S> {
     #[inline]
     pub fn spare(&self) -> usize
         ensures number { result ≡ self.now.spare }
-        ensures within_limit { result + length self.now.items ≤ self.now.limit }
+        ensures within_limit { SpareFits self.now }
     {
         let len = self.store.len();
         let in_store = self.store.capacity().min(self.store.limit() as usize) - len;
@@ -100,27 +114,25 @@ impl<T, S> IdHashMap<T, S> {
 }
 
 impl<T: IdHashItem> IdHashMap<T> {
-    ghost use Rattle.iddqd.specs.HashItems.{Keyed};
     ghost use Rattle.iddqd.specs.HashMap.{IsEmptyMap};
 
     /// A map without items, over the default hasher. It takes no memory.
     pub fn new(alloc: Global) -> Self
         ensures empty { IsEmptyMap MAX_ITEMS result }
-        ensures keyed { Keyed T.key T.Key.eq T.Key.hash_input (hash_under ⟦<DefaultHashBuilder as BuildHasher>⟧ ⟦<FoldHasher as Hasher>⟧) result }
+        ensures keyed { ⟦<IdHashMap<T> as Lookups>⟧.keyed result }
     {
         IdHashMap::with_hasher(alloc, DefaultHashBuilder::new())
     }
 }
 
 impl<T: IdHashItem, S: BuildHasher> IdHashMap<T, S> {
-    ghost use Rattle.iddqd.specs.HashItems.{Keyed};
     ghost use Rattle.iddqd.specs.HashMap.{IsEmptyMap, KeepsSpare};
 
     /// A map without items, over the hasher that is handed in. It takes no memory.
     pub fn with_hasher(alloc: Global, hasher: S) -> Self
         ensures empty { IsEmptyMap MAX_ITEMS result }
         ensures hasher { result.hasher ≡ hasher }
-        ensures keyed { Keyed T.key T.Key.eq T.Key.hash_input (hash_under S.BuildHasher S.Hasher.Hasher) result }
+        ensures keyed { ⟦<IdHashMap<T, S> as Lookups>⟧.keyed result }
     {
         IdHashMap {
             store: ItemStore::new(alloc, MAX_ITEMS),
@@ -140,7 +152,7 @@ impl<T: IdHashItem, S: BuildHasher> IdHashMap<T, S> {
         ensures capacity { self.new.capacity ≡ self.old.capacity }
         ensures limit { self.new.limit ≡ self.old.limit }
         ensures hasher { self.new.hasher ≡ self.old.hasher }
-        ensures keyed { Keyed T.key T.Key.eq T.Key.hash_input (hash_under S.BuildHasher S.Hasher.Hasher) self.new }
+        ensures keyed { ⟦<IdHashMap<T, S> as Lookups>⟧.keyed self.new }
     {
         self.store.clear();
         self.index.clear();

@@ -6,6 +6,6 @@ pub mod id_hash_map;
 #[cfg(test)]
 mod tests;
 
-pub use id_hash_map::{DefaultHashBuilder, IdHashItem, IdHashMap};
+pub use id_hash_map::{DefaultHashBuilder, IdHashItem, IdHashMap, Lookups};
 pub use iddqd_core::{Comparable, Equivalent, Steps, Text};
 pub use iddqd_ord::{IdOrdItem, IdOrdMap, MAX_ITEMS, id_ord_map};

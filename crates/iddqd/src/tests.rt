@@ -20,8 +20,8 @@ enum Inserted<T> {
 }
 
 fn insert<T: IdHashItem + Copy, S: BuildHasher>(map: &mut IdHashMap<T, S>, item: T) -> Inserted<T>
-    requires { Keyed T.key T.Key.eq T.Key.hash_input (hash_under S.BuildHasher S.Hasher.Hasher) map.old }
-    ensures { Keyed T.key T.Key.eq T.Key.hash_input (hash_under S.BuildHasher S.Hasher.Hasher) map.new }
+    requires { ⟦<IdHashMap<T, S> as Lookups>⟧.keyed map.old }
+    ensures { ⟦<IdHashMap<T, S> as Lookups>⟧.keyed map.new }
 {
     match map.insert_unique(item) {
         Ok(()) => Inserted::Done,

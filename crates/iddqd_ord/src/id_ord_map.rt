@@ -1,6 +1,7 @@
 //! An ordered map over an item store and an ordered index.
 ghost use Rattle.std.specs.Prelude.{◌≡◌, ◌↔◌, ◌≤◌, [], length, IsTrue};
 ghost use Rattle.iddqd_core.specs.Contents.{Ascends};
+ghost use Rattle.iddqd_core.specs.SlotItems.{HaveSlots};
 
 mod imp;
 mod insert;
@@ -18,7 +19,7 @@ pub const MAX_ITEMS: u32 = u32::MAX;
 
 /// Items of pairwise different keys, in ascending order of the keys that they show (the crate's `IdOrdMap`). Each item
 /// lies in a numbered slot of a store, and an index lists the slots in the order of the keys. Contracts see the items
-/// in that order, how many slots are vacant, the capacity and the limit.
+/// in that order, the slot of each, how many slots are vacant, the capacity and the limit.
 #[derive(Drop)]
 pub struct IdOrdMap<T> {
     store: ItemStore<T>,
@@ -39,6 +40,7 @@ impl<T> Model for IdOrdMap<T> {
 
     ghost view = { λ m. record {
       items = listed_items m.store m.index.slots;
+      slots = m.index.slots;
       vacant = vacant m.store;
       capacity = m.store.capacity;
       limit = m.store.limit;
@@ -53,6 +55,7 @@ impl<T> IdOrdMap<T> {
     pub fn len(&self) -> usize
         ensures len { result ≡ length self.now.items }
         ensures within_limit { result ≤ self.now.limit }
+        ensures slots { HaveSlots self.now.slots self.now.items }
     {
         self.store.len()
     }
@@ -93,7 +96,7 @@ impl<T> IdOrdMap<T> {
 impl<T: IdOrdItem> IdOrdMap<T> {
     /// A map without items. It takes no memory.
     pub fn new(alloc: Global) -> Self
-        ensures empty { result ≡ record { items = []; vacant = 0; capacity = 0; limit = MAX_ITEMS } }
+        ensures empty { result ≡ record { items = []; slots = []; vacant = 0; capacity = 0; limit = MAX_ITEMS } }
         ensures keyed { Ascends T.key T.Key.cmp result.items }
     {
         IdOrdMap {
@@ -107,7 +110,7 @@ impl<T: IdOrdItem> IdOrdMap<T> {
     pub fn clear(&mut self)
     where
         T: Drop,
-        ensures after { self.new ≡ record self.old { items = []; vacant = 0 } }
+        ensures after { self.new ≡ record self.old { items = []; slots = []; vacant = 0 } }
         ensures keyed { Ascends T.key T.Key.cmp self.new.items }
     {
         self.store.clear();

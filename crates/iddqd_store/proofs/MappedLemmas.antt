@@ -1,7 +1,7 @@
 -- Search, removal and placing of what a function shows of each item.
 use Rattle.std.proofs.Common.{◌≡◌, ℕ, zero, suc, Bool, true, false, cond, not, List, [], ◌∷◌, map, filter, Some, sym, refl, ap, ◌∙◌, Ordering}
 use Rattle.std.proofs.lemmas.List.{map-append}
-use Rattle.std.specs.List.{insert}
+use Rattle.std.specs.List.{insert, remove}
 use Rattle.std.specs.Option.{option_map}
 use Rattle.std.specs.Ordering.{is_lt}
 use Rattle.iddqd_store.specs.Contents.{find_item, without, replaced, placed}
@@ -14,6 +14,12 @@ pub insert-map : {T U : Type 0} (shown : T → U) (xs : List T) (i : ℕ) (x : T
 insert-map shown xs zero x = refl
 insert-map shown [] (suc i) x = refl
 insert-map shown (y ∷ ys) (suc i) x = ap (λ us. shown y ∷ us) (insert-map shown ys i x)
+
+pub remove-map : {T U : Type 0} (shown : T → U) (xs : List T) (i : ℕ) → map shown (remove xs i) ≡ remove (map shown xs) i
+remove-map shown [] zero = refl
+remove-map shown [] (suc i) = refl
+remove-map shown (y ∷ ys) zero = refl
+remove-map shown (y ∷ ys) (suc i) = ap (λ us. shown y ∷ us) (remove-map shown ys i)
 
 module _ {T U K : Type 0} (shown : T → U) (key : U → K) where
   pub find_item-map : (test : K → Bool) (xs : List T) → find_item key test (map shown xs) ≡ option_map shown (find_item (λ x. key (shown x)) test xs)

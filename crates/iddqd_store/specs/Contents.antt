@@ -2,7 +2,7 @@
 --     key      the key that an item shows, by the item's value alone (the crate's `key`)
 --     a test of keys      what a query answers of each key; of the query that is a key itself, the key's own `==`
 use Rattle.std.specs.declared.cmp.Ordering.{Ordering}
-use Rattle.std.specs.Prelude.{◌≡◌, ℕ, ◌<◌, ◌≤◌, Bool, true, not, List, Option, Some, None, length, map, filter, find, insert, ◌∷◌, ◌++◌, if◌then◌else◌}
+use Rattle.std.specs.Prelude.{◌≡◌, ℕ, ◌<◌, ◌≤◌, Bool, true, not, List, Option, Some, None, length, map, filter, find, insert, IsPermutation, ◌∷◌, ◌++◌, if◌then◌else◌}
 use Rattle.std.specs.List.{IsDistinct}
 use Rattle.std.specs.List.Sorted.{IsStrictlySortedBy}
 use Rattle.std.specs.Ordering.{is_lt}
@@ -16,6 +16,10 @@ pub record AddsItem {T : Type 0} (x : T) (old new : List T) : Type 0 where
   pub place : ℕ
   pub within : place ≤ length old
   pub put : new ≡ insert old place x
+
+-- the same items, in whatever order (an `IdHashMap` promises none)
+abbrev pub SameInAnyOrder : {T : Type 0} → List T → List T → Type 0
+SameInAnyOrder one other = IsPermutation one other
 
 -- each clone is the value that it was made of (ours, a premise of each call that shows a clone)
 abbrev pub ClonesAreEqual : {T : Type 0} → (T → T → Type 0) → Type 0

@@ -1,11 +1,15 @@
 -- What either map holds, and what a call does to it, whatever the keys are.
-use Rattle.std.specs.Prelude.{◌≡◌, ℕ, ◌+◌, ◌-◌, ◌<◌, ◌≤◌, List, length, refl}
+use Rattle.std.specs.Prelude.{◌≡◌, ℕ, ◌+◌, ◌-◌, ◌<◌, ◌≤◌, List, length, remove, slice_get, Some, refl}
+use Rattle.std.specs.Prelude.{min as least}
 use Rattle.std.specs.Coded.{Coded, code_by, coded×, coded_ℕ, coded_list}
 use Rattle.iddqd_store.specs.Contents.{AddsItem}
+use Rattle.iddqd_store.specs.SlotItems.{HaveSlots}
 
--- what either map holds, as contracts see it: the items, how many slots are vacant, how many items fit before memory is needed, and the most that the map can hold
+-- what either map holds, as contracts see it: the items, the slot of each, how many slots are vacant, how many items fit before memory is needed,
+-- and the most that the map can hold
 pub record Holding (T : Type 0) : Type 0 where
   pub items : List T
+  pub slots : List ℕ
   pub vacant : ℕ
   pub capacity : ℕ
   pub limit : ℕ
@@ -18,16 +22,17 @@ max_items = 4294967295
 abbrev pub holding_code : {T : Type 0} → Coded T → Coded (Holding T)
 holding_code {T} code =
     code_by
-    (List T × (ℕ × (ℕ × ℕ)))
-    (coded× (coded_list code) (coded× coded_ℕ (coded× coded_ℕ coded_ℕ)))
-    (λ m. (m.items, (m.vacant, (m.capacity, m.limit))))
-    (λ p. record { items = p.0; vacant = p.1.0; capacity = p.1.1.0; limit = p.1.1.1 })
+    (List T × (List ℕ × (ℕ × (ℕ × ℕ))))
+    (coded× (coded_list code) (coded× (coded_list coded_ℕ) (coded× coded_ℕ (coded× coded_ℕ coded_ℕ))))
+    (λ m. (m.items, (m.slots, (m.vacant, (m.capacity, m.limit)))))
+    (λ p. record { items = p.0; slots = p.1.0; vacant = p.1.1.0; capacity = p.1.1.1.0; limit = p.1.1.1.1 })
     (λ _. refl)
 
 -- the item was put in where the map was not full; it took a vacant slot where there was one
 pub record TakesItem {T : Type 0} (x : T) (old new : Holding T) : Type 0 where
   pub room : length old.items < old.limit
   pub added : AddsItem x old.items new.items
+  pub slots : HaveSlots new.slots new.items
   pub vacant : new.vacant ≡ old.vacant - 1
   pub capacity : old.capacity ≤ new.capacity
   pub limit : new.limit ≡ old.limit
@@ -35,11 +40,27 @@ pub record TakesItem {T : Type 0} (x : T) (old new : Holding T) : Type 0 where
 -- nothing has changed but the room, which may have grown
 pub record KeepsItems {T : Type 0} (old new : Holding T) : Type 0 where
   pub items : new.items ≡ old.items
+  pub slots : new.slots ≡ old.slots
   pub vacant : new.vacant ≡ old.vacant
   pub capacity : old.capacity ≤ new.capacity
   pub limit : new.limit ≡ old.limit
 
--- of a map that keeps a spare: what is there and what is spare never fall together, and both fit the limit (`reserve`; the number is ours)
+-- y has left its place and its slot; the others keep their slots
+pub record LeavesSlot {T : Type 0} (y : T) (old new : Holding T) : Type 0 where
+  pub place : ℕ
+  pub there : slice_get old.items place ≡ Some y
+  pub slots : new.slots ≡ remove old.slots place
+
+-- what a shrink to room for so many items leaves, refused or not: no slot is vacant, and the capacity lies between its bounds (`shrink_to`)
+pub record Shrinks {T : Type 0} (min : ℕ) (old new : Holding T) : Type 0 where
+  pub vacant : new.vacant ≡ 0
+  pub lower : new.capacity ≤ old.capacity
+  pub holds_items : length old.items ≤ new.capacity
+  pub holds_min : least min old.capacity ≤ new.capacity
+  pub slots : HaveSlots new.slots new.items
+  pub limit : new.limit ≡ old.limit
+
+-- of a map that keeps a spare: the sum of what is there and what is spare never falls, and never passes the limit (`reserve`; the number is ours)
 pub record SpareStays {T : Type 0} (limit old_spare : ℕ) (old : List T) (new_spare : ℕ) (new : List T) : Type 0 where
   pub never_less : old_spare + length old ≤ new_spare + length new
   pub in_limit : new_spare + length new ≤ limit

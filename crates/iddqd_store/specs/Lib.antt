@@ -5,5 +5,6 @@ pub mod Holding
 pub mod Lends
 pub mod Query
 pub mod Refusal
+pub mod SlotItems
 pub mod Slots
 pub mod Store

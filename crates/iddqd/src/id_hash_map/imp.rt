@@ -1,25 +1,26 @@
 //! Lookups and removals.
-ghost use Rattle.std.specs.Prelude.{◌≡◌, ◌+◌, IfNone, OnSome, IsTrue, option_copied, is_some};
+ghost use Rattle.std.specs.Prelude.{◌≡◌, ◌+◌, IfNone, IfSome, OnSome, IsTrue, option_copied, is_some};
 ghost use Rattle.iddqd_core.specs.Contents.{find_item, without};
 ghost use Rattle.iddqd_core.specs.Hashing.{HashesAs, hash_under};
+ghost use Rattle.iddqd_core.specs.Holding.{LeavesSlot};
 
-use super::IdHashMap;
+use super::{IdHashMap, Lookups};
 use super::paired::{find_slot, take_out};
 use iddqd_core::{Equivalent, IdHashItem};
 use std::hash::{BuildHasher, Hash};
 
 impl<T: IdHashItem, S: BuildHasher> IdHashMap<T, S> {
-    ghost use Rattle.iddqd.specs.HashItems.{Keyed};
-    ghost use Rattle.iddqd.specs.HashMap.{KeepsSpare};
+    ghost use Rattle.iddqd.specs.HashItems.{held};
+    ghost use Rattle.iddqd.specs.HashMap.{KeepsSpare, SpareFits};
 
     /// The item that the query finds, or `None`. It hashes the query once, compares keys only at items of the same stored
     /// hash, and fetches the item found once more to lend it.
     #[inline]
     pub fn get<Q: Hash + Equivalent<T::Key>>(&self, query: &Q) -> Option<&T>
-        requires keyed { Keyed T.key T.Key.eq T.Key.hash_input (hash_under S.BuildHasher S.Hasher.Hasher) self.now }
+        requires keyed { ⟦<IdHashMap<T, S> as Lookups>⟧.keyed self.now }
         requires hashes { HashesAs (Q.equivalent query.now) (Q.hash_input query.now) T.Key.hash_input }
         ensures found { option_copied result ≡ find_item T.key (Q.equivalent query.now) self.now.items }
-        ensures spare { KeepsSpare self.now self.now }
+        ensures spare { SpareFits self.now }
     {
         self.get_hashed(self.hasher.hash_one(query), query)
     }
@@ -27,7 +28,7 @@ impl<T: IdHashItem, S: BuildHasher> IdHashMap<T, S> {
     // The same, where the query's hash is known.
     #[inline]
     pub(super) fn get_hashed<Q: Equivalent<T::Key>>(&self, hash: u64, query: &Q) -> Option<&T>
-        requires keyed { Keyed T.key T.Key.eq T.Key.hash_input (hash_under S.BuildHasher S.Hasher.Hasher) self.now }
+        requires keyed { ⟦<IdHashMap<T, S> as Lookups>⟧.keyed self.now }
         requires hash { (k : T.Key) → IsTrue (Q.equivalent query.now k) → hash_under S.BuildHasher S.Hasher.Hasher self.now.hasher (T.Key.hash_input k) ≡ hash }
         ensures { option_copied result ≡ find_item T.key (Q.equivalent query.now) self.now.items }
     {
@@ -38,7 +39,7 @@ impl<T: IdHashItem, S: BuildHasher> IdHashMap<T, S> {
     /// Whether the query finds an item, by as many comparisons as `get`.
     #[inline]
     pub fn contains_key<Q: Hash + Equivalent<T::Key>>(&self, query: &Q) -> bool
-        requires keyed { Keyed T.key T.Key.eq T.Key.hash_input (hash_under S.BuildHasher S.Hasher.Hasher) self.now }
+        requires keyed { ⟦<IdHashMap<T, S> as Lookups>⟧.keyed self.now }
         requires hashes { HashesAs (Q.equivalent query.now) (Q.hash_input query.now) T.Key.hash_input }
         ensures { result ≡ is_some (find_item T.key (Q.equivalent query.now) self.now.items) }
     {
@@ -48,17 +49,18 @@ impl<T: IdHashItem, S: BuildHasher> IdHashMap<T, S> {
     /// Takes out the item that the query finds, and answers it; `None` where there is none, and then nothing has
     /// changed. The item's slot is vacant then, and its room is spare. It hashes the query once, and takes no memory.
     pub fn remove<Q: Hash + Equivalent<T::Key>>(&mut self, query: &Q) -> Option<T>
-        requires keyed { Keyed T.key T.Key.eq T.Key.hash_input (hash_under S.BuildHasher S.Hasher.Hasher) self.old }
+        requires keyed { ⟦<IdHashMap<T, S> as Lookups>⟧.keyed self.old }
         requires hashes { HashesAs (Q.equivalent query.now) (Q.hash_input query.now) T.Key.hash_input }
         ensures value { result ≡ find_item T.key (Q.equivalent query.now) self.old.items }
         ensures items { self.new.items ≡ without T.key (Q.equivalent query.now) self.old.items }
+        ensures slots { IfSome result (λ taken. LeavesSlot taken (held self.old) (held self.new)) }
         ensures vacant { OnSome result (self.new.vacant ≡ self.old.vacant + 1) }
         ensures unchanged { IfNone result (self.new ≡ self.old) }
         ensures spare { KeepsSpare self.old self.new }
         ensures capacity { self.new.capacity ≡ self.old.capacity }
         ensures limit { self.new.limit ≡ self.old.limit }
         ensures hasher { self.new.hasher ≡ self.old.hasher }
-        ensures keyed { Keyed T.key T.Key.eq T.Key.hash_input (hash_under S.BuildHasher S.Hasher.Hasher) self.new }
+        ensures keyed { ⟦<IdHashMap<T, S> as Lookups>⟧.keyed self.new }
     {
         let hash = self.hasher.hash_one(query);
         let slot = find_slot(&self.store, &self.index, hash, query)?;

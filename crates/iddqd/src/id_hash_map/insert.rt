@@ -5,22 +5,21 @@ ghost use Rattle.iddqd_core.specs.Contents.{IsAbsent, find_item, replaced};
 ghost use Rattle.iddqd_core.specs.Hashing.{hash_under};
 ghost use Rattle.iddqd_core.specs.Refusal.{FindsNoRoom, OnRefused, RefusesInsertion, refusal_kind};
 
-use super::IdHashMap;
+use super::{IdHashMap, Lookups};
 use super::paired::{exchange, find_slot, put_in, reserve_one};
 use iddqd_core::{DuplicateItem, Few, IdHashItem, InsertError, Refused};
 use std::hash::BuildHasher;
 
 impl<T: IdHashItem, S: BuildHasher> IdHashMap<T, S> {
-    ghost use Rattle.iddqd.specs.HashItems.{Keyed};
-    ghost use Rattle.iddqd.specs.HashMap.{InsertsItem, KeepsMap, KeepsSpare, ends_inserted};
+    ghost use Rattle.iddqd.specs.HashMap.{HashInserts, HashKeeps, KeepsSpare, ends_hash_inserted};
 
     /// Inserts the item where none of an equal key is there. A duplicate takes no memory and lends the item that is there;
     /// then the map is as it was. A full map and refused memory hand the item back, and then the items are as they were
     /// (ours: the crate panics or aborts for want of room). Where `spare` is above 0 a new key is never refused. It hashes
     /// the key once and searches once, for a duplicate twice; a growth reads each pair of the index.
     pub fn insert_unique(&mut self, item: T) -> Result<&mut (), InsertError<'_, T>>
-        requires keyed { Keyed T.key T.Key.eq T.Key.hash_input (hash_under S.BuildHasher S.Hasher.Hasher) self.old }
-        ensures* after { sem 𝓛 (ends_inserted S.row T.row T.key T.Key.eq T.Key.hash_input (hash_under S.BuildHasher S.Hasher.Hasher) self.entry result item) }
+        requires keyed { ⟦<IdHashMap<T, S> as Lookups>⟧.keyed self.old }
+        ensures* after { sem 𝓛 (ends_hash_inserted S.row T.row ⟦<IdHashMap<T, S> as Lookups>⟧.keyed self.entry result item) }
         ensures absent { OnOk result (IsAbsent T.key (T.Key.eq (T.key item)) self.old.items) }
         ensures refused { IfErr result (RefusesInsertion T.key T.Key.eq self.old.limit self.old.items item) }
         ensures no_spare { IfErr result (OnRefused (self.old.spare ≡ 0)) }
@@ -42,16 +41,16 @@ impl<T: IdHashItem, S: BuildHasher> IdHashMap<T, S> {
     /// answers `None`; a full map and refused memory hand the item back, and then the items are as they were (ours: the
     /// crate panics or aborts for want of room). It hashes the key once and searches once.
     pub fn insert_overwrite(&mut self, item: T) -> Result<Option<T>, Refused<T>>
-        requires keyed { Keyed T.key T.Key.eq T.Key.hash_input (hash_under S.BuildHasher S.Hasher.Hasher) self.old }
+        requires keyed { ⟦<IdHashMap<T, S> as Lookups>⟧.keyed self.old }
         ensures found { IfOk result (λ found. found ≡ find_item T.key (T.Key.eq (T.key item)) self.old.items) }
         ensures replaced { IfOk result (λ found. OnSome found (self.new ≡ record self.old { items = replaced T.key (T.Key.eq (T.key item)) item self.old.items })) }
-        ensures inserted { IfOk result (λ found. IfNone found (InsertsItem T.key T.Key.eq T.Key.hash_input (hash_under S.BuildHasher S.Hasher.Hasher) item self.old self.new)) }
+        ensures inserted { IfOk result (λ found. IfNone found (HashInserts ⟦<IdHashMap<T, S> as Lookups>⟧.keyed item self.old self.new)) }
         ensures item { IfErr result (λ refused. refused.item ≡ item) }
         ensures refused { IfErr result (λ refused. FindsNoRoom T.key T.Key.eq self.old.limit self.old.items item refused.error) }
         ensures no_spare { OnErr result (self.old.spare ≡ 0) }
-        ensures kept { OnErr result (KeepsMap T.key T.Key.eq T.Key.hash_input (hash_under S.BuildHasher S.Hasher.Hasher) self.old self.new) }
+        ensures kept { OnErr result (HashKeeps ⟦<IdHashMap<T, S> as Lookups>⟧.keyed self.old self.new) }
         ensures spare { KeepsSpare self.old self.new }
-        ensures keyed { Keyed T.key T.Key.eq T.Key.hash_input (hash_under S.BuildHasher S.Hasher.Hasher) self.new }
+        ensures keyed { ⟦<IdHashMap<T, S> as Lookups>⟧.keyed self.new }
     {
         let hash = self.hasher.hash_one(item.key());
         match find_slot(&self.store, &self.index, hash, item.key()) {
@@ -65,11 +64,11 @@ impl<T: IdHashItem, S: BuildHasher> IdHashMap<T, S> {
 
     // Puts in an item whose key no other has.
     fn insert_new(&mut self, hash: u64, item: T) -> Result<(), Refused<T>>
-        requires keyed { Keyed T.key T.Key.eq T.Key.hash_input (hash_under S.BuildHasher S.Hasher.Hasher) self.old }
+        requires keyed { ⟦<IdHashMap<T, S> as Lookups>⟧.keyed self.old }
         requires absent { IsAbsent T.key (T.Key.eq (T.key item)) self.old.items }
         requires hash { hash ≡ hash_under S.BuildHasher S.Hasher.Hasher self.old.hasher (T.Key.hash_input (T.key item)) }
-        ensures inserted { OnOk result (InsertsItem T.key T.Key.eq T.Key.hash_input (hash_under S.BuildHasher S.Hasher.Hasher) item self.old self.new) }
-        ensures kept { OnErr result (KeepsMap T.key T.Key.eq T.Key.hash_input (hash_under S.BuildHasher S.Hasher.Hasher) self.old self.new) }
+        ensures inserted { OnOk result (HashInserts ⟦<IdHashMap<T, S> as Lookups>⟧.keyed item self.old self.new) }
+        ensures kept { OnErr result (HashKeeps ⟦<IdHashMap<T, S> as Lookups>⟧.keyed self.old self.new) }
         ensures item { IfErr result (λ refused. refused.item ≡ item) }
         ensures kind { IfErr result (λ refused. refused.error ≡ refusal_kind self.old.limit self.old.items) }
         ensures no_spare { OnErr result (self.old.spare ≡ 0) }

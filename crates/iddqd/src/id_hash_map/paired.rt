@@ -5,7 +5,7 @@ ghost use Rattle.iddqd_core.specs.Contents.{NoTwoAkin, find_item};
 ghost use Rattle.iddqd_core.specs.HashPairs.{HasOneMore, SamePairs};
 ghost use Rattle.iddqd_core.specs.Refusal.{refusal_kind};
 ghost use Rattle.iddqd_core.specs.Store.{item_at, store_len, vacant, HasRoomFor, Updates};
-ghost use Rattle.iddqd.specs.Paired.{ListsOccupied, hash_of_slot, items_in, spare_in};
+ghost use Rattle.iddqd.specs.Paired.{PairsOccupied, hash_of_slot, items_in, spare_in};
 
 use iddqd_core::{Equivalent, HashIndex, IdHashItem, ItemStore, Steps, TryReserveError};
 
@@ -17,7 +17,7 @@ pub(super) fn find_slot<T: IdHashItem, Q: Equivalent<T::Key>>(
     hash: u64,
     query: &Q,
 ) -> Option<u32>
-    requires paired { ListsOccupied store.now index.now.pairs }
+    requires paired { PairsOccupied store.now index.now.pairs }
     requires differ { NoTwoAkin T.key T.Key.eq (items_in store.now) }
     requires stored { (slot : ℕ) (x : T) → item_at store.now slot ≡ Some x → IsTrue (Q.equivalent query.now (T.key x)) → hash_of_slot index.now.pairs slot ≡ hash }
     ensures item { option_and_then (item_at store.now) result ≡ find_item T.key (Q.equivalent query.now) (items_in store.now) }
@@ -32,7 +32,7 @@ pub(super) fn reserve_one<T>(
     store: &mut ItemStore<T>,
     index: &mut HashIndex,
 ) -> Result<(), TryReserveError>
-    requires paired { ListsOccupied store.old index.old.pairs }
+    requires paired { PairsOccupied store.old index.old.pairs }
     ensures below_limit { OnOk result (length index.old.pairs < store.old.limit) }
     ensures room { OnOk result (HasRoomFor store.new 1) }
     ensures listable { OnOk result (0 < index.new.spare) }
@@ -54,11 +54,11 @@ pub(super) fn reserve_one<T>(
 // Puts the item into a slot, and the slot into the index under the hash. It takes no memory.
 #[inline]
 pub(super) fn put_in<T>(store: &mut ItemStore<T>, index: &mut HashIndex, hash: u64, item: T) -> u32
-    requires paired { ListsOccupied store.old index.old.pairs }
+    requires paired { PairsOccupied store.old index.old.pairs }
     requires room { HasRoomFor store.old 1 }
     requires listable { 0 < index.old.spare }
     requires fits { length index.old.pairs < u32.MAX }
-    ensures paired { ListsOccupied store.new index.new.pairs }
+    ensures paired { PairsOccupied store.new index.new.pairs }
     ensures was_vacant { item_at store.old result ≡ None }
     ensures updates { Updates store.old store.new result (Some item) }
     ensures pairs { HasOneMore index.old.pairs index.new.pairs (hash, result) }
@@ -81,9 +81,9 @@ pub(super) fn take_out<T>(
     hash: u64,
     slot: u32,
 ) -> T
-    requires paired { ListsOccupied store.old index.old.pairs }
+    requires paired { PairsOccupied store.old index.old.pairs }
     requires listed { Contains index.old.pairs (hash, slot) }
-    ensures paired { ListsOccupied store.new index.new.pairs }
+    ensures paired { PairsOccupied store.new index.new.pairs }
     ensures item { item_at store.old slot ≡ Some result }
     ensures updates { Updates store.old store.new slot None }
     ensures pairs { HasOneMore index.new.pairs index.old.pairs (hash, slot) }
@@ -106,9 +106,9 @@ pub(super) fn exchange<T>(
     slot: u32,
     item: T,
 ) -> T
-    requires paired { ListsOccupied store.old index.now.pairs }
+    requires paired { PairsOccupied store.old index.now.pairs }
     requires listed { Contains index.now.pairs (hash, slot) }
-    ensures paired { ListsOccupied store.new index.now.pairs }
+    ensures paired { PairsOccupied store.new index.now.pairs }
     ensures item { item_at store.old slot ≡ Some result }
     ensures updates { Updates store.old store.new slot (Some item) }
     ensures spare { spare_in store.new index.now ≡ spare_in store.old index.now }

@@ -49,8 +49,8 @@ fn parted(items: &[Numbered], place: usize) -> (&[Numbered], &[Numbered]) {
 
 /// Whether each of the items goes in.
 fn all_go_in<T: IdHashItem + Copy, S: BuildHasher>(map: &mut IdHashMap<T, S>, items: &[T]) -> bool
-    requires { Keyed T.key T.Key.eq T.Key.hash_input (hash_under S.BuildHasher S.Hasher.Hasher) map.old }
-    ensures { Keyed T.key T.Key.eq T.Key.hash_input (hash_under S.BuildHasher S.Hasher.Hasher) map.new }
+    requires { ⟦<IdHashMap<T, S> as Lookups>⟧.keyed map.old }
+    ensures { ⟦<IdHashMap<T, S> as Lookups>⟧.keyed map.new }
 {
     for item in items {
         if !matches!(insert(map, *item), Inserted::Done) {
@@ -65,7 +65,7 @@ fn all_are_found<T: IdHashItem + Copy + PartialEq, S: BuildHasher>(
     map: &IdHashMap<T, S>,
     items: &[T],
 ) -> bool
-    requires { Keyed T.key T.Key.eq T.Key.hash_input (hash_under S.BuildHasher S.Hasher.Hasher) map.now }
+    requires { ⟦<IdHashMap<T, S> as Lookups>⟧.keyed map.now }
 {
     for item in items {
         if map.get(item.key()) != Some(item) {
@@ -80,8 +80,8 @@ fn all_come_out<T: IdHashItem + Copy + PartialEq, S: BuildHasher>(
     map: &mut IdHashMap<T, S>,
     items: &[T],
 ) -> bool
-    requires { Keyed T.key T.Key.eq T.Key.hash_input (hash_under S.BuildHasher S.Hasher.Hasher) map.old }
-    ensures { Keyed T.key T.Key.eq T.Key.hash_input (hash_under S.BuildHasher S.Hasher.Hasher) map.new }
+    requires { ⟦<IdHashMap<T, S> as Lookups>⟧.keyed map.old }
+    ensures { ⟦<IdHashMap<T, S> as Lookups>⟧.keyed map.new }
 {
     for item in items {
         if map.remove(item.key()) != Some(*item) || map.contains_key(item.key()) {

@@ -1,6 +1,7 @@
 //! Lookups and removals.
-ghost use Rattle.std.specs.Prelude.{◌≡◌, ◌+◌, ◌<◌, length, IfNone, OnSome, Some, option_copied, is_some, slice_get};
+ghost use Rattle.std.specs.Prelude.{◌≡◌, ◌+◌, ◌<◌, length, IfNone, IfSome, OnSome, Some, option_copied, is_some, slice_get};
 ghost use Rattle.iddqd_core.specs.Contents.{Ascends, find_item, without};
+ghost use Rattle.iddqd_core.specs.Holding.{LeavesSlot};
 
 use super::IdOrdMap;
 use super::paired::take_out;
@@ -41,6 +42,7 @@ impl<T: IdOrdItem> IdOrdMap<T> {
         requires keyed { Ascends T.key T.Key.cmp self.old.items }
         ensures value { result ≡ find_item T.key (Q.equivalent query.now) self.old.items }
         ensures items { self.new.items ≡ without T.key (Q.equivalent query.now) self.old.items }
+        ensures slots { IfSome result (λ taken. LeavesSlot taken self.old self.new) }
         ensures vacant { OnSome result (self.new.vacant ≡ self.old.vacant + 1) }
         ensures unchanged { IfNone result (self.new ≡ self.old) }
         ensures capacity { self.new.capacity ≡ self.old.capacity }

@@ -10,14 +10,14 @@ use super::paired::{exchange, put_in, reserve_one};
 use iddqd_core::{DuplicateItem, Few, IdOrdItem, InsertError, Place, Refused, Steps};
 
 impl<T: IdOrdItem> IdOrdMap<T> {
-    ghost use Rattle.iddqd_ord.specs.OrdMap.{InsertsItem, KeepsMap, ends_inserted};
+    ghost use Rattle.iddqd_ord.specs.OrdMap.{OrdInserts, OrdKeeps, ends_ord_inserted};
 
     /// Inserts the item where none of an equal key is there. A duplicate takes no memory and lends the item that is
     /// there; then the map is as it was. A full map and refused memory hand the item back, and then the items are as they
     /// were (ours: the crate panics or aborts for want of room).
     pub fn insert_unique(&mut self, item: T) -> Result<&mut (), InsertError<'_, T>>
         requires keyed { Ascends T.key T.Key.cmp self.old.items }
-        ensures* after { sem 𝓛 (ends_inserted T.row T.key T.Key.cmp self.entry result item) }
+        ensures* after { sem 𝓛 (ends_ord_inserted T.row T.key T.Key.cmp self.entry result item) }
         ensures absent { OnOk result (IsAbsent T.key (T.Key.eq (T.key item)) self.old.items) }
         ensures refused { IfErr result (RefusesInsertion T.key T.Key.eq self.old.limit self.old.items item) }
     {
@@ -41,10 +41,10 @@ impl<T: IdOrdItem> IdOrdMap<T> {
         requires keyed { Ascends T.key T.Key.cmp self.old.items }
         ensures found { IfOk result (λ found. found ≡ find_item T.key (T.Key.eq (T.key item)) self.old.items) }
         ensures replaced { IfOk result (λ found. OnSome found (self.new ≡ record self.old { items = replaced T.key (T.Key.eq (T.key item)) item self.old.items })) }
-        ensures inserted { IfOk result (λ found. IfNone found (InsertsItem T.key T.Key.cmp item self.old self.new)) }
+        ensures inserted { IfOk result (λ found. IfNone found (OrdInserts T.key T.Key.cmp item self.old self.new)) }
         ensures item { IfErr result (λ refused. refused.item ≡ item) }
         ensures refused { IfErr result (λ refused. FindsNoRoom T.key T.Key.eq self.old.limit self.old.items item refused.error) }
-        ensures kept { OnErr result (KeepsMap T.key T.Key.cmp self.old self.new) }
+        ensures kept { OnErr result (OrdKeeps T.key T.Key.cmp self.old self.new) }
         ensures keyed { Ascends T.key T.Key.cmp self.new.items }
     {
         match self.index.find(&self.store, item.key(), &mut Steps::new()) {
@@ -60,8 +60,8 @@ impl<T: IdOrdItem> IdOrdMap<T> {
     fn insert_at(&mut self, place: Place, item: T) -> Result<(), Refused<T>>
         requires keyed { Ascends T.key T.Key.cmp self.old.items }
         requires place { IsPlaceAmong (T.Key.cmp (T.key item)) (keys T.key self.old.items) (Err place) }
-        ensures inserted { OnOk result (InsertsItem T.key T.Key.cmp item self.old self.new) }
-        ensures kept { OnErr result (KeepsMap T.key T.Key.cmp self.old self.new) }
+        ensures inserted { OnOk result (OrdInserts T.key T.Key.cmp item self.old self.new) }
+        ensures kept { OnErr result (OrdKeeps T.key T.Key.cmp self.old self.new) }
         ensures item { IfErr result (λ refused. refused.item ≡ item) }
         ensures kind { IfErr result (λ refused. refused.error ≡ refusal_kind self.old.limit self.old.items) }
     {

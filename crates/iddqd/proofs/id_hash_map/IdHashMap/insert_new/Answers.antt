@@ -5,7 +5,7 @@ use Rattle.iddqd_core.specs.HashPairs.{HasOneMore}
 use Rattle.iddqd_core.specs.Refusal.{refusal_kind}
 use Rattle.iddqd_core.proofs.RefusalLemmas.{kind_by_length}
 use Rattle.iddqd.specs.HashItems.{Keyed}
-use Rattle.iddqd.specs.HashMap.{InsertsItem, KeepsMap}
+use Rattle.iddqd.specs.HashMap.{HashInserts, HashKeeps}
 use Rattle.iddqd.specs.Paired.{items_in, shown}
 use Rattle.iddqd.proofs.MapLemmas.{inserted_after, map_inserted, map_kept}
 use Rattle.iddqd.proofs.PairedLemmas.{paired_grown}
@@ -40,7 +40,7 @@ returns-in-Err-clause-kept g c =
     let m = c.self.inside in
     let room = c.reserve_one.new in
     let keyed = subst (Keyed key eq input hash) (sym c.self.view_is) c.requires.keyed in
-    subst (λ old. KeepsMap key eq input hash old (shown room.store room.index m.hasher)) c.self.view_is
+    subst (λ old. HashKeeps (Keyed key eq input hash) old (shown room.store room.index m.hasher)) c.self.view_is
     (map_kept key eq input hash m.hasher m.store room.store m.index room.index c.self.invariant (invariant_of-self g c) keyed c.reserve_one.ensures.store c.reserve_one.ensures.capacity c.reserve_one.ensures.pairs c.reserve_one.ensures.spare)
 
 pub returns-clause-inserted : goal.returns-clause-inserted
@@ -65,5 +65,5 @@ returns-clause-inserted g c =
     room_left
     (subst (λ h. HasOneMore room.index.pairs put.new.index.pairs (h, put.result)) told put.ensures.pairs)
     put.ensures.was_vacant put.ensures.updates put.ensures.spare put.ensures.len put.ensures.vacant put.ensures.capacity put.ensures.limit in
-    subst (λ old. InsertsItem key eq input hash x old (shown put.new.store put.new.index m.hasher)) c.self.view_is
+    subst (λ old. HashInserts (Keyed key eq input hash) x old (shown put.new.store put.new.index m.hasher)) c.self.view_is
     (inserted_after key eq input hash x (shown m.store m.index m.hasher) (shown room.store room.index m.hasher) (shown put.new.store put.new.index m.hasher) kept inserted)

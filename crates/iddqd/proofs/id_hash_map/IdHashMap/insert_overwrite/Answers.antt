@@ -3,9 +3,9 @@ use Rattle.iddqd_core.specs.Contents.{find_item, replaced}
 use Rattle.iddqd_core.specs.Hashing.{hash_under}
 use Rattle.iddqd.specs.HashItems.{Keyed}
 use Rattle.iddqd.specs.HashMap.{KeepsSpare}
-use Rattle.iddqd.specs.Paired.{hashes_in, items_in, shown}
+use Rattle.iddqd.specs.Paired.{hash_of_slot, hashes_in, items_in, shown, slots_in}
 use Rattle.iddqd.proofs.FoundLemmas.{found_passes}
-use Rattle.iddqd.proofs.MapLemmas.{exchanged_hashes, exchanged_items, exchanged_keyed, keeps_spare, listed_under_query}
+use Rattle.iddqd.proofs.MapLemmas.{exchanged_numbers, exchanged_items, exchanged_keyed, keeps_spare, listed_under_query}
 use Rattle.iddqd.proofs.id_hash_map.IdHashMap.insert_overwrite.Given.{Over}
 use Rattle.iddqd.proofs.id_hash_map.IdHashMap.insert_overwrite.Goals as goal
 
@@ -47,7 +47,9 @@ returns-in-Some-clause-replaced g c =
     let found : find_item key (eq (key y)) (items_in m.store) ≡ Some x = ap (λ k. find_item key (eq k) (items_in m.store)) (sym c.key-2.ensures) ∙ sym c.in-Some.ensures.item ∙ c.exchange.ensures.item in
     let alike = found_passes key (eq (key y)) (items_in m.store) x found in
     let items : items_in c.exchange.new.store ≡ replaced key (eq (key y)) y c.args.self.now.items = exchanged_items key eq input hash m.hasher m.store c.exchange.new.store m.index g.met.T.Key.Eq.laws keyed c.in-Some.slot x y c.exchange.ensures.item alike c.exchange.ensures.updates ∙ ap (λ v. replaced key (eq (key y)) y v.items) c.self.view_is in
-    let hashes : hashes_in c.exchange.new.store m.index.pairs ≡ c.args.self.now.hashes = exchanged_hashes key eq input hash m.hasher m.store c.exchange.new.store m.index g.met.T.Key.Eq.laws keyed c.in-Some.slot x y c.exchange.ensures.item alike c.exchange.ensures.updates ∙ ap (λ v. v.hashes) c.self.view_is in
+    let same = exchanged_numbers key eq input hash m.hasher m.store c.exchange.new.store m.index g.met.T.Key.Eq.laws keyed c.in-Some.slot x y c.exchange.ensures.item alike c.exchange.ensures.updates in
+    let hashes : hashes_in c.exchange.new.store m.index.pairs ≡ c.args.self.now.hashes = same (hash_of_slot m.index.pairs) ∙ ap (λ v. v.hashes) c.self.view_is in
+    let slots : slots_in c.exchange.new.store ≡ c.args.self.now.slots = same (λ slot. slot) ∙ ap (λ v. v.slots) c.self.view_is in
     let hasher = ap (λ v. v.hasher) c.self.view_is in
     let spare = c.exchange.ensures.spare ∙ ap (λ v. v.spare) c.self.view_is in
     let vacant = c.exchange.ensures.vacant ∙ ap (λ v. v.vacant) c.self.view_is in

@@ -1,7 +1,8 @@
 use Rattle.std.proofs.Common.{length, ap, arith, subst}
-use Rattle.iddqd.specs.HashMap.{KeepsSpare}
-use Rattle.iddqd.proofs.MapLemmas.{same_spare}
-use Rattle.iddqd.proofs.SlotItemLemmas.{length-items}
+use Rattle.iddqd_core.specs.SlotItems.{HaveSlots}
+use Rattle.iddqd.specs.HashMap.{SpareFits}
+use Rattle.iddqd.proofs.MapLemmas.{spare_fits}
+use Rattle.iddqd.proofs.SlotItemLemmas.{length-items, slots_apart}
 use Rattle.iddqd.proofs.id_hash_map.IdHashMap.len.Goals as goal
 
 pub returns-clause-len : goal.returns-clause-len
@@ -10,4 +11,7 @@ returns-clause-len g c = omega (arith, c.len.ensures.items, length-items c.self.
 pub returns-clause-spare : goal.returns-clause-spare
 returns-clause-spare g c =
     let m = c.self.inside in
-    subst (λ v. KeepsSpare v v) c.self.view_is (same_spare m.hasher m.store m.index c.self.invariant)
+    subst SpareFits c.self.view_is (spare_fits m.hasher m.store m.index c.self.invariant)
+
+pub returns-clause-slots : goal.returns-clause-slots
+returns-clause-slots g c = subst (λ v. HaveSlots v.slots v.items) c.self.view_is (slots_apart c.self.inside.store.slots)

@@ -1,4 +1,5 @@
-use Rattle.std.proofs.Common.{◌∙◌, sym, ap, subst}
+use Rattle.std.proofs.Common.{◌∙◌, sym, ap, subst, slice_get}
+use Rattle.std.specs.List.{remove}
 use Rattle.iddqd_core.specs.Contents.{IsAbsent, without}
 use Rattle.iddqd_core.specs.Hashing.{hash_under}
 use Rattle.iddqd.specs.HashItems.{Keyed}
@@ -6,6 +7,7 @@ use Rattle.iddqd.specs.HashMap.{KeepsSpare}
 use Rattle.iddqd.specs.Paired.{items_in, shown}
 use Rattle.iddqd.proofs.FoundLemmas.{found_passes, without_absent}
 use Rattle.iddqd.proofs.MapLemmas.{listed_under_query, same_spare, taken_items, taken_keyed, taken_spare}
+use Rattle.iddqd.proofs.SlotItemLemmas.{slot_left}
 use Rattle.iddqd.proofs.id_hash_map.IdHashMap.remove.Goals as goal
 
 pub find_slot-requires-clause-stored : goal.find_slot-requires-clause-stored
@@ -70,3 +72,13 @@ returns-clause-keyed g c =
     let keyed = subst (Keyed key eq input hash) (sym c.self.view_is) c.requires.keyed in
     let passes = found_passes key test (items_in m.store) x (sym c.in_ok-slot.ensures.item ∙ c.take_out.ensures.item) in
     taken_keyed key eq input hash m.hasher m.store new.store m.index new.index c.self.invariant c.take_out.ensures.paired g.met.T.Key.Eq.laws test (g.met.Q.Equivalent.one_key c.args.query.now) keyed c.in_ok-slot.slot x c.take_out.ensures.item passes c.hash_one-hash.result c.take_out.ensures.pairs c.take_out.ensures.updates
+
+pub returns-clause-slots : goal.returns-clause-slots
+returns-clause-slots g c =
+    let updates = c.take_out.ensures.updates in
+    let left = slot_left c.self.inside.store.slots c.take_out.new.store.slots c.in_ok-slot.slot c.take_out.result c.take_out.ensures.item updates.changed updates.others in
+    record {
+      place = left.place;
+      there = ap (λ v. slice_get v.items left.place) (sym c.self.view_is) ∙ left.there;
+      slots = left.slots ∙ ap (λ v. remove v.slots left.place) c.self.view_is;
+    }

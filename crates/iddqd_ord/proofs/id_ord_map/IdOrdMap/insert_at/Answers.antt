@@ -7,6 +7,7 @@ use Rattle.iddqd_core.specs.Store.{vacant}
 use Rattle.iddqd_core.proofs.KeepsLemmas.{ascends_insert}
 use Rattle.iddqd_core.proofs.ListedLemmas.{length-listed}
 use Rattle.iddqd_core.proofs.RefusalLemmas.{kind_by_length}
+use Rattle.iddqd_ord.proofs.PairedLemmas.{have_slots}
 use Rattle.iddqd_ord.proofs.id_ord_map.IdOrdMap.insert_at.Goals as goal
 
 pub returns-in-Err-clause-kind : goal.returns-in-Err-clause-kind
@@ -35,6 +36,7 @@ returns-clause-inserted g c =
       takes = record {
         room = omega (arith, c.in_default.ensures.below_limit, length-listed m.store m.index.slots c.self.invariant.occupied, ap (λ v. length v.items) c.self.view_is, ap (λ v. v.limit) c.self.view_is);
         added = record { place = place; within = omega (arith, c.requires.place.0, length-map items key); put = put };
+        slots = have_slots c.put_in.new.store c.put_in.new.index.slots c.put_in.ensures.paired;
         vacant = c.put_in.ensures.vacant ∙ ap (λ s. vacant s - 1) c.in_default.ensures.store ∙ ap (λ v. v.vacant - 1) c.self.view_is;
         capacity = omega (arith, c.put_in.ensures.capacity, c.in_default.ensures.capacity, ap (λ v. v.capacity) c.self.view_is);
         limit = c.put_in.ensures.limit ∙ ap (λ s. s.limit) c.in_default.ensures.store ∙ ap (λ v. v.limit) c.self.view_is;
