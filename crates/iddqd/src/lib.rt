@@ -3,8 +3,6 @@
 
 pub mod errors;
 pub mod id_hash_map;
-#[cfg(test)]
-mod tests;
 
 pub use id_hash_map::{DefaultHashBuilder, IdHashItem, IdHashMap, Lookups};
 pub use iddqd_core::{Comparable, Equivalent, Steps, Text};

@@ -6,8 +6,6 @@ ghost use Rattle.iddqd_core.specs.SlotItems.{HaveSlots};
 mod imp;
 mod insert;
 mod paired;
-#[cfg(test)]
-mod tests;
 
 pub use iddqd_core::IdOrdItem;
 use iddqd_core::{ItemStore, OrdIndex};

@@ -1,6 +1,10 @@
 //! What no clause says: worked rows, printed texts, that each call succeeds with memory at hand, and runs with memory refused.
 mod coarse;
-mod maps;
+mod commands;
+mod errors;
+mod insertions;
+mod items;
+mod many;
 mod queries;
 mod refusals;
 mod texts;

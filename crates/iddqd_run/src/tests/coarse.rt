@@ -8,10 +8,11 @@ ghost use Rattle.std.specs.Hash as fed;
 ghost use Rattle.std.specs.Ordering.{nat_cmp, on, as_partial_cmp};
 ghost use Rattle.iddqd_run.specs.Folded.{folded_po};
 
-use crate::{Command, IdHashItem, IdHashMap, IdOrdItem, IdOrdMap, Reply, run};
+use crate::{Command, IdHashItem, IdHashMap, IdOrdItem, IdOrdMap, KeyedMap, Reply, run};
 use std::alloc::Global;
 use std::cmp::Ordering;
 use std::hash::{Hash, Hasher};
+use std::process::Abort;
 use std::test::Fail;
 
 /// A name that is equal to each of the same letters, in whatever case.
@@ -112,10 +113,14 @@ fn spelled(item: &Coarse) -> ([u8; 3], u32) {
     (name, item.value)
 }
 
-#[test]
-fn coarse_overwrite(rt: HostRuntime) -> Result<(), Fail> {
-    let alloc = rt.alloc();
-    let mut map = IdOrdMap::new(alloc);
+fn overwrites<M: KeyedMap<Item = Coarse, Key = Caseless>>(
+    rt: &impl Abort,
+    mut map: M,
+) -> Result<(), Fail>
+where
+    M: Drop,
+    requires { M.keyed map }
+{
     let Ok(first) = map.insert_overwrite(item_of(*b"Foo", 1)) else {
         return Err(Fail::from("no memory for an item"));
     };
@@ -127,9 +132,13 @@ fn coarse_overwrite(rt: HostRuntime) -> Result<(), Fail> {
     let stored = map.get(&Caseless(*b"foo")).map(spelled);
     assert_eq!(rt; stored, Some((*b"FOO", 2)));
     assert_eq!(rt; map.len(), 1);
-    map.clear();
-    assert!(rt; map.is_empty());
     Ok(())
+}
+
+#[test]
+fn coarse_overwrite(rt: HostRuntime) -> Result<(), Fail> {
+    overwrites(&rt, IdOrdMap::new(rt.alloc()))?;
+    overwrites(&rt, IdHashMap::new(rt.alloc()))
 }
 
 fn coarse_commands(alloc: Global) -> Result<Vec<Command<Coarse, Caseless>>, Fail> {
@@ -138,7 +147,8 @@ fn coarse_commands(alloc: Global) -> Result<Vec<Command<Coarse, Caseless>>, Fail
         [
             Command::InsertOverwrite(item_of(*b"Foo", 1)),
             Command::InsertOverwrite(item_of(*b"FOO", 2)),
-            Command::Get(Caseless(*b"foo")),
+            Command::Get(Caseless(*b"Foo")),
+            Command::Get(Caseless(*b"FOO")),
             Command::Len,
             Command::Clear,
             Command::Len,
@@ -153,26 +163,37 @@ fn are_coarse_replies(replies: &[Reply<Coarse>]) -> bool {
             Reply::Inserted,
             Reply::Replaced(first),
             Reply::Found(second),
+            Reply::Found(third),
             Reply::Length(1),
             Reply::Done,
             Reply::Length(0),
-        ] => spelled(first) == (*b"Foo", 1) && spelled(second) == (*b"FOO", 2),
+        ] => {
+            spelled(first) == (*b"Foo", 1)
+                && spelled(second) == (*b"FOO", 2)
+                && spelled(third) == (*b"FOO", 2)
+        }
         _ => false,
     }
 }
 
+fn is_run_so<M: KeyedMap<Item = Coarse, Key = Caseless>>(
+    alloc: Global,
+    mut map: M,
+) -> Result<bool, Fail>
+where
+    M: Drop,
+    requires { M.keyed map }
+{
+    let Ok(replies) = run(alloc, &mut map, coarse_commands(alloc)?) else {
+        return Err(Fail::from("no memory for the replies"));
+    };
+    Ok(are_coarse_replies(replies.as_slice()))
+}
+
 #[test]
-fn coarse_overwrite_by_commands_on_both_maps(rt: HostRuntime) -> Result<(), Fail> {
+fn coarse_overwrite_by_commands(rt: HostRuntime) -> Result<(), Fail> {
     let alloc = rt.alloc();
-    let mut ordered = IdOrdMap::new(alloc);
-    let Ok(replies) = run(alloc, &mut ordered, coarse_commands(alloc)?) else {
-        return Err(Fail::from("no memory for the replies of the ordered map"));
-    };
-    assert!(rt; are_coarse_replies(replies.as_slice()));
-    let mut hashed = IdHashMap::new(alloc);
-    let Ok(replies) = run(alloc, &mut hashed, coarse_commands(alloc)?) else {
-        return Err(Fail::from("no memory for the replies of the hash map"));
-    };
-    assert!(rt; are_coarse_replies(replies.as_slice()));
+    assert!(rt; is_run_so(alloc, IdOrdMap::new(alloc))?);
+    assert!(rt; is_run_so(alloc, IdHashMap::new(alloc))?);
     Ok(())
 }

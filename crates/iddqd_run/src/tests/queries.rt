@@ -1,70 +1,37 @@
-//! Rows of lookups by texts, by keys of two fields, and among items that are boxed or lent.
-use crate::{IdOrdItem, IdOrdMap};
+//! Rows of lookups by texts, by keys of two fields, and among items that are boxed or lent. Each macro writes the calls of one row.
+use crate::tests::insertions::is_put;
+use crate::tests::items::{Artifact, Release, Titled};
+use crate::{IdHashMap, IdOrdMap};
 use iddqd::Text;
 use std::alloc::{AllocError, Global};
 use std::rc::Rc;
 use std::test::Fail;
 
-/// A name of its own memory, and a value.
-#[derive(Drop)]
-struct Item {
-    name: String,
-    value: u32,
-}
-
-impl IdOrdItem for Item {
-    type Key = String;
-
-    ghost key = { λ item. item.name };
-
-    fn key(&self) -> &String {
-        &self.name
-    }
-}
-
-fn foo(alloc: Global) -> Result<Item, AllocError> {
-    Ok(Item {
+fn foo(alloc: Global) -> Result<Titled, AllocError> {
+    Ok(Titled {
         name: "foo".to_string(alloc)?,
         value: 42,
     })
 }
 
+macro_rules! query_by_text {
+    ($rt:ident, $map:expr) => {{
+        let mut map = $map;
+        assert!($rt; is_put(&mut map, foo($rt.alloc())?));
+        assert_eq!($rt; map.get(&Text("foo")).map(|item| item.value), Some(42));
+        assert!($rt; !map.contains_key(&Text("fo")));
+        let name = "foo".to_string($rt.alloc())?;
+        assert_eq!($rt; map.get(&name).map(|item| item.value), Some(42));
+        assert_eq!($rt; map.remove(&Text("foo")).map(|item| item.value), Some(42));
+        assert_eq!($rt; map.len(), 0);
+    }};
+}
+
 #[test]
 fn text_queries(rt: HostRuntime) -> Result<(), Fail> {
-    let alloc = rt.alloc();
-    let mut map = IdOrdMap::new(alloc);
-    assert!(rt; map.insert_unique(foo(alloc)?).is_ok());
-    assert_eq!(rt; map.get(&Text("foo")).map(|item| item.value), Some(42));
-    assert!(rt; !map.contains_key(&Text("fo")));
-    let name = "foo".to_string(alloc)?;
-    assert_eq!(rt; map.get(&name).map(|item| item.value), Some(42));
-    assert_eq!(rt; map.remove(&Text("foo")).map(|item| item.value), Some(42));
-    assert_eq!(rt; map.len(), 0);
+    query_by_text!(rt, IdOrdMap::new(rt.alloc()));
+    query_by_text!(rt, IdHashMap::new(rt.alloc()));
     Ok(())
-}
-
-/// A key of two fields.
-#[derive(Clone, Copy, Debug, PartialEq, Eq, PartialOrd, Ord)]
-struct Release {
-    name: [u8; 9],
-    version: u32,
-}
-
-/// What was released.
-#[derive(Clone, Copy, Debug, PartialEq, Eq)]
-struct Artifact {
-    release: Release,
-    data: u32,
-}
-
-impl IdOrdItem for Artifact {
-    type Key = Release;
-
-    ghost key = { λ artifact. artifact.release };
-
-    fn key(&self) -> &Release {
-        &self.release
-    }
 }
 
 fn released(name: [u8; 9], data: u32) -> Artifact {
@@ -74,32 +41,45 @@ fn released(name: [u8; 9], data: u32) -> Artifact {
     }
 }
 
+macro_rules! query_by_release {
+    ($rt:ident, $map:expr) => {{
+        let mut map = $map;
+        let first = released(*b"artifact1", 1);
+        let other = Release {
+            name: *b"artifact1",
+            version: 20,
+        };
+        assert!($rt; is_put(&mut map, first));
+        assert!($rt; is_put(&mut map, released(*b"artifact2", 2)));
+        assert_eq!($rt; map.get(&first.release).copied(), Some(first));
+        assert_eq!($rt; map.get(&other).copied(), None);
+    }};
+}
+
 #[test]
 fn key_of_two_fields(rt: HostRuntime) {
-    let mut map = IdOrdMap::new(rt.alloc());
-    let first = released(*b"artifact1", 1);
-    assert!(rt; map.insert_unique(first).is_ok());
-    assert!(rt; map.insert_unique(released(*b"artifact2", 2)).is_ok());
-    let other = Release {
-        name: *b"artifact1",
-        version: 20,
-    };
-    assert_eq!(rt; map.get(&first.release).copied(), Some(first));
-    assert_eq!(rt; map.get(&other).copied(), None);
+    query_by_release!(rt, IdOrdMap::new(rt.alloc()));
+    query_by_release!(rt, IdHashMap::new(rt.alloc()));
+}
+
+// An item goes in, and its name is found.
+macro_rules! put_and_query {
+    ($rt:ident, $map:expr, $item:expr) => {{
+        let mut map = $map;
+        assert!($rt; is_put(&mut map, $item));
+        assert_eq!($rt; map.get(&Text("foo")).map(|item| item.value), Some(42));
+    }};
 }
 
 #[test]
 fn boxed_and_lent_items(rt: HostRuntime) -> Result<(), Fail> {
     let alloc = rt.alloc();
-    let mut boxed = IdOrdMap::new(alloc);
-    assert!(rt; boxed.insert_unique(Box::new(alloc, foo(alloc)?)?).is_ok());
-    assert_eq!(rt; boxed.get(&Text("foo")).map(|item| item.value), Some(42));
-    let mut counted = IdOrdMap::new(alloc);
-    assert!(rt; counted.insert_unique(Rc::new(alloc, foo(alloc)?)?).is_ok());
-    assert_eq!(rt; counted.get(&Text("foo")).map(|item| item.value), Some(42));
+    put_and_query!(rt, IdOrdMap::new(alloc), Box::new(alloc, foo(alloc)?)?);
+    put_and_query!(rt, IdHashMap::new(alloc), Box::new(alloc, foo(alloc)?)?);
+    put_and_query!(rt, IdOrdMap::new(alloc), Rc::new(alloc, foo(alloc)?)?);
+    put_and_query!(rt, IdHashMap::new(alloc), Rc::new(alloc, foo(alloc)?)?);
     let item = foo(alloc)?;
-    let mut lent = IdOrdMap::new(alloc);
-    assert!(rt; lent.insert_unique(&item).is_ok());
-    assert_eq!(rt; lent.get(&Text("foo")).map(|item| item.value), Some(42));
+    put_and_query!(rt, IdOrdMap::new(alloc), &item);
+    put_and_query!(rt, IdHashMap::new(alloc), &item);
     Ok(())
 }

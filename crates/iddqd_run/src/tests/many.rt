@@ -1,12 +1,11 @@
-//! The map with many items, and over other hashers.
-ghost use Rattle.iddqd_core.specs.Hashing.{hash_under};
-ghost use Rattle.iddqd.specs.HashItems.{Keyed};
-
-use crate::tests::{Inserted, Numbered, insert};
-use crate::{IdHashItem, IdHashMap};
+//! Maps of many items, hash maps over other hashers, and the numbers of a map.
+use crate::tests::insertions::{Inserted, insert};
+use crate::tests::items::Numbered;
+use crate::{IdHashMap, IdOrdMap, KeyedMap};
 use std::alloc::{AllocError, Global};
 use std::collections::hash_map::RandomState;
-use std::hash::{BuildHasher, BuildHasherDefault, Hasher};
+use std::hash::{BuildHasherDefault, Hasher};
+use std::process::Abort;
 use std::test::Fail;
 
 /// A hasher whose every hash is 0.
@@ -48,12 +47,12 @@ fn parted(items: &[Numbered], place: usize) -> (&[Numbered], &[Numbered]) {
 }
 
 /// Whether each of the items goes in.
-fn all_go_in<T: IdHashItem + Copy, S: BuildHasher>(map: &mut IdHashMap<T, S>, items: &[T]) -> bool
-    requires { ⟦<IdHashMap<T, S> as Lookups>⟧.keyed map.old }
-    ensures { ⟦<IdHashMap<T, S> as Lookups>⟧.keyed map.new }
+fn all_go_in<M: KeyedMap<Item = Numbered, Key = u32>>(map: &mut M, items: &[Numbered]) -> bool
+    requires { M.keyed map.old }
+    ensures { M.keyed map.new }
 {
     for item in items {
-        if !matches!(insert(map, *item), Inserted::Done) {
+        if insert(map, *item) != Inserted::Done {
             return false;
         }
     }
@@ -61,14 +60,11 @@ fn all_go_in<T: IdHashItem + Copy, S: BuildHasher>(map: &mut IdHashMap<T, S>, it
 }
 
 /// Whether each of the items is found under its key.
-fn all_are_found<T: IdHashItem + Copy + PartialEq, S: BuildHasher>(
-    map: &IdHashMap<T, S>,
-    items: &[T],
-) -> bool
-    requires { ⟦<IdHashMap<T, S> as Lookups>⟧.keyed map.now }
+fn all_are_found<M: KeyedMap<Item = Numbered, Key = u32>>(map: &M, items: &[Numbered]) -> bool
+    requires { M.keyed map.now }
 {
     for item in items {
-        if map.get(item.key()) != Some(item) {
+        if map.get(&item.number) != Some(item) {
             return false;
         }
     }
@@ -76,15 +72,12 @@ fn all_are_found<T: IdHashItem + Copy + PartialEq, S: BuildHasher>(
 }
 
 /// Whether each of the items comes out, and is not there any more.
-fn all_come_out<T: IdHashItem + Copy + PartialEq, S: BuildHasher>(
-    map: &mut IdHashMap<T, S>,
-    items: &[T],
-) -> bool
-    requires { ⟦<IdHashMap<T, S> as Lookups>⟧.keyed map.old }
-    ensures { ⟦<IdHashMap<T, S> as Lookups>⟧.keyed map.new }
+fn all_come_out<M: KeyedMap<Item = Numbered, Key = u32>>(map: &mut M, items: &[Numbered]) -> bool
+    requires { M.keyed map.old }
+    ensures { M.keyed map.new }
 {
     for item in items {
-        if map.remove(item.key()) != Some(*item) || map.contains_key(item.key()) {
+        if map.remove(&item.number) != Some(*item) || map.get(&item.number).is_some() {
             return false;
         }
     }
@@ -100,7 +93,7 @@ fn constant_hasher(rt: HostRuntime) -> Result<(), Fail> {
     let (front, rest) = parted(items.as_slice(), 50);
     assert!(rt; all_go_in(&mut map, items.as_slice()));
     assert!(rt; all_are_found(&map, items.as_slice()));
-    assert!(rt; !map.contains_key(&101));
+    assert_eq!(rt; map.get(&101).copied(), None);
     let again = Numbered {
         number: 50,
         value: 0,
@@ -110,25 +103,38 @@ fn constant_hasher(rt: HostRuntime) -> Result<(), Fail> {
         Inserted::Duplicate(again, Some(numbered(50)))
     );
     assert_eq!(rt; map.remove(&50), Some(numbered(50)));
-    assert!(rt; !map.contains_key(&50));
+    assert_eq!(rt; map.get(&50).copied(), None);
     assert!(rt; all_are_found(&map, parted(front, 49).0) && all_are_found(&map, rest));
     Ok(())
 }
 
-#[test]
-fn ten_thousand_keys(rt: HostRuntime) -> Result<(), Fail> {
-    let alloc = rt.alloc();
-    let mut map = IdHashMap::new(alloc);
+// Ten thousand keys go in, in one order, and come out in another.
+fn ten_thousand<M: KeyedMap<Item = Numbered, Key = u32>>(
+    rt: &impl Abort,
+    alloc: Global,
+    mut map: M,
+) -> Result<(), AllocError>
+where
+    M: Drop,
+    requires { M.keyed map }
+{
     assert!(rt; all_go_in(&mut map, in_order(alloc, 10_007, 7)?.as_slice()));
     assert_eq!(rt; map.len(), 10_006);
     let items = in_order(alloc, 10_007, 11)?;
     let (front, rest) = parted(items.as_slice(), 5_000);
     assert!(rt; all_come_out(&mut map, front));
     assert_eq!(rt; map.len(), 5_006);
-    assert!(rt; map.spare() >= 5_000);
     assert!(rt; all_are_found(&map, rest));
     assert!(rt; all_come_out(&mut map, rest));
-    assert!(rt; map.is_empty());
+    assert_eq!(rt; map.len(), 0);
+    Ok(())
+}
+
+#[test]
+fn ten_thousand_keys(rt: HostRuntime) -> Result<(), Fail> {
+    let alloc = rt.alloc();
+    ten_thousand(&rt, alloc, IdOrdMap::new(alloc))?;
+    ten_thousand(&rt, alloc, IdHashMap::new(alloc))?;
     Ok(())
 }
 
@@ -145,4 +151,34 @@ fn random_hasher(rt: HostRuntime) -> Result<(), Fail> {
     assert!(rt; all_are_found(&map, items.as_slice()));
     assert!(rt; all_come_out(&mut map, items.as_slice()));
     Ok(())
+}
+
+// The numbers, as items come and go.
+macro_rules! count_items {
+    ($rt:ident, $map:ident) => {{
+        assert!($rt; $map.is_empty());
+        assert_eq!($rt; ($map.len(), $map.capacity(), $map.vacant()), (0, 0, 0));
+        assert_eq!($rt; $map.limit(), 4_294_967_295);
+        assert_eq!($rt; insert(&mut $map, numbered(1)), Inserted::Done);
+        assert_eq!($rt; insert(&mut $map, numbered(2)), Inserted::Done);
+        assert!($rt; $map.contains_key(&1) && !$map.contains_key(&3));
+        assert_eq!($rt; $map.remove(&1), Some(numbered(1)));
+        assert_eq!($rt; ($map.len(), $map.vacant()), (1, 1));
+        assert!($rt; $map.capacity() >= 2 && !$map.is_empty());
+        assert_eq!($rt; insert(&mut $map, numbered(3)), Inserted::Done);
+        assert_eq!($rt; ($map.len(), $map.vacant()), (2, 0));
+        $map.clear();
+        assert!($rt; $map.is_empty() && $map.capacity() >= 2);
+        assert_eq!($rt; $map.vacant(), 0);
+    }};
+}
+
+#[test]
+fn numbers(rt: HostRuntime) {
+    let mut ordered = IdOrdMap::new(rt.alloc());
+    count_items!(rt, ordered);
+    let mut hashed = IdHashMap::new(rt.alloc());
+    assert_eq!(rt; hashed.spare(), 0);
+    count_items!(rt, hashed);
+    assert!(rt; hashed.spare() >= 2);
 }
