@@ -365,13 +365,13 @@ sum_by-pushed es ws e pairs f =
     omega arith
 
 -- the index whose chains were made anew
-pub relinked-index : (heads : List ℕ) (es ws : List Link) (capacity room : ℕ) → length es ≤ room → room ≤ capacity → length es < 2 ^ 32 → (0 < room → 0 < length heads) → IsLinked heads ws (length es) (length es) → pairs_of ws ≡ pairs_of es → ((slot : ℕ) → of_slot (pairs_of es) slot ≤ 1) → IsHashIndex heads ws capacity room
-relinked-index heads es ws capacity room used held fits count linked pairs once =
+pub relinked-index : (heads : List ℕ) (es ws : List Link) (capacity room : ℕ) → length es ≤ room → room ≤ capacity → room < 2 ^ 32 → (0 < room → 0 < length heads) → IsLinked heads ws (length es) (length es) → pairs_of ws ≡ pairs_of es → ((slot : ℕ) → of_slot (pairs_of es) slot ≤ 1) → IsHashIndex heads ws capacity room
+relinked-index heads es ws capacity room used held numbered count linked pairs once =
     let same : length ws ≡ length es = sym (length-pairs_of ws) ∙ ap length pairs ∙ length-pairs_of es in
     record {
       used = omega arith;
       held = held;
-      fits = omega arith;
+      numbered = numbered;
       count = count;
       linked = subst (λ n. IsLinked heads ws n n) (sym same) linked;
       each_once = subst (λ ps. (slot : ℕ) → of_slot ps slot ≤ 1) (sym pairs) once;

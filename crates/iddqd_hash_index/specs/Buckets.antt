@@ -65,7 +65,7 @@ pub record IsWalk (bucket : ℕ → ℕ) (n b k : ℕ) (Missed : ℕ → Type 0)
 pub record IsHashIndex (heads : List ℕ) (links : List Link) (capacity room : ℕ) : Type 0 where
   pub used : length links ≤ room
   pub held : room ≤ capacity
-  pub fits : length links < 2 ^ 32
+  pub numbered : room < 2 ^ 32
   pub count : 0 < room → 0 < length heads
   pub linked : IsLinked heads links (length links) (length links)
   pub each_once : (slot : ℕ) → of_slot (pairs_of links) slot ≤ 1

@@ -6,19 +6,21 @@ mod tests;
 
 ghost use Rattle.std.specs.Prelude.{◌≡◌, ℕ, ◌+◌, ◌-◌, ◌<◌, ◌≤◌, [], length, max, OnOk, OnErr, IfOk, IfErr, IfSome, IfNone, Contains};
 ghost use Rattle.std.specs.Prelude.{min as least};
-ghost use Rattle.iddqd_hash_index.specs.HashPairs.{SamePairs, HasOneMore, HasInstead, IsMatch, of_hash, of_slot};
+ghost use Rattle.iddqd_hash_index.specs.HashPairs.{SamePairs, HasOneMore, HasInstead, HalfIsEnough, IsMatch, of_hash, of_slot};
 ghost use Rattle.iddqd_store.specs.Store.{IsOccupied};
 ghost use Rattle.iddqd_store.specs.declared.errors.TryReserveErrorKind.TheVariants.{AllocError as OutOfMemory};
 
-use iddqd_store::TryReserveError;
-use iddqd_store::ItemStore;
-use iddqd_store::IdHashItem;
-use iddqd_store::Equivalent;
-use iddqd_store::Steps;
 use chains::{Link, buckets_for, link_all, position, put_in_chain, replace_by_last};
+use iddqd_store::{Equivalent, IdHashItem, ItemStore, Steps, TryReserveError};
 use search::find_in;
 use std::alloc::{AllocError, Global};
 use std::marker::Model;
+
+// The room of the smallest index that takes memory.
+const SMALLEST_ROOM: usize = 9;
+
+// As many pairs as there are slot numbers.
+const MOST_ROOM: usize = u32::MAX as usize;
 
 /// Pairs of a hash and a slot, each slot once (ours: the crate has hashbrown's `HashTable`). It computes no hash, and
 /// only `find` looks at items. Contracts see the pairs, in no order, and how many more can be added.
@@ -31,7 +33,7 @@ pub struct HashIndex {
     // One more than the number of the bucket's last pair, or 0.
     heads: Vec<u32>,
     links: Vec<Link>,
-    // How many pairs fit: the links have the memory, and the buckets are enough.
+    // How many pairs fit: the links have the memory, and the buckets are enough. Never more than there are slot numbers.
     room: usize,
 }
 
@@ -78,7 +80,8 @@ impl HashIndex {
     }
 
     /// Makes room for `additional` more pairs. It is refused only for want of memory, and takes none where there is
-    /// room. Where it takes some, it makes room for at least as many more as there was room for, and reads every pair.
+    /// room. Where it takes some, it makes room for at least as many more as there was room for, but never for more pairs
+    /// than there are slot numbers, and reads every pair.
     #[inline]
     pub fn try_reserve(&mut self, additional: usize) -> Result<(), TryReserveError>
         ensures pairs { SamePairs self.old.pairs self.new.pairs }
@@ -102,7 +105,11 @@ impl HashIndex {
         ensures ok { OnOk result (additional ≤ self.new.spare) }
         ensures spare { self.old.spare ≤ self.new.spare }
     {
-        let more = additional.max(self.room);
+        let most = MOST_ROOM - self.links.len();
+        if additional > most {
+            return Err(AllocError);
+        }
+        let more = additional.max(self.room).max(SMALLEST_ROOM).min(most);
         self.links.reserve(more)?;
         let room = self.links.len() + more;
         self.heads.resize(buckets_for(room), 0)?;
@@ -127,6 +134,7 @@ impl HashIndex {
         ensures found { IfSome result (IsMatch store.now self.now.pairs hash (λ x. Q.equivalent query.now (T.key x))) }
         ensures absent { IfNone result ((slot : ℕ) → ¬ IsMatch store.now self.now.pairs hash (λ x. Q.equivalent query.now (T.key x)) slot) }
         ensures steps { steps.new ≤ steps.old + of_hash self.now.pairs hash }
+        ensures counts_on { steps.old ≤ steps.new }
     {
         find_in(
             self.heads.as_slice(),
@@ -138,13 +146,12 @@ impl HashIndex {
         )
     }
 
-    /// Adds the pair, whose slot no other pair has. There must be room, as `try_reserve(1)` makes it, so it takes no memory;
-    /// and fewer than 4,294,967,295 pairs. It takes constant time.
+    /// Adds the pair, whose slot no other pair has. There must be room, as `try_reserve(1)` makes it, so it takes no memory.
+    /// It takes constant time.
     #[inline]
     pub fn add_reserved(&mut self, hash: u64, slot: u32)
         requires room { 0 < self.old.spare }
         requires absent { of_slot self.old.pairs slot ≡ 0 }
-        requires fits { length self.old.pairs < u32.MAX }
         ensures pairs { HasOneMore self.old.pairs self.new.pairs (hash, slot) }
         ensures spare { self.old.spare ≤ self.new.spare + 1 }
     {
@@ -195,14 +202,16 @@ impl HashIndex {
         self.heads.as_mut_slice().fill(0);
     }
 
-    /// Gives memory back, but for room for `min` pairs and for those that are there. Refused or not, the pairs stay. It
-    /// needs no memory, so that it is never refused today. Where it gives some back, it reads every pair.
+    /// Gives memory back, but for room for `min` pairs and for those that are there: some at least, where half the room is
+    /// enough for them. Refused or not, the pairs stay, and a refusal leaves the room that there was. Where it gives some
+    /// back, it reads every pair.
     pub fn shrink(&mut self, min: usize) -> Result<(), TryReserveError>
         ensures pairs { SamePairs self.old.pairs self.new.pairs }
         ensures only_memory { IfErr result (λ e. e ≡ OutOfMemory) }
-        ensures ok { OnOk result (self.new.spare + length self.new.pairs ≤ max min (length self.old.pairs)) }
         ensures needed { OnErr result (max min (length self.old.pairs) < self.old.spare + length self.old.pairs) }
+        ensures gives_back { OnOk result (HalfIsEnough self.old min → self.new.spare + length self.new.pairs < self.old.spare + length self.old.pairs) }
         ensures room { least min (self.old.spare + length self.old.pairs) ≤ self.new.spare + length self.new.pairs }
+        ensures refused { OnErr result (self.old.spare ≤ self.new.spare) }
     {
         let room = min.max(self.links.len());
         if room < self.room {
@@ -216,10 +225,9 @@ impl HashIndex {
         Ok(())
     }
 
-    /// An index of the same pairs, with as much room. It copies each pair and each head, and is refused only for want of
-    /// memory.
+    /// An index of the same pairs. It copies each pair, and is refused only for want of memory.
     pub fn try_clone(&self) -> Result<Self, TryReserveError>
-        ensures ok { IfOk result (λ copy. copy ≡ self.now) }
+        ensures pairs { IfOk result (λ copy. SamePairs self.now.pairs copy.pairs) }
         ensures only_memory { IfErr result (λ e. e ≡ OutOfMemory) }
     {
         self.copy().map_err(|_| TryReserveError::alloc_error())
@@ -227,7 +235,7 @@ impl HashIndex {
 
     // The same with the error of the vectors.
     fn copy(&self) -> Result<Self, AllocError>
-        ensures { IfOk result (λ copy. copy ≡ self.now) }
+        ensures pairs { IfOk result (λ copy. SamePairs self.now.pairs copy.pairs) }
     {
         let alloc = *self.heads.allocator();
         let heads = self.heads.clone()?;

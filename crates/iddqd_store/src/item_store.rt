@@ -4,7 +4,7 @@ mod moves;
 #[cfg(test)]
 mod tests;
 
-ghost use Rattle.std.specs.Prelude.{◌≡◌, ◌≢◌, ℕ, ◌+◌, ◌-◌, ◌<◌, ◌≤◌, [], length, IfSome, IfNone, IfOk, OnOk, OnErr, IsSome, Some, None, OnSome, option_copied, slice_set, Err, ◌↔◌, min};
+ghost use Rattle.std.specs.Prelude.{◌≡◌, ◌≢◌, ℕ, ◌+◌, ◌-◌, ◌<◌, ◌≤◌, [], length, IfSome, IfNone, IfOk, OnOk, OnErr, IsSome, Some, None, OnSome, option_copied, slice_set, Err, ◌↔◌, min, max};
 ghost use Rattle.std.specs.Borrow.{sem};
 ghost use Rattle.iddqd_store.specs.Store.{item_at, IsOccupied, store_len, vacant, HasRoomFor, Updates, SameItems, MovesLast, EndsOccupied, IsStoreClone};
 ghost use Rattle.iddqd_store.specs.declared.errors.TryReserveErrorKind.TheVariants.{CapacityOverflow, AllocError as OutOfMemory};
@@ -96,7 +96,8 @@ impl<T> ItemStore<T> {
     /// How many items fit before memory is needed.
     #[inline]
     pub fn capacity(&self) -> usize
-        ensures { result ≡ self.now.capacity }
+        ensures number { result ≡ self.now.capacity }
+        ensures holds { store_len self.now ≤ result }
     {
         self.slots.capacity()
     }
@@ -260,10 +261,13 @@ impl<T> ItemStore<T> {
 
     /// Gives memory back, but for room for `min_capacity` items and for those that are there (the
     /// crate's `shrink_capacity_to`). No slot may be vacant, as after `last_into_hole` answered
-    /// `None`. Refused or not, the slots stay as they were.
+    /// `None`. Refused or not, the slots stay as they were; it is refused only where there is memory
+    /// to give back, and without items and without `min_capacity` it gives all of it back.
     pub fn shrink_to(&mut self, min_capacity: usize) -> Result<(), TryReserveError>
         requires { vacant self.old ≡ 0 }
         ensures err { OnErr result (result ≡ Err OutOfMemory) }
+        ensures needed { OnErr result (max min_capacity (store_len self.old) < self.old.capacity) }
+        ensures frees { store_len self.old ≡ 0 → min_capacity ≡ 0 → OnOk result (self.new.capacity ≡ 0) }
         ensures rest { self.new ≡ record self.old { capacity = self.new.capacity } }
         ensures lowers { self.new.capacity ≤ self.old.capacity }
         ensures keeps_items { store_len self.old ≤ self.new.capacity }

@@ -1,5 +1,5 @@
 //! A counter of comparisons.
-ghost use Rattle.std.specs.Prelude.{◌≡◌, ◌+◌, min};
+ghost use Rattle.std.specs.Prelude.{◌≡◌, ◌+◌, ◌≤◌, min};
 
 use crate::queries::{Comparable, Equivalent};
 use std::cmp::Ordering;
@@ -35,7 +35,8 @@ impl Steps {
     }
 
     fn add_one(&mut self)
-        ensures { self.new ≡ min (self.old + 1) u32.MAX }
+        ensures step { self.new ≡ min (self.old + 1) u32.MAX }
+        ensures counts_on { self.old ≤ self.new }
     {
         self.count = self.count.saturating_add(1);
     }
@@ -44,6 +45,7 @@ impl Steps {
     pub fn compare<K: Ord, Q: Comparable<K>>(&mut self, query: &Q, key: &K) -> Ordering
         ensures value { result ≡ Q.compare query.now key.now }
         ensures step { self.new ≡ min (self.old + 1) u32.MAX }
+        ensures counts_on { self.old ≤ self.new }
     {
         self.add_one();
         query.compare(key)
@@ -53,6 +55,7 @@ impl Steps {
     pub fn equal<K: Eq, Q: Equivalent<K>>(&mut self, query: &Q, key: &K) -> bool
         ensures value { result ≡ Q.equivalent query.now key.now }
         ensures step { self.new ≡ min (self.old + 1) u32.MAX }
+        ensures counts_on { self.old ≤ self.new }
     {
         self.add_one();
         query.equivalent(key)

@@ -36,7 +36,6 @@ pub(super) fn reserve_one<T>(
     ensures below_limit { OnOk result (length index.old.pairs < store.old.limit) }
     ensures room { OnOk result (HasRoomFor store.new 1) }
     ensures listable { OnOk result (0 < index.new.spare) }
-    ensures fits { OnOk result (length index.new.pairs < u32.MAX) }
     ensures kind { IfErr result (λ e. e ≡ refusal_kind store.old.limit index.old.pairs) }
     ensures needed { OnErr result (spare_in store.old index.old ≡ 0) }
     ensures store { store.new ≡ record store.old { capacity = store.new.capacity } }
@@ -57,7 +56,6 @@ pub(super) fn put_in<T>(store: &mut ItemStore<T>, index: &mut HashIndex, hash: u
     requires paired { PairsOccupied store.old index.old.pairs }
     requires room { HasRoomFor store.old 1 }
     requires listable { 0 < index.old.spare }
-    requires fits { length index.old.pairs < u32.MAX }
     ensures paired { PairsOccupied store.new index.new.pairs }
     ensures was_vacant { item_at store.old result ≡ None }
     ensures updates { Updates store.old store.new result (Some item) }

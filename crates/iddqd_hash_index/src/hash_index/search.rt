@@ -5,10 +5,7 @@ ghost use Rattle.iddqd_hash_index.specs.HashPairs.{IsMatch, of_hash};
 ghost use Rattle.iddqd_store.specs.Store.{IsOccupied};
 
 use super::chains::{Link, bucket};
-use iddqd_store::ItemStore;
-use iddqd_store::IdHashItem;
-use iddqd_store::Equivalent;
-use iddqd_store::Steps;
+use iddqd_store::{Equivalent, IdHashItem, ItemStore, Steps};
 
 // The slot whose item has the query's key. It compares keys at pairs of exactly this hash.
 #[inline]
@@ -26,6 +23,7 @@ pub(super) fn find_in<T: IdHashItem, Q: Equivalent<T::Key>>(
     ensures found { IfSome result (IsMatch store.now (pairs_of links.now) hash (λ x. Q.equivalent query.now (T.key x))) }
     ensures absent { IfNone result ((slot : ℕ) → ¬ IsMatch store.now (pairs_of links.now) hash (λ x. Q.equivalent query.now (T.key x)) slot) }
     ensures steps { steps.new ≤ steps.old + of_hash (pairs_of links.now) hash }
+    ensures counts_on { steps.old ≤ steps.new }
 {
     if heads.len() == 0 {
         return None;

@@ -1,9 +1,7 @@
 ghost use Rattle.std.specs.Prelude.{◌≡◌};
 
 use super::HashIndex;
-use iddqd_store::ItemStore;
-use iddqd_store::IdHashItem;
-use iddqd_store::Steps;
+use iddqd_store::{IdHashItem, ItemStore, Steps};
 use std::alloc::Global;
 use std::marker::Model;
 use std::process::Abort;
@@ -54,7 +52,6 @@ impl Mint {
     // The slot of a new coin.
     fn put(&mut self, rt: &impl Abort, hash: u64, year: u32) -> u32 {
         assert!(rt; self.index.try_reserve(1).is_ok());
-        assert!(rt; self.index.len() < 1_000_000);
         assert!(rt; self.store.try_reserve(1).is_ok());
         let slot = self.store.insert_reserved(Coin { year });
         self.index.add_reserved(hash, slot);
@@ -92,6 +89,11 @@ impl Mint {
         let new = self.store.insert_reserved(Coin { year });
         self.index.rename(hash, old, new);
         Some(new)
+    }
+
+    // How many pairs fit before memory is needed.
+    fn room(&self) -> usize {
+        self.index.len().saturating_add(self.index.spare())
     }
 
     fn shrink(&mut self, min: usize) -> bool {
@@ -155,7 +157,7 @@ fn thousands(rt: HostRuntime) -> Result<(), Fail> {
 
 // Where all hashes are equal, only time is lost.
 #[test]
-fn equal_hashes(rt: HostRuntime) {
+fn pairs_of_one_hash(rt: HostRuntime) {
     let mut mint = Mint::new(rt.alloc());
     for year in 0..100 {
         assert_eq!(rt; mint.put(&rt, 5, year), year);
@@ -189,18 +191,22 @@ fn pairs(rt: HostRuntime) {
 fn room(rt: HostRuntime) -> Result<(), Fail> {
     let mut mint = Mint::new(rt.alloc());
     assert_eq!(rt; mint.index.spare(), 0);
-    for year in 0..5 {
-        mint.put(&rt, 7, year);
+    for year in 0..100 {
+        mint.put(&rt, hash_of(year), year);
     }
-    assert_eq!(rt; mint.index.len(), 5);
-    assert_eq!(rt; mint.index.spare(), 3);
-    assert!(rt; mint.shrink(6));
-    assert_eq!(rt; mint.index.spare(), 1);
+    let room = mint.room();
+    for year in 0..90 {
+        mint.take(hash_of(year), year);
+    }
+    assert_eq!(rt; mint.index.len(), 10);
+    assert_eq!(rt; mint.room(), room);
+    assert!(rt; mint.shrink(30));
+    assert!(rt; mint.room() >= 30 && mint.room() < room);
     mint.copy()?;
-    assert_eq!(rt; mint.index.spare(), 1);
-    assert!(rt; mint.finds(7, 4, Some(4), 1));
+    assert!(rt; mint.finds(hash_of(95), 95, Some(95), 1));
     mint.clear();
-    assert_eq!(rt; mint.index.spare(), 6);
-    assert!(rt; mint.finds(7, 4, None, 0));
+    assert!(rt; mint.index.spare() >= 10);
+    assert!(rt; mint.finds(hash_of(95), 95, None, 0));
+    assert!(rt; mint.shrink(0));
     Ok(())
 }

@@ -115,7 +115,7 @@ fn clones_and_clears(rt: HostRuntime) -> Result<(), Fail> {
 type Huge = [[u64; 256]; 512];
 
 #[test]
-fn growth_refused(rt: HostRuntime) {
+fn store_growth_refused(rt: HostRuntime) {
     let mut store: ItemStore<Huge> = ItemStore::new(rt.alloc(), u32::MAX);
     assert_eq!(rt;
         store.try_reserve(4294967295),

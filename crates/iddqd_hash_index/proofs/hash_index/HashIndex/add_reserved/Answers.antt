@@ -12,7 +12,6 @@ invariant_of-self c =
     let ws = c.put_in_chain.new.links in
     let heads = with_items_is c.self.inside.heads c.put_in_chain.new.heads (omega arith) in
     let links = with_items_is c.push_reserved.new.self ws (omega arith) in
-    let fits : length es < 4294967295 = omega (arith, ap (λ i. length i.pairs) c.self.view_is, length-pairs_of es, c.requires.fits) in
     let used : c.len-at.result + 1 ≤ c.self.inside.room = omega (arith, valid.used, ap (λ i. i.spare) c.self.view_is, c.requires.room) in
     let held : c.self.inside.room ≤ vec_capacity c.push_reserved.new.self = omega (arith, valid.held) in
     let long : length ws ≡ c.len-at.result + 1 = omega arith in
@@ -20,7 +19,7 @@ invariant_of-self c =
     rw (heads, links) (record {
       used = omega (arith, used, long);
       held = held;
-      fits = omega arith;
+      numbered = valid.numbered;
       count = λ some. omega (arith, valid.count some);
       linked = subst (λ n. IsLinked c.put_in_chain.new.heads ws n n) (sym long) c.put_in_chain.ensures.linked;
       each_once = each_once-added (pairs_of es) (pairs_of ws) (c.args.hash, c.args.slot) (sum_by-pushed es ws _ pairs) (rw (← c.self.view_is) at c.requires.absent) valid.each_once;

@@ -13,7 +13,7 @@ invariant_of-result c =
     rw (heads, links) (record {
       used = valid.used;
       held = held;
-      fits = valid.fits;
+      numbered = valid.numbered;
       count = valid.count;
       linked = valid.linked;
       each_once = valid.each_once;

@@ -15,7 +15,7 @@ invariant_of-self c =
     rw (heads, c.truncate.ensures.items, links) (record {
       used = omega (arith, valid.used, length-take (c.len-last.result - 1) c.replace_by_last.new.links);
       held = omega (arith, valid.held);
-      fits = omega (arith, valid.fits, length-take (c.len-last.result - 1) c.replace_by_last.new.links);
+      numbered = valid.numbered;
       count = λ some. omega (arith, valid.count (omega (arith, some)));
       linked = IsLinked-front _ _ _ (omega arith) (rw n c.replace_by_last.ensures.linked);
       each_once = each_once-removed (pairs_of c.self.inside.links.items) (pairs_of (take (c.len-last.result - 1) c.replace_by_last.new.links)) (c.args.hash, c.args.slot) (sum_by-removed c.self.inside.links.items c.replace_by_last.new.links c.position-at.result (c.args.hash, c.args.slot) (c.len-last.result - 1) (omega arith) (omega arith) found moved) valid.each_once;

@@ -19,7 +19,7 @@ invariant_of-self c =
     record {
       used = rw length-set valid.used;
       held = valid.held;
-      fits = rw length-set valid.fits;
+      numbered = valid.numbered;
       count = valid.count;
       linked = rw length-set (IsLinked-slot _ es _ _ _ within (ap (λ x. x.hash) read) (ap (λ x. x.next) read) valid.linked);
       each_once = each_once-renamed (pairs_of es) (pairs_of (set es c.position-at.result link)) (c.args.hash, c.args.old) (c.args.hash, c.args.new) sums (rw (← c.self.view_is) at c.requires.absent) valid.each_once;

@@ -11,5 +11,5 @@ invariant_of-self c =
     let links = c.shrink_to-then-room-self.ensures.items ∙ with_items_is c.self.inside.links c.link_all.new.links (omega arith) in
     let same = c.as_mut_slice-then-room-self-2.ensures.value in
     rw (heads, links)
-    (relinked-index _ c.self.inside.links.items _ _ _ (omega (arith, valid.used)) (omega (arith, valid.held)) valid.fits (λ some. omega arith)
+    (relinked-index _ c.self.inside.links.items _ _ _ (omega (arith, valid.used)) (omega (arith, valid.held)) (omega (arith, valid.numbered)) (λ some. omega arith)
     (rw same at c.link_all.ensures.linked) (rw same at c.link_all.ensures.pairs) valid.each_once)

@@ -47,6 +47,7 @@ loop-here-preserved g c =
             let held = sym (ap option_copied (sym w.unwrap-item.ensures) ∙ w.get.ensures ∙ ap (λ p. item_at c.args.store.now p.1) (sym at)) in
             let passed = subst (λ o. IsSomeAnd o (λ x. g.Q.Equivalent.equivalent c.args.query.now (g.T.IdHashItem.key x) ≡ true)) held passes in
             absurd (true≢false (sym passed ∙ ap (g.Q.Equivalent.equivalent c.args.query.now) (sym w.key.ensures) ∙ sym w.equal.ensures.value ∙ w.if-equal.false)));
+        counts_on = rw w.steps-is (omega (arith, c.loop-here.invariant.counts_on, w.equal.ensures.counts_on));
         steps =
             let here : c.loop-here.here ≡ i + 1 = omega arith in
             let steps = subst (λ k. c.loop-here.steps ≤ c.args.steps.now + of_hash (drop k ps) c.args.hash) here c.loop-here.invariant.steps in
@@ -55,6 +56,7 @@ loop-here-preserved g c =
       }
       | else-link-hash w ↦ record {
         walk = next (λ same _. absurd (w.if-link-hash.false (sym (ap (λ p. p.0) at) ∙ same)));
+        counts_on = rw w.steps-is c.loop-here.invariant.counts_on;
         steps =
             let more = of_hash-le ps c.args.hash (next_at es i) c.loop-here.here (omega arith) in
             rw w.steps-is (omega (arith, c.loop-here.invariant.steps));

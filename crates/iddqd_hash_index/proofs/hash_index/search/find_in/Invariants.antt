@@ -9,6 +9,7 @@ abbrev pub invariant-loop-here : goal.invariant-loop-here
 invariant-loop-here g l = record {
   walk : IsWalk (bucket_at (length l.heads) (pairs_of l.links)) (length l.links) (bucket_of (length l.heads) l.hash) l.here
       (λ j. (get_or (pairs_of l.links) j (0, 0)).0 ≡ l.hash → ¬ IsSomeAnd (item_at l.store (get_or (pairs_of l.links) j (0, 0)).1) (λ x. g.Q.Equivalent.equivalent l.query (g.T.IdHashItem.key x) ≡ true));
+  counts_on : l.fn.steps ≤ l.steps;
   steps : l.steps ≤ l.fn.steps + of_hash (drop l.here (pairs_of l.links)) l.hash;
 }
 
