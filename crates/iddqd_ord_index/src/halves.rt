@@ -5,10 +5,7 @@ ghost use Rattle.iddqd_ord_index.specs.Digits.{digits};
 ghost use Rattle.iddqd_ord_index.specs.Listed.{listed_items, AreOccupied};
 ghost use Rattle.iddqd_ord_index.specs.Search.{IsPlaceAmong};
 
-use iddqd_store::ItemStore;
-use iddqd_store::IdOrdItem;
-use iddqd_store::Comparable;
-use iddqd_store::Steps;
+use iddqd_store::{Comparable, IdOrdItem, ItemStore, Steps};
 use std::cmp::Ordering;
 
 /// The place of the slot whose item the query stands for, or the place where it belongs. It makes at most as many
@@ -24,7 +21,10 @@ pub fn search<T: IdOrdItem, Q: Comparable<T::Key>>(
     ensures place { IsPlaceAmong (Q.compare query.now) (keys T.key (listed_items store.now slots.now)) result }
     ensures within { MatchResult result (λ i. i < length slots.now) (λ i. i ≤ length slots.now) }
     ensures steps { steps.new ≤ steps.old + digits (length slots.now) }
+    ensures counts_on { steps.old ≤ steps.new }
 {
+    // The greatest count is known of the counter's own fields alone.
+    prove!(steps.count() <= u32::MAX);
     let mut low = 0;
     let mut high = slots.len();
     while low < high {

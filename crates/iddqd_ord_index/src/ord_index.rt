@@ -15,12 +15,8 @@ mod into_walk;
 mod tests;
 mod walk;
 
-use iddqd_store::TryReserveError;
 use crate::halves::search;
-use iddqd_store::ItemStore;
-use iddqd_store::IdOrdItem;
-use iddqd_store::Comparable;
-use iddqd_store::Steps;
+use iddqd_store::{Comparable, IdOrdItem, ItemStore, Steps, TryReserveError};
 pub use into_walk::IntoWalk;
 use std::alloc::Global;
 use std::marker::Model;
@@ -43,7 +39,9 @@ impl Model for Place {
 }
 
 /// Slots in order, each once (ours: the crate has a B-tree of std). It looks at items only where it searches. Contracts
-/// see the list, and whether the index is prepared for one insertion, which each change of the list ends.
+/// see the list, and whether the index is prepared for one insertion. `prepare` alone makes it so, and each call that can
+/// change the list ends it: `add_prepared`, `remove`, `remove_first`, `remove_last`, `rename` and `clear`, also where the
+/// list stays as it was. A copy is not prepared.
 #[derive(Drop)]
 pub struct OrdIndex {
     slots: Vec<u32>,
@@ -95,6 +93,7 @@ impl OrdIndex {
         ensures place { IsPlaceAmong (Q.compare query.now) (keys T.key (listed_items store.now self.now.slots)) result }
         ensures in_list { MatchResult result (λ p. p < length self.now.slots) (λ p. p ≤ length self.now.slots) }
         ensures steps { steps.new ≤ steps.old + 4 + 2 * digits (length self.now.slots) }
+        ensures counts_on { steps.old ≤ steps.new }
     {
         match search(self.slots.as_slice(), store, query, steps) {
             Ok(at) => Ok(Place {
@@ -118,6 +117,7 @@ impl OrdIndex {
         ensures item { option_and_then (item_at store.now) result ≡ find_item T.key (Q.equivalent query.now) (listed_items store.now self.now.slots) }
         ensures slot { IfSome result (Contains self.now.slots) }
         ensures steps { steps.new ≤ steps.old + 4 + 2 * digits (length self.now.slots) }
+        ensures counts_on { steps.old ≤ steps.new }
     {
         match self.find(store, query, steps) {
             Ok(place) => Some(self.slot_at(place)),
@@ -138,12 +138,26 @@ impl OrdIndex {
         ensures item { option_and_then (item_at store.now) result ≡ find_item T.key (λ k. is_lt (Q.compare query.now k)) (listed_items store.now self.now.slots) }
         ensures slot { IfSome result (Contains self.now.slots) }
         ensures steps { steps.new ≤ steps.old + 4 + 2 * digits (length self.now.slots) }
+        ensures counts_on { steps.old ≤ steps.new }
     {
         let next = match self.find(store, query, steps) {
             Ok(place) => place.position as usize + 1,
             Err(place) => place.position as usize,
         };
         self.slots.get(next).copied()
+    }
+
+    /// The place of this number: of the slot that has so many before it, or the one behind the last slot. A place is a
+    /// number and nothing else, so one from before a change of the list means that position in the list as it is now. It
+    /// looks at nothing.
+    pub fn place(&self, at: usize) -> Place
+        requires { at ≤ length self.now.slots }
+        ensures { result ≡ at }
+    {
+        prove!(at <= self.len() as usize);
+        Place {
+            position: at as u32,
+        }
     }
 
     /// The slot at the place.

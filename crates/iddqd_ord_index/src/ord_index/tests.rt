@@ -4,9 +4,7 @@ ghost use Rattle.iddqd_store.specs.Contents.{Ascends};
 ghost use Rattle.iddqd_ord_index.specs.Listed.{listed_items, AreOccupied};
 
 use super::{OrdIndex, Place};
-use iddqd_store::ItemStore;
-use iddqd_store::IdOrdItem;
-use iddqd_store::Steps;
+use iddqd_store::{IdOrdItem, ItemStore, Steps};
 use std::process::Abort;
 use std::test::Fail;
 
@@ -128,12 +126,13 @@ fn changes(rt: HostRuntime) -> Result<(), Fail> {
     assert_eq!(rt; index.first(), Some(4));
     assert_eq!(rt; index.last(), Some(2));
     assert!(rt; index.len() > 2);
-    assert_eq!(rt; index.slot_at(Place { position: 2 }), 7);
+    assert_eq!(rt; index.slot_at(index.place(2)), 7);
     assert!(rt; !holds(&index, 8));
     index.rename(Place { position: 2 }, 8);
     same(&rt, &index, &[4, 6, 8, 9, 2]);
     assert!(rt; index.len() > 1);
-    assert_eq!(rt; index.remove(Place { position: 1 }), 6);
+    let place = index.place(1);
+    assert_eq!(rt; index.remove(place), 6);
     let copy = index.try_clone()?;
     assert_eq!(rt; index.remove_first(), Some(4));
     assert_eq!(rt; index.remove_last(), Some(2));

@@ -17,6 +17,8 @@ loop-low-init g c =
       within = omega arith;
       before = λ k d a b. absurd (omega arith);
       behind = λ k d a b. absurd (omega (arith, length-map items g.T.IdOrdItem.key));
+      counts_on = omega arith;
+      countable = omega arith;
       counted = omega (arith, digits_mono (length c.args.slots.now - 0) (length c.args.slots.now) (omega arith));
     }
 
@@ -54,6 +56,8 @@ loop-low-preserved-in-Greater g c =
       within = omega arith;
       before = greater_before g.met.T.Key.Ord.total compare (map key items) c.requires.ascending (g.met.Q.Comparable.greater_below c.args.query.now) middle (omega (arith, length-map items key)) (key-listed key (λ k. compare k ≡ Greater) c.args.store.now c.args.slots.now middle item c.requires.occupied within read answer);
       behind = c.loop-low.invariant.behind;
+      counts_on = omega arith;
+      countable = omega arith;
       counted = omega (arith, digits-fewer (high - low) (high - (middle + 1)) (omega arith) (omega arith));
     }
 
@@ -75,6 +79,8 @@ loop-low-preserved g c =
       within = omega arith;
       before = c.loop-low.invariant.before;
       behind = less_behind g.met.T.Key.Ord.total compare (map key items) c.requires.ascending (g.met.Q.Comparable.less_above c.args.query.now) middle (key-listed key (λ k. compare k ≡ Less) c.args.store.now c.args.slots.now middle item c.requires.occupied within read answer);
+      counts_on = omega arith;
+      countable = omega arith;
       counted = omega (arith, digits-fewer (high - low) (middle - low) (omega arith) (omega arith));
     }
 

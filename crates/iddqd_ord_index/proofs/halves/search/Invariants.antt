@@ -11,6 +11,8 @@ invariant-loop-low g l = record {
   within : l.high ≤ length l.slots;
   before : AllWithin (λ k. g.Q.Comparable.compare l.query k ≡ Greater) (keys g.T.IdOrdItem.key (listed_items l.store l.slots)) 0 l.low;
   behind : AllWithin (λ k. g.Q.Comparable.compare l.query k ≡ Less) (keys g.T.IdOrdItem.key (listed_items l.store l.slots)) l.high (length (keys g.T.IdOrdItem.key (listed_items l.store l.slots)));
+  counts_on : l.initial.steps ≤ l.steps;
+  countable : l.steps ≤ 4294967295;
   counted : l.steps + digits (l.high - l.low) ≤ l.initial.steps + digits (length l.slots);
 }
 
