@@ -2,6 +2,7 @@
 --     search_item      what a search of the index says of the items
 --     keyed_under      in a keyed map each item's slot is listed with the hash of the item's key
 --     listed_under_query      ... and with that of a query that stands for it
+--     spare_held      there is memory for what is there and what is spare
 --     spare_fits      what is there and what is spare fit the limit
 --     same_spare, unchanged      ... where nothing has changed
 --     emptied_keyed, emptied_spare      ... where no item is left
@@ -19,7 +20,7 @@ use Rattle.iddqd_core.specs.HashPairs.{HashPairs, HasOneMore, IsMatch, SamePairs
 use Rattle.iddqd_core.specs.Store.{Store, item_at, store_len, vacant, Updates}
 use Rattle.iddqd.specs.HashItems.{HashItems, Keyed}
 use Rattle.iddqd.specs.HashMap.{HashInserts, HashKeeps, KeepsSpare, SpareFits}
-use Rattle.iddqd.specs.Paired.{PairsOccupied, hash_of_slot, items_in, numbers_of, shown, slots_in}
+use Rattle.iddqd.specs.Paired.{PairsOccupied, hash_of_slot, items_in, numbers_of, shown, slots_in, spare_in}
 use Rattle.iddqd.proofs.FoundLemmas.{differ_added, differ_exchanged, differ_taken, item_absent, item_exchanged, item_found, item_taken, same_numbers}
 use Rattle.iddqd.proofs.PairLemmas.{listed_hash}
 use Rattle.iddqd.proofs.PairedLemmas.{AreListedUnder, hashes_agree, listed_under, occupied_listed, under_added, under_removed, under_same}
@@ -45,6 +46,9 @@ module _ {T K : Type 0} (key : T → K) {eq : K → K → Bool} (equivalence : I
 keeps_least : (a b c n a' b' c' n' : ℕ) → n ≤ b → n ≤ c → n' ≤ b' → n' ≤ c' → a + n ≤ a' + n' → b ≤ b' → c' ≡ c → (min a (min (b - n) (c - n)) + n ≤ min a' (min (b' - n') (c' - n')) + n') × (min a' (min (b' - n') (c' - n')) + n' ≤ c')
 keeps_least a b c n a' b' c' n' h i j k l m e = (omega arith, omega arith)
 
+least_held : (a b c n : ℕ) → n ≤ b → min a (min (b - n) (c - n)) + n ≤ b
+least_held a b c n h = omega arith
+
 module _ {S T : Type 0} (hasher : S) where
   -- where nothing changes the spare is kept
   pub same_spare : (store : Store T) (index : HashPairs) → PairsOccupied store index.pairs → KeepsSpare (shown store index hasher) (shown store index hasher)
@@ -55,6 +59,10 @@ module _ {S T : Type 0} (hasher : S) where
   -- what is there and what is spare fit the limit
   pub spare_fits : (store : Store T) (index : HashPairs) → PairsOccupied store index.pairs → SpareFits (shown store index hasher)
   spare_fits store index paired = (same_spare store index paired).in_limit
+
+  -- there is memory for what is there and what is spare
+  pub spare_held : (store : Store T) (index : HashPairs) → PairsOccupied store index.pairs → spare_in store index + length (items_in store) ≤ store.capacity
+  spare_held store index paired = omega (arith, least_held index.spare store.capacity store.limit (store_len store) paired.in_memory, length-items store.slots)
 
 module _ {S T K : Type 0} (key : T → K) (eq : K → K → Bool) (input : K → HashWrites) (hash : S → HashWrites → ℕ) (hasher : S) where
   abbrev tell : T → ℕ

@@ -80,7 +80,8 @@ impl<T, S> IdHashMap<T, S> {
     /// How many items fit before the store needs memory.
     #[inline]
     pub fn capacity(&self) -> usize
-        ensures { result ≡ self.now.capacity }
+        ensures number { result ≡ self.now.capacity }
+        ensures holds { self.now.spare + length self.now.items ≤ result }
     {
         self.store.capacity()
     }

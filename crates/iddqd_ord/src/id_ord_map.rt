@@ -69,7 +69,8 @@ impl<T> IdOrdMap<T> {
     /// How many items fit before the store needs memory.
     #[inline]
     pub fn capacity(&self) -> usize
-        ensures { result ≡ self.now.capacity }
+        ensures number { result ≡ self.now.capacity }
+        ensures holds { length self.now.items ≤ result }
     {
         self.store.capacity()
     }
