@@ -33,6 +33,7 @@ pub(super) fn reserve_one<T>(
     index: &mut HashIndex,
 ) -> Result<(), TryReserveError>
     requires paired { PairsOccupied store.old index.old.pairs }
+    ensures paired { PairsOccupied store.new index.new.pairs }
     ensures below_limit { OnOk result (length index.old.pairs < store.old.limit) }
     ensures room { OnOk result (HasRoomFor store.new 1) }
     ensures listable { OnOk result (0 < index.new.spare) }

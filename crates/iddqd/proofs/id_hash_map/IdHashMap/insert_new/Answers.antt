@@ -8,21 +8,8 @@ use Rattle.iddqd.specs.HashItems.{Keyed}
 use Rattle.iddqd.specs.HashMap.{HashInserts, HashKeeps}
 use Rattle.iddqd.specs.Paired.{items_in, shown}
 use Rattle.iddqd.proofs.MapLemmas.{inserted_after, map_inserted, map_kept}
-use Rattle.iddqd.proofs.PairedLemmas.{paired_grown}
 use Rattle.iddqd.proofs.SlotItemLemmas.{length-items}
 use Rattle.iddqd.proofs.id_hash_map.IdHashMap.insert_new.Goals as goal
-
-pub invariant_of-self : goal.invariant_of-self
-invariant_of-self g c =
-    let m = c.self.inside in
-    let room = c.reserve_one.new in
-    paired_grown m.store room.store m.index.pairs room.index.pairs c.self.invariant c.reserve_one.ensures.store c.reserve_one.ensures.capacity c.reserve_one.ensures.pairs
-
-pub put_in-requires-clause-paired : goal.put_in-requires-clause-paired
-put_in-requires-clause-paired g c =
-    let m = c.self.inside in
-    let room = c.reserve_one.new in
-    paired_grown m.store room.store m.index.pairs room.index.pairs c.self.invariant c.reserve_one.ensures.store c.reserve_one.ensures.capacity c.reserve_one.ensures.pairs
 
 pub returns-in-Err-clause-kind : goal.returns-in-Err-clause-kind
 returns-in-Err-clause-kind g c =
@@ -41,7 +28,7 @@ returns-in-Err-clause-kept g c =
     let room = c.reserve_one.new in
     let keyed = subst (Keyed key eq input hash) (sym c.self.view_is) c.requires.keyed in
     subst (λ old. HashKeeps (Keyed key eq input hash) old (shown room.store room.index m.hasher)) c.self.view_is
-    (map_kept key eq input hash m.hasher m.store room.store m.index room.index c.self.invariant (invariant_of-self g c) keyed c.reserve_one.ensures.store c.reserve_one.ensures.capacity c.reserve_one.ensures.pairs c.reserve_one.ensures.spare)
+    (map_kept key eq input hash m.hasher m.store room.store m.index room.index c.self.invariant c.reserve_one.ensures.paired keyed c.reserve_one.ensures.store c.reserve_one.ensures.capacity c.reserve_one.ensures.pairs c.reserve_one.ensures.spare)
 
 pub returns-clause-inserted : goal.returns-clause-inserted
 returns-clause-inserted g c =
@@ -54,13 +41,12 @@ returns-clause-inserted g c =
     let put = c.put_in in
     let x = c.args.item in
     let keyed = subst (Keyed key eq input hash) (sym c.self.view_is) c.requires.keyed in
-    let grown = paired_grown m.store room.store m.index.pairs room.index.pairs c.self.invariant c.reserve_one.ensures.store c.reserve_one.ensures.capacity c.reserve_one.ensures.pairs in
-    let kept = map_kept key eq input hash m.hasher m.store room.store m.index room.index c.self.invariant grown keyed c.reserve_one.ensures.store c.reserve_one.ensures.capacity c.reserve_one.ensures.pairs c.reserve_one.ensures.spare in
+    let kept = map_kept key eq input hash m.hasher m.store room.store m.index room.index c.self.invariant c.reserve_one.ensures.paired keyed c.reserve_one.ensures.store c.reserve_one.ensures.capacity c.reserve_one.ensures.pairs c.reserve_one.ensures.spare in
     let absent = subst (λ v. IsAbsent key (eq (key x)) v.items) (sym c.self.view_is) c.requires.absent in
     let told = c.requires.hash ∙ ap (λ v. hash v.hasher (input (key x))) (sym c.self.view_is) in
     let below : length (items_in m.store) < m.store.limit = omega (arith, c.in_default.ensures.below_limit, c.self.invariant.counted, length-items m.store.slots) in
     let room_left : length (items_in room.store) < room.store.limit = omega (arith, below, ap length kept.keeps.items, kept.keeps.limit) in
-    let inserted = map_inserted key eq input hash m.hasher room.store put.new.store room.index put.new.index grown put.ensures.paired g.met.T.Key.Eq.laws kept.keyed x put.result
+    let inserted = map_inserted key eq input hash m.hasher room.store put.new.store room.index put.new.index c.reserve_one.ensures.paired put.ensures.paired g.met.T.Key.Eq.laws kept.keyed x put.result
     (subst (IsAbsent key (eq (key x))) (sym kept.keeps.items) absent)
     room_left
     (subst (λ h. HasOneMore room.index.pairs put.new.index.pairs (h, put.result)) told put.ensures.pairs)
