@@ -1,22 +1,23 @@
 -- What the map answers is what the entries answer that its items are seen as, in the order of their names.
-use Rattle.std.proofs.Common.{◌≡◌, ℕ, ◌<◌, [], Bor, true, false, List, length, Option, Some, None, IsPermutation, sym, refl, ap, ◌∙◌, subst, ◌++◌, eq-eqb, arith}
+use Rattle.std.proofs.Common.{◌≡◌, ℕ, ◌<◌, [], Bor, Bool, true, false, cond, eqb, List, length, Option, Some, None, IsPermutation, sym, refl, ap, ◌∙◌, subst, ◌++◌, eq-eqb, arith}
 use Rattle.std.specs.Prelude.{string_bytes, bytes_eq, codes, decimal}
 use Rattle.std.specs.Cmp.Lexicographic.{bytes_decides, nat_list_cmp_total, nat_list_eq_equiv, texts_ties}
-use Rattle.std.specs.Option.{option_map}
-use Rattle.std.proofs.lemmas.Bool.{ne_eqb}
+use Rattle.std.specs.Option.{option_map, option_map_or}
+use Rattle.std.proofs.lemmas.Bool.{ne_eqb, eqb-true}
 use Rattle.std.proofs.lemmas.List.{length-map}
 use Rattle.std.proofs.lemmas.List.Sorted.{length_permutation, IsPermutation-refl}
 use Rattle.std.specs.List.Sorted.{IsStrictlySortedBy}
 use Rattle.std.proofs.Common.{String, Global}
 use Rattle.iddqd_run.specs.Answer as answer
-use Rattle.iddqd_run.specs.Answer.{name_of, name_cmp, entry_named, is_full}
+use Rattle.iddqd_run.specs.Answer.{name_of, name_cmp, entry_named, is_full, RefusedLeaves}
 use Rattle.iddqd.specs.Contents.{AddsItem, find_item, without, replaced, placed}
-use Rattle.iddqd_run.specs.Lines.{Add, Put, Get, Del, Len}
-use Rattle.iddqd_run.specs.Shown.{entry_of, entries_of, AnswersPlainly, AnswersRequest, ShowsEntries}
+use Rattle.iddqd_run.specs.Lines.{Request, Add, Put, Get, Del, Len}
+use Rattle.iddqd_run.specs.Shown.{entry_of, entries_of, AnswersRequest, ShowsEntries, no_room_reply}
 use Rattle.iddqd.specs.Holding.{max_items}
+use Rattle.iddqd_run.specs.declared.arguments.Kind.{Kind}
 use Rattle.iddqd_run.specs.declared.entries.Entry.{Entry}
 use Rattle.iddqd_run.specs.declared.entries.LineReply.{LineReply}
-use Rattle.iddqd_run.specs.declared.entries.LineReply.TheVariants.{Added, Duplicate, New, Replaced, Found, Removed, Absent, Length, RefusedCapacity}
+use Rattle.iddqd_run.specs.declared.entries.LineReply.TheVariants.{Added, Duplicate, New, Replaced, Found, Removed, Absent, Length, RefusedCapacity, RefusedMemory}
 use Rattle.iddqd.proofs.MappedLemmas.{find_item-map, insert-map, without-map, replaced-map}
 use Rattle.iddqd_run.proofs.NameOrderLemmas.{AreInOrder, found_in_order, placed_in_order, replaced_in_order, without_in_order}
 
@@ -62,92 +63,114 @@ module _ (name : List ℕ) (items : List Entry) (entries : List answer.Entry) (s
       (subst (λ es. InOrder es (without name_of (bytes_eq name) entries)) (sym (ap entries_of e ∙ without-map entry_of name_of (bytes_eq name) items))
       (without_in_order name_of nat_list_eq_equiv nat_list_cmp_total texts_ties (bytes_eq name) (entries_of items) entries (order items entries shows)))
 
--- the replies to `get` and `del`
-abbrev found_reply : Option Entry → LineReply
-found_reply (Some entry) = Found entry.value
-found_reply None = Absent
+module _ (kind : Kind) where
+  -- what a line leaves that was refused memory, and leaves what was there
+  pub refused_answered : (request : Request) (items new : List Entry) → ((entries : List answer.Entry) → RefusedLeaves kind request entries entries) → new ≡ items → AnswersRequest kind request items RefusedMemory new
+  refused_answered request items new leaves stays = λ entries shows. record { left = entries; by_request = leaves entries; after = subst (λ is. ShowsEntries is entries) (sym stays) shows }
 
-abbrev removed_reply : Option Entry → LineReply
-removed_reply (Some entry) = Removed entry.value
-removed_reply None = Absent
+  -- what a line answers whose new entry finds no room, and leaves what was there
+  pub no_room_answered : (request : Request) (items new : List Entry) (reply : LineReply) → ((entries : List answer.Entry) → RefusedLeaves kind request entries entries) → (length items ≡ max_items → AnswersRequest kind request items RefusedCapacity new) → new ≡ items → reply ≡ no_room_reply items → AnswersRequest kind request items reply new
+  no_room_answered request items new reply leaves full stays is = subst (λ r. AnswersRequest kind request items r new) (sym is) (by (eqb (length items) max_items) refl)
+    where
+      by : (b : Bool) → eqb (length items) max_items ≡ b → AnswersRequest kind request items (cond b RefusedCapacity RefusedMemory) new
+      by true e = full (eqb-true (length items) max_items e)
+      by false e = refused_answered request items new leaves stays
 
-module _ (name : List ℕ) (items : List Entry) where
-  -- what `get` answers
-  pub get_answered : (o : Option Entry) → o ≡ find_item by_name (λ k. bytes_eq name (string_bytes k)) items → AnswersRequest (Get name) items (found_reply o) items
-  get_answered (Some y) e = λ entries shows. record { reply = rw (there_shown name items entries shows y (sym e)) refl; after = shows }
-  get_answered None e = λ entries shows. record { reply = rw (absent_shown name items entries shows (sym e)) refl; after = shows }
+  -- what `len` answers
+  pub len_answered : (items : List Entry) (n : ℕ) → n ≡ length items → AnswersRequest kind Len items (Length n) items
+  len_answered items n e = λ entries shows. record { text = ap decimal (e ∙ sym (length_shown items entries shows)); after = shows }
 
-  -- what `del` answers
-  pub delete_answered : (o : Option Entry) (new : List Entry) → o ≡ find_item by_name (λ k. bytes_eq name (string_bytes k)) items → new ≡ without by_name (λ k. bytes_eq name (string_bytes k)) items → AnswersRequest (Del name) items (removed_reply o) new
-  delete_answered (Some y) new e f = λ entries shows. record { reply = rw (there_shown name items entries shows y (sym e)) refl; after = without_shown name items entries shows new f }
-  delete_answered None new e f = λ entries shows. record { reply = rw (absent_shown name items entries shows (sym e)) refl; after = without_shown name items entries shows new f }
+  module _ (name : List ℕ) (items : List Entry) where
+    abbrev named : Option Entry
+    named = find_item by_name (λ k. bytes_eq name (string_bytes k)) items
 
--- what `len` answers
-pub len_answered : (items : List Entry) (n : ℕ) → n ≡ length items → AnswersRequest Len items (Length n) items
-len_answered items n e = λ entries shows. record { reply = ap decimal (e ∙ sym (length_shown items entries shows)); after = shows }
+    -- what `get` answers
+    pub get_found : (y : Entry) → Some y ≡ named → AnswersRequest kind (Get name) items (Found y.value) items
+    get_found y e = λ entries shows. record { text = rw (there_shown name items entries shows y (sym e)) refl; after = shows }
+
+    pub get_absent : None ≡ named → AnswersRequest kind (Get name) items Absent items
+    get_absent e = λ entries shows. record { text = rw (absent_shown name items entries shows (sym e)) refl; after = shows }
+
+    -- what `del` answers
+    module _ (new : List Entry) (taken : new ≡ without by_name (λ k. bytes_eq name (string_bytes k)) items) where
+      pub delete_found : (y : Entry) → Some y ≡ named → AnswersRequest kind (Del name) items (Removed y.value) new
+      delete_found y e = λ entries shows. record { text = rw (there_shown name items entries shows y (sym e)) refl; after = without_shown name items entries shows new taken }
+
+      pub delete_absent : None ≡ named → AnswersRequest kind (Del name) items Absent new
+      delete_absent e = λ entries shows. record { text = rw (absent_shown name items entries shows (sym e)) refl; after = without_shown name items entries shows new taken }
 
 -- x is an entry of the name
-module _ (x : Entry) (items : List Entry) (name : List ℕ) (same : string_bytes x.name ≡ name) (entries : List answer.Entry) (shows : ShowsEntries items entries) where
+module _ (kind : Kind) (x : Entry) (items : List Entry) (name : List ℕ) (same : string_bytes x.name ≡ name) (new : List Entry) where
   abbrev akin : Option Entry
   akin = find_item by_name (λ k. bytes_eq (string_bytes x.name) (string_bytes k)) items
 
-  none_named : akin ≡ None → entry_named name entries ≡ None
-  none_named absent = subst (λ n. entry_named n entries ≡ None) same (absent_shown (string_bytes x.name) items entries shows absent)
+  -- where none of the name is there, `add` and `put` ask whether there is room
+  module _ (absent : akin ≡ None) (entries : List answer.Entry) (shows : ShowsEntries items entries) where
+    none_named : entry_named name entries ≡ None
+    none_named = subst (λ n. entry_named n entries ≡ None) same (absent_shown (string_bytes x.name) items entries shows absent)
 
-  one_named : (y : Entry) → akin ≡ Some y → entry_named name entries ≡ Some (entry_of y)
-  one_named y there = subst (λ n. entry_named n entries ≡ Some (entry_of y)) same (there_shown (string_bytes x.name) items entries shows y there)
+    asks_room : {A : Type 0} (on_old : answer.Entry → A) (full made : A) (b : Bool) → is_full entries ≡ b → option_map_or on_old (entry_named name entries) (cond (is_full entries) full made) ≡ cond b full made
+    asks_room on_old full made b e = rw none_named (rw e refl)
 
-  has_room : length items < max_items → is_full entries ≡ false
-  has_room few = ne_eqb (length entries) max_items (λ e. omega (arith, few, e, length_shown items entries shows))
+    has_room : length items < max_items → is_full entries ≡ false
+    has_room few = ne_eqb (length entries) max_items (λ e. omega (arith, few, e, length_shown items entries shows))
 
-  has_no_room : length items ≡ max_items → is_full entries ≡ true
-  has_no_room full = eq-eqb (length entries) max_items (length_shown items entries shows ∙ full)
+    has_no_room : length items ≡ max_items → is_full entries ≡ true
+    has_no_room full = eq-eqb (length entries) max_items (length_shown items entries shows ∙ full)
 
-  placed_shown : (new : List Entry) → AddsItem x items new → akin ≡ None → ShowsEntries new (placed name_of name_cmp (name, x.value) entries)
-  placed_shown new adds absent =
-      let adds_entry : AddsItem (entry_of x) (entries_of items) (entries_of new) = record {
-        place = adds.place;
-        within = omega (arith, adds.within, length-map items entry_of);
-        put = ap entries_of adds.put ∙ insert-map entry_of items adds.place x;
-      } in
-      subst (λ n. ShowsEntries new (placed name_of name_cmp (n, x.value) entries)) same
-      (shown_by new _ (placed_in_order name_of nat_list_eq_equiv nat_list_cmp_total texts_ties (entry_of x) (entries_of items) (entries_of new) entries adds_entry (absent_shown (string_bytes x.name) items entries shows absent) (order items entries shows)))
+    placed_shown : AddsItem x items new → ShowsEntries new (placed name_of name_cmp (name, x.value) entries)
+    placed_shown adds =
+        let adds_entry : AddsItem (entry_of x) (entries_of items) (entries_of new) = record {
+          place = adds.place;
+          within = omega (arith, adds.within, length-map items entry_of);
+          put = ap entries_of adds.put ∙ insert-map entry_of items adds.place x;
+        } in
+        subst (λ n. ShowsEntries new (placed name_of name_cmp (n, x.value) entries)) same
+        (shown_by new _ (placed_in_order name_of nat_list_eq_equiv nat_list_cmp_total texts_ties (entry_of x) (entries_of items) (entries_of new) entries adds_entry (absent_shown (string_bytes x.name) items entries shows absent) (order items entries shows)))
 
-  module _ (new : List Entry) where
-    pub added_plainly : akin ≡ None → length items < max_items → AddsItem x items new → AnswersPlainly (Add name x.value) entries Added new
-    added_plainly absent few added = record {
-      reply = rw (none_named absent) (rw (has_room few) refl);
-      after = rw (none_named absent) (rw (has_room few) (placed_shown new added absent));
+  module _ (absent : akin ≡ None) where
+    -- a new entry
+    module _ (few : length items < max_items) (adds : AddsItem x items new) where
+      pub added_answered : AnswersRequest kind (Add name x.value) items Added new
+      added_answered = λ entries shows. let room = has_room absent entries shows few in record {
+        text = sym (asks_room absent entries shows _ _ _ false room);
+        after = subst (ShowsEntries new) (sym (asks_room absent entries shows _ _ _ false room)) (placed_shown absent entries shows adds);
+      }
+
+      pub new_answered : AnswersRequest kind (Put name x.value) items New new
+      new_answered = λ entries shows. let room = has_room absent entries shows few in record {
+        text = sym (asks_room absent entries shows _ _ _ false room);
+        after = subst (ShowsEntries new) (sym (asks_room absent entries shows _ _ _ false room)) (placed_shown absent entries shows adds);
+      }
+
+    -- a full map
+    module _ (full : length items ≡ max_items) (stays : new ≡ items) where
+      pub full_add : AnswersRequest kind (Add name x.value) items RefusedCapacity new
+      full_add = λ entries shows. let none = has_no_room absent entries shows full in record {
+        text = sym (asks_room absent entries shows _ _ _ true none);
+        after = subst (ShowsEntries new) (sym (asks_room absent entries shows _ _ _ true none)) (subst (λ is. ShowsEntries is entries) (sym stays) shows);
+      }
+
+      pub full_put : AnswersRequest kind (Put name x.value) items RefusedCapacity new
+      full_put = λ entries shows. let none = has_no_room absent entries shows full in record {
+        text = sym (asks_room absent entries shows _ _ _ true none);
+        after = subst (ShowsEntries new) (sym (asks_room absent entries shows _ _ _ true none)) (subst (λ is. ShowsEntries is entries) (sym stays) shows);
+      }
+
+  module _ (y : Entry) (there : akin ≡ Some y) where
+    one_named : (entries : List answer.Entry) → ShowsEntries items entries → entry_named name entries ≡ Some (entry_of y)
+    one_named entries shows = subst (λ n. entry_named n entries ≡ Some (entry_of y)) same (there_shown (string_bytes x.name) items entries shows y there)
+
+    pub duplicate_answered : (shown : Bor (List ℕ)) (value : ℕ) → shown.now ≡ name → value ≡ y.value → new ≡ items → AnswersRequest kind (Add name x.value) items (Duplicate shown value) new
+    duplicate_answered shown value e old_value stays = λ entries shows. record {
+      text = rw (one_named entries shows) (ap (λ n. codes "duplicate " ++ n ++ codes " " ++ decimal value) e ∙ ap (λ v. codes "duplicate " ++ name ++ codes " " ++ decimal v) old_value);
+      after = rw (one_named entries shows) (subst (λ is. ShowsEntries is entries) (sym stays) shows);
     }
 
-    pub new_plainly : akin ≡ None → length items < max_items → AddsItem x items new → AnswersPlainly (Put name x.value) entries New new
-    new_plainly absent few added = record {
-      reply = rw (none_named absent) (rw (has_room few) refl);
-      after = rw (none_named absent) (rw (has_room few) (placed_shown new added absent));
-    }
-
-    pub duplicate_plainly : (y : Entry) (shown : Bor (List ℕ)) (value : ℕ) → shown.now ≡ name → value ≡ y.value → akin ≡ Some y → new ≡ items → AnswersPlainly (Add name x.value) entries (Duplicate shown value) new
-    duplicate_plainly y shown value e old_value there stays = record {
-      reply = rw (one_named y there) (ap (λ n. codes "duplicate " ++ n ++ codes " " ++ decimal value) e ∙ ap (λ v. codes "duplicate " ++ name ++ codes " " ++ decimal v) old_value);
-      after = rw (one_named y there) (subst (λ is. ShowsEntries is entries) (sym stays) shows);
-    }
-
-    pub replaced_plainly : (y : Entry) → akin ≡ Some y → new ≡ replaced by_name (λ k. bytes_eq (string_bytes x.name) (string_bytes k)) x items → AnswersPlainly (Put name x.value) entries (Replaced y.value) new
-    replaced_plainly y there after = record {
-      reply = rw (one_named y there) refl;
-      after = rw (one_named y there) (subst (λ n. ShowsEntries new (replaced name_of (bytes_eq n) (n, x.value) entries)) same
+    pub replaced_answered : new ≡ replaced by_name (λ k. bytes_eq (string_bytes x.name) (string_bytes k)) x items → AnswersRequest kind (Put name x.value) items (Replaced y.value) new
+    replaced_answered after = λ entries shows. record {
+      text = rw (one_named entries shows) refl;
+      after = rw (one_named entries shows) (subst (λ n. ShowsEntries new (replaced name_of (bytes_eq n) (n, x.value) entries)) same
           (shown_by new _ (subst (λ es. InOrder es (replaced name_of (bytes_eq (string_bytes x.name)) (entry_of x) entries)) (sym (ap entries_of after ∙ replaced-map entry_of name_of (bytes_eq (string_bytes x.name)) x items))
           (replaced_in_order name_of nat_list_eq_equiv nat_list_cmp_total texts_ties (entry_of x) (λ k alike. (bytes_decides (string_bytes x.name) k).0 alike) (entries_of items) entries (order items entries shows)))));
-    }
-
-    pub full_add : akin ≡ None → length items ≡ max_items → new ≡ items → AnswersPlainly (Add name x.value) entries RefusedCapacity new
-    full_add absent full stays = record {
-      reply = rw (none_named absent) (rw (has_no_room full) refl);
-      after = rw (none_named absent) (rw (has_no_room full) (subst (λ is. ShowsEntries is entries) (sym stays) shows));
-    }
-
-    pub full_put : akin ≡ None → length items ≡ max_items → new ≡ items → AnswersPlainly (Put name x.value) entries RefusedCapacity new
-    full_put absent full stays = record {
-      reply = rw (none_named absent) (rw (has_no_room full) refl);
-      after = rw (none_named absent) (rw (has_no_room full) (subst (λ is. ShowsEntries is entries) (sym stays) shows));
     }

@@ -7,19 +7,13 @@ use Rattle.iddqd.specs.Contents.{NoTwoAkin}
 use Rattle.iddqd_run.specs.Step.{MapState, SpareRule, Run}
 use Rattle.iddqd_run.specs.declared.commands.Command.{Command}
 use Rattle.iddqd_run.specs.declared.commands.Reply.{Reply}
-use Rattle.iddqd_run.specs.declared.commands.Reply.TheVariants.{Inserted, Duplicate, Replaced, Found, Removed, Absent, Done, Length, Refused}
+use Rattle.iddqd_run.specs.declared.commands.Reply.TheVariants.{Duplicate, Refused}
 
 -- neither room for an item nor memory for a clone was refused
 abbrev pub IsUnrefused : {T : Type 0} → Reply T → Type 0
 IsUnrefused (Refused back kind) = ⊥
 IsUnrefused (Duplicate back existing) = IsSome existing
-IsUnrefused Inserted = ⊤
-IsUnrefused (Replaced y) = ⊤
-IsUnrefused (Found y) = ⊤
-IsUnrefused (Removed y) = ⊤
-IsUnrefused Absent = ⊤
-IsUnrefused Done = ⊤
-IsUnrefused (Length n) = ⊤
+IsUnrefused _ = ⊤
 
 module _ {T K : Type 0} (key : T → K) (eq : K → K → Bool) where
   -- two maps hold the same items, each in an order of its own, and no two of them are akin

@@ -1,8 +1,11 @@
 -- What the program's own types for an entry and a reply stand for.
-use Rattle.std.specs.Prelude.{◌≡◌, ℕ, List, map, ◌++◌, IsPermutation, decimal, codes, string_bytes}
+use Rattle.std.specs.Prelude.{◌≡◌, ℕ, Bool, List, length, map, ◌++◌, ◌==◌, if◌then◌else◌, IsPermutation, decimal, codes, bytes_eq, string_bytes, String}
+use Rattle.std.specs.Global.{Global}
 use Rattle.iddqd_run.specs.Answer as answer
 use Rattle.iddqd.specs.Contents.{Ascends}
+use Rattle.iddqd.specs.Holding.{max_items}
 use Rattle.iddqd_run.specs.Lines.{Request}
+use Rattle.iddqd_run.specs.declared.arguments.Kind.{Kind}
 use Rattle.iddqd_run.specs.declared.entries.Entry.{Entry}
 use Rattle.iddqd_run.specs.declared.entries.LineReply.{LineReply}
 use Rattle.iddqd_run.specs.declared.entries.LineReply.TheVariants.{Added, Duplicate, New, Replaced, Found, Removed, Absent, Length, Bad, RefusedCapacity, RefusedMemory}
@@ -27,6 +30,10 @@ shown Bad = codes "bad"
 shown RefusedCapacity = codes "refused capacity"
 shown RefusedMemory = codes "refused memory"
 
+-- the reply to a line whose new entry finds no room among these
+abbrev pub no_room_reply : {T : Type 0} → List T → LineReply
+no_room_reply items = if length items == max_items then RefusedCapacity else RefusedMemory
+
 -- how many refusals for want of memory a reply is
 abbrev pub refusals_of : LineReply → ℕ
 refusals_of RefusedMemory = 1
@@ -37,12 +44,29 @@ pub record ShowsEntries (items : List Entry) (entries : List answer.Entry) : Typ
   pub same : IsPermutation (entries_of items) entries
   pub ascending : Ascends answer.name_of answer.name_cmp entries
 
--- the reply and the entries then, where memory was there
-pub record AnswersPlainly (request : Request) (entries : List answer.Entry) (answered : LineReply) (new : List Entry) : Type 0 where
-  pub reply : shown answered ≡ answer.line_reply request entries
-  pub after : ShowsEntries new (answer.entries_after request entries)
+-- a map of entries as lines ask it: keyed by the names, looked up by their texts, under no smaller limit
+pub record IsTable {M : Type 0} (key : Entry → String Global) (is_text : List ℕ → String Global → Bool) (IsKeyed : M → Type 0) (limit_of : M → ℕ) (map : M) : Type 0 where
+  pub names : key ≡ (λ entry. entry.name)
+  pub texts : is_text ≡ (λ name k. bytes_eq name (string_bytes k))
+  pub keyed : IsKeyed map
+  pub limit : limit_of map ≡ max_items
 
--- only a line that makes an item is refused for want of memory, and then nothing has changed
-abbrev pub AnswersRequest : Request → List Entry → LineReply → List Entry → Type 0
-AnswersRequest request old RefusedMemory new = answer.TakesMemory request × (new ≡ old)
-AnswersRequest request old reply new = (entries : List answer.Entry) → ShowsEntries old entries → AnswersPlainly request entries reply new
+module _ (kind : Kind) (request : Request) where
+  -- the reply and the entries then, where memory was there
+  pub record AnswersPlainly (entries : List answer.Entry) (reply : LineReply) (new : List Entry) : Type 0 where
+    pub text : shown reply ≡ answer.line_reply kind request entries
+    pub after : ShowsEntries new (answer.entries_after kind request entries)
+
+  -- what is left where memory was refused
+  pub record LeavesRefused (entries : List answer.Entry) (new : List Entry) : Type 0 where
+    pub left : List answer.Entry
+    pub by_request : answer.RefusedLeaves kind request entries left
+    pub after : ShowsEntries new left
+
+  abbrev pub AnswersFrom : List answer.Entry → LineReply → List Entry → Type 0
+  AnswersFrom entries RefusedMemory new = LeavesRefused entries new
+  AnswersFrom entries reply new = AnswersPlainly entries reply new
+
+  -- the reply, and the items then, of a map that held the old ones
+  abbrev pub AnswersRequest : List Entry → LineReply → List Entry → Type 0
+  AnswersRequest old reply new = (entries : List answer.Entry) → ShowsEntries old entries → AnswersFrom entries reply new

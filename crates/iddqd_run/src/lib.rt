@@ -8,6 +8,7 @@ mod entries;
 mod keyed_map;
 pub mod laws;
 mod lines;
+mod requests;
 mod running;
 mod serving;
 mod table;

@@ -4,7 +4,8 @@ ghost use Rattle.iddqd.specs.Contents.{ClonesAreEqual};
 ghost use Rattle.iddqd.specs.Errors.{listed};
 ghost use Rattle.iddqd.specs.Refusal.{IsLent};
 ghost use Rattle.iddqd_run.specs.KeyedMap.{StaysKeyed};
-ghost use Rattle.iddqd_run.specs.Step.{AnswersInsertUnique, AnswersInsertOverwrite, AnswersGet, KeepsRoom, Step, Run};
+ghost use Rattle.iddqd_run.specs.declared.commands.Command.TheVariants.{InsertUnique, InsertOverwrite, Get};
+ghost use Rattle.iddqd_run.specs.Step.{Answers, KeepsRoom, Step, Run};
 
 use crate::commands::{Command, Reply, RunStop};
 use crate::keyed_map::KeyedMap;
@@ -72,7 +73,7 @@ where
     M::Item: Clone,
     requires keyed { M.keyed map.old }
     requires clones { ClonesAreEqual M.Item.is_clone }
-    ensures answers { AnswersInsertUnique M.key M.Key.eq (M.limit map.old) item (M.state map.old) result (M.state map.new).items }
+    ensures answers { Answers M.key M.Key.eq (M.limit map.old) (InsertUnique item) (M.state map.old) result (M.state map.new).items }
     ensures stays { StaysKeyed M.state M.limit M.rule M.keyed map.old map.new }
 {
     match map.insert_unique(item) {
@@ -94,7 +95,7 @@ fn insert_overwrite<M: KeyedMap>(map: &mut M, item: M::Item) -> Reply<M::Item>
 where
     M::Item: Drop,
     requires keyed { M.keyed map.old }
-    ensures answers { AnswersInsertOverwrite M.key M.Key.eq (M.limit map.old) item (M.state map.old) result (M.state map.new).items }
+    ensures answers { Answers M.key M.Key.eq (M.limit map.old) (InsertOverwrite item) (M.state map.old) result (M.state map.new).items }
     ensures stays { StaysKeyed M.state M.limit M.rule M.keyed map.old map.new }
 {
     match map.insert_overwrite(item) {
@@ -122,7 +123,7 @@ where
     M::Item: Clone,
     requires keyed { M.keyed map.now }
     requires clones { ClonesAreEqual M.Item.is_clone }
-    ensures answers { AnswersGet M.key M.Key.eq (M.limit map.now) key.now (M.state map.now) result (M.state map.now).items }
+    ensures answers { Answers M.key M.Key.eq (M.limit map.now) (Get key.now) (M.state map.now) result (M.state map.now).items }
     ensures room { KeepsRoom M.rule (M.limit map.now) (M.state map.now) (M.state map.now) }
 {
     let Some(item) = map.get(key) else {

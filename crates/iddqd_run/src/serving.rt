@@ -41,7 +41,7 @@ pub fn serve<R: Read, W: Write>(
     reader: &mut R,
     writer: &mut W,
 ) -> Result<u64, Fault>
-    ensures answered { IfOk result (λ refusals. (input : List ℕ) × (text : List ℕ) × AnswersWithRefusals input refusals text × Consumes (R.remaining reader.old) (R.remaining reader.new) input × Appends (W.contents writer.old) (W.contents writer.new) text) }
+    ensures answered { IfOk result (λ refusals. (input : List ℕ) × (text : List ℕ) × AnswersWithRefusals kind input refusals text × Consumes (R.remaining reader.old) (R.remaining reader.new) input × Appends (W.contents writer.old) (W.contents writer.new) text) }
     ensures at_end { OnOk result (IsAtEnd (R.remaining reader.new)) }
     ensures unwritten { IfErr result (λ fault. fault ≢ Fault.Write → Keeps (W.contents writer.old) (W.contents writer.new)) }
 {

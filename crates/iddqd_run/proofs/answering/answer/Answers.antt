@@ -12,49 +12,51 @@ joined : (front reply text : List ℕ) → front ++ (reply ++ 10 ∷ text) ≡ (
 joined front reply text = sym (append_assoc front (reply ++ 10 ∷ []) text ∙ ap (λ bs. front ++ bs) (append_assoc reply (10 ∷ []) text))
 
 pub loop-rest-init : goal.loop-rest-init
-loop-rest-init g c = record {
+loop-rest-init g c = let kind = g.M.Table.kind in record {
   entries = [];
-  shows = nothing_shown (g.M.Table.items c.args.map) c.requires.empty;
-  replied = λ more text later. subst (λ bytes. RepliesWithRefusals (lines_of c.args.input.now) [] (0 + more) (bytes ++ text)) (sym c.new-text.ensures.bytes) (subst (λ n. RepliesWithRefusals (lines_of c.args.input.now) [] n text) (sym (zero-add more)) later);
-  sound = c.requires.sound;
+  shows = nothing_shown (g.M.KeyedMap.state c.args.map).items c.requires.empty;
+  replied = λ more text later. subst (λ bytes. RepliesWithRefusals kind (lines_of c.args.input.now) [] (0 + more) (bytes ++ text)) (sym c.new-text.ensures.bytes) (subst (λ n. RepliesWithRefusals kind (lines_of c.args.input.now) [] n text) (sym (zero-add more)) later);
+  table = c.requires.table;
   counted = omega arith;
 }
 
 pub loop-rest-preserved : goal.loop-rest-preserved
 loop-rest-preserved g c =
+    let kind = g.M.Table.kind in
     let kept = c.loop-rest.invariant in
     let line = c.first_line.result.0.now in
     let after = c.first_line.result.1.now in
     let reply = c.reply-reply.result in
-    let old = g.M.Table.items c.loop-rest.map in
-    let new = g.M.Table.items c.reply-reply.new.map in
+    let old = (g.M.KeyedMap.state c.loop-rest.map).items in
+    let new = (g.M.KeyedMap.state c.reply-reply.new.map).items in
     let input = c.args.input.now in
     let front = string_bytes c.loop-rest.text in
-    let answered = subst (λ request. AnswersRequest request old reply new) c.parse.ensures c.reply-reply.ensures.answered in
-    let step = line_step line (lines_of after) old new kept.entries kept.shows reply answered in
+    let answered = subst (λ request. AnswersRequest kind request old reply new) c.parse.ensures c.reply-reply.ensures.answered in
+    let step = line_step kind line (lines_of after) old new kept.entries kept.shows reply answered in
     record {
       entries = step.after;
       shows = step.is;
       replied = λ more text later.
-          let here = subst (λ lines. RepliesWithRefusals lines kept.entries (refusals_of reply + more) (shown reply ++ 10 ∷ text)) (sym c.first_line.ensures.lines) (step.step more text later) in
+          let here = subst (λ lines. RepliesWithRefusals kind lines kept.entries (refusals_of reply + more) (shown reply ++ 10 ∷ text)) (sym c.first_line.ensures.lines) (step.step more text later) in
           let all = kept.replied (refusals_of reply + more) (shown reply ++ 10 ∷ text) here in
           let count : c.loop-rest.refusals + (refusals_of reply + more) ≡ c.loop-rest.refusals + c.refusals-refusals.result + more = omega (arith, c.refusals-refusals.ensures) in
           let bytes : front ++ (shown reply ++ 10 ∷ text) ≡ string_bytes c.writeln.new.self ++ text = joined front (shown reply) text ∙ ap (λ bs. bs ++ text) (sym c.in_ok-writeln.ensures.bytes) in
-          subst (λ n. RepliesWithRefusals (lines_of input) [] n (string_bytes c.writeln.new.self ++ text)) count (subst (λ bs. RepliesWithRefusals (lines_of input) [] (c.loop-rest.refusals + (refusals_of reply + more)) bs) bytes all);
-      sound = c.reply-reply.ensures.sound;
+          subst (λ n. RepliesWithRefusals kind (lines_of input) [] n (string_bytes c.writeln.new.self ++ text)) count (subst (λ bs. RepliesWithRefusals kind (lines_of input) [] (c.loop-rest.refusals + (refusals_of reply + more)) bs) bytes all);
+      table = c.reply-reply.ensures.table;
       counted = omega (arith, kept.counted, c.first_line.ensures.shorter, c.refusals-refusals.ensures, refusals_of-le reply);
     }
 
 pub returns : goal.returns
 returns g c =
+    let kind = g.M.Table.kind in
     let kept = c.loop-rest.invariant in
     let input = c.args.input.now in
     let text = string_bytes c.loop-rest.text in
     let empty : c.loop-rest.rest.now ≡ [] = nil_from_length c.loop-rest.rest.now (eqb-true (length c.loop-rest.rest.now) 0 (sym c.loop-rest-test.ensures)) in
-    let nothing : RepliesWithRefusals (lines_of c.loop-rest.rest.now) kept.entries 0 [] = subst (λ rest. RepliesWithRefusals (lines_of rest) kept.entries 0 []) (sym empty) (refl, refl) in
+    let nothing : RepliesWithRefusals kind (lines_of c.loop-rest.rest.now) kept.entries 0 [] = subst (λ rest. RepliesWithRefusals kind (lines_of rest) kept.entries 0 []) (sym empty) (refl, refl) in
     let count : c.loop-rest.refusals + 0 ≡ c.loop-rest.refusals = omega arith in
-    let replied = subst (λ n. RepliesWithRefusals (lines_of input) [] n text) count (subst (λ bs. RepliesWithRefusals (lines_of input) [] (c.loop-rest.refusals + 0) bs) (append-nil text) (kept.replied 0 [] nothing)) in
+    let replied = subst (λ n. RepliesWithRefusals kind (lines_of input) [] n text) count (subst (λ bs. RepliesWithRefusals kind (lines_of input) [] (c.loop-rest.refusals + 0) bs) (append-nil text) (kept.replied 0 [] nothing)) in
     record {
       replied = replied;
-      whole = λ none. plain_replies (lines_of input) [] text (subst (λ n. RepliesWithRefusals (lines_of input) [] n text) none replied);
+      whole = λ none. plain_replies kind (lines_of input) [] text (subst (λ n. RepliesWithRefusals kind (lines_of input) [] n text) none replied);
     }

@@ -1,6 +1,6 @@
 //! Insertions that are refused, and lookups that need no memory, on both maps.
 use super::{arm, is_met};
-use crate::entries::{Entry, LineReply};
+use crate::entries::Entry;
 use crate::table::Table;
 use crate::{IdHashMap, IdOrdMap, InsertError, KeyedMap, Refused};
 use std::alloc::{AllocError, Global};
@@ -164,22 +164,25 @@ fn hash_insert_overwrite(rt: HostRuntime) -> Result<(), Fail> {
 }
 
 // Fills the map with a hundred names, and then finds and takes out each by its text: whether that went well, and met a request.
-fn lookups<M: Table>(alloc: Global, map: &mut M) -> Result<(bool, bool), Fail>
-    requires { M.sound map.old }
+fn lookups<M: Table<Item = Entry, Key = String>>(
+    alloc: Global,
+    map: &mut M,
+) -> Result<(bool, bool), Fail>
+    requires { M.keyed map.old }
 {
     let names = names(alloc, 100)?;
     for name in names.as_slice() {
-        if !matches!(map.add(alloc, name.as_str(), 5), LineReply::Added) {
+        if insert(map, name.clone()?, 5) != Outcome::Inserted {
             return Err(Fail::from("a name is not in"));
         }
     }
     arm(alloc);
     let mut is_well = true;
     for name in names.as_slice() {
-        is_well = is_well && matches!(map.get(name.as_str()), LineReply::Found(5));
+        is_well = is_well && matches!(map.find(name.as_str()), Some(entry) if entry.value == 5);
     }
     for name in names.as_slice() {
-        is_well = is_well && matches!(map.delete(name.as_str()), LineReply::Removed(5));
+        is_well = is_well && matches!(map.take_out(name.as_str()), Some(entry) if entry.value == 5);
     }
     Ok((is_well && map.len() == 0, is_met(alloc)))
 }

@@ -13,7 +13,7 @@ returns g c = (
           stays = record {
             keyed = inserts.keyed;
             limit = inserts.takes.limit;
-            room = record { never_less = inserts.spare.never_less; in_limit = omega (arith, inserts.spare.in_limit, inserts.takes.limit) };
+            room = record { at_least = inserts.spare.never_less; in_limit = omega (arith, inserts.spare.in_limit, inserts.takes.limit) };
           };
         }),
     on_err_weaker c.insert_unique.result
@@ -23,7 +23,7 @@ returns g c = (
             stays = record {
               keyed = kept.0.keyed;
               limit = kept.0.keeps.limit;
-              room = record { never_less = kept.0.spare.never_less; in_limit = omega (arith, kept.0.spare.in_limit, kept.0.keeps.limit) };
+              room = record { at_least = kept.0.spare.never_less; in_limit = omega (arith, kept.0.spare.in_limit, kept.0.keeps.limit) };
             };
           },
           kept.1,

@@ -1,0 +1,137 @@
+//! What a line asks of a table, and its reply.
+ghost use Rattle.std.specs.Prelude.{◌≡◌, ◌≢◌, List, length, string_bytes};
+ghost use Rattle.iddqd.specs.Errors.{listed};
+ghost use Rattle.iddqd.specs.Refusal.{IsLent, refusal_kind};
+ghost use Rattle.iddqd_run.specs.Lines.{Add, Put, Get, Del, Len};
+ghost use Rattle.iddqd_run.specs.Shown.{AnswersRequest, IsTable, no_room_reply};
+ghost use Rattle.iddqd_run.specs.declared.entries.Entry.{Entry};
+ghost use Rattle.iddqd_run.specs.declared.entries.LineReply.TheVariants.{RefusedMemory};
+
+use crate::entries::{Entry, LineReply};
+use crate::table::Table;
+use iddqd::MAX_ITEMS;
+use iddqd::errors::{Few, InsertError, TryReserveError};
+use std::alloc::Global;
+
+/// `get`: looks the name up. It takes no memory.
+pub(crate) fn get<'a, M: Table<Item = Entry, Key = String>>(map: &M, name: &'a str) -> LineReply<'a>
+    requires table { IsTable M.key M.is_text M.keyed M.limit map.now }
+    ensures { AnswersRequest M.kind (Get name.now) (M.state map.now).items result (M.state map.now).items }
+{
+    match map.find(name) {
+        Some(entry) => LineReply::Found(entry.value),
+        None => LineReply::Absent,
+    }
+}
+
+/// `del`: takes out the entry of the name. It takes no memory.
+pub(crate) fn delete<'a, M: Table<Item = Entry, Key = String>>(
+    map: &mut M,
+    name: &'a str,
+) -> LineReply<'a>
+    requires table { IsTable M.key M.is_text M.keyed M.limit map.old }
+    ensures answered { AnswersRequest M.kind (Del name.now) (M.state map.old).items result (M.state map.new).items }
+    ensures table { IsTable M.key M.is_text M.keyed M.limit map.new }
+{
+    match map.take_out(name) {
+        Some(entry) => LineReply::Removed(entry.value),
+        None => LineReply::Absent,
+    }
+}
+
+/// `len`: how many entries there are.
+pub(crate) fn len<'a, M: Table<Item = Entry, Key = String>>(map: &M) -> LineReply<'a>
+    ensures { AnswersRequest M.kind Len (M.state map.now).items result (M.state map.now).items }
+{
+    LineReply::Length(map.len())
+}
+
+/// `add`: makes the entry, and then looks for its name.
+pub(crate) fn add<'a, M: Table<Item = Entry, Key = String>>(
+    alloc: Global,
+    map: &mut M,
+    name: &'a str,
+    value: u64,
+) -> LineReply<'a>
+    requires table { IsTable M.key M.is_text M.keyed M.limit map.old }
+    ensures answered { AnswersRequest M.kind (Add name.now value) (M.state map.old).items result (M.state map.new).items }
+    ensures table { IsTable M.key M.is_text M.keyed M.limit map.new }
+{
+    match String::from_str(alloc, name) {
+        Ok(copy) => add_entry(map, name, Entry { name: copy, value }),
+        Err(_) => LineReply::RefusedMemory,
+    }
+}
+
+// Puts the entry of this name in, where there is none and the map is not full.
+fn add_entry<'a, M: Table<Item = Entry, Key = String>>(
+    map: &mut M,
+    name: &'a str,
+    entry: Entry,
+) -> LineReply<'a>
+    requires table { IsTable M.key M.is_text M.keyed M.limit map.old }
+    requires name { string_bytes entry.name ≡ name.now }
+    ensures answered { AnswersRequest M.kind (Add name.now entry.value) (M.state map.old).items result (M.state map.new).items }
+    ensures not_full { result ≡ RefusedMemory → length (M.state map.old).items ≢ MAX_ITEMS }
+    ensures table { IsTable M.key M.is_text M.keyed M.limit map.new }
+{
+    match map.insert_unique(entry) {
+        Ok(()) => LineReply::Added,
+        Err(InsertError::Duplicate(duplicate)) => LineReply::Duplicate {
+            name,
+            value: value_of(duplicate.duplicates()),
+        },
+        Err(InsertError::Refused(refused)) => no_room(refused.error),
+    }
+}
+
+/// `put`: makes the entry, and then puts it in the place of the one of its name, if there is one.
+pub(crate) fn put<'a, M: Table<Item = Entry, Key = String>>(
+    alloc: Global,
+    map: &mut M,
+    name: &'a str,
+    value: u64,
+) -> LineReply<'a>
+    requires table { IsTable M.key M.is_text M.keyed M.limit map.old }
+    ensures answered { AnswersRequest M.kind (Put name.now value) (M.state map.old).items result (M.state map.new).items }
+    ensures table { IsTable M.key M.is_text M.keyed M.limit map.new }
+{
+    match String::from_str(alloc, name) {
+        Ok(copy) => put_entry(map, Entry { name: copy, value }),
+        Err(_) => LineReply::RefusedMemory,
+    }
+}
+
+// Puts the entry in the place of the one of its name, or in where there is none and the map is not full.
+fn put_entry<'a, M: Table<Item = Entry, Key = String>>(map: &mut M, entry: Entry) -> LineReply<'a>
+    requires table { IsTable M.key M.is_text M.keyed M.limit map.old }
+    ensures answered { AnswersRequest M.kind (Put (string_bytes entry.name) entry.value) (M.state map.old).items result (M.state map.new).items }
+    ensures not_full { result ≡ RefusedMemory → length (M.state map.old).items ≢ MAX_ITEMS }
+    ensures table { IsTable M.key M.is_text M.keyed M.limit map.new }
+{
+    match map.insert_overwrite(entry) {
+        Ok(Some(old)) => LineReply::Replaced(old.value),
+        Ok(None) => LineReply::New,
+        Err(refused) => no_room(refused.error),
+    }
+}
+
+// The reply where a new entry found no room.
+fn no_room<'a>(error: TryReserveError) -> LineReply<'a>
+    ensures { (items : List Entry) → error ≡ refusal_kind MAX_ITEMS items → result ≡ no_room_reply items }
+{
+    if error.is_capacity_overflow() {
+        LineReply::RefusedCapacity
+    } else {
+        LineReply::RefusedMemory
+    }
+}
+
+// The value of the one entry that is lent.
+fn value_of(shown: &Few<&Entry>) -> u64
+    ensures { (entry : _) → IsLent (listed shown.now) entry → result ≡ entry.value }
+{
+    match shown {
+        Few::One(entry) | Few::Two(entry, _) | Few::Three(entry, _, _) => entry.value,
+    }
+}
