@@ -4,9 +4,6 @@ ghost use Rattle.iddqd_store.specs.declared.errors.TryReserveErrorKind.TheVarian
 ghost use Rattle.iddqd_store.specs.Contents.{ClonesAreEqual};
 ghost use Rattle.iddqd_store.specs.Errors.{new_item_of, duplicates_of, listed};
 
-#[cfg(test)]
-mod tests;
-
 use std::alloc;
 use std::error::Error;
 use std::fmt::{self, Debug, Display, Formatter, Write};

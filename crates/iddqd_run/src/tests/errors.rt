@@ -25,3 +25,20 @@ fn error_texts(rt: HostRuntime) -> Result<(), Fail> {
     assert!(rt; full.is_capacity_overflow() && !no_memory.is_capacity_overflow());
     Ok(())
 }
+
+// Several duplicates are shown as a list.
+#[test]
+fn duplicates_in_a_list(rt: HostRuntime) -> Result<(), Fail> {
+    let alloc = rt.alloc();
+    let three = DuplicateItem::internal_new(5, Few::Three(5, 6, 7));
+    assert_eq!(rt;
+        three.to_string(alloc)?.as_str(),
+        "new item: 5 conflicts with existing: [5, 6, 7]"
+    );
+    let two = DuplicateItem::internal_new('n', Few::Two('a', 'b'));
+    assert_eq!(rt;
+        two.to_string(alloc)?.as_str(),
+        "new item: 'n' conflicts with existing: ['a', 'b']"
+    );
+    Ok(())
+}

@@ -1,63 +1,8 @@
 //! `run` with a request refused: the commands come back, or the replies are one of the rows that a refusal allows.
-ghost use Rattle.std.specs.Prelude.{◌≡◌, ℕ};
-
-use super::{arm, is_met};
-use crate::{Command, IdHashItem, IdHashMap, IdOrdItem, IdOrdMap, KeyedMap, Reply, run};
+use super::{Kept, arm, is_met, make_kept};
+use crate::{Command, IdHashMap, IdOrdMap, KeyedMap, Reply, run};
 use std::alloc::{AllocError, Global};
-use std::marker::Model;
 use std::test::Fail;
-
-/// A name, and a value in memory of its own, so that a clone can be refused. Contracts see the two.
-#[derive(Drop)]
-struct Kept {
-    name: u32,
-    value: Box<u32>,
-}
-
-impl Model for Kept {
-    ghost Value = { ℕ × ℕ };
-
-    ghost view = { λ kept. (kept.name, kept.value.value) };
-}
-
-impl Clone for Kept {
-    ghost is_clone = { λ kept clone. clone ≡ kept };
-
-    fn clone(&self) -> Result<Kept, AllocError> {
-        let value = self.value.clone()?;
-        Ok(Kept {
-            name: self.name,
-            value,
-        })
-    }
-}
-
-impl IdOrdItem for Kept {
-    type Key = u32;
-
-    ghost key = { λ kept. kept.0 };
-
-    fn key(&self) -> &u32 {
-        &self.name
-    }
-}
-
-impl IdHashItem for Kept {
-    type Key = u32;
-
-    ghost key = { λ kept. kept.0 };
-
-    fn key(&self) -> &u32 {
-        &self.name
-    }
-}
-
-fn make_kept(alloc: Global, value: u32) -> Result<Kept, AllocError> {
-    Ok(Kept {
-        name: 7,
-        value: Box::new(alloc, value)?,
-    })
-}
 
 // Six commands, all of one name.
 fn commands(alloc: Global) -> Result<Vec<Command<Kept, u32>>, AllocError> {

@@ -97,15 +97,16 @@ fn holds<M: KeyedMap<Item = Entry, Key = String>>(
     found == new.1 && map.len() as u64 == count
 }
 
-// Fills the map with four names, and then tries the insertion of a new one with a request refused: the word for what was seen.
+// Fills the map with so many names, and then tries the insertion of a new one with a request refused: the word for what was seen.
 fn insertion<M: KeyedMap<Item = Entry, Key = String>>(
     alloc: Global,
     map: &mut M,
     call: Call,
+    count: u64,
 ) -> Result<&'static str, Fail>
     requires { M.keyed map.old }
 {
-    let names = names(alloc, 4)?;
+    let names = names(alloc, count)?;
     for name in names.as_slice() {
         if insert(map, name.clone()?, 5) != Outcome::Inserted {
             return Err(Fail::from("an item is not in"));
@@ -135,31 +136,99 @@ fn insertion<M: KeyedMap<Item = Entry, Key = String>>(
     }
 }
 
+// A store is full with 4 and with 8 items, the ordered index too; a hash index first with 9.
 #[test]
 fn insert_unique(rt: HostRuntime) -> Result<(), Fail> {
     let mut map = IdOrdMap::new(rt.alloc());
-    println!(rt; "{}", insertion(rt.alloc(), &mut map, Call::Unique)?)?;
+    println!(rt; "{}", insertion(rt.alloc(), &mut map, Call::Unique, 4)?)?;
     Ok(())
 }
 
 #[test]
 fn insert_overwrite(rt: HostRuntime) -> Result<(), Fail> {
     let mut map = IdOrdMap::new(rt.alloc());
-    println!(rt; "{}", insertion(rt.alloc(), &mut map, Call::Overwrite)?)?;
+    println!(rt; "{}", insertion(rt.alloc(), &mut map, Call::Overwrite, 4)?)?;
     Ok(())
 }
 
 #[test]
 fn hash_insert_unique(rt: HostRuntime) -> Result<(), Fail> {
     let mut map = IdHashMap::new(rt.alloc());
-    println!(rt; "{}", insertion(rt.alloc(), &mut map, Call::Unique)?)?;
+    println!(rt; "{}", insertion(rt.alloc(), &mut map, Call::Unique, 8)?)?;
+    Ok(())
+}
+
+#[test]
+fn hash_insert_unique_into_full_index(rt: HostRuntime) -> Result<(), Fail> {
+    let mut map = IdHashMap::new(rt.alloc());
+    println!(rt; "{}", insertion(rt.alloc(), &mut map, Call::Unique, 9)?)?;
     Ok(())
 }
 
 #[test]
 fn hash_insert_overwrite(rt: HostRuntime) -> Result<(), Fail> {
     let mut map = IdHashMap::new(rt.alloc());
-    println!(rt; "{}", insertion(rt.alloc(), &mut map, Call::Overwrite)?)?;
+    println!(rt; "{}", insertion(rt.alloc(), &mut map, Call::Overwrite, 9)?)?;
+    Ok(())
+}
+
+// Entries of these names.
+fn entries(alloc: Global, names: &[String], value: u64) -> Result<Vec<Entry>, AllocError> {
+    let mut entries = Vec::with_capacity(alloc, names.len())?;
+    for name in names {
+        let name = name.clone()?;
+        entries.push(Entry { name, value })?;
+    }
+    Ok(entries)
+}
+
+// Fills the map with so many names, puts each in again by both insertions, and clears the map: whether that went well, and met a request.
+fn akin_insertions<M: KeyedMap<Item = Entry, Key = String>>(
+    alloc: Global,
+    map: &mut M,
+    count: u64,
+) -> Result<(bool, bool), Fail>
+    requires { M.keyed map.old }
+{
+    let names = names(alloc, count)?;
+    for name in names.as_slice() {
+        if insert(map, name.clone()?, 5) != Outcome::Inserted {
+            return Err(Fail::from("an item is not in"));
+        }
+    }
+    let duplicates = entries(alloc, names.as_slice(), 6)?;
+    let overwriting = entries(alloc, names.as_slice(), 7)?;
+    arm(alloc);
+    let mut is_well = true;
+    for entry in duplicates {
+        is_well = is_well && matches!(map.insert_unique(entry), Err(InsertError::Duplicate(_)));
+    }
+    for entry in overwriting {
+        is_well = is_well && matches!(map.insert_overwrite(entry), Ok(Some(old)) if old.value == 5);
+    }
+    is_well = is_well && map.len() as u64 == count;
+    map.clear();
+    Ok((is_well && map.len() == 0, is_met(alloc)))
+}
+
+#[test]
+fn akin_insertions_without_memory(rt: HostRuntime) -> Result<(), Fail> {
+    let mut map = IdOrdMap::new(rt.alloc());
+    assert_eq!(rt; akin_insertions(rt.alloc(), &mut map, 8)?, (true, false));
+    Ok(())
+}
+
+#[test]
+fn hash_akin_insertions_without_memory(rt: HostRuntime) -> Result<(), Fail> {
+    let mut map = IdHashMap::new(rt.alloc());
+    assert_eq!(rt; akin_insertions(rt.alloc(), &mut map, 8)?, (true, false));
+    Ok(())
+}
+
+#[test]
+fn hash_akin_insertions_into_full_index(rt: HostRuntime) -> Result<(), Fail> {
+    let mut map = IdHashMap::new(rt.alloc());
+    assert_eq!(rt; akin_insertions(rt.alloc(), &mut map, 9)?, (true, false));
     Ok(())
 }
 
