@@ -10,3 +10,4 @@ pub mod RefusalLemmas
 pub mod SearchLemmas
 pub mod SlotLemmas
 pub mod StoreLemmas
+pub mod WrittenLemmas

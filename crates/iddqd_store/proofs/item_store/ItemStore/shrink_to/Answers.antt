@@ -1,4 +1,4 @@
-use Rattle.std.proofs.Common.{◌≡◌, ◌+◌, length, count_by, is_some, is_none, ap, arith}
+use Rattle.std.proofs.Common.{◌≡◌, ◌+◌, length, count_by, is_some, is_none, arith}
 use Rattle.std.proofs.lemmas.List.{length-map}
 use Rattle.iddqd_store.specs.Slots.{item_of, items_of}
 use Rattle.iddqd_store.proofs.SlotLemmas.{both_counts}
