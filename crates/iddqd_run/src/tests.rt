@@ -1,6 +1,8 @@
 //! What no clause says: worked rows, printed texts, that each call succeeds with memory at hand, and runs with memory refused.
 mod coarse;
+mod failing;
 mod maps;
 mod queries;
 mod refusals;
+mod streams;
 mod texts;
