@@ -4,6 +4,7 @@ pub mod Folded
 pub mod KeyedMap
 pub mod Lines
 pub mod SameReplies
+pub mod Served
 pub mod Shown
 pub mod Step
 pub mod Words

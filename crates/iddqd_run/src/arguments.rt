@@ -1,5 +1,5 @@
 //! The program's arguments.
-ghost use Rattle.std.specs.Prelude.{◌≡◌, map, string_bytes};
+ghost use Rattle.std.specs.Prelude.{◌≡◌, drop, map, string_bytes};
 ghost use Rattle.iddqd_run.specs.Words.{kind_for};
 
 /// The map that answers the lines (ours).
@@ -20,5 +20,15 @@ pub fn kind_of(args: &[String]) -> Option<Kind>
         [word] if word.as_str() == "hash" => Some(Kind::Hash),
         [word] if word.as_str() == "ord" => Some(Kind::Ord),
         _ => None,
+    }
+}
+
+/// Of the words that a program is called by, those after its name (ours).
+pub fn after_name(words: &[String]) -> &[String]
+    ensures { result.now ≡ drop 1 words.now }
+{
+    match words {
+        [] => words,
+        [_, args @ ..] => args,
     }
 }

@@ -11,15 +11,17 @@ mod lines;
 mod requests;
 mod running;
 mod serving;
+mod statuses;
 mod table;
 
-pub use arguments::{Kind, kind_of};
+pub use arguments::{Kind, after_name, kind_of};
 pub use commands::{Command, Reply, RunStop};
 pub use iddqd::errors::{DuplicateItem, Few, InsertError, Refused, TryReserveError};
 pub use iddqd::{IdHashItem, IdHashMap, IdOrdItem, IdOrdMap, MAX_ITEMS};
 pub use keyed_map::KeyedMap;
 pub use running::run;
 pub use serving::{Fault, fault_text, serve};
+pub use statuses::{Stop, exit_status};
 
 #[cfg(test)]
 mod tests;

@@ -1,7 +1,7 @@
 //! From a reader to a writer.
-ghost use Rattle.std.specs.Prelude.{◌≡◌, ◌≢◌, ℕ, List, OnOk, IfOk, IfErr};
+ghost use Rattle.std.specs.Prelude.{◌≡◌, ◌≢◌, ℕ, List, OnOk, OnErr, IfOk, IfErr};
 ghost use Rattle.std.specs.Io.KnownBytes.{Appends, Consumes, IsAtEnd, Keeps};
-ghost use Rattle.iddqd_run.specs.Answer.{AnswersWithRefusals};
+ghost use Rattle.iddqd_run.specs.Served.{AnswersAll, AppendsBeginning};
 ghost use Rattle.iddqd_run.specs.Words.{text_for};
 
 use crate::answering::answer;
@@ -32,17 +32,18 @@ pub fn fault_text(fault: &Fault) -> &'static str
     }
 }
 
-/// Reads all input, answers each line from the entries so far, and then writes the whole text at once (ours). `Ok` tells how many
-/// lines were refused for want of memory. After `Fault::Read` and `Fault::Memory` nothing was written. The kind of map changes no reply.
-/// The whole input and the whole text stand in memory at once.
+/// Reads all input, answers each line from the entries so far, and then writes the whole text and flushes the writer (ours).
+/// `Ok` tells how many lines were refused for want of memory. After `Fault::Read` and `Fault::Memory` nothing was written, after
+/// `Fault::Write` a beginning of the text or all of it. A read or a write that is interrupted is made again. The kind of map
+/// changes no reply. The whole input and the whole text stand in memory at once.
 pub fn serve<R: Read, W: Write>(
     alloc: Global,
     kind: Kind,
     reader: &mut R,
     writer: &mut W,
 ) -> Result<u64, Fault>
-    ensures answered { IfOk result (λ refusals. (input : List ℕ) × (text : List ℕ) × AnswersWithRefusals kind input refusals text × Consumes (R.remaining reader.old) (R.remaining reader.new) input × Appends (W.contents writer.old) (W.contents writer.new) text) }
-    ensures at_end { OnOk result (IsAtEnd (R.remaining reader.new)) }
+    ensures answered { IfOk result (λ refusals. (text : List ℕ) × AnswersAll kind (R.remaining reader.old) (R.remaining reader.new) refusals text × Appends (W.contents writer.old) (W.contents writer.new) text) }
+    ensures begun { IfErr result (λ fault. fault ≡ Fault.Write → (refusals : ℕ) × (text : List ℕ) × AnswersAll kind (R.remaining reader.old) (R.remaining reader.new) refusals text × AppendsBeginning (W.contents writer.old) (W.contents writer.new) text) }
     ensures unwritten { IfErr result (λ fault. fault ≢ Fault.Write → Keeps (W.contents writer.old) (W.contents writer.new)) }
 {
     let input = read_whole(alloc, reader)?;
@@ -53,7 +54,8 @@ pub fn serve<R: Read, W: Write>(
     let Ok((text, refusals)) = answered else {
         return Err(Fault::Memory);
     };
-    if writer.write_all(text.as_bytes()).is_err() || writer.flush().is_err() {
+    write_whole(writer, text.as_bytes())?;
+    if writer.flush().is_err() {
         return Err(Fault::Write);
     }
     Ok(refusals)
@@ -83,4 +85,28 @@ fn read_whole<R: Read>(alloc: Global, reader: &mut R) -> Result<Vec<u8>, Fault>
         }
     }
     Err(Fault::Read)
+}
+
+// Writes the text, and nothing more after a write that failed.
+fn write_whole<W: Write>(writer: &mut W, text: &[u8]) -> Result<(), Fault>
+    ensures whole { OnOk result (Appends (W.contents writer.old) (W.contents writer.new) text.now) }
+    ensures begun { OnErr result (AppendsBeginning (W.contents writer.old) (W.contents writer.new) text.now) }
+    ensures fault { IfErr result (λ fault. fault ≡ Fault.Write) }
+{
+    let mut rest = text;
+    for _ in 0..u64::MAX {
+        if rest.is_empty() {
+            return Ok(());
+        }
+        match writer.write(rest) {
+            Ok(0) => return Err(Fault::Write),
+            Ok(count) => rest = &rest[count..],
+            Err(error) => {
+                if error.kind() != ErrorKind::Interrupted {
+                    return Err(Fault::Write);
+                }
+            }
+        }
+    }
+    Err(Fault::Write)
 }

@@ -2,9 +2,11 @@
 mod coarse;
 mod commands;
 mod errors;
+mod failing;
 mod insertions;
 mod items;
 mod many;
 mod queries;
 mod refusals;
+mod streams;
 mod texts;

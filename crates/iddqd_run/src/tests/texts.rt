@@ -1,5 +1,5 @@
 //! Lines of text and their replies, through `serve`.
-use crate::{Fault, Kind, fault_text, kind_of, serve};
+use crate::{Fault, Kind, Stop, after_name, exit_status, fault_text, kind_of, serve};
 use std::alloc::{AllocError, Global};
 use std::test::Fail;
 
@@ -21,12 +21,14 @@ fn are_answered(alloc: Global, input: &[u8], text: &[u8]) -> Result<bool, Fail> 
     Ok(true)
 }
 
-fn kind_of_words(alloc: Global, words: &[&str]) -> Result<Option<Kind>, AllocError> {
-    let mut args = Vec::new(alloc);
-    for word in words {
-        args.push(String::from_str(alloc, word)?)?;
+// The kind that a program is asked for that is called by its name and these words.
+fn kind_of_words(alloc: Global, args: &[&str]) -> Result<Option<Kind>, AllocError> {
+    let mut words = Vec::new(alloc);
+    words.push(String::from_str(alloc, "idtable")?)?;
+    for word in args {
+        words.push(String::from_str(alloc, word)?)?;
     }
-    Ok(kind_of(args.as_slice()))
+    Ok(kind_of(after_name(words.as_slice())))
 }
 
 #[test]
@@ -79,6 +81,9 @@ fn bad_lines(rt: HostRuntime) -> Result<(), Fail> {
     ] {
         assert_eq!(rt; kind_of_words(alloc, words)?, kind);
     }
+    assert_eq!(rt; exit_status(&Ok(3)), 0);
+    assert_eq!(rt; exit_status(&Err(Stop::Fault(Fault::Write))), 1);
+    assert_eq!(rt; exit_status(&Err(Stop::Usage)), 2);
     assert_eq!(rt; fault_text(&Fault::Read), "read failed");
     assert_eq!(rt; fault_text(&Fault::Write), "write failed");
     assert_eq!(rt; fault_text(&Fault::Memory), "no memory");
