@@ -1,9 +1,9 @@
 -- The law that no reply tells one map from another while nothing is refused. It speaks of step and run alone (Step), so of every map whose calls keep to them.
 --     It rests on three facts of those definitions. A search finds at most one item, since no two are akin, so their order plays no part in it.
 --     A new item may stand anywhere among the others. The limit and the spare tell only whether something is refused.
-use Rattle.std.specs.Prelude.{◌≡◌, ℕ, Bool, List, IsSome, ⊤, All, IsPermutation}
+use Rattle.std.specs.Prelude.{◌≡◌, ℕ, Bool, List, IsSome, ⊤, All}
 use Rattle.std.specs.Cmp.{IsEquivalence}
-use Rattle.iddqd.specs.Contents.{NoTwoAkin}
+use Rattle.iddqd.specs.Contents.{NoTwoAkin, SameInAnyOrder}
 use Rattle.iddqd_run.specs.Step.{MapState, SpareRule, Run}
 use Rattle.iddqd_run.specs.declared.commands.Command.{Command}
 use Rattle.iddqd_run.specs.declared.commands.Reply.{Reply}
@@ -18,7 +18,7 @@ IsUnrefused _ = ⊤
 module _ {T K : Type 0} (key : T → K) (eq : K → K → Bool) where
   -- two maps hold the same items, each in an order of its own, and no two of them are akin
   pub record HoldSameItems (one other : List T) : Type 0 where
-    pub same : IsPermutation one other
+    pub same : SameInAnyOrder one other
     pub differ : NoTwoAkin key eq one
 
   -- one map's run, in which nothing was refused

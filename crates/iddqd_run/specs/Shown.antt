@@ -1,8 +1,8 @@
 -- What the program's own types for an entry and a reply stand for.
-use Rattle.std.specs.Prelude.{◌≡◌, ℕ, Bool, List, length, map, ◌++◌, ◌==◌, if◌then◌else◌, IsPermutation, decimal, codes, bytes_eq, string_bytes, String}
+use Rattle.std.specs.Prelude.{◌≡◌, ℕ, Bool, List, length, map, ◌++◌, ◌==◌, if◌then◌else◌, decimal, codes, bytes_eq, string_bytes, String}
 use Rattle.std.specs.Global.{Global}
 use Rattle.iddqd_run.specs.Answer as answer
-use Rattle.iddqd.specs.Contents.{Ascends}
+use Rattle.iddqd.specs.Contents.{Ascends, SameInAnyOrder}
 use Rattle.iddqd.specs.Holding.{max_items}
 use Rattle.iddqd_run.specs.Lines.{Request}
 use Rattle.iddqd_run.specs.declared.arguments.Kind.{Kind}
@@ -41,7 +41,7 @@ refusals_of reply = 0
 
 -- the entries are those of the items, which may lie in whatever order
 pub record ShowsEntries (items : List Entry) (entries : List answer.Entry) : Type 0 where
-  pub same : IsPermutation (entries_of items) entries
+  pub same : SameInAnyOrder (entries_of items) entries
   pub ascending : Ascends answer.name_of answer.name_cmp entries
 
 -- a map of entries as lines ask it: keyed by the names, looked up by their texts, under no smaller limit

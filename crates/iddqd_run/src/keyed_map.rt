@@ -46,7 +46,7 @@ pub trait KeyedMap {
         ensures no_spare { IfErr result (OnRefused ((state self.old).spare ≡ 0)) };
 
     /// Puts the item in the stead of one of an equal key, which it answers: the whole item, its key's spelling too.
-    /// That takes no memory and is never refused. Where there is none, it inserts the item as `insert_unique` does and
+    /// That needs no memory and is never refused. Where there is none, it inserts the item as `insert_unique` does and
     /// answers `None`; a full map and refused memory hand the item back, and then the items are as they were.
     fn insert_overwrite(
         &mut self,

@@ -13,7 +13,7 @@ use std::hash::BuildHasher;
 impl<T: IdHashItem, S: BuildHasher> IdHashMap<T, S> {
     ghost use Rattle.iddqd.specs.HashMap.{HashInserts, HashKeeps, KeepsSpare, ends_hash_inserted};
 
-    /// Inserts the item where none of an equal key is there. A duplicate takes no memory and lends the item that is there;
+    /// Inserts the item where none of an equal key is there. A duplicate needs no memory and lends the item that is there;
     /// then the map is as it was. A full map and refused memory hand the item back, and then the items are as they were
     /// (ours: the crate panics or aborts for want of room). Where `spare` is above 0 a new key is never refused. It hashes
     /// the key once and searches once, for a duplicate twice; a growth reads each pair of the index.
@@ -37,7 +37,7 @@ impl<T: IdHashItem, S: BuildHasher> IdHashMap<T, S> {
     }
 
     /// Puts the item in the stead of one of an equal key, which it answers: the whole item, its key's spelling too.
-    /// That takes no memory and is never refused. Where there is none, it inserts the item as `insert_unique` does and
+    /// That needs no memory and is never refused. Where there is none, it inserts the item as `insert_unique` does and
     /// answers `None`; a full map and refused memory hand the item back, and then the items are as they were (ours: the
     /// crate panics or aborts for want of room). It hashes the key once and searches once.
     pub fn insert_overwrite(&mut self, item: T) -> Result<Option<T>, Refused<T>>

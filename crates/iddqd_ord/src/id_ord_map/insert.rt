@@ -12,7 +12,7 @@ use iddqd_core::{DuplicateItem, Few, IdOrdItem, InsertError, Place, Refused, Ste
 impl<T: IdOrdItem> IdOrdMap<T> {
     ghost use Rattle.iddqd_ord.specs.OrdMap.{OrdInserts, OrdKeeps, ends_ord_inserted};
 
-    /// Inserts the item where none of an equal key is there. A duplicate takes no memory and lends the item that is
+    /// Inserts the item where none of an equal key is there. A duplicate needs no memory and lends the item that is
     /// there; then the map is as it was. A full map and refused memory hand the item back, and then the items are as they
     /// were (ours: the crate panics or aborts for want of room).
     pub fn insert_unique(&mut self, item: T) -> Result<&mut (), InsertError<'_, T>>
@@ -35,7 +35,7 @@ impl<T: IdOrdItem> IdOrdMap<T> {
     }
 
     /// Puts the item in the stead of one of an equal key, which it answers: the whole item, its key's spelling too.
-    /// That takes no memory and is never refused. Where there is none, it inserts the item as `insert_unique` does and
+    /// That needs no memory and is never refused. Where there is none, it inserts the item as `insert_unique` does and
     /// answers `None`; a full map and refused memory hand the item back, and then the items are as they were.
     pub fn insert_overwrite(&mut self, item: T) -> Result<Option<T>, Refused<T>>
         requires keyed { Ascends T.key T.Key.cmp self.old.items }
