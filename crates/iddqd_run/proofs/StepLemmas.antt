@@ -1,8 +1,13 @@
 -- Steps put together.
-use Rattle.std.proofs.Common.{Bool, List, [], ◌∷◌, ◌++◌, refl, subst}
-use Rattle.iddqd_run.specs.Step.{MapState, SpareRule, Step, Run}
+use Rattle.std.proofs.Common.{arith, ℕ, Bool, List, [], ◌∷◌, ◌++◌, refl, subst}
+use Rattle.iddqd_run.specs.Step.{FitsRoom, KeepsRoom, MapState, SpareRule, WithSpare, WithoutSpare, Step, Run}
 use Rattle.iddqd_run.specs.declared.commands.Command.{Command}
 use Rattle.iddqd_run.specs.declared.commands.Reply.{Reply}
+
+-- a call that only reads keeps the room
+pub room_kept : {T : Type 0} (rule : SpareRule) (limit : ℕ) (m : MapState T) → FitsRoom rule limit m → KeepsRoom rule limit m m
+room_kept WithoutSpare limit m fits = (fits, fits)
+room_kept WithSpare limit m fits = record { at_least = omega arith; in_limit = fits }
 
 module _ {T K : Type 0} (key : T → K) (eq : K → K → Bool) where
   -- one step more at the end of a run

@@ -37,6 +37,11 @@ abbrev pub LeavesRoom : {T : Type 0} → SpareRule → (limit least : ℕ) → (
 LeavesRoom WithoutSpare limit least old new = (old.spare ≡ 0) × (new.spare ≡ 0)
 LeavesRoom WithSpare limit least old new = HasRoom limit least new
 
+-- what a call that only reads tells of the room: it fits the limit
+abbrev pub FitsRoom : {T : Type 0} → SpareRule → (limit : ℕ) → MapState T → Type 0
+FitsRoom WithoutSpare limit m = m.spare ≡ 0
+FitsRoom WithSpare limit m = room_of m ≤ limit
+
 -- no room is lost
 abbrev pub KeepsRoom : {T : Type 0} → SpareRule → (limit : ℕ) → (old new : MapState T) → Type 0
 KeepsRoom rule limit old new = LeavesRoom rule limit (room_of old) old new

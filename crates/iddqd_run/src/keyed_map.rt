@@ -4,7 +4,7 @@ ghost use Rattle.std.specs.Borrow.{sem};
 ghost use Rattle.iddqd.specs.Contents.{NoTwoAkin, OverwritesItem, find_item, without};
 ghost use Rattle.iddqd.specs.Refusal.{OnRefused, RefusesInsertion};
 ghost use Rattle.iddqd_run.specs.KeyedMap.{StaysKeyed, ends_inserted};
-ghost use Rattle.iddqd_run.specs.Step.{MapState, SpareRule, KeepsRoom, RefusesItem};
+ghost use Rattle.iddqd_run.specs.Step.{MapState, SpareRule, FitsRoom, RefusesItem};
 
 mod hash;
 mod ord;
@@ -62,7 +62,7 @@ pub trait KeyedMap {
     fn get(&self, query: &Self::Key) -> Option<&Self::Item>
         requires keyed { keyed self.now }
         ensures found { option_copied result ≡ find_item key (Self.Key.eq query.now) (state self.now).items }
-        ensures room { KeepsRoom rule (limit self.now) (state self.now) (state self.now) };
+        ensures room { FitsRoom rule (limit self.now) (state self.now) };
 
     /// Takes out the item of an equal key, and answers it; `None` where there is none, and then nothing has changed. It
     /// takes no memory.
@@ -83,7 +83,7 @@ pub trait KeyedMap {
     /// How many items there are.
     fn len(&self) -> usize
         ensures len { result ≡ length (state self.now).items }
-        ensures room { KeepsRoom rule (limit self.now) (state self.now) (state self.now) };
+        ensures room { FitsRoom rule (limit self.now) (state self.now) };
 
     // No two items of a keyed map are akin.
     ghost differ: { (m : Self) → keyed m → NoTwoAkin key Self.Key.eq (state m).items };

@@ -5,7 +5,7 @@ ghost use Rattle.iddqd.specs.Errors.{listed};
 ghost use Rattle.iddqd.specs.Refusal.{IsLent};
 ghost use Rattle.iddqd_run.specs.KeyedMap.{StaysKeyed};
 ghost use Rattle.iddqd_run.specs.declared.commands.Command.TheVariants.{InsertUnique, InsertOverwrite, Get};
-ghost use Rattle.iddqd_run.specs.Step.{Answers, KeepsRoom, Step, Run};
+ghost use Rattle.iddqd_run.specs.Step.{Answers, FitsRoom, Step, Run};
 
 use crate::commands::{Command, Reply, RunStop};
 use crate::keyed_map::KeyedMap;
@@ -41,6 +41,7 @@ where
 }
 
 // The reply to one command.
+#[tactic(auto, using(crate::proofs::StepLemmas::room_kept))]
 fn answer<M: KeyedMap>(map: &mut M, command: Command<M::Item, M::Key>) -> Reply<M::Item>
 where
     M::Item: Clone,
@@ -124,7 +125,7 @@ where
     requires keyed { M.keyed map.now }
     requires clones { ClonesAreEqual M.Item.is_clone }
     ensures answers { Answers M.key M.Key.eq (M.limit map.now) (Get key.now) (M.state map.now) result (M.state map.now).items }
-    ensures room { KeepsRoom M.rule (M.limit map.now) (M.state map.now) (M.state map.now) }
+    ensures room { FitsRoom M.rule (M.limit map.now) (M.state map.now) }
 {
     let Some(item) = map.get(key) else {
         return Reply::Absent;

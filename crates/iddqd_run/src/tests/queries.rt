@@ -4,6 +4,7 @@ use crate::tests::items::{Artifact, Release, Titled};
 use crate::{IdHashMap, IdOrdMap};
 use iddqd::Text;
 use std::alloc::{AllocError, Global};
+use std::process::Abort;
 use std::rc::Rc;
 use std::test::Fail;
 
@@ -71,13 +72,23 @@ macro_rules! put_and_query {
     }};
 }
 
+fn boxed_items(rt: &impl Abort, alloc: Global) -> Result<(), AllocError> {
+    put_and_query!(rt, IdOrdMap::new(alloc), Box::new(alloc, foo(alloc)?)?);
+    put_and_query!(rt, IdHashMap::new(alloc), Box::new(alloc, foo(alloc)?)?);
+    Ok(())
+}
+
+fn counted_items(rt: &impl Abort, alloc: Global) -> Result<(), AllocError> {
+    put_and_query!(rt, IdOrdMap::new(alloc), Rc::new(alloc, foo(alloc)?)?);
+    put_and_query!(rt, IdHashMap::new(alloc), Rc::new(alloc, foo(alloc)?)?);
+    Ok(())
+}
+
 #[test]
 fn boxed_and_lent_items(rt: HostRuntime) -> Result<(), Fail> {
     let alloc = rt.alloc();
-    put_and_query!(rt, IdOrdMap::new(alloc), Box::new(alloc, foo(alloc)?)?);
-    put_and_query!(rt, IdHashMap::new(alloc), Box::new(alloc, foo(alloc)?)?);
-    put_and_query!(rt, IdOrdMap::new(alloc), Rc::new(alloc, foo(alloc)?)?);
-    put_and_query!(rt, IdHashMap::new(alloc), Rc::new(alloc, foo(alloc)?)?);
+    boxed_items(&rt, alloc)?;
+    counted_items(&rt, alloc)?;
     let item = foo(alloc)?;
     put_and_query!(rt, IdOrdMap::new(alloc), &item);
     put_and_query!(rt, IdHashMap::new(alloc), &item);
