@@ -9,10 +9,10 @@ use Rattle.std.proofs.lemmas.List.Sorted.{length_permutation, IsPermutation-refl
 use Rattle.std.specs.List.Sorted.{IsStrictlySortedBy}
 use Rattle.std.proofs.Common.{String, Global}
 use Rattle.iddqd_run.specs.Answer as answer
-use Rattle.iddqd_run.specs.Answer.{name_of, name_cmp, entry_named, is_full, RefusedLeaves}
+use Rattle.iddqd_run.specs.Answer.{name_of, name_cmp, entry_named, is_full, line_reply, entries_after, RefusedLeaves}
 use Rattle.iddqd.specs.Contents.{AddsItem, find_item, without, replaced, placed}
 use Rattle.iddqd_run.specs.Lines.{Request, Add, Put, Get, Del, Len}
-use Rattle.iddqd_run.specs.Shown.{entry_of, entries_of, AnswersRequest, ShowsEntries, no_room_reply}
+use Rattle.iddqd_run.specs.Shown.{entry_of, entries_of, shown, AnswersPlainly, AnswersRequest, ShowsEntries, no_room_reply}
 use Rattle.iddqd.specs.Holding.{max_items}
 use Rattle.iddqd_run.specs.declared.arguments.Kind.{Kind}
 use Rattle.iddqd_run.specs.declared.entries.Entry.{Entry}
@@ -99,6 +99,19 @@ module _ (kind : Kind) where
       pub delete_absent : None ≡ named → AnswersRequest kind (Del name) items Absent new
       delete_absent e = λ entries shows. record { text = rw (absent_shown name items entries shows (sym e)) refl; after = without_shown name items entries shows new taken }
 
+module _ (kind : Kind) (name : List ℕ) (value : ℕ) where
+  -- a request that makes an entry of the name: what it answers to an entry that is there, to a full map, and else
+  abbrev pub MakesEntry : Request → List ℕ → Type 0
+  MakesEntry request made = (entries : List answer.Entry)
+      → ((on_old : answer.Entry → List ℕ) × (line_reply kind request entries ≡ option_map_or on_old (entry_named name entries) (cond (is_full entries) (codes "refused capacity") made)))
+      × ((on_old : answer.Entry → List answer.Entry) × (entries_after kind request entries ≡ option_map_or on_old (entry_named name entries) (cond (is_full entries) entries (placed name_of name_cmp (name, value) entries))))
+
+  pub add_makes : MakesEntry (Add name value) (shown Added)
+  add_makes entries = ((_, refl), (_, refl))
+
+  pub put_makes : MakesEntry (Put name value) (shown New)
+  put_makes entries = ((_, refl), (_, refl))
+
 -- x is an entry of the name
 module _ (kind : Kind) (x : Entry) (items : List Entry) (name : List ℕ) (same : string_bytes x.name ≡ name) (new : List Entry) where
   abbrev akin : Option Entry
@@ -128,41 +141,27 @@ module _ (kind : Kind) (x : Entry) (items : List Entry) (name : List ℕ) (same 
         subst (λ n. ShowsEntries new (placed name_of name_cmp (n, x.value) entries)) same
         (shown_by new _ (placed_in_order name_of nat_list_eq_equiv nat_list_cmp_total texts_ties (entry_of x) (entries_of items) (entries_of new) entries adds_entry (absent_shown (string_bytes x.name) items entries shows absent) (order items entries shows)))
 
-  module _ (absent : akin ≡ None) where
-    -- a new entry
-    module _ (few : length items < max_items) (adds : AddsItem x items new) where
-      pub added_answered : AnswersRequest kind (Add name x.value) items Added new
-      added_answered = λ entries shows. let room = has_room absent entries shows few in record {
-        text = sym (asks_room absent entries shows _ _ _ false room);
-        after = subst (ShowsEntries new) (sym (asks_room absent entries shows _ _ _ false room)) (placed_shown absent entries shows adds);
-      }
+  module _ (absent : akin ≡ None) (request : Request) (made : LineReply) (makes : MakesEntry kind name x.value request (shown made)) (entries : List answer.Entry) (shows : ShowsEntries items entries) where
+    -- the entry is in
+    pub made_plainly : length items < max_items → AddsItem x items new → AnswersPlainly kind request entries made new
+    made_plainly few adds = let (text, after) = makes entries in let room = has_room absent entries shows few in record {
+      text = sym (text.1 ∙ asks_room absent entries shows text.0 _ _ false room);
+      after = subst (ShowsEntries new) (sym (after.1 ∙ asks_room absent entries shows after.0 _ _ false room)) (placed_shown absent entries shows adds);
+    }
 
-      pub new_answered : AnswersRequest kind (Put name x.value) items New new
-      new_answered = λ entries shows. let room = has_room absent entries shows few in record {
-        text = sym (asks_room absent entries shows _ _ _ false room);
-        after = subst (ShowsEntries new) (sym (asks_room absent entries shows _ _ _ false room)) (placed_shown absent entries shows adds);
-      }
-
-    -- a full map
-    module _ (full : length items ≡ max_items) (stays : new ≡ items) where
-      pub full_add : AnswersRequest kind (Add name x.value) items RefusedCapacity new
-      full_add = λ entries shows. let none = has_no_room absent entries shows full in record {
-        text = sym (asks_room absent entries shows _ _ _ true none);
-        after = subst (ShowsEntries new) (sym (asks_room absent entries shows _ _ _ true none)) (subst (λ is. ShowsEntries is entries) (sym stays) shows);
-      }
-
-      pub full_put : AnswersRequest kind (Put name x.value) items RefusedCapacity new
-      full_put = λ entries shows. let none = has_no_room absent entries shows full in record {
-        text = sym (asks_room absent entries shows _ _ _ true none);
-        after = subst (ShowsEntries new) (sym (asks_room absent entries shows _ _ _ true none)) (subst (λ is. ShowsEntries is entries) (sym stays) shows);
-      }
+    -- the map is full
+    pub full_plainly : length items ≡ max_items → new ≡ items → AnswersPlainly kind request entries RefusedCapacity new
+    full_plainly full stays = let (text, after) = makes entries in let none = has_no_room absent entries shows full in record {
+      text = sym (text.1 ∙ asks_room absent entries shows text.0 _ _ true none);
+      after = subst (ShowsEntries new) (sym (after.1 ∙ asks_room absent entries shows after.0 _ _ true none)) (subst (λ is. ShowsEntries is entries) (sym stays) shows);
+    }
 
   module _ (y : Entry) (there : akin ≡ Some y) where
     one_named : (entries : List answer.Entry) → ShowsEntries items entries → entry_named name entries ≡ Some (entry_of y)
     one_named entries shows = subst (λ n. entry_named n entries ≡ Some (entry_of y)) same (there_shown (string_bytes x.name) items entries shows y there)
 
-    pub duplicate_answered : (shown : Bor (List ℕ)) (value : ℕ) → shown.now ≡ name → value ≡ y.value → new ≡ items → AnswersRequest kind (Add name x.value) items (Duplicate shown value) new
-    duplicate_answered shown value e old_value stays = λ entries shows. record {
+    pub duplicate_answered : (told : Bor (List ℕ)) (value : ℕ) → told.now ≡ name → value ≡ y.value → new ≡ items → AnswersRequest kind (Add name x.value) items (Duplicate told value) new
+    duplicate_answered told value e old_value stays = λ entries shows. record {
       text = rw (one_named entries shows) (ap (λ n. codes "duplicate " ++ n ++ codes " " ++ decimal value) e ∙ ap (λ v. codes "duplicate " ++ name ++ codes " " ++ decimal v) old_value);
       after = rw (one_named entries shows) (subst (λ is. ShowsEntries is entries) (sym stays) shows);
     }

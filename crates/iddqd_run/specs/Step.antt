@@ -1,6 +1,8 @@
 -- What a map answers to a command, and what it holds then (the crate's calls). No pair of a command and a reply occurs but those with a case of their own.
 --     MapState      the items of a map, and its spare: how many new items it takes without a refusal
 --     SpareRule      whether a map keeps a spare
+--     room_left, LeavesRoom      how much room a command leaves at least to a map that keeps a spare
+--     Answers      what a command is answered, and the items then
 --     Step, Run      one command and its reply; a list of commands and their replies
 use Rattle.std.specs.Prelude.{◌≡◌, ℕ, ◌+◌, ◌≤◌, Bool, List, [], ◌∷◌, length, Option, Some, None, IfSome}
 use Rattle.iddqd.specs.Contents.{find_item, IsAbsent, without, OverwritesItem}
@@ -14,7 +16,7 @@ pub record MapState (T : Type 0) : Type 0 where
   pub items : List T
   pub spare : ℕ
 
--- a map that keeps no spare has 0 throughout; one that keeps a spare never loses room (`reserve`; the number is ours)
+-- a map that keeps no spare has 0 throughout; one that keeps a spare loses room by no command (`reserve`; the number is ours)
 pub data SpareRule : Type 0 where
   WithoutSpare : SpareRule
   WithSpare : SpareRule
@@ -32,7 +34,7 @@ pub record HasRoom {T : Type 0} (limit least : ℕ) (m : MapState T) : Type 0 wh
   pub at_least : least ≤ room_of m
   pub in_limit : room_of m ≤ limit
 
--- what a call that leaves so much room at least does to it
+-- after a call that may lower the room to so much, and no further
 abbrev pub LeavesRoom : {T : Type 0} → SpareRule → (limit least : ℕ) → (old new : MapState T) → Type 0
 LeavesRoom WithoutSpare limit least old new = (old.spare ≡ 0) × (new.spare ≡ 0)
 LeavesRoom WithSpare limit least old new = HasRoom limit least new
@@ -42,11 +44,11 @@ abbrev pub FitsRoom : {T : Type 0} → SpareRule → (limit : ℕ) → MapState 
 FitsRoom WithoutSpare limit m = m.spare ≡ 0
 FitsRoom WithSpare limit m = room_of m ≤ limit
 
--- no room is lost
+-- after a call that lowers no room
 abbrev pub KeepsRoom : {T : Type 0} → SpareRule → (limit : ℕ) → (old new : MapState T) → Type 0
 KeepsRoom rule limit old new = LeavesRoom rule limit (room_of old) old new
 
--- how much of so much room a command leaves at least: all of it
+-- what a command may lower so much room to: none lowers it
 abbrev pub room_left : {T K : Type 0} → Command T K → ℕ → ℕ
 room_left _ room = room
 

@@ -29,7 +29,7 @@ fn kind_asked<R: Env + AllocGlobal>(rt: &R, alloc: Global) -> Result<Kind, Stop>
 fn main(rt: HostRuntime) -> ExitCode {
     let alloc = rt.alloc();
     let outcome = match kind_asked(&rt, alloc) {
-        Ok(kind) => { serve(alloc, kind, &mut rt.stdin(), &mut rt.stdout()).map_err(Stop::Fault) }
+        Ok(kind) => serve(alloc, kind, &mut rt.stdin(), &mut rt.stdout()).map_err(Stop::Fault),
         Err(stop) => Err(stop),
     };
     let _ = match &outcome {

@@ -70,6 +70,7 @@ pub(super) struct FailingWriter {
     writes: u32,
     flushes: u32,
     flushed: usize,
+    fails_flush: bool,
 }
 
 impl FailingWriter {
@@ -80,7 +81,14 @@ impl FailingWriter {
             writes: 0,
             flushes: 0,
             flushed: 0,
+            fails_flush: false,
         }
+    }
+
+    /// The same, but that each flush fails.
+    pub(super) fn with_failing_flush(mut self) -> FailingWriter {
+        self.fails_flush = true;
+        self
     }
 
     /// The bytes that it holds.
@@ -115,6 +123,9 @@ impl Write for FailingWriter {
     fn flush(&mut self) -> Result<()> {
         self.flushes = self.flushes.saturating_add(1);
         self.flushed = self.taken.len();
+        if self.fails_flush {
+            return Err(Error::from(ErrorKind::Other));
+        }
         Ok(())
     }
 }

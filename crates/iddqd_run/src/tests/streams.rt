@@ -31,6 +31,12 @@ fn flushes_after_writing(rt: HostRuntime) {
     assert_eq!(rt; outcome, Ok(0));
     assert!(rt; writer.taken() == ANSWER);
     assert_eq!(rt; writer.flushes(), (1, ANSWER.len()));
+    let mut reader = LINES;
+    let mut writer = FailingWriter::new(Vec::new(rt.alloc()), NEVER).with_failing_flush();
+    assert_eq!(rt;
+        serve(rt.alloc(), Kind::Ord, &mut reader, &mut writer),
+        Err(Fault::Write)
+    );
 }
 
 #[test]
