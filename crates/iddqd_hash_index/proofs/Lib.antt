@@ -1,2 +1,12 @@
 pub mod BucketLemmas
 pub mod PairLemmas
+pub mod CellLemmas
+pub mod EmptyLemmas
+pub mod FindLemmas
+pub mod LaneLemmas
+pub mod PlaceLemmas
+pub mod PlacedLemmas
+pub mod SumLemmas
+pub mod TakeLemmas
+pub mod WalkLemmas
+pub mod RenameLemmas

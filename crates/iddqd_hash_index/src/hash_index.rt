@@ -1,8 +1,13 @@
 //! The hash index: pairs of a hash and a slot, found by hash.
 mod chains;
+mod change;
+mod group;
+mod probe;
+mod regroup;
 mod search;
 #[cfg(test)]
 mod tests;
+mod walk;
 
 ghost use Rattle.std.specs.Prelude.{◌≡◌, ℕ, ◌+◌, ◌-◌, ◌<◌, ◌≤◌, [], length, max, OnOk, OnErr, IfOk, IfErr, IfSome, IfNone, Contains};
 ghost use Rattle.std.specs.Prelude.{min as least};
