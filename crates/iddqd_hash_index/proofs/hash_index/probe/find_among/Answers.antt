@@ -1,7 +1,6 @@
-use Rattle.std.proofs.Common.{◌≡◌, ◌≢◌, ◌⊎◌, ℕ, ◌+◌, ◌*◌, ◌/◌, ◌<◌, ◌≤◌, length, get_or, true, sym, ap, subst, ◌∙◌, inl, inr, arith}
+use Rattle.std.proofs.Common.{◌≡◌, ◌+◌, length, true, sym, ap, subst, ◌∙◌, arith}
 use Rattle.std.specs.Option.{IsSomeAnd}
-use Rattle.iddqd_hash_index.specs.Groups.{home_of, steps_to, tag_at, pair_at, pairs_of, Compared}
-use Rattle.iddqd_hash_index.specs.HashPairs.{of_hash}
+use Rattle.iddqd_hash_index.specs.Groups.{home_of, steps_to}
 use Rattle.iddqd_store.specs.Store.{item_at}
 use Rattle.iddqd_hash_index.proofs.WalkLemmas.{home_of-lt, steps_self}
 use Rattle.iddqd_hash_index.proofs.FindLemmas.{Compared-none, Compared-group, Compared-le, AllMissed-more, none_at_stop, none_at_end}

@@ -3,10 +3,10 @@ use Rattle.std.specs.List.{Contains}
 use Rattle.std.specs.Option.{IsSome, IsSomeAnd}
 use borrow.Author.Rules.{rules}
 use Rattle.std.proofs.lemmas.Bool.{true≢false}
-use Rattle.iddqd_hash_index.specs.Lanes.{tag_of, slot_in}
-use Rattle.iddqd_hash_index.specs.Groups.{mixed, group_at, tag_at, pair_at, pairs_of, IsVisited}
+use Rattle.iddqd_hash_index.specs.Lanes.{slot_in}
+use Rattle.iddqd_hash_index.specs.Groups.{group_at, tag_at, pair_at, pairs_of}
 use Rattle.iddqd_store.specs.Store.{item_at}
-use Rattle.iddqd_hash_index.proofs.LaneLemmas.{LanesLeft-all, LanesLeft-next, LanesLeft-end}
+use Rattle.iddqd_hash_index.proofs.LaneLemmas.{LanesLeft-all, LanesLeft-next}
 use Rattle.iddqd_hash_index.proofs.FindLemmas.{cell_tag, listed, Compared-none, Compared-wider, Compared-one, IsVisited-wider, IsVisited-lane, IsVisited-new}
 use Rattle.iddqd_hash_index.proofs.hash_index.probe.find_at.Given.{Over}
 use Rattle.iddqd_hash_index.proofs.hash_index.probe.find_at.Goals.{After-get, then-hashes-at+else-equal, else-hashes-at}
