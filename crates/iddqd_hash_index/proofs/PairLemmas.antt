@@ -1,5 +1,5 @@
 -- What the weights of a hash index say of which pairs it has.
-use Rattle.std.proofs.Common.{◌≡◌, ◌≢◌, ◌⊎◌, ℕ, suc, ◌+◌, ◌<◌, ◌≤◌, List, [], ◌∷◌, get_or, cond, eqb, Some, None, refl, sym, ap, subst, ◌∙◌, inl, inr, arith}
+use Rattle.std.proofs.Common.{◌≡◌, ◌≢◌, ◌⊎◌, ℕ, suc, ◌+◌, ◌<◌, ◌≤◌, List, [], ◌∷◌, length, get_or, cond, eqb, Some, None, refl, sym, ap, subst, ◌∙◌, inl, inr, arith}
 use Rattle.std.proofs.lemmas.Bool.{cases_eq, cases_lt, eq-eqb, ne_eqb, false≢true}
 use Rattle.std.proofs.lemmas.List.Sums.{get_or-le-sum_by, sum_by-cons}
 use Rattle.std.specs.List.{Contains, sum_by}
@@ -106,3 +106,44 @@ occupied-added old new pairs more hash slot item occupied updates came h s held 
     | inr is ↦ absurd (other (ap (λ p. p.1) is))
   ]
 ]
+
+-- whether a pair has the slot, as a weight
+abbrev pub slot_weight : ℕ → ℕ × ℕ → ℕ
+slot_weight slot p = cond (eqb p.1 slot) 1 0
+
+slot_weight-le : (slot : ℕ) (p : ℕ × ℕ) → slot_weight slot p ≤ 1
+slot_weight-le slot p = elim (cases_eq p.1 slot) [
+  | inl same ↦ rw (eq-eqb p.1 slot same) (omega arith)
+  | inr other ↦ rw (ne_eqb p.1 slot other) (omega arith)
+]
+
+-- no slot stands twice, where a pair of a slot that was in no pair comes in the stead of another
+pub each_once-renamed : (old new : List (ℕ × ℕ)) (before after : ℕ × ℕ) → ((f : ℕ × ℕ → ℕ) → sum_by f new + f before ≡ sum_by f old + f after) → of_slot old after.1 ≡ 0 → ((slot : ℕ) → of_slot old slot ≤ 1) → (slot : ℕ) → of_slot new slot ≤ 1
+each_once-renamed old new before after sums absent once slot =
+    let sum = sums (slot_weight slot) in
+    let most = slot_weight-le slot after in
+    let others = once slot in
+    elim (cases_eq after.1 slot) [
+      | inl same ↦ let none : of_slot old slot ≡ 0 = subst (λ s. of_slot old s ≡ 0) same absent in omega arith
+      | inr other ↦ let nothing : slot_weight slot after ≡ 0 = ap (λ t. cond t 1 0) (ne_eqb after.1 slot other) in omega arith
+    ]
+
+-- and where such a pair is added
+pub each_once-added : (old new : List (ℕ × ℕ)) (p : ℕ × ℕ) → ((f : ℕ × ℕ → ℕ) → sum_by f new ≡ sum_by f old + f p) → of_slot old p.1 ≡ 0 → ((slot : ℕ) → of_slot old slot ≤ 1) → (slot : ℕ) → of_slot new slot ≤ 1
+each_once-added old new p sums absent once slot =
+    let sum = sums (slot_weight slot) in
+    let most = slot_weight-le slot p in
+    let others = once slot in
+    elim (cases_eq p.1 slot) [
+      | inl same ↦ let none : of_slot old slot ≡ 0 = subst (λ s. of_slot old s ≡ 0) same absent in omega arith
+      | inr other ↦ let nothing : slot_weight slot p ≡ 0 = ap (λ t. cond t 1 0) (ne_eqb p.1 slot other) in omega arith
+    ]
+
+-- and where a pair goes
+pub each_once-removed : (old new : List (ℕ × ℕ)) (p : ℕ × ℕ) → ((f : ℕ × ℕ → ℕ) → sum_by f old ≡ sum_by f new + f p) → ((slot : ℕ) → of_slot old slot ≤ 1) → (slot : ℕ) → of_slot new slot ≤ 1
+each_once-removed old new p sums once slot = let sum = sums (slot_weight slot) in let others = once slot in omega arith
+
+-- a list is as long as the sum of ones
+pub length-weight : (ps : List (ℕ × ℕ)) → sum_by (λ _. 1) ps ≡ length ps
+length-weight [] = refl
+length-weight (p ∷ ps) = omega (arith, sum_by-cons (λ _. 1) p ps, length-weight ps)

@@ -1,52 +1,53 @@
 //! The hash index: pairs of a hash and a slot, found by hash.
-mod chains;
-mod search;
+mod change;
+mod group;
+mod probe;
+mod regroup;
 #[cfg(test)]
 mod tests;
+mod walk;
 
 ghost use Rattle.std.specs.Prelude.{◌≡◌, ℕ, ◌+◌, ◌-◌, ◌<◌, ◌≤◌, [], length, max, OnOk, OnErr, IfOk, IfErr, IfSome, IfNone, Contains};
 ghost use Rattle.std.specs.Prelude.{min as least};
 ghost use Rattle.iddqd_hash_index.specs.HashPairs.{SamePairs, HasOneMore, HasInstead, HalfIsEnough, IsMatch, of_hash, of_slot};
+ghost use Rattle.iddqd_hash_index.specs.Groups.{room_for};
 ghost use Rattle.iddqd_store.specs.Store.{IsOccupied};
 ghost use Rattle.iddqd_store.specs.declared.errors.TryReserveErrorKind.TheVariants.{AllocError as OutOfMemory};
 
-use chains::{Link, buckets_for, link_all, position, put_in_chain, replace_by_last};
+use change::{place, rename_in, take};
+use group::Group;
 use iddqd_store::{Equivalent, IdHashItem, ItemStore, Steps, TryReserveError};
-use search::find_in;
+use probe::find_among;
+use regroup::{MOST_ROOM, groups_for, regrouped, room_of};
 use std::alloc::{AllocError, Global};
 use std::marker::Model;
-
-// The room of the smallest index that takes memory.
-const SMALLEST_ROOM: usize = 9;
-
-// As many pairs as there are slot numbers.
-const MOST_ROOM: usize = u32::MAX as usize;
 
 /// Pairs of a hash and a slot, each slot once (ours: the crate has hashbrown's `HashTable`). It computes no hash, and
 /// only `find` looks at items. Contracts see the pairs, in no order, and how many more can be added.
 ///
-/// A pair takes 16 bytes. From room for two pairs on, the heads of the buckets, of which at least half are empty, take 8
-/// to 16 more for each pair that there is room for. A removal leaves nothing behind, and a growth reads the hashes that
-/// are there.
+/// The pairs lie in groups of twelve lanes, of which nine are used at most, so that each pair that there is room for takes
+/// 18 bytes. A removal leaves nothing behind, and a growth reads the hashes that are there.
 #[derive(Drop)]
 pub struct HashIndex {
-    // One more than the number of the bucket's last pair, or 0.
-    heads: Vec<u32>,
-    links: Vec<Link>,
-    // How many pairs fit: the links have the memory, and the buckets are enough. Never more than there are slot numbers.
+    groups: Vec<Group>,
+    // The hash of each lane, group by group.
+    hashes: Vec<u64>,
+    // How many pairs there are.
+    len: usize,
+    // How many pairs fit, which are never more than there are slot numbers.
     room: usize,
 }
 
 impl Model for HashIndex {
-    ghost use Rattle.std.specs.Prelude.{◌-◌, length, vec_capacity};
-    ghost use Rattle.iddqd_hash_index.specs.Buckets.{pairs_of, IsHashIndex};
+    ghost use Rattle.std.specs.Prelude.{◌-◌};
+    ghost use Rattle.iddqd_hash_index.specs.Groups.{pairs_of, IsHashIndex};
     ghost use Rattle.iddqd_hash_index.specs.HashPairs.{HashPairs};
 
     ghost Value = { HashPairs };
 
-    ghost view = { λ i. record { pairs = pairs_of i.links.items; spare = i.room - length i.links.items } };
+    ghost view = { λ i. record { pairs = pairs_of i.groups.items i.hashes.items; spare = i.room - i.len } };
 
-    ghost invariant = { λ i. IsHashIndex i.heads.items i.links.items (vec_capacity i.links) i.room };
+    ghost invariant = { λ i. IsHashIndex i.groups.items i.hashes.items i.len i.room };
 }
 
 impl HashIndex {
@@ -56,8 +57,9 @@ impl HashIndex {
         ensures spare { result.spare ≡ 0 }
     {
         HashIndex {
-            heads: Vec::new(alloc),
-            links: Vec::new(alloc),
+            groups: Vec::new(alloc),
+            hashes: Vec::new(alloc),
+            len: 0,
             room: 0,
         }
     }
@@ -68,7 +70,7 @@ impl HashIndex {
         ensures number { result ≡ length self.now.pairs }
         ensures each_once { (slot : ℕ) → of_slot self.now.pairs slot ≤ 1 }
     {
-        self.links.len()
+        self.len
     }
 
     /// How many more pairs can be added before memory is needed.
@@ -76,7 +78,7 @@ impl HashIndex {
     pub fn spare(&self) -> usize
         ensures { result ≡ self.now.spare }
     {
-        self.room - self.links.len()
+        self.room - self.len
     }
 
     /// Makes room for `additional` more pairs. It is refused only for want of memory, and takes none where there is
@@ -90,14 +92,14 @@ impl HashIndex {
         ensures needed { OnErr result (self.old.spare < additional) }
         ensures spare { self.old.spare ≤ self.new.spare }
     {
-        if additional <= self.room - self.links.len() {
+        if additional <= self.room - self.len {
             return Ok(());
         }
         self.grow(additional)
             .map_err(|_| TryReserveError::alloc_error())
     }
 
-    // Makes room that is not there yet. Refused or not, the pairs and their chains are as before.
+    // Makes room that is not there yet. Refused or not, the pairs stay.
     #[cold]
     #[inline(never)]
     fn grow(&mut self, additional: usize) -> Result<(), AllocError>
@@ -105,23 +107,37 @@ impl HashIndex {
         ensures ok { OnOk result (additional ≤ self.new.spare) }
         ensures spare { self.old.spare ≤ self.new.spare }
     {
-        let most = MOST_ROOM - self.links.len();
-        if additional > most {
+        if additional > MOST_ROOM - self.len {
             return Err(AllocError);
         }
-        let more = additional.max(self.room).max(SMALLEST_ROOM).min(most);
-        self.links.reserve(more)?;
-        let room = self.links.len() + more;
-        self.heads.resize(buckets_for(room), 0)?;
-        self.heads.as_mut_slice().fill(0);
-        link_all(self.heads.as_mut_slice(), self.links.as_mut_slice());
-        self.room = room;
+        let wanted = (self.len + additional).max(2 * self.room).min(MOST_ROOM);
+        self.regroup(groups_for(wanted))
+    }
+
+    // Moves the pairs into so many new groups. Where memory is refused, all stays as it was.
+    fn regroup(&mut self, count: usize) -> Result<(), AllocError>
+        requires room { length self.old.pairs ≤ room_for count }
+        requires fits { count ≤ u32.MAX }
+        ensures pairs { SamePairs self.old.pairs self.new.pairs }
+        ensures len { length self.new.pairs ≡ length self.old.pairs }
+        ensures room { OnOk result (self.new.spare + length self.new.pairs ≡ room_for count) }
+        ensures refused { OnErr result (self.new ≡ self.old) }
+    {
+        let (groups, hashes) = regrouped(
+            *self.groups.allocator(),
+            self.groups.as_slice(),
+            self.hashes.as_slice(),
+            count,
+        )?;
+        self.groups = groups;
+        self.hashes = hashes;
+        self.room = room_of(count);
         Ok(())
     }
 
     /// The slot beside this hash whose item has the query's key, or `None`. Each slot that is listed beside the hash must
-    /// have an item. It walks the chain of one bucket, and compares the keys of the pairs of exactly this hash, at most
-    /// each once.
+    /// have an item. It goes round the groups once at most, and compares the keys of the pairs of exactly this hash, at
+    /// most each once.
     #[inline]
     pub fn find<T: IdHashItem, Q: Equivalent<T::Key>>(
         &self,
@@ -136,9 +152,9 @@ impl HashIndex {
         ensures steps { steps.new ≤ steps.old + of_hash self.now.pairs hash }
         ensures counts_on { steps.old ≤ steps.new }
     {
-        find_in(
-            self.heads.as_slice(),
-            self.links.as_slice(),
+        find_among(
+            self.groups.as_slice(),
+            self.hashes.as_slice(),
             store,
             hash,
             query,
@@ -147,7 +163,7 @@ impl HashIndex {
     }
 
     /// Adds the pair, whose slot no other pair has. There must be room, as `try_reserve(1)` makes it, so it takes no memory.
-    /// It takes constant time.
+    /// It walks from the home of the hash to a free lane.
     #[inline]
     pub fn add_reserved(&mut self, hash: u64, slot: u32)
         requires room { 0 < self.old.spare }
@@ -155,51 +171,55 @@ impl HashIndex {
         ensures pairs { HasOneMore self.old.pairs self.new.pairs (hash, slot) }
         ensures spare { self.old.spare ≤ self.new.spare + 1 }
     {
-        let at = self.links.len();
-        self.links.push_reserved(Link {
+        place(
+            self.groups.as_mut_slice(),
+            self.hashes.as_mut_slice(),
             hash,
             slot,
-            next: 0,
-        });
-        put_in_chain(
-            self.heads.as_mut_slice(),
-            self.links.as_mut_slice(),
-            at + 1,
-            at,
         );
+        self.len += 1;
     }
 
-    /// Takes the pair out, which must be there. Its room is there again at once. It walks the chains of that pair and of
-    /// the last one, and takes no memory.
+    /// Takes the pair out, which must be there. Its room is there again at once. It walks from the home of the hash to the
+    /// pair, and takes no memory.
     pub fn remove(&mut self, hash: u64, slot: u32)
         requires present { Contains self.old.pairs (hash, slot) }
         ensures pairs { HasOneMore self.new.pairs self.old.pairs (hash, slot) }
         ensures spare { self.old.spare + 1 ≤ self.new.spare }
     {
-        let at = position(self.heads.as_slice(), self.links.as_slice(), hash, slot);
-        let last = self.links.len() - 1;
-        replace_by_last(self.heads.as_mut_slice(), self.links.as_mut_slice(), at);
-        self.links.truncate(last);
+        take(
+            self.groups.as_mut_slice(),
+            self.hashes.as_slice(),
+            hash,
+            slot,
+        );
+        self.len -= 1;
     }
 
-    /// Gives the pair, which must be there, a new slot, which no other pair has. It walks one chain, and takes no memory.
+    /// Gives the pair, which must be there, a new slot, which no other pair has. It walks from the home of the hash
+    /// to the pair, and takes no memory.
     pub fn rename(&mut self, hash: u64, old: u32, new: u32)
         requires present { Contains self.old.pairs (hash, old) }
         requires absent { of_slot self.old.pairs new ≡ 0 }
         ensures pairs { HasInstead self.old.pairs self.new.pairs (hash, old) (hash, new) }
         ensures spare { self.new.spare ≡ self.old.spare }
     {
-        let at = position(self.heads.as_slice(), self.links.as_slice(), hash, old);
-        self.links[at].slot = new;
+        rename_in(
+            self.groups.as_mut_slice(),
+            self.hashes.as_slice(),
+            hash,
+            old,
+            new,
+        );
     }
 
-    /// Takes every pair out. It writes the head of each bucket, and takes and gives back no memory.
+    /// Takes every pair out. It writes each group, and takes and gives back no memory.
     pub fn clear(&mut self)
         ensures pairs { self.new.pairs ≡ [] }
         ensures spare { self.old.spare + length self.old.pairs ≤ self.new.spare }
     {
-        self.links.clear();
-        self.heads.as_mut_slice().fill(0);
+        self.groups.as_mut_slice().fill(Group::empty());
+        self.len = 0;
     }
 
     /// Gives memory back, but for room for `min` pairs and for those that are there: some at least, where half the room is
@@ -213,14 +233,12 @@ impl HashIndex {
         ensures room { least min (self.old.spare + length self.old.pairs) ≤ self.new.spare + length self.new.pairs }
         ensures refused { OnErr result (self.old.spare ≤ self.new.spare) }
     {
-        let room = min.max(self.links.len());
-        if room < self.room {
-            self.heads.truncate(buckets_for(room));
-            self.heads.shrink_to(0);
-            self.heads.as_mut_slice().fill(0);
-            link_all(self.heads.as_mut_slice(), self.links.as_mut_slice());
-            self.links.shrink_to(room);
-            self.room = room;
+        let least = min.max(self.len).min(self.room);
+        let count = groups_for(least);
+        if room_of(count) < self.room {
+            return self
+                .regroup(count)
+                .map_err(|_| TryReserveError::alloc_error());
         }
         Ok(())
     }
@@ -237,13 +255,10 @@ impl HashIndex {
     fn copy(&self) -> Result<Self, AllocError>
         ensures pairs { IfOk result (λ copy. SamePairs self.now.pairs copy.pairs) }
     {
-        let alloc = *self.heads.allocator();
-        let heads = self.heads.clone()?;
-        let mut links = Vec::with_capacity(alloc, self.room)?;
-        links.extend_from_slice(self.links.as_slice())?;
         Ok(HashIndex {
-            heads,
-            links,
+            groups: self.groups.clone()?,
+            hashes: self.hashes.clone()?,
+            len: self.len,
             room: self.room,
         })
     }

@@ -1,0 +1,16 @@
+use Rattle.std.proofs.Common.{◌≡◌, ◌+◌, ◌*◌, ◌≤◌, length, get_or, true}
+use Rattle.std.specs.Option.{IsSomeAnd}
+use Rattle.iddqd_hash_index.specs.Lanes.{slot_in, tag_of, LanesLeft}
+use Rattle.iddqd_hash_index.specs.Groups.{group_at, mixed, tag_at, pair_at, Compared, IsVisited}
+use Rattle.iddqd_store.specs.Store.{item_at}
+use Rattle.iddqd_hash_index.proofs.hash_index.probe.find_at.Given as goal
+
+abbrev pub invariant-search : goal.invariant-search
+invariant-search g l = record {
+  left : LanesLeft (group_at l.groups l.at) (tag_of (mixed l.hash)) l.lanes.bits (λ k. get_or l.hashes (12 * l.at + k) 0 ≡ l.hash → ¬ IsSomeAnd (item_at l.store (slot_in (group_at l.groups l.at) k)) (λ x. g.Q.Equivalent.equivalent l.query (g.T.IdHashItem.key x) ≡ true));
+  compared : Compared (12 * length l.groups) (tag_at l.groups) (pair_at l.groups l.hashes) l.hash (IsVisited l.at l.lanes.bits) l.fn.steps l.steps;
+  counts_on : l.fn.steps ≤ l.steps;
+}
+
+abbrev pub decreases-search : goal.decreases-search
+decreases-search g l = l.lanes.bits
