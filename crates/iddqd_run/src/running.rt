@@ -14,7 +14,8 @@ use std::alloc::Global;
 
 /// Runs the commands in order on a map of either kind: one reply for each (ours). It takes one vector
 /// of replies, and a clone for each `Get` that finds and each duplicate. Room for all replies is taken first; where it is refused,
-/// none has run, and the commands come back. Shown items are clones, which have to equal what they were made of.
+/// none has run, and the commands come back. Shown items are clones, which have to equal what they were made of, as contracts
+/// see them: an item that holds a `String` does so by a model that shows the text's bytes.
 pub fn run<M: KeyedMap>(
     alloc: Global,
     map: &mut M,

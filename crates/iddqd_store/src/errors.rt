@@ -139,7 +139,8 @@ impl<T, D> DuplicateItem<T, D> {
 }
 
 impl<'a, T: Clone> DuplicateItem<T, &'a T> {
-    /// The same with clones of the items that are lent. Where memory for one was refused, it hands itself back.
+    /// The same with clones of the items that are lent. Where memory for one was refused, it hands itself back. A clone has
+    /// to equal its item, as contracts see it: an item that holds a `String` does so by a model that shows the text's bytes.
     pub fn into_owned(self) -> Result<DuplicateItem<T>, Self>
         requires clones { ClonesAreEqual T.is_clone }
         ensures new { IfOk result (λ owned. new_item_of owned ≡ new_item_of self.entry) }
