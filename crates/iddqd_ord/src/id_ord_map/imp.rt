@@ -1,6 +1,7 @@
 //! Lookups and removals.
-ghost use Rattle.std.specs.Prelude.{◌≡◌, ◌+◌, ◌<◌, length, IfNone, IfSome, OnSome, Some, option_copied, is_some, slice_get};
+ghost use Rattle.std.specs.Prelude.{◌≡◌, ◌+◌, ◌*◌, ◌<◌, ◌≤◌, length, IfNone, IfSome, OnSome, Some, option_copied, is_some, slice_get};
 ghost use Rattle.iddqd_core.specs.Contents.{Ascends, find_item, without};
+ghost use Rattle.iddqd_core.specs.Digits.{digits};
 ghost use Rattle.iddqd_core.specs.Holding.{LeavesSlot};
 
 use super::IdOrdMap;
@@ -8,13 +9,25 @@ use super::paired::take_out;
 use iddqd_core::{Comparable, IdOrdItem, Place, Steps};
 
 impl<T: IdOrdItem> IdOrdMap<T> {
-    /// The item that the query finds, or `None`. It goes down the index once and touches the item found once.
+    /// The item that the query finds, or `None`, by as many comparisons as `get_counted`. It goes down the index once and
+    /// touches the item found once.
     #[inline]
     pub fn get<Q: Comparable<T::Key>>(&self, query: &Q) -> Option<&T>
         requires keyed { Ascends T.key T.Key.cmp self.now.items }
         ensures { option_copied result ≡ find_item T.key (Q.equivalent query.now) self.now.items }
     {
-        let slot = self.index.get(&self.store, query, &mut Steps::new())?;
+        self.get_counted(query, &mut Steps::new())
+    }
+
+    /// As `get`, with the comparisons counted (ours): at most 4 + 2 d, where d is the number of binary digits of `len`.
+    #[inline]
+    pub fn get_counted<Q: Comparable<T::Key>>(&self, query: &Q, steps: &mut Steps) -> Option<&T>
+        requires keyed { Ascends T.key T.Key.cmp self.now.items }
+        ensures found { option_copied result ≡ find_item T.key (Q.equivalent query.now) self.now.items }
+        ensures steps { steps.new ≤ steps.old + 4 + 2 * digits (length self.now.items) }
+        ensures counts_on { steps.old ≤ steps.new }
+    {
+        let slot = self.index.get(&self.store, query, steps)?;
         self.store.get(slot)
     }
 
@@ -37,7 +50,8 @@ impl<T: IdOrdItem> IdOrdMap<T> {
     }
 
     /// Takes out the item that the query finds, and answers it; `None` where there is none, and then nothing has
-    /// changed. The item's slot is vacant then. It takes no memory.
+    /// changed. The item's slot is vacant then. It takes no memory, and makes as many comparisons as `remove_counted`.
+    #[inline]
     pub fn remove<Q: Comparable<T::Key>>(&mut self, query: &Q) -> Option<T>
         requires keyed { Ascends T.key T.Key.cmp self.old.items }
         ensures value { result ≡ find_item T.key (Q.equivalent query.now) self.old.items }
@@ -49,7 +63,29 @@ impl<T: IdOrdItem> IdOrdMap<T> {
         ensures limit { self.new.limit ≡ self.old.limit }
         ensures keyed { Ascends T.key T.Key.cmp self.new.items }
     {
-        match self.index.find(&self.store, query, &mut Steps::new()) {
+        self.remove_counted(query, &mut Steps::new())
+    }
+
+    /// As `remove`, with the comparisons counted (ours): at most 4 + 2 d, where d is the number of binary digits of `len`
+    /// before the call.
+    pub fn remove_counted<Q: Comparable<T::Key>>(
+        &mut self,
+        query: &Q,
+        steps: &mut Steps,
+    ) -> Option<T>
+        requires keyed { Ascends T.key T.Key.cmp self.old.items }
+        ensures value { result ≡ find_item T.key (Q.equivalent query.now) self.old.items }
+        ensures items { self.new.items ≡ without T.key (Q.equivalent query.now) self.old.items }
+        ensures slots { IfSome result (λ taken. LeavesSlot taken self.old self.new) }
+        ensures vacant { OnSome result (self.new.vacant ≡ self.old.vacant + 1) }
+        ensures unchanged { IfNone result (self.new ≡ self.old) }
+        ensures capacity { self.new.capacity ≡ self.old.capacity }
+        ensures limit { self.new.limit ≡ self.old.limit }
+        ensures keyed { Ascends T.key T.Key.cmp self.new.items }
+        ensures steps { steps.new ≤ steps.old + 4 + 2 * digits (length self.old.items) }
+        ensures counts_on { steps.old ≤ steps.new }
+    {
+        match self.index.find(&self.store, query, steps) {
             Ok(place) => Some(take_out(&mut self.store, &mut self.index, place)),
             Err(_) => None,
         }

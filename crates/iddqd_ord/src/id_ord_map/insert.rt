@@ -1,7 +1,8 @@
 //! Insertions. An akin item is looked for first, then the limit, then memory, and only then is anything changed.
-ghost use Rattle.std.specs.Prelude.{◌≡◌, IfOk, IfErr, IfNone, OnOk, OnErr, OnSome, Err};
+ghost use Rattle.std.specs.Prelude.{◌≡◌, ◌+◌, ◌*◌, ◌≤◌, length, IfOk, IfErr, IfNone, OnOk, OnErr, OnSome, Err};
 ghost use Rattle.std.specs.Borrow.{sem};
 ghost use Rattle.iddqd_core.specs.Contents.{Ascends, IsAbsent, find_item, keys, replaced};
+ghost use Rattle.iddqd_core.specs.Digits.{digits};
 ghost use Rattle.iddqd_core.specs.Refusal.{FindsNoRoom, RefusesInsertion, refusal_kind};
 ghost use Rattle.iddqd_core.specs.Search.{IsPlaceAmong};
 
@@ -15,13 +16,31 @@ impl<T: IdOrdItem> IdOrdMap<T> {
     /// Inserts the item where none of an equal key is there. A duplicate needs no memory and lends the item that is
     /// there; then the map is as it was. A full map and refused memory hand the item back, and then the items are as they
     /// were (ours: the crate panics or aborts for want of room).
+    #[inline]
     pub fn insert_unique(&mut self, item: T) -> Result<&mut (), InsertError<'_, T>>
         requires keyed { Ascends T.key T.Key.cmp self.old.items }
         ensures* after { sem 𝓛 (ends_ord_inserted T.row T.key T.Key.cmp self.entry result item) }
         ensures absent { OnOk result (IsAbsent T.key (T.Key.eq (T.key item)) self.old.items) }
         ensures refused { IfErr result (RefusesInsertion T.key T.Key.eq self.old.limit self.old.items item) }
     {
-        let place = match self.index.find(&self.store, item.key(), &mut Steps::new()) {
+        self.insert_unique_counted(item, &mut Steps::new())
+    }
+
+    /// As `insert_unique`, with the comparisons counted (ours): at most 4 + 2 d, where d is the number of binary digits of
+    /// `len` before the call.
+    pub fn insert_unique_counted(
+        &mut self,
+        item: T,
+        steps: &mut Steps,
+    ) -> Result<&mut (), InsertError<'_, T>>
+        requires keyed { Ascends T.key T.Key.cmp self.old.items }
+        ensures* after { sem 𝓛 (ends_ord_inserted T.row T.key T.Key.cmp self.entry result item) }
+        ensures absent { OnOk result (IsAbsent T.key (T.Key.eq (T.key item)) self.old.items) }
+        ensures refused { IfErr result (RefusesInsertion T.key T.Key.eq self.old.limit self.old.items item) }
+        ensures steps { steps.new ≤ steps.old + 4 + 2 * digits (length self.old.items) }
+        ensures counts_on { steps.old ≤ steps.new }
+    {
+        let place = match self.index.find(&self.store, item.key(), steps) {
             Ok(place) => {
                 let existing = Few::One(self.item(place));
                 return Err(InsertError::Duplicate(DuplicateItem::internal_new(item, existing)));

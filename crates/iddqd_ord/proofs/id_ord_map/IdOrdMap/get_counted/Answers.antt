@@ -1,0 +1,13 @@
+use Rattle.std.proofs.Common.{arith, length, ap, ◌∙◌}
+use Rattle.iddqd_ord.proofs.PairedLemmas.{bound_of}
+use Rattle.iddqd_ord.proofs.id_ord_map.IdOrdMap.get_counted.Goals as goal
+
+pub returns-in_err-slot-clause-steps : goal.returns-in_err-slot-clause-steps
+returns-in_err-slot-clause-steps g c =
+    let m = c.self.inside in
+    omega (arith, c.in_err-slot.ensures.steps, bound_of m.store m.index.slots c.self.invariant c.args.self.now.items (ap (λ v. v.items) c.self.view_is))
+
+pub returns-clause-steps : goal.returns-clause-steps
+returns-clause-steps g c =
+    let m = c.self.inside in
+    omega (arith, c.in_ok-slot.ensures.steps, bound_of m.store m.index.slots c.self.invariant c.args.self.now.items (ap (λ v. v.items) c.self.view_is))
