@@ -1,3 +1,10 @@
+pub mod BelowLemmas
+pub mod CutLemmas
+pub mod DenseLemmas
 pub mod DigitLemmas
+pub mod EditLemmas
 pub mod IndexLemmas
 pub mod ListedLemmas
+pub mod PackedLemmas
+pub mod TierLemmas
+pub mod WeaveLemmas

@@ -4,5 +4,6 @@
 mod halves;
 pub mod laws;
 mod ord_index;
+mod tree;
 
 pub use ord_index::{IntoWalk, OrdIndex, Place, Walk};
