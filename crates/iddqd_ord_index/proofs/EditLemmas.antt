@@ -1,7 +1,7 @@
 -- What a change of a branch does to the node's list.
 use Rattle.std.proofs.Common.{◌≡◌, ℕ, suc, zero, ◌+◌, ◌-◌, ◌<◌, List, [], ◌∷◌, ◌++◌, length, map, take, drop, set, get_or, refl, ap, sym, ◌∙◌, subst, arith, append_assoc, length-set, add-one, Option, Some, None, Box, Global}
 use Rattle.std.specs.List.{insert, All}
-use Rattle.std.proofs.lemmas.List.{length-map, length-take-le, map-set, set-set, take-set, take_more_set, drop-set-lt, get_or-set_same, set-append_left}
+use Rattle.std.proofs.lemmas.List.{length-map, length-take-le, map-set, set-set, take-set, take_more_set, drop-set-lt, get_or-set_same, set-append_left, set-append_right, set_at, drop_more}
 use Rattle.std.proofs.lemmas.List.Elements.{All-set}
 use Rattle.std.proofs.lemmas.List.Edits.{insert-append_left, insert-append_right}
 use Rattle.iddqd_ord_index.specs.Cells.{held, filled, IsPacked}
@@ -51,6 +51,44 @@ module _ (ls : List (List ℕ)) (ss : List ℕ) (at i rest : ℕ) (aim : IsAim l
       ap (λ l. weave l (insert ss i middle)) a
       ∙ (w ∙ (ap (λ l. before ++ l) (sym (append_assoc lower (middle ∷ upper) after))
       ∙ (ap (λ l. before ++ (l ++ after)) (sym h) ∙ sym (inserted slot))))
+
+  -- the list with another slot at the position
+  pub branch_renamed : (new : List ℕ) (slot : ℕ) → rest < length (get_or ls i []) → new ≡ set (get_or ls i []) rest slot → weave (set ls i new) ss ≡ set (weave ls ss) at slot
+  branch_renamed new slot lt h =
+      let n = length-set ls i new in
+      let c = weave_cut (set ls i new) ss i (omega (arith, aim.branch)) (n ∙ e) in
+      let b = length-before in
+      let k : at - length before ≡ rest = omega (arith, aim.sum) in
+      let r : set (weave ls ss) at slot ≡ before ++ (set (get_or ls i []) rest slot ++ after) =
+      ap (λ l. set l at slot) (weave_cut ls ss i aim.branch e)
+      ∙ (set-append_right before (get_or ls i [] ++ after) (length before) at slot refl (omega (arith, aim.sum))
+      ∙ (ap (λ j. before ++ set (get_or ls i [] ++ after) j slot) k
+      ∙ ap (λ l. before ++ l) (set-append_left (get_or ls i []) after rest slot lt))) in
+      c ∙ (rw (take-set ls i new, get_or-set_same ls i new [] aim.branch, drop-set-lt (suc i) ls i new (omega arith), h) (sym r))
+
+  pub own_renamed : (slot : ℕ) → rest ≡ length (get_or ls i []) → i < length ss → weave ls (set ss i slot) ≡ set (weave ls ss) at slot
+  own_renamed slot r lt =
+      let m = length-set ss i slot in
+      let b = length-before in
+      let k : at - length before ≡ rest = omega (arith, aim.sum) in
+      let q : suc i < length ls = omega arith in
+      let back : List ℕ = get_or ls (suc i) [] ++ behind (drop (suc i + 1) ls) (drop (i + 1) ss) in
+      let dl : drop (suc i) ls ≡ get_or ls (suc i) [] ∷ drop (suc i + 1) ls = drop_more ls (suc i) [] q in
+      let ds : drop i ss ≡ get_or ss i 0 ∷ drop (i + 1) ss = drop_more ss i 0 lt in
+      let dt : drop i (set ss i slot) ≡ slot ∷ drop (i + 1) ss =
+      drop_more (set ss i slot) i 0 (omega arith)
+      ∙ (ap (λ x. x ∷ drop (i + 1) (set ss i slot)) (get_or-set_same ss i slot 0 lt) ∙ ap (λ l. slot ∷ l) (drop-set-lt (i + 1) ss i slot (omega arith))) in
+      let a : after ≡ get_or ss i 0 ∷ back = ap (λ l. behind l (drop i ss)) dl ∙ ap (λ l. behind (get_or ls (suc i) [] ∷ drop (suc i + 1) ls) l) ds in
+      let f : behind (drop (suc i) ls) (drop i (set ss i slot)) ≡ slot ∷ back = ap (λ l. behind l (drop i (set ss i slot))) dl ∙ ap (λ l. behind (get_or ls (suc i) [] ∷ drop (suc i + 1) ls) l) dt in
+      let x : set (weave ls ss) at slot ≡ before ++ (get_or ls i [] ++ slot ∷ back) =
+      ap (λ l. set l at slot) (weave_cut ls ss i aim.branch e)
+      ∙ (set-append_right before (get_or ls i [] ++ after) (length before) at slot refl (omega (arith, aim.sum))
+      ∙ (ap (λ j. before ++ set (get_or ls i [] ++ after) j slot) k
+      ∙ (ap (λ l. before ++ set (get_or ls i [] ++ l) rest slot) a
+      ∙ ap (λ l. before ++ l) (set_at (get_or ls i []) (get_or ss i 0) back slot rest (sym r))))) in
+      weave_cut ls (set ss i slot) i aim.branch (e ∙ ap (λ j. j + 1) (sym m))
+      ∙ (ap (λ l. pairs (take i ls) l ++ (get_or ls i [] ++ behind (drop (suc i) ls) (drop i (set ss i slot)))) (take-set ss i slot)
+      ∙ (ap (λ l. before ++ (get_or ls i [] ++ l)) f ∙ sym x))
 
 -- a branch that was taken out and put back
 module _ (os : List (Option (Box Node Global))) (i : ℕ) (b : Box Node Global) (p : IsPacked os) (lt : i < length (held os)) where

@@ -1,3 +1,4 @@
+pub mod AimLemmas
 pub mod BelowLemmas
 pub mod CutLemmas
 pub mod DenseLemmas

@@ -1,9 +1,10 @@
 //! A node of the tree. Contracts see it as its slots in order with those below it, its height, and its own number of slots.
-ghost use Rattle.std.specs.Prelude.{◌≡◌, ◌+◌, ◌<◌, ◌≤◌, [], length};
+ghost use Rattle.std.specs.Prelude.{◌≡◌, ◌+◌, ◌^◌, ◌<◌, ◌≤◌, [], length};
 ghost use Rattle.iddqd_ord_index.specs.Nodes.{below};
 ghost use Rattle.iddqd_ord_index.specs.Shape.{unused};
 
 mod below;
+mod places;
 
 use arrayvec::ArrayVec;
 use std::marker::Model;
@@ -59,5 +60,17 @@ impl Node {
         ensures most { result ≤ 11 }
     {
         self.slots.len()
+    }
+
+    // How many slots the node has with those below it.
+    pub(crate) fn len(&self) -> u32
+        requires { length self.now.slots < 2 ^ 32 }
+        ensures { result ≡ length self.now.slots }
+    {
+        let own = self.slots.len();
+        if self.branches.is_empty() {
+            return own as u32;
+        }
+        self.branches.start(own) + self.branches.count(own)
     }
 }

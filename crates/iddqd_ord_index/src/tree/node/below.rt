@@ -1,5 +1,5 @@
 //! The branches of a node and the number of slots below each, changed together.
-ghost use Rattle.std.specs.Prelude.{◌≡◌, ◌+◌, ◌^◌, ◌<◌, ◌≤◌, ◌==◌, [], ◌++◌, length, take, drop, insert, remove, slice_index, slice_index_or, slice_set, nat_le, if◌then◌else◌};
+ghost use Rattle.std.specs.Prelude.{true, false, ◌≡◌, ◌+◌, ◌^◌, ◌<◌, ◌≤◌, ◌==◌, [], ◌++◌, length, take, drop, insert, remove, slice_index, slice_index_or, slice_set, nat_le, if◌then◌else◌};
 ghost use Rattle.iddqd_ord_index.specs.Nodes.{below, AreBranches};
 ghost use Rattle.iddqd_ord_index.specs.Shape.{lists, starts, unused, IsAim};
 
@@ -27,6 +27,14 @@ impl Branches {
         ensures { result ≡ length (below self.now) }
     {
         self.counts.len()
+    }
+
+    pub(super) fn is_empty(&self) -> bool
+        requires { AreBranches self.now }
+        ensures none { result ≡ true → length (below self.now) ≡ 0 }
+        ensures some { result ≡ false → 0 < length (below self.now) }
+    {
+        self.counts.is_empty()
     }
 
     // How many slots lie below the i-th branch.
