@@ -66,3 +66,7 @@ inner_levels ts ss f lt = let b = branch_is ts ss f 0 lt in omega (arith, b.heig
 pub leaf_of : (ts : List Subtree) (ss : List ℕ) → IsForked ts ss → levels ts ≡ 1 → length ts ≡ 0
 leaf_of [] ss f e = refl
 leaf_of (t ∷ ts) ss f e = absurd (omega (arith, inner_levels (t ∷ ts) ss f (omega arith)))
+
+pub inner_of : (ts : List Subtree) → 1 < levels ts → 0 < length ts
+inner_of [] lt = absurd (omega arith)
+inner_of (t ∷ ts) lt = omega arith

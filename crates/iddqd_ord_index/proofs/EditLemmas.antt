@@ -129,3 +129,9 @@ set_forked ks ss i k f h =
 
 pub set_levels : (ks : List Subtree) (ss : List ℕ) (i : ℕ) (k : Subtree) → IsBranch (levels ks) k → levels (set ks i k) ≡ levels ks
 set_levels ks ss i k h = levels_set ks i k h.height
+
+-- a node with other branches that is as high, and what it holds
+pub record IsMade (ts us : List Subtree) (ss all : List ℕ) : Type 0 where
+  pub forked : IsForked us ss
+  pub height : levels us ≡ levels ts
+  pub list : weave (lists us) ss ≡ all

@@ -1,9 +1,11 @@
+pub mod AddLemmas
 pub mod AimLemmas
 pub mod BelowLemmas
 pub mod CutLemmas
 pub mod DenseLemmas
 pub mod DigitLemmas
 pub mod EditLemmas
+pub mod HalfLemmas
 pub mod IndexLemmas
 pub mod ListedLemmas
 pub mod PackedLemmas

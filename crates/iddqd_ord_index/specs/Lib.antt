@@ -1,4 +1,5 @@
 pub mod Cells
+pub mod Changes
 pub mod Digits
 pub mod Falls
 pub mod IndexParts

@@ -2,7 +2,7 @@
 use Rattle.std.specs.Prelude.{◌≡◌, List, length, map, Option}
 use Rattle.std.proofs.Common.{Box, Global}
 use Rattle.iddqd_ord_index.specs.Cells.{held, IsPacked}
-use Rattle.iddqd_ord_index.specs.Shape.{Subtree, weave, levels, lists, IsForked}
+use Rattle.iddqd_ord_index.specs.Shape.{Subtree, tree, IsForked}
 use Rattle.iddqd_ord_index.specs.declared.tree.node.Branches.{Branches}
 use Rattle.iddqd_ord_index.specs.declared.tree.node.Node.{Node}
 use Rattle.iddqd_ord_index.specs.declared.tree.node.Node.TheInside.{Inside}
@@ -21,7 +21,7 @@ pub record AreBranches (bs : Branches) : Type 0 where
   pub counted : bs.counts.items ≡ map (λ t. length t.slots) (below bs)
 
 abbrev pub seen : Inside → Subtree
-seen n = record { slots = weave (lists (below n.branches)) n.slots.items; height = levels (below n.branches); width = length n.slots.items }
+seen n = tree (below n.branches) n.slots.items
 
 pub record IsNode (n : Inside) : Type 0 where
   pub branches : AreBranches n.branches

@@ -36,6 +36,10 @@ abbrev pub levels : List Subtree → ℕ
 levels [] = 1
 levels (t ∷ ts) = t.height + 1
 
+-- a node with these branches and own slots
+abbrev pub tree : List Subtree → List ℕ → Subtree
+tree ts ss = record { slots = weave (lists ts) ss; height = levels ts; width = length ss }
+
 -- as many slots at least as the height calls for, where the node itself has this many
 pub record IsDense (t : Subtree) : Type 0 where
   pub low : 1 ≤ t.height

@@ -4,6 +4,7 @@ ghost use Rattle.iddqd_ord_index.specs.Nodes.{below};
 ghost use Rattle.iddqd_ord_index.specs.Shape.{unused};
 
 mod below;
+mod insert;
 mod places;
 
 use arrayvec::ArrayVec;

@@ -6,7 +6,7 @@ use Rattle.iddqd_ord_index.specs.Shape.{Subtree, lists, weave, levels, unused, I
 use Rattle.iddqd_ord_index.proofs.AimLemmas.{starts_is, own_read, branch_is, rest_within, aim_in, aim_fork, aim_list}
 use Rattle.iddqd_ord_index.proofs.BelowLemmas.{branches_put}
 use Rattle.iddqd_ord_index.proofs.DenseLemmas.{dense_of}
-use Rattle.iddqd_ord_index.proofs.EditLemmas.{branch_renamed, own_renamed, set_forked, set_levels}
+use Rattle.iddqd_ord_index.proofs.EditLemmas.{branch_renamed, own_renamed, IsMade, set_forked, set_levels}
 use Rattle.iddqd_ord_index.proofs.tree.node.Node.+rename.Goals as goal
 
 pub aim-i-requires-clause-reached : goal.aim-i-requires-clause-reached
@@ -43,13 +43,8 @@ returns-then-rest-count-clause-dense t c =
     dense_of (below c.self.inside.branches) c.replace-then-rest-count.new.items.items (same_forked (below c.self.inside.branches) c.self.inside.slots.items c.replace-then-rest-count.new.items.items (ap length c.replace-then-rest-count.ensures.items ∙ n) c.self.invariant.forked)
 
 -- the branch in which the slot is renamed, in its place again
-record IsRenamed (ts us : List Subtree) (ss : List ℕ) (all : List ℕ) : Type 0 where
-  forked : IsForked us ss
-  height : levels us ≡ levels ts
-  list : weave (lists us) ss ≡ all
-
 renamed : (ts : List Subtree) (ss : List ℕ) (at i rest slot : ℕ) (new : Subtree) → IsForked ts ss → IsAim (lists ts) at i rest → rest < length (get_or ts i unused).slots → new.slots ≡ set (get_or ts i unused).slots rest slot → new.height ≡ (get_or ts i unused).height → new.width ≡ (get_or ts i unused).width → IsDense new
-    → IsRenamed ts (set ts i new) ss (set (weave (lists ts) ss) at slot)
+    → IsMade ts (set ts i new) ss (set (weave (lists ts) ss) at slot)
 renamed ts ss at i rest slot new f aim lt s h w d =
     let b = branch_is ts ss f i (aim_in ts ss at i rest f aim) in
     let k : IsBranch (levels ts) new = record { height = omega (arith, b.height); wide = omega (arith, b.wide); dense = d } in
@@ -62,7 +57,7 @@ renamed ts ss at i rest slot new f aim lt s h w d =
     }
 
 -- the node with the branch put back
-made : (t : ℕ) (c : goal.After-put t) → AreBranches c.put.new.self × IsRenamed (below c.self.inside.branches) (below c.put.new.self) c.self.inside.slots.items (set c.args.self.now.slots c.args.at c.args.new)
+made : (t : ℕ) (c : goal.After-put t) → AreBranches c.put.new.self × IsMade (below c.self.inside.branches) (below c.put.new.self) c.self.inside.slots.items (set c.args.self.now.slots c.args.at c.args.new)
 made t c =
     let old = c.self.inside.branches in
     let ts = below old in
@@ -82,7 +77,7 @@ made t c =
     (c.put.ensures.counts ∙ ap (λ l. set l.items i c.count-count.result) c.take-node.ensures.counts)
     (c.count-count.ensures ∙ (sym m ∙ sym (ap length s))) in
     let a = ap (λ t. set t.slots c.args.at c.args.new) c.self.view_is in
-    (b.0, subst (λ l. IsRenamed ts (below c.put.new.self) ss l) a (subst (λ us. IsRenamed ts us ss (set (weave (lists ts) ss) c.args.at c.args.new)) (sym b.1) r))
+    (b.0, subst (λ l. IsMade ts (below c.put.new.self) ss l) a (subst (λ us. IsMade ts us ss (set (weave (lists ts) ss) c.args.at c.args.new)) (sym b.1) r))
 
 pub invariant_of-self-2 : goal.invariant_of-self-2
 invariant_of-self-2 t c = let m = made t c in record { branches = m.0; forked = m.1.forked }
