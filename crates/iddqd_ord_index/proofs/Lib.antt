@@ -8,6 +8,9 @@ pub mod EditLemmas
 pub mod HalfLemmas
 pub mod IndexLemmas
 pub mod ListedLemmas
+pub mod MendLemmas
 pub mod PackedLemmas
+pub mod PairLemmas
+pub mod RemoveLemmas
 pub mod TierLemmas
 pub mod WeaveLemmas

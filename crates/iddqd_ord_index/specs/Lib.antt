@@ -4,6 +4,7 @@ pub mod Digits
 pub mod Falls
 pub mod IndexParts
 pub mod Listed
+pub mod Neighbours
 pub mod Nodes
 pub mod Search
 pub mod Shape

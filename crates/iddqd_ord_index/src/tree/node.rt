@@ -5,7 +5,9 @@ ghost use Rattle.iddqd_ord_index.specs.Shape.{unused};
 
 mod below;
 mod insert;
+mod pair;
 mod places;
+mod remove;
 
 use arrayvec::ArrayVec;
 use std::marker::Model;

@@ -1,5 +1,6 @@
 //! The unused nodes of a tree, which an insertion that splits takes and a removal that merges gives back.
-ghost use Rattle.std.specs.Prelude.{◌≡◌, ◌+◌, ◌-◌, ◌<◌, nat_lt, if◌then◌else◌};
+ghost use Rattle.std.specs.Prelude.{◌≡◌, ◌-◌, ◌<◌};
+ghost use Rattle.iddqd_ord_index.specs.Neighbours.{given_back};
 ghost use Rattle.iddqd_ord_index.specs.Shape.{unused};
 
 use super::node::Node;
@@ -39,7 +40,7 @@ impl Spare {
     // Keeps an unused node where it is wanted, and else frees it.
     pub(crate) fn give_back(&mut self, node: Box<Node>)
         requires { node.value ≡ unused }
-        ensures { self.new ≡ record self.old { count = if nat_lt self.old.count self.old.wanted then self.old.count + 1 else self.old.count } }
+        ensures { self.new ≡ given_back self.old }
     {
         if self.nodes.len() < self.wanted {
             self.nodes.push_reserved(node);
