@@ -3,12 +3,16 @@ pub mod AimLemmas
 pub mod BelowLemmas
 pub mod CutLemmas
 pub mod DenseLemmas
+pub mod DescentLemmas
 pub mod DigitLemmas
 pub mod EditLemmas
+pub mod EndLemmas
+pub mod FoundLemmas
 pub mod HalfLemmas
 pub mod IndexLemmas
 pub mod ListedLemmas
 pub mod MendLemmas
+pub mod OrderLemmas
 pub mod PackedLemmas
 pub mod PairLemmas
 pub mod RemoveLemmas

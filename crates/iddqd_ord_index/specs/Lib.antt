@@ -8,3 +8,4 @@ pub mod Neighbours
 pub mod Nodes
 pub mod Search
 pub mod Shape
+pub mod Standing

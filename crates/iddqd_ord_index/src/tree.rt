@@ -1,4 +1,5 @@
 //! A B-tree of slots: a list that is changed by position, and searched by the keys of the slots' items.
 mod cells;
 pub(crate) mod node;
+mod search;
 pub(crate) mod spare;

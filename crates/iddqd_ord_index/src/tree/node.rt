@@ -4,6 +4,9 @@ ghost use Rattle.iddqd_ord_index.specs.Nodes.{below};
 ghost use Rattle.iddqd_ord_index.specs.Shape.{unused};
 
 mod below;
+mod clone;
+mod ends;
+mod find;
 mod insert;
 mod pair;
 mod places;
