@@ -9,6 +9,7 @@ pub mod EditLemmas
 pub mod EndLemmas
 pub mod FoundLemmas
 pub mod HalfLemmas
+pub mod HeightLemmas
 pub mod IndexLemmas
 pub mod ListedLemmas
 pub mod MendLemmas
@@ -16,5 +17,6 @@ pub mod OrderLemmas
 pub mod PackedLemmas
 pub mod PairLemmas
 pub mod RemoveLemmas
+pub mod StandingLemmas
 pub mod TierLemmas
 pub mod WeaveLemmas

@@ -57,7 +57,12 @@ fn face(store: &ItemStore<Coin>, slot: Option<u32>) -> Option<u32> {
 fn holds(index: &OrdIndex, slot: u32) -> bool
     ensures { result ≡ false → ¬ Contains index.now.slots slot }
 {
-    index.slots.contains(&slot)
+    for at in 0..index.len() as usize {
+        if index.slot_at(index.place(at)) == slot {
+            return true;
+        }
+    }
+    false
 }
 
 fn insert(rt: &impl Abort, index: &mut OrdIndex, position: u32, slot: u32) -> Result<(), Fail> {

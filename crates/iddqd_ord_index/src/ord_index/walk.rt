@@ -3,31 +3,37 @@ ghost use Rattle.std.specs.Prelude.{◌≡◌, length, IfSome};
 ghost use Rattle.std.specs.Iterator.{UpTo, YieldsFirst, at_most, item_count};
 ghost use Rattle.std.specs.Iterator.SizeHint.{IsWithinCount};
 
+use crate::tree::node::Node;
 use std::iter::FusedIterator;
 use std::marker::Model;
-use std::{slice, vec};
 
 /// The slots of an index in order, each once.
 #[derive(Drop)]
 pub struct Walk<'a> {
-    slots: slice::Iter<'a, u32>,
+    root: &'a Node,
+    next: u32,
+    end: u32,
 }
 
 impl<'a> Model for Walk<'a> {
-    ghost use Rattle.std.specs.Prelude.{List, ℕ};
-    ghost use Rattle.std.specs.Slice.Iter.{iter_rest};
+    ghost use Rattle.std.specs.Prelude.{◌≡◌, ◌≤◌, List, ℕ, drop, length};
 
     ghost Value = { List ℕ };
 
-    ghost view = { λ w. iter_rest w.slots };
+    ghost view = { λ w. drop w.next w.root.now.slots };
+
+    ghost invariant = { λ w. (w.next ≤ w.end) × (w.end ≡ length w.root.now.slots) };
 }
 
 impl<'a> Walk<'a> {
-    pub(crate) fn new(slots: &'a [u32]) -> Self
-        ensures { result ≡ slots.now }
+    pub(crate) fn new(root: &'a Node, len: u32) -> Self
+        requires { len ≡ length root.now.slots }
+        ensures { result ≡ root.now.slots }
     {
         Walk {
-            slots: slots.iter(),
+            root,
+            next: 0,
+            end: len,
         }
     }
 }
@@ -40,7 +46,12 @@ impl Iterator for Walk<'_> {
     ghost remaining = { item_count (λ w. w) };
 
     fn next(&mut self) -> Option<u32> {
-        self.slots.next().copied()
+        if self.next == self.end {
+            return None;
+        }
+        let slot = self.root.slot_at(self.next);
+        self.next += 1;
+        Some(slot)
     }
 
     fn size_hint(&self) -> (usize, Option<usize>)
@@ -55,7 +66,7 @@ impl Iterator for Walk<'_> {
 
 impl ExactSizeIterator for Walk<'_> {
     fn len(&self) -> usize {
-        self.slots.len()
+        (self.end - self.next) as usize
     }
 }
 

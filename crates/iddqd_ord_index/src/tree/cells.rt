@@ -92,4 +92,3 @@ pub(crate) fn append<T>(cells: &mut [Option<T>], len: usize, upper: &mut [Option
 {
     cells[len..len + more].swap_with_slice(&mut upper[..more]);
 }
-

@@ -4,10 +4,7 @@ ghost use Rattle.iddqd_ord_index.specs.Digits.{digits};
 ghost use Rattle.iddqd_ord_index.specs.Listed.{AreOccupied};
 ghost use Rattle.iddqd_ord_index.specs.Standing.{slot_standing, IsMonotone, IsPlace};
 
-use iddqd_store::Comparable;
-use iddqd_store::IdOrdItem;
-use iddqd_store::ItemStore;
-use iddqd_store::Steps;
+use iddqd_store::{Comparable, IdOrdItem, ItemStore, Steps};
 use std::cmp::Ordering;
 
 /// The place of the slot whose item the query stands for, or the place where it belongs. It makes at most as many

@@ -1,5 +1,5 @@
 //! The unused nodes of a tree, which an insertion that splits takes and a removal that merges gives back.
-ghost use Rattle.std.specs.Prelude.{◌≡◌, ◌-◌, ◌^◌, ◌<◌, ◌≤◌, OnOk, OnErr};
+ghost use Rattle.std.specs.Prelude.{◌≡◌, ◌-◌, ◌^◌, ◌<◌, ◌≤◌, OnOk, OnErr, IfOk};
 ghost use Rattle.iddqd_ord_index.specs.Neighbours.{given_back};
 ghost use Rattle.iddqd_ord_index.specs.Shape.{unused};
 
@@ -34,6 +34,16 @@ impl Spare {
             nodes: Vec::new(alloc),
             wanted: 0,
         }
+    }
+
+    // No unused nodes, and room for so many that are wanted.
+    pub(crate) fn wanting(wanted: usize, alloc: Global) -> Result<Self, AllocError>
+        ensures { IfOk result (λ spare. (spare.wanted ≡ wanted) × (wanted ≤ spare.room)) }
+    {
+        let mut spare = Spare::new(alloc);
+        spare.make_room(wanted)?;
+        spare.want(wanted);
+        Ok(spare)
     }
 
     // Sees to as many as are wanted, and to room for one more. Where one is refused, what was gained stays.

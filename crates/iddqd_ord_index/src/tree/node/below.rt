@@ -168,7 +168,10 @@ impl Branches {
         ensures upper_below { below upper.new ≡ drop i (below self.old) }
     {
         cells::move_tail(&mut self.nodes, i, &mut upper.nodes);
-        let Ok(()) = upper.counts.try_extend_from_slice(&self.counts.as_slice()[i..]) else {
+        let Ok(()) = upper
+            .counts
+            .try_extend_from_slice(&self.counts.as_slice()[i..])
+        else {
             unreachable!()
         };
         self.counts.truncate(i);

@@ -5,10 +5,7 @@ ghost use Rattle.iddqd_ord_index.specs.Standing.{slot_standing, IsAmong, IsMonot
 
 use super::Node;
 use crate::tree::search::search;
-use iddqd_store::Comparable;
-use iddqd_store::IdOrdItem;
-use iddqd_store::ItemStore;
-use iddqd_store::Steps;
+use iddqd_store::{Comparable, IdOrdItem, ItemStore, Steps};
 
 impl Node {
     // Where the query belongs, by at most four comparisons a level.

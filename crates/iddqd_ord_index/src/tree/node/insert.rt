@@ -11,7 +11,12 @@ use arrayvec::ArrayVec;
 
 // Puts `slot` at place `i` of eleven, moves the upper half into `upper`, which is empty, and answers the slot between the
 // halves.
-fn split_slots(slots: &mut ArrayVec<u32, 11>, i: usize, slot: u32, upper: &mut ArrayVec<u32, 11>) -> u32
+fn split_slots(
+    slots: &mut ArrayVec<u32, 11>,
+    i: usize,
+    slot: u32,
+    upper: &mut ArrayVec<u32, 11>,
+) -> u32
     requires full { array_vec_len slots.old ≡ 11 }
     requires in_bounds { i ≤ 11 }
     requires upper_empty { upper.old.items ≡ [] }
@@ -100,7 +105,14 @@ fn add_branch(
 
 impl Node {
     // Makes an unused node the root above two halves, below which so many slots lie.
-    pub(crate) fn fork(&mut self, lower: Box<Node>, lower_count: u32, middle: u32, upper: Box<Node>, upper_count: u32)
+    pub(crate) fn fork(
+        &mut self,
+        lower: Box<Node>,
+        lower_count: u32,
+        middle: u32,
+        upper: Box<Node>,
+        upper_count: u32,
+    )
         requires unused { self.old ≡ unused }
         requires lower { IsBranch (lower.value.height + 1) lower.value }
         requires upper { IsBranch (lower.value.height + 1) upper.value }
@@ -160,6 +172,14 @@ impl Node {
         };
         let above = upper.len();
         self.branches.put(i, node, count - above - 1);
-        add_branch(&mut self.slots, &mut self.branches, i, middle, upper, above, spare)
+        add_branch(
+            &mut self.slots,
+            &mut self.branches,
+            i,
+            middle,
+            upper,
+            above,
+            spare,
+        )
     }
 }

@@ -53,7 +53,13 @@ fn settle(
 }
 
 // Mends the i-th branch, whose node has this many slots of its own, if it is one short.
-fn mend(slots: &mut ArrayVec<u32, 11>, branches: &mut Branches, i: usize, width: usize, spare: &mut Spare)
+fn mend(
+    slots: &mut ArrayVec<u32, 11>,
+    branches: &mut Branches,
+    i: usize,
+    width: usize,
+    spare: &mut Spare,
+)
     requires branches { AreBranches branches.old }
     requires near { IsNear (below branches.old) slots.old.items i }
     requires width { width ≡ (slice_index_or (below branches.old) i unused).width }
@@ -72,7 +78,15 @@ fn mend(slots: &mut ArrayVec<u32, 11>, branches: &mut Branches, i: usize, width:
     let j = i.min(slots.len() - 1);
     let (lower, lower_count) = branches.remove(j);
     let (upper, upper_count) = branches.remove(j);
-    settle(slots, branches, j, lower, upper, lower_count + upper_count, spare);
+    settle(
+        slots,
+        branches,
+        j,
+        lower,
+        upper,
+        lower_count + upper_count,
+        spare,
+    );
 }
 
 // The slot that leaves its node where position `rest` of the i-th branch, which had `len` slots, is taken out: the one that

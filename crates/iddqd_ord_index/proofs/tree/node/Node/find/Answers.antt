@@ -104,4 +104,3 @@ returns-in-Err-search-clause-place g c =
 pub returns-in-Err-search-clause-steps : goal.returns-in-Err-search-clause-steps
 returns-in-Err-search-clause-steps g c =
     omega (arith, digits_four (length c.as_slice-2.result.now) c.as_slice-2.ensures.fits, c.down.invariant.counted, c.in-Err-search.ensures.steps, leaf_levels (below c.node.inside.branches) (c.is_empty.ensures.none c.down-test.false), ap (λ t. t.height) c.node.view_is)
-

@@ -50,4 +50,3 @@ pub returns-clause-slots : goal.returns-clause-slots
 returns-clause-slots c =
     let m = both (below c.args.branches.now) (below c.remove-lower.new.self) (below c.remove-upper.new.self) c.args.slots.now.items c.args.i c.min-j.result c.len.result c.args.width c.remove-lower.result.0.value c.remove-upper.result.0.value c.requires.near c.min-j.ensures c.len.ensures.value c.remove-lower.ensures.below c.remove-upper.ensures.below c.remove-lower.ensures.node c.remove-upper.ensures.node c.requires.width c.if-width-ge5.false in
     c.settle.ensures.slots ∙ ap (λ l. weave l c.args.slots.now.items) m.back
-
