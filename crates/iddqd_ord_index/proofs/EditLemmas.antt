@@ -1,7 +1,8 @@
 -- What a change of a branch does to the node's list.
 use Rattle.std.proofs.Common.{◌≡◌, ℕ, suc, zero, ◌+◌, ◌-◌, ◌<◌, List, [], ◌∷◌, ◌++◌, length, map, take, drop, set, get_or, refl, ap, sym, ◌∙◌, subst, arith, append_assoc, length-set, add-one, Option, Some, None, Box, Global}
 use Rattle.std.specs.List.{insert, All}
-use Rattle.std.proofs.lemmas.List.{length-map, length-take-le, map-set, set-set, take-set, take_more_set, drop-set-lt, get_or-set_same, set-append_left, set-append_right, set_at, drop_more}
+use Rattle.std.proofs.lemmas.List.{length-map, length-take-le, map-set, set-set, take-set, take_more_set, drop-set-lt, get_or-set_same, set-append_left, set-append_right, set_at, drop_more, drop_all, drop-append-le}
+use Rattle.std.proofs.Math.Seq.{drop-append-add}
 use Rattle.std.proofs.lemmas.List.Elements.{All-set}
 use Rattle.std.proofs.lemmas.List.Edits.{insert-append_left, insert-append_right}
 use Rattle.iddqd_ord_index.specs.Cells.{held, filled, IsPacked}
@@ -39,6 +40,25 @@ module _ (ls : List (List ℕ)) (ss : List ℕ) (at i rest : ℕ) (aim : IsAim l
       let n = length-set ls i new in
       let c = weave_cut (set ls i new) ss i (omega (arith, aim.branch)) (n ∙ e) in
       c ∙ (rw (take-set ls i new, get_or-set_same ls i new [] aim.branch, drop-set-lt (suc i) ls i new (omega arith), h) (sym (inserted slot)))
+
+  -- the list from the position on
+  pub dropped : drop at (weave ls ss) ≡ drop rest (get_or ls i []) ++ after
+  dropped =
+      let n = length-before in
+      let k : length before + rest ≡ at = omega (arith, aim.sum) in
+      ap (λ j. drop j (weave ls ss)) (sym k)
+      ∙ (ap (λ l. drop (length before + rest) l) (weave_cut ls ss i aim.branch e)
+      ∙ (drop-append-add before (get_or ls i [] ++ after) rest
+      ∙ drop-append-le rest (get_or ls i []) after aim.within))
+
+  pub own_dropped : rest ≡ length (get_or ls i []) → i < length ss → (back : List ℕ) × (drop at (weave ls ss) ≡ get_or ss i 0 ∷ back)
+  own_dropped r lt =
+      let q : suc i < length ls = omega arith in
+      let back : List ℕ = get_or ls (suc i) [] ++ behind (drop (suc i + 1) ls) (drop (i + 1) ss) in
+      let dl : drop (suc i) ls ≡ get_or ls (suc i) [] ∷ drop (suc i + 1) ls = drop_more ls (suc i) [] q in
+      let ds : drop i ss ≡ get_or ss i 0 ∷ drop (i + 1) ss = drop_more ss i 0 lt in
+      let a : after ≡ get_or ss i 0 ∷ back = ap (λ l. behind l (drop i ss)) dl ∙ ap (λ l. behind (get_or ls (suc i) [] ∷ drop (suc i + 1) ls) l) ds in
+      (back, dropped ∙ (ap (λ l. l ++ after) (drop_all rest (get_or ls i []) (omega arith)) ∙ a))
 
   pub branch_split : (lower upper : List ℕ) (middle slot : ℕ) → insert (get_or ls i []) rest slot ≡ lower ++ middle ∷ upper
       → weave (insert (set ls i lower) (i + 1) upper) (insert ss i middle) ≡ insert (weave ls ss) at slot

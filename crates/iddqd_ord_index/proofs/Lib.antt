@@ -17,6 +17,7 @@ pub mod OrderLemmas
 pub mod PackedLemmas
 pub mod PairLemmas
 pub mod RemoveLemmas
+pub mod RunLemmas
 pub mod StandingLemmas
 pub mod TierLemmas
 pub mod WeaveLemmas

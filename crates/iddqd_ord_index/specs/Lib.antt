@@ -6,6 +6,7 @@ pub mod IndexParts
 pub mod Listed
 pub mod Neighbours
 pub mod Nodes
+pub mod Runs
 pub mod Search
 pub mod Shape
 pub mod Standing

@@ -1,5 +1,6 @@
 //! A walk over the slots of an ordered index. Contracts see the slots that are still to come.
-ghost use Rattle.std.specs.Prelude.{◌≡◌, length, IfSome};
+ghost use Rattle.std.specs.Prelude.{◌≡◌, ◌<◌, length, IfSome};
+ghost use Rattle.iddqd_ord_index.specs.Runs.{BeginsWith};
 ghost use Rattle.std.specs.Iterator.{UpTo, YieldsFirst, at_most, item_count};
 ghost use Rattle.std.specs.Iterator.SizeHint.{IsWithinCount};
 
@@ -11,6 +12,8 @@ use std::marker::Model;
 #[derive(Drop)]
 pub struct Walk<'a> {
     root: &'a Node,
+    // The slots that come next and stand side by side in one node.
+    run: &'a [u32],
     next: u32,
     end: u32,
 }
@@ -18,11 +21,13 @@ pub struct Walk<'a> {
 impl<'a> Model for Walk<'a> {
     ghost use Rattle.std.specs.Prelude.{◌≡◌, ◌≤◌, List, ℕ, drop, length};
 
+    ghost use Rattle.iddqd_ord_index.specs.Runs.{BeginsWith};
+
     ghost Value = { List ℕ };
 
     ghost view = { λ w. drop w.next w.root.now.slots };
 
-    ghost invariant = { λ w. (w.next ≤ w.end) × (w.end ≡ length w.root.now.slots) };
+    ghost invariant = { λ w. (w.next ≤ w.end) × (w.end ≡ length w.root.now.slots) × BeginsWith w.run.now (drop w.next w.root.now.slots) };
 }
 
 impl<'a> Walk<'a> {
@@ -32,9 +37,24 @@ impl<'a> Walk<'a> {
     {
         Walk {
             root,
+            run: &[],
             next: 0,
             end: len,
         }
+    }
+}
+
+impl<'a> Walk<'a> {
+    // The run that comes next: the rest of this one, or another where this one is at its end.
+    fn run(&self) -> &'a [u32]
+        requires { 0 < length self.now }
+        ensures some { 0 < length result.now }
+        ensures run { BeginsWith result.now self.now }
+    {
+        if self.run.is_empty() {
+            return self.root.run_at(self.next);
+        }
+        self.run
     }
 }
 
@@ -49,9 +69,10 @@ impl Iterator for Walk<'_> {
         if self.next == self.end {
             return None;
         }
-        let slot = self.root.slot_at(self.next);
+        let run = self.run();
+        self.run = &run[1..];
         self.next += 1;
-        Some(slot)
+        Some(run[0])
     }
 
     fn size_hint(&self) -> (usize, Option<usize>)

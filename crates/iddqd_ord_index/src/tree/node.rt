@@ -11,6 +11,7 @@ mod insert;
 mod pair;
 mod places;
 mod remove;
+mod walk;
 
 use arrayvec::ArrayVec;
 use std::marker::Model;
