@@ -1,52 +1,41 @@
 -- An index stays one as its list changes.
-use Rattle.std.proofs.Common.{◌≡◌, ℕ, ◌<◌, ◌≤◌, Bool, false, IsTrue, List, [], ◌++◌, length, set, Option, Some, None, Bor, refl, sym, ap, subst, true≢false, arith, nat_eq, length-append}
-use Rattle.std.proofs.lemmas.List.{length-set}
-use Rattle.std.proofs.lemmas.List.Edits.{length-insert, length-remove}
-use Rattle.std.proofs.lemmas.Option.{slice_get_past, slice_get_read}
+use Rattle.std.proofs.Common.{◌≡◌, ℕ, ◌+◌, ◌<◌, ◌≤◌, Bool, false, IsTrue, List, [], length, set, sym, ap, ◌∙◌, subst, true≢false, arith, nat_eq}
 use Rattle.std.specs.Cmp.{nat_eq_equiv}
-use Rattle.std.specs.List.{Contains, IsDistinct, insert, remove, slice_get}
-use Rattle.std.specs.Option.{option_copied}
-use Rattle.std.specs.Slice.{IsItemAt}
+use Rattle.std.specs.List.{Contains, IsDistinct, insert, remove}
 use Rattle.iddqd_ord_index.specs.IndexParts.{IsIndex}
-use Rattle.iddqd_store.proofs.DistinctLemmas.{absent_apart, distinct_insert, distinct_remove, distinct_set, distinct_front}
+use Rattle.iddqd_ord_index.specs.Shape.{unused}
+use Rattle.iddqd_ord_index.specs.declared.ord_index.OrdIndex.TheInside.{Inside}
+use Rattle.iddqd_store.proofs.DistinctLemmas.{absent_apart, distinct_insert, distinct_remove, distinct_set}
 
--- an index that is not prepared asks nothing of its capacity
-unprepared : (slots : List ℕ) (capacity : ℕ) → IsDistinct nat_eq slots → length slots ≤ 4294967295 → IsIndex slots false capacity
-unprepared slots capacity once numbered = record {
-  each_once = once;
-  numbered = numbered;
-  has_room = λ prepared. absurd (true≢false (sym prepared));
-}
-
-pub empty_index : (capacity : ℕ) → IsIndex [] false capacity
+none_distinct : IsDistinct nat_eq []
 unfolding IsDistinct
-empty_index capacity = unprepared [] capacity tt (omega arith)
+none_distinct = tt
 
-module _ {slots : List ℕ} {prepared : Bool} {capacity : ℕ} (index : IsIndex slots prepared capacity) (after : ℕ) where
-  pub index_insert : (i slot : ℕ) → IsTrue prepared → i ≤ length slots → ¬ Contains slots slot → IsIndex (insert slots i slot) false after
-  index_insert i slot p within absent =
-      let room = index.has_room p in
-      unprepared (insert slots i slot) after
-      (distinct_insert nat_eq nat_eq_equiv.symm slot slots i (absent_apart slots slot absent) index.each_once)
-      (omega (arith, length-insert slots i slot within, room.1))
+-- an index that is not prepared has nothing ready
+pub unready : {P : Type 0} (b : Bool) → b ≡ false → IsTrue b → P
+unready b e t = absurd (true≢false (sym t ∙ e))
 
-  pub index_remove : (i : ℕ) → i < length slots → IsIndex (remove slots i) false after
-  index_remove i within =
-      unprepared (remove slots i) after (distinct_remove nat_eq slots i index.each_once) (omega (arith, length-remove slots i within, index.numbered))
+pub empty_index : (i : Inside) → i.root ≡ unused → i.len ≡ 0 → i.levels ≡ 1 → i.prepared ≡ false → IsIndex i
+empty_index i r l h p =
+    let n : length i.root.slots ≡ 0 = ap (λ t. length t.slots) r in
+    let k : i.root.height ≡ 1 = ap (λ t. t.height) r in
+    record {
+      each_once = subst (λ t. IsDistinct nat_eq t.slots) (sym r) none_distinct;
+      numbered = omega arith;
+      len = omega arith;
+      levels = omega arith;
+      dense = rw r (record { low = omega arith; many = omega arith });
+      top = λ lt. absurd (omega arith);
+      wanted = λ lt. absurd (omega arith);
+      ready = λ t. unready i.prepared p t;
+    }
 
-  pub index_set : (i slot : ℕ) → ¬ Contains slots slot → IsIndex (set slots i slot) false after
-  index_set i slot absent =
-      unprepared (set slots i slot) after
-      (distinct_set nat_eq nat_eq_equiv.symm slot slots i (absent_apart slots slot absent) index.each_once)
-      (omega (arith, length-set slots i slot, index.numbered))
+module _ (slots : List ℕ) (once : IsDistinct nat_eq slots) where
+  pub once_insert : (i slot : ℕ) → ¬ Contains slots slot → IsDistinct nat_eq (insert slots i slot)
+  once_insert i slot absent = distinct_insert nat_eq nat_eq_equiv.symm slot slots i (absent_apart slots slot absent) once
 
-  pub index_front : (front back : List ℕ) → slots ≡ front ++ back → IsIndex front false after
-  index_front front back e =
-      unprepared front after
-      (distinct_front nat_eq front back (subst (IsDistinct nat_eq) e index.each_once))
-      (omega (arith, index.numbered, ap length e, length-append front back))
+  pub once_remove : (i : ℕ) → IsDistinct nat_eq (remove slots i)
+  once_remove i = distinct_remove nat_eq slots i once
 
--- what is copied from a slice's element is that element
-pub copied_item : {X : Type 0} (xs : List X) (i : ℕ) (r : Option (Bor X)) → IsItemAt xs i r → option_copied r ≡ slice_get xs i
-copied_item xs i None h = sym (slice_get_past xs i h.3)
-copied_item xs i (Some x) h = sym (slice_get_read xs (length xs) i x.now refl h.3.0 h.1)
+  pub once_set : (i slot : ℕ) → ¬ Contains slots slot → IsDistinct nat_eq (set slots i slot)
+  once_set i slot absent = distinct_set nat_eq nat_eq_equiv.symm slot slots i (absent_apart slots slot absent) once

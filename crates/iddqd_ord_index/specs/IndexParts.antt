@@ -1,9 +1,19 @@
--- How an ordered index lies in one vector. No public clause cites this module.
-use Rattle.std.specs.Prelude.{ℕ, ◌<◌, ◌≤◌, Bool, IsTrue, List, length, nat_eq}
+-- How an ordered index lies in a tree. No public clause cites this module.
+use Rattle.std.specs.Prelude.{◌≡◌, ◌+◌, ◌<◌, ◌≤◌, IsTrue, length, nat_eq}
 use Rattle.std.specs.List.{IsDistinct}
+use Rattle.iddqd_ord_index.specs.Shape.{IsDense}
+use Rattle.iddqd_ord_index.specs.declared.ord_index.OrdIndex.TheInside.{Inside}
 
--- each slot stands once, their places have numbers of 32 bits, and a prepared index has room for one more
-pub record IsIndex (slots : List ℕ) (prepared : Bool) (capacity : ℕ) : Type 0 where
-  pub each_once : IsDistinct nat_eq slots
-  pub numbered : length slots ≤ 4294967295
-  pub has_room : IsTrue prepared → (length slots < capacity) × (length slots < 4294967295)
+-- each slot stands once, their places have numbers of 32 bits, and the numbers of slots and levels are those of the tree
+pub record IsIndex (i : Inside) : Type 0 where
+  pub each_once : IsDistinct nat_eq i.root.slots
+  pub numbered : length i.root.slots ≤ 4294967295
+  pub len : i.len ≡ length i.root.slots
+  pub levels : i.levels ≡ i.root.height
+  pub dense : IsDense i.root
+  -- the root of a tree of several levels has a slot of its own
+  pub top : 1 < i.root.height → 1 ≤ i.root.width
+  -- as many unused nodes are wanted as there are levels and one more, and there is room for them
+  pub wanted : 1 < i.levels → (i.spare.wanted ≡ i.levels + 1) × (i.levels < i.spare.room)
+  -- a prepared index has so many, and room for those that it wants when the root rises
+  pub ready : IsTrue i.prepared → (length i.root.slots < 4294967295) × (i.levels < i.spare.count) × (i.levels + 1 < i.spare.room)

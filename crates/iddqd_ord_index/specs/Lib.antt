@@ -1,4 +1,12 @@
+pub mod Cells
+pub mod Changes
 pub mod Digits
+pub mod Falls
 pub mod IndexParts
 pub mod Listed
+pub mod Neighbours
+pub mod Nodes
+pub mod Runs
 pub mod Search
+pub mod Shape
+pub mod Standing

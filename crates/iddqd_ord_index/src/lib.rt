@@ -1,8 +1,8 @@
 //! The ordered index: slots in an order that its caller keeps, searched by the keys of their items.
 #![tactic(auto)]
 
-mod halves;
 pub mod laws;
 mod ord_index;
+mod tree;
 
 pub use ord_index::{IntoWalk, OrdIndex, Place, Walk};

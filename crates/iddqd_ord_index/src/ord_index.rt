@@ -15,7 +15,9 @@ mod into_walk;
 mod tests;
 mod walk;
 
-use crate::halves::search;
+use crate::tree::node::Node;
+use crate::tree::root;
+use crate::tree::spare::Spare;
 use iddqd_store::{Comparable, IdOrdItem, ItemStore, Steps, TryReserveError};
 pub use into_walk::IntoWalk;
 use std::alloc::Global;
@@ -44,21 +46,25 @@ impl Model for Place {
 /// list stays as it was. A copy is not prepared.
 #[derive(Drop)]
 pub struct OrdIndex {
-    slots: Vec<u32>,
-    // Whether there is room for one more slot.
+    root: Node,
+    len: u32,
+    levels: usize,
+    spare: Spare,
+    // Whether one more slot needs no memory.
     prepared: bool,
+    alloc: Global,
 }
 
 impl Model for OrdIndex {
-    ghost use Rattle.std.specs.Prelude.{vec_capacity};
     ghost use Rattle.iddqd_ord_index.specs.Listed.{SlotList};
-    ghost use Rattle.iddqd_ord_index.specs.IndexParts.{IsIndex};
 
     ghost Value = { SlotList };
 
-    ghost view = { λ i. record { slots = i.slots.items; prepared = i.prepared } };
+    ghost use Rattle.iddqd_ord_index.specs.IndexParts.{IsIndex};
 
-    ghost invariant = { λ i. IsIndex i.slots.items i.prepared (vec_capacity i.slots) };
+    ghost view = { λ i. record { slots = i.root.slots; prepared = i.prepared } };
+
+    ghost invariant = { λ i. IsIndex i };
 }
 
 impl OrdIndex {
@@ -67,8 +73,12 @@ impl OrdIndex {
         ensures { result ≡ record { slots = []; prepared = false } }
     {
         OrdIndex {
-            slots: Vec::new(alloc),
+            root: Node::new(),
+            len: 0,
+            levels: 1,
+            spare: Spare::new(alloc),
             prepared: false,
+            alloc,
         }
     }
 
@@ -77,7 +87,7 @@ impl OrdIndex {
         ensures number { result ≡ length self.now.slots }
         ensures each_once { IsDistinct nat_eq self.now.slots }
     {
-        self.slots.len() as u32
+        self.len
     }
 
     /// `Ok`: the place of the slot whose item has the query's key. `Err`: the place where such a slot belongs. It makes
@@ -95,13 +105,9 @@ impl OrdIndex {
         ensures steps { steps.new ≤ steps.old + 4 + 2 * digits (length self.now.slots) }
         ensures counts_on { steps.old ≤ steps.new }
     {
-        match search(self.slots.as_slice(), store, query, steps) {
-            Ok(at) => Ok(Place {
-                position: at as u32,
-            }),
-            Err(at) => Err(Place {
-                position: at as u32,
-            }),
+        match self.root.find(store, query, steps) {
+            Ok(position) => Ok(Place { position }),
+            Err(position) => Err(Place { position }),
         }
     }
 
@@ -119,10 +125,7 @@ impl OrdIndex {
         ensures steps { steps.new ≤ steps.old + 4 + 2 * digits (length self.now.slots) }
         ensures counts_on { steps.old ≤ steps.new }
     {
-        match self.find(store, query, steps) {
-            Ok(place) => Some(self.slot_at(place)),
-            Err(_) => None,
-        }
+        self.root.get(store, query, steps)
     }
 
     /// The slot of the least key that is greater than the query, or `None`, by as many comparisons as `find`. As the
@@ -144,7 +147,11 @@ impl OrdIndex {
             Ok(place) => place.position as usize + 1,
             Err(place) => place.position as usize,
         };
-        self.slots.get(next).copied()
+        if next < self.len as usize {
+            Some(self.root.slot_at(next as u32))
+        } else {
+            None
+        }
     }
 
     /// The place of this number: of the slot that has so many before it, or the one behind the last slot. A place is a
@@ -165,7 +172,7 @@ impl OrdIndex {
         requires { place < length self.now.slots }
         ensures { slice_get self.now.slots place ≡ Some result }
     {
-        self.slots[place.position as usize]
+        self.root.slot_at(place.position)
     }
 
     /// Makes all growths that one insertion at any place can need. It is refused only for want of memory.
@@ -175,7 +182,7 @@ impl OrdIndex {
         ensures err { OnErr result (self.new ≡ self.old) }
         ensures only_memory { IfErr result (λ e. e ≡ AllocError) }
     {
-        match self.slots.reserve(1) {
+        match self.spare.prepare(self.levels + 1, self.alloc) {
             Ok(()) => {
                 self.prepared = true;
                 Ok(())
@@ -191,10 +198,17 @@ impl OrdIndex {
         requires absent { ¬ Contains self.old.slots slot }
         ensures { self.new ≡ record { slots = insert self.old.slots place slot; prepared = false } }
     {
-        let Ok(()) = self.slots.insert(place.position as usize, slot) else {
-            unreachable!()
-        };
         self.prepared = false;
+        self.levels = root::add(
+            &mut self.root,
+            self.levels,
+            self.len,
+            place.position,
+            slot,
+            &mut self.spare,
+        );
+        self.len += 1;
+        self.spare.want(self.levels + 1);
     }
 
     /// Takes the slot at the place out, and answers it. It takes no memory.
@@ -204,21 +218,29 @@ impl OrdIndex {
         ensures after { self.new ≡ record { slots = remove self.old.slots place; prepared = false } }
     {
         self.prepared = false;
-        self.slots.remove(place.position as usize)
+        let (slot, levels) = root::remove(
+            &mut self.root,
+            self.levels,
+            place.position,
+            &mut self.spare,
+        );
+        self.levels = levels;
+        self.len -= 1;
+        slot
     }
 
     /// The first slot, or `None` where there is none.
     pub fn first(&self) -> Option<u32>
         ensures { result ≡ slice_get self.now.slots 0 }
     {
-        self.slots.first().copied()
+        self.root.first()
     }
 
     /// The last slot, or `None` where there is none.
     pub fn last(&self) -> Option<u32>
         ensures { result ≡ slice_get self.now.slots (length self.now.slots - 1) }
     {
-        self.slots.last().copied()
+        self.root.last()
     }
 
     /// Takes the first slot out, and answers it; `None` where there is none. It takes no memory.
@@ -226,11 +248,11 @@ impl OrdIndex {
         ensures slot { result ≡ slice_get self.old.slots 0 }
         ensures after { self.new ≡ record { slots = drop 1 self.old.slots; prepared = false } }
     {
-        self.prepared = false;
-        if self.slots.is_empty() {
+        if self.len == 0 {
+            self.prepared = false;
             return None;
         }
-        Some(self.slots.remove(0))
+        Some(self.remove(Place { position: 0 }))
     }
 
     /// Takes the last slot out, and answers it; `None` where there is none. It takes no memory.
@@ -238,8 +260,13 @@ impl OrdIndex {
         ensures slot { result ≡ slice_get self.old.slots (length self.old.slots - 1) }
         ensures after { self.new ≡ record { slots = take (length self.old.slots - 1) self.old.slots; prepared = false } }
     {
-        self.prepared = false;
-        self.slots.pop()
+        if self.len == 0 {
+            self.prepared = false;
+            return None;
+        }
+        Some(self.remove(Place {
+            position: self.len - 1,
+        }))
     }
 
     /// Puts a new slot in the stead of the one at the place. It takes no memory.
@@ -249,7 +276,7 @@ impl OrdIndex {
         ensures { self.new ≡ record { slots = slice_set self.old.slots place new; prepared = false } }
     {
         self.prepared = false;
-        self.slots[place.position as usize] = new;
+        self.root.rename(place.position, new);
     }
 
     /// Takes every slot out.
@@ -257,21 +284,23 @@ impl OrdIndex {
         ensures { self.new ≡ record { slots = []; prepared = false } }
     {
         self.prepared = false;
-        self.slots.clear();
+        self.root = Node::new();
+        self.len = 0;
+        self.levels = 1;
     }
 
     /// The slots in order. It takes no memory.
     pub fn walk(&self) -> Walk<'_>
         ensures { result ≡ self.now.slots }
     {
-        Walk::new(self.slots.as_slice())
+        Walk::new(&self.root, self.len)
     }
 
     /// The slots in order, in place of the index. It takes no memory.
     pub fn into_walk(self) -> IntoWalk
         ensures { result ≡ self.slots }
     {
-        IntoWalk::new(self.slots)
+        IntoWalk::new(self.root, self.len)
     }
 
     /// An index of the same slots, not prepared. It is refused only for want of memory.
@@ -279,12 +308,19 @@ impl OrdIndex {
         ensures ok { IfOk result (λ copy. copy ≡ record { slots = self.now.slots; prepared = false }) }
         ensures only_memory { IfErr result (λ e. e ≡ AllocError) }
     {
-        match self.slots.clone() {
-            Ok(slots) => Ok(OrdIndex {
-                slots,
-                prepared: false,
-            }),
-            Err(_) => Err(TryReserveError::alloc_error()),
-        }
+        let Ok(root) = self.root.try_clone(self.alloc) else {
+            return Err(TryReserveError::alloc_error());
+        };
+        let Ok(spare) = Spare::wanting(self.levels + 1, self.alloc) else {
+            return Err(TryReserveError::alloc_error());
+        };
+        Ok(OrdIndex {
+            root,
+            len: self.len,
+            levels: self.levels,
+            spare,
+            prepared: false,
+            alloc: self.alloc,
+        })
     }
 }

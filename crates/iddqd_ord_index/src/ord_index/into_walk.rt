@@ -3,31 +3,37 @@ ghost use Rattle.std.specs.Prelude.{◌≡◌, length, IfSome};
 ghost use Rattle.std.specs.Iterator.{UpTo, YieldsFirst, at_most, item_count};
 ghost use Rattle.std.specs.Iterator.SizeHint.{IsWithinCount};
 
+use crate::tree::node::Node;
 use std::iter::FusedIterator;
 use std::marker::Model;
-use std::vec;
 
-/// The slots of an index that is gone, in order, each once.
+/// The slots of an index that is gone, in order, each once. A step goes down from the root by the counts.
 #[derive(Drop)]
 pub struct IntoWalk {
-    slots: vec::IntoIter<u32>,
+    root: Node,
+    next: u32,
+    end: u32,
 }
 
 impl Model for IntoWalk {
-    ghost use Rattle.std.specs.Prelude.{List, ℕ};
-    ghost use Rattle.std.specs.Vec.Iter.{into_iter_items};
+    ghost use Rattle.std.specs.Prelude.{◌≡◌, ◌≤◌, List, ℕ, drop, length};
 
     ghost Value = { List ℕ };
 
-    ghost view = { λ w. into_iter_items w.slots };
+    ghost view = { λ w. drop w.next w.root.slots };
+
+    ghost invariant = { λ w. (w.next ≤ w.end) × (w.end ≡ length w.root.slots) };
 }
 
 impl IntoWalk {
-    pub(crate) fn new(slots: Vec<u32>) -> Self
-        ensures { result ≡ slots.items }
+    pub(crate) fn new(root: Node, len: u32) -> Self
+        requires { len ≡ length root.slots }
+        ensures { result ≡ root.slots }
     {
         IntoWalk {
-            slots: slots.into_iter(),
+            root,
+            next: 0,
+            end: len,
         }
     }
 }
@@ -40,7 +46,12 @@ impl Iterator for IntoWalk {
     ghost remaining = { item_count (λ w. w) };
 
     fn next(&mut self) -> Option<u32> {
-        self.slots.next()
+        if self.next == self.end {
+            return None;
+        }
+        let slot = self.root.slot_at(self.next);
+        self.next += 1;
+        Some(slot)
     }
 
     fn size_hint(&self) -> (usize, Option<usize>)
@@ -55,7 +66,7 @@ impl Iterator for IntoWalk {
 
 impl ExactSizeIterator for IntoWalk {
     fn len(&self) -> usize {
-        self.slots.len()
+        (self.end - self.next) as usize
     }
 }
 

@@ -57,7 +57,12 @@ fn face(store: &ItemStore<Coin>, slot: Option<u32>) -> Option<u32> {
 fn holds(index: &OrdIndex, slot: u32) -> bool
     ensures { result ≡ false → ¬ Contains index.now.slots slot }
 {
-    index.slots.contains(&slot)
+    for at in 0..index.len() as usize {
+        if index.slot_at(index.place(at)) == slot {
+            return true;
+        }
+    }
+    false
 }
 
 fn insert(rt: &impl Abort, index: &mut OrdIndex, position: u32, slot: u32) -> Result<(), Fail> {
@@ -181,5 +186,83 @@ fn index_against_vec(rt: HostRuntime) -> Result<(), Fail> {
         same(&rt, &index, model.as_slice());
     }
     assert_eq!(rt; index.len(), 667);
+    Ok(())
+}
+
+// Puts 1 to 1008 in, each at the place that its turn gives it.
+fn fill(
+    rt: &impl Abort,
+    index: &mut OrdIndex,
+    model: &mut Vec<u32>,
+    way: u32,
+) -> Result<(), Fail> {
+    for slot in 1..1009u32 {
+        let len = index.len();
+        assert!(rt; model.len() == len as usize);
+        assert!(rt; len < 1009);
+        let position = match way {
+            0 => len,
+            1 => 0,
+            _ => (slot * 7 + 3) % (len + 1),
+        };
+        model.insert(position as usize, slot)?;
+        insert(rt, index, position, slot)?;
+    }
+    Ok(())
+}
+
+// 1 to 1008 go in in ascending, in descending and in mixed order, and come out mixed; the walks give them in order.
+#[test]
+fn thousand_in_and_out(rt: HostRuntime) -> Result<(), Fail> {
+    for way in 0..3u32 {
+        let mut index = OrdIndex::new(rt.alloc());
+        let mut model: Vec<u32> = Vec::new(rt.alloc());
+        fill(&rt, &mut index, &mut model, way)?;
+        assert_eq!(rt; index.len(), 1008);
+        same(&rt, &index, model.as_slice());
+        let copy = index.try_clone()?;
+        for (slot, expected) in copy.into_walk().zip(model.as_slice()) {
+            assert_eq!(rt; slot, *expected);
+        }
+        for turn in 0..1008u32 {
+            let len = index.len();
+            assert!(rt; model.len() == len as usize);
+            assert!(rt; len > 0);
+            let position = (turn * 5 + 1) % len;
+            assert_eq!(rt;
+                index.remove(Place { position }),
+                model.remove(position as usize)
+            );
+            if turn % 50 == 0 {
+                same(&rt, &index, model.as_slice());
+                assert_eq!(rt; index.first(), model.as_slice().first().copied());
+                assert_eq!(rt; index.last(), model.as_slice().last().copied());
+            }
+        }
+        assert_eq!(rt; index.len(), 0);
+        assert_eq!(rt; index.levels, 1);
+    }
+    Ok(())
+}
+
+// A tree of three levels is prepared by four unused nodes, and once more by none.
+#[test]
+fn prepared_at_three_levels(rt: HostRuntime) -> Result<(), Fail> {
+    let mut index = OrdIndex::new(rt.alloc());
+    for slot in 1..101u32 {
+        let position = index.len();
+        insert(&rt, &mut index, position, slot)?;
+    }
+    assert_eq!(rt; index.levels, 3);
+    assert!(rt; index.len() < 1000);
+    index.prepare()?;
+    assert_eq!(rt; index.spare.len(), 4);
+    index.prepare()?;
+    assert_eq!(rt; index.spare.len(), 4);
+    for _ in 0..99u32 {
+        assert!(rt; index.remove_last().is_some());
+    }
+    assert_eq!(rt; index.levels, 1);
+    assert!(rt; index.spare.len() >= 4);
     Ok(())
 }

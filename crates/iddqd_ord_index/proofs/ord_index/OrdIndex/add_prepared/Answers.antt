@@ -1,12 +1,33 @@
-use Rattle.std.proofs.Common.{◌≡◌, IsTrue, length, sym, ap, subst, arith}
-use Rattle.std.specs.List.{Contains}
-use Rattle.iddqd_ord_index.proofs.IndexLemmas.{index_insert}
+use Rattle.std.proofs.Common.{◌≡◌, ◌≤◌, IsTrue, length, refl, sym, ap, subst, ◌∙◌, arith}
+use Rattle.std.proofs.lemmas.List.Edits.{length-insert}
+use Rattle.std.specs.List.{insert, Contains, IsDistinct}
+use Rattle.std.proofs.Common.{nat_eq}
+use Rattle.iddqd_ord_index.proofs.HeightLemmas.{height_most}
+use Rattle.iddqd_ord_index.proofs.IndexLemmas.{once_insert, unready}
 use Rattle.iddqd_ord_index.proofs.ord_index.OrdIndex.add_prepared.Goals as goal
+
+pub add-self-inside-requires-clause-low : goal.add-self-inside-requires-clause-low
+add-self-inside-requires-clause-low c = omega (arith, height_most c.self.inside.root c.self.invariant.dense c.self.invariant.top (omega (arith, c.self.invariant.numbered)), c.self.invariant.levels)
+
+pub overflow_add-self-inside : goal.overflow_add-self-inside
+overflow_add-self-inside c = omega (arith, height_most c.self.inside.root c.self.invariant.dense c.self.invariant.top (omega (arith, c.self.invariant.numbered)), c.self.invariant.levels, c.add-self-inside.ensures.higher)
 
 pub invariant_of-self : goal.invariant_of-self
 invariant_of-self c =
-    let seen = sym c.self.view_is in
-    let long : length c.self.inside.slots.items ≡ length c.args.self.now.slots = ap (λ i. length i.slots) c.self.view_is in
-    let prepared : IsTrue c.self.inside.prepared = subst (λ i. IsTrue i.prepared) seen c.requires.prepared in
-    let absent : ¬ Contains c.self.inside.slots.items c.args.slot = subst (λ i. ¬ Contains i.slots c.args.slot) seen c.requires.absent in
-    rw c.in-Ok.ensures.items (index_insert c.self.invariant _ _ _ prepared (omega arith) absent)
+    let slots = c.self.inside.root.slots in
+    let at = c.place.inside.position in
+    let ready = c.self.invariant.ready (subst (λ i. IsTrue i.prepared) (sym c.self.view_is) c.requires.prepared) in
+    let absent : ¬ Contains slots c.args.slot = subst (λ i. ¬ Contains i.slots c.args.slot) (sym c.self.view_is) c.requires.absent in
+    let within : at ≤ length slots = omega (arith, ap (λ i. length i.slots) c.self.view_is, c.place.view_is, c.requires.in_list) in
+    let e = c.add-self-inside.ensures.slots in
+    let n = length-insert slots at c.args.slot within in
+    record {
+      each_once = subst (λ l. IsDistinct nat_eq l) (sym e) (once_insert slots c.self.invariant.each_once at c.args.slot absent);
+      numbered = omega (arith, ap length e, ready.0);
+      len = omega (arith, ap length e, c.self.invariant.len);
+      levels = c.add-self-inside.ensures.levels;
+      dense = c.add-self-inside.ensures.dense;
+      top = c.add-self-inside.ensures.top;
+      wanted = λ lt. (ap (λ s. s.wanted) c.want.ensures, omega (arith, ap (λ s. s.room) c.want.ensures, c.add-self-inside.ensures.spare.1, c.add-self-inside.ensures.higher, ready.2));
+      ready = λ t. unready _ refl t;
+    }

@@ -1,10 +1,18 @@
-use Rattle.std.proofs.Common.{◌∙◌, sym, ap}
-use Rattle.std.proofs.lemmas.Option.{get_or_from_slice_get}
+use Rattle.std.proofs.Common.{◌≡◌, ℕ, ◌+◌, ◌<◌, ◌∙◌, Ok, Err, Some, None, length, get_or, subst, sym, ap, refl, arith, Option, option_and_then}
 use Rattle.std.specs.Option.{option_and_then}
+use Rattle.std.proofs.lemmas.Option.{slice_get-get_or}
+use Rattle.std.proofs.lemmas.List.{get_or_default}
+use Rattle.std.specs.List.{slice_get, Contains}
+use Rattle.std.specs.Option.{IfSome}
+use Rattle.iddqd_ord_index.specs.Digits.{digits}
 use Rattle.iddqd_ord_index.specs.Listed.{listed_items}
+use Rattle.iddqd_ord_index.specs.Standing.{slot_standing, IsMonotone, IsPlace, IsAmong}
+use Rattle.iddqd_store.specs.Contents.{find_item}
 use Rattle.iddqd_store.specs.Store.{item_at}
+use Rattle.iddqd_ord_index.proofs.HeightLemmas.{height_bound}
 use Rattle.iddqd_ord_index.proofs.ListedLemmas.{get-listed}
-use Rattle.iddqd_store.proofs.QueryLemmas.{OrderedQuery, place_there, find_nowhere}
+use Rattle.iddqd_ord_index.proofs.StandingLemmas.{monotone, placed}
+use Rattle.iddqd_store.proofs.QueryLemmas.{OrderedQuery, place_there, find_nowhere, above_there, above_nowhere}
 use Rattle.iddqd_ord_index.proofs.ord_index.OrdIndex.get.Given.{Over}
 use Rattle.iddqd_ord_index.proofs.ord_index.OrdIndex.get.Goals as goal
 
@@ -19,20 +27,28 @@ query g q = record {
   below = g.met.Q.Comparable.greater_below q;
 }
 
-pub returns-in-Ok-clause-item : goal.returns-in-Ok-clause-item
-returns-in-Ok-clause-item g c =
-    let store = c.args.store.now in
-    let slots = c.args.self.now.slots in
-    let place = c.in-Ok.ensures.place in
-    let found = place_there g.T.IdOrdItem.key (query g c.args.query.now) (listed_items store slots) c.requires.ascending c.in-Ok.place place.0 place.1 in
-    sym (found ∙ get-listed store slots c.requires.occupied c.in-Ok.place ∙ ap (option_and_then (item_at store)) c.slot_at.ensures)
+pub get-requires-clause-monotone : goal.get-requires-clause-monotone
+get-requires-clause-monotone g c = subst (λ i. IsMonotone (slot_standing g.T.IdOrdItem.key (g.Q.Comparable.compare c.args.query.now) c.args.store.now) i.slots) (sym c.self.view_is) (monotone g.T.IdOrdItem.key (g.Q.Comparable.compare c.args.query.now) c.args.store.now c.args.self.now.slots c.requires.occupied g.met.T.Key.Ord.total (g.met.Q.Comparable.less_above c.args.query.now) (g.met.Q.Comparable.greater_below c.args.query.now) c.requires.ascending)
 
-pub returns-in-Err-clause-item : goal.returns-in-Err-clause-item
-returns-in-Err-clause-item g c =
-    let place = c.in-Err.ensures.place in
-    find_nowhere g.T.IdOrdItem.key (query g c.args.query.now) (listed_items c.args.store.now c.args.self.now.slots) c.requires.ascending c.in-Err.field-0 place.1 place.2
+pub returns-clause-steps : goal.returns-clause-steps
+returns-clause-steps g c = omega (arith, height_bound c.self.inside.root c.self.invariant.dense c.self.invariant.top, ap (λ i. digits (length i.slots)) c.self.view_is, c.get.ensures.steps)
 
-pub returns-in-Ok-clause-slot : goal.returns-in-Ok-clause-slot
-returns-in-Ok-clause-slot g c =
-    let slots = c.args.self.now.slots in
-    (c.in-Ok.place, c.in-Ok.ensures.in_list, get_or_from_slice_get slots c.in-Ok.place c.slot_at.result c.slot_at.result c.slot_at.ensures)
+pub returns-clause-item : goal.returns-clause-item
+returns-clause-item g c = by_result c.get.result (subst (λ i. IsAmong (slot_standing g.T.IdOrdItem.key (g.Q.Comparable.compare c.args.query.now) c.args.store.now) i.slots c.get.result) c.self.view_is c.get.ensures.found)
+  where
+    by_result : (r : Option ℕ) → IsAmong (slot_standing g.T.IdOrdItem.key (g.Q.Comparable.compare c.args.query.now) c.args.store.now) c.args.self.now.slots r → option_and_then (item_at c.args.store.now) r ≡ find_item g.T.IdOrdItem.key (g.Q.Equivalent.equivalent c.args.query.now) (listed_items c.args.store.now c.args.self.now.slots)
+    by_result (Some slot) a =
+        let p = placed g.T.IdOrdItem.key (g.Q.Comparable.compare c.args.query.now) c.args.store.now c.args.self.now.slots c.requires.occupied (Ok a.0) a.2 in
+        let there = place_there g.T.IdOrdItem.key (query g c.args.query.now) (listed_items c.args.store.now c.args.self.now.slots) c.requires.ascending a.0 p.0 p.1 in
+        let read = slice_get-get_or c.args.self.now.slots a.0 0 a.2.0 ∙ ap Some (sym a.1) in
+        sym (there ∙ (get-listed c.args.store.now c.args.self.now.slots c.requires.occupied a.0 ∙ ap (option_and_then (item_at c.args.store.now)) read))
+    by_result None a =
+        let p = placed g.T.IdOrdItem.key (g.Q.Comparable.compare c.args.query.now) c.args.store.now c.args.self.now.slots c.requires.occupied (Err a.0) a.1 in
+        find_nowhere g.T.IdOrdItem.key (query g c.args.query.now) (listed_items c.args.store.now c.args.self.now.slots) c.requires.ascending a.0 p.1 p.2
+
+pub returns-clause-slot : goal.returns-clause-slot
+returns-clause-slot g c = by_result c.get.result (subst (λ i. IsAmong (slot_standing g.T.IdOrdItem.key (g.Q.Comparable.compare c.args.query.now) c.args.store.now) i.slots c.get.result) c.self.view_is c.get.ensures.found)
+  where
+    by_result : (r : Option ℕ) → IsAmong (slot_standing g.T.IdOrdItem.key (g.Q.Comparable.compare c.args.query.now) c.args.store.now) c.args.self.now.slots r → IfSome r (Contains c.args.self.now.slots)
+    by_result (Some slot) a = (a.0, a.2.0, get_or_default c.args.self.now.slots a.0 slot 0 a.2.0 ∙ sym a.1)
+    by_result None a = tt

@@ -1,0 +1,71 @@
+-- A search in a node's own slots, and on in one of its branches.
+use Rattle.std.proofs.Common.{◌≡◌, ℕ, ◌+◌, ◌*◌, ◌<◌, ◌≤◌, List, length, take, get_or, ap, sym, ◌∙◌, arith, subst, Ok, Err}
+use Rattle.std.specs.declared.cmp.Ordering.{Ordering}
+use Rattle.std.specs.declared.cmp.Ordering.TheVariants.{Less, Equal, Greater}
+use Rattle.std.specs.List.{All}
+use Rattle.iddqd_ord_index.specs.Digits.{digits}
+use Rattle.iddqd_ord_index.specs.Shape.{Subtree, tree, weave, starts, lists, levels, unused, IsBranch, IsForked}
+use Rattle.iddqd_ord_index.specs.Standing.{IsMonotone, IsPart, IsPlace}
+use Rattle.iddqd_ord_index.proofs.AimLemmas.{fork_is, starts_is, branch_is, leaf_list}
+use Rattle.iddqd_ord_index.proofs.BelowLemmas.{list_at}
+use Rattle.iddqd_ord_index.proofs.DigitLemmas.{digits_least}
+use Rattle.iddqd_ord_index.proofs.FoundLemmas.{part_all, part_mono, own_all, own_mono, own_read, own_place, own_end, own_some, branch_part, branch_end, found_place, missed_front, missed_back}
+
+pub digits_four : (n : ℕ) → n ≤ 11 → digits n ≤ 4
+digits_four n le = digits_least 4 n (omega arith)
+
+-- what is known at an inner node on the way down
+pub record IsInner (order : ℕ → Ordering) (P : ℕ → Type 0) (xs : List ℕ) (ts : List Subtree) (ss : List ℕ) (base : ℕ) : Type 0 where
+  pub monotone : IsMonotone order ss
+  pub all : All P ss
+  pub room : starts (lists ts) ≤ length xs + 1
+  pub own_room : (i : ℕ) → i < length ss → base + starts (take (i + 1) (lists ts)) ≤ length xs
+  pub own_some : (i : ℕ) → i < length ss → 1 ≤ starts (take (i + 1) (lists ts))
+  pub own : (i p : ℕ) → i < length ss → order (get_or ss i 0) ≡ Equal → p + 1 ≡ base + starts (take (i + 1) (lists ts)) → (p < length xs) × (order (get_or xs p 0) ≡ Equal) × (get_or xs p 0 ≡ get_or ss i 0)
+  pub down_room : (i : ℕ) → i ≤ length ss → base + starts (take i (lists ts)) ≤ length xs
+  pub down : (i : ℕ) → IsPlace order ss (Err i) → IsPart order xs (get_or ts i unused).slots (base + starts (take i (lists ts)))
+  pub branch : (i : ℕ) → i ≤ length ss → (i < length ts) × IsBranch (levels ts) (get_or ts i unused)
+
+pub inner : (order : ℕ → Ordering) (P : ℕ → Type 0) (xs : List ℕ) (ts : List Subtree) (ss : List ℕ) (base : ℕ) (self : Subtree) → IsMonotone order xs → All P xs → IsForked ts ss → 0 < length ts → tree ts ss ≡ self → IsPart order xs self.slots base → IsInner order P xs ts ss base
+inner order P xs ts ss base self m a f some v q =
+    let e = fork_is ts ss f some in
+    let p : IsPart order xs (weave (lists ts) ss) base = subst (λ t. IsPart order xs t.slots base) (sym v) q in
+    record {
+      monotone = own_mono order xs (lists ts) ss base m p e;
+      all = own_all order xs (lists ts) ss base m p e P a;
+      room = omega (arith, starts_is ts ss f some, p.fits);
+      own_room = λ i lt. own_end order xs (lists ts) ss base m p e i lt;
+      own_some = λ i lt. own_some order xs (lists ts) ss base m p e i lt;
+      own = λ i n lt g k. own_found i n lt g k;
+      down_room = λ i le. branch_end order xs (lists ts) ss base m p e i le;
+      down = λ i h. subst (λ l. IsPart order xs l (base + starts (take i (lists ts)))) (list_at ts i (omega (arith, h.0, f.fork some))) (branch_part order xs (lists ts) ss base m p e i h.0 h.1 h.2);
+      branch = λ i le. (omega (arith, f.fork some), branch_is ts ss f i (omega (arith, f.fork some)));
+    }
+  where
+    own_found : (i n : ℕ) → i < length ss → order (get_or ss i 0) ≡ Equal → n + 1 ≡ base + starts (take (i + 1) (lists ts)) → (n < length xs) × (order (get_or xs n 0) ≡ Equal) × (get_or xs n 0 ≡ get_or ss i 0)
+    own_found i n lt g k =
+        let e = fork_is ts ss f some in
+        let p : IsPart order xs (weave (lists ts) ss) base = subst (λ t. IsPart order xs t.slots base) (sym v) q in
+        let o = own_place order xs (lists ts) ss base m p e i n lt g k in
+        (o.0, o.1, own_read order xs (lists ts) ss base m p e i n lt k)
+
+-- what is known at the leaf
+pub record IsLeaf (order : ℕ → Ordering) (P : ℕ → Type 0) (xs ss : List ℕ) (base : ℕ) : Type 0 where
+  pub monotone : IsMonotone order ss
+  pub all : All P ss
+  pub fits : base + length ss ≤ length xs
+  pub found : (i : ℕ) → IsPlace order ss (Ok i) → IsPlace order xs (Ok (base + i))
+  pub same : (i : ℕ) → i < length ss → get_or xs (base + i) 0 ≡ get_or ss i 0
+  pub missed : (i : ℕ) → IsPlace order ss (Err i) → IsPlace order xs (Err (base + i))
+
+pub leaf : (order : ℕ → Ordering) (P : ℕ → Type 0) (xs : List ℕ) (ts : List Subtree) (ss : List ℕ) (base : ℕ) (self : Subtree) → IsMonotone order xs → All P xs → length ts ≡ 0 → tree ts ss ≡ self → IsPart order xs self.slots base → IsLeaf order P xs ss base
+leaf order P xs ts ss base self m a none v q =
+    let p : IsPart order xs ss base = subst (λ l. IsPart order xs l base) (leaf_list ts ss none) (subst (λ t. IsPart order xs t.slots base) (sym v) q) in
+    record {
+      monotone = part_mono order xs ss base m p;
+      all = part_all order P xs ss base a p;
+      fits = p.fits;
+      found = λ i h. found_place order xs ss base p i h.0 h.1;
+      same = p.same;
+      missed = λ i h. (omega (arith, h.0, p.fits), λ k lt. missed_front order xs ss base p i k h.0 h.1 lt, λ k le lt. missed_back order xs ss base p i k h.0 h.2 le lt);
+    }

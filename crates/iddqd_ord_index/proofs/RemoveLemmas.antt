@@ -1,0 +1,157 @@
+-- A node of which a branch lost a slot.
+use Rattle.std.proofs.Common.{◌≡◌, ◌≢◌, ℕ, suc, ◌+◌, ◌-◌, ◌<◌, ◌≤◌, Bool, true, false, List, [], ◌∷◌, ◌++◌, length, take, drop, set, get_or, refl, ap, sym, ◌∙◌, inl, inr, subst, arith, append_assoc, length-set, min, ltb}
+use Rattle.std.specs.Bool.{if◌then◌else◌}
+use Rattle.std.specs.List.{remove}
+use Rattle.std.proofs.lemmas.Bool.{cases_lt}
+use Rattle.std.proofs.lemmas.List.{append-nil, take-append-drop, drop_all, drop_more, take-set, drop-set-lt, get_or-set_same, get_or-set_other, length-take-le, map-set}
+use Rattle.std.proofs.lemmas.List.Edits.{remove-append_left, remove-append_right}
+use Rattle.iddqd_ord_index.specs.Changes.{Stock}
+use Rattle.iddqd_ord_index.specs.Neighbours.{IsNear, IsShort, given_back}
+use Rattle.iddqd_ord_index.specs.Shape.{Subtree, behind, weave, starts, lists, levels, unused, IsAim, IsForked, IsBranch, IsDense}
+use Rattle.iddqd_ord_index.proofs.AimLemmas.{aim_in, aim_list, aim_fork, branch_is}
+use Rattle.iddqd_ord_index.proofs.EditLemmas.{levels_set}
+use Rattle.iddqd_ord_index.proofs.WeaveLemmas.{pairs, length-pairs, weave_cut, read_branch, read_own, own_within}
+
+-- a list and its last element
+last_cut : (k : List ℕ) (m : ℕ) → m + 1 ≡ length k → k ≡ remove k m ++ get_or k m 0 ∷ []
+last_cut k m e =
+    let z : drop (suc m) k ≡ [] = drop_all (suc m) k (omega arith) in
+    let d : drop m k ≡ get_or k m 0 ∷ [] = drop_more k m 0 (omega arith) ∙ ap (λ l. get_or k m 0 ∷ l) (drop_all (m + 1) k (omega arith)) in
+    let r : remove k m ≡ take m k = ap (λ l. take m k ++ l) z ∙ append-nil (take m k) in
+    sym (take-append-drop m k) ∙ (ap (λ l. take m k ++ l) d ∙ ap (λ l. l ++ get_or k m 0 ∷ []) (sym r))
+
+module _ (ls : List (List ℕ)) (ss : List ℕ) (at i rest : ℕ) (aim : IsAim ls at i rest) (e : length ls ≡ length ss + 1) where
+  abbrev before : List ℕ
+  before = pairs (take i ls) (take i ss)
+
+  abbrev after : List ℕ
+  after = behind (drop (suc i) ls) (drop i ss)
+
+  length-before : length before ≡ starts (take i ls)
+  length-before = length-pairs (take i ls) (take i ss) (length-take-le i ls (omega (arith, aim.branch)) ∙ sym (length-take-le i ss (omega (arith, aim.branch))))
+
+  -- the list with a slot less
+  removed : remove (weave ls ss) at ≡ before ++ remove (get_or ls i [] ++ after) rest
+  removed =
+      let n = length-before in
+      let k : at - length before ≡ rest = omega (arith, aim.sum) in
+      ap (λ l. remove l at) (weave_cut ls ss i aim.branch e)
+      ∙ (remove-append_right before (get_or ls i [] ++ after) (length before) at refl (omega (arith, aim.sum))
+      ∙ ap (λ j. before ++ remove (get_or ls i [] ++ after) j) k)
+
+  branch_shrunk : (new : List ℕ) → rest < length (get_or ls i []) → new ≡ remove (get_or ls i []) rest → weave (set ls i new) ss ≡ remove (weave ls ss) at
+  branch_shrunk new lt h =
+      let n = length-set ls i new in
+      let c = weave_cut (set ls i new) ss i (omega (arith, aim.branch)) (n ∙ e) in
+      c ∙ (rw (take-set ls i new, get_or-set_same ls i new [] aim.branch, drop-set-lt (suc i) ls i new (omega arith), h)
+      (ap (λ l. before ++ l) (sym (remove-append_left (get_or ls i []) after rest lt)) ∙ sym removed))
+
+  -- the own slot behind the branch is replaced by the branch's last one
+  own_replaced : (new : List ℕ) (last : ℕ) → rest ≡ length (get_or ls i []) → i < length ss → get_or ls i [] ≡ new ++ last ∷ []
+      → weave (set ls i new) (set ss i last) ≡ remove (weave ls ss) at
+  own_replaced new last r lt h =
+      let n = length-set ls i new in
+      let m = length-set ss i last in
+      let q : suc i < length ls = omega arith in
+      let back : List ℕ = get_or ls (suc i) [] ++ behind (drop (suc i + 1) ls) (drop (i + 1) ss) in
+      let dl : drop (suc i) ls ≡ get_or ls (suc i) [] ∷ drop (suc i + 1) ls = drop_more ls (suc i) [] q in
+      let ds : drop i ss ≡ get_or ss i 0 ∷ drop (i + 1) ss = drop_more ss i 0 lt in
+      let dt : drop i (set ss i last) ≡ last ∷ drop (i + 1) ss =
+      drop_more (set ss i last) i 0 (omega arith)
+      ∙ (ap (λ x. x ∷ drop (i + 1) (set ss i last)) (get_or-set_same ss i last 0 lt) ∙ ap (λ l. last ∷ l) (drop-set-lt (i + 1) ss i last (omega arith))) in
+      let b : after ≡ get_or ss i 0 ∷ back = ap (λ l. behind l (drop i ss)) dl ∙ ap (λ l. behind (get_or ls (suc i) [] ∷ drop (suc i + 1) ls) l) ds in
+      let f : behind (drop (suc i) ls) (drop i (set ss i last)) ≡ last ∷ back = ap (λ l. behind l (drop i (set ss i last))) dl ∙ ap (λ l. behind (get_or ls (suc i) [] ∷ drop (suc i + 1) ls) l) dt in
+      let k : rest - length (get_or ls i []) ≡ 0 = omega arith in
+      let x : remove (get_or ls i [] ++ after) rest ≡ get_or ls i [] ++ back =
+      ap (λ l. remove (get_or ls i [] ++ l) rest) b
+      ∙ (remove-append_right (get_or ls i []) (get_or ss i 0 ∷ back) (length (get_or ls i [])) rest refl (omega arith)
+      ∙ ap (λ j. get_or ls i [] ++ remove (get_or ss i 0 ∷ back) j) k) in
+      weave_cut (set ls i new) (set ss i last) i (omega (arith, aim.branch)) (n ∙ (e ∙ ap (λ j. j + 1) (sym m)))
+      ∙ (rw (take-set ls i new, take-set ss i last, get_or-set_same ls i new [] aim.branch, drop-set-lt (suc i) ls i new (omega arith))
+      (ap (λ l. before ++ (new ++ l)) f
+      ∙ (ap (λ l. before ++ l) (sym (append_assoc new (last ∷ []) back))
+      ∙ (ap (λ l. before ++ (l ++ back)) (sym h) ∙ (ap (λ l. before ++ l) (sym x) ∙ sym removed)))))
+
+  -- both cases: the slot that leaves, and the list that stays
+  pub left_list : (k new : List ℕ) (taken slot : ℕ) (ss' : List ℕ) → get_or ls i [] ≡ k → at < length (weave ls ss) → 0 < length k
+      → taken ≡ get_or k (min rest (length k - 1)) 0 → new ≡ remove k (min rest (length k - 1))
+      → (rest < length k → (slot ≡ taken) × (ss' ≡ ss)) → (rest ≡ length k → (slot ≡ get_or ss i 0) × (ss' ≡ set ss i taken))
+      → (weave (set ls i new) ss' ≡ remove (weave ls ss) at) × (slot ≡ get_or (weave ls ss) at 0)
+  left_list k new taken slot ss' g lt some t n below own =
+      let l = ap length g in
+      elim (cases_lt rest (length k)) [
+        | inl h ↦ (
+            let m : min rest (length k - 1) ≡ rest = omega arith in
+            let b = below h in
+            let q : rest < length (get_or ls i []) = omega arith in (
+              ap (λ s. weave (set ls i new) s) b.1 ∙ branch_shrunk new q (n ∙ (ap (λ j. remove k j) m ∙ ap (λ x. remove x rest) (sym g))),
+              b.0 ∙ (t ∙ (ap (λ j. get_or k j 0) m ∙ (ap (λ x. get_or x rest 0) (sym g) ∙ sym (read_branch ls ss at i rest aim e q)))),
+            )
+            )
+        | inr h ↦ (
+            let w = aim.within in
+            let r : rest ≡ length k = omega arith in
+            let r' : rest ≡ length (get_or ls i []) = omega arith in
+            let m : min rest (length k - 1) ≡ length k - 1 = omega arith in
+            let o = own r in
+            let w = own_within ls ss at i rest aim e r' lt in
+            let c : k ≡ remove k (length k - 1) ++ get_or k (length k - 1) 0 ∷ [] = last_cut k (length k - 1) (omega arith) in
+            let d : get_or ls i [] ≡ new ++ taken ∷ [] = g ∙ (c ∙ (ap (λ x. x ++ get_or k (length k - 1) 0 ∷ []) (sym (n ∙ ap (λ j. remove k j) m)) ∙ ap (λ y. new ++ y ∷ []) (sym (t ∙ ap (λ j. get_or k j 0) m)))) in (
+              ap (λ s. weave (set ls i new) s) o.1 ∙ own_replaced new taken r' w d,
+              o.0 ∙ sym (read_own ls ss at i rest aim e r' w),
+            )
+            )
+      ]
+
+-- a branch that lost a slot is in its place again
+pub record IsShrunk (ts us : List Subtree) (ss' : List ℕ) (i : ℕ) (all left : List ℕ) (slot at : ℕ) : Type 0 where
+  pub near : IsNear us ss' i
+  pub height : levels us ≡ levels ts
+  pub list : weave (lists us) ss' ≡ left
+  pub value : slot ≡ get_or all at 0
+
+module _ (ts : List Subtree) (ss ss' : List ℕ) (at i rest taken slot : ℕ) (new : Subtree) (f : IsForked ts ss) (aim : IsAim (lists ts) at i rest) (some : 0 < length ss) (same : length ss' ≡ length ss) (within : at < length (weave (lists ts) ss)) where
+  place : i < length ts
+  place = aim_in ts ss at i rest f aim
+
+  pub shrunk : new.height ≡ (get_or ts i unused).height → (get_or ts i unused).width ≤ new.width + 1 → IsDense new → 0 < length (get_or ts i unused).slots
+      → taken ≡ get_or (get_or ts i unused).slots (min rest (length (get_or ts i unused).slots - 1)) 0 → new.slots ≡ remove (get_or ts i unused).slots (min rest (length (get_or ts i unused).slots - 1))
+      → (rest < length (get_or ts i unused).slots → (slot ≡ taken) × (ss' ≡ ss)) → (rest ≡ length (get_or ts i unused).slots → (slot ≡ get_or ss i 0) × (ss' ≡ set ss i taken))
+      → IsShrunk ts (set ts i new) ss' i (weave (lists ts) ss) (remove (weave (lists ts) ss) at) slot at
+  shrunk h w d full t n below own =
+      let b = branch_is ts ss f i place in
+      let e = aim_fork ts ss at i rest f aim in
+      let l = aim_list ts ss at i rest f aim in
+      let r = left_list (lists ts) ss at i rest aim e (get_or ts i unused).slots new.slots taken slot ss' l within full t n below own in
+      let v = levels_set ts i new (omega (arith, b.height)) in
+      let s : IsShort (levels ts) new = record { height = omega (arith, b.height); wide = omega (arith, b.wide); dense = d } in
+      let m = length-set ts i new in
+      let k = f.fork (omega (arith, place)) in
+      record {
+        near = record {
+          branch = omega (arith, place);
+          fork = omega arith;
+          some = omega arith;
+          short = subst (λ h. IsShort h (get_or (set ts i new) i unused)) (sym v) (subst (λ x. IsShort (levels ts) x) (sym (get_or-set_same ts i new unused place)) s);
+          others = λ k lt ne. subst (λ h. IsBranch h (get_or (set ts i new) k unused)) (sym v) (subst (λ x. IsBranch (levels ts) x) (sym (get_or-set_other ts i k new unused ne)) (f.branches k unused (omega arith)));
+        };
+        height = v;
+        list = ap (λ l. weave l ss') (map-set (λ t. t.slots) ts i new) ∙ r.0;
+        value = r.1;
+      }
+
+-- what a node given back does to the unused ones
+pub given_more : (s : Stock) → (s.count ≤ (given_back s).count) × ((given_back s).wanted ≡ s.wanted) × ((given_back s).room ≡ s.room)
+given_more s = (more (ltb s.count s.wanted) s.count, refl, refl)
+  where
+    more : (b : Bool) (n : ℕ) → n ≤ (if b then n + 1 else n)
+    more true n = omega arith
+    more false n = omega arith
+
+-- the unused ones after a mend that may have merged
+pub given_or_kept : (old new : Stock) (n m : ℕ) → m ≤ n → (m ≡ n → new ≡ old) → (m < n → new ≡ given_back old) → (old.count ≤ new.count) × (new.wanted ≡ old.wanted) × (new.room ≡ old.room)
+given_or_kept old new n m le kept given =
+    elim (cases_lt m n) [
+      | inl lt ↦ (let e = given lt in let g = given_more old in (omega (arith, ap (λ s. s.count) e), ap (λ s. s.wanted) e ∙ g.1, ap (λ s. s.room) e ∙ g.2))
+      | inr ge ↦ (let e = kept (omega arith) in (omega (arith, ap (λ s. s.count) e), ap (λ s. s.wanted) e, ap (λ s. s.room) e))
+    ]

@@ -1,0 +1,19 @@
+use Rattle.std.proofs.Common.{remove, arith, ◌∙◌, sym}
+use Rattle.std.proofs.lemmas.List.Edits.{length-remove}
+use Rattle.iddqd_ord_index.specs.Cells.{held}
+use Rattle.iddqd_ord_index.proofs.PackedLemmas.{removed, packed_is, held_is, held_cell}
+use Rattle.iddqd_ord_index.proofs.tree.cells.remove.Goals as goal
+
+pub unreachable-requires : goal.unreachable-requires
+unreachable-requires g c =
+    held_cell c.args.cells.now c.args.i _ c.requires.packed c.requires.in_bounds c.index-cells-i.is (sym c.take-item.ensures.value ∙ c.in-None.is)
+
+pub returns-clause-packed : goal.returns-clause-packed
+returns-clause-packed g c =
+    let e = removed c.args.cells.now _ _ c.args.i c.requires.packed c.requires.in_bounds c.take-item.ensures.after c.to_last.ensures in
+    let n = length-remove (held c.args.cells.now) c.args.i c.requires.in_bounds in
+    packed_is _ (remove (held c.args.cells.now) c.args.i) e (omega (arith, c.requires.packed.at_most_12))
+
+pub returns-clause-items : goal.returns-clause-items
+returns-clause-items g c =
+    held_is _ _ (removed c.args.cells.now _ _ c.args.i c.requires.packed c.requires.in_bounds c.take-item.ensures.after c.to_last.ensures)

@@ -1,0 +1,7 @@
+use Rattle.std.proofs.Common.{sym, ◌∙◌}
+use Rattle.iddqd_ord_index.proofs.PackedLemmas.{held_cell}
+use Rattle.iddqd_ord_index.proofs.tree.cells.take.Goals as goal
+
+pub unreachable-requires : goal.unreachable-requires
+unreachable-requires g c =
+    held_cell c.args.cells.now c.args.i _ c.requires.packed c.requires.in_bounds c.index-cells-i.is (sym c.take.ensures.value ∙ c.in-None.is)

@@ -1,0 +1,22 @@
+use Rattle.std.proofs.Common.{◌+◌, ◌-◌, length, drop, ap, arith}
+use Rattle.std.proofs.lemmas.List.{drop_all}
+use Rattle.iddqd_ord_index.specs.Nodes.{below}
+use Rattle.iddqd_ord_index.specs.Shape.{lists, starts}
+use Rattle.iddqd_ord_index.proofs.BelowLemmas.{counts_at, starts_more, starts_less, length-counts, length-lists}
+use Rattle.iddqd_ord_index.proofs.tree.node.Branches.aim.Goals as goal
+
+pub loop-i-preserved : goal.loop-i-preserved
+loop-i-preserved c =
+    let bs = c.args.self.now in
+    let i = c.loop-i.i in
+    let n = length-counts bs c.requires.branches in
+    let k = ap length c.as_slice-counts.ensures.value in
+    let m = starts_more bs c.requires.branches c.as_slice-counts.result.now c.as_slice-counts.ensures.value i c.loop-i.invariant.within in
+    let l = starts_less bs c.requires.branches c.as_slice-counts.result.now c.as_slice-counts.ensures.value i c.loop-i.invariant.within in
+    record { within = omega arith; sum = omega (arith, c.loop-i.invariant.sum); reached = omega (arith, c.loop-i.invariant.reached) }
+
+pub returns-else-rest-counts : goal.returns-else-rest-counts
+returns-else-rest-counts c =
+    let bs = c.args.self.now in
+    let e = counts_at bs c.requires.branches c.as_slice-counts.result.now c.as_slice-counts.ensures.value c.loop-i.i c.loop-i.invariant.within in
+    record { branch = omega (arith, length-lists (below bs), c.loop-i.invariant.within); within = omega arith; sum = c.loop-i.invariant.sum }

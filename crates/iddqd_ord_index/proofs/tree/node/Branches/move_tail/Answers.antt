@@ -1,0 +1,23 @@
+use Rattle.std.proofs.Common.{◌≡◌, map, length, take, drop, [], ◌++◌, ap, sym, ◌∙◌}
+use Rattle.std.proofs.lemmas.List.{take-map, drop-map, take_rest}
+use Rattle.iddqd_ord_index.specs.Nodes.{below}
+use Rattle.iddqd_ord_index.proofs.BelowLemmas.{branches_are, below_take, below_drop}
+use Rattle.iddqd_ord_index.proofs.tree.node.Branches.move_tail.Goals as goal
+
+pub returns-clause-below : goal.returns-clause-below
+returns-clause-below c = below_take c.args.self.now.nodes c.move_tail.new.cells c.args.i c.move_tail.ensures.items
+
+pub returns-clause-upper_below : goal.returns-clause-upper_below
+returns-clause-upper_below c = below_drop c.args.self.now.nodes c.move_tail.new.upper c.args.i c.move_tail.ensures.upper_items
+
+pub returns-clause-branches : goal.returns-clause-branches
+returns-clause-branches c =
+    branches_are _ _ c.move_tail.ensures.packed (below_take c.args.self.now.nodes c.move_tail.new.cells c.args.i c.move_tail.ensures.items)
+    (c.truncate.ensures.items ∙ (ap (λ l. take c.args.i l) c.requires.branches.counted ∙ take-map (λ t. length t.slots) c.args.i (below c.args.self.now)))
+
+pub returns-clause-upper_branches : goal.returns-clause-upper_branches
+returns-clause-upper_branches c =
+    let none : c.args.upper.now.counts.items ≡ [] = c.requires.upper_branches.counted ∙ ap (λ l. map (λ t. length t.slots) l) c.requires.upper_empty in
+    let moved : c.try_extend_from_slice.new.self.items ≡ drop c.args.i c.args.self.now.counts.items = c.in-Ok.ensures.ok ∙ (rw (none, c.as_slice.ensures.value) (take_rest c.args.self.now.counts.items c.args.i)) in
+    branches_are _ _ c.move_tail.ensures.upper_packed (below_drop c.args.self.now.nodes c.move_tail.new.upper c.args.i c.move_tail.ensures.upper_items)
+    (moved ∙ (ap (λ l. drop c.args.i l) c.requires.branches.counted ∙ drop-map (λ t. length t.slots) c.args.i (below c.args.self.now)))

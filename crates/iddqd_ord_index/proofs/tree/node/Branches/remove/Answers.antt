@@ -1,0 +1,23 @@
+use Rattle.std.proofs.Common.{◌≡◌, ◌<◌, map, length, get_or, ap, sym, ◌∙◌, arith}
+use Rattle.std.specs.List.{remove}
+use Rattle.std.proofs.lemmas.List.{get_or_default}
+use Rattle.iddqd_ord_index.specs.Nodes.{below}
+use Rattle.iddqd_ord_index.specs.Shape.{unused}
+use Rattle.iddqd_ord_index.proofs.PackedLemmas.{map-remove}
+use Rattle.iddqd_ord_index.proofs.BelowLemmas.{branches_are, below_remove, box_at, count_at}
+use Rattle.iddqd_ord_index.proofs.tree.node.Branches.remove.Goals as goal
+
+pub returns-clause-below : goal.returns-clause-below
+returns-clause-below c = below_remove c.args.self.now.nodes c.remove-node.new.cells c.args.i c.remove-node.ensures.items
+
+pub returns-clause-branches : goal.returns-clause-branches
+returns-clause-branches c =
+    let e = below_remove c.args.self.now.nodes c.remove-node.new.cells c.args.i c.remove-node.ensures.items in
+    branches_are _ _ c.remove-node.ensures.packed e
+    (c.remove.ensures.items ∙ (ap (λ l. remove l c.args.i) c.requires.branches.counted ∙ sym (map-remove (λ t. length t.slots) (below c.args.self.now) c.args.i)))
+
+pub returns-clause-count : goal.returns-clause-count
+returns-clause-count c =
+    c.remove.ensures.value
+    ∙ (count_at c.args.self.now c.requires.branches c.args.i c.remove.result c.requires.in_bounds
+    ∙ sym (ap (λ t. length t.slots) (box_at c.args.self.now.nodes c.args.i c.remove-node.result unused c.requires.in_bounds c.remove-node.ensures.value)))

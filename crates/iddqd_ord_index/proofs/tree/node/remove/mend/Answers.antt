@@ -1,0 +1,52 @@
+use Rattle.std.proofs.Common.{◌≡◌, ℕ, ◌-◌, ◌<◌, List, length, get_or, ap, sym, ◌∙◌, subst, min, arith}
+use Rattle.std.specs.List.{remove}
+use Rattle.iddqd_ord_index.specs.Neighbours.{IsNear}
+use Rattle.iddqd_ord_index.specs.Nodes.{below}
+use Rattle.iddqd_ord_index.specs.Shape.{Subtree, unused, weave}
+use Rattle.iddqd_ord_index.proofs.MendLemmas.{AreTaken, taken}
+use Rattle.iddqd_ord_index.proofs.tree.node.remove.mend.Goals as goal
+
+both : (ts rs us : List Subtree) (ss : List ℕ) (i j len width : ℕ) (lower upper : Subtree) → IsNear ts ss i → j ≡ min i (len - 1) → len ≡ length ss → rs ≡ remove ts j → us ≡ remove rs j → lower ≡ get_or ts j unused → upper ≡ get_or rs j unused
+    → width ≡ (get_or ts i unused).width → width < 5 → AreTaken ts us ss j lower upper
+both ts rs us ss i j len width lower upper near e l er eu el ep w lt =
+    taken ts rs us ss i j lower upper near (e ∙ ap (λ n. min i (n - 1)) l) er eu el ep (subst (λ n. n < 5) w lt)
+
+pub overflow_add-lower_count : goal.overflow_add-lower_count
+overflow_add-lower_count c =
+    let m = both (below c.args.branches.now) (below c.remove-lower.new.self) (below c.remove-upper.new.self) c.args.slots.now.items c.args.i c.min-j.result c.len.result c.args.width c.remove-lower.result.0.value c.remove-upper.result.0.value c.requires.near c.min-j.ensures c.len.ensures.value c.remove-lower.ensures.below c.remove-upper.ensures.below c.remove-lower.ensures.node c.remove-upper.ensures.node c.requires.width c.if-width-ge5.false in
+    omega (arith, m.room, c.requires.room, c.remove-lower.ensures.count, c.remove-upper.ensures.count)
+
+pub settle-requires-clause-all : goal.settle-requires-clause-all
+settle-requires-clause-all c =
+    let m = both (below c.args.branches.now) (below c.remove-lower.new.self) (below c.remove-upper.new.self) c.args.slots.now.items c.args.i c.min-j.result c.len.result c.args.width c.remove-lower.result.0.value c.remove-upper.result.0.value c.requires.near c.min-j.ensures c.len.ensures.value c.remove-lower.ensures.below c.remove-upper.ensures.below c.remove-lower.ensures.node c.remove-upper.ensures.node c.requires.width c.if-width-ge5.false in
+    m.all
+
+pub settle-requires-clause-fork : goal.settle-requires-clause-fork
+settle-requires-clause-fork c =
+    let m = both (below c.args.branches.now) (below c.remove-lower.new.self) (below c.remove-upper.new.self) c.args.slots.now.items c.args.i c.min-j.result c.len.result c.args.width c.remove-lower.result.0.value c.remove-upper.result.0.value c.requires.near c.min-j.ensures c.len.ensures.value c.remove-lower.ensures.below c.remove-upper.ensures.below c.remove-lower.ensures.node c.remove-upper.ensures.node c.requires.width c.if-width-ge5.false in
+    m.fork
+
+pub settle-requires-clause-in_bounds : goal.settle-requires-clause-in_bounds
+settle-requires-clause-in_bounds c =
+    let m = both (below c.args.branches.now) (below c.remove-lower.new.self) (below c.remove-upper.new.self) c.args.slots.now.items c.args.i c.min-j.result c.len.result c.args.width c.remove-lower.result.0.value c.remove-upper.result.0.value c.requires.near c.min-j.ensures c.len.ensures.value c.remove-lower.ensures.below c.remove-upper.ensures.below c.remove-lower.ensures.node c.remove-upper.ensures.node c.requires.width c.if-width-ge5.false in
+    m.within
+
+pub settle-requires-clause-pair : goal.settle-requires-clause-pair
+settle-requires-clause-pair c =
+    let m = both (below c.args.branches.now) (below c.remove-lower.new.self) (below c.remove-upper.new.self) c.args.slots.now.items c.args.i c.min-j.result c.len.result c.args.width c.remove-lower.result.0.value c.remove-upper.result.0.value c.requires.near c.min-j.ensures c.len.ensures.value c.remove-lower.ensures.below c.remove-upper.ensures.below c.remove-lower.ensures.node c.remove-upper.ensures.node c.requires.width c.if-width-ge5.false in
+    m.pair
+
+pub settle-requires-clause-room : goal.settle-requires-clause-room
+settle-requires-clause-room c =
+    let m = both (below c.args.branches.now) (below c.remove-lower.new.self) (below c.remove-upper.new.self) c.args.slots.now.items c.args.i c.min-j.result c.len.result c.args.width c.remove-lower.result.0.value c.remove-upper.result.0.value c.requires.near c.min-j.ensures c.len.ensures.value c.remove-lower.ensures.below c.remove-upper.ensures.below c.remove-lower.ensures.node c.remove-upper.ensures.node c.requires.width c.if-width-ge5.false in
+    omega (arith, m.room, c.requires.room, c.remove-lower.ensures.count, c.remove-upper.ensures.count)
+
+pub returns-clause-levels : goal.returns-clause-levels
+returns-clause-levels c =
+    let m = both (below c.args.branches.now) (below c.remove-lower.new.self) (below c.remove-upper.new.self) c.args.slots.now.items c.args.i c.min-j.result c.len.result c.args.width c.remove-lower.result.0.value c.remove-upper.result.0.value c.requires.near c.min-j.ensures c.len.ensures.value c.remove-lower.ensures.below c.remove-upper.ensures.below c.remove-lower.ensures.node c.remove-upper.ensures.node c.requires.width c.if-width-ge5.false in
+    c.settle.ensures.levels ∙ m.height
+
+pub returns-clause-slots : goal.returns-clause-slots
+returns-clause-slots c =
+    let m = both (below c.args.branches.now) (below c.remove-lower.new.self) (below c.remove-upper.new.self) c.args.slots.now.items c.args.i c.min-j.result c.len.result c.args.width c.remove-lower.result.0.value c.remove-upper.result.0.value c.requires.near c.min-j.ensures c.len.ensures.value c.remove-lower.ensures.below c.remove-upper.ensures.below c.remove-lower.ensures.node c.remove-upper.ensures.node c.requires.width c.if-width-ge5.false in
+    c.settle.ensures.slots ∙ ap (λ l. weave l c.args.slots.now.items) m.back

@@ -1,0 +1,79 @@
+use Rattle.std.proofs.Common.{◌≡◌, ◌+◌, ◌-◌, ◌/◌, ◌<◌, ◌∙◌, length, get_or, arith, sym, ap, Some, Less, Equal, Greater}
+use Rattle.std.specs.Option.{option_copied}
+use Rattle.iddqd_store.specs.Store.{item_at}
+use Rattle.iddqd_ord_index.specs.Standing.{slot_standing, standing}
+use Rattle.iddqd_ord_index.proofs.DigitLemmas.{digits-fewer, digits_mono}
+use Rattle.iddqd_ord_index.proofs.OrderLemmas.{all_above, all_below}
+use Rattle.iddqd_ord_index.proofs.tree.search.search.Goals as goal
+
+pub loop-low-init : goal.loop-low-init
+loop-low-init g c = record {
+  ordered = omega arith;
+  within = omega arith;
+  before = λ k a. absurd (omega arith);
+  behind = λ k a b. absurd (omega arith);
+  counts_on = omega arith;
+  countable = omega arith;
+  counted = omega (arith, digits_mono (length c.args.slots.now - 0) (length c.args.slots.now) (omega arith));
+}
+
+pub returns-in-Equal-clause-place : goal.returns-in-Equal-clause-place
+returns-in-Equal-clause-place g c =
+    let middle = c.loop-low.low + (c.loop-low.high - c.loop-low.low) / 2 in
+    let within : middle < length c.args.slots.now = omega (arith, c.loop-low.invariant.within) in
+    let compare = g.Q.Comparable.compare c.args.query.now in
+    let key = g.T.IdOrdItem.key in
+    let item = c.unwrap-item.result.now in
+    let read : item_at c.args.store.now (get_or c.args.slots.now middle 0) ≡ Some item = sym c.get.ensures ∙ ap option_copied c.unwrap-item.ensures in
+    let answer : compare (key item) ≡ Equal = cc in
+    (within, ap (standing key compare) read ∙ answer)
+
+pub returns-in-Equal-clause-steps : goal.returns-in-Equal-clause-steps
+returns-in-Equal-clause-steps g c = omega (arith, digits-fewer (c.loop-low.high - c.loop-low.low) 0 (omega arith) (omega arith))
+
+pub loop-low-preserved-in-Greater : goal.loop-low-preserved-in-Greater
+loop-low-preserved-in-Greater g c =
+    let low = c.loop-low.low in
+    let high = c.loop-low.high in
+    let middle = low + (high - low) / 2 in
+    let within : middle < length c.args.slots.now = omega (arith, c.loop-low.invariant.within) in
+    let compare = g.Q.Comparable.compare c.args.query.now in
+    let key = g.T.IdOrdItem.key in
+    let item = c.unwrap-item.result.now in
+    let read : item_at c.args.store.now (get_or c.args.slots.now middle 0) ≡ Some item = sym c.get.ensures ∙ ap option_copied c.unwrap-item.ensures in
+    let answer : compare (key item) ≡ Greater = cc in
+    record {
+      ordered = omega arith;
+      within = c.loop-low.invariant.within;
+      before = all_above (slot_standing key compare c.args.store.now) c.args.slots.now middle c.requires.monotone within (ap (standing key compare) read ∙ answer);
+      behind = c.loop-low.invariant.behind;
+      counts_on = omega arith;
+      countable = omega arith;
+      counted = omega (arith, digits-fewer (high - low) (high - (middle + 1)) (omega arith) (omega arith));
+    }
+
+pub loop-low-preserved : goal.loop-low-preserved
+loop-low-preserved g c =
+    let low = c.loop-low.low in
+    let high = c.loop-low.high in
+    let middle = low + (high - low) / 2 in
+    let within : middle < length c.args.slots.now = omega (arith, c.loop-low.invariant.within) in
+    let compare = g.Q.Comparable.compare c.args.query.now in
+    let key = g.T.IdOrdItem.key in
+    let item = c.unwrap-item.result.now in
+    let read : item_at c.args.store.now (get_or c.args.slots.now middle 0) ≡ Some item = sym c.get.ensures ∙ ap option_copied c.unwrap-item.ensures in
+    let answer : compare (key item) ≡ Less = cc in
+    record {
+      ordered = omega arith;
+      within = omega (arith, c.loop-low.invariant.within);
+      before = c.loop-low.invariant.before;
+      behind = all_below (slot_standing key compare c.args.store.now) c.args.slots.now middle c.requires.monotone (ap (standing key compare) read ∙ answer);
+      counts_on = omega arith;
+      countable = omega arith;
+      counted = omega (arith, digits-fewer (high - low) (middle - low) (omega arith) (omega arith));
+    }
+
+pub returns-clause-place : goal.returns-clause-place
+returns-clause-place g c =
+    let e : c.loop-low.low ≡ c.loop-low.high = omega (arith, c.loop-low.invariant.ordered) in
+    (omega (arith, c.loop-low.invariant.within), c.loop-low.invariant.before, λ k a b. c.loop-low.invariant.behind k (omega arith) b)

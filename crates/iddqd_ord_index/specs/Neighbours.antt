@@ -1,0 +1,45 @@
+-- Two neighbours of which one is a slot short, and what they are when they are mended. No public clause cites this module.
+use Rattle.std.specs.Prelude.{◌≡◌, ℕ, ◌+◌, ◌<◌, ◌≤◌, min, nat_lt, if◌then◌else◌, List, ◌∷◌, ◌++◌, length, Option, Some, None, slice_index_or}
+use Rattle.std.proofs.Common.{◌≢◌}
+use Rattle.iddqd_ord_index.specs.Changes.{Stock}
+use Rattle.iddqd_ord_index.specs.Shape.{Subtree, IsDense, IsBranch, levels, unused}
+
+-- of one height, and one of them has a slot too few
+pub record IsPair (a b : Subtree) : Type 0 where
+  pub height : a.height ≡ b.height
+  pub short : min a.width b.width ≡ 4
+  pub other : 9 ≤ a.width + b.width
+
+-- the slots of both stand in the lower one
+pub record IsMerged (a : Subtree) (middle : ℕ) (b lower upper : Subtree) : Type 0 where
+  pub slots : lower.slots ≡ a.slots ++ middle ∷ b.slots
+  pub lower_branch : IsBranch (a.height + 1) lower
+  pub unused : upper ≡ unused
+
+-- the same slots, cut at another one
+pub record IsShifted (a : Subtree) (middle : ℕ) (b lower : Subtree) (top : ℕ) (upper : Subtree) : Type 0 where
+  pub slots : a.slots ++ middle ∷ b.slots ≡ lower.slots ++ top ∷ upper.slots
+  pub lower_branch : IsBranch (a.height + 1) lower
+  pub upper_branch : IsBranch (a.height + 1) upper
+
+abbrev pub IsMended : Subtree → ℕ → Subtree → Subtree → Option ℕ → Subtree → Type 0
+IsMended a middle b lower None upper = IsMerged a middle b lower upper
+IsMended a middle b lower (Some top) upper = IsShifted a middle b lower top upper
+
+-- a branch of a node of height h that may be a slot short
+pub record IsShort (h : ℕ) (t : Subtree) : Type 0 where
+  pub height : t.height + 1 ≡ h
+  pub wide : 4 ≤ t.width
+  pub dense : IsDense t
+
+-- the branches and slots of a node, but that the i-th branch may be a slot short
+pub record IsNear (ts : List Subtree) (ss : List ℕ) (i : ℕ) : Type 0 where
+  pub branch : i < length ts
+  pub fork : length ts ≡ length ss + 1
+  pub some : 0 < length ss
+  pub short : IsShort (levels ts) (slice_index_or ts i unused)
+  pub others : (k : ℕ) → k < length ts → k ≢ i → IsBranch (levels ts) (slice_index_or ts k unused)
+
+-- an unused node is kept as long as it is wanted
+abbrev pub given_back : Stock → Stock
+given_back s = record s { count = if nat_lt s.count s.wanted then s.count + 1 else s.count }

@@ -1,0 +1,28 @@
+-- What the fields of a node show. No public clause cites this module.
+use Rattle.std.specs.Prelude.{◌≡◌, List, length, map, Option}
+use Rattle.std.proofs.Common.{Box, Global}
+use Rattle.iddqd_ord_index.specs.Cells.{held, IsPacked}
+use Rattle.iddqd_ord_index.specs.Shape.{Subtree, tree, IsForked}
+use Rattle.iddqd_ord_index.specs.declared.tree.node.Branches.{Branches}
+use Rattle.iddqd_ord_index.specs.declared.tree.node.Node.{Node}
+use Rattle.iddqd_ord_index.specs.declared.tree.node.Node.TheInside.{Inside}
+
+-- the subtrees in these cells
+abbrev pub subtrees : List (Option (Box Node Global)) → List Subtree
+subtrees os = map (λ b. b.value) (held os)
+
+-- the subtrees below a node with these branches
+abbrev pub below : Branches → List Subtree
+below bs = subtrees bs.nodes
+
+-- the branches stand in front, and beside each the number of slots below it
+pub record AreBranches (bs : Branches) : Type 0 where
+  pub packed : IsPacked bs.nodes
+  pub counted : bs.counts.items ≡ map (λ t. length t.slots) (below bs)
+
+abbrev pub seen : Inside → Subtree
+seen n = tree (below n.branches) n.slots.items
+
+pub record IsNode (n : Inside) : Type 0 where
+  pub branches : AreBranches n.branches
+  pub forked : IsForked (below n.branches) n.slots.items

@@ -1,0 +1,83 @@
+//! A node of the tree. Contracts see it as its slots in order with those below it, its height, and its own number of slots.
+ghost use Rattle.std.specs.Prelude.{◌≡◌, ◌+◌, ◌^◌, ◌<◌, ◌≤◌, [], length};
+ghost use Rattle.iddqd_ord_index.specs.Nodes.{below};
+ghost use Rattle.iddqd_ord_index.specs.Shape.{unused};
+
+mod below;
+mod clone;
+mod ends;
+mod find;
+mod insert;
+mod pair;
+mod places;
+mod remove;
+mod walk;
+
+use arrayvec::ArrayVec;
+use std::marker::Model;
+
+/// A node: its own slots, and the branches between which they stand. A leaf has no branches.
+#[cycle(tree)]
+#[derive(Drop)]
+pub(crate) struct Node {
+    slots: ArrayVec<u32, 11>,
+    branches: Branches,
+}
+
+/// The branches of a node, and how many slots lie below each.
+#[cycle(tree)]
+#[derive(Drop)]
+pub(crate) struct Branches {
+    nodes: [Option<Box<Node>>; 12],
+    counts: ArrayVec<u32, 12>,
+}
+
+impl Model for Node {
+    ghost use Rattle.iddqd_ord_index.specs.Shape.{Subtree};
+
+    ghost Value = { Subtree };
+
+    ghost use Rattle.iddqd_ord_index.specs.Nodes.{seen, IsNode};
+
+    ghost view = { λ n. seen n };
+
+    ghost invariant = { λ n. IsNode n };
+
+    ghost size = { λ v. v.height };
+
+    ghost use Rattle.iddqd_ord_index.specs.Falls.{falls};
+
+    ghost size_decreases = { λ n h. falls n h };
+}
+
+impl Node {
+    // An unused node, which is a leaf without slots.
+    pub(crate) fn new() -> Self
+        ensures { result ≡ unused }
+    {
+        Node {
+            slots: ArrayVec::new(),
+            branches: Branches::new(),
+        }
+    }
+
+    // How many slots the node itself has.
+    pub(crate) fn width(&self) -> usize
+        ensures width { result ≡ self.now.width }
+        ensures most { result ≤ 11 }
+    {
+        self.slots.len()
+    }
+
+    // How many slots the node has with those below it.
+    pub(crate) fn len(&self) -> u32
+        requires { length self.now.slots < 2 ^ 32 }
+        ensures { result ≡ length self.now.slots }
+    {
+        let own = self.slots.len();
+        if self.branches.is_empty() {
+            return own as u32;
+        }
+        self.branches.start(own) + self.branches.count(own)
+    }
+}

@@ -1,0 +1,24 @@
+//! A copy of a node with all that lies below it.
+ghost use Rattle.std.specs.Prelude.{◌≡◌, IfOk};
+
+use super::{Branches, Node};
+use arrayvec::ArrayVec;
+use std::alloc::{AllocError, Global};
+
+impl Node {
+    // A node of the same slots and shape. It is refused only for want of memory.
+    pub(crate) fn try_clone(&self, alloc: Global) -> Result<Node, AllocError>
+        ensures { IfOk result (λ copy. copy ≡ self.now) }
+    {
+        let mut branches = Branches::new();
+        for i in 0..self.branches.len() {
+            let node = self.branches.get(i).try_clone(alloc)?;
+            branches.insert(i, Box::new(alloc, node)?, self.branches.count(i));
+        }
+        let mut slots = ArrayVec::new();
+        let Ok(()) = slots.try_extend_from_slice(self.slots.as_slice()) else {
+            unreachable!()
+        };
+        Ok(Node { slots, branches })
+    }
+}

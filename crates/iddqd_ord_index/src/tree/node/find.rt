@@ -1,0 +1,67 @@
+//! Search: by halves in each node on the way down.
+ghost use Rattle.std.specs.Prelude.{◌≡◌, ◌+◌, ◌*◌, ◌^◌, ◌<◌, ◌≤◌, length};
+ghost use Rattle.iddqd_ord_index.specs.Listed.{AreOccupied};
+ghost use Rattle.iddqd_ord_index.specs.Standing.{slot_standing, IsAmong, IsMonotone, IsPlace};
+
+use super::Node;
+use crate::tree::search::search;
+use iddqd_store::{Comparable, IdOrdItem, ItemStore, Steps};
+
+impl Node {
+    // Where the query belongs, by at most four comparisons a level.
+    pub(crate) fn find<T: IdOrdItem, Q: Comparable<T::Key>>(
+        &self,
+        store: &ItemStore<T>,
+        query: &Q,
+        steps: &mut Steps,
+    ) -> Result<u32, u32>
+        requires occupied { AreOccupied store.now self.now.slots }
+        requires monotone { IsMonotone (slot_standing T.key (Q.compare query.now) store.now) self.now.slots }
+        requires room { length self.now.slots < 2 ^ 32 }
+        ensures place { IsPlace (slot_standing T.key (Q.compare query.now) store.now) self.now.slots result }
+        ensures steps { steps.new ≤ steps.old + 4 * self.now.height }
+        ensures counts_on { steps.old ≤ steps.new }
+    {
+        let mut node = self;
+        let mut base = 0;
+        'down: while !node.branches.is_empty() {
+            match search(node.slots.as_slice(), store, query, steps) {
+                Ok(i) => return Ok(base + node.branches.start(i + 1) - 1),
+                Err(i) => {
+                    base += node.branches.start(i);
+                    node = node.branches.get(i);
+                }
+            }
+        }
+        match search(node.slots.as_slice(), store, query, steps) {
+            Ok(i) => Ok(base + i as u32),
+            Err(i) => Err(base + i as u32),
+        }
+    }
+
+    // The slot that the query equals, by as many comparisons. It adds up no positions.
+    pub(crate) fn get<T: IdOrdItem, Q: Comparable<T::Key>>(
+        &self,
+        store: &ItemStore<T>,
+        query: &Q,
+        steps: &mut Steps,
+    ) -> Option<u32>
+        requires occupied { AreOccupied store.now self.now.slots }
+        requires monotone { IsMonotone (slot_standing T.key (Q.compare query.now) store.now) self.now.slots }
+        ensures found { IsAmong (slot_standing T.key (Q.compare query.now) store.now) self.now.slots result }
+        ensures steps { steps.new ≤ steps.old + 4 * self.now.height }
+        ensures counts_on { steps.old ≤ steps.new }
+    {
+        let mut node = self;
+        'down: while !node.branches.is_empty() {
+            match search(node.slots.as_slice(), store, query, steps) {
+                Ok(i) => return Some(node.slots.as_slice()[i]),
+                Err(i) => node = node.branches.get(i),
+            }
+        }
+        match search(node.slots.as_slice(), store, query, steps) {
+            Ok(i) => Some(node.slots.as_slice()[i]),
+            Err(_) => None,
+        }
+    }
+}

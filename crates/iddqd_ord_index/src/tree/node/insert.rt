@@ -1,0 +1,185 @@
+//! Insertion: a node without room gives its upper half away.
+ghost use Rattle.std.specs.Prelude.{◌≡◌, ◌+◌, ◌^◌, ◌<◌, ◌≤◌, [], ◌∷◌, ◌++◌, length, insert, nat_le, if◌then◌else◌};
+ghost use Rattle.arrayvec.specs.ArrayVec.{array_vec_len};
+ghost use Rattle.iddqd_ord_index.specs.Changes.{AddsTo, IsSplit};
+ghost use Rattle.iddqd_ord_index.specs.Nodes.{below, AreBranches};
+ghost use Rattle.iddqd_ord_index.specs.Shape.{lists, levels, tree, unused, weave, IsBranch, IsDense, IsForked};
+
+use super::{Branches, Node};
+use crate::tree::spare::Spare;
+use arrayvec::ArrayVec;
+
+// Puts `slot` at place `i` of eleven, moves the upper half into `upper`, which is empty, and answers the slot between the
+// halves.
+fn split_slots(
+    slots: &mut ArrayVec<u32, 11>,
+    i: usize,
+    slot: u32,
+    upper: &mut ArrayVec<u32, 11>,
+) -> u32
+    requires full { array_vec_len slots.old ≡ 11 }
+    requires in_bounds { i ≤ 11 }
+    requires upper_empty { upper.old.items ≡ [] }
+    ensures items { insert slots.old.items i slot ≡ slots.new.items ++ result ∷ upper.new.items }
+    ensures lower { length slots.new.items ≡ (if nat_le i 5 then 6 else 5) }
+    ensures upper { length upper.new.items ≡ (if nat_le i 5 then 5 else 6) }
+    ensures wide { (5 ≤ length slots.new.items) × (5 ≤ length upper.new.items) }
+{
+    let Ok(()) = upper.try_extend_from_slice(&slots.as_slice()[6..]) else {
+        unreachable!()
+    };
+    slots.truncate(6);
+    let Some(middle) = slots.pop() else {
+        unreachable!()
+    };
+    if i <= 5 {
+        slots.insert(i, slot);
+    } else {
+        upper.insert(i - 6, slot);
+    }
+    middle
+}
+
+// Puts `middle` at place `i` of a full inner node and `upper` behind it, and moves the upper half into `half`, which is
+// unused. It answers the slot between the halves.
+fn split_inner(
+    slots: &mut ArrayVec<u32, 11>,
+    branches: &mut Branches,
+    i: usize,
+    middle: u32,
+    upper: Box<Node>,
+    count: u32,
+    half: &mut Node,
+) -> u32
+    requires branches { AreBranches branches.old }
+    requires forked { IsForked (below branches.old) slots.old.items }
+    requires full { array_vec_len slots.old ≡ 11 }
+    requires inner { 0 < length (below branches.old) }
+    requires in_bounds { i ≤ 11 }
+    requires upper { IsBranch (levels (below branches.old)) upper.value }
+    requires count { count ≡ length upper.value.slots }
+    requires half { half.old ≡ unused }
+    ensures branches { AreBranches branches.new }
+    ensures forked { IsForked (below branches.new) slots.new.items }
+    ensures levels { levels (below branches.new) ≡ levels (below branches.old) }
+    ensures split { IsSplit (weave (insert (lists (below branches.old)) (i + 1) upper.value.slots) (insert slots.old.items i middle)) (tree (below branches.new) slots.new.items) result half.new }
+{
+    let top = split_slots(slots, i, middle, &mut half.slots);
+    branches.split(i, upper, count, &mut half.branches);
+    top
+}
+
+// Puts `middle` at place `i` of an inner node and `upper` behind it.
+fn add_branch(
+    slots: &mut ArrayVec<u32, 11>,
+    branches: &mut Branches,
+    i: usize,
+    middle: u32,
+    upper: Box<Node>,
+    count: u32,
+    spare: &mut Spare,
+) -> Option<(u32, Box<Node>)>
+    requires branches { AreBranches branches.old }
+    requires forked { IsForked (below branches.old) slots.old.items }
+    requires inner { 0 < length (below branches.old) }
+    requires in_bounds { i ≤ length slots.old.items }
+    requires upper { IsBranch (levels (below branches.old)) upper.value }
+    requires count { count ≡ length upper.value.slots }
+    requires enough { 0 < spare.old.count }
+    ensures branches { AreBranches branches.new }
+    ensures forked { IsForked (below branches.new) slots.new.items }
+    ensures levels { levels (below branches.new) ≡ levels (below branches.old) }
+    ensures adds { AddsTo (weave (insert (lists (below branches.old)) (i + 1) upper.value.slots) (insert slots.old.items i middle)) (length slots.old.items) (tree (below branches.new) slots.new.items) result }
+    ensures left { spare.old.count ≤ spare.new.count + 1 }
+    ensures spare { (spare.new.wanted ≡ spare.old.wanted) × (spare.new.room ≡ spare.old.room) }
+{
+    if slots.len() < 11 {
+        slots.insert(i, middle);
+        branches.insert(i + 1, upper, count);
+        return None;
+    }
+    let mut half = spare.take();
+    let top = split_inner(slots, branches, i, middle, upper, count, &mut half);
+    Some((top, half))
+}
+
+impl Node {
+    // Makes an unused node the root above two halves, below which so many slots lie.
+    pub(crate) fn fork(
+        &mut self,
+        lower: Box<Node>,
+        lower_count: u32,
+        middle: u32,
+        upper: Box<Node>,
+        upper_count: u32,
+    )
+        requires unused { self.old ≡ unused }
+        requires lower { IsBranch (lower.value.height + 1) lower.value }
+        requires upper { IsBranch (lower.value.height + 1) upper.value }
+        requires lower_count { lower_count ≡ length lower.value.slots }
+        requires upper_count { upper_count ≡ length upper.value.slots }
+        ensures slots { self.new.slots ≡ lower.value.slots ++ middle ∷ upper.value.slots }
+        ensures height { self.new.height ≡ lower.value.height + 1 }
+        ensures width { self.new.width ≡ 1 }
+        ensures dense { IsDense self.new }
+    {
+        self.slots.push(middle);
+        self.branches.insert(0, lower, lower_count);
+        self.branches.insert(1, upper, upper_count);
+    }
+
+    // Puts a slot into a leaf. One without room gives its upper half away.
+    fn add_to_leaf(&mut self, at: u32, slot: u32, spare: &mut Spare) -> Option<(u32, Box<Node>)>
+        requires leaf { self.old.height ≡ 1 }
+        requires place { at ≤ length self.old.slots }
+        requires enough { 0 < spare.old.count }
+        ensures adds { AddsTo (insert self.old.slots at slot) self.old.width self.new result }
+        ensures height { self.new.height ≡ self.old.height }
+        ensures dense { IsDense self.new }
+        ensures left { spare.old.count ≤ spare.new.count + 1 }
+        ensures spare { (spare.new.wanted ≡ spare.old.wanted) × (spare.new.room ≡ spare.old.room) }
+    {
+        if !self.slots.is_full() {
+            self.slots.insert(at as usize, slot);
+            return None;
+        }
+        let mut half = spare.take();
+        let upper: &mut Node = &mut half;
+        let middle = split_slots(&mut self.slots, at as usize, slot, &mut upper.slots);
+        Some((middle, half))
+    }
+
+    // Puts a slot in at the position. A node without room gives its upper half away, with the slot before it.
+    pub(crate) fn add(&mut self, at: u32, slot: u32, spare: &mut Spare) -> Option<(u32, Box<Node>)>
+        requires place { at ≤ length self.old.slots }
+        requires room { length self.old.slots + 1 < 2 ^ 32 }
+        requires enough { self.old.height ≤ spare.old.count }
+        ensures adds { AddsTo (insert self.old.slots at slot) self.old.width self.new result }
+        ensures height { self.new.height ≡ self.old.height }
+        ensures dense { IsDense self.new }
+        ensures left { spare.old.count ≤ spare.new.count + self.old.height }
+        ensures spare { (spare.new.wanted ≡ spare.old.wanted) × (spare.new.room ≡ spare.old.room) }
+    {
+        if self.branches.is_empty() {
+            return self.add_to_leaf(at, slot, spare);
+        }
+        let (i, rest) = self.branches.aim(at);
+        let count = self.branches.count(i) + 1;
+        let mut node = self.branches.take(i);
+        let Some((middle, upper)) = node.add(rest, slot, spare) else {
+            self.branches.put(i, node, count);
+            return None;
+        };
+        let above = upper.len();
+        self.branches.put(i, node, count - above - 1);
+        add_branch(
+            &mut self.slots,
+            &mut self.branches,
+            i,
+            middle,
+            upper,
+            above,
+            spare,
+        )
+    }
+}

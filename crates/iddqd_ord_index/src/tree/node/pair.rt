@@ -1,0 +1,114 @@
+//! Two neighbours of which one is a slot short: both are merged, or one borrows from the other.
+ghost use Rattle.std.specs.Prelude.{◌≡◌, ◌+◌, ◌<◌, ◌≤◌, ◌∷◌, ◌++◌, length, take, drop};
+ghost use Rattle.iddqd_ord_index.specs.Neighbours.{IsPair, IsMended};
+ghost use Rattle.iddqd_ord_index.specs.Nodes.{below, AreBranches};
+ghost use Rattle.iddqd_ord_index.specs.Shape.{unused, IsDense};
+
+use super::{Branches, Node};
+
+// Moves the first branch of `upper`, if it has any, behind those of `lower`.
+fn move_first(lower: &mut Branches, upper: &mut Branches)
+    requires branches { AreBranches lower.old }
+    requires upper_branches { AreBranches upper.old }
+    requires fits { length (below lower.old) < 12 }
+    ensures branches { AreBranches lower.new }
+    ensures upper_branches { AreBranches upper.new }
+    ensures below { below lower.new ≡ below lower.old ++ take 1 (below upper.old) }
+    ensures upper_below { below upper.new ≡ drop 1 (below upper.old) }
+{
+    if upper.is_empty() {
+        return;
+    }
+    let len = lower.len();
+    let (node, count) = upper.remove(0);
+    lower.insert(len, node, count);
+}
+
+// Moves the branch behind the first `len` ones of `lower`, if it has any, before those of `upper`.
+fn move_last(lower: &mut Branches, len: usize, upper: &mut Branches)
+    requires branches { AreBranches lower.old }
+    requires upper_branches { AreBranches upper.old }
+    requires len { 0 < length (below lower.old) → len + 1 ≡ length (below lower.old) }
+    requires fits { length (below upper.old) < 12 }
+    ensures branches { AreBranches lower.new }
+    ensures upper_branches { AreBranches upper.new }
+    ensures below { below lower.new ≡ take len (below lower.old) }
+    ensures upper_below { below upper.new ≡ drop len (below lower.old) ++ below upper.old }
+{
+    if lower.is_empty() {
+        return;
+    }
+    let (node, count) = lower.remove(len);
+    upper.insert(0, node, count);
+}
+
+impl Node {
+    // Moves all of `upper` behind `middle` into the node. `upper` is unused from then on.
+    fn merge(&mut self, middle: u32, upper: &mut Node)
+        requires height { self.old.height ≡ upper.old.height }
+        requires fits { self.old.width + upper.old.width < 11 }
+        ensures slots { self.new.slots ≡ self.old.slots ++ middle ∷ upper.old.slots }
+        ensures height { self.new.height ≡ self.old.height }
+        ensures width { self.new.width ≡ self.old.width + upper.old.width + 1 }
+        ensures dense { IsDense self.new }
+        ensures unused { upper.new ≡ unused }
+    {
+        self.branches.append(&mut upper.branches);
+        self.slots.push(middle);
+        let Ok(()) = self.slots.try_extend_from_slice(upper.slots.as_slice()) else {
+            unreachable!()
+        };
+        upper.slots.clear();
+    }
+
+    // Puts `middle` behind the node's slots with the first branch of `upper`, and answers the first own slot of `upper`.
+    fn borrow_first(&mut self, middle: u32, upper: &mut Node) -> u32
+        requires height { self.old.height ≡ upper.old.height }
+        requires fits { self.old.width < 11 }
+        requires more { 0 < upper.old.width }
+        ensures slots { self.old.slots ++ middle ∷ upper.old.slots ≡ self.new.slots ++ result ∷ upper.new.slots }
+        ensures height { (self.new.height ≡ self.old.height) × (upper.new.height ≡ upper.old.height) }
+        ensures width { (self.new.width ≡ self.old.width + 1) × (upper.new.width + 1 ≡ upper.old.width) }
+        ensures dense { IsDense self.new × IsDense upper.new }
+    {
+        move_first(&mut self.branches, &mut upper.branches);
+        self.slots.push(middle);
+        upper.slots.remove(0)
+    }
+
+    // Puts `middle` before the slots of `upper` with the node's last branch, and answers the node's last own slot.
+    fn lend_last(&mut self, middle: u32, upper: &mut Node) -> u32
+        requires height { self.old.height ≡ upper.old.height }
+        requires fits { upper.old.width < 11 }
+        requires more { 0 < self.old.width }
+        ensures slots { self.old.slots ++ middle ∷ upper.old.slots ≡ self.new.slots ++ result ∷ upper.new.slots }
+        ensures height { (self.new.height ≡ self.old.height) × (upper.new.height ≡ upper.old.height) }
+        ensures width { (self.new.width + 1 ≡ self.old.width) × (upper.new.width ≡ upper.old.width + 1) }
+        ensures dense { IsDense self.new × IsDense upper.new }
+    {
+        move_last(&mut self.branches, self.slots.len(), &mut upper.branches);
+        let Some(last) = self.slots.pop() else {
+            unreachable!()
+        };
+        upper.slots.insert(0, middle);
+        last
+    }
+
+    // Mends two neighbours of which one is a slot short: `None` where all is in the lower one now, else the slot between
+    // them.
+    pub(super) fn mend(&mut self, middle: u32, upper: &mut Node) -> Option<u32>
+        requires { IsPair self.old upper.old }
+        ensures { IsMended self.old middle upper.old self.new result upper.new }
+    {
+        let lower_width = self.width();
+        let upper_width = upper.width();
+        if lower_width + upper_width < 11 {
+            self.merge(middle, upper);
+            return None;
+        }
+        if lower_width < upper_width {
+            return Some(self.borrow_first(middle, upper));
+        }
+        Some(self.lend_last(middle, upper))
+    }
+}

@@ -1,0 +1,149 @@
+//! Removal: a branch that is a slot short is mended with a neighbour.
+ghost use Rattle.std.specs.Prelude.{◌≡◌, ◌+◌, ◌^◌, ◌<◌, ◌≤◌, All, length, insert, remove, slice_index, slice_set, slice_index_or};
+ghost use Rattle.iddqd_ord_index.specs.Neighbours.{given_back, IsPair, IsNear};
+ghost use Rattle.iddqd_ord_index.specs.Nodes.{below, AreBranches};
+ghost use Rattle.iddqd_ord_index.specs.Shape.{levels, lists, starts, unused, weave, IsBranch, IsDense, IsForked};
+
+use super::below::replace;
+use super::{Branches, Node};
+use crate::tree::spare::Spare;
+use arrayvec::ArrayVec;
+use std::mem;
+
+// Mends the neighbours `lower` and `upper`, which have `total` slots, and puts them, or the one that they are now, in as the
+// j-th branch and the next.
+fn settle(
+    slots: &mut ArrayVec<u32, 11>,
+    branches: &mut Branches,
+    j: usize,
+    mut lower: Box<Node>,
+    mut upper: Box<Node>,
+    total: u32,
+    spare: &mut Spare,
+)
+    requires branches { AreBranches branches.old }
+    requires all { All (IsBranch (lower.value.height + 1)) (below branches.old) }
+    requires fork { length (below branches.old) + 1 ≡ length slots.old.items }
+    requires in_bounds { j < length slots.old.items }
+    requires pair { IsPair lower.value upper.value }
+    requires total { total ≡ length lower.value.slots + length upper.value.slots }
+    requires room { total + 1 < 2 ^ 32 }
+    ensures branches { AreBranches branches.new }
+    ensures forked { IsForked (below branches.new) slots.new.items }
+    ensures levels { levels (below branches.new) ≡ lower.value.height + 1 }
+    ensures slots { weave (lists (below branches.new)) slots.new.items ≡ weave (insert (insert (lists (below branches.old)) j upper.value.slots) j lower.value.slots) slots.old.items }
+    ensures width { (length slots.new.items ≤ length slots.old.items) × (length slots.old.items ≤ length slots.new.items + 1) }
+    ensures kept { length slots.new.items ≡ length slots.old.items → spare.new ≡ spare.old }
+    ensures gives_back { length slots.new.items < length slots.old.items → spare.new ≡ given_back spare.old }
+{
+    let middle = slots.as_slice()[j];
+    match lower.mend(middle, &mut upper) {
+        Some(top) => {
+            let count = lower.len();
+            replace(slots, j, top);
+            branches.insert(j, upper, total - count);
+            branches.insert(j, lower, count);
+        }
+        None => {
+            slots.remove(j);
+            branches.insert(j, lower, total + 1);
+            spare.give_back(upper);
+        }
+    }
+}
+
+// Mends the i-th branch, whose node has this many slots of its own, if it is one short.
+fn mend(
+    slots: &mut ArrayVec<u32, 11>,
+    branches: &mut Branches,
+    i: usize,
+    width: usize,
+    spare: &mut Spare,
+)
+    requires branches { AreBranches branches.old }
+    requires near { IsNear (below branches.old) slots.old.items i }
+    requires width { width ≡ (slice_index_or (below branches.old) i unused).width }
+    requires room { starts (lists (below branches.old)) ≤ 2 ^ 32 }
+    ensures branches { AreBranches branches.new }
+    ensures forked { IsForked (below branches.new) slots.new.items }
+    ensures levels { levels (below branches.new) ≡ levels (below branches.old) }
+    ensures slots { weave (lists (below branches.new)) slots.new.items ≡ weave (lists (below branches.old)) slots.old.items }
+    ensures width { (length slots.new.items ≤ length slots.old.items) × (length slots.old.items ≤ length slots.new.items + 1) }
+    ensures kept { length slots.new.items ≡ length slots.old.items → spare.new ≡ spare.old }
+    ensures gives_back { length slots.new.items < length slots.old.items → spare.new ≡ given_back spare.old }
+{
+    if width >= 5 {
+        return;
+    }
+    let j = i.min(slots.len() - 1);
+    let (lower, lower_count) = branches.remove(j);
+    let (upper, upper_count) = branches.remove(j);
+    settle(
+        slots,
+        branches,
+        j,
+        lower,
+        upper,
+        lower_count + upper_count,
+        spare,
+    );
+}
+
+// The slot that leaves its node where position `rest` of the i-th branch, which had `len` slots, is taken out: the one that
+// was taken from that branch, or, where `rest` is behind it, the own slot that this one replaces.
+fn replace_own(slots: &mut ArrayVec<u32, 11>, i: usize, rest: u32, len: u32, taken: u32) -> u32
+    requires within { rest ≤ len }
+    requires own { rest ≡ len → i < length slots.old.items }
+    ensures below { rest < len → (result ≡ taken) × (slots.new.items ≡ slots.old.items) }
+    ensures own { rest ≡ len → (result ≡ slice_index slots.old.items i) × (slots.new.items ≡ slice_set slots.old.items i taken) }
+    ensures len { length slots.new.items ≡ length slots.old.items }
+{
+    if rest < len {
+        return taken;
+    }
+    replace(slots, i, taken)
+}
+
+impl Node {
+    // Takes the slot at the position out. The node's own width may fall by one, and so below what a branch needs.
+    pub(crate) fn remove(&mut self, at: u32, spare: &mut Spare) -> u32
+        requires place { at < length self.old.slots }
+        requires room { length self.old.slots < 2 ^ 32 }
+        requires some { 1 < self.old.height → 0 < self.old.width }
+        ensures value { result ≡ slice_index self.old.slots at }
+        ensures slots { self.new.slots ≡ remove self.old.slots at }
+        ensures height { self.new.height ≡ self.old.height }
+        ensures width { self.old.width ≤ self.new.width + 1 }
+        ensures dense { IsDense self.new }
+        ensures kept { spare.old.count ≤ spare.new.count }
+        ensures spare { (spare.new.wanted ≡ spare.old.wanted) × (spare.new.room ≡ spare.old.room) }
+    {
+        if self.branches.is_empty() {
+            return self.slots.remove(at as usize);
+        }
+        let (i, rest) = self.branches.aim(at);
+        let len = self.branches.count(i);
+        let mut node = self.branches.take(i);
+        let taken = node.remove(rest.min(len - 1), spare);
+        let width = node.width();
+        self.branches.put(i, node, len - 1);
+        let slot = replace_own(&mut self.slots, i, rest, len, taken);
+        mend(&mut self.slots, &mut self.branches, i, width, spare);
+        slot
+    }
+
+    // A root without a slot of its own becomes its only branch, and the node that it was is unused.
+    pub(crate) fn collapse(&mut self) -> Box<Node>
+        requires inner { 1 < self.old.height }
+        requires empty { self.old.width ≡ 0 }
+        ensures slots { self.new.slots ≡ self.old.slots }
+        ensures height { self.new.height + 1 ≡ self.old.height }
+        ensures width { 5 ≤ self.new.width }
+        ensures dense { IsDense self.new }
+        ensures unused { result.value ≡ unused }
+    {
+        let (mut node, _) = self.branches.remove(0);
+        mem::swap(&mut *node, self);
+        node
+    }
+}

@@ -1,0 +1,65 @@
+//! The root of a tree: it rises a level where it is split, and falls one where it has no slot of its own.
+ghost use Rattle.std.specs.Prelude.{◌≡◌, ◌+◌, ◌^◌, ◌<◌, ◌≤◌, length, insert, remove, slice_index};
+ghost use Rattle.iddqd_ord_index.specs.Shape.{IsDense};
+
+use super::node::Node;
+use super::spare::Spare;
+use std::mem;
+
+// Puts a slot in at the position, and answers how many levels there are then.
+pub(crate) fn add(
+    root: &mut Node,
+    levels: usize,
+    len: u32,
+    at: u32,
+    slot: u32,
+    spare: &mut Spare,
+) -> usize
+    requires levels { levels ≡ root.old.height }
+    requires low { levels < 100 }
+    requires len { len ≡ length root.old.slots }
+    requires place { at ≤ len }
+    requires room { len + 1 < 2 ^ 32 }
+    requires top { 1 < root.old.height → 1 ≤ root.old.width }
+    requires enough { root.old.height < spare.old.count }
+    ensures slots { root.new.slots ≡ insert root.old.slots at slot }
+    ensures levels { result ≡ root.new.height }
+    ensures higher { result ≤ levels + 1 }
+    ensures top { 1 < root.new.height → 1 ≤ root.new.width }
+    ensures dense { IsDense root.new }
+    ensures spare { (spare.new.wanted ≡ spare.old.wanted) × (spare.new.room ≡ spare.old.room) }
+{
+    let Some((middle, upper)) = root.add(at, slot, spare) else {
+        return levels;
+    };
+    let above = upper.len();
+    let mut lower = spare.take();
+    mem::swap(&mut *lower, root);
+    root.fork(lower, len - above, middle, upper, above);
+    levels + 1
+}
+
+// Takes the slot at the position out, and answers it with how many levels there are then.
+pub(crate) fn remove(root: &mut Node, levels: usize, at: u32, spare: &mut Spare) -> (u32, usize)
+    requires levels { levels ≡ root.old.height }
+    requires place { at < length root.old.slots }
+    requires room { length root.old.slots < 2 ^ 32 }
+    requires top { 1 < root.old.height → 1 ≤ root.old.width }
+    requires wanted { 1 < levels → (spare.old.wanted ≡ levels + 1) × (levels < spare.old.room) }
+    ensures slot { result.0 ≡ slice_index root.old.slots at }
+    ensures slots { root.new.slots ≡ remove root.old.slots at }
+    ensures levels { result.1 ≡ root.new.height }
+    ensures top { 1 < root.new.height → 1 ≤ root.new.width }
+    ensures dense { IsDense root.new }
+    ensures wanted { 1 < result.1 → (spare.new.wanted ≡ result.1 + 1) × (result.1 < spare.new.room) }
+    ensures kept { spare.old.count ≤ spare.new.count }
+{
+    let slot = root.remove(at, spare);
+    if levels == 1 || root.width() > 0 {
+        return (slot, levels);
+    }
+    let node = root.collapse();
+    spare.want(levels);
+    spare.give_back(node);
+    (slot, levels - 1)
+}

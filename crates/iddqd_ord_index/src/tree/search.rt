@@ -1,0 +1,38 @@
+//! A search by halves among the slots of one node.
+ghost use Rattle.std.specs.Prelude.{◌≡◌, ◌+◌, ◌≤◌, length};
+ghost use Rattle.iddqd_ord_index.specs.Digits.{digits};
+ghost use Rattle.iddqd_ord_index.specs.Listed.{AreOccupied};
+ghost use Rattle.iddqd_ord_index.specs.Standing.{slot_standing, IsMonotone, IsPlace};
+
+use iddqd_store::{Comparable, IdOrdItem, ItemStore, Steps};
+use std::cmp::Ordering;
+
+/// The place of the slot whose item the query stands for, or the place where it belongs. It makes at most as many
+/// comparisons as the number of slots has binary digits.
+pub fn search<T: IdOrdItem, Q: Comparable<T::Key>>(
+    slots: &[u32],
+    store: &ItemStore<T>,
+    query: &Q,
+    steps: &mut Steps,
+) -> Result<usize, usize>
+    requires occupied { AreOccupied store.now slots.now }
+    requires monotone { IsMonotone (slot_standing T.key (Q.compare query.now) store.now) slots.now }
+    ensures place { IsPlace (slot_standing T.key (Q.compare query.now) store.now) slots.now result }
+    ensures steps { steps.new ≤ steps.old + digits (length slots.now) }
+    ensures counts_on { steps.old ≤ steps.new }
+{
+    // The greatest count is known of the counter's own fields alone.
+    prove!(steps.count() <= u32::MAX);
+    let mut low = 0;
+    let mut high = slots.len();
+    while low < high {
+        let middle = low + (high - low) / 2;
+        let item = store.get(slots[middle]).unwrap();
+        match steps.compare(query, item.key()) {
+            Ordering::Equal => return Ok(middle),
+            Ordering::Greater => low = middle + 1,
+            Ordering::Less => high = middle,
+        }
+    }
+    Err(low)
+}
