@@ -1,4 +1,4 @@
-use Rattle.std.proofs.Common.{◌≡◌, ℕ, length, get_or, arith, sym, ◌∙◌, below_more}
+use Rattle.std.proofs.Common.{arith, ◌∙◌}
 use Rattle.std.proofs.lemmas.List.{get_or_default}
 use Rattle.iddqd_ord_index.proofs.ord_index.tests.holds.Goals as goal
 
