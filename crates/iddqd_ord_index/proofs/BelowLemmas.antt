@@ -1,13 +1,13 @@
 -- The branches of a node, by the cells and the counts that hold them.
-use Rattle.std.proofs.Common.{◌≡◌, ℕ, ◌+◌, ◌<◌, List, [], ◌++◌, length, map, take, drop, set, get_or, ap, sym, ◌∙◌, subst, arith, length-set, Option, Some, None, Box, Global}
+use Rattle.std.proofs.Common.{◌≡◌, ℕ, ◌+◌, ◌<◌, List, [], length, map, take, drop, set, get_or, ap, sym, ◌∙◌, subst, arith, Option, Some, None, Box, Global}
 use Rattle.std.specs.List.{insert, remove}
-use Rattle.std.proofs.lemmas.List.{get_or-map, length-map, map-set, map-append, take-map, drop-map}
+use Rattle.std.proofs.lemmas.List.{get_or-map, length-map, map-set, take-map, drop-map}
 use Rattle.iddqd_ord_index.specs.Cells.{held, IsPacked}
 use Rattle.iddqd_ord_index.specs.Nodes.{below, subtrees, AreBranches}
 use Rattle.iddqd_ord_index.specs.Shape.{Subtree, lists, starts, unused}
 use Rattle.iddqd_ord_index.specs.declared.tree.node.Branches.{Branches}
 use Rattle.iddqd_ord_index.specs.declared.tree.node.Node.{Node}
-use Rattle.iddqd_ord_index.proofs.PackedLemmas.{cell_at, held_cell, map-insert, map-remove}
+use Rattle.iddqd_ord_index.proofs.PackedLemmas.{cell_at, map-insert, map-remove}
 use Rattle.iddqd_ord_index.proofs.WeaveLemmas.{starts_take, starts_drop}
 use Rattle.iddqd_ord_index.proofs.EditLemmas.{put_packed, put_subtrees}
 

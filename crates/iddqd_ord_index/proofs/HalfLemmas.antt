@@ -1,14 +1,14 @@
 -- An inner node that gets a branch and a slot, and where it is full is split.
-use Rattle.std.proofs.Common.{◌≡◌, ℕ, ◌+◌, ◌<◌, ◌≤◌, List, [], ◌∷◌, ◌++◌, length, map, take, drop, refl, ap, sym, ◌∙◌, subst, arith, Bool, true, false}
+use Rattle.std.proofs.Common.{◌≡◌, ℕ, ◌+◌, ◌<◌, ◌≤◌, List, [], ◌∷◌, ◌++◌, length, take, drop, refl, ap, sym, ◌∙◌, subst, arith, Bool, true, false}
 use Rattle.std.specs.Bool.{if◌then◌else◌}
 use Rattle.std.specs.List.{insert, All}
 use Rattle.std.proofs.lemmas.List.{map-append, take_at, drop_at}
 use Rattle.std.proofs.lemmas.List.Edits.{length-insert}
 use Rattle.std.proofs.lemmas.List.Elements.{All-append, All-take, All-drop, All-cons, All-head}
-use Rattle.iddqd_ord_index.specs.Shape.{Subtree, weave, starts, lists, levels, IsForked, IsBranch}
+use Rattle.iddqd_ord_index.specs.Shape.{Subtree, weave, lists, levels, IsForked, IsBranch}
 use Rattle.iddqd_ord_index.proofs.BelowLemmas.{length-lists}
 use Rattle.iddqd_ord_index.proofs.PackedLemmas.{map-insert}
-use Rattle.iddqd_ord_index.proofs.WeaveLemmas.{weave_join, starts_split}
+use Rattle.iddqd_ord_index.proofs.WeaveLemmas.{weave_join}
 
 pub one_more_lower : (b : Bool) → (if b then 7 else 6) ≡ (if b then 6 else 5) + 1
 one_more_lower true = refl

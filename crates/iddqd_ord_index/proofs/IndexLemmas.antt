@@ -1,5 +1,5 @@
 -- An index stays one as its list changes.
-use Rattle.std.proofs.Common.{◌≡◌, ℕ, ◌+◌, ◌<◌, ◌≤◌, Bool, false, IsTrue, List, [], length, set, sym, ap, ◌∙◌, subst, true≢false, arith, nat_eq}
+use Rattle.std.proofs.Common.{◌≡◌, ℕ, Bool, false, IsTrue, List, [], length, set, sym, ap, ◌∙◌, subst, true≢false, arith, nat_eq}
 use Rattle.std.specs.Cmp.{nat_eq_equiv}
 use Rattle.std.specs.List.{Contains, IsDistinct, insert, remove}
 use Rattle.iddqd_ord_index.specs.IndexParts.{IsIndex}

@@ -1,14 +1,14 @@
 -- A node of which two neighbours are mended.
-use Rattle.std.proofs.Common.{◌≡◌, ℕ, suc, ◌+◌, ◌-◌, ◌^◌, ◌<◌, ◌≤◌, List, [], ◌∷◌, ◌++◌, length, map, take, drop, set, get_or, refl, ap, sym, ◌∙◌, inl, inr, subst, arith, append_assoc, add-one, length-set, min}
+use Rattle.std.proofs.Common.{◌≡◌, ℕ, suc, ◌+◌, ◌-◌, ◌<◌, ◌≤◌, List, [], ◌∷◌, ◌++◌, length, take, drop, set, get_or, refl, ap, sym, ◌∙◌, inl, inr, subst, arith, append_assoc, add-one, length-set, min}
 use Rattle.std.specs.List.{insert, remove, All}
 use Rattle.std.proofs.lemmas.Bool.{cases_lt}
-use Rattle.std.proofs.lemmas.List.{take-append-drop, length-take-le, take_at, drop_at, drop_more, take-set, drop-set-lt, get_or-set_same, length-map, get_or_default}
+use Rattle.std.proofs.lemmas.List.{take-append-drop, length-take-le, take_at, drop_at, drop_more, take-set, drop-set-lt, get_or-set_same, get_or_default}
 use Rattle.std.proofs.lemmas.List.Edits.{length-insert, length-remove, get_or-remove_below, get_or-remove_above}
 use Rattle.iddqd_ord_index.specs.Shape.{Subtree, behind, weave, starts, lists, levels, unused, IsBranch, IsForked}
 use Rattle.iddqd_ord_index.specs.Neighbours.{IsPair, IsNear, IsShort}
 use Rattle.iddqd_ord_index.proofs.BelowLemmas.{length-lists, list_at}
 use Rattle.iddqd_ord_index.proofs.HalfLemmas.{All-insert, forked_of, levels_of}
-use Rattle.iddqd_ord_index.proofs.PackedLemmas.{map-insert, map-remove}
+use Rattle.iddqd_ord_index.proofs.PackedLemmas.{map-insert}
 use Rattle.iddqd_ord_index.proofs.WeaveLemmas.{pairs, weave_at, starts_split, starts_drop}
 
 -- the list at two neighbours

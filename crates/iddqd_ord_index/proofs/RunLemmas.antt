@@ -7,12 +7,11 @@ use Rattle.iddqd_ord_index.proofs.EditLemmas.{dropped, own_dropped}
 
 -- one slot on
 pub run_more : (run xs : List ℕ) (next : ℕ) → next < length xs → 0 < length run → BeginsWith run (drop next xs) → BeginsWith (take (length run - 1) (drop 1 run)) (drop (next + 1) xs)
-run_more run xs next lt some b =
-    (
-      b.0,
-      sym (ap (λ l. drop 1 l) (drop_more xs next 0 lt))
+run_more run xs next lt some b = (
+  b.0,
+  sym (ap (λ l. drop 1 l) (drop_more xs next 0 lt))
       ∙ (ap (λ l. drop 1 l) b.1 ∙ (drop-append-le 1 run b.0 (omega arith) ∙ ap (λ l. l ++ b.0) (sym (take_rest run 1)))),
-    )
+)
 
 -- what a run begins with begins with it too
 pub run_of : (a b c : List ℕ) → BeginsWith a b → BeginsWith b c → BeginsWith a c

@@ -1,9 +1,8 @@
 -- How a query stands to slots whose items ascend.
-use Rattle.std.proofs.Common.{◌≡◌, ℕ, ◌+◌, ◌<◌, List, length, map, get_or, Option, Some, None, IsSome, IsTrue, Result, Ok, Err, refl, sym, ap, ◌∙◌, arith, true≢false, subst, Ordering, Less, Equal, Greater, option_and_then}
+use Rattle.std.proofs.Common.{◌≡◌, ℕ, ◌<◌, List, length, map, get_or, Option, Some, None, IsSome, IsTrue, Result, Ok, Err, refl, sym, ap, ◌∙◌, arith, true≢false, Ordering, Less, Equal, Greater}
 use Rattle.std.proofs.lemmas.List.{get_or-map, length-map}
-use Rattle.std.proofs.lemmas.Option.{slice_get-get_or}
 use Rattle.std.specs.Cmp.{IsTotalOrder}
-use Rattle.std.specs.List.{HoldsAt, slice_get}
+use Rattle.std.specs.List.{HoldsAt}
 use Rattle.std.specs.Ordering.{is_le, is_ge}
 use Rattle.iddqd_ord_index.specs.Listed.{listed_items, AreOccupied}
 use Rattle.iddqd_ord_index.specs.Search.{IsPlaceAmong}

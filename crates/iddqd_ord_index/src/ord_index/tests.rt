@@ -190,12 +190,7 @@ fn index_against_vec(rt: HostRuntime) -> Result<(), Fail> {
 }
 
 // Puts 1 to 1008 in, each at the place that its turn gives it.
-fn fill(
-    rt: &impl Abort,
-    index: &mut OrdIndex,
-    model: &mut Vec<u32>,
-    way: u32,
-) -> Result<(), Fail> {
+fn fill(rt: &impl Abort, index: &mut OrdIndex, model: &mut Vec<u32>, way: u32) -> Result<(), Fail> {
     for slot in 1..1009u32 {
         let len = index.len();
         assert!(rt; model.len() == len as usize);

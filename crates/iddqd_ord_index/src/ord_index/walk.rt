@@ -20,7 +20,6 @@ pub struct Walk<'a> {
 
 impl<'a> Model for Walk<'a> {
     ghost use Rattle.std.specs.Prelude.{◌≡◌, ◌≤◌, List, ℕ, drop, length};
-
     ghost use Rattle.iddqd_ord_index.specs.Runs.{BeginsWith};
 
     ghost Value = { List ℕ };

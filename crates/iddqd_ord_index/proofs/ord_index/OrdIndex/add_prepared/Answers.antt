@@ -1,6 +1,6 @@
-use Rattle.std.proofs.Common.{◌≡◌, ◌≤◌, IsTrue, length, refl, sym, ap, subst, ◌∙◌, arith}
+use Rattle.std.proofs.Common.{◌≤◌, IsTrue, length, refl, sym, ap, subst, arith}
 use Rattle.std.proofs.lemmas.List.Edits.{length-insert}
-use Rattle.std.specs.List.{insert, Contains, IsDistinct}
+use Rattle.std.specs.List.{Contains, IsDistinct}
 use Rattle.std.proofs.Common.{nat_eq}
 use Rattle.iddqd_ord_index.proofs.HeightLemmas.{height_most}
 use Rattle.iddqd_ord_index.proofs.IndexLemmas.{once_insert, unready}

@@ -1,18 +1,18 @@
-use Rattle.std.proofs.Common.{◌≡◌, ℕ, ◌+◌, ◌<◌, ◌∙◌, Ok, Err, Some, None, length, get_or, subst, sym, ap, refl, arith, Option, option_and_then}
+use Rattle.std.proofs.Common.{◌≡◌, ℕ, ◌∙◌, Ok, Err, Some, None, length, subst, sym, ap, arith, Option, option_and_then}
 use Rattle.std.specs.Option.{option_and_then}
 use Rattle.std.proofs.lemmas.Option.{slice_get-get_or}
 use Rattle.std.proofs.lemmas.List.{get_or_default}
-use Rattle.std.specs.List.{slice_get, Contains}
+use Rattle.std.specs.List.{Contains}
 use Rattle.std.specs.Option.{IfSome}
 use Rattle.iddqd_ord_index.specs.Digits.{digits}
 use Rattle.iddqd_ord_index.specs.Listed.{listed_items}
-use Rattle.iddqd_ord_index.specs.Standing.{slot_standing, IsMonotone, IsPlace, IsAmong}
+use Rattle.iddqd_ord_index.specs.Standing.{slot_standing, IsMonotone, IsAmong}
 use Rattle.iddqd_store.specs.Contents.{find_item}
 use Rattle.iddqd_store.specs.Store.{item_at}
 use Rattle.iddqd_ord_index.proofs.HeightLemmas.{height_bound}
 use Rattle.iddqd_ord_index.proofs.ListedLemmas.{get-listed}
 use Rattle.iddqd_ord_index.proofs.StandingLemmas.{monotone, placed}
-use Rattle.iddqd_store.proofs.QueryLemmas.{OrderedQuery, place_there, find_nowhere, above_there, above_nowhere}
+use Rattle.iddqd_store.proofs.QueryLemmas.{OrderedQuery, place_there, find_nowhere}
 use Rattle.iddqd_ord_index.proofs.ord_index.OrdIndex.get.Given.{Over}
 use Rattle.iddqd_ord_index.proofs.ord_index.OrdIndex.get.Goals as goal
 

@@ -1,4 +1,4 @@
-use Rattle.std.proofs.Common.{length, arith}
+use Rattle.std.proofs.Common.{arith}
 use Rattle.iddqd_ord_index.proofs.HeightLemmas.{height_most}
 use Rattle.iddqd_ord_index.proofs.ord_index.OrdIndex.prepare.Goals as goal
 

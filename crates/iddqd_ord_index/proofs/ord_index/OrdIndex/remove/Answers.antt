@@ -1,7 +1,7 @@
-use Rattle.std.proofs.Common.{◌≡◌, ◌<◌, Some, length, get_or, refl, sym, ap, subst, ◌∙◌, arith}
+use Rattle.std.proofs.Common.{◌<◌, Some, length, refl, sym, ap, subst, ◌∙◌, arith}
 use Rattle.std.proofs.lemmas.List.Edits.{length-remove}
 use Rattle.std.proofs.lemmas.Option.{slice_get-get_or}
-use Rattle.std.specs.List.{remove, slice_get, IsDistinct}
+use Rattle.std.specs.List.{slice_get, IsDistinct}
 use Rattle.std.proofs.Common.{nat_eq}
 use Rattle.iddqd_ord_index.proofs.IndexLemmas.{once_remove, unready}
 use Rattle.iddqd_ord_index.proofs.ord_index.OrdIndex.remove.Goals as goal

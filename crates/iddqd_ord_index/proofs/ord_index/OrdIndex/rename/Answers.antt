@@ -1,4 +1,4 @@
-use Rattle.std.proofs.Common.{◌≡◌, length, length-set, refl, sym, ap, subst, arith, nat_eq}
+use Rattle.std.proofs.Common.{length, length-set, refl, sym, ap, subst, arith, nat_eq}
 use Rattle.std.specs.List.{Contains, IsDistinct}
 use Rattle.iddqd_ord_index.proofs.IndexLemmas.{once_set, unready}
 use Rattle.iddqd_ord_index.proofs.ord_index.OrdIndex.rename.Goals as goal

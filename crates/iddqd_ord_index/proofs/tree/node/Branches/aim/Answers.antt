@@ -1,7 +1,5 @@
-use Rattle.std.proofs.Common.{◌+◌, ◌-◌, length, drop, ap, arith}
-use Rattle.std.proofs.lemmas.List.{drop_all}
+use Rattle.std.proofs.Common.{length, ap, arith}
 use Rattle.iddqd_ord_index.specs.Nodes.{below}
-use Rattle.iddqd_ord_index.specs.Shape.{lists, starts}
 use Rattle.iddqd_ord_index.proofs.BelowLemmas.{counts_at, starts_more, starts_less, length-counts, length-lists}
 use Rattle.iddqd_ord_index.proofs.tree.node.Branches.aim.Goals as goal
 

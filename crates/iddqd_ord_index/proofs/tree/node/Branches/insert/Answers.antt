@@ -1,6 +1,6 @@
 use Rattle.std.proofs.Common.{◌≡◌, map, length, ap, sym, ◌∙◌}
 use Rattle.std.specs.List.{insert}
-use Rattle.iddqd_ord_index.specs.Nodes.{below, subtrees}
+use Rattle.iddqd_ord_index.specs.Nodes.{below}
 use Rattle.iddqd_ord_index.proofs.PackedLemmas.{map-insert}
 use Rattle.iddqd_ord_index.proofs.BelowLemmas.{branches_are, below_insert}
 use Rattle.iddqd_ord_index.proofs.tree.node.Branches.insert.Goals as goal

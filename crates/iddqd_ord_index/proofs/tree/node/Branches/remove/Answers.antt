@@ -1,6 +1,5 @@
-use Rattle.std.proofs.Common.{◌≡◌, ◌<◌, map, length, get_or, ap, sym, ◌∙◌, arith}
+use Rattle.std.proofs.Common.{length, ap, sym, ◌∙◌}
 use Rattle.std.specs.List.{remove}
-use Rattle.std.proofs.lemmas.List.{get_or_default}
 use Rattle.iddqd_ord_index.specs.Nodes.{below}
 use Rattle.iddqd_ord_index.specs.Shape.{unused}
 use Rattle.iddqd_ord_index.proofs.PackedLemmas.{map-remove}

@@ -1,6 +1,6 @@
-use Rattle.std.proofs.Common.{◌+◌, length, drop, take, arith, length-drop}
+use Rattle.std.proofs.Common.{◌+◌, drop, arith, length-drop}
 use Rattle.iddqd_ord_index.specs.Nodes.{below}
-use Rattle.iddqd_ord_index.specs.Shape.{lists, starts}
+use Rattle.iddqd_ord_index.specs.Shape.{lists}
 use Rattle.iddqd_ord_index.proofs.BelowLemmas.{starts_more, length-lists}
 use Rattle.iddqd_ord_index.proofs.WeaveLemmas.{starts_split, starts_ge}
 use Rattle.iddqd_ord_index.proofs.tree.node.Branches.start.Goals as goal

@@ -1,10 +1,10 @@
-use Rattle.std.proofs.Common.{◌≡◌, ◌+◌, ◌-◌, ◌<◌, Some, None, ℕ, List, Box, Global, length, set, get_or, subst, ap, sym, ◌∙◌, refl, arith, length-append}
+use Rattle.std.proofs.Common.{◌≡◌, ◌+◌, ◌-◌, Some, None, ℕ, List, Box, Global, length, set, get_or, subst, ap, sym, ◌∙◌, arith}
 use Rattle.std.specs.Box.{with_value}
 use Rattle.std.specs.List.{insert}
 use Rattle.std.proofs.lemmas.List.Edits.{length-insert}
 use Rattle.iddqd_ord_index.specs.Changes.{AddsTo, IsGrown, IsSplit}
 use Rattle.iddqd_ord_index.specs.Nodes.{below, AreBranches}
-use Rattle.iddqd_ord_index.specs.Shape.{Subtree, lists, weave, tree, levels, unused, IsAim, IsForked, IsDense}
+use Rattle.iddqd_ord_index.specs.Shape.{Subtree, lists, weave, tree, unused, IsAim, IsForked, IsDense}
 use Rattle.iddqd_ord_index.specs.declared.tree.node.Branches.{Branches}
 use Rattle.iddqd_ord_index.specs.declared.tree.node.Node.{Node}
 use Rattle.iddqd_ord_index.proofs.AddLemmas.{IsParted, grown, parted, parted_length}

@@ -4,10 +4,10 @@ use Rattle.std.specs.List.{remove}
 use Rattle.std.proofs.lemmas.List.{get_or-set_same}
 use Rattle.std.proofs.lemmas.List.Edits.{length-remove}
 use Rattle.iddqd_ord_index.specs.Nodes.{below, AreBranches}
-use Rattle.iddqd_ord_index.specs.Shape.{Subtree, lists, starts, weave, tree, levels, unused, IsAim, IsForked, IsBranch, IsDense}
+use Rattle.iddqd_ord_index.specs.Shape.{Subtree, lists, weave, tree, levels, unused, IsAim, IsForked, IsDense}
 use Rattle.iddqd_ord_index.specs.declared.tree.node.Branches.{Branches}
 use Rattle.iddqd_ord_index.specs.declared.tree.node.Node.{Node}
-use Rattle.iddqd_ord_index.proofs.AimLemmas.{starts_is, own_read, branch_is, branch_within, rest_within, aim_in}
+use Rattle.iddqd_ord_index.proofs.AimLemmas.{starts_is, own_read, branch_is, branch_within, aim_in}
 use Rattle.iddqd_ord_index.proofs.BelowLemmas.{branches_put, length-lists}
 use Rattle.iddqd_ord_index.proofs.DenseLemmas.{dense_of, branch_some}
 use Rattle.iddqd_ord_index.proofs.RemoveLemmas.{IsShrunk, shrunk, given_or_kept}

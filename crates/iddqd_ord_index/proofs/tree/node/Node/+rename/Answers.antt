@@ -1,4 +1,4 @@
-use Rattle.std.proofs.Common.{◌≡◌, ◌+◌, ◌<◌, ℕ, Some, List, length, get_or, set, subst, ap, sym, ◌∙◌, refl, arith, length-set}
+use Rattle.std.proofs.Common.{◌≡◌, ◌+◌, ◌<◌, ℕ, Some, List, length, get_or, set, subst, ap, sym, ◌∙◌, arith, length-set}
 use Rattle.std.proofs.lemmas.List.{map-set}
 use Rattle.std.specs.Box.{with_value}
 use Rattle.iddqd_ord_index.specs.Nodes.{below, AreBranches}

@@ -1,7 +1,7 @@
-use Rattle.std.proofs.Common.{◌≡◌, ◌∷◌, ◌++◌, ap, sym, ◌∙◌}
+use Rattle.std.proofs.Common.{◌∷◌, ◌++◌, ap, sym, ◌∙◌}
 use Rattle.std.specs.List.{insert}
 use Rattle.iddqd_ord_index.specs.Nodes.{below}
-use Rattle.iddqd_ord_index.specs.Shape.{lists, weave, unused}
+use Rattle.iddqd_ord_index.specs.Shape.{lists, weave}
 use Rattle.iddqd_ord_index.proofs.AimLemmas.{leaf_of, leaf_list, leaf_levels, leaf_forked}
 use Rattle.iddqd_ord_index.proofs.DenseLemmas.{dense_of}
 use Rattle.iddqd_ord_index.proofs.tree.node.Node.add_to_leaf.Goals as goal

@@ -1,4 +1,4 @@
-use Rattle.std.proofs.Common.{◌≡◌, ◌+◌, ◌-◌, ◌<◌, ◌≤◌, Ok, Err, ℕ, length, take, get_or, subst, ap, sym, ◌∙◌, arith}
+use Rattle.std.proofs.Common.{◌+◌, ◌-◌, Ok, Err, length, take, subst, ap, sym, arith}
 use Rattle.std.specs.List.{All}
 use Rattle.iddqd_store.specs.Store.{IsOccupied}
 use Rattle.iddqd_ord_index.specs.Nodes.{below}

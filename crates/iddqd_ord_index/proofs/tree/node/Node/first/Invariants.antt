@@ -1,4 +1,4 @@
-use Rattle.std.proofs.Common.{◌≡◌, ◌-◌, length}
+use Rattle.std.proofs.Common.{◌≡◌}
 use Rattle.std.specs.List.{slice_get}
 use Rattle.iddqd_ord_index.proofs.tree.node.Node.first.Given as goal
 

@@ -1,7 +1,6 @@
-use Rattle.std.proofs.Common.{◌≡◌, ◌-◌, ◌+◌, ◌<◌, length, get_or, ap, sym, ◌∙◌, arith}
+use Rattle.std.proofs.Common.{◌-◌, length, ap, ◌∙◌, arith}
 use Rattle.std.specs.List.{slice_get}
 use Rattle.iddqd_ord_index.specs.Nodes.{below}
-use Rattle.iddqd_ord_index.specs.Shape.{unused}
 use Rattle.iddqd_ord_index.proofs.EndLemmas.{last_below}
 use Rattle.iddqd_ord_index.proofs.tree.node.Node.last.Goals as goal
 

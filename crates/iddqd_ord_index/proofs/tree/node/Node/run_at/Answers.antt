@@ -1,6 +1,6 @@
 use Rattle.std.proofs.Common.{◌≡◌, ◌+◌, ◌-◌, ◌<◌, [], length, take, drop, get_or, subst, ap, sym, ◌∙◌, arith}
 use Rattle.iddqd_ord_index.specs.Nodes.{below}
-use Rattle.iddqd_ord_index.specs.Shape.{lists, weave, unused}
+use Rattle.iddqd_ord_index.specs.Shape.{lists, weave}
 use Rattle.iddqd_ord_index.proofs.AimLemmas.{starts_is, own_read, aim_list, aim_fork, branch_is, rest_within, aim_in}
 use Rattle.iddqd_ord_index.specs.Runs.{BeginsWith}
 use Rattle.iddqd_ord_index.proofs.RunLemmas.{run_of, run_own, run_below}
@@ -10,7 +10,6 @@ pub aim-i-requires-clause-reached : goal.aim-i-requires-clause-reached
 aim-i-requires-clause-reached c =
     let s = starts_is (below c.node.inside.branches) c.node.inside.slots.items c.node.invariant.forked (c.is_empty.ensures.some c.down-test.true) in
     omega (arith, ap (λ t. length t.slots) c.node.view_is, c.down.invariant.within)
-
 
 pub slice_bounds-result-end : goal.slice_bounds-result-end
 slice_bounds-result-end c =

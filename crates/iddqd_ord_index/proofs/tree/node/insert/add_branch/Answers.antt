@@ -1,8 +1,8 @@
-use Rattle.std.proofs.Common.{◌+◌, ap, sym, ◌∙◌, arith}
+use Rattle.std.proofs.Common.{◌+◌, ap, ◌∙◌, arith}
 use Rattle.std.specs.List.{insert}
 use Rattle.iddqd_ord_index.specs.Nodes.{below}
 use Rattle.iddqd_ord_index.specs.Shape.{lists, weave}
-use Rattle.iddqd_ord_index.proofs.HalfLemmas.{more_forked, more_levels, more_lists}
+use Rattle.iddqd_ord_index.proofs.HalfLemmas.{more_lists}
 use Rattle.iddqd_ord_index.proofs.tree.node.insert.add_branch.Goals as goal
 
 pub returns-then-len-lt11-clause-adds : goal.returns-then-len-lt11-clause-adds

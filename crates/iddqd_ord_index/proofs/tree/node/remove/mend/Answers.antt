@@ -1,4 +1,4 @@
-use Rattle.std.proofs.Common.{◌≡◌, ℕ, ◌-◌, ◌<◌, List, length, get_or, ap, sym, ◌∙◌, subst, min, arith}
+use Rattle.std.proofs.Common.{◌≡◌, ℕ, ◌-◌, ◌<◌, List, length, get_or, ap, ◌∙◌, subst, min, arith}
 use Rattle.std.specs.List.{remove}
 use Rattle.iddqd_ord_index.specs.Neighbours.{IsNear}
 use Rattle.iddqd_ord_index.specs.Nodes.{below}
