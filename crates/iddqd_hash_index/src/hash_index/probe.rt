@@ -70,7 +70,7 @@ pub(super) fn find_among<T: IdHashItem, Q: Equivalent<T::Key>>(
         if let Some(slot) = find_at(groups, hashes, at, store, hash, query, steps) {
             return Some(slot);
         }
-        if groups[at].passed() == 0 {
+        if groups[at].none_passed() {
             return None;
         }
         at = after(at, count);
