@@ -4,8 +4,8 @@ ghost use Rattle.iddqd_core.specs.Contents.{find_item, without};
 ghost use Rattle.iddqd_core.specs.Hashing.{HashesAs, hash_under};
 ghost use Rattle.iddqd_core.specs.Holding.{LeavesSlot};
 
-use super::{IdHashMap, Lookups};
 use super::paired::{find_slot, take_out};
+use super::{IdHashMap, Lookups};
 use iddqd_core::{Equivalent, IdHashItem};
 use std::hash::{BuildHasher, Hash};
 

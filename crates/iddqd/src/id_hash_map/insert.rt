@@ -5,8 +5,8 @@ ghost use Rattle.iddqd_core.specs.Contents.{IsAbsent, find_item, replaced};
 ghost use Rattle.iddqd_core.specs.Hashing.{hash_under};
 ghost use Rattle.iddqd_core.specs.Refusal.{FindsNoRoom, OnRefused, RefusesInsertion, refusal_kind};
 
-use super::{IdHashMap, Lookups};
 use super::paired::{exchange, find_slot, put_in, reserve_one};
+use super::{IdHashMap, Lookups};
 use iddqd_core::{DuplicateItem, Few, IdHashItem, InsertError, Refused};
 use std::hash::BuildHasher;
 
