@@ -4,7 +4,7 @@ mod moves;
 #[cfg(test)]
 mod tests;
 
-ghost use Rattle.std.specs.Prelude.{◌≡◌, ◌≢◌, ℕ, ◌+◌, ◌-◌, ◌<◌, ◌≤◌, [], length, IfSome, IfNone, IfOk, OnOk, OnErr, IsSome, Some, None, OnSome, option_copied, slice_set, Err, ◌↔◌, min, max};
+ghost use Rattle.std.specs.Prelude.{◌≡◌, ◌+◌, ◌-◌, ◌<◌, ◌≤◌, [], length, IfSome, IfNone, IfOk, OnOk, OnErr, Some, None, OnSome, option_copied, slice_set, Err, ◌↔◌, min, max};
 ghost use Rattle.std.specs.Borrow.{sem};
 ghost use Rattle.iddqd_store.specs.Store.{item_at, IsOccupied, store_len, vacant, HasRoomFor, Updates, SameItems, MovesLast, EndsOccupied, IsStoreClone};
 ghost use Rattle.iddqd_store.specs.declared.errors.TryReserveErrorKind.TheVariants.{CapacityOverflow, AllocError as OutOfMemory};

@@ -1,5 +1,4 @@
 //! Laws of the definitions that contracts cite. They run nothing.
-ghost use Rattle.std.specs.String.{string_bytes};
 ghost use Rattle.iddqd_store.specs.Hashing.{HashesAs};
 
 use crate::queries::Equivalent;

@@ -1,5 +1,5 @@
 //! `into_owned` with a request refused: it hands itself back, and then succeeds.
-use super::{Kept, arm, is_met, make_kept};
+use super::{arm, is_met, make_kept};
 use crate::{DuplicateItem, Few};
 use std::test::Fail;
 

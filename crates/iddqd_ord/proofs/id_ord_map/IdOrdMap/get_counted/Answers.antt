@@ -1,4 +1,4 @@
-use Rattle.std.proofs.Common.{arith, length, ap, ◌∙◌}
+use Rattle.std.proofs.Common.{arith, ap}
 use Rattle.iddqd_ord.proofs.PairedLemmas.{bound_of}
 use Rattle.iddqd_ord.proofs.id_ord_map.IdOrdMap.get_counted.Goals as goal
 
