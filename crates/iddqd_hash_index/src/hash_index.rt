@@ -25,8 +25,9 @@ use std::marker::Model;
 /// Pairs of a hash and a slot, each slot once (ours: the crate has hashbrown's `HashTable`). It computes no hash, and
 /// only `find` looks at items. Contracts see the pairs, in no order, and how many more can be added.
 ///
-/// The pairs lie in groups of twelve lanes, of which nine are used at most, so that each pair that there is room for takes
-/// 18 bytes. A removal leaves nothing behind, and a growth reads the hashes that are there.
+/// The pairs lie in groups of twelve lanes, with room for nine pairs in each group on the whole, so that each pair that
+/// there is room for takes 18 bytes. The hash chooses the group where a walk begins, its home, and a pair that finds a
+/// group full goes on to the next. A removal leaves nothing behind, and a growth reads the hashes that are there.
 #[derive(Drop)]
 pub struct HashIndex {
     groups: Vec<Group>,
