@@ -1,8 +1,14 @@
+pub mod CloneLemmas
 pub mod FoundLemmas
+pub mod GuardLemmas
+pub mod HashCountLemmas
+pub mod LentLemmas
 pub mod MapLemmas
 pub mod PairLemmas
 pub mod PairedLemmas
+pub mod RisingLemmas
 pub mod SlotItemLemmas
+pub mod WalkedLemmas
 pub use Rattle.iddqd_core.proofs.DistinctLemmas
 pub use Rattle.iddqd_core.proofs.KeepsLemmas
 pub use Rattle.iddqd_core.proofs.MappedLemmas

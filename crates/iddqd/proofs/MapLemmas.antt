@@ -1,6 +1,7 @@
 -- What a hash map shows, as its store and its index change together.
 --     search_item      what a search of the index says of the items
 --     keyed_under      in a keyed map each item's slot is listed with the hash of the item's key
+--     make_keyed      it is keyed where they are so listed, and the keys differ
 --     listed_under_query      ... and with that of a query that stands for it
 --     spare_held      there is memory for what is there and what is spare
 --     spare_fits      what is there and what is spare fit the limit
@@ -75,7 +76,7 @@ module _ {S T K : Type 0} (key : T → K) (eq : K → K → Bool) (input : K →
   pub listed_under_query : (store : Store T) (index : HashPairs) → Keyed key eq input hash (shown store index hasher) → (test : K → Bool) (h : ℕ) → ((k : K) → test k ≡ true → hash hasher (input k) ≡ h) → (slot : ℕ) (x : T) → item_at store slot ≡ Some x → test (key x) ≡ true → hash_of_slot index.pairs slot ≡ h
   listed_under_query store index keyed test h hashes slot x there passes = keyed_under store index keyed slot x there ∙ hashes (key x) passes
 
-  make_keyed : (store : Store T) (index : HashPairs) → NoTwoAkin key eq (items_in store) → AreListedUnder tell store index.pairs → Keyed key eq input hash (shown store index hasher)
+  pub make_keyed : (store : Store T) (index : HashPairs) → NoTwoAkin key eq (items_in store) → AreListedUnder tell store index.pairs → Keyed key eq input hash (shown store index hasher)
   make_keyed store index differ under = record { differ = differ; stored = hashes_agree tell store index.pairs under }
 
   pub emptied_keyed : (store : Store T) (index : HashPairs) → store.slots ≡ [] → Keyed key eq input hash (shown store index hasher)

@@ -1,5 +1,6 @@
 -- Pairs of a hash and a slot, told by weights.
 --     length-weight      a list's length is the sum of ones
+--     first_count, first_hash      what the first pair adds to the count and to the hash of a slot
 --     listed_some      a slot that is listed is counted
 --     listed_hash, hash_listed      a slot that is listed once is listed with its hash
 use Rattle.std.proofs.Common.{◌≡◌, ℕ, zero, suc, ◌+◌, ◌<◌, List, [], ◌∷◌, length, get_or, cond, eqb, Bool, true, false, refl, ap, ◌∙◌, arith, ◌⊎◌, inl, inr, ⊎_elim, suc-le-suc}
@@ -22,13 +23,13 @@ tells slot = λ p. cond (eqb p.1 slot) p.0 0
 
 module _ (p : ℕ × ℕ) (ps : List (ℕ × ℕ)) (slot : ℕ) where
   -- the first pair is of the slot, or it is not
-  first_count : (b : Bool) → eqb p.1 slot ≡ b → of_slot (p ∷ ps) slot ≡ cond b 1 0 + of_slot ps slot
+  pub first_count : (b : Bool) → eqb p.1 slot ≡ b → of_slot (p ∷ ps) slot ≡ cond b 1 0 + of_slot ps slot
   first_count b e = sum_by-cons (counts slot) p ps ∙ ap (λ c. cond c 1 0 + of_slot ps slot) e
 
-  first_hash : (b : Bool) → eqb p.1 slot ≡ b → hash_of_slot (p ∷ ps) slot ≡ cond b p.0 0 + hash_of_slot ps slot
+  pub first_hash : (b : Bool) → eqb p.1 slot ≡ b → hash_of_slot (p ∷ ps) slot ≡ cond b p.0 0 + hash_of_slot ps slot
   first_hash b e = sum_by-cons (tells slot) p ps ∙ ap (λ c. cond c p.0 0 + hash_of_slot ps slot) e
 
-either : (b : Bool) → (b ≡ true) ⊎ (b ≡ false)
+pub either : (b : Bool) → (b ≡ true) ⊎ (b ≡ false)
 either true = inl refl
 either false = inr refl
 

@@ -1,8 +1,9 @@
 -- What a contract sees of a hash map.
 --     HashItems      the items, each with its slot and the hash that is stored for it, the hasher, and the numbers
 --     held      what it has in common with an ordered map
+--     of_stored_hash      how many items a hash is stored for
 --     Keyed      no two items are akin, and each stored hash is that of its item's key
-use Rattle.std.specs.Prelude.{◌≡◌, ℕ, Bool, List, map, refl}
+use Rattle.std.specs.Prelude.{◌≡◌, ℕ, ◌==◌, Bool, List, count_by, map, refl}
 use Rattle.std.specs.Coded.{Coded, code_by, coded×, coded_ℕ, coded_list}
 use Rattle.std.specs.Hash.{HashWrites}
 use Rattle.iddqd_core.specs.Contents.{NoTwoAkin}
@@ -33,6 +34,10 @@ hash_items_code {S} {T} hasher item =
 module _ {S T : Type 0} where
   abbrev pub held : HashItems S T → Holding T
   held m = record { items = m.items; slots = m.slots; vacant = m.vacant; capacity = m.capacity; limit = m.limit }
+
+  -- in a keyed map that is how many items' keys have the hash
+  abbrev pub of_stored_hash : HashItems S T → ℕ → ℕ
+  of_stored_hash m hash = count_by (λ stored. stored == hash) m.hashes
 
   -- input tells what of a key is hashed, and hash what a hasher makes of it
   pub record Keyed {K : Type 0} (key : T → K) (eq : K → K → Bool) (input : K → HashWrites) (hash : S → HashWrites → ℕ) (m : HashItems S T) : Type 0 where

@@ -4,8 +4,12 @@
 --     KeepsSpare      the spare stays (SpareStays of the core)
 --     HashInserts      the item was put in
 --     HashKeeps      nothing has changed but the room, which may have grown
-use Rattle.std.specs.Prelude.{◌≡◌, ℕ, ◌+◌, ◌≤◌, [], length, IfErr, Result}
+--     HaveEqualItems      what `eq` of two maps says
+--     CloneHashesAlike      a hasher's clone hashes as it does
+use Rattle.std.specs.Prelude.{◌≡◌, ℕ, ◌+◌, ◌≤◌, [], length, Bool, true, All, IfErr, IsSomeAnd, Result}
 use Rattle.std.specs.Borrow.{Fml, RattleType, MutBor, LendsSoOk, unit}
+use Rattle.std.specs.Hash.{HashWrites}
+use Rattle.iddqd_core.specs.Contents.{find_item}
 use Rattle.iddqd_core.specs.Holding.{TakesItem, KeepsItems, SpareStays}
 use Rattle.iddqd_core.specs.Refusal.{OnDuplicate}
 use Rattle.iddqd_core.specs.declared.errors.InsertError.{InsertError}
@@ -34,6 +38,20 @@ module _ {S T : Type 0} where
       pub keyed : IsKeyed new
       pub spare : KeepsSpare old new
       pub hasher : new.hasher ≡ old.hasher
+
+module _ {S T K : Type 0} (key : T → K) (key_eq : K → K → Bool) (eq : T → T → Bool) where
+  -- the item's key finds an item that is equal to it
+  abbrev pub FindsEqual : HashItems S T → T → Type 0
+  FindsEqual m x = IsSomeAnd (find_item key (key_eq (key x)) m.items) (λ y. eq x y ≡ true)
+
+  -- as many items in both, and each one's key finds an equal item in the other; no order plays a part (the crate's `==`)
+  pub record HaveEqualItems (one other : HashItems S T) : Type 0 where
+    pub as_many : length one.items ≡ length other.items
+    pub each_found : All (FindsEqual other) one.items
+
+-- each clone of the hasher gives every value the hash that the hasher gives it (ours, a premise of `clone`)
+abbrev pub CloneHashesAlike : {S : Type 0} → (S → S → Type 0) → (S → HashWrites → ℕ) → S → Type 0
+CloneHashesAlike is_clone hash hasher = (copy : _) → is_clone hasher copy → (writes : HashWrites) → hash copy writes ≡ hash hasher writes
 
 -- what the map is once what an insertion shows is let go: at `Ok` the item is in; at `Err` the items are as they were, and beside a duplicate all is
 abbrev pub ends_hash_inserted : (S T : RattleType) (IsKeyed : HashItems S.Denot T.Denot → Type 0) → MutBor (HashItems S.Denot T.Denot) → Result (MutBor unit.Denot) (InsertError T.Denot) → T.Denot → Fml

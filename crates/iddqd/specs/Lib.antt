@@ -1,10 +1,16 @@
+pub mod Guard
 pub mod HashItems
 pub mod HashMap
 pub mod Paired
+pub mod Walked
+pub mod SlotOrder
+pub mod WritingWalk
 pub use Rattle.iddqd_core.specs.Contents
+pub use Rattle.iddqd_core.specs.Digits
 pub use Rattle.iddqd_core.specs.Errors
 pub use Rattle.iddqd_core.specs.Hashing
 pub use Rattle.iddqd_core.specs.Holding
 pub use Rattle.iddqd_core.specs.Query
 pub use Rattle.iddqd_core.specs.Refusal
 pub use Rattle.iddqd_core.specs.SlotItems
+pub use Rattle.iddqd_core.specs.Visiting

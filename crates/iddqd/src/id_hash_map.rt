@@ -1,15 +1,30 @@
 //! A hash map over an item store and a hash index.
-ghost use Rattle.std.specs.Prelude.{◌≡◌, ◌↔◌, ◌+◌, ◌≤◌, [], length, IsTrue};
+ghost use Rattle.std.specs.Prelude.{◌≡◌, min, ◌↔◌, ◌+◌, ◌≤◌, [], length, IsTrue};
 ghost use Rattle.iddqd_core.specs.Hashing.{hash_under};
 ghost use Rattle.iddqd_core.specs.SlotItems.{HaveSlots};
 
+mod clone;
+mod equality;
 mod imp;
 mod insert;
+mod into_iter;
+mod iter;
+pub mod iter_mut;
+mod lent;
 mod paired;
+pub mod ref_mut;
+mod retain;
+mod room;
+mod slots;
+mod validate;
 
 pub use iddqd_core::IdHashItem;
 use iddqd_core::{HashIndex, ItemStore};
 use iddqd_ord::MAX_ITEMS;
+pub use into_iter::IntoIter;
+pub use iter::Iter;
+pub use iter_mut::IterMut;
+pub use ref_mut::{RefMut, Shown};
 use std::alloc::Global;
 use std::hash::{BuildHasher, BuildHasherDefault, FoldHasher, Hasher};
 use std::marker::Model;
@@ -135,9 +150,29 @@ impl<T: IdHashItem, S: BuildHasher> IdHashMap<T, S> {
         ensures hasher { result.hasher ≡ hasher }
         ensures keyed { ⟦<IdHashMap<T, S> as Lookups>⟧.keyed result }
     {
+        IdHashMap::with_limit(alloc, MAX_ITEMS, hasher)
+    }
+
+    /// A map without items that never holds more than `limit` (ours: the crate leaves open where a map is full). It takes
+    /// no memory.
+    pub fn with_limit(alloc: Global, limit: u32, hasher: S) -> Self
+        ensures empty { IsEmptyMap limit result }
+        ensures hasher { result.hasher ≡ hasher }
+        ensures keyed { ⟦<IdHashMap<T, S> as Lookups>⟧.keyed result }
+    {
+        IdHashMap::over(ItemStore::new(alloc, limit), HashIndex::new(alloc), hasher)
+    }
+
+    // The map over a store without slots and an index without pairs.
+    fn over(store: ItemStore<T>, index: HashIndex, hasher: S) -> Self
+        requires no_slot { store.slots ≡ [] }
+        requires no_pair { index.pairs ≡ [] }
+        ensures empty { result ≡ record { items = []; slots = []; hashes = []; hasher = hasher; spare = min index.spare (min store.capacity store.limit); vacant = 0; capacity = store.capacity; limit = store.limit } }
+        ensures keyed { ⟦<IdHashMap<T, S> as Lookups>⟧.keyed result }
+    {
         IdHashMap {
-            store: ItemStore::new(alloc, MAX_ITEMS),
-            index: HashIndex::new(alloc),
+            store,
+            index,
             hasher,
             done: (),
         }

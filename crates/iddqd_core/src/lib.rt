@@ -7,4 +7,7 @@ pub mod laws;
 pub use errors::{DuplicateItem, Few, InsertError, Refused, TryReserveError};
 pub use iddqd_hash_index::HashIndex;
 pub use iddqd_ord_index::{IntoWalk, OrdIndex, Place, Walk};
-pub use iddqd_store::{Comparable, Equivalent, IdHashItem, IdOrdItem, ItemStore, Steps, Text};
+pub use iddqd_store::{
+    Comparable, Equivalent, IdHashItem, IdOrdItem, ItemStore, Steps, Text, ValidateCompact,
+    ValidationError, Visit,
+};

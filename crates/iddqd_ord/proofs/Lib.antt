@@ -1,1 +1,5 @@
+mod CloneLemmas
+mod EndLemmas
+pub mod LentLemmas
 pub mod PairedLemmas
+mod WalkLemmas

@@ -3,12 +3,27 @@ ghost use Rattle.std.specs.Prelude.{◌≡◌, ◌↔◌, ◌≤◌, [], length,
 ghost use Rattle.iddqd_core.specs.Contents.{Ascends};
 ghost use Rattle.iddqd_core.specs.SlotItems.{HaveSlots};
 
+mod clone;
+mod ends;
+mod equality;
 mod imp;
 mod insert;
+mod into_iter;
+mod iter;
+pub mod iter_mut;
+mod lent;
 mod paired;
+pub mod ref_mut;
+mod retain;
+mod room;
+mod validate;
 
 pub use iddqd_core::IdOrdItem;
 use iddqd_core::{ItemStore, OrdIndex};
+pub use into_iter::IntoIter;
+pub use iter::Iter;
+pub use iter_mut::IterMut;
+pub use ref_mut::{RefMut, Shown};
 use std::alloc::Global;
 use std::marker::Model;
 
@@ -98,8 +113,26 @@ impl<T: IdOrdItem> IdOrdMap<T> {
         ensures empty { result ≡ record { items = []; slots = []; vacant = 0; capacity = 0; limit = MAX_ITEMS } }
         ensures keyed { Ascends T.key T.Key.cmp result.items }
     {
+        IdOrdMap::with_limit(alloc, MAX_ITEMS)
+    }
+
+    /// A map without items that never holds more than `limit` (ours: the crate leaves open where a map is full). It takes
+    /// no memory.
+    pub fn with_limit(alloc: Global, limit: u32) -> Self
+        ensures empty { result ≡ record { items = []; slots = []; vacant = 0; capacity = 0; limit = limit } }
+        ensures keyed { Ascends T.key T.Key.cmp result.items }
+    {
+        IdOrdMap::over(ItemStore::new(alloc, limit), alloc)
+    }
+
+    // The map over a store without slots.
+    fn over(store: ItemStore<T>, alloc: Global) -> Self
+        requires empty { store.slots ≡ [] }
+        ensures empty { result ≡ record { items = []; slots = []; vacant = 0; capacity = store.capacity; limit = store.limit } }
+        ensures keyed { Ascends T.key T.Key.cmp result.items }
+    {
         IdOrdMap {
-            store: ItemStore::new(alloc, MAX_ITEMS),
+            store,
             index: OrdIndex::new(alloc),
             done: (),
         }

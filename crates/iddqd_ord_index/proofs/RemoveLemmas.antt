@@ -2,7 +2,7 @@
 use Rattle.std.proofs.Common.{◌≡◌, ℕ, suc, ◌+◌, ◌-◌, ◌<◌, ◌≤◌, Bool, true, false, List, [], ◌∷◌, ◌++◌, length, take, drop, set, get_or, refl, ap, sym, ◌∙◌, inl, inr, subst, arith, append_assoc, length-set, min, ltb}
 use Rattle.std.specs.Bool.{if◌then◌else◌}
 use Rattle.std.specs.List.{remove}
-use Rattle.std.proofs.lemmas.Bool.{cases_lt}
+use Rattle.std.proofs.lemmas.Bool.{cases_lt, ltb-false}
 use Rattle.std.proofs.lemmas.List.{append-nil, take-append-drop, drop_all, drop_more, take-set, drop-set-lt, get_or-set_same, get_or-set_other, length-take-le, map-set}
 use Rattle.std.proofs.lemmas.List.Edits.{remove-append_left, remove-append_right}
 use Rattle.iddqd_ord_index.specs.Changes.{Stock}
@@ -155,3 +155,12 @@ given_or_kept old new n m le kept given =
       | inl lt ↦ (let e = given lt in let g = given_more old in (omega (arith, ap (λ s. s.count) e), ap (λ s. s.wanted) e ∙ g.1, ap (λ s. s.room) e ∙ g.2))
       | inr ge ↦ (let e = kept (omega arith) in (omega (arith, ap (λ s. s.count) e), ap (λ s. s.wanted) e, ap (λ s. s.room) e))
     ]
+
+-- where one more is given back, after so many that are kept as long as they are wanted, one more is kept
+pub one_more_back : (old new : Stock) (many : ℕ) → new ≡ given_back old → min many old.wanted ≤ old.count → min (many + 1) old.wanted ≤ new.count
+one_more_back old new many e enough =
+    subst (λ s. min (many + 1) old.wanted ≤ s.count) (sym e) (by (ltb old.count old.wanted) refl)
+  where
+    by : (b : Bool) → ltb old.count old.wanted ≡ b → min (many + 1) old.wanted ≤ (if b then old.count + 1 else old.count)
+    by true lt = omega (arith, enough)
+    by false ge = omega (arith, enough, ltb-false old.count old.wanted ge)

@@ -1,4 +1,6 @@
+mod AscendLemmas
 pub mod Cuts
+mod EndLemmas
 pub mod NameLemmas
 pub mod NameOrderLemmas
 pub mod ReplyLemmas

@@ -2,32 +2,35 @@
 --     sought, plain_reply, plain_items      the item that a command looks for, and with it the reply and the items then
 --     step_plain      an unrefused step has this reply, and these items in some order
 --     step_same, run_same      one step, and a run, from the same items
-use Rattle.std.proofs.Common.{◌≡◌, ℕ, Bool, cond, not, List, [], ◌∷◌, length, Option, Some, None, IsPermutation, refl, sym, ap, ap₂, ◌∙◌, subst}
+use Rattle.std.proofs.Common.{true, ◌≡◌, ℕ, Bool, cond, not, List, [], ◌∷◌, length, Option, Some, None, IsPermutation, refl, sym, ap, ap₂, ◌∙◌, subst}
 use Rattle.std.proofs.lemmas.List.Elements.{All-head, All-tail}
 use Rattle.std.proofs.lemmas.List.Sorted.{IsPermutation-refl, IsPermutation-sym, IsPermutation-trans, IsPermutation-cons, IsPermutation-insert, IsPermutation-map, length_permutation}
 use Rattle.std.specs.Cmp.{IsEquivalence}
-use Rattle.std.specs.List.{IsDistinct}
-use Rattle.iddqd.specs.Contents.{AddsItem, find_item, without, replaced}
-use Rattle.iddqd_run.specs.SameReplies.{IsUnrefused, HoldSameItems, RunUnrefused, SameReplies}
+use Rattle.std.specs.List.{All, IsDistinct}
+use Rattle.iddqd.specs.Contents.{AddsItem, NoTwoAkin, find_item, without, replaced}
+use Rattle.iddqd.specs.Visiting.{VisitsKeepKeys}
+use Rattle.iddqd_run.specs.SameReplies.{IsOrderless, IsUnrefused, HoldSameItems, RunUnrefused, SameReplies}
 use Rattle.iddqd_run.specs.Step.{MapState, SpareRule, Answers}
 use Rattle.iddqd_run.specs.declared.commands.Command.{Command}
-use Rattle.iddqd_run.specs.declared.commands.Command.TheVariants.{InsertUnique, InsertOverwrite, Get, Remove, Clear, Len}
+use Rattle.iddqd_run.specs.declared.commands.Command.TheVariants.{InsertUnique, InsertOverwrite, Get, Remove, Visit, RetainMut, Clear, Len}
 use Rattle.iddqd_run.specs.declared.commands.Reply.{Reply}
-use Rattle.iddqd_run.specs.declared.commands.Reply.TheVariants.{Inserted, Duplicate, Replaced, Found, Removed, Absent, Done, Length, Refused}
+use Rattle.iddqd_run.specs.declared.commands.Reply.TheVariants.{Inserted, Duplicate, Replaced, Found, Removed, Absent, Visited, Done, Length, Refused}
 use Rattle.iddqd.proofs.KeepsLemmas.{differ_filter, differ_insert}
-use Rattle.iddqd.proofs.OrderLemmas.{differ_moved, find_moved}
+use Rattle.iddqd.proofs.OrderLemmas.{Tells, differ_moved, find_moved, find_tells}
 use Rattle.iddqd_run.proofs.SameItemsLemmas.{filter_permutation, differ_replaced}
 
-module _ {T K : Type 0} (key : T → K) (eq : K → K → Bool) where
-  abbrev sought : Command T K → List T → Option T
+module _ {T K V : Type 0} (key : T → K) (eq : K → K → Bool) (visits : V → T → V × T × Bool) where
+  abbrev sought : Command T K V → List T → Option T
   sought (InsertUnique x) items = find_item key (eq (key x)) items
   sought (InsertOverwrite x) items = find_item key (eq (key x)) items
   sought (Get k) items = find_item key (eq k) items
   sought (Remove k) items = find_item key (eq k) items
+  sought (Visit k v) items = find_item key (eq k) items
+  sought (RetainMut v) items = None
   sought Clear items = None
   sought Len items = None
 
-  abbrev plain_reply : Command T K → Option T → ℕ → Reply T
+  abbrev plain_reply : Command T K V → Option T → ℕ → Reply T
   plain_reply (InsertUnique x) None count = Inserted
   plain_reply (InsertUnique x) (Some y) count = Duplicate x (Some y)
   plain_reply (InsertOverwrite x) None count = Inserted
@@ -36,10 +39,13 @@ module _ {T K : Type 0} (key : T → K) (eq : K → K → Bool) where
   plain_reply (Get k) (Some y) count = Found y
   plain_reply (Remove k) None count = Absent
   plain_reply (Remove k) (Some y) count = Removed y
+  plain_reply (Visit k v) None count = Absent
+  plain_reply (Visit k v) (Some x) count = Visited (visits v x).2
+  plain_reply (RetainMut v) found count = Done
   plain_reply Clear found count = Done
   plain_reply Len found count = Length count
 
-  abbrev plain_items : Command T K → Option T → List T → List T
+  abbrev plain_items : Command T K V → Option T → List T → List T
   plain_items (InsertUnique x) None items = x ∷ items
   plain_items (InsertUnique x) (Some y) items = items
   plain_items (InsertOverwrite x) None items = x ∷ items
@@ -47,14 +53,17 @@ module _ {T K : Type 0} (key : T → K) (eq : K → K → Bool) where
   plain_items (Get k) found items = items
   plain_items (Remove k) None items = items
   plain_items (Remove k) (Some y) items = without key (eq k) items
+  plain_items (Visit k v) None items = items
+  plain_items (Visit k v) (Some x) items = replaced key (eq k) (visits v x).1 items
+  plain_items (RetainMut v) found items = items
   plain_items Clear found items = []
   plain_items Len found items = items
 
-  record IsPlain (command : Command T K) (old : List T) (reply : Reply T) (new : List T) : Type 0 where
+  record IsPlain (command : Command T K V) (old : List T) (reply : Reply T) (new : List T) : Type 0 where
     replied : reply ≡ plain_reply command (sought command old) (length old)
     held : IsPermutation (plain_items command (sought command old) old) new
 
-  plain_where : (command : Command T K) (old : List T) (found : Option T) (reply : Reply T) (new : List T) → sought command old ≡ found → reply ≡ plain_reply command found (length old) → IsPermutation (plain_items command found old) new → IsPlain command old reply new
+  plain_where : (command : Command T K V) (old : List T) (found : Option T) (reply : Reply T) (new : List T) → sought command old ≡ found → reply ≡ plain_reply command found (length old) → IsPermutation (plain_items command found old) new → IsPlain command old reply new
   plain_where command old found reply new e r h = record {
     replied = r ∙ ap (λ o. plain_reply command o (length old)) (sym e);
     held = subst (λ o. IsPermutation (plain_items command o old) new) (sym e) h;
@@ -67,56 +76,73 @@ module _ {T K : Type 0} (key : T → K) (eq : K → K → Bool) where
   put_in x old new a = subst (λ l. IsPermutation (x ∷ old) l) (sym a.put) (IsPermutation-insert old a.place x)
 
   module _ (limit : ℕ) (old : MapState T) (new : List T) where
-    unique_plain : (x : T) (reply : Reply T) → Answers key eq limit (InsertUnique x) old reply new → IsUnrefused reply → IsPlain (InsertUnique x) old.items reply new
+    unique_plain : (x : T) (reply : Reply T) → Answers key eq visits limit (InsertUnique x) old reply new → IsUnrefused reply → IsPlain (InsertUnique x) old.items reply new
     unique_plain x Inserted a u = plain_where (InsertUnique x) old.items None Inserted new a.0 refl (put_in x old.items new a.2)
     unique_plain x (Duplicate back (Some e)) a u = plain_where (InsertUnique x) old.items (Some a.1) (Duplicate back (Some e)) new a.2 (ap₂ (λ b y. Duplicate b (Some y)) a.0 a.3) (now old.items new a.4)
     unique_plain x (Duplicate back None) a u = cc
     unique_plain x (Refused back kind) a u = absurd u
     unique_plain x reply a u = absurd a
 
-    overwrite_plain : (x : T) (reply : Reply T) → Answers key eq limit (InsertOverwrite x) old reply new → IsUnrefused reply → IsPlain (InsertOverwrite x) old.items reply new
+    overwrite_plain : (x : T) (reply : Reply T) → Answers key eq visits limit (InsertOverwrite x) old reply new → IsUnrefused reply → IsPlain (InsertOverwrite x) old.items reply new
     overwrite_plain x Inserted a u = plain_where (InsertOverwrite x) old.items None Inserted new a.0 refl (put_in x old.items new a.2)
     overwrite_plain x (Replaced y) a u = plain_where (InsertOverwrite x) old.items (Some y) (Replaced y) new a.0 refl (now (replaced key (eq (key x)) x old.items) new a.1)
     overwrite_plain x (Refused back kind) a u = absurd u
     overwrite_plain x reply a u = absurd a
 
-    get_plain : (k : K) (reply : Reply T) → Answers key eq limit (Get k) old reply new → IsUnrefused reply → IsPlain (Get k) old.items reply new
+    get_plain : (k : K) (reply : Reply T) → Answers key eq visits limit (Get k) old reply new → IsUnrefused reply → IsPlain (Get k) old.items reply new
     get_plain k (Found y) a u = plain_where (Get k) old.items (Some y) (Found y) new a.0 refl (now old.items new a.1)
     get_plain k Absent a u = plain_where (Get k) old.items None Absent new a.0 refl (now old.items new a.1)
     get_plain k (Refused back kind) a u = absurd u
     get_plain k reply a u = absurd a
 
-    remove_plain : (k : K) (reply : Reply T) → Answers key eq limit (Remove k) old reply new → IsPlain (Remove k) old.items reply new
+    remove_plain : (k : K) (reply : Reply T) → Answers key eq visits limit (Remove k) old reply new → IsPlain (Remove k) old.items reply new
     remove_plain k (Removed y) a = plain_where (Remove k) old.items (Some y) (Removed y) new a.0 refl (now (without key (eq k) old.items) new a.1)
     remove_plain k Absent a = plain_where (Remove k) old.items None Absent new a.0 refl (now old.items new a.1)
     remove_plain k reply a = absurd a
 
-    clear_plain : (reply : Reply T) → Answers key eq limit Clear old reply new → IsPlain Clear old.items reply new
+    visit_plain : (k : K) (v : V) (reply : Reply T) → Answers key eq visits limit (Visit k v) old reply new → IsPlain (Visit k v) old.items reply new
+    visit_plain k v (Visited answer) (w, saw) =
+        plain_where (Visit k v) old.items (Some saw.0) (Visited answer) new saw.2 (ap (λ p. Visited p.2) (sym saw.3)) (now (replaced key (eq k) (visits v saw.0).1 old.items) new (saw.4 ∙ ap (λ p. replaced key (eq k) p.1 old.items) (sym saw.3)))
+    visit_plain k v Absent a = plain_where (Visit k v) old.items None Absent new a.0 refl (now old.items new a.1)
+    visit_plain k v reply a = absurd a
+
+    clear_plain : (reply : Reply T) → Answers key eq visits limit Clear old reply new → IsPlain Clear old.items reply new
     clear_plain Done a = record { replied = refl; held = now [] new a }
     clear_plain reply a = absurd a
 
-    len_plain : (reply : Reply T) → Answers key eq limit Len old reply new → IsPlain Len old.items reply new
+    len_plain : (reply : Reply T) → Answers key eq visits limit Len old reply new → IsPlain Len old.items reply new
     len_plain (Length n) a = record { replied = ap Length a.0; held = now old.items new a.1 }
     len_plain reply a = absurd a
 
-    step_plain : (command : Command T K) (reply : Reply T) → Answers key eq limit command old reply new → IsUnrefused reply → IsPlain command old.items reply new
-    step_plain (InsertUnique x) reply a u = unique_plain x reply a u
-    step_plain (InsertOverwrite x) reply a u = overwrite_plain x reply a u
-    step_plain (Get k) reply a u = get_plain k reply a u
-    step_plain (Remove k) reply a u = remove_plain k reply a
-    step_plain Clear reply a u = clear_plain reply a
-    step_plain Len reply a u = len_plain reply a
+    step_plain : (command : Command T K V) (reply : Reply T) → IsOrderless command → Answers key eq visits limit command old reply new → IsUnrefused reply → IsPlain command old.items reply new
+    step_plain (InsertUnique x) reply o a u = unique_plain x reply a u
+    step_plain (InsertOverwrite x) reply o a u = overwrite_plain x reply a u
+    step_plain (Get k) reply o a u = get_plain k reply a u
+    step_plain (Remove k) reply o a u = remove_plain k reply a
+    step_plain (Visit k v) reply o a u = visit_plain k v reply a
+    step_plain (RetainMut v) reply o a u = absurd o
+    step_plain Clear reply o a u = clear_plain reply a
+    step_plain Len reply o a u = len_plain reply a
 
-module _ {T K : Type 0} (key : T → K) (eq : K → K → Bool) (equivalence : IsEquivalence eq) where
-  sought_same : (command : Command T K) (xs ys : List T) → HoldSameItems key eq xs ys → sought key eq command xs ≡ sought key eq command ys
+module _ {T K V : Type 0} (key : T → K) (eq : K → K → Bool) (visits : V → T → V × T × Bool) (equivalence : IsEquivalence eq) (keeps : VisitsKeepKeys key eq visits) where
+  sought_same : (command : Command T K V) (xs ys : List T) → HoldSameItems key eq xs ys → sought key eq visits command xs ≡ sought key eq visits command ys
   sought_same (InsertUnique x) xs ys h = sym (find_moved key equivalence (eq (key x)) (equivalence.congr (key x)) xs ys h.same h.differ)
   sought_same (InsertOverwrite x) xs ys h = sym (find_moved key equivalence (eq (key x)) (equivalence.congr (key x)) xs ys h.same h.differ)
   sought_same (Get k) xs ys h = sym (find_moved key equivalence (eq k) (equivalence.congr k) xs ys h.same h.differ)
   sought_same (Remove k) xs ys h = sym (find_moved key equivalence (eq k) (equivalence.congr k) xs ys h.same h.differ)
+  sought_same (Visit k v) xs ys h = sym (find_moved key equivalence (eq k) (equivalence.congr k) xs ys h.same h.differ)
+  sought_same (RetainMut v) xs ys h = refl
   sought_same Clear xs ys h = refl
   sought_same Len xs ys h = refl
 
-  items_same : (command : Command T K) (found : Option T) (xs ys : List T) → sought key eq command xs ≡ found → HoldSameItems key eq xs ys → HoldSameItems key eq (plain_items key eq command found xs) (plain_items key eq command found ys)
+  -- the query is equivalent to the keys that the visited item's own is equal to
+  own_test : (k : K) (v : V) (x : T) (xs : List T) → find_item key (eq k) xs ≡ Some x → eq k ≡ eq (key (visits v x).1)
+  own_test k v x xs e i z =
+      let passes : eq k (key x) ≡ true = (subst (Tells (λ w. eq k (key w)) xs) e (find_tells (λ w. eq k (key w)) xs)).1 in
+      let same : eq k (key (visits v x).1) ≡ true = equivalence.congr k (key x) (key (visits v x).1) passes ∙ keeps v x in
+      equivalence.congr k (key (visits v x).1) z same i
+
+  items_same : (command : Command T K V) (found : Option T) (xs ys : List T) → sought key eq visits command xs ≡ found → HoldSameItems key eq xs ys → HoldSameItems key eq (plain_items key eq visits command found xs) (plain_items key eq visits command found ys)
   unfolding IsDistinct
   items_same (InsertUnique x) None xs ys e h = record { same = IsPermutation-cons x xs ys h.same; differ = differ_insert key equivalence x xs 0 e h.differ }
   items_same (InsertUnique x) (Some y) xs ys e h = h
@@ -125,35 +151,40 @@ module _ {T K : Type 0} (key : T → K) (eq : K → K → Bool) (equivalence : I
   items_same (Get k) found xs ys e h = h
   items_same (Remove k) None xs ys e h = h
   items_same (Remove k) (Some y) xs ys e h = record { same = filter_permutation (λ w. not (eq k (key w))) xs ys h.same; differ = differ_filter key eq (λ w. not (eq k (key w))) xs h.differ }
+  items_same (Visit k v) None xs ys e h = h
+  items_same (Visit k v) (Some x) xs ys e h =
+      let y = (visits v x).1 in
+      record { same = IsPermutation-map (λ w. cond (eq k (key w)) y w) xs ys h.same; differ = subst (λ test. NoTwoAkin key eq (replaced key test y xs)) (sym (own_test k v x xs e)) (differ_replaced key equivalence y xs h.differ) }
+  items_same (RetainMut v) found xs ys e h = h
   items_same Clear found xs ys e h = record { same = IsPermutation-refl []; differ = tt }
   items_same Len found xs ys e h = h
 
-  step_same : (command : Command T K) (xs ys : List T) (reply1 reply2 : Reply T) (new1 new2 : List T) → HoldSameItems key eq xs ys → IsPlain key eq command xs reply1 new1 → IsPlain key eq command ys reply2 new2 → (reply1 ≡ reply2) × HoldSameItems key eq new1 new2
+  step_same : (command : Command T K V) (xs ys : List T) (reply1 reply2 : Reply T) (new1 new2 : List T) → HoldSameItems key eq xs ys → IsPlain key eq visits command xs reply1 new1 → IsPlain key eq visits command ys reply2 new2 → (reply1 ≡ reply2) × HoldSameItems key eq new1 new2
   step_same command xs ys reply1 reply2 new1 new2 h p q =
-      let found = sought key eq command xs in
+      let found = sought key eq visits command xs in
       let alike = sought_same command xs ys h in
       let then = items_same command found xs ys refl h in
-      let other = subst (λ o. IsPermutation (plain_items key eq command o ys) new2) (sym alike) q.held in (
-        p.replied ∙ (ap₂ (λ o n. plain_reply key eq command o n) alike (sym (length_permutation xs ys h.same)) ∙ sym q.replied),
+      let other = subst (λ o. IsPermutation (plain_items key eq visits command o ys) new2) (sym alike) q.held in (
+        p.replied ∙ (ap₂ (λ o n. plain_reply key eq visits command o n) alike (sym (length_permutation xs ys h.same)) ∙ sym q.replied),
         record {
-          same = IsPermutation-trans new1 (plain_items key eq command found xs) new2 (IsPermutation-sym (plain_items key eq command found xs) new1 p.held) (IsPermutation-trans (plain_items key eq command found xs) (plain_items key eq command found ys) new2 then.same other);
-          differ = differ_moved key equivalence (plain_items key eq command found xs) new1 p.held then.differ;
+          same = IsPermutation-trans new1 (plain_items key eq visits command found xs) new2 (IsPermutation-sym (plain_items key eq visits command found xs) new1 p.held) (IsPermutation-trans (plain_items key eq visits command found xs) (plain_items key eq visits command found ys) new2 then.same other);
+          differ = differ_moved key equivalence (plain_items key eq visits command found xs) new1 p.held then.differ;
         },
       )
 
   module _ (limit1 limit2 : ℕ) (rule1 rule2 : SpareRule) where
-    run_same : (commands : List (Command T K)) (replies1 replies2 : List (Reply T)) (old1 old2 new1 new2 : MapState T) → HoldSameItems key eq old1.items old2.items → RunUnrefused key eq limit1 rule1 old1 commands replies1 new1 → RunUnrefused key eq limit2 rule2 old2 commands replies2 new2 → (replies1 ≡ replies2) × HoldSameItems key eq new1.items new2.items
-    run_same [] [] [] old1 old2 new1 new2 h a b = (refl, subst (λ s. HoldSameItems key eq s.items new2.items) (sym a.0) (subst (λ s. HoldSameItems key eq old1.items s.items) (sym b.0) h))
-    run_same [] [] (s ∷ ss) old1 old2 new1 new2 h a b = absurd b.0
-    run_same [] (r ∷ rs) replies2 old1 old2 new1 new2 h a b = absurd a.0
-    run_same (c ∷ cs) [] replies2 old1 old2 new1 new2 h a b = absurd a.0
-    run_same (c ∷ cs) (r ∷ rs) [] old1 old2 new1 new2 h a b = absurd b.0
-    run_same (c ∷ cs) (r ∷ rs) (s ∷ ss) old1 old2 new1 new2 h ((middle1, one1, rest1), u1) ((middle2, one2, rest2), u2) =
-        let p = step_plain key eq limit1 old1 middle1.items c r one1.answers (All-head IsUnrefused r rs u1) in
-        let q = step_plain key eq limit2 old2 middle2.items c s one2.answers (All-head IsUnrefused s ss u2) in
+    run_same : (commands : List (Command T K V)) (replies1 replies2 : List (Reply T)) (old1 old2 new1 new2 : MapState T) → All IsOrderless commands → HoldSameItems key eq old1.items old2.items → RunUnrefused key eq visits limit1 rule1 old1 commands replies1 new1 → RunUnrefused key eq visits limit2 rule2 old2 commands replies2 new2 → (replies1 ≡ replies2) × HoldSameItems key eq new1.items new2.items
+    run_same [] [] [] old1 old2 new1 new2 o h a b = (refl, subst (λ s. HoldSameItems key eq s.items new2.items) (sym a.0) (subst (λ s. HoldSameItems key eq old1.items s.items) (sym b.0) h))
+    run_same [] [] (s ∷ ss) old1 old2 new1 new2 o h a b = absurd b.0
+    run_same [] (r ∷ rs) replies2 old1 old2 new1 new2 o h a b = absurd a.0
+    run_same (c ∷ cs) [] replies2 old1 old2 new1 new2 o h a b = absurd a.0
+    run_same (c ∷ cs) (r ∷ rs) [] old1 old2 new1 new2 o h a b = absurd b.0
+    run_same (c ∷ cs) (r ∷ rs) (s ∷ ss) old1 old2 new1 new2 o h ((middle1, one1, rest1), u1) ((middle2, one2, rest2), u2) =
+        let p = step_plain key eq visits limit1 old1 middle1.items c r (All-head IsOrderless c cs o) one1.answers (All-head IsUnrefused r rs u1) in
+        let q = step_plain key eq visits limit2 old2 middle2.items c s (All-head IsOrderless c cs o) one2.answers (All-head IsUnrefused s ss u2) in
         let first = step_same c old1.items old2.items r s middle1.items middle2.items h p q in
-        let rest = run_same cs rs ss middle1 middle2 new1 new2 first.1 (rest1, All-tail IsUnrefused r rs u1) (rest2, All-tail IsUnrefused s ss u2) in
+        let rest = run_same cs rs ss middle1 middle2 new1 new2 (All-tail IsOrderless c cs o) first.1 (rest1, All-tail IsUnrefused r rs u1) (rest2, All-tail IsUnrefused s ss u2) in
         (ap₂ (λ t ts. t ∷ ts) first.0 rest.0, rest.1)
 
-pub same_replies : {T K : Type 0} → SameReplies T K
-same_replies key eq equivalence limit1 limit2 rule1 rule2 old1 old2 new1 new2 commands replies1 replies2 h a b = run_same key eq equivalence limit1 limit2 rule1 rule2 commands replies1 replies2 old1 old2 new1 new2 h a b
+pub same_replies : {T K V : Type 0} → SameReplies T K V
+same_replies key eq equivalence visits keeps limit1 limit2 rule1 rule2 old1 old2 new1 new2 commands replies1 replies2 o h a b = run_same key eq visits equivalence keeps limit1 limit2 rule1 rule2 commands replies1 replies2 old1 old2 new1 new2 o h a b

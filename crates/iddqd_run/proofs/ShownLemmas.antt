@@ -1,6 +1,6 @@
 -- What the map answers is what the entries answer that its items are seen as, in the order of their names.
-use Rattle.std.proofs.Common.{◌≡◌, ℕ, ◌<◌, [], Bor, Bool, true, false, cond, eqb, List, length, Option, Some, None, IsPermutation, sym, refl, ap, ◌∙◌, subst, ◌++◌, eq-eqb, arith}
-use Rattle.std.specs.Prelude.{string_bytes, bytes_eq, codes, decimal}
+use Rattle.std.proofs.Common.{◌≡◌, ℕ, ◌<◌, [], Bor, Bool, true, false, cond, eqb, List, length, Option, Some, None, IsPermutation, sym, refl, ap, ◌∙◌, subst, ◌++◌, eq-eqb, arith, ap₂}
+use Rattle.std.specs.Prelude.{filter, nat_lt, ◌-◌, string_bytes, bytes_eq, codes, decimal}
 use Rattle.std.specs.Cmp.Lexicographic.{bytes_decides, nat_list_cmp_total, nat_list_eq_equiv, texts_ties}
 use Rattle.std.specs.Option.{option_map, option_map_or}
 use Rattle.std.proofs.lemmas.Bool.{ne_eqb, eqb-true}
@@ -9,16 +9,19 @@ use Rattle.std.proofs.lemmas.List.Sorted.{length_permutation, IsPermutation-refl
 use Rattle.std.specs.List.Sorted.{IsStrictlySortedBy}
 use Rattle.std.proofs.Common.{String, Global}
 use Rattle.iddqd_run.specs.Answer as answer
-use Rattle.iddqd_run.specs.Answer.{name_of, name_cmp, entry_named, is_full, line_reply, entries_after, RefusedLeaves}
+use Rattle.iddqd_run.specs.Answer.{greater, name_of, name_cmp, entry_named, is_full, line_reply, entries_after, RefusedLeaves}
 use Rattle.iddqd.specs.Contents.{AddsItem, find_item, without, replaced, placed}
-use Rattle.iddqd_run.specs.Lines.{Request, Add, Put, Get, Del, Len}
+use Rattle.iddqd_run.specs.Lines.{Request, Add, Put, Get, Del, Set, Keep, Len}
 use Rattle.iddqd_run.specs.Shown.{entry_of, entries_of, shown, AnswersPlainly, AnswersRequest, ShowsEntries, no_room_reply}
 use Rattle.iddqd.specs.Holding.{max_items}
 use Rattle.iddqd_run.specs.declared.arguments.Kind.{Kind}
 use Rattle.iddqd_run.specs.declared.entries.Entry.{Entry}
 use Rattle.iddqd_run.specs.declared.entries.LineReply.{LineReply}
-use Rattle.iddqd_run.specs.declared.entries.LineReply.TheVariants.{Added, Duplicate, New, Replaced, Found, Removed, Absent, Length, RefusedCapacity, RefusedMemory}
-use Rattle.iddqd.proofs.MappedLemmas.{find_item-map, insert-map, without-map, replaced-map}
+use Rattle.iddqd_run.specs.declared.entries.LineReply.TheVariants.{Added, Duplicate, New, Replaced, Found, Removed, Absent, Set as Written, Kept, Length, RefusedCapacity, RefusedMemory}
+use Rattle.iddqd.proofs.KeepsLemmas.{ascends_filter}
+use Rattle.iddqd.proofs.MappedLemmas.{filter-map, find_item-map, insert-map, without-map, replaced-map}
+use Rattle.iddqd.proofs.OrderLemmas.{Tells, find_tells}
+use Rattle.iddqd_run.proofs.SameItemsLemmas.{filter_permutation}
 use Rattle.iddqd_run.proofs.NameOrderLemmas.{AreInOrder, found_in_order, placed_in_order, replaced_in_order, without_in_order}
 
 abbrev by_name : Entry → String Global
@@ -99,6 +102,25 @@ module _ (kind : Kind) where
       pub delete_absent : None ≡ named → AnswersRequest kind (Del name) items Absent new
       delete_absent e = λ entries shows. record { text = rw (absent_shown name items entries shows (sym e)) refl; after = without_shown name items entries shows new taken }
 
+  -- what `keep` answers
+  module _ (value : ℕ) (items new : List Entry) (kept : new ≡ filter (λ entry. nat_lt value entry.value) items) (entries : List answer.Entry) (shows : ShowsEntries items entries) where
+    kept_shown : ShowsEntries new (greater value entries)
+    kept_shown =
+        shown_by new (greater value entries)
+        (subst (λ es. InOrder es (greater value entries)) (filter-map entry_of name_of (λ entry. nat_lt value entry.1) items ∙ sym (ap entries_of kept)) (record {
+          same = filter_permutation (λ entry. nat_lt value entry.1) (entries_of items) entries shows.same;
+          ascending = ascends_filter name_of name_cmp (λ entry. nat_lt value entry.1) entries shows.ascending;
+        }))
+
+    pub kept_answered : (count dropped : ℕ) → count ≡ length new → dropped ≡ length items - length new → AnswersPlainly kind (Keep value) entries (shown (Kept count dropped)) new
+    kept_answered count dropped e f =
+        let many = length_shown items entries shows in
+        let left = length_shown new (greater value entries) kept_shown in
+        record {
+          text = ap₂ (λ m n. codes "kept " ++ decimal m ++ codes " dropped " ++ decimal n) (e ∙ sym left) (f ∙ ap₂ (λ m n. m - n) (sym many) (sym left));
+          after = kept_shown;
+        }
+
 module _ (kind : Kind) (name : List ℕ) (value : ℕ) where
   -- a request that makes an entry of the name: what it answers to an entry that is there, to a full map, and else
   abbrev pub MakesEntry : Request → List ℕ → Type 0
@@ -143,14 +165,14 @@ module _ (kind : Kind) (x : Entry) (items : List Entry) (name : List ℕ) (same 
 
   module _ (absent : akin ≡ None) (request : Request) (made : LineReply) (makes : MakesEntry kind name x.value request (shown made)) (entries : List answer.Entry) (shows : ShowsEntries items entries) where
     -- the entry is in
-    pub made_plainly : length items < max_items → AddsItem x items new → AnswersPlainly kind request entries made new
+    pub made_plainly : length items < max_items → AddsItem x items new → AnswersPlainly kind request entries (shown made) new
     made_plainly few adds = let (text, after) = makes entries in let room = has_room absent entries shows few in record {
       text = sym (text.1 ∙ asks_room absent entries shows text.0 _ _ false room);
       after = subst (ShowsEntries new) (sym (after.1 ∙ asks_room absent entries shows after.0 _ _ false room)) (placed_shown absent entries shows adds);
     }
 
     -- the map is full
-    pub full_plainly : length items ≡ max_items → new ≡ items → AnswersPlainly kind request entries RefusedCapacity new
+    pub full_plainly : length items ≡ max_items → new ≡ items → AnswersPlainly kind request entries (shown RefusedCapacity) new
     full_plainly full stays = let (text, after) = makes entries in let none = has_no_room absent entries shows full in record {
       text = sym (text.1 ∙ asks_room absent entries shows text.0 _ _ true none);
       after = subst (ShowsEntries new) (sym (after.1 ∙ asks_room absent entries shows after.0 _ _ true none)) (subst (λ is. ShowsEntries is entries) (sym stays) shows);
@@ -166,10 +188,33 @@ module _ (kind : Kind) (x : Entry) (items : List Entry) (name : List ℕ) (same 
       after = rw (one_named entries shows) (subst (λ is. ShowsEntries is entries) (sym stays) shows);
     }
 
+    put_shown : new ≡ replaced by_name (λ k. bytes_eq (string_bytes x.name) (string_bytes k)) x items → (entries : List answer.Entry) → ShowsEntries items entries → ShowsEntries new (replaced name_of (bytes_eq name) (name, x.value) entries)
+    put_shown after entries shows = subst (λ n. ShowsEntries new (replaced name_of (bytes_eq n) (n, x.value) entries)) same
+        (shown_by new _ (subst (λ es. InOrder es (replaced name_of (bytes_eq (string_bytes x.name)) (entry_of x) entries)) (sym (ap entries_of after ∙ replaced-map entry_of name_of (bytes_eq (string_bytes x.name)) x items))
+        (replaced_in_order name_of nat_list_eq_equiv nat_list_cmp_total texts_ties (entry_of x) (λ k alike. (bytes_decides (string_bytes x.name) k).0 alike) (entries_of items) entries (order items entries shows))))
+
     pub replaced_answered : new ≡ replaced by_name (λ k. bytes_eq (string_bytes x.name) (string_bytes k)) x items → AnswersRequest kind (Put name x.value) items (Replaced y.value) new
     replaced_answered after = λ entries shows. record {
       text = rw (one_named entries shows) refl;
-      after = rw (one_named entries shows) (subst (λ n. ShowsEntries new (replaced name_of (bytes_eq n) (n, x.value) entries)) same
-          (shown_by new _ (subst (λ es. InOrder es (replaced name_of (bytes_eq (string_bytes x.name)) (entry_of x) entries)) (sym (ap entries_of after ∙ replaced-map entry_of name_of (bytes_eq (string_bytes x.name)) x items))
-          (replaced_in_order name_of nat_list_eq_equiv nat_list_cmp_total texts_ties (entry_of x) (λ k alike. (bytes_decides (string_bytes x.name) k).0 alike) (entries_of items) entries (order items entries shows)))));
+      after = rw (one_named entries shows) (put_shown after entries shows);
     }
+
+module _ (kind : Kind) (name : List ℕ) (value : ℕ) (items new : List Entry) where
+  -- what `set` answers
+  pub set_absent : find_item by_name (λ k. bytes_eq name (string_bytes k)) items ≡ None → new ≡ items → AnswersRequest kind (Set name value) items Absent new
+  set_absent absent stays = λ entries shows. record {
+    text = rw (absent_shown name items entries shows absent) refl;
+    after = rw (absent_shown name items entries shows absent) (subst (λ is. ShowsEntries is entries) (sym stays) shows);
+  }
+
+  pub set_found : (x : Entry) → find_item by_name (λ k. bytes_eq name (string_bytes k)) items ≡ Some x → new ≡ replaced by_name (λ k. bytes_eq name (string_bytes k)) (record x { value = value }) items → AnswersRequest kind (Set name value) items (Written x.value) new
+  set_found x found after =
+      let test : Entry → Bool = λ entry. bytes_eq name (string_bytes entry.name) in
+      let same : string_bytes x.name ≡ name = sym ((bytes_decides name (string_bytes x.name)).0 (subst (Tells test items) found (find_tells test items)).1) in
+      let written : Entry = record x { value = value } in
+      let there = subst (λ n. find_item by_name (λ k. bytes_eq n (string_bytes k)) items ≡ Some x) (sym same) found in
+      let put = subst (λ n. new ≡ replaced by_name (λ k. bytes_eq n (string_bytes k)) written items) (sym same) after in
+      λ entries shows. record {
+        text = rw (there_shown name items entries shows x found) refl;
+        after = rw (there_shown name items entries shows x found) (put_shown kind written items name same new x there put entries shows);
+      }

@@ -9,10 +9,10 @@ pub room_kept : {T : Type 0} (rule : SpareRule) (limit : ℕ) (m : MapState T) �
 room_kept WithoutSpare limit m fits = (fits, fits)
 room_kept WithSpare limit m fits = record { at_least = omega arith; in_limit = fits }
 
-module _ {T K : Type 0} (key : T → K) (eq : K → K → Bool) where
+module _ {T K V : Type 0} (key : T → K) (eq : K → K → Bool) (visits : V → T → V × T × Bool) where
   -- one step more at the end of a run
-  pub run_more : (rule : SpareRule) (limit : _) (commands : List (Command T K)) (replies : List (Reply T)) (command : Command T K) (reply : Reply T) (first middle last : MapState T) → Run key eq limit rule first commands replies middle → Step key eq limit rule middle command reply last → Run key eq limit rule first (commands ++ command ∷ []) (replies ++ reply ∷ []) last
-  run_more rule limit [] [] command reply first middle last ran step = (last, subst (λ s. Step key eq limit rule s command reply last) ran step, refl)
+  pub run_more : (rule : SpareRule) (limit : _) (commands : List (Command T K V)) (replies : List (Reply T)) (command : Command T K V) (reply : Reply T) (first middle last : MapState T) → Run key eq visits limit rule first commands replies middle → Step key eq visits limit rule middle command reply last → Run key eq visits limit rule first (commands ++ command ∷ []) (replies ++ reply ∷ []) last
+  run_more rule limit [] [] command reply first middle last ran step = (last, subst (λ s. Step key eq visits limit rule s command reply last) ran step, refl)
   run_more rule limit [] (r ∷ rs) command reply first middle last ran step = absurd ran
   run_more rule limit (c ∷ cs) [] command reply first middle last ran step = absurd ran
   run_more rule limit (c ∷ cs) (r ∷ rs) command reply first middle last (next, one, ran) step = (next, one, run_more rule limit cs rs command reply next middle last ran step)

@@ -1,7 +1,7 @@
 -- The decimal text of a number is its only form: what `parse` reads of a word that has no sign and no zero in front is the word's value.
 --     Spells word n      the word is the text of a number of 64 bits
 --     no_value, value_read      where a word has no value, and which one it has
---     valued_words      what follows a name in a line
+--     valued_words, unnamed_words      what follows a name in a line, or a word that is none
 use Rattle.std.proofs.Common.{◌≡◌, ◌≢◌, ℕ, ◌<◌, ◌^◌, Bool, true, false, cond, ◌&&◌, eqb, List, [], ◌∷◌, length, get_or, Option, Some, None, Result, Ok, Err, sym, refl, ap, ◌∙◌, subst, arith, rules, ⊎_elim, ◌⊎◌, inl, inr}
 use Rattle.std.specs.Prelude.{nat_lt, decimal, bytes_eq}
 use Rattle.std.specs.List.{join_with_byte}
@@ -14,7 +14,7 @@ use Rattle.std.proofs.lemmas.Str.Parse.{IsNumeralModel, numerals_by_value, tells
 use Rattle.std.proofs.lemmas.Fmt.{decimal_nonempty, decimal_digit, first_decimal, digits_decimal, digits_value-decimal, decimal-digits_value, IsAscii-decimal}
 use Rattle.std.proofs.lemmas.Slice.Eq.{bytes_eq-Decides}
 use Rattle.std.proofs.Math.Nat.{eq-zero-or-pos}
-use Rattle.iddqd_run.specs.Lines.{is_name, value_of, words_of, HasOneForm, request_of_words, valued_request}
+use Rattle.iddqd_run.specs.Lines.{is_name, value_of, words_of, HasOneForm, request_of_words, valued_request, Bad}
 use Rattle.iddqd_run.proofs.Cuts.{words-whole}
 
 numerals : IsNumeralModel (AllDigits 10) (digits_value 10)
@@ -94,3 +94,11 @@ valued_words word name rest named = by (words_of rest) refl
         let whole : value ≡ rest = sym (ap (join_with_byte 32) e) ∙ join_with_byte-slice_split 32 rest in
         rw named (ap (λ w. valued_request word name (value_of w)) whole)
     by (value ∷ more ∷ ws) e = ap (valued_request word name) (no_value rest (λ n s. let one : rest ∷ [] ≡ value ∷ more ∷ ws = sym (spelled_whole rest n s) ∙ e in cc))
+
+pub unnamed_words : (word name rest : List ℕ) → is_name name ≡ false → request_of_words (word ∷ name ∷ words_of rest) ≡ Bad
+unnamed_words word name rest none = by (words_of rest) refl
+  where
+    by : (ws : List (List ℕ)) → words_of rest ≡ ws → request_of_words (word ∷ name ∷ ws) ≡ Bad
+    by [] e = absurd (omega (arith, length-slice_split (λ b. eqb b 32) rest, ap length e))
+    by (value ∷ []) e = rw none refl
+    by (value ∷ more ∷ ws) e = refl

@@ -1,16 +1,17 @@
 -- What is written for a text: a line for each of its lines, answered from the entries so far (ours).
 --     line_reply, entries_after      the reply to a request, and the entries then
---     answer_text kind input      the answer to a whole text, over a map of the kind; no line known so far is answered otherwise by one kind than by the other
+--     answer_text kind input      the answer to a whole text, over a map of the kind, which decides only whether there are ends: a hash map has none
 --     AnswersWithRefusals kind input refusals text      the same, with so many lines refused for want of memory
-use Rattle.std.specs.Prelude.{◌≡◌, ℕ, Bool, List, [], ◌∷◌, ◌++◌, length, Option, decimal, codes, bytes_eq, ◌==◌, if◌then◌else◌, ◌⊎◌, suc}
+use Rattle.std.specs.Prelude.{◌≡◌, ℕ, Bool, List, [], ◌∷◌, ◌++◌, length, Option, Some, None, ◌-◌, drop, take, flat_map, slice_get, decimal, codes, bytes_eq, ◌==◌, if◌then◌else◌, ◌⊎◌, suc, filter, nat_lt}
 use Rattle.std.specs.declared.cmp.Ordering.{Ordering}
 use Rattle.std.specs.Ordering.{nat_cmp}
 use Rattle.std.specs.Option.{option_map_or}
 use Rattle.std.specs.Cmp.Lexicographic.{slice_cmp}
 use Rattle.iddqd.specs.Contents.{find_item, without, replaced, placed}
-use Rattle.iddqd_run.specs.Lines.{Request, Add, Put, Get, Del, Len, Bad, lines_of, request_of}
+use Rattle.iddqd_run.specs.Lines.{Request, Add, Put, Get, Del, Cost, Len, ListAll, First, Last, PopFirst, PopLast, Bad, lines_of, request_of, Set, Keep}
 use Rattle.iddqd.specs.Holding.{max_items}
 use Rattle.iddqd_run.specs.declared.arguments.Kind.{Kind}
+use Rattle.iddqd_run.specs.declared.arguments.Kind.TheVariants.{Hash, Ord}
 
 -- a name and its value; entries ascend by name, whose bytes are compared
 abbrev pub Entry : Type 0
@@ -28,6 +29,27 @@ entry_named name entries = find_item name_of (bytes_eq name) entries
 abbrev pub is_full : List Entry → Bool
 is_full entries = length entries == max_items
 
+-- the entries of a greater value
+abbrev pub greater : ℕ → List Entry → List Entry
+greater value entries = filter (λ entry. nat_lt value entry.1) entries
+
+-- each entry, after a space
+abbrev pub list_text : List Entry → List ℕ
+list_text entries = flat_map (λ entry. codes " " ++ name_of entry ++ codes "=" ++ decimal entry.1) entries
+
+-- the entry at an end, if there is one
+abbrev pub end_text : Option Entry → List ℕ
+end_text None = codes "none"
+end_text (Some entry) = name_of entry ++ codes " " ++ decimal entry.1
+
+abbrev pub last_of : List Entry → Option Entry
+last_of entries = slice_get entries (length entries - 1)
+
+-- what is so of a kind that has no ends, or of one that has
+abbrev pub by_ends : {A : Type 0} → Kind → A → A → A
+by_ends Hash endless ended = endless
+by_ends Ord endless ended = ended
+
 module _ (kind : Kind) where
   -- the reply, without the byte that ends it
   abbrev pub line_reply : Request → List Entry → List ℕ
@@ -35,16 +57,32 @@ module _ (kind : Kind) where
   line_reply (Put name value) entries = option_map_or (λ old. codes "replaced " ++ decimal old.1) (entry_named name entries) (if is_full entries then codes "refused capacity" else codes "new")
   line_reply (Get name) entries = option_map_or (λ old. decimal old.1) (entry_named name entries) (codes "none")
   line_reply (Del name) entries = option_map_or (λ old. codes "removed " ++ decimal old.1) (entry_named name entries) (codes "none")
+  line_reply (Cost name) entries = codes "within"
+  line_reply (Set name value) entries = option_map_or (λ old. codes "set " ++ decimal old.1) (entry_named name entries) (codes "none")
+  line_reply (Keep value) entries = let kept = length (greater value entries) in codes "kept " ++ decimal kept ++ codes " dropped " ++ decimal (length entries - kept)
   line_reply Len entries = decimal (length entries)
+  line_reply ListAll entries = codes "list " ++ decimal (length entries) ++ list_text entries
+  line_reply First entries = by_ends kind (codes "unsupported") (end_text (slice_get entries 0))
+  line_reply Last entries = by_ends kind (codes "unsupported") (end_text (last_of entries))
+  line_reply PopFirst entries = by_ends kind (codes "unsupported") (end_text (slice_get entries 0))
+  line_reply PopLast entries = by_ends kind (codes "unsupported") (end_text (last_of entries))
   line_reply Bad entries = codes "bad"
 
-  -- `add` leaves the entry of a name that is there, `put` replaces it; a full map takes no other
+  -- `add` leaves the entry of a name that is there, `put` replaces it; a full map takes no other. `set` writes one that is there
   abbrev pub entries_after : Request → List Entry → List Entry
   entries_after (Add name value) entries = option_map_or (λ _. entries) (entry_named name entries) (if is_full entries then entries else placed name_of name_cmp (name, value) entries)
   entries_after (Put name value) entries = option_map_or (λ _. replaced name_of (bytes_eq name) (name, value) entries) (entry_named name entries) (if is_full entries then entries else placed name_of name_cmp (name, value) entries)
   entries_after (Get name) entries = entries
   entries_after (Del name) entries = without name_of (bytes_eq name) entries
+  entries_after (Cost name) entries = entries
+  entries_after (Set name value) entries = option_map_or (λ _. replaced name_of (bytes_eq name) (name, value) entries) (entry_named name entries) entries
+  entries_after (Keep value) entries = greater value entries
   entries_after Len entries = entries
+  entries_after ListAll entries = entries
+  entries_after First entries = entries
+  entries_after Last entries = entries
+  entries_after PopFirst entries = by_ends kind entries (drop 1 entries)
+  entries_after PopLast entries = by_ends kind entries (take (length entries - 1) entries)
   entries_after Bad entries = entries
 
   -- the replies to lines, from some entries on, each ended by the byte 10
@@ -55,10 +93,11 @@ module _ (kind : Kind) where
   abbrev pub answer_text : List ℕ → List ℕ
   answer_text input = replies (lines_of input) []
 
-  -- what a line leaves that is refused memory, where it takes any: what was there, of a line that makes one item
+  -- what a line leaves that is refused memory, where it takes any: what was there, of a line that makes one item, and of one that sorts
   abbrev pub RefusedLeaves : Request → (old new : List Entry) → Type 0
   RefusedLeaves (Add name value) old new = new ≡ old
   RefusedLeaves (Put name value) old new = new ≡ old
+  RefusedLeaves ListAll old new = (kind ≡ Hash) × (new ≡ old)
   RefusedLeaves _ old new = ⊥
 
   -- the same replies, but for so many lines that are refused; the later lines are answered from what such a line leaves

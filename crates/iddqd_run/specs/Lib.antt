@@ -1,6 +1,5 @@
 pub mod Answer
 pub mod Asked
-pub mod Folded
 pub mod KeyedMap
 pub mod Lines
 pub mod SameReplies

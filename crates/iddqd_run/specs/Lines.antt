@@ -35,22 +35,46 @@ pub data Request : Type 0 where
   Put : List ℕ → ℕ → Request
   Get : List ℕ → Request
   Del : List ℕ → Request
+  Cost : List ℕ → Request
+  Set : List ℕ → ℕ → Request
+  Keep : ℕ → Request
   Len : Request
+  ListAll : Request
+  First : Request
+  Last : Request
+  PopFirst : Request
+  PopLast : Request
   Bad : Request
+
+-- a request by its word alone
+abbrev pub bare_request : List ℕ → Request
+bare_request word =
+    if bytes_eq word (codes "len") then Len else (if bytes_eq word (codes "list") then ListAll else
+    (if bytes_eq word (codes "first") then First else (if bytes_eq word (codes "last") then Last else
+    (if bytes_eq word (codes "popfirst") then PopFirst else (if bytes_eq word (codes "poplast") then PopLast else Bad)))))
 
 -- a request by its word and a name
 abbrev pub named_request : List ℕ → List ℕ → Request
-named_request word name = if bytes_eq word (codes "get") then Get name else (if bytes_eq word (codes "del") then Del name else Bad)
+named_request word name = if bytes_eq word (codes "get") then Get name else (if bytes_eq word (codes "del") then Del name else (if bytes_eq word (codes "cost") then Cost name else Bad))
 
 -- a request by its word, a name and a value
 abbrev pub valued_request : List ℕ → List ℕ → Option ℕ → Request
 valued_request word name None = Bad
-valued_request word name (Some value) = if bytes_eq word (codes "add") then Add name value else (if bytes_eq word (codes "put") then Put name value else Bad)
+valued_request word name (Some value) = if bytes_eq word (codes "add") then Add name value else (if bytes_eq word (codes "put") then Put name value else (if bytes_eq word (codes "set") then Set name value else Bad))
+
+-- a request by a value alone: `keep`
+abbrev pub kept_request : Option ℕ → Request
+kept_request None = Bad
+kept_request (Some value) = Keep value
+
+-- a request by its word and one field, which is a name or, of `keep`, a value
+abbrev pub field_request : List ℕ → List ℕ → Request
+field_request word field = if bytes_eq word (codes "keep") then kept_request (value_of field) else (if is_name field then named_request word field else Bad)
 
 abbrev pub request_of_words : List (List ℕ) → Request
 request_of_words [] = Bad
-request_of_words (word ∷ []) = if bytes_eq word (codes "len") then Len else Bad
-request_of_words (word ∷ name ∷ []) = if is_name name then named_request word name else Bad
+request_of_words (word ∷ []) = bare_request word
+request_of_words (word ∷ field ∷ []) = field_request word field
 request_of_words (word ∷ name ∷ value ∷ []) = if is_name name then valued_request word name (value_of value) else Bad
 request_of_words (word ∷ name ∷ value ∷ more ∷ words) = Bad
 

@@ -1,20 +1,27 @@
 -- What the program's own types for an entry and a reply stand for.
-use Rattle.std.specs.Prelude.{◌≡◌, ℕ, Bool, List, length, map, ◌++◌, ◌==◌, if◌then◌else◌, decimal, codes, bytes_eq, string_bytes, String}
+use Rattle.std.specs.Prelude.{◌≡◌, ℕ, Bool, List, [], ◌∷◌, length, map, ◌++◌, ◌⊎◌, ◌==◌, if◌then◌else◌, decimal, codes, bytes_eq, string_bytes, String}
+use Rattle.std.specs.Borrow.{Bor}
 use Rattle.std.specs.Global.{Global}
 use Rattle.iddqd_run.specs.Answer as answer
 use Rattle.iddqd.specs.Contents.{Ascends, SameInAnyOrder}
 use Rattle.iddqd.specs.Holding.{max_items}
 use Rattle.iddqd_run.specs.Lines.{Request}
+use Rattle.iddqd_run.specs.Step.{MapState}
 use Rattle.iddqd_run.specs.declared.arguments.Kind.{Kind}
+use Rattle.iddqd_run.specs.declared.arguments.Kind.TheVariants.{Ord}
 use Rattle.iddqd_run.specs.declared.entries.Entry.{Entry}
 use Rattle.iddqd_run.specs.declared.entries.LineReply.{LineReply}
-use Rattle.iddqd_run.specs.declared.entries.LineReply.TheVariants.{Added, Duplicate, New, Replaced, Found, Removed, Absent, Length, Bad, RefusedCapacity, RefusedMemory}
+use Rattle.iddqd_run.specs.declared.entries.LineReply.TheVariants.{Added, Duplicate, New, Replaced, Found, Removed, Named, Absent, Within, Length, Unsupported, Bad, RefusedCapacity, RefusedMemory, Set, Kept}
 
 abbrev pub entry_of : Entry → answer.Entry
 entry_of entry = (string_bytes entry.name, entry.value)
 
 abbrev pub entries_of : List Entry → List answer.Entry
 entries_of items = map entry_of items
+
+-- the items that are lent, in order
+abbrev pub all_lent : List (Bor Entry) → List Entry
+all_lent lent = map (λ one. one.now) lent
 
 -- the text of a reply
 abbrev pub shown : LineReply → List ℕ
@@ -24,8 +31,13 @@ shown New = codes "new"
 shown (Replaced value) = codes "replaced " ++ decimal value
 shown (Found value) = decimal value
 shown (Removed value) = codes "removed " ++ decimal value
+shown (Named name value) = name.now ++ codes " " ++ decimal value
 shown Absent = codes "none"
+shown Within = codes "within"
+shown (Set value) = codes "set " ++ decimal value
+shown (Kept kept dropped) = codes "kept " ++ decimal kept ++ codes " dropped " ++ decimal dropped
 shown (Length count) = decimal count
+shown Unsupported = codes "unsupported"
 shown Bad = codes "bad"
 shown RefusedCapacity = codes "refused capacity"
 shown RefusedMemory = codes "refused memory"
@@ -44,17 +56,32 @@ pub record ShowsEntries (items : List Entry) (entries : List answer.Entry) : Typ
   pub same : SameInAnyOrder (entries_of items) entries
   pub ascending : Ascends answer.name_of answer.name_cmp entries
 
+-- the items ascend by name
+abbrev pub AreByName : List Entry → Type 0
+AreByName items = Ascends answer.name_of answer.name_cmp (entries_of items)
+
+-- the entries of the items were written to the end of a text, as `list` shows them
+pub record ListsItems (items : List Entry) (before after : List ℕ) : Type 0 where
+  pub listed : List ℕ
+  pub written : after ≡ before ++ listed
+  pub shows : (entries : List answer.Entry) → ShowsEntries items entries → listed ≡ codes "list " ++ decimal (length entries) ++ answer.list_text entries
+
+-- the map is of the kind that has ends, and its items ascend by name
+abbrev pub HasEnds : Kind → List Entry → Type 0
+HasEnds kind items = (kind ≡ Ord) × AreByName items
+
 -- a map of entries as lines ask it: keyed by the names, looked up by their texts, under no smaller limit
-pub record IsTable {M : Type 0} (key : Entry → String Global) (is_text : List ℕ → String Global → Bool) (IsKeyed : M → Type 0) (limit_of : M → ℕ) (map : M) : Type 0 where
+pub record IsTable {M : Type 0} (key : Entry → String Global) (is_text : List ℕ → String Global → Bool) (entries_in : M → List Entry) (state : M → MapState Entry) (IsKeyed : M → Type 0) (limit_of : M → ℕ) (map : M) : Type 0 where
   pub names : key ≡ (λ entry. entry.name)
   pub texts : is_text ≡ (λ name k. bytes_eq name (string_bytes k))
+  pub items : (m : M) → entries_in m ≡ (state m).items
   pub keyed : IsKeyed map
   pub limit : limit_of map ≡ max_items
 
 module _ (kind : Kind) (request : Request) where
-  -- the reply and the entries then, where memory was there
-  pub record AnswersPlainly (entries : List answer.Entry) (reply : LineReply) (new : List Entry) : Type 0 where
-    pub text : shown reply ≡ answer.line_reply kind request entries
+  -- the reply's text and the entries then, where memory was there
+  pub record AnswersPlainly (entries : List answer.Entry) (reply : List ℕ) (new : List Entry) : Type 0 where
+    pub text : reply ≡ answer.line_reply kind request entries
     pub after : ShowsEntries new (answer.entries_after kind request entries)
 
   -- what is left where memory was refused
@@ -65,8 +92,19 @@ module _ (kind : Kind) (request : Request) where
 
   abbrev pub AnswersFrom : List answer.Entry → LineReply → List Entry → Type 0
   AnswersFrom entries RefusedMemory new = LeavesRefused entries new
-  AnswersFrom entries reply new = AnswersPlainly entries reply new
+  AnswersFrom entries reply new = AnswersPlainly entries (shown reply) new
 
   -- the reply, and the items then, of a map that held the old ones
   abbrev pub AnswersRequest : List Entry → LineReply → List Entry → Type 0
   AnswersRequest old reply new = (entries : List answer.Entry) → ShowsEntries old entries → AnswersFrom entries reply new
+
+  -- the same, of a reply's text and of how many refusals for want of memory it tells
+  abbrev pub AnswersInText : List Entry → ℕ → List ℕ → List Entry → Type 0
+  AnswersInText old refusals text new = (entries : List answer.Entry) → ShowsEntries old entries
+      → ((refusals ≡ 0) × AnswersPlainly entries text new) ⊎ ((refusals ≡ 1) × (text ≡ shown RefusedMemory) × LeavesRefused entries new)
+
+  -- the line that answers the request was written to the end of a text
+  pub record WritesReply (old : List Entry) (refusals : ℕ) (new : List Entry) (before after : List ℕ) : Type 0 where
+    pub reply : List ℕ
+    pub written : after ≡ before ++ (reply ++ 10 ∷ [])
+    pub answers : AnswersInText old refusals reply new

@@ -2,15 +2,17 @@
 --     MapState      the items of a map, and its spare: how many new items it takes without a refusal
 --     SpareRule      whether a map keeps a spare
 --     room_left, LeavesRoom      how much room a command leaves at least to a map that keeps a spare
+--     VisitsItem, RetainsVisited      an item is visited; all are, in some order, and some stay
 --     Answers      what a command is answered, and the items then
 --     Step, Run      one command and its reply; a list of commands and their replies
 use Rattle.std.specs.Prelude.{◌≡◌, ℕ, ◌+◌, ◌≤◌, Bool, List, [], ◌∷◌, length, Option, Some, None, IfSome}
-use Rattle.iddqd.specs.Contents.{find_item, IsAbsent, without, OverwritesItem}
+use Rattle.iddqd.specs.Contents.{find_item, IsAbsent, replaced, SameInAnyOrder, without, OverwritesItem}
+use Rattle.iddqd.specs.Visiting.{kept_by, visitor_after}
 use Rattle.iddqd.specs.Refusal.{FindsNoRoom, RefusalKind, memory_refused}
 use Rattle.iddqd_run.specs.declared.commands.Command.{Command}
-use Rattle.iddqd_run.specs.declared.commands.Command.TheVariants.{InsertUnique, InsertOverwrite, Get, Remove, Clear, Len}
+use Rattle.iddqd_run.specs.declared.commands.Command.TheVariants.{InsertUnique, InsertOverwrite, Get, Remove, Visit, RetainMut, Clear, Len}
 use Rattle.iddqd_run.specs.declared.commands.Reply.{Reply}
-use Rattle.iddqd_run.specs.declared.commands.Reply.TheVariants.{Inserted, Duplicate, Replaced, Found, Removed, Absent, Done, Length, Refused}
+use Rattle.iddqd_run.specs.declared.commands.Reply.TheVariants.{Inserted, Duplicate, Replaced, Found, Removed, Absent, Visited, Kept, Done, Length, Refused}
 
 pub record MapState (T : Type 0) : Type 0 where
   pub items : List T
@@ -49,7 +51,7 @@ abbrev pub KeepsRoom : {T : Type 0} → SpareRule → (limit : ℕ) → (old new
 KeepsRoom rule limit old new = LeavesRoom rule limit (room_of old) old new
 
 -- what a command may lower so much room to: none lowers it
-abbrev pub room_left : {T K : Type 0} → Command T K → ℕ → ℕ
+abbrev pub room_left : {T K V : Type 0} → Command T K V → ℕ → ℕ
 room_left _ room = room
 
 module _ {T K : Type 0} (key : T → K) (eq : K → K → Bool) (limit : ℕ) where
@@ -57,16 +59,26 @@ module _ {T K : Type 0} (key : T → K) (eq : K → K → Bool) (limit : ℕ) wh
   abbrev pub RefusesItem : T → MapState T → Option T → RefusalKind → Type 0
   RefusesItem x old back kind = (back ≡ Some x) × FindsNoRoom key eq limit old.items x kind × (old.spare ≡ 0)
 
+module _ {T K V : Type 0} (key : T → K) (visits : V → T → V × T × Bool) where
+  -- the item whose key passes the test is visited, and stays as the visit made it, whatever the answer (`visit`, ours)
+  abbrev pub VisitsItem : (K → Bool) → (old_visitor new_visitor : V) → Bool → (old new : List T) → Type 0
+  VisitsItem test v w answer old new = (x y : T) × (find_item key test old ≡ Some x) × (visits v x ≡ (w, y, answer)) × (new ≡ replaced key test y old)
+
+  -- in some order each item is visited, and those answered true stay (`retain_mut`, ours)
+  abbrev pub RetainsVisited : (old_visitor new_visitor : V) → (old new : List T) → Type 0
+  RetainsVisited v w old new = (order : List T) × SameInAnyOrder old order × (w ≡ visitor_after visits v order) × (new ≡ kept_by visits v order)
+
+module _ {T K V : Type 0} (key : T → K) (eq : K → K → Bool) (visits : V → T → V × T × Bool) (limit : ℕ) where
   -- what each command is answered, and the items then; no other pair of a command and a reply occurs
-  abbrev pub Answers : Command T K → MapState T → Reply T → List T → Type 0
+  abbrev pub Answers : Command T K V → MapState T → Reply T → List T → Type 0
   -- the item is put in where its key is absent and the map is not full
   Answers (InsertUnique x) old Inserted new = OverwritesItem key eq x limit old.items None new
   Answers (InsertUnique x) old (Duplicate back existing) new = (back ≡ x) × (y : T) × (find_item key (eq (key x)) old.items ≡ Some y) × IfSome existing (λ e. e ≡ y) × (new ≡ old.items)
-  Answers (InsertUnique x) old (Refused back kind) new = RefusesItem x old back kind × (new ≡ old.items)
+  Answers (InsertUnique x) old (Refused back kind) new = RefusesItem key eq limit x old back kind × (new ≡ old.items)
   -- the same, and an akin item that is there is replaced whole and comes back
   Answers (InsertOverwrite x) old Inserted new = OverwritesItem key eq x limit old.items None new
   Answers (InsertOverwrite x) old (Replaced y) new = OverwritesItem key eq x limit old.items (Some y) new
-  Answers (InsertOverwrite x) old (Refused back kind) new = RefusesItem x old back kind × (new ≡ old.items)
+  Answers (InsertOverwrite x) old (Refused back kind) new = RefusesItem key eq limit x old back kind × (new ≡ old.items)
   -- a clone of the item is shown; only memory for the clone can be refused
   Answers (Get k) old (Found y) new = (find_item key (eq k) old.items ≡ Some y) × (new ≡ old.items)
   Answers (Get k) old Absent new = IsAbsent key (eq k) old.items × (new ≡ old.items)
@@ -74,17 +86,21 @@ module _ {T K : Type 0} (key : T → K) (eq : K → K → Bool) (limit : ℕ) wh
   -- the item is taken out
   Answers (Remove k) old (Removed y) new = (find_item key (eq k) old.items ≡ Some y) × (new ≡ without key (eq k) old.items)
   Answers (Remove k) old Absent new = IsAbsent key (eq k) old.items × (new ≡ old.items)
+  -- the item stays as the visit made it
+  Answers (Visit k v) old (Visited answer) new = (w : V) × VisitsItem key visits (eq k) v w answer old.items new
+  Answers (Visit k v) old Absent new = IsAbsent key (eq k) old.items × (new ≡ old.items)
+  Answers (RetainMut v) old (Kept n) new = (w : V) × RetainsVisited key visits v w old.items new × (n ≡ length new)
   Answers Clear old Done new = new ≡ []
   Answers Len old (Length n) new = (n ≡ length old.items) × (new ≡ old.items)
   Answers _ _ _ _ = ⊥
 
   -- one command: the reply and the items then, and the room that is left
-  pub record Step (rule : SpareRule) (old : MapState T) (command : Command T K) (reply : Reply T) (new : MapState T) : Type 0 where
+  pub record Step (rule : SpareRule) (old : MapState T) (command : Command T K V) (reply : Reply T) (new : MapState T) : Type 0 where
     pub answers : Answers command old reply new.items
     pub room : LeavesRoom rule limit (room_left command (room_of old)) old new
 
   -- a reply for each command, in order, each from where the one before ended
-  abbrev pub Run : SpareRule → MapState T → List (Command T K) → List (Reply T) → MapState T → Type 0
+  abbrev pub Run : SpareRule → MapState T → List (Command T K V) → List (Reply T) → MapState T → Type 0
   Run rule old [] [] new = new ≡ old
   Run rule old [] (reply ∷ replies) new = ⊥
   Run rule old (command ∷ commands) [] new = ⊥

@@ -1,9 +1,9 @@
 //! What a map is told, and what it answers.
 use iddqd::errors::TryReserveError;
 
-/// One call on a map of items `T` with keys `K` (ours).
+/// One call on a map of items `T` with keys `K`, where visitors are a `V` (ours).
 #[derive(Debug, PartialEq, Eq, Drop)]
-pub enum Command<T, K> {
+pub enum Command<T, K, V> {
     /// `insert_unique`.
     InsertUnique(T),
     /// `insert_overwrite`.
@@ -12,6 +12,10 @@ pub enum Command<T, K> {
     Get(K),
     /// `remove`.
     Remove(K),
+    /// `visit`: the item stays as the visit made it, whatever is answered.
+    Visit(K, V),
+    /// `retain_mut`.
+    RetainMut(V),
     /// `clear`.
     Clear,
     /// `len`.
@@ -36,6 +40,10 @@ pub enum Reply<T> {
     Removed(T),
     /// No item has the key.
     Absent,
+    /// What the visit answered.
+    Visited(bool),
+    /// How many items stay.
+    Kept(usize),
     /// It was done.
     Done,
     /// How many items there are.
@@ -49,7 +57,7 @@ pub enum Reply<T> {
 
 /// Commands that were not run, for want of memory for the replies (ours).
 #[derive(Debug, Drop)]
-pub struct RunStop<T, K> {
+pub struct RunStop<T, K, V> {
     /// All of them, as they were handed in.
-    pub commands: Vec<Command<T, K>>,
+    pub commands: Vec<Command<T, K, V>>,
 }

@@ -1,8 +1,13 @@
 //! What the lines of a text put into a map, and what they are answered.
-ghost use Rattle.std.specs.Prelude.{Some};
+ghost use Rattle.std.specs.Prelude.{◌≡◌, ◌++◌, ◌∷◌, [], IfOk, OnOk, Some, true, nat_lt, codes, decimal, string_bytes};
+ghost use Rattle.iddqd_run.specs.Answer.{list_text};
+ghost use Rattle.iddqd_run.specs.Shown.{entry_of, refusals_of, shown};
 
-use iddqd::{IdHashItem, IdOrdItem};
+use crate::table::Keeps;
+use iddqd::{IdHashItem, IdOrdItem, Visit};
+use std::alloc::AllocError;
 use std::fmt::{self, Display, Formatter, Write};
+use std::mem;
 
 /// A name and its value.
 #[derive(Drop)]
@@ -31,6 +36,35 @@ impl IdHashItem for Entry {
     }
 }
 
+/// Writes its value to an entry, and has the entry's own then.
+#[derive(Drop)]
+pub(crate) struct ValueExchange {
+    pub(crate) value: u64,
+}
+
+impl Visit<Entry> for ValueExchange {
+    ghost visits = { λ exchange entry. (record exchange { value = entry.value }, record entry { value = exchange.value }, true) };
+
+    fn visit(&mut self, entry: &mut Entry) -> bool {
+        mem::swap(&mut self.value, &mut entry.value);
+        true
+    }
+}
+
+/// Keeps the entries of greater value.
+#[derive(Drop)]
+pub(crate) struct Above {
+    pub(crate) value: u64,
+}
+
+impl Keeps<Entry> for Above {
+    ghost keeps = { λ least entry. nat_lt least.value entry.value };
+
+    fn keeps(&self, entry: &Entry) -> bool {
+        self.value < entry.value
+    }
+}
+
 /// The reply to a line.
 #[derive(Clone, Copy)]
 pub(crate) enum LineReply<'a> {
@@ -40,17 +74,19 @@ pub(crate) enum LineReply<'a> {
     Replaced(u64),
     Found(u64),
     Removed(u64),
+    Named { name: &'a str, value: u64 },
     Absent,
+    Within,
+    Set(u64),
+    Kept { kept: usize, dropped: usize },
     Length(usize),
+    Unsupported,
     Bad,
     RefusedCapacity,
     RefusedMemory,
 }
 
 impl LineReply<'_> {
-    ghost use Rattle.std.specs.Prelude.{◌≡◌};
-    ghost use Rattle.iddqd_run.specs.Shown.{refusals_of};
-
     /// 1 where memory was refused, and else 0.
     pub(crate) fn refusals(&self) -> u64
         ensures { result ≡ refusals_of self.now }
@@ -63,8 +99,6 @@ impl LineReply<'_> {
 }
 
 impl Display for LineReply<'_> {
-    ghost use Rattle.iddqd_run.specs.Shown.{shown};
-
     ghost output = { λ reply. Some (shown reply) };
 
     fn fmt<W: Write>(&self, f: &mut Formatter<W>) -> fmt::Result {
@@ -75,11 +109,42 @@ impl Display for LineReply<'_> {
             LineReply::Replaced(value) => write!(f, "replaced {value}"),
             LineReply::Found(value) => write!(f, "{value}"),
             LineReply::Removed(value) => write!(f, "removed {value}"),
+            LineReply::Named { name, value } => write!(f, "{name} {value}"),
             LineReply::Absent => write!(f, "none"),
+            LineReply::Within => write!(f, "within"),
+            LineReply::Set(value) => write!(f, "set {value}"),
+            LineReply::Kept { kept, dropped } => write!(f, "kept {kept} dropped {dropped}"),
             LineReply::Length(count) => write!(f, "{count}"),
+            LineReply::Unsupported => write!(f, "unsupported"),
             LineReply::Bad => write!(f, "bad"),
             LineReply::RefusedCapacity => write!(f, "refused capacity"),
             LineReply::RefusedMemory => write!(f, "refused memory"),
         }
     }
+}
+
+/// Writes the reply as a line of its own, and answers how many refusals for want of memory it tells.
+pub(crate) fn write_reply(text: &mut String, reply: LineReply<'_>) -> Result<u64, AllocError>
+    ensures refusals { IfOk result (λ refusals. refusals ≡ refusals_of reply.entry) }
+    ensures line { OnOk result (string_bytes text.new ≡ string_bytes text.old ++ (shown reply.entry ++ 10 ∷ [])) }
+{
+    writeln!(text, "{reply}")?;
+    Ok(reply.refusals())
+}
+
+/// Begins a list of so many entries.
+pub(crate) fn begin_list(text: &mut String, count: usize) -> Result<(), AllocError>
+    ensures { OnOk result (string_bytes text.new ≡ string_bytes text.old ++ (codes "list " ++ decimal count)) }
+{
+    write!(text, "list {count}")?;
+    Ok(())
+}
+
+/// Writes one entry of a list.
+pub(crate) fn write_entry(text: &mut String, entry: &Entry) -> Result<(), AllocError>
+    ensures { OnOk result (string_bytes text.new ≡ string_bytes text.old ++ list_text (entry_of entry.now ∷ [])) }
+{
+    let Entry { name, value } = entry;
+    write!(text, " {name}={value}")?;
+    Ok(())
 }

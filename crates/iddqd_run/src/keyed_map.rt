@@ -1,14 +1,16 @@
 //! What generic code asks of a map of either kind.
-ghost use Rattle.std.specs.Prelude.{◌≡◌, ℕ, [], length, Some, IfOk, IfErr, IfNone, OnErr, option_copied};
+ghost use Rattle.std.specs.Prelude.{◌≡◌, ℕ, [], length, Some, None, IfOk, IfErr, IfNone, IfSome, OnErr, option_copied};
 ghost use Rattle.std.specs.Borrow.{sem};
 ghost use Rattle.iddqd.specs.Contents.{NoTwoAkin, OverwritesItem, find_item, without};
 ghost use Rattle.iddqd.specs.Refusal.{OnRefused, RefusesInsertion};
 ghost use Rattle.iddqd_run.specs.KeyedMap.{StaysKeyed, ends_inserted};
-ghost use Rattle.iddqd_run.specs.Step.{MapState, SpareRule, FitsRoom, RefusesItem};
+ghost use Rattle.iddqd.specs.Visiting.{VisitsKeepKeys};
+ghost use Rattle.iddqd_run.specs.Step.{MapState, SpareRule, FitsRoom, RefusesItem, RetainsVisited, VisitsItem};
 
 mod hash;
 mod ord;
 
+use iddqd::Visit;
 use iddqd::errors::{InsertError, Refused};
 
 /// A map whose keys live in its items, for callers that take any (ours). Contracts see its items and its spare, the most
@@ -71,6 +73,27 @@ pub trait KeyedMap {
         ensures value { result ≡ find_item key (Self.Key.eq query.now) (state self.old).items }
         ensures items { (state self.new).items ≡ without key (Self.Key.eq query.now) (state self.old).items }
         ensures unchanged { IfNone result (self.new ≡ self.old) }
+        ensures stays { StaysKeyed state limit rule keyed self.old self.new };
+
+    /// Visits the item of an equal key, and answers what the visit did; the item stays as the visit made it, whatever
+    /// that is. `None` where there is none, and then neither map nor visitor has changed. No visit may change a key. It
+    /// takes no memory.
+    fn visit<V: Visit<Self::Item>>(&mut self, query: &Self::Key, visitor: &mut V) -> Option<bool>
+        requires keyed { keyed self.old }
+        requires keeps_keys { VisitsKeepKeys key Self.Key.eq V.visits }
+        ensures visited { IfSome result (λ answer. VisitsItem key V.visits (Self.Key.eq query.now) visitor.old visitor.new answer (state self.old).items (state self.new).items) }
+        ensures absent { IfNone result (find_item key (Self.Key.eq query.now) (state self.old).items ≡ None) }
+        ensures unchanged { IfNone result ((self.new ≡ self.old) × (visitor.new ≡ visitor.old)) }
+        ensures stays { StaysKeyed state limit rule keyed self.old self.new };
+
+    /// Visits each item once, ascending where the map does, and takes out each that is answered false. No visit may
+    /// change a key. It takes no memory.
+    fn retain_mut<V: Visit<Self::Item>>(&mut self, visitor: &mut V)
+    where
+        Self::Item: Drop,
+        requires keyed { keyed self.old }
+        requires keeps_keys { VisitsKeepKeys key Self.Key.eq V.visits }
+        ensures retained { RetainsVisited key V.visits visitor.old visitor.new (state self.old).items (state self.new).items }
         ensures stays { StaysKeyed state limit rule keyed self.old self.new };
 
     /// Drops every item. It takes no memory, and the room of the items is spare again where the map keeps a spare.

@@ -4,6 +4,7 @@
 mod answering;
 mod arguments;
 mod commands;
+mod ends;
 mod entries;
 mod keyed_map;
 pub mod laws;
@@ -22,6 +23,3 @@ pub use keyed_map::KeyedMap;
 pub use running::run;
 pub use serving::{Fault, fault_text, serve};
 pub use statuses::{Stop, exit_status};
-
-#[cfg(test)]
-mod tests;

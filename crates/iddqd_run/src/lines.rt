@@ -1,7 +1,7 @@
 //! The lines of a text, and what a line asks for.
 ghost use Rattle.std.specs.Prelude.{◌≡◌, ◌∷◌, ◌<◌, ◌↔◌, [], length, MatchOption, IsTrue, true, false};
 ghost use Rattle.std.specs.List.{list_all};
-ghost use Rattle.iddqd_run.specs.Lines.{lines_of, words_of, is_name, is_name_byte, value_of, HasOneForm, request_of, named_request, valued_request};
+ghost use Rattle.iddqd_run.specs.Lines.{lines_of, words_of, is_name, is_name_byte, value_of, HasOneForm, request_of, bare_request, named_request, valued_request, field_request, kept_request};
 ghost use Rattle.iddqd_run.specs.Asked.{asked};
 
 /// What a line asks for.
@@ -11,7 +11,15 @@ pub(crate) enum Line<'a> {
     Put { name: &'a str, value: u64 },
     Get { name: &'a str },
     Del { name: &'a str },
+    Cost { name: &'a str },
+    Set { name: &'a str, value: u64 },
+    Keep { value: u64 },
     Len,
+    ListAll,
+    First,
+    Last,
+    PopFirst,
+    PopLast,
     /// It follows no form.
     Bad,
 }
@@ -36,19 +44,28 @@ pub(crate) fn parse(line: &[u8]) -> Line<'_>
 {
     let (word, fields) = first_word(line);
     let Some(fields) = fields else {
-        return if word == b"len".as_slice() {
-            Line::Len
-        } else {
-            Line::Bad
-        };
+        return by_word(word);
     };
-    let (name, value) = first_word(fields);
-    let Some(name) = name_in(name) else {
-        return Line::Bad;
+    let (field, value) = first_word(fields);
+    let Some(value) = value else {
+        return by_field(word, field);
     };
-    match value {
-        None => by_name(word, name),
-        Some(value) => by_name_and_value(word, name, value),
+    match name_in(field) {
+        None => Line::Bad,
+        Some(name) => by_name_and_value(word, name, value),
+    }
+}
+
+// What a line of a word and one field asks for.
+fn by_field<'a>(word: &[u8], field: &'a [u8]) -> Line<'a>
+    ensures { asked result ≡ field_request word.now field.now }
+{
+    if word == b"keep".as_slice() {
+        return by_value(field);
+    }
+    match name_in(field) {
+        None => Line::Bad,
+        Some(name) => by_name(word, name),
     }
 }
 
@@ -117,6 +134,27 @@ fn has_one_form(word: &[u8]) -> bool
     }
 }
 
+// What a line of a word alone asks for.
+fn by_word<'a>(word: &[u8]) -> Line<'a>
+    ensures { asked result ≡ bare_request word.now }
+{
+    if word == b"len".as_slice() {
+        Line::Len
+    } else if word == b"list".as_slice() {
+        Line::ListAll
+    } else if word == b"first".as_slice() {
+        Line::First
+    } else if word == b"last".as_slice() {
+        Line::Last
+    } else if word == b"popfirst".as_slice() {
+        Line::PopFirst
+    } else if word == b"poplast".as_slice() {
+        Line::PopLast
+    } else {
+        Line::Bad
+    }
+}
+
 // What a line of a word and a name asks for.
 fn by_name<'a>(word: &[u8], name: &'a str) -> Line<'a>
     ensures { asked result ≡ named_request word.now name.now }
@@ -125,8 +163,20 @@ fn by_name<'a>(word: &[u8], name: &'a str) -> Line<'a>
         Line::Get { name }
     } else if word == b"del".as_slice() {
         Line::Del { name }
+    } else if word == b"cost".as_slice() {
+        Line::Cost { name }
     } else {
         Line::Bad
+    }
+}
+
+// What a line of the word `keep` and a value asks for.
+fn by_value<'a>(value: &[u8]) -> Line<'a>
+    ensures { asked result ≡ kept_request (value_of value.now) }
+{
+    match value_in(value) {
+        Some(value) => Line::Keep { value },
+        None => Line::Bad,
     }
 }
 
@@ -141,6 +191,8 @@ fn by_name_and_value<'a>(word: &[u8], name: &'a str, value: &[u8]) -> Line<'a>
         Line::Add { name, value }
     } else if word == b"put".as_slice() {
         Line::Put { name, value }
+    } else if word == b"set".as_slice() {
+        Line::Set { name, value }
     } else {
         Line::Bad
     }

@@ -1,21 +1,21 @@
 //! What a line asks of a table, and its reply.
-ghost use Rattle.std.specs.Prelude.{◌≡◌, ◌≢◌, List, length, string_bytes};
+ghost use Rattle.std.specs.Prelude.{◌≡◌, ◌≢◌, ◌+◌, ◌≤◌, List, length, string_bytes};
 ghost use Rattle.iddqd.specs.Errors.{listed};
 ghost use Rattle.iddqd.specs.Refusal.{IsLent, refusal_kind};
-ghost use Rattle.iddqd_run.specs.Lines.{Add, Put, Get, Del, Len};
+ghost use Rattle.iddqd_run.specs.Lines.{Add, Put, Get, Del, Cost, Set, Keep, Len};
 ghost use Rattle.iddqd_run.specs.Shown.{AnswersRequest, IsTable, no_room_reply};
 ghost use Rattle.iddqd_run.specs.declared.entries.Entry.{Entry};
 ghost use Rattle.iddqd_run.specs.declared.entries.LineReply.TheVariants.{RefusedMemory};
 
-use crate::entries::{Entry, LineReply};
+use crate::entries::{Above, Entry, LineReply, ValueExchange};
 use crate::table::Table;
-use iddqd::MAX_ITEMS;
 use iddqd::errors::{Few, InsertError, TryReserveError};
+use iddqd::{MAX_ITEMS, Steps};
 use std::alloc::Global;
 
 /// `get`: looks the name up. It takes no memory.
 pub(crate) fn get<'a, M: Table<Item = Entry, Key = String>>(map: &M, name: &'a str) -> LineReply<'a>
-    requires table { IsTable M.key M.is_text M.keyed M.limit map.now }
+    requires table { IsTable M.key M.is_text M.entries M.state M.keyed M.limit map.now }
     ensures { AnswersRequest M.kind (Get name.now) (M.state map.now).items result (M.state map.now).items }
 {
     match map.find(name) {
@@ -29,13 +29,63 @@ pub(crate) fn delete<'a, M: Table<Item = Entry, Key = String>>(
     map: &mut M,
     name: &'a str,
 ) -> LineReply<'a>
-    requires table { IsTable M.key M.is_text M.keyed M.limit map.old }
+    requires table { IsTable M.key M.is_text M.entries M.state M.keyed M.limit map.old }
     ensures answered { AnswersRequest M.kind (Del name.now) (M.state map.old).items result (M.state map.new).items }
-    ensures table { IsTable M.key M.is_text M.keyed M.limit map.new }
+    ensures table { IsTable M.key M.is_text M.entries M.state M.keyed M.limit map.new }
 {
     match map.take_out(name) {
         Some(entry) => LineReply::Removed(entry.value),
         None => LineReply::Absent,
+    }
+}
+
+/// `cost`: looks the name up, and counts the comparisons, which are within the bound of the map's lookups. It takes no
+/// memory.
+pub(crate) fn cost<'a, M: Table<Item = Entry, Key = String>>(
+    map: &M,
+    name: &'a str,
+    steps: &mut Steps,
+) -> LineReply<'a>
+    requires table { IsTable M.key M.is_text M.entries M.state M.keyed M.limit map.now }
+    ensures answered { AnswersRequest M.kind (Cost name.now) (M.state map.now).items result (M.state map.now).items }
+    ensures within { steps.new ≤ steps.old + M.most_steps map.now name.now }
+{
+    let _ = map.find_counted(name, steps);
+    LineReply::Within
+}
+
+/// `set`: writes the value of the entry of the name, through a guard. It takes no memory.
+pub(crate) fn set<'a, M: Table<Item = Entry, Key = String>>(
+    map: &mut M,
+    name: &'a str,
+    value: u64,
+) -> LineReply<'a>
+    requires table { IsTable M.key M.is_text M.entries M.state M.keyed M.limit map.old }
+    ensures answered { AnswersRequest M.kind (Set name.now value) (M.state map.old).items result (M.state map.new).items }
+    ensures table { IsTable M.key M.is_text M.entries M.state M.keyed M.limit map.new }
+{
+    let mut exchange = ValueExchange { value };
+    match map.visit_found(name, &mut exchange) {
+        Some(_) => LineReply::Set(exchange.value),
+        None => LineReply::Absent,
+    }
+}
+
+/// `keep`: keeps the entries of greater value. It takes no memory.
+pub(crate) fn keep<'a, M: Table<Item = Entry, Key = String>>(
+    map: &mut M,
+    value: u64,
+) -> LineReply<'a>
+    requires table { IsTable M.key M.is_text M.entries M.state M.keyed M.limit map.old }
+    ensures answered { AnswersRequest M.kind (Keep value) (M.state map.old).items result (M.state map.new).items }
+    ensures table { IsTable M.key M.is_text M.entries M.state M.keyed M.limit map.new }
+{
+    let before = map.len();
+    map.keep(&Above { value });
+    let kept = map.len();
+    LineReply::Kept {
+        kept,
+        dropped: before.saturating_sub(kept),
     }
 }
 
@@ -53,9 +103,9 @@ pub(crate) fn add<'a, M: Table<Item = Entry, Key = String>>(
     name: &'a str,
     value: u64,
 ) -> LineReply<'a>
-    requires table { IsTable M.key M.is_text M.keyed M.limit map.old }
+    requires table { IsTable M.key M.is_text M.entries M.state M.keyed M.limit map.old }
     ensures answered { AnswersRequest M.kind (Add name.now value) (M.state map.old).items result (M.state map.new).items }
-    ensures table { IsTable M.key M.is_text M.keyed M.limit map.new }
+    ensures table { IsTable M.key M.is_text M.entries M.state M.keyed M.limit map.new }
 {
     match String::from_str(alloc, name) {
         Ok(copy) => add_entry(map, name, Entry { name: copy, value }),
@@ -69,11 +119,11 @@ fn add_entry<'a, M: Table<Item = Entry, Key = String>>(
     name: &'a str,
     entry: Entry,
 ) -> LineReply<'a>
-    requires table { IsTable M.key M.is_text M.keyed M.limit map.old }
+    requires table { IsTable M.key M.is_text M.entries M.state M.keyed M.limit map.old }
     requires name { string_bytes entry.name ≡ name.now }
     ensures answered { AnswersRequest M.kind (Add name.now entry.value) (M.state map.old).items result (M.state map.new).items }
     ensures not_full { result ≡ RefusedMemory → length (M.state map.old).items ≢ MAX_ITEMS }
-    ensures table { IsTable M.key M.is_text M.keyed M.limit map.new }
+    ensures table { IsTable M.key M.is_text M.entries M.state M.keyed M.limit map.new }
 {
     match map.insert_unique(entry) {
         Ok(()) => LineReply::Added,
@@ -92,9 +142,9 @@ pub(crate) fn put<'a, M: Table<Item = Entry, Key = String>>(
     name: &'a str,
     value: u64,
 ) -> LineReply<'a>
-    requires table { IsTable M.key M.is_text M.keyed M.limit map.old }
+    requires table { IsTable M.key M.is_text M.entries M.state M.keyed M.limit map.old }
     ensures answered { AnswersRequest M.kind (Put name.now value) (M.state map.old).items result (M.state map.new).items }
-    ensures table { IsTable M.key M.is_text M.keyed M.limit map.new }
+    ensures table { IsTable M.key M.is_text M.entries M.state M.keyed M.limit map.new }
 {
     match String::from_str(alloc, name) {
         Ok(copy) => put_entry(map, Entry { name: copy, value }),
@@ -104,10 +154,10 @@ pub(crate) fn put<'a, M: Table<Item = Entry, Key = String>>(
 
 // Puts the entry in the place of the one of its name, or in where there is none and the map is not full.
 fn put_entry<'a, M: Table<Item = Entry, Key = String>>(map: &mut M, entry: Entry) -> LineReply<'a>
-    requires table { IsTable M.key M.is_text M.keyed M.limit map.old }
+    requires table { IsTable M.key M.is_text M.entries M.state M.keyed M.limit map.old }
     ensures answered { AnswersRequest M.kind (Put (string_bytes entry.name) entry.value) (M.state map.old).items result (M.state map.new).items }
     ensures not_full { result ≡ RefusedMemory → length (M.state map.old).items ≢ MAX_ITEMS }
-    ensures table { IsTable M.key M.is_text M.keyed M.limit map.new }
+    ensures table { IsTable M.key M.is_text M.entries M.state M.keyed M.limit map.new }
 {
     match map.insert_overwrite(entry) {
         Ok(Some(old)) => LineReply::Replaced(old.value),

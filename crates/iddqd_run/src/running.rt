@@ -3,12 +3,14 @@ ghost use Rattle.std.specs.Prelude.{◌≡◌, OnErr, IfOk, IfErr, IfSome};
 ghost use Rattle.iddqd.specs.Contents.{ClonesAreEqual};
 ghost use Rattle.iddqd.specs.Errors.{listed};
 ghost use Rattle.iddqd.specs.Refusal.{IsLent};
+ghost use Rattle.iddqd.specs.Visiting.{VisitsKeepKeys};
 ghost use Rattle.iddqd_run.specs.KeyedMap.{StaysKeyed};
-ghost use Rattle.iddqd_run.specs.declared.commands.Command.TheVariants.{InsertUnique, InsertOverwrite, Get};
+ghost use Rattle.iddqd_run.specs.declared.commands.Command.TheVariants.{InsertUnique, InsertOverwrite, Get, Visit, RetainMut};
 ghost use Rattle.iddqd_run.specs.Step.{Answers, FitsRoom, Step, Run};
 
 use crate::commands::{Command, Reply, RunStop};
 use crate::keyed_map::KeyedMap;
+use iddqd::Visit;
 use iddqd::errors::{Few, InsertError, TryReserveError};
 use std::alloc::Global;
 
@@ -16,17 +18,19 @@ use std::alloc::Global;
 /// of replies, and a clone for each `Get` that finds and each duplicate. Room for all replies is taken first; where it is refused,
 /// none has run, and the commands come back. Shown items are clones, which have to equal what they were made of, as contracts
 /// see them: an item that holds a `String` does so by a model that shows the text's bytes.
-pub fn run<M: KeyedMap>(
+pub fn run<M: KeyedMap, V: Visit<M::Item>>(
     alloc: Global,
     map: &mut M,
-    commands: Vec<Command<M::Item, M::Key>>,
-) -> Result<Vec<Reply<M::Item>>, RunStop<M::Item, M::Key>>
+    commands: Vec<Command<M::Item, M::Key, V>>,
+) -> Result<Vec<Reply<M::Item>>, RunStop<M::Item, M::Key, V>>
 where
     M::Item: Clone,
     M::Key: Drop,
+    V: Drop,
     requires keyed { M.keyed map.old }
     requires clones { ClonesAreEqual M.Item.is_clone }
-    ensures run { IfOk result (λ replies. Run M.key M.Key.eq (M.limit map.old) M.rule (M.state map.old) commands.items replies.items (M.state map.new)) }
+    requires keeps_keys { VisitsKeepKeys M.key M.Key.eq V.visits }
+    ensures run { IfOk result (λ replies. Run M.key M.Key.eq V.visits (M.limit map.old) M.rule (M.state map.old) commands.items replies.items (M.state map.new)) }
     ensures handed_back { IfErr result (λ stop. stop.commands ≡ commands) }
     ensures unchanged { OnErr result (map.new ≡ map.old) }
     ensures keyed { M.keyed map.new }
@@ -43,24 +47,31 @@ where
 
 // The reply to one command.
 #[tactic(auto, using(crate::proofs::StepLemmas::room_kept))]
-fn answer<M: KeyedMap>(map: &mut M, command: Command<M::Item, M::Key>) -> Reply<M::Item>
+fn answer<M: KeyedMap, V: Visit<M::Item>>(
+    map: &mut M,
+    command: Command<M::Item, M::Key, V>,
+) -> Reply<M::Item>
 where
     M::Item: Clone,
     M::Key: Drop,
+    V: Drop,
     requires keyed { M.keyed map.old }
     requires clones { ClonesAreEqual M.Item.is_clone }
-    ensures step { Step M.key M.Key.eq (M.limit map.old) M.rule (M.state map.old) command result (M.state map.new) }
+    requires keeps_keys { VisitsKeepKeys M.key M.Key.eq V.visits }
+    ensures step { Step M.key M.Key.eq V.visits (M.limit map.old) M.rule (M.state map.old) command result (M.state map.new) }
     ensures keyed { M.keyed map.new }
     ensures limit { M.limit map.new ≡ M.limit map.old }
 {
     match command {
-        Command::InsertUnique(item) => insert_unique(map, item),
-        Command::InsertOverwrite(item) => insert_overwrite(map, item),
-        Command::Get(key) => get(map, &key),
+        Command::InsertUnique(item) => insert_unique::<M, V>(map, item),
+        Command::InsertOverwrite(item) => insert_overwrite::<M, V>(map, item),
+        Command::Get(key) => get::<M, V>(map, &key),
         Command::Remove(key) => match map.remove(&key) {
             Some(item) => Reply::Removed(item),
             None => Reply::Absent,
         },
+        Command::Visit(key, visitor) => visit(map, &key, visitor),
+        Command::RetainMut(visitor) => retain_mut(map, visitor),
         Command::Clear => {
             map.clear();
             Reply::Done
@@ -70,12 +81,12 @@ where
 }
 
 // `InsertUnique`.
-fn insert_unique<M: KeyedMap>(map: &mut M, item: M::Item) -> Reply<M::Item>
+fn insert_unique<M: KeyedMap, V: Visit<M::Item>>(map: &mut M, item: M::Item) -> Reply<M::Item>
 where
     M::Item: Clone,
     requires keyed { M.keyed map.old }
     requires clones { ClonesAreEqual M.Item.is_clone }
-    ensures answers { Answers M.key M.Key.eq (M.limit map.old) (InsertUnique item) (M.state map.old) result (M.state map.new).items }
+    ensures answers { Answers M.key M.Key.eq V.visits (M.limit map.old) (InsertUnique item) (M.state map.old) result (M.state map.new).items }
     ensures stays { StaysKeyed M.state M.limit M.rule M.keyed map.old map.new }
 {
     match map.insert_unique(item) {
@@ -93,11 +104,11 @@ where
 }
 
 // `InsertOverwrite`.
-fn insert_overwrite<M: KeyedMap>(map: &mut M, item: M::Item) -> Reply<M::Item>
+fn insert_overwrite<M: KeyedMap, V: Visit<M::Item>>(map: &mut M, item: M::Item) -> Reply<M::Item>
 where
     M::Item: Drop,
     requires keyed { M.keyed map.old }
-    ensures answers { Answers M.key M.Key.eq (M.limit map.old) (InsertOverwrite item) (M.state map.old) result (M.state map.new).items }
+    ensures answers { Answers M.key M.Key.eq V.visits (M.limit map.old) (InsertOverwrite item) (M.state map.old) result (M.state map.new).items }
     ensures stays { StaysKeyed M.state M.limit M.rule M.keyed map.old map.new }
 {
     match map.insert_overwrite(item) {
@@ -119,13 +130,46 @@ fn first_clone<T: Clone>(shown: &Few<&T>) -> Option<T>
     (**first).clone().ok()
 }
 
+// `Visit`.
+fn visit<M: KeyedMap, V: Visit<M::Item>>(
+    map: &mut M,
+    key: &M::Key,
+    mut visitor: V,
+) -> Reply<M::Item>
+where
+    V: Drop,
+    requires keyed { M.keyed map.old }
+    requires keeps_keys { VisitsKeepKeys M.key M.Key.eq V.visits }
+    ensures answers { Answers M.key M.Key.eq V.visits (M.limit map.old) (Visit key.now visitor) (M.state map.old) result (M.state map.new).items }
+    ensures stays { StaysKeyed M.state M.limit M.rule M.keyed map.old map.new }
+{
+    match map.visit(key, &mut visitor) {
+        Some(answer) => Reply::Visited(answer),
+        None => Reply::Absent,
+    }
+}
+
+// `RetainMut`.
+fn retain_mut<M: KeyedMap, V: Visit<M::Item>>(map: &mut M, mut visitor: V) -> Reply<M::Item>
+where
+    M::Item: Drop,
+    V: Drop,
+    requires keyed { M.keyed map.old }
+    requires keeps_keys { VisitsKeepKeys M.key M.Key.eq V.visits }
+    ensures answers { Answers M.key M.Key.eq V.visits (M.limit map.old) (RetainMut visitor) (M.state map.old) result (M.state map.new).items }
+    ensures stays { StaysKeyed M.state M.limit M.rule M.keyed map.old map.new }
+{
+    map.retain_mut(&mut visitor);
+    Reply::Kept(map.len())
+}
+
 // `Get`.
-fn get<M: KeyedMap>(map: &M, key: &M::Key) -> Reply<M::Item>
+fn get<M: KeyedMap, V: Visit<M::Item>>(map: &M, key: &M::Key) -> Reply<M::Item>
 where
     M::Item: Clone,
     requires keyed { M.keyed map.now }
     requires clones { ClonesAreEqual M.Item.is_clone }
-    ensures answers { Answers M.key M.Key.eq (M.limit map.now) (Get key.now) (M.state map.now) result (M.state map.now).items }
+    ensures answers { Answers M.key M.Key.eq V.visits (M.limit map.now) (Get key.now) (M.state map.now) result (M.state map.now).items }
     ensures room { FitsRoom M.rule (M.limit map.now) (M.state map.now) }
 {
     let Some(item) = map.get(key) else {

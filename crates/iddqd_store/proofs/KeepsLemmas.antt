@@ -4,7 +4,7 @@ use Rattle.std.proofs.Math.Nat.{le_of_suc-le-suc}
 use Rattle.std.proofs.lemmas.Cmp.{alike_right}
 use Rattle.std.proofs.lemmas.List.{map-set}
 use Rattle.std.specs.Cmp.{IsEquivalence, IsTotalOrder}
-use Rattle.std.specs.List.{AllByRecursion, AllWithin, HoldsAt, IsDistinct, insert}
+use Rattle.std.specs.List.{AllByRecursion, AllWithin, HoldsAt, IsDistinct, insert, remove}
 use Rattle.std.specs.List.Sorted.{IsStrictlySortedBy}
 use Rattle.std.specs.Ordering.{ordering_reverse}
 use Rattle.iddqd_store.specs.Contents.{find_item, IsAbsent, Ascends, NoTwoAkin}
@@ -52,6 +52,20 @@ module _ {T K : Type 0} (key : T → K) where
   ascends_filter cmp p (y ∷ ys) s =
       let rest = ascends_filter cmp p ys s.1 in
       elim (p y) as (λ b. Ascends key cmp (cond b (y ∷ filter p ys) (filter p ys))) [ true ↦ (all_filter (λ k. cmp (key y) k ≡ Less) p ys s.0, rest) | false ↦ rest ]
+
+  all_removed : (P : K → Type 0) (items : List T) (i : ℕ) → AllByRecursion P (map key items) → AllByRecursion P (map key (remove items i))
+  all_removed P [] zero a = tt
+  all_removed P [] (suc i) a = tt
+  all_removed P (y ∷ ys) zero a = a.1
+  all_removed P (y ∷ ys) (suc i) a = (a.0, all_removed P ys i a.1)
+
+  -- the others ascend
+  pub ascends_remove : (cmp : K → K → Ordering) (items : List T) (i : ℕ) → Ascends key cmp items → Ascends key cmp (remove items i)
+  unfolding IsStrictlySortedBy
+  ascends_remove cmp [] zero s = tt
+  ascends_remove cmp [] (suc i) s = tt
+  ascends_remove cmp (y ∷ ys) zero s = s.1
+  ascends_remove cmp (y ∷ ys) (suc i) s = (all_removed (λ k. cmp (key y) k ≡ Less) ys i s.0, ascends_remove cmp ys i s.1)
 
   module _ {cmp : K → K → Ordering} (o : IsTotalOrder cmp) (x : T) where
     -- x goes in at the place where its key belongs

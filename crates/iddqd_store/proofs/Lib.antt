@@ -1,4 +1,5 @@
 pub mod ChainLemmas
+pub mod CloneLemmas
 pub mod ContentsLemmas
 pub mod DistinctLemmas
 pub mod KeepsLemmas
@@ -10,4 +11,5 @@ pub mod RefusalLemmas
 pub mod SearchLemmas
 pub mod SlotLemmas
 pub mod StoreLemmas
+pub mod VisitLemmas
 pub mod WrittenLemmas

@@ -28,7 +28,7 @@ module _ {T U K : Type 0} (shown : T → U) (key : U → K) where
       ap (cond (test (key (shown x))) (Some (shown x))) (find_item-map test xs)
       ∙ choose (option_map shown) (test (key (shown x))) (Some x) (find_item (λ y. key (shown y)) test xs)
 
-  filter-map : (p : U → Bool) (xs : List T) → filter p (map shown xs) ≡ map shown (filter (λ x. p (shown x)) xs)
+  pub filter-map : (p : U → Bool) (xs : List T) → filter p (map shown xs) ≡ map shown (filter (λ x. p (shown x)) xs)
   filter-map p [] = refl
   filter-map p (x ∷ xs) =
       let rest = filter (λ y. p (shown y)) xs in

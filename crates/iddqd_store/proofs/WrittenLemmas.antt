@@ -2,15 +2,31 @@
 --     SlotPlace, slot_place      the place of a slot that has an item
 --     length-written      writing to a slot keeps the number of items
 --     written_replaced      where the slot's item is the one that a query finds, writing to it replaces the item found
+--     PlaceRead, place_read      the item at a place is that of its slot
+--     written_found      the same, of the item that is found
+--     read_back, written_twice      what was written is there, and a second write leaves what it alone would
+--     keys_written      a write under the same key leaves the keys
+--     same_key_kept, akin_key_kept, akin_keys_differ      where an equal key was written the items still ascend, and their keys still differ
 --     listed_slot      a slot has an item exactly where it is one of the slots
-use Rattle.std.proofs.Common.{◌≡◌, ℕ, zero, suc, ◌<◌, ◌↔◌, Bool, true, false, cond, List, [], ◌∷◌, length, set, get_or, Option, Some, None, is_some, refl, sym, ap, ◌∙◌, arith, nat_eq, true≢false}
+use Rattle.std.proofs.Common.{◌≡◌, ℕ, zero, suc, ◌<◌, ◌↔◌, Bool, true, false, cond, List, [], ◌∷◌, length, set, get_or, Option, Some, None, is_some, refl, sym, ap, ◌∙◌, arith, nat_eq, true≢false, subst, map, Ordering, Equal}
 use Rattle.std.proofs.lemmas.Bool.{eqb-true, eq-eqb}
 use Rattle.std.proofs.lemmas.Option.{get_or_from_slice_get, slice_get_within}
-use Rattle.std.specs.Cmp.{IsEquivalence}
-use Rattle.std.specs.List.{Contains, slice_get}
-use Rattle.iddqd_store.specs.Contents.{IsKeyTest, NoTwoAkin, replaced}
-use Rattle.iddqd_store.specs.SlotItems.{item_of_slot, written_to_slot}
+use Rattle.std.proofs.Math.Seq.{map-set_same}
+use Rattle.std.specs.Cmp.{IsEquivalence, IsTotalOrder, Equal-is}
+use Rattle.std.specs.List.Sorted.{IsStrictlySortedBy}
+use Rattle.std.specs.Ordering.{is_eq}
+use Rattle.std.specs.List.{AllByRecursion, Contains, IsDistinct, slice_get}
+use Rattle.iddqd_store.specs.Contents.{Ascends, IsKeyTest, NoTwoAkin, find_item, replaced}
+use Rattle.iddqd_store.specs.SlotItems.{HaveSlots, item_of_slot, written_to_slot}
 use Rattle.iddqd_store.proofs.ContentsLemmas.{map_at, only_place}
+use Rattle.iddqd_store.proofs.KeepsLemmas.{ascends_set, differ_set}
+use Rattle.iddqd_store.proofs.OrderLemmas.{Tells, find_tells}
+use Rattle.iddqd_store.proofs.SearchLemmas.{at_key}
+
+all_at : (P : ℕ → Type 0) (xs : List ℕ) (i x : ℕ) → AllByRecursion P xs → slice_get xs i ≡ Some x → P x
+all_at P [] i x all e = cc
+all_at P (y ∷ ys) zero x all e = let same : y ≡ x = cc in subst P same all.0
+all_at P (y ∷ ys) (suc i) x all e = all_at P ys i x all.1 e
 
 module _ {T : Type 0} where
   pub record SlotPlace (slots : List ℕ) (items : List T) (slot : ℕ) (x : T) : Type 0 where
@@ -42,6 +58,41 @@ module _ {T : Type 0} where
       let rest = length-written slots items slot w in
       elim (nat_eq s slot) as (λ b. length (cond b (w ∷ items) (y ∷ written_to_slot slots items slot w)) ≡ length (y ∷ items)) [ true ↦ refl | false ↦ ap suc rest ]
 
+  pub read_back : (slots : List ℕ) (items : List T) (slot : ℕ) (w : T) → is_some (item_of_slot slots items slot) ≡ true → item_of_slot slots (written_to_slot slots items slot w) slot ≡ Some w
+  read_back [] items slot w some = absurd (true≢false (sym some))
+  read_back (s ∷ slots) [] slot w some = absurd (true≢false (sym some))
+  read_back (s ∷ slots) (y ∷ items) slot w some = by (read_back slots items slot w) (nat_eq s slot) refl some
+    where
+      by : (is_some (item_of_slot slots items slot) ≡ true → item_of_slot slots (written_to_slot slots items slot w) slot ≡ Some w) → (b : Bool) → nat_eq s slot ≡ b → is_some (cond b (Some y) (item_of_slot slots items slot)) ≡ true → item_of_slot (s ∷ slots) (written_to_slot (s ∷ slots) (y ∷ items) slot w) slot ≡ Some w
+      by behind true q there = rw q (rw q refl)
+      by behind false q there = rw q (rw q (behind there))
+
+  pub written_twice : (slots : List ℕ) (items : List T) (slot : ℕ) (v w : T) → written_to_slot slots (written_to_slot slots items slot v) slot w ≡ written_to_slot slots items slot w
+  written_twice [] items slot v w = refl
+  written_twice (s ∷ slots) [] slot v w = refl
+  written_twice (s ∷ slots) (y ∷ items) slot v w = by (written_twice slots items slot v w) (nat_eq s slot) refl
+    where
+      by : written_to_slot slots (written_to_slot slots items slot v) slot w ≡ written_to_slot slots items slot w → (b : Bool) → nat_eq s slot ≡ b → written_to_slot (s ∷ slots) (written_to_slot (s ∷ slots) (y ∷ items) slot v) slot w ≡ written_to_slot (s ∷ slots) (y ∷ items) slot w
+      by behind true q = rw q (rw q refl)
+      by behind false q = rw q (rw q (ap (λ ys. y ∷ ys) behind))
+
+  -- of slots that each item has one of its own
+  pub record PlaceRead (slots : List ℕ) (items : List T) (at slot : ℕ) : Type 0 where
+    pub item : item_of_slot slots items slot ≡ slice_get items at
+    pub written : (w : T) → written_to_slot slots items slot w ≡ set items at w
+
+  pub place_read : (slots : List ℕ) (items : List T) (at slot : ℕ) → HaveSlots slots items → slice_get slots at ≡ Some slot → PlaceRead slots items at slot
+  unfolding IsDistinct
+  place_read [] items at slot own e = cc
+  place_read (s ∷ slots) [] at slot own e = absurd (omega (arith, own.as_many))
+  place_read (s ∷ slots) (y ∷ items) zero slot own e =
+      let here : s ≡ slot = cc in
+      record { item = rw (eq-eqb s slot here) refl; written = λ w. rw (eq-eqb s slot here) refl }
+  place_read (s ∷ slots) (y ∷ items) (suc at) slot own e =
+      let rest = place_read slots items at slot (record { as_many = omega (arith, own.as_many); each_once = own.each_once.1 }) e in
+      let apart : nat_eq s slot ≡ false = all_at (λ n. nat_eq s n ≡ false) slots at slot own.each_once.0 e in
+      record { item = rw apart rest.item; written = λ w. rw apart (ap (λ ys. y ∷ ys) (rest.written w)) }
+
   occupied_listed : (slots : List ℕ) (items : List T) (slot : ℕ) → is_some (item_of_slot slots items slot) ≡ true → Contains slots slot
   occupied_listed slots items slot some = by (item_of_slot slots items slot) refl some
     where
@@ -69,3 +120,35 @@ written_replaced key equivalence test tests slots items differ slot x w there pa
     let p = slot_place slots items slot x there in
     let only = only_place key equivalence test tests items differ p.place (slice_get_within items p.place x p.item_there) (λ d. ap (λ y. test (key y)) (get_or_from_slice_get items p.place x d p.item_there) ∙ passes) in
     p.written w ∙ sym (map_at (λ y. test (key y)) w items p.place only)
+
+pub written_found : {T K : Type 0} (key : T → K) {eq : K → K → Bool} → IsEquivalence eq → (test : K → Bool) → IsKeyTest eq test → (slots : List ℕ) (items : List T) → NoTwoAkin key eq items → (slot : ℕ) (w : T) → is_some (item_of_slot slots items slot) ≡ true → find_item key test items ≡ item_of_slot slots items slot → written_to_slot slots items slot w ≡ replaced key test w items
+written_found {T} key equivalence test tests slots items differ slot w some found = by (item_of_slot slots items slot) refl some
+  where
+    by : (o : Option T) → item_of_slot slots items slot ≡ o → is_some o ≡ true → written_to_slot slots items slot w ≡ replaced key test w items
+    by None e none = absurd (true≢false (sym none))
+    by (Some x) e there =
+        written_replaced key equivalence test tests slots items differ slot x w e (subst (Tells (λ y. test (key y)) items) (found ∙ e) (find_tells (λ y. test (key y)) items)).1
+
+module _ {T K : Type 0} (key : T → K) (slots : List ℕ) (items : List T) (slot : ℕ) (x w : T) (there : item_of_slot slots items slot ≡ Some x) where
+  -- what is written under the same key leaves the keys
+  pub keys_written : key w ≡ key x → map key (written_to_slot slots items slot w) ≡ map key items
+  keys_written same =
+      let p = slot_place slots items slot x there in
+      ap (map key) (p.written w) ∙ map-set_same key items p.place w x (same ∙ ap key (sym (get_or_from_slice_get items p.place x x p.item_there)))
+
+  pub same_key_kept : (cmp : K → K → Ordering) → key w ≡ key x → Ascends key cmp items → Ascends key cmp (written_to_slot slots items slot w)
+  same_key_kept cmp same sorted = subst (IsStrictlySortedBy cmp) (sym (keys_written same)) sorted
+
+  module _ {eq : K → K → Bool} (equivalence : IsEquivalence eq) (akin : eq (key x) (key w) ≡ true) where
+    pub akin_key_kept : {cmp : K → K → Ordering} → IsTotalOrder cmp → ((a b : K) → eq a b ≡ is_eq (cmp a b)) → Ascends key cmp items → Ascends key cmp (written_to_slot slots items slot w)
+    akin_key_kept {cmp} total ties sorted =
+        let p = slot_place slots items slot x there in
+        let inside = slice_get_within items p.place x p.item_there in
+        let equal : cmp (key w) (key x) ≡ Equal = (Equal-is _).0 (sym (ties (key w) (key x)) ∙ equivalence.symm (key w) (key x) ∙ akin) in
+        subst (Ascends key cmp) (sym (p.written w)) (ascends_set key total w items p.place sorted inside (at_key key (λ k. cmp (key w) k ≡ Equal) items p.place x inside (sym (get_or_from_slice_get items p.place x x p.item_there)) equal))
+
+    pub akin_keys_differ : NoTwoAkin key eq items → NoTwoAkin key eq (written_to_slot slots items slot w)
+    akin_keys_differ differ =
+        let p = slot_place slots items slot x there in
+        let inside = slice_get_within items p.place x p.item_there in
+        subst (NoTwoAkin key eq) (sym (p.written w)) (differ_set key equivalence w items p.place (at_key key (λ k. eq (key w) k ≡ true) items p.place x inside (sym (get_or_from_slice_get items p.place x x p.item_there)) (equivalence.symm (key w) (key x) ∙ akin)) differ)

@@ -25,6 +25,10 @@ SameInAnyOrder one other = IsPermutation one other
 abbrev pub ClonesAreEqual : {T : Type 0} → (T → T → Type 0) → Type 0
 ClonesAreEqual is_clone = (x y : _) → is_clone x y → y ≡ x
 
+-- each clone has a key equal to that of the item that it was made of (ours, a premise of each call that copies a map)
+abbrev pub ClonesKeepKeys : {T K : Type 0} → (T → K) → (K → K → Bool) → (T → T → Type 0) → Type 0
+ClonesKeepKeys key eq is_clone = (x y : _) → is_clone x y → eq (key x) (key y) ≡ true
+
 module _ {T K : Type 0} (key : T → K) where
   -- the keys that the items show
   abbrev pub keys : List T → List K

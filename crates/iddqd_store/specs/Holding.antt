@@ -51,6 +51,13 @@ pub record LeavesSlot {T : Type 0} (y : T) (old new : Holding T) : Type 0 where
   pub there : slice_get old.items place ≡ Some y
   pub slots : new.slots ≡ remove old.slots place
 
+-- what retaining leaves besides the items: each item that went has left a vacant slot (`retain`)
+pub record LeavesSlots {T : Type 0} (old new : Holding T) : Type 0 where
+  pub slots : HaveSlots new.slots new.items
+  pub vacant : new.vacant + length new.items ≡ old.vacant + length old.items
+  pub capacity : new.capacity ≡ old.capacity
+  pub limit : new.limit ≡ old.limit
+
 -- what a shrink to room for so many items leaves, refused or not: no slot is vacant, and the capacity lies between its bounds (`shrink_to`)
 pub record Shrinks {T : Type 0} (min : ℕ) (old new : Holding T) : Type 0 where
   pub vacant : new.vacant ≡ 0

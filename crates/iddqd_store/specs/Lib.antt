@@ -8,3 +8,5 @@ pub mod Refusal
 pub mod SlotItems
 pub mod Slots
 pub mod Store
+pub mod Validation
+pub mod Visiting

@@ -1,6 +1,6 @@
 -- Why and how an insertion is refused. The list stays, and the item that was handed in comes back whole.
 --     An akin item is looked for first, then the limit, then memory.
-use Rattle.std.specs.Prelude.{◌≡◌, ℕ, Bool, List, [], ◌∷◌, Some, length, ◌==◌, if◌then◌else◌}
+use Rattle.std.specs.Prelude.{◌≡◌, ℕ, Bool, List, [], ◌∷◌, Some, length, ◌==◌, nat_lt, if◌then◌else◌}
 use Rattle.std.specs.Borrow.{Bor}
 use Rattle.iddqd_store.specs.Contents.{find_item, IsAbsent}
 use Rattle.iddqd_store.specs.Errors.{new_item_of, duplicates_of}
@@ -23,6 +23,10 @@ memory_refused = AllocError
 -- the kind of a refusal: a full map's where it is full, and else for want of memory (ours: the crate leaves open where a map is full)
 abbrev pub refusal_kind : {T : Type 0} → ℕ → List T → RefusalKind
 refusal_kind limit items = if length items == limit then CapacityOverflow else AllocError
+
+-- the kind of a refused reservation for so many items in all: the limit's where it is below them, and else for want of memory (`reserve`)
+abbrev pub reservation_kind : ℕ → ℕ → RefusalKind
+reservation_kind limit wanted = if nat_lt limit wanted then CapacityOverflow else AllocError
 
 -- the one value that is lent
 abbrev pub IsLent : {T : Type 0} → List (Bor T) → T → Type 0

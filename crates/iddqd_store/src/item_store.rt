@@ -1,13 +1,11 @@
 //! Items in numbered slots. A vacant slot is used again.
 mod chain;
 mod moves;
-#[cfg(test)]
-mod tests;
+mod room;
 
-ghost use Rattle.std.specs.Prelude.{◌≡◌, ◌+◌, ◌-◌, ◌<◌, ◌≤◌, [], length, IfSome, IfNone, IfOk, OnOk, OnErr, Some, None, OnSome, option_copied, slice_set, Err, ◌↔◌, min, max};
+ghost use Rattle.std.specs.Prelude.{◌≡◌, ◌+◌, ◌-◌, ◌<◌, ◌≤◌, [], length, IfSome, IfNone, IfOk, Some, None, OnSome, option_copied, slice_set, vec_capacity, Err};
 ghost use Rattle.std.specs.Borrow.{sem};
 ghost use Rattle.iddqd_store.specs.Store.{item_at, IsOccupied, store_len, vacant, HasRoomFor, Updates, SameItems, MovesLast, EndsOccupied, IsStoreClone};
-ghost use Rattle.iddqd_store.specs.declared.errors.TryReserveErrorKind.TheVariants.{CapacityOverflow, AllocError as OutOfMemory};
 
 use crate::errors::TryReserveError;
 use chain::{NO_SLOT, Slot, fill_first, vacate};
@@ -57,8 +55,16 @@ impl<T> ItemStore<T> {
         ensures capacity { result.capacity ≡ 0 }
         ensures limit { result.limit ≡ limit }
     {
+        ItemStore::over(Vec::new(alloc), limit)
+    }
+
+    // The store over a vector without slots.
+    fn over(slots: Vec<Slot<T>>, limit: u32) -> Self
+        requires empty { slots.items ≡ [] }
+        ensures { result ≡ record { slots = []; capacity = vec_capacity slots; limit = limit } }
+    {
         ItemStore {
-            slots: Vec::new(alloc),
+            slots,
             len: 0,
             first_vacant: NO_SLOT,
             limit,
@@ -108,43 +114,6 @@ impl<T> ItemStore<T> {
         ensures { result ≡ self.now.limit }
     {
         self.limit
-    }
-
-    /// Makes room for `additional` more items. `CapacityOverflow` where the limit has no room for
-    /// them, else `AllocError` where memory was refused; the slots stay as they were, and where
-    /// there is room it takes no memory.
-    #[inline]
-    pub fn try_reserve(&mut self, additional: usize) -> Result<(), TryReserveError>
-        ensures ok { OnOk result (HasRoomFor self.new additional) }
-        ensures overflow { (result ≡ Err CapacityOverflow) ↔ (self.old.limit < store_len self.old + additional) }
-        ensures memory { result ≡ Err OutOfMemory → self.old.capacity < store_len self.old + additional }
-        ensures rest { self.new ≡ record self.old { capacity = self.new.capacity } }
-        ensures capacity { self.old.capacity ≤ self.new.capacity }
-    {
-        if additional > self.limit as usize - self.len {
-            return Err(TryReserveError::capacity_overflow());
-        }
-        if additional > self.slots.capacity() - self.len {
-            return self.grow(additional);
-        }
-        Ok(())
-    }
-
-    // Makes room that is not there yet.
-    #[cold]
-    #[inline(never)]
-    fn grow(&mut self, additional: usize) -> Result<(), TryReserveError>
-        requires limit { store_len self.old + additional ≤ self.old.limit }
-        requires needed { self.old.capacity < store_len self.old + additional }
-        ensures ok { OnOk result (HasRoomFor self.new additional) }
-        ensures err { OnErr result (result ≡ Err OutOfMemory) }
-        ensures rest { self.new ≡ record self.old { capacity = self.new.capacity } }
-        ensures capacity { self.old.capacity ≤ self.new.capacity }
-    {
-        let vacant = self.slots.len() - self.len;
-        self.slots
-            .reserve(additional - vacant)
-            .map_err(|_| TryReserveError::alloc_error())
     }
 
     /// The item of the slot; `None` where the slot is vacant or there is no such slot.
@@ -257,24 +226,6 @@ impl<T> ItemStore<T> {
         self.first_vacant = move_last(&mut self.slots, hole);
         self.first_vacant = cut_vacant(&mut self.slots, self.first_vacant);
         Some((last as u32, hole))
-    }
-
-    /// Gives memory back, but for room for `min_capacity` items and for those that are there (the
-    /// crate's `shrink_capacity_to`). No slot may be vacant, as after `last_into_hole` answered
-    /// `None`. Refused or not, the slots stay as they were; it is refused only where there is memory
-    /// to give back, and without items and without `min_capacity` it gives all of it back.
-    pub fn shrink_to(&mut self, min_capacity: usize) -> Result<(), TryReserveError>
-        requires { vacant self.old ≡ 0 }
-        ensures err { OnErr result (result ≡ Err OutOfMemory) }
-        ensures needed { OnErr result (max min_capacity (store_len self.old) < self.old.capacity) }
-        ensures frees { store_len self.old ≡ 0 → min_capacity ≡ 0 → OnOk result (self.new.capacity ≡ 0) }
-        ensures rest { self.new ≡ record self.old { capacity = self.new.capacity } }
-        ensures lowers { self.new.capacity ≤ self.old.capacity }
-        ensures keeps_items { store_len self.old ≤ self.new.capacity }
-        ensures keeps_room { min min_capacity self.old.capacity ≤ self.new.capacity }
-    {
-        self.slots.shrink_to(min_capacity);
-        Ok(())
     }
 
     /// A store of the same limit with a clone of each item in its slot, and the same slots vacant.

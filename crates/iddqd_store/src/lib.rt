@@ -8,6 +8,8 @@ pub mod laws;
 mod queries;
 mod steps;
 mod text;
+mod validation;
+mod visits;
 
 pub use errors::{DuplicateItem, Few, InsertError, Refused, TryReserveError};
 pub use item_store::ItemStore;
@@ -15,3 +17,5 @@ pub use items::{IdHashItem, IdOrdItem};
 pub use queries::{Comparable, Equivalent};
 pub use steps::Steps;
 pub use text::Text;
+pub use validation::{ValidateCompact, ValidationError};
+pub use visits::Visit;

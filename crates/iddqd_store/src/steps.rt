@@ -61,22 +61,3 @@ impl Steps {
         query.equivalent(key)
     }
 }
-
-#[cfg(test)]
-mod tests {
-    use super::*;
-
-    // Each comparison is one step, and at the greatest count the count stays.
-    #[test]
-    fn counts(rt: HostRuntime) {
-        let mut steps = Steps::new();
-        assert_eq!(rt; steps.compare(&1u32, &2), Ordering::Less);
-        assert_eq!(rt; steps.compare(&2u32, &2), Ordering::Equal);
-        assert!(rt; steps.equal(&2u32, &2));
-        assert!(rt; !steps.equal(&2u32, &3));
-        assert_eq!(rt; steps.count(), 4);
-        let mut full = Steps { count: u32::MAX };
-        assert!(rt; full.equal(&2u32, &2));
-        assert_eq!(rt; full.count(), 4_294_967_295);
-    }
-}

@@ -50,35 +50,3 @@ impl Comparable<String> for Text<'_> {
         compare_texts(self.0, key.as_str())
     }
 }
-
-#[cfg(test)]
-mod tests {
-    use super::*;
-    use std::hash::{BuildHasher, BuildHasherDefault, FoldHasher, Hash};
-    use std::test::Fail;
-
-    fn stands_for<Q: Comparable<String>>(query: &Q, key: &String) -> (bool, Ordering) {
-        (query.equivalent(key), query.compare(key))
-    }
-
-    // A text stands to a key as the `String` of the same text does, and hashes as it does.
-    #[test]
-    fn stands_as_its_string(rt: HostRuntime) -> Result<(), Fail> {
-        let key = "foo".to_string(rt.alloc())?;
-        for (text, equal, order) in [
-            ("foo", true, Ordering::Equal),
-            ("fo", false, Ordering::Less),
-            ("fop", false, Ordering::Greater),
-        ] {
-            assert_eq!(rt; stands_for(&Text(text), &key), (equal, order));
-            assert_eq!(rt;
-                stands_for(&text.to_string(rt.alloc())?, &key),
-                (equal, order)
-            );
-        }
-        let hasher: BuildHasherDefault<FoldHasher> = BuildHasherDefault::new();
-        assert_eq!(rt; hasher.hash_one(Text("foo")), hasher.hash_one(&key));
-        assert_ne!(rt; hasher.hash_one(Text("fop")), hasher.hash_one(&key));
-        Ok(())
-    }
-}

@@ -1,20 +1,20 @@
 //! Lookups and removals.
-ghost use Rattle.std.specs.Prelude.{◌≡◌, ◌+◌, IfNone, IfSome, OnSome, IsTrue, option_copied, is_some};
+ghost use Rattle.std.specs.Prelude.{◌≡◌, ◌+◌, ◌≤◌, IfNone, IfSome, OnSome, IsTrue, option_copied, is_some};
 ghost use Rattle.iddqd_core.specs.Contents.{find_item, without};
 ghost use Rattle.iddqd_core.specs.Hashing.{HashesAs, hash_under};
 ghost use Rattle.iddqd_core.specs.Holding.{LeavesSlot};
 
-use super::paired::{find_slot, take_out};
+use super::paired::{find_slot, find_slot_counted, take_out};
 use super::{IdHashMap, Lookups};
-use iddqd_core::{Equivalent, IdHashItem};
+use iddqd_core::{Equivalent, IdHashItem, Steps};
 use std::hash::{BuildHasher, Hash};
 
 impl<T: IdHashItem, S: BuildHasher> IdHashMap<T, S> {
-    ghost use Rattle.iddqd.specs.HashItems.{held};
+    ghost use Rattle.iddqd.specs.HashItems.{held, of_stored_hash};
     ghost use Rattle.iddqd.specs.HashMap.{KeepsSpare, SpareFits};
 
-    /// The item that the query finds, or `None`. It hashes the query once, compares keys only at items of the same stored
-    /// hash, and fetches the item found once more to lend it.
+    /// The item that the query finds, or `None`, by as many comparisons as `get_counted`. It hashes the query once, and
+    /// fetches the item found once more to lend it.
     #[inline]
     pub fn get<Q: Hash + Equivalent<T::Key>>(&self, query: &Q) -> Option<&T>
         requires keyed { ⟦<IdHashMap<T, S> as Lookups>⟧.keyed self.now }
@@ -22,17 +22,41 @@ impl<T: IdHashItem, S: BuildHasher> IdHashMap<T, S> {
         ensures found { option_copied result ≡ find_item T.key (Q.equivalent query.now) self.now.items }
         ensures spare { SpareFits self.now }
     {
-        self.get_hashed(self.hasher.hash_one(query), query)
+        self.get_counted(query, &mut Steps::new())
+    }
+
+    /// As `get`, with the comparisons counted (ours): at most as many as there are items whose key has the query's hash.
+    #[inline]
+    pub fn get_counted<Q: Hash + Equivalent<T::Key>>(
+        &self,
+        query: &Q,
+        steps: &mut Steps,
+    ) -> Option<&T>
+        requires keyed { ⟦<IdHashMap<T, S> as Lookups>⟧.keyed self.now }
+        requires hashes { HashesAs (Q.equivalent query.now) (Q.hash_input query.now) T.Key.hash_input }
+        ensures found { option_copied result ≡ find_item T.key (Q.equivalent query.now) self.now.items }
+        ensures spare { SpareFits self.now }
+        ensures steps { steps.new ≤ steps.old + of_stored_hash self.now (hash_under S.BuildHasher S.Hasher.Hasher self.now.hasher (Q.hash_input query.now)) }
+        ensures counts_on { steps.old ≤ steps.new }
+    {
+        self.get_hashed(self.hasher.hash_one(query), query, steps)
     }
 
     // The same, where the query's hash is known.
     #[inline]
-    pub(super) fn get_hashed<Q: Equivalent<T::Key>>(&self, hash: u64, query: &Q) -> Option<&T>
+    pub(super) fn get_hashed<Q: Equivalent<T::Key>>(
+        &self,
+        hash: u64,
+        query: &Q,
+        steps: &mut Steps,
+    ) -> Option<&T>
         requires keyed { ⟦<IdHashMap<T, S> as Lookups>⟧.keyed self.now }
         requires hash { (k : T.Key) → IsTrue (Q.equivalent query.now k) → hash_under S.BuildHasher S.Hasher.Hasher self.now.hasher (T.Key.hash_input k) ≡ hash }
-        ensures { option_copied result ≡ find_item T.key (Q.equivalent query.now) self.now.items }
+        ensures found { option_copied result ≡ find_item T.key (Q.equivalent query.now) self.now.items }
+        ensures steps { steps.new ≤ steps.old + of_stored_hash self.now hash }
+        ensures counts_on { steps.old ≤ steps.new }
     {
-        let slot = find_slot(&self.store, &self.index, hash, query)?;
+        let slot = find_slot_counted(&self.store, &self.index, hash, query, steps)?;
         self.store.get(slot)
     }
 

@@ -7,7 +7,7 @@ ghost use Rattle.iddqd_core.specs.Refusal.{FindsNoRoom, OnRefused, RefusesInsert
 
 use super::paired::{exchange, find_slot, put_in, reserve_one};
 use super::{IdHashMap, Lookups};
-use iddqd_core::{DuplicateItem, Few, IdHashItem, InsertError, Refused};
+use iddqd_core::{DuplicateItem, Few, IdHashItem, InsertError, Refused, Steps};
 use std::hash::BuildHasher;
 
 impl<T: IdHashItem, S: BuildHasher> IdHashMap<T, S> {
@@ -27,7 +27,8 @@ impl<T: IdHashItem, S: BuildHasher> IdHashMap<T, S> {
         let hash = self.hasher.hash_one(item.key());
         if find_slot(&self.store, &self.index, hash, item.key()).is_some() {
             // Only the whole map can lend what outlives this call, so the item is looked for once more.
-            let existing = Few::One(self.get_hashed(hash, item.key()).unwrap());
+            let akin = self.get_hashed(hash, item.key(), &mut Steps::new());
+            let existing = Few::One(akin.unwrap());
             return Err(InsertError::Duplicate(DuplicateItem::internal_new(item, existing)));
         }
         match self.insert_new(hash, item) {

@@ -2,14 +2,14 @@
 ghost use Rattle.std.specs.Prelude.{◌≡◌, ℕ, ◌+◌, ◌-◌, ◌<◌, ◌≤◌, length, IfErr, IfSome, OnOk, OnErr, Some, None, IsTrue, Contains};
 ghost use Rattle.std.specs.Option.{option_and_then};
 ghost use Rattle.iddqd_core.specs.Contents.{NoTwoAkin, find_item};
-ghost use Rattle.iddqd_core.specs.HashPairs.{HasOneMore, SamePairs};
-ghost use Rattle.iddqd_core.specs.Refusal.{refusal_kind};
+ghost use Rattle.iddqd_core.specs.HashPairs.{HasOneMore, SamePairs, of_hash};
+ghost use Rattle.iddqd_core.specs.Refusal.{refusal_kind, reservation_kind};
 ghost use Rattle.iddqd_core.specs.Store.{item_at, store_len, vacant, HasRoomFor, Updates};
 ghost use Rattle.iddqd.specs.Paired.{PairsOccupied, hash_of_slot, items_in, spare_in};
 
 use iddqd_core::{Equivalent, HashIndex, IdHashItem, ItemStore, Steps, TryReserveError};
 
-// The slot of the item that the query finds. Keys are compared only at slots that are listed with this hash.
+// The slot of the item that the query finds, by as many comparisons as `find_slot_counted`.
 #[inline]
 pub(super) fn find_slot<T: IdHashItem, Q: Equivalent<T::Key>>(
     store: &ItemStore<T>,
@@ -23,7 +23,27 @@ pub(super) fn find_slot<T: IdHashItem, Q: Equivalent<T::Key>>(
     ensures item { option_and_then (item_at store.now) result ≡ find_item T.key (Q.equivalent query.now) (items_in store.now) }
     ensures listed { IfSome result (λ slot. Contains index.now.pairs (hash, slot)) }
 {
-    index.find(store, hash, query, &mut Steps::new())
+    find_slot_counted(store, index, hash, query, &mut Steps::new())
+}
+
+// The same with the comparisons counted. Keys are compared only at slots that are listed with this hash.
+#[inline]
+pub(super) fn find_slot_counted<T: IdHashItem, Q: Equivalent<T::Key>>(
+    store: &ItemStore<T>,
+    index: &HashIndex,
+    hash: u64,
+    query: &Q,
+    steps: &mut Steps,
+) -> Option<u32>
+    requires paired { PairsOccupied store.now index.now.pairs }
+    requires differ { NoTwoAkin T.key T.Key.eq (items_in store.now) }
+    requires stored { (slot : ℕ) (x : T) → item_at store.now slot ≡ Some x → IsTrue (Q.equivalent query.now (T.key x)) → hash_of_slot index.now.pairs slot ≡ hash }
+    ensures item { option_and_then (item_at store.now) result ≡ find_item T.key (Q.equivalent query.now) (items_in store.now) }
+    ensures listed { IfSome result (λ slot. Contains index.now.pairs (hash, slot)) }
+    ensures steps { steps.new ≤ steps.old + of_hash index.now.pairs hash }
+    ensures counts_on { steps.old ≤ steps.new }
+{
+    index.find(store, hash, query, steps)
 }
 
 // Makes room for one more item in both: the limit is asked first, then memory.
@@ -49,6 +69,28 @@ pub(super) fn reserve_one<T>(
     }
     store.try_reserve(1)?;
     index.try_reserve(1)
+}
+
+// Makes room for so many more items in both: the limit is asked first, then memory.
+pub(super) fn reserve_room<T>(
+    store: &mut ItemStore<T>,
+    index: &mut HashIndex,
+    additional: usize,
+) -> Result<(), TryReserveError>
+    requires paired { PairsOccupied store.old index.old.pairs }
+    ensures paired { PairsOccupied store.new index.new.pairs }
+    ensures in_limit { OnOk result (length index.old.pairs + additional ≤ store.old.limit) }
+    ensures spare_left { OnOk result (additional ≤ spare_in store.new index.new) }
+    ensures capacity_left { OnOk result (length index.old.pairs + additional ≤ store.new.capacity) }
+    ensures kind { IfErr result (λ e. e ≡ reservation_kind store.old.limit (length index.old.pairs + additional)) }
+    ensures needed { OnErr result (spare_in store.old index.old < additional) }
+    ensures store { store.new ≡ record store.old { capacity = store.new.capacity } }
+    ensures capacity { store.old.capacity ≤ store.new.capacity }
+    ensures pairs { SamePairs index.old.pairs index.new.pairs }
+    ensures spare { index.old.spare ≤ index.new.spare }
+{
+    store.try_reserve(additional)?;
+    index.try_reserve(additional)
 }
 
 // Puts the item into a slot, and the slot into the index under the hash. It takes no memory.

@@ -39,7 +39,8 @@ pub(crate) fn add(
     levels + 1
 }
 
-// Takes the slot at the position out, and answers it with how many levels there are then.
+// Takes the slot at the position out, and answers it with how many levels there are then. Where the root falls, there are
+// then as many unused nodes as are wanted.
 pub(crate) fn remove(root: &mut Node, levels: usize, at: u32, spare: &mut Spare) -> (u32, usize)
     requires levels { levels ≡ root.old.height }
     requires place { at < length root.old.slots }
@@ -53,6 +54,7 @@ pub(crate) fn remove(root: &mut Node, levels: usize, at: u32, spare: &mut Spare)
     ensures dense { IsDense root.new }
     ensures wanted { 1 < result.1 → (spare.new.wanted ≡ result.1 + 1) × (result.1 < spare.new.room) }
     ensures kept { spare.old.count ≤ spare.new.count }
+    ensures fallen { result.1 < levels → spare.new.wanted ≤ spare.new.count }
 {
     let slot = root.remove(at, spare);
     if levels == 1 || root.width() > 0 {

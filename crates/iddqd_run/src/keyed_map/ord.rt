@@ -5,7 +5,7 @@ ghost use Rattle.iddqd_run.specs.Step.{WithoutSpare, spareless};
 
 use super::KeyedMap;
 use iddqd::errors::{InsertError, Refused};
-use iddqd::{IdOrdItem, IdOrdMap};
+use iddqd::{IdOrdItem, IdOrdMap, Visit};
 
 // Each call is the map's own of that name.
 impl<T: IdOrdItem> KeyedMap for IdOrdMap<T> {
@@ -39,6 +39,20 @@ impl<T: IdOrdItem> KeyedMap for IdOrdMap<T> {
 
     fn remove(&mut self, query: &T::Key) -> Option<T> {
         self.remove(query)
+    }
+
+    fn visit<V: Visit<T>>(&mut self, query: &T::Key, visitor: &mut V) -> Option<bool> {
+        let mut found = self.get_mut(query)?;
+        let answer = visitor.visit(&mut found);
+        found.finish();
+        Some(answer)
+    }
+
+    fn retain_mut<V: Visit<T>>(&mut self, visitor: &mut V)
+    where
+        T: Drop,
+    {
+        self.retain_mut(visitor);
     }
 
     fn clear(&mut self)

@@ -1,5 +1,5 @@
 //! Removal: a branch that is a slot short is mended with a neighbour.
-ghost use Rattle.std.specs.Prelude.{◌≡◌, ◌+◌, ◌^◌, ◌<◌, ◌≤◌, All, length, insert, remove, slice_index, slice_set, slice_index_or};
+ghost use Rattle.std.specs.Prelude.{◌≡◌, ◌+◌, ◌-◌, ◌^◌, ◌<◌, ◌≤◌, All, min, length, insert, remove, slice_index, slice_set, slice_index_or};
 ghost use Rattle.iddqd_ord_index.specs.Neighbours.{given_back, IsPair, IsNear};
 ghost use Rattle.iddqd_ord_index.specs.Nodes.{below, AreBranches};
 ghost use Rattle.iddqd_ord_index.specs.Shape.{levels, lists, starts, unused, weave, IsBranch, IsDense, IsForked};
@@ -71,6 +71,7 @@ fn mend(
     ensures width { (length slots.new.items ≤ length slots.old.items) × (length slots.old.items ≤ length slots.new.items + 1) }
     ensures kept { length slots.new.items ≡ length slots.old.items → spare.new ≡ spare.old }
     ensures gives_back { length slots.new.items < length slots.old.items → spare.new ≡ given_back spare.old }
+    ensures short { length slots.new.items < length slots.old.items → width < 5 }
 {
     if width >= 5 {
         return;
@@ -105,7 +106,8 @@ fn replace_own(slots: &mut ArrayVec<u32, 11>, i: usize, rest: u32, len: u32, tak
 }
 
 impl Node {
-    // Takes the slot at the position out. The node's own width may fall by one, and so below what a branch needs.
+    // Takes the slot at the position out. The node's own width may fall by one, and so below what a branch needs. Where it
+    // falls, two nodes have merged at each level below, so that each of these has given one back, as long as it is wanted.
     pub(crate) fn remove(&mut self, at: u32, spare: &mut Spare) -> u32
         requires place { at < length self.old.slots }
         requires room { length self.old.slots < 2 ^ 32 }
@@ -116,6 +118,7 @@ impl Node {
         ensures width { self.old.width ≤ self.new.width + 1 }
         ensures dense { IsDense self.new }
         ensures kept { spare.old.count ≤ spare.new.count }
+        ensures gives_back { self.new.width < self.old.width → min (spare.old.count + self.old.height - 1) spare.old.wanted ≤ spare.new.count }
         ensures spare { (spare.new.wanted ≡ spare.old.wanted) × (spare.new.room ≡ spare.old.room) }
     {
         if self.branches.is_empty() {

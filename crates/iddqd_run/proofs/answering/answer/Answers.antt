@@ -3,8 +3,8 @@ use Rattle.std.proofs.lemmas.Bool.{eqb-true}
 use Rattle.std.proofs.lemmas.List.{nil_from_length}
 use Rattle.iddqd_run.specs.Answer.{RepliesWithRefusals}
 use Rattle.iddqd_run.specs.Lines.{lines_of}
-use Rattle.iddqd_run.specs.Shown.{shown, refusals_of, AnswersRequest}
-use Rattle.iddqd_run.proofs.ReplyLemmas.{line_step, plain_replies, refusals_of-le}
+use Rattle.iddqd_run.specs.Shown.{WritesReply}
+use Rattle.iddqd_run.proofs.ReplyLemmas.{line_step, plain_replies}
 use Rattle.iddqd_run.proofs.ShownLemmas.{nothing_shown}
 use Rattle.iddqd_run.proofs.answering.answer.Goals as goal
 
@@ -26,24 +26,26 @@ loop-rest-preserved g c =
     let kept = c.loop-rest.invariant in
     let line = c.first_line.result.0.now in
     let after = c.first_line.result.1.now in
-    let reply = c.reply-reply.result in
+    let refusals = c.in_ok-refusals.field-0 in
     let old = (g.M.KeyedMap.state c.loop-rest.map).items in
-    let new = (g.M.KeyedMap.state c.reply-reply.new.map).items in
+    let new = (g.M.KeyedMap.state c.answer_line.new.map).items in
     let input = c.args.input.now in
     let front = string_bytes c.loop-rest.text in
-    let answered = subst (λ request. AnswersRequest kind request old reply new) c.parse.ensures c.reply-reply.ensures.answered in
-    let step = line_step kind line (lines_of after) old new kept.entries kept.shows reply answered in
+    let line_text = string_bytes c.answer_line.new.text in
+    let answered = subst (λ request. WritesReply kind request old refusals new front line_text) c.parse.ensures c.in_ok-refusals.ensures.answered in
+    let reply = answered.reply in
+    let step = line_step kind line (lines_of after) old new kept.entries kept.shows refusals reply answered.answers in
     record {
       entries = step.after;
       shows = step.is;
       replied = λ more text later.
-          let here = subst (λ lines. RepliesWithRefusals kind lines kept.entries (refusals_of reply + more) (shown reply ++ 10 ∷ text)) (sym c.first_line.ensures.lines) (step.step more text later) in
-          let all = kept.replied (refusals_of reply + more) (shown reply ++ 10 ∷ text) here in
-          let count : c.loop-rest.refusals + (refusals_of reply + more) ≡ c.loop-rest.refusals + c.refusals-refusals.result + more = omega (arith, c.refusals-refusals.ensures) in
-          let bytes : front ++ (shown reply ++ 10 ∷ text) ≡ string_bytes c.writeln.new.self ++ text = joined front (shown reply) text ∙ ap (λ bs. bs ++ text) (sym c.in_ok-writeln.ensures.bytes) in
-          subst (λ n. RepliesWithRefusals kind (lines_of input) [] n (string_bytes c.writeln.new.self ++ text)) count (subst (λ bs. RepliesWithRefusals kind (lines_of input) [] (c.loop-rest.refusals + (refusals_of reply + more)) bs) bytes all);
-      table = c.reply-reply.ensures.table;
-      counted = omega (arith, kept.counted, c.first_line.ensures.shorter, c.refusals-refusals.ensures, refusals_of-le reply);
+          let here = subst (λ lines. RepliesWithRefusals kind lines kept.entries (refusals + more) (reply ++ 10 ∷ text)) (sym c.first_line.ensures.lines) (step.step more text later) in
+          let all = kept.replied (refusals + more) (reply ++ 10 ∷ text) here in
+          let count : c.loop-rest.refusals + (refusals + more) ≡ c.loop-rest.refusals + refusals + more = omega arith in
+          let bytes : front ++ (reply ++ 10 ∷ text) ≡ line_text ++ text = joined front reply text ∙ ap (λ bs. bs ++ text) (sym answered.written) in
+          subst (λ n. RepliesWithRefusals kind (lines_of input) [] n (line_text ++ text)) count (subst (λ bs. RepliesWithRefusals kind (lines_of input) [] (c.loop-rest.refusals + (refusals + more)) bs) bytes all);
+      table = c.answer_line.ensures.table;
+      counted = omega (arith, kept.counted, c.first_line.ensures.shorter, step.few);
     }
 
 pub returns : goal.returns

@@ -31,7 +31,7 @@ returns-then-is_some g c =
     let existing = c.unwrap.result.now in
     let keyed = subst (Keyed key eq input hash) (sym c.self.view_is) c.requires.keyed in
     let kept = subst (λ v. HashKeeps (Keyed key eq input hash) v v) c.self.view_is (unchanged key eq input hash m.hasher m.store m.index c.self.invariant keyed) in
-    let found : find_item key (eq (key x)) c.args.self.now.items ≡ Some existing = ap (λ k. find_item key (eq k) c.args.self.now.items) (sym c.key-then-is_some.ensures) ∙ sym c.get_hashed.ensures ∙ ap option_copied c.unwrap.ensures in (
+    let found : find_item key (eq (key x)) c.args.self.now.items ≡ Some existing = ap (λ k. find_item key (eq k) c.args.self.now.items) (sym c.key-then-is_some.ensures) ∙ sym c.get_hashed-akin.ensures.found ∙ ap option_copied c.unwrap.ensures in (
       (refl, λ _ h. cc, (kept, refl)),
       record { after = tt; absent = tt; refused = (c.internal_new.ensures.new, existing, subst (λ ds. IsLent ds existing) (sym c.internal_new.ensures.duplicates) refl, found); no_spare = tt },
     )

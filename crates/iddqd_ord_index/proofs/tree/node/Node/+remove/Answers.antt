@@ -10,7 +10,7 @@ use Rattle.iddqd_ord_index.specs.declared.tree.node.Node.{Node}
 use Rattle.iddqd_ord_index.proofs.AimLemmas.{starts_is, own_read, branch_is, branch_within, aim_in}
 use Rattle.iddqd_ord_index.proofs.BelowLemmas.{branches_put, length-lists}
 use Rattle.iddqd_ord_index.proofs.DenseLemmas.{dense_of, branch_some}
-use Rattle.iddqd_ord_index.proofs.RemoveLemmas.{IsShrunk, shrunk, given_or_kept}
+use Rattle.iddqd_ord_index.proofs.RemoveLemmas.{IsShrunk, shrunk, given_or_kept, one_more_back}
 use Rattle.iddqd_ord_index.proofs.WeaveLemmas.{starts_weave}
 use Rattle.iddqd_ord_index.proofs.tree.node.Node.+remove.Goals as goal
 
@@ -158,3 +158,17 @@ pub returns-clause-spare : goal.returns-clause-spare
 returns-clause-spare t c =
     let g = given_or_kept c.remove-taken.new.spare c.mend.new.spare (length c.replace_own-slot.new.slots.items) (length c.mend.new.slots.items) c.mend.ensures.width.0 c.mend.ensures.kept c.mend.ensures.gives_back in
     (g.1 ∙ c.remove-taken.ensures.spare.0, g.2 ∙ c.remove-taken.ensures.spare.1)
+
+pub returns-clause-gives_back : goal.returns-clause-gives_back
+returns-clause-gives_back t c = λ falls.
+    let ts = below c.self.inside.branches in
+    let i = c.aim-i.result.0 in
+    let f = c.self.invariant.forked in
+    let b = branch_is ts c.self.inside.slots.items f i (aim_in ts c.self.inside.slots.items c.args.at i c.aim-i.result.1 f c.aim-i.ensures) in
+    let v : c.deref_mut.result.now ≡ get_or ts i unused = c.deref_mut.ensures.value ∙ c.take-node.ensures.node in
+    let merged : length c.mend.new.slots.items < length c.replace_own-slot.new.slots.items = omega (arith, falls, c.replace_own-slot.ensures.len, ap (λ x. x.width) c.self.view_is) in
+    let short = c.mend.ensures.short merged in
+    let fell : c.remove-taken.new.self.width < c.deref_mut.result.now.width = omega (arith, short, c.width-width.ensures.width, ap (λ x. x.width) c.deref.ensures, b.wide, ap (λ x. x.width) v) in
+    let below_it = c.remove-taken.ensures.gives_back fell in
+    let more = one_more_back c.remove-taken.new.spare c.mend.new.spare (c.args.spare.now.count + c.deref_mut.result.now.height - 1) (c.mend.ensures.gives_back merged) (omega (arith, below_it, c.remove-taken.ensures.spare.0)) in
+    omega (arith, more, b.height, ap (λ x. x.height) v, ap (λ x. x.height) c.self.view_is, c.remove-taken.ensures.spare.0, b.dense.low)

@@ -1,0 +1,159 @@
+//! What is timed: the phases of one run over one map.
+use crate::items::BenchKey;
+use crate::subjects::Subject;
+use std::alloc::{AllocError, Global};
+use std::io;
+use std::time::{Clock, Instant};
+
+/// The phases, in their order.
+pub(crate) const PHASES: [&str; 6] = ["insertion", "lookup", "absent", "walk", "churn", "removal"];
+
+/// The numbers of one size: those that go in, those that come later, and the order in which both are asked for.
+#[derive(Drop)]
+pub(crate) struct Plan {
+    size: u64,
+    shuffled: Vec<u64>,
+}
+
+/// The nanoseconds of each phase, and a sum over all that was found.
+#[derive(Clone, Copy)]
+pub(crate) struct Times {
+    pub(crate) nanos: [u64; 6],
+    pub(crate) found: u64,
+}
+
+/// The least times of both, and the same sum.
+impl Times {
+    pub(crate) fn least(self, other: Times) -> Times {
+        let mut nanos = self.nanos;
+        for (time, again) in nanos.iter_mut().zip(other.nanos) {
+            *time = (*time).min(again);
+        }
+        Times {
+            nanos,
+            found: self.found,
+        }
+    }
+}
+
+impl Plan {
+    /// The numbers below the size, in an order that a generator of a fixed seed gives.
+    pub(crate) fn new(alloc: Global, size: u64) -> Result<Plan, AllocError> {
+        let mut shuffled = Vec::new(alloc);
+        for number in 0..size {
+            shuffled.push(number)?;
+        }
+        let mut seed = 1u64;
+        for last in 1..shuffled.len() {
+            seed = seed
+                .wrapping_mul(6_364_136_223_846_793_005)
+                .wrapping_add(1_442_695_040_888_963_407);
+            let other = (seed >> 33) as usize % (last + 1);
+            shuffled.swap(last, other);
+        }
+        Ok(Plan { size, shuffled })
+    }
+
+    // The keys of these numbers, each so many above.
+    fn keys<K: BenchKey>(&self, alloc: Global, above: u64) -> Result<Vec<K>, AllocError> {
+        let mut keys = Vec::with_capacity(alloc, self.shuffled.len())?;
+        for number in self.shuffled.as_slice() {
+            keys.push(K::of_number(alloc, number.wrapping_add(above))?)?;
+        }
+        Ok(keys)
+    }
+
+    // What goes in for these numbers, each so many above, in another order.
+    fn loads<S: Subject>(&self, alloc: Global, above: u64) -> Result<Vec<S::Load>, AllocError> {
+        let mut loads = Vec::with_capacity(alloc, self.shuffled.len())?;
+        for number in self.shuffled.as_slice().iter().rev() {
+            loads.push(S::load(alloc, number.wrapping_add(above))?)?;
+        }
+        Ok(loads)
+    }
+}
+
+fn nanos_since(clock: &impl Clock, start: Instant) -> io::Result<u64> {
+    let time = start.elapsed(clock)?;
+    Ok(
+        time.as_secs()
+            .saturating_mul(1_000_000_000)
+            .saturating_add(u64::from(time.subsec_nanos())),
+    )
+}
+
+// How many of them went in.
+fn put_all<S: Subject>(map: &mut S, loads: Vec<S::Load>) -> u64 {
+    let mut count = 0u64;
+    for load in loads {
+        if map.put(load) {
+            count = count.wrapping_add(1);
+        }
+    }
+    count
+}
+
+// The sum of the values that are found.
+fn look_up_all<S: Subject>(map: &S, keys: &[S::Key]) -> u64 {
+    let mut found = 0u64;
+    for key in keys {
+        found = found.wrapping_add(map.value(key).unwrap_or(1));
+    }
+    found
+}
+
+// The sum of the values that are taken out.
+fn take_all<S: Subject>(map: &mut S, keys: &[S::Key]) -> u64 {
+    let mut found = 0u64;
+    for key in keys {
+        found = found.wrapping_add(map.take(key).unwrap_or(1));
+    }
+    found
+}
+
+// Takes one item out and puts another in, again and again: the sum of the values that are taken out.
+fn churn<S: Subject>(map: &mut S, keys: &[S::Key], loads: Vec<S::Load>) -> u64 {
+    let mut found = 0u64;
+    for (key, load) in keys.iter().zip(loads) {
+        found = found.wrapping_add(map.take(key).unwrap_or(1));
+        if map.put(load) {
+            found = found.wrapping_add(1);
+        }
+    }
+    found
+}
+
+/// Times each phase over a new map.
+pub(crate) fn timed<S: Subject>(
+    clock: &impl Clock,
+    alloc: Global,
+    plan: &Plan,
+) -> io::Result<Times> {
+    let present: Vec<S::Key> = plan.keys(alloc, 0)?;
+    let absent: Vec<S::Key> = plan.keys(alloc, plan.size)?;
+    let loads = plan.loads::<S>(alloc, 0)?;
+    let more = plan.loads::<S>(alloc, plan.size)?;
+    let mut map = S::empty(alloc);
+    let start = Instant::now(clock)?;
+    let mut found = put_all(&mut map, loads);
+    let insertion = nanos_since(clock, start)?;
+    let start = Instant::now(clock)?;
+    found = found.wrapping_add(look_up_all(&map, present.as_slice()));
+    let lookup = nanos_since(clock, start)?;
+    let start = Instant::now(clock)?;
+    found = found.wrapping_add(look_up_all(&map, absent.as_slice()));
+    let absent_lookup = nanos_since(clock, start)?;
+    let start = Instant::now(clock)?;
+    found = found.wrapping_add(map.sum());
+    let walk = nanos_since(clock, start)?;
+    let start = Instant::now(clock)?;
+    found = found.wrapping_add(churn(&mut map, present.as_slice(), more));
+    let churned = nanos_since(clock, start)?;
+    let start = Instant::now(clock)?;
+    found = found.wrapping_add(take_all(&mut map, absent.as_slice()));
+    let removal = nanos_since(clock, start)?;
+    Ok(Times {
+        nanos: [insertion, lookup, absent_lookup, walk, churned, removal],
+        found,
+    })
+}

@@ -1,0 +1,169 @@
+//! The maps that are timed, under one trait: ours, and std's with each key beside its item.
+use crate::items::{BenchKey, Item, item_of};
+use iddqd::{IdHashMap, IdOrdMap};
+use iddqd_testing::tried::Tried;
+use std::alloc::{AllocError, Global};
+use std::collections::{BTreeMap, HashMap};
+
+/// A map that is timed.
+pub(crate) trait Subject: Drop {
+    /// What its items are found by.
+    type Key: BenchKey;
+
+    /// What goes in: it is made before the clock runs.
+    type Load: Drop;
+
+    /// A map without items.
+    fn empty(alloc: Global) -> Self;
+
+    /// What goes in for the number.
+    fn load(alloc: Global, number: u64) -> Result<Self::Load, AllocError>;
+
+    /// Whether it went in.
+    fn put(&mut self, load: Self::Load) -> bool;
+
+    /// The value of the key's item.
+    fn value(&self, key: &Self::Key) -> Option<u64>;
+
+    /// Takes out the key's item, and answers its value.
+    fn take(&mut self, key: &Self::Key) -> Option<u64>;
+
+    /// The sum of all values, by a walk.
+    fn sum(&self) -> u64;
+}
+
+impl<K: BenchKey> Subject for Tried<IdHashMap<Item<K>>> {
+    type Key = K;
+
+    type Load = Item<K>;
+
+    fn empty(alloc: Global) -> Tried<IdHashMap<Item<K>>> {
+        Tried::new(IdHashMap::new(alloc))
+    }
+
+    fn load(alloc: Global, number: u64) -> Result<Item<K>, AllocError> {
+        item_of(alloc, number)
+    }
+
+    fn put(&mut self, load: Item<K>) -> bool {
+        self.is_put(load)
+    }
+
+    fn value(&self, key: &K) -> Option<u64> {
+        Some(self.get(key)?.value)
+    }
+
+    fn take(&mut self, key: &K) -> Option<u64> {
+        Some(self.remove(key)?.value)
+    }
+
+    fn sum(&self) -> u64 {
+        let mut sum = 0u64;
+        for item in self.map().iter() {
+            sum = sum.wrapping_add(item.value);
+        }
+        sum
+    }
+}
+
+impl<K: BenchKey> Subject for Tried<IdOrdMap<Item<K>>> {
+    type Key = K;
+
+    type Load = Item<K>;
+
+    fn empty(alloc: Global) -> Tried<IdOrdMap<Item<K>>> {
+        Tried::new(IdOrdMap::new(alloc))
+    }
+
+    fn load(alloc: Global, number: u64) -> Result<Item<K>, AllocError> {
+        item_of(alloc, number)
+    }
+
+    fn put(&mut self, load: Item<K>) -> bool {
+        self.is_put(load)
+    }
+
+    fn value(&self, key: &K) -> Option<u64> {
+        Some(self.get(key)?.value)
+    }
+
+    fn take(&mut self, key: &K) -> Option<u64> {
+        Some(self.remove(key)?.value)
+    }
+
+    fn sum(&self) -> u64 {
+        let mut sum = 0u64;
+        for item in self.map().iter() {
+            sum = sum.wrapping_add(item.value);
+        }
+        sum
+    }
+}
+
+impl<K: BenchKey> Subject for HashMap<K, Item<K>> {
+    type Key = K;
+
+    type Load = (K, Item<K>);
+
+    fn empty(alloc: Global) -> HashMap<K, Item<K>> {
+        HashMap::new(alloc)
+    }
+
+    fn load(alloc: Global, number: u64) -> Result<(K, Item<K>), AllocError> {
+        Ok((K::of_number(alloc, number)?, item_of(alloc, number)?))
+    }
+
+    fn put(&mut self, load: (K, Item<K>)) -> bool {
+        matches!(self.insert(load.0, load.1), Ok(None))
+    }
+
+    fn value(&self, key: &K) -> Option<u64> {
+        Some(self.get(key)?.value)
+    }
+
+    fn take(&mut self, key: &K) -> Option<u64> {
+        Some(self.remove(key)?.value)
+    }
+
+    fn sum(&self) -> u64 {
+        let mut sum = 0u64;
+        for item in self.values() {
+            sum = sum.wrapping_add(item.value);
+        }
+        sum
+    }
+}
+
+impl<K: BenchKey> Subject for BTreeMap<K, Item<K>> {
+    type Key = K;
+
+    type Load = (K, Item<K>);
+
+    fn empty(alloc: Global) -> BTreeMap<K, Item<K>> {
+        BTreeMap::new(alloc)
+    }
+
+    fn load(alloc: Global, number: u64) -> Result<(K, Item<K>), AllocError> {
+        Ok((K::of_number(alloc, number)?, item_of(alloc, number)?))
+    }
+
+    fn put(&mut self, load: (K, Item<K>)) -> bool {
+        matches!(self.insert(load.0, load.1), Ok(None))
+    }
+
+    fn value(&self, key: &K) -> Option<u64> {
+        Some(self.get(key)?.value)
+    }
+
+    fn take(&mut self, key: &K) -> Option<u64> {
+        Some(self.remove(key)?.value)
+    }
+
+    fn sum(&self) -> u64 {
+        let mut sum = 0u64;
+        for item in self.values() {
+            sum = sum.wrapping_add(item.value);
+        }
+        sum
+    }
+}

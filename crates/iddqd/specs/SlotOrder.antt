@@ -1,0 +1,13 @@
+-- Where a slot stands among the slots of a hash map, which rise.
+--     slots_below n slots      how many of the slots have a number below n
+--     behind slots n      the number behind the n-th slot, and 0 in front of the first
+use Rattle.std.specs.Prelude.{ℕ, ◌+◌, List, [], ◌∷◌, nat_lt, slice_index_or, if◌then◌else◌}
+use Rattle.std.proofs.Common.{zero, suc}
+
+abbrev pub slots_below : ℕ → List ℕ → ℕ
+slots_below n [] = 0
+slots_below n (s ∷ slots) = if nat_lt s n then suc (slots_below n slots) else slots_below n slots
+
+abbrev pub behind : List ℕ → ℕ → ℕ
+behind slots zero = 0
+behind slots (suc n) = slice_index_or slots n 0 + 1

@@ -1,0 +1,80 @@
+//! Room for items.
+ghost use Rattle.std.specs.Prelude.{◌≡◌, ◌+◌, ◌<◌, ◌≤◌, [], length, IfOk, IfErr, OnOk, OnErr};
+ghost use Rattle.iddqd_core.specs.Refusal.{reservation_kind};
+ghost use Rattle.iddqd.specs.HashMap.{HashKeeps};
+
+use super::paired::reserve_room;
+use super::{DefaultHashBuilder, IdHashMap, Lookups};
+use iddqd_core::{HashIndex, IdHashItem, ItemStore, TryReserveError};
+use iddqd_ord::MAX_ITEMS;
+use std::alloc::Global;
+use std::hash::BuildHasher;
+
+impl<T: IdHashItem> IdHashMap<T> {
+    /// As `with_capacity_and_hasher`, over the default hasher.
+    pub fn with_capacity(alloc: Global, capacity: usize) -> Result<Self, TryReserveError>
+        ensures empty { IfOk result (λ m. (m.items ≡ []) × (m.vacant ≡ 0) × (m.limit ≡ MAX_ITEMS)) }
+        ensures spare { IfOk result (λ m. capacity ≤ m.spare) }
+        ensures capacity { IfOk result (λ m. capacity ≤ m.capacity) }
+        ensures in_limit { OnOk result (capacity ≤ MAX_ITEMS) }
+        ensures refused { IfErr result (λ e. e ≡ reservation_kind MAX_ITEMS capacity) }
+        ensures keyed { IfOk result ⟦<IdHashMap<T> as Lookups>⟧.keyed }
+    {
+        IdHashMap::with_capacity_and_hasher(alloc, capacity, DefaultHashBuilder::new())
+    }
+}
+
+impl<T: IdHashItem, S: BuildHasher> IdHashMap<T, S> {
+    /// A map without items, with so many spare: the next `capacity` new keys meet no refusal. It is refused by the limit
+    /// where `capacity` is above `MAX_ITEMS`, and else for want of memory.
+    pub fn with_capacity_and_hasher(
+        alloc: Global,
+        capacity: usize,
+        hasher: S,
+    ) -> Result<Self, TryReserveError>
+    where
+        S: Drop,
+        ensures empty { IfOk result (λ m. (m.items ≡ []) × (m.vacant ≡ 0) × (m.limit ≡ MAX_ITEMS)) }
+        ensures spare { IfOk result (λ m. capacity ≤ m.spare) }
+        ensures capacity { IfOk result (λ m. capacity ≤ m.capacity) }
+        ensures hasher { IfOk result (λ m. m.hasher ≡ hasher) }
+        ensures in_limit { OnOk result (capacity ≤ MAX_ITEMS) }
+        ensures refused { IfErr result (λ e. e ≡ reservation_kind MAX_ITEMS capacity) }
+        ensures keyed { IfOk result ⟦<IdHashMap<T, S> as Lookups>⟧.keyed }
+    {
+        if capacity > MAX_ITEMS as usize {
+            return Err(TryReserveError::capacity_overflow());
+        }
+        let index = HashIndex::with_capacity(alloc, capacity)?;
+        let store = ItemStore::with_capacity(alloc, MAX_ITEMS, capacity)?;
+        Ok(IdHashMap::over(store, index, hasher))
+    }
+
+    /// Makes room for `additional` more items, in the store and in the index: as many new keys then meet no refusal. It is
+    /// refused by the limit where that has no room for them, before any memory is asked for, and else for want of memory,
+    /// which it needs only where the spare is short. The items stay, and the spare is no less. It hashes no key.
+    pub fn reserve(&mut self, additional: usize) -> Result<(), TryReserveError>
+        requires keyed { ⟦<IdHashMap<T, S> as Lookups>⟧.keyed self.old }
+        ensures spare { OnOk result (additional ≤ self.new.spare) }
+        ensures capacity { OnOk result (length self.old.items + additional ≤ self.new.capacity) }
+        ensures in_limit { OnOk result (length self.old.items + additional ≤ self.old.limit) }
+        ensures refused { IfErr result (λ e. e ≡ reservation_kind self.old.limit (length self.old.items + additional)) }
+        ensures needed { OnErr result (self.old.spare < additional) }
+        ensures kept { HashKeeps ⟦<IdHashMap<T, S> as Lookups>⟧.keyed self.old self.new }
+    {
+        reserve_room(&mut self.store, &mut self.index, additional)
+    }
+
+    /// The same call by its other name.
+    pub fn try_reserve(&mut self, additional: usize) -> Result<(), TryReserveError>
+        requires keyed { ⟦<IdHashMap<T, S> as Lookups>⟧.keyed self.old }
+        ensures spare { OnOk result (additional ≤ self.new.spare) }
+        ensures capacity { OnOk result (length self.old.items + additional ≤ self.new.capacity) }
+        ensures in_limit { OnOk result (length self.old.items + additional ≤ self.old.limit) }
+        ensures refused { IfErr result (λ e. e ≡ reservation_kind self.old.limit (length self.old.items + additional)) }
+        ensures needed { OnErr result (self.old.spare < additional) }
+        ensures kept { HashKeeps ⟦<IdHashMap<T, S> as Lookups>⟧.keyed self.old self.new }
+    {
+        self.reserve(additional)
+    }
+}

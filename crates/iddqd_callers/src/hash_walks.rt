@@ -1,0 +1,49 @@
+//! Walks that write and that retain, over a hash map.
+ghost use Rattle.std.specs.Prelude.{◌≡◌, map, filter, nat_lt};
+ghost use Rattle.iddqd_callers.specs.Zeroed.{zeroed, changed_to};
+
+use crate::items::Pair;
+use iddqd::{IdHashMap, Lookups};
+use std::hash::BuildHasher;
+
+/// Sets each value to zero.
+#[tactic(auto, using(crate::proofs::ZeroedLemmas::changed_none, crate::proofs::ZeroedLemmas::length_changed, crate::proofs::ZeroedLemmas::changed_step, crate::proofs::ZeroedLemmas::changed_all))]
+pub fn zero_all<S: BuildHasher>(all: &mut IdHashMap<Pair, S>)
+    requires keyed { ⟦<IdHashMap<Pair, S> as Lookups>⟧.keyed all.old }
+    ensures { all.new ≡ record all.old { items = map zeroed all.old.items } }
+{
+    let mut walk = all.iter_mut();
+    while let Some(pair) = walk.next() {
+        pair.value = 0;
+    }
+}
+
+/// Sets the first value to zero, and ends the walk there.
+#[tactic(auto, using(crate::proofs::ZeroedLemmas::changed_none, crate::proofs::ZeroedLemmas::changed_first))]
+pub fn zero_first<S: BuildHasher>(all: &mut IdHashMap<Pair, S>)
+    requires keyed { ⟦<IdHashMap<Pair, S> as Lookups>⟧.keyed all.old }
+    ensures { all.new ≡ record all.old { items = changed_to zeroed all.old.items 1 } }
+{
+    let mut walk = all.iter_mut();
+    if let Some(pair) = walk.next() {
+        pair.value = 0;
+    }
+}
+
+/// Sets each value to zero, and then asks the map, which is keyed still.
+pub fn zero_and_ask<S: BuildHasher>(all: &mut IdHashMap<Pair, S>) -> bool
+    requires keyed { ⟦<IdHashMap<Pair, S> as Lookups>⟧.keyed all.old }
+    ensures keyed { ⟦<IdHashMap<Pair, S> as Lookups>⟧.keyed all.new }
+{
+    zero_all(all);
+    all.contains_key(&4)
+}
+
+/// Keeps the items of greater value.
+pub fn keep_greater<S: BuildHasher>(all: &mut IdHashMap<Pair, S>, least: u32)
+    requires keyed { ⟦<IdHashMap<Pair, S> as Lookups>⟧.keyed all.old }
+    ensures kept { all.new.items ≡ filter (λ p. nat_lt least p.value) all.old.items }
+    ensures keyed { ⟦<IdHashMap<Pair, S> as Lookups>⟧.keyed all.new }
+{
+    all.retain(|p| least < p.value);
+}

@@ -1,0 +1,55 @@
+//! Items of both kinds of map, and what is done with them.
+ghost use Rattle.std.specs.Prelude.{◌≡◌};
+
+use iddqd::{IdHashItem, IdOrdItem};
+
+/// A key and a value.
+#[derive(Clone, Copy, Drop)]
+pub struct Pair {
+    pub key: u32,
+    pub value: u32,
+}
+
+impl IdOrdItem for Pair {
+    type Key = u32;
+
+    ghost key = { λ pair. pair.key };
+
+    fn key(&self) -> &u32 {
+        &self.key
+    }
+}
+
+impl IdHashItem for Pair {
+    type Key = u32;
+
+    ghost key = { λ pair. pair.key };
+
+    fn key(&self) -> &u32 {
+        &self.key
+    }
+}
+
+/// A name and its value: an item that owns memory.
+#[derive(Drop)]
+pub struct Named {
+    pub name: String,
+    pub value: u32,
+}
+
+impl IdOrdItem for Named {
+    type Key = String;
+
+    ghost key = { λ item. item.name };
+
+    fn key(&self) -> &String {
+        &self.name
+    }
+}
+
+/// Writes the value of a pair that is handed in.
+pub fn write_value(pair: &mut Pair, value: u32)
+    ensures { pair.new ≡ record pair.old { value = value } }
+{
+    pair.value = value;
+}

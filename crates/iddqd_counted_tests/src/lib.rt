@@ -1,0 +1,9 @@
+//! How often the maps compare keys: the worked rows, and that no comparison goes past `Steps`, which no clause can say.
+#![tactic(auto)]
+
+#[cfg(test)]
+mod counting;
+#[cfg(test)]
+mod rows;
+#[cfg(test)]
+mod trees;

@@ -1,0 +1,12 @@
+use Rattle.std.proofs.Common.{◌∙◌, sym, ap, subst}
+use Rattle.std.specs.List.{remove}
+use Rattle.iddqd_core.specs.Contents.{Ascends}
+use Rattle.iddqd_core.proofs.KeepsLemmas.{ascends_remove}
+use Rattle.iddqd_ord.proofs.id_ord_map.IdOrdMap.pop_last.Goals as goal
+
+pub returns-clause-keyed : goal.returns-clause-keyed
+returns-clause-keyed g c =
+    let key = g.T.IdOrdItem.key in
+    let cmp = g.T.Key.Ord.cmp in
+    let left = c.take_out.ensures.items ∙ ap (λ v. remove v.items c.place-last.result) c.self.view_is in
+    subst (Ascends key cmp) (sym left) (ascends_remove key cmp c.args.self.now.items c.place-last.result c.requires.keyed)

@@ -1,0 +1,42 @@
+use Rattle.std.proofs.Common.{◌≡◌, ◌∙◌, sym, subst, arith, Some, slice_get, of_calls, length, ap}
+use Rattle.std.specs.Fn.{CalledAt}
+use Rattle.std.proofs.lemmas.Fn.{called_at}
+use Rattle.std.proofs.lemmas.List.Edits.{length-remove}
+use Rattle.iddqd_core.proofs.VisitLemmas.{IsAsked, asked_dropped, asked_end, asked_kept}
+use Rattle.iddqd_ord.proofs.id_ord_map.IdOrdMap.retain.Goals as goal
+
+pub loop-at-preserved-then-keep : goal.loop-at-preserved-then-keep
+loop-at-preserved-then-keep g c =
+    let at = c.loop-at in
+    let there : slice_get at.self.items at.at ≡ Some c.item_in.result.now = sym c.slot_of-slot.ensures.item ∙ c.item_in.ensures in
+    record {
+      callable = search of_calls;
+      asked = asked_kept (CalledAt g.F.FnMut) c.args.keep c.args.self.now.items at.keep c.keep.new.self at.self.items at.at _ there (called_at g.F.FnMut c.keep.ensures c.if-keep.true) at.invariant.asked;
+      within = omega (arith, c.loop-at-test.true, c.len.ensures.len);
+      vacant = at.invariant.vacant;
+      capacity = at.invariant.capacity;
+      limit = at.invariant.limit;
+      keyed = at.invariant.keyed;
+    }
+
+pub loop-at-preserved : goal.loop-at-preserved
+loop-at-preserved g c =
+    let at = c.loop-at in
+    let there : slice_get at.self.items at.at ≡ Some c.item_in.result.now = sym c.slot_of-slot.ensures.item ∙ c.item_in.ensures in
+    let asked = asked_dropped (CalledAt g.F.FnMut) c.args.keep c.args.self.now.items at.keep c.keep.new.self at.self.items at.at _ there (called_at g.F.FnMut c.keep.ensures c.if-keep.false) at.invariant.asked in
+    let fewer = length-remove at.self.items at.at (omega (arith, c.loop-at-test.true, c.len.ensures.len)) in
+    let items = ap length c.take_at.ensures.items in
+    record {
+      callable = search of_calls;
+      asked = subst (λ xs. IsAsked (CalledAt g.F.FnMut) c.args.keep c.args.self.now.items c.keep.new.self xs at.at) (sym c.take_at.ensures.items) asked;
+      within = omega (arith, c.loop-at-test.true, c.len.ensures.len, fewer, items);
+      vacant = omega (arith, at.invariant.vacant, c.take_at.ensures.vacant, fewer, items);
+      capacity = c.take_at.ensures.capacity ∙ at.invariant.capacity;
+      limit = c.take_at.ensures.limit ∙ at.invariant.limit;
+      keyed = c.take_at.ensures.keyed;
+    }
+
+pub returns-clause-filtered : goal.returns-clause-filtered
+returns-clause-filtered g c =
+    let at = c.loop-at in
+    asked_end (CalledAt g.F.FnMut) c.args.keep c.args.self.now.items at.keep at.self.items at.at (omega (arith, c.loop-at-test.false, c.len.ensures.len)) at.invariant.asked

@@ -1,0 +1,32 @@
+use Rattle.std.proofs.Common.{◌∙◌, length, None, sym, ap, subst, nat_eq, arith}
+use Rattle.std.specs.List.{IsDistinct}
+use Rattle.iddqd_core.specs.Listed.{listed_items, AreOccupied}
+use Rattle.iddqd_core.specs.Store.{Updates}
+use Rattle.iddqd_core.proofs.StoreLemmas.{updates-set}
+use Rattle.iddqd_ord.proofs.WalkLemmas.{rest_distinct, rest_there, rest_listed}
+use Rattle.iddqd_ord.proofs.id_ord_map.into_iter.IntoIterIterator.next.Goals as goal
+
+pub invariant_of-self-2 : goal.invariant_of-self-2
+invariant_of-self-2 g c =
+    let it = c.self.inside in
+    let slot = c.in_ok-slot.slot in
+    let rest = c.next.new.self in
+    let occupied = subst (AreOccupied it.store) c.in_ok-slot.ensures.steps c.self.invariant.0 in
+    let once = subst (IsDistinct nat_eq) c.in_ok-slot.ensures.steps c.self.invariant.1 in
+    let updates = subst (λ s. Updates it.store s slot None) (sym c.remove.ensures.store) (updates-set it.store slot None (occupied 0 slot (omega arith))) in
+    (rest_there it.store c.remove.new.self slot rest occupied once updates, rest_distinct it.store c.remove.new.self slot rest occupied once updates)
+
+pub returns-clause-steps : goal.returns-clause-steps
+returns-clause-steps g c =
+    let it = c.self.inside in
+    let slot = c.in_ok-slot.slot in
+    let rest = c.next.new.self in
+    let occupied = subst (AreOccupied it.store) c.in_ok-slot.ensures.steps c.self.invariant.0 in
+    let once = subst (IsDistinct nat_eq) c.in_ok-slot.ensures.steps c.self.invariant.1 in
+    let updates = subst (λ s. Updates it.store s slot None) (sym c.remove.ensures.store) (updates-set it.store slot None (occupied 0 slot (omega arith))) in
+    sym c.self.view_is ∙ ap (listed_items it.store) c.in_ok-slot.ensures.steps ∙ rest_listed it.store c.remove.new.self slot rest occupied once updates c.remove.result c.remove.ensures.item
+
+pub returns-clause-goes : goal.returns-clause-goes
+returns-clause-goes g c =
+    let fewer = ap length (returns-clause-steps g c) in
+    record { on = λ finite. (tt, tt, omega (arith, fewer)); keeps = tt; rests = λ finite. tt }

@@ -1,0 +1,58 @@
+//! A walk that lends the items of an ordered map for writing, one after the other.
+ghost use Rattle.std.specs.Prelude.{◌≡◌, ◌-◌, ◌<◌, ◌↔◌, IsSome, length, slice_get};
+ghost use Rattle.std.specs.Borrow.{sem};
+ghost use Rattle.std.specs.Option.{option_copied_mut};
+ghost use Rattle.iddqd_core.specs.Contents.{Ascends};
+ghost use Rattle.iddqd_ord.specs.WritingWalk.{walk_map, walk_name, walk_done, walk_lends};
+
+use super::IdOrdMap;
+use iddqd_core::IdOrdItem;
+
+/// Lends the items of a map for writing, in the order of their keys (the crate's `IterMut`; ours lends a plain reference,
+/// one at a time, so that its caller learns what the map is then).
+#[derive(Drop)]
+pub struct IterMut<'a, T> {
+    map: &'a mut IdOrdMap<T>,
+    // How many items it has lent.
+    done: usize,
+}
+
+impl<T: IdOrdItem> IdOrdMap<T> {
+    /// A walk over the items, ascending, that lends each once. It compares no keys; whoever writes keeps each key, or the
+    /// map is not keyed any more.
+    #[inline]
+    pub fn iter_mut(&mut self) -> IterMut<'_, T>
+        requires keyed { Ascends T.key T.Key.cmp self.old.items }
+        ensures same_map { walk_name result ≡ self.entry.ghost_name }
+        ensures unchanged { walk_map result ≡ self.old }
+        ensures start { walk_done result ≡ 0 }
+    {
+        IterMut { map: self, done: 0 }
+    }
+}
+
+impl<T> IterMut<'_, T> {
+    /// How many items are to come.
+    #[inline]
+    pub fn len(&self) -> usize
+        ensures { result ≡ length (walk_map self.now).items - walk_done self.now }
+    {
+        self.map.len().saturating_sub(self.done)
+    }
+
+    /// The next item, for writing, or `None` for good where each was lent. It goes down the index once.
+    pub fn next(&mut self) -> Option<&mut T>
+        ensures* writes_back { sem 𝓛 (walk_lends T.row self.entry result) }
+        ensures value { option_copied_mut result ≡ slice_get (walk_map self.old).items (walk_done self.old) }
+        ensures found { IsSome result ↔ (walk_done self.old < length (walk_map self.old).items) }
+    {
+        let at = self.done;
+        if at < self.map.len() {
+            let slot = self.map.slot_of(at);
+            self.done = at + 1;
+            Some(self.map.item_mut(slot))
+        } else {
+            None
+        }
+    }
+}

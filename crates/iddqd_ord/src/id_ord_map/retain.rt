@@ -1,0 +1,84 @@
+//! Keeping some of the items.
+ghost use Rattle.std.specs.Prelude.{◌≡◌, ◌+◌, ◌<◌, length, remove, slice_get, Some, slice_set};
+ghost use Rattle.std.specs.Fn.{CalledAt};
+ghost use Rattle.std.specs.List.Retain.{IsFiltered};
+ghost use Rattle.iddqd_core.specs.Contents.{Ascends};
+ghost use Rattle.iddqd_core.specs.Holding.{LeavesSlots};
+ghost use Rattle.iddqd_core.specs.Visiting.{VisitsKeepKeys, kept_by, visitor_after};
+
+use super::IdOrdMap;
+use super::paired::take_out;
+use iddqd_core::{IdOrdItem, Visit};
+
+impl<T: IdOrdItem> IdOrdMap<T> {
+    /// Asks once about each item, ascending, and takes out each that is answered false (the crate's `retain`, over a
+    /// closure that only reads). It compares no keys; each item that goes costs two descents of the index, one that stays
+    /// one. It takes no memory.
+    pub fn retain<F: FnMut(&T) -> bool>(&mut self, mut keep: F)
+    where
+        T: Drop,
+        requires callable { F.IsAlwaysCallable keep }
+        requires keyed { Ascends T.key T.Key.cmp self.old.items }
+        ensures filtered { IsFiltered (CalledAt F.FnMut) keep self.old.items self.new.items }
+        ensures leaves { LeavesSlots self.old self.new }
+        ensures keyed { Ascends T.key T.Key.cmp self.new.items }
+    {
+        let mut at = 0;
+        while at < self.len() {
+            let slot = self.slot_of(at);
+            if keep(self.item_in(slot)) {
+                at += 1;
+            } else {
+                self.take_at(at);
+            }
+        }
+    }
+
+    /// Visits each item once, ascending, and takes out each that is answered false (ours: the crate's `retain` hands its
+    /// closure a guard). No visit may change a key. It costs what `retain` does.
+    pub fn retain_mut<V: Visit<T>>(&mut self, visitor: &mut V)
+    where
+        T: Drop,
+        requires keyed { Ascends T.key T.Key.cmp self.old.items }
+        requires keeps_keys { VisitsKeepKeys T.key T.Key.eq V.visits }
+        ensures items { self.new.items ≡ kept_by V.visits visitor.old self.old.items }
+        ensures visitor { visitor.new ≡ visitor_after V.visits visitor.old self.old.items }
+        ensures leaves { LeavesSlots self.old self.new }
+        ensures keyed { Ascends T.key T.Key.cmp self.new.items }
+    {
+        let mut at = 0;
+        while at < self.len() {
+            if self.visit_at(at, visitor) {
+                at += 1;
+            } else {
+                self.take_at(at);
+            }
+        }
+    }
+
+    // Visits the item at the place.
+    fn visit_at<V: Visit<T>>(&mut self, at: usize, visitor: &mut V) -> bool
+        requires keyed { Ascends T.key T.Key.cmp self.old.items }
+        requires keeps_keys { VisitsKeepKeys T.key T.Key.eq V.visits }
+        requires in_list { at < length self.old.items }
+        ensures visited { (x y : T) × (slice_get self.old.items at ≡ Some x) × (V.visits visitor.old x ≡ (visitor.new, y, result)) × (self.new ≡ record self.old { items = slice_set self.old.items at y }) }
+        ensures keyed { Ascends T.key T.Key.cmp self.new.items }
+    {
+        let slot = self.slot_of(at);
+        visitor.visit(self.item_mut(slot))
+    }
+
+    // Takes out the item at the place.
+    fn take_at(&mut self, at: usize) -> T
+        requires keyed { Ascends T.key T.Key.cmp self.old.items }
+        requires in_list { at < length self.old.items }
+        ensures items { self.new.items ≡ remove self.old.items at }
+        ensures vacant { self.new.vacant ≡ self.old.vacant + 1 }
+        ensures capacity { self.new.capacity ≡ self.old.capacity }
+        ensures limit { self.new.limit ≡ self.old.limit }
+        ensures keyed { Ascends T.key T.Key.cmp self.new.items }
+    {
+        let place = self.index.place(at);
+        take_out(&mut self.store, &mut self.index, place)
+    }
+}

@@ -1,0 +1,40 @@
+//! Room for items.
+ghost use Rattle.std.specs.Prelude.{◌≡◌, ◌+◌, ◌<◌, ◌≤◌, [], length, Err, IfOk, IfErr, OnOk};
+ghost use Rattle.iddqd_core.specs.Contents.{Ascends};
+ghost use Rattle.iddqd_core.specs.Refusal.{memory_refused, reservation_kind};
+
+use super::paired::reserve_slots;
+use super::{IdOrdMap, MAX_ITEMS};
+use iddqd_core::{IdOrdItem, ItemStore, TryReserveError};
+use std::alloc::Global;
+
+impl<T: IdOrdItem> IdOrdMap<T> {
+    /// A map without items, with room for so many in the store. It is refused by the limit where `capacity` is above
+    /// `MAX_ITEMS`, and else for want of memory.
+    pub fn with_capacity(alloc: Global, capacity: usize) -> Result<Self, TryReserveError>
+        ensures empty { IfOk result (λ m. m ≡ record { items = []; slots = []; vacant = 0; capacity = m.capacity; limit = MAX_ITEMS }) }
+        ensures room { IfOk result (λ m. capacity ≤ m.capacity) }
+        ensures in_limit { OnOk result (capacity ≤ MAX_ITEMS) }
+        ensures refused { IfErr result (λ e. e ≡ reservation_kind MAX_ITEMS capacity) }
+        ensures keyed { IfOk result (λ m. Ascends T.key T.Key.cmp m.items) }
+    {
+        let store = ItemStore::with_capacity(alloc, MAX_ITEMS, capacity)?;
+        Ok(IdOrdMap::over(store, alloc))
+    }
+
+    /// Makes room in the store for `additional` more items. It is refused by the limit where that has no room for them,
+    /// before any memory is asked for, and else for want of memory, which it needs only where the capacity is short. The
+    /// items stay. An insertion may still be refused memory for the index.
+    pub fn reserve(&mut self, additional: usize) -> Result<(), TryReserveError>
+        requires keyed { Ascends T.key T.Key.cmp self.old.items }
+        ensures room { OnOk result (length self.old.items + additional ≤ self.new.capacity) }
+        ensures in_limit { OnOk result (length self.old.items + additional ≤ self.old.limit) }
+        ensures refused { IfErr result (λ e. e ≡ reservation_kind self.old.limit (length self.old.items + additional)) }
+        ensures needed { result ≡ Err memory_refused → self.old.capacity < length self.old.items + additional }
+        ensures rest { self.new ≡ record self.old { capacity = self.new.capacity } }
+        ensures capacity { self.old.capacity ≤ self.new.capacity }
+        ensures keyed { Ascends T.key T.Key.cmp self.new.items }
+    {
+        reserve_slots(&mut self.store, &self.index, additional)
+    }
+}

@@ -1,0 +1,78 @@
+//! Lookups: what looks at the keys of items.
+ghost use Rattle.std.specs.Prelude.{◌≡◌, ◌+◌, ◌*◌, ◌<◌, ◌≤◌, length, IfSome, MatchResult, Contains};
+ghost use Rattle.std.specs.Option.{option_and_then};
+ghost use Rattle.std.specs.Ordering.{is_lt};
+ghost use Rattle.iddqd_store.specs.Contents.{Ascends, find_item, keys};
+ghost use Rattle.iddqd_store.specs.Store.{item_at};
+ghost use Rattle.iddqd_ord_index.specs.Digits.{digits};
+ghost use Rattle.iddqd_ord_index.specs.Listed.{listed_items, AreOccupied};
+ghost use Rattle.iddqd_ord_index.specs.Search.{IsPlaceAmong};
+
+use super::{OrdIndex, Place};
+use iddqd_store::{Comparable, IdOrdItem, ItemStore, Steps};
+
+impl OrdIndex {
+    /// `Ok`: the place of the slot whose item has the query's key. `Err`: the place where such a slot belongs. It makes
+    /// at most 4 + 2 d comparisons, where d is the number of binary digits of `len`.
+    pub fn find<T: IdOrdItem, Q: Comparable<T::Key>>(
+        &self,
+        store: &ItemStore<T>,
+        query: &Q,
+        steps: &mut Steps,
+    ) -> Result<Place, Place>
+        requires occupied { AreOccupied store.now self.now.slots }
+        requires ascending { Ascends T.key T.Key.cmp (listed_items store.now self.now.slots) }
+        ensures place { IsPlaceAmong (Q.compare query.now) (keys T.key (listed_items store.now self.now.slots)) result }
+        ensures in_list { MatchResult result (λ p. p < length self.now.slots) (λ p. p ≤ length self.now.slots) }
+        ensures steps { steps.new ≤ steps.old + 4 + 2 * digits (length self.now.slots) }
+        ensures counts_on { steps.old ≤ steps.new }
+    {
+        match self.root.find(store, query, steps) {
+            Ok(position) => Ok(Place { position }),
+            Err(position) => Err(Place { position }),
+        }
+    }
+
+    /// The slot whose item has the query's key, or `None`, by as many comparisons as `find`.
+    pub fn get<T: IdOrdItem, Q: Comparable<T::Key>>(
+        &self,
+        store: &ItemStore<T>,
+        query: &Q,
+        steps: &mut Steps,
+    ) -> Option<u32>
+        requires occupied { AreOccupied store.now self.now.slots }
+        requires ascending { Ascends T.key T.Key.cmp (listed_items store.now self.now.slots) }
+        ensures item { option_and_then (item_at store.now) result ≡ find_item T.key (Q.equivalent query.now) (listed_items store.now self.now.slots) }
+        ensures slot { IfSome result (Contains self.now.slots) }
+        ensures steps { steps.new ≤ steps.old + 4 + 2 * digits (length self.now.slots) }
+        ensures counts_on { steps.old ≤ steps.new }
+    {
+        self.root.get(store, query, steps)
+    }
+
+    /// The slot of the least key that is greater than the query, or `None`, by as many comparisons as `find`. As the
+    /// keys ascend, it is the first of those that are greater.
+    pub fn after<T: IdOrdItem, Q: Comparable<T::Key>>(
+        &self,
+        store: &ItemStore<T>,
+        query: &Q,
+        steps: &mut Steps,
+    ) -> Option<u32>
+        requires occupied { AreOccupied store.now self.now.slots }
+        requires ascending { Ascends T.key T.Key.cmp (listed_items store.now self.now.slots) }
+        ensures item { option_and_then (item_at store.now) result ≡ find_item T.key (λ k. is_lt (Q.compare query.now k)) (listed_items store.now self.now.slots) }
+        ensures slot { IfSome result (Contains self.now.slots) }
+        ensures steps { steps.new ≤ steps.old + 4 + 2 * digits (length self.now.slots) }
+        ensures counts_on { steps.old ≤ steps.new }
+    {
+        let next = match self.find(store, query, steps) {
+            Ok(place) => place.position as usize + 1,
+            Err(place) => place.position as usize,
+        };
+        if next < self.len as usize {
+            Some(self.root.slot_at(next as u32))
+        } else {
+            None
+        }
+    }
+}

@@ -1,0 +1,43 @@
+//! `into_owned` with a request refused: it hands itself back, and then succeeds.
+use iddqd::errors::{DuplicateItem, Few};
+use iddqd_testing::heap::{arm, is_met};
+use iddqd_testing::kept::make_kept;
+use std::test::Fail;
+
+#[test]
+fn into_owned(rt: HostRuntime) -> Result<(), Fail> {
+    let alloc = rt.alloc();
+    let first = make_kept(alloc, 1)?;
+    let second = make_kept(alloc, 2)?;
+    let third = make_kept(alloc, 3)?;
+    let new = make_kept(alloc, 4)?;
+    let lent = DuplicateItem::internal_new(new, Few::Three(&first, &second, &third));
+    arm(alloc);
+    let outcome = lent.into_owned();
+    let is_met = is_met(alloc);
+    let owned = match outcome {
+        Ok(owned) => {
+            assert!(rt; !is_met);
+            owned
+        }
+        Err(lent) => {
+            println!(rt; "handed_back")?;
+            assert!(rt; is_met);
+            assert_eq!(rt; *lent.new_item().value, 4);
+            let Few::Three(a, b, c) = lent.duplicates() else {
+                return Err(Fail::from("other items"));
+            };
+            assert_eq!(rt; (*a.value, *b.value, *c.value), (1, 2, 3));
+            let Ok(owned) = lent.into_owned() else {
+                return Err(Fail::from("no memory for a number"));
+            };
+            owned
+        }
+    };
+    assert_eq!(rt; *owned.new_item().value, 4);
+    let Few::Three(a, b, c) = owned.duplicates() else {
+        return Err(Fail::from("other items"));
+    };
+    assert_eq!(rt; (*a.value, *b.value, *c.value), (1, 2, 3));
+    Ok(())
+}

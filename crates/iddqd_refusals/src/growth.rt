@@ -1,0 +1,49 @@
+//! The ordered map as it grows, with each request of each insertion refused in its turn.
+use iddqd::IdOrdMap;
+use iddqd_testing::heap::{arm, is_met};
+use iddqd_testing::items::Numbered;
+use iddqd_testing::tried::{Inserted, Tried};
+use std::test::Fail;
+
+// Whether the walk has the numbers from 1 to below another, in order.
+fn walks(map: &Tried<IdOrdMap<Numbered>>, end: u32) -> bool {
+    let mut next = 1u32;
+    for item in map.map().iter() {
+        if item.number != next {
+            return false;
+        }
+        next = next.wrapping_add(1);
+    }
+    next == end
+}
+
+// Puts in the number after those that are there, and answers whether it was refused. Then it comes back, the walk has still
+// those before it, and now it goes in.
+fn grow(map: &mut Tried<IdOrdMap<Numbered>>, number: u32) -> Result<bool, Fail> {
+    let new = Numbered { number, value: 5 };
+    match map.insert(new) {
+        Inserted::Done => Ok(false),
+        Inserted::Refused(item, error) => {
+            let is_back = item == new && !error.is_capacity_overflow() && walks(map, number);
+            if is_back && map.insert(item) == Inserted::Done {
+                return Ok(true);
+            }
+            Err(Fail::from("the number or the walk is not as it was, or it is refused again"))
+        }
+        Inserted::Duplicate(_, _) => Err(Fail::from("the number was there")),
+    }
+}
+
+#[test]
+fn growth_refused(rt: HostRuntime) -> Result<(), Fail> {
+    let mut map = Tried::new(IdOrdMap::new(rt.alloc()));
+    let mut is_refused = false;
+    arm(rt.alloc());
+    for number in 1..13 {
+        is_refused = grow(&mut map, number)? || is_refused;
+    }
+    assert_eq!(rt; is_met(rt.alloc()), is_refused);
+    assert!(rt; walks(&map, 13));
+    println!(rt; "{}", if is_refused { "key_back" } else { "all_in" })?;
+    Ok(())
+}

@@ -1,0 +1,16 @@
+//! Calls whose requests for memory are refused, one in each run: `tools/sweep` runs each test here under a heap that refuses the first
+//! request, the second, and so on. Under any other heap none is refused. A test prints the word for what it saw of a refusal.
+#![tactic(auto)]
+
+#[cfg(test)]
+mod clones;
+#[cfg(test)]
+mod commands;
+#[cfg(test)]
+mod errors;
+#[cfg(test)]
+mod growth;
+#[cfg(test)]
+mod lines;
+#[cfg(test)]
+mod maps;

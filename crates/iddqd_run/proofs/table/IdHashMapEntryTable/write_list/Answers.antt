@@ -1,0 +1,16 @@
+use Rattle.std.proofs.Common.{◌++◌, ◌∙◌, ap, length, string_bytes, sym}
+use Rattle.std.specs.Prelude.{codes, decimal}
+use Rattle.std.proofs.lemmas.List.{length-map}
+use Rattle.iddqd_run.specs.Answer.{list_text}
+use Rattle.iddqd_run.specs.Shown.{all_lent, entries_of}
+use Rattle.iddqd_run.proofs.EndLemmas.{lists_items}
+use Rattle.iddqd_run.proofs.table.IdHashMapEntryTable.write_list.Goals as goal
+
+pub returns-in-Ok-write_sorted-clause-listed : goal.returns-in-Ok-write_sorted-clause-listed
+returns-in-Ok-write_sorted-clause-listed c =
+    let before = string_bytes c.args.text.now in
+    let sorted = c.in-Ok.sorted.items in
+    lists_items c.args.self.now.items (all_lent sorted) before (string_bytes c.write_sorted.new.text) c.in-Ok.ensures.same c.in-Ok.ensures.ascending
+    (c.in-Ok-write_sorted.ensures
+    ∙ ap (λ lent. before ++ (codes "list " ++ decimal (length lent) ++ list_text (entries_of (all_lent lent)))) c.as_slice.ensures.value
+    ∙ ap (λ n. before ++ (codes "list " ++ decimal n ++ list_text (entries_of (all_lent sorted)))) (sym (length-map sorted _)))

@@ -1,0 +1,94 @@
+//! What a line asks of the whole table or of its ends, and its reply.
+ghost use Rattle.std.specs.Prelude.{◌≡◌, IfOk, option_copied, option_map, string_bytes};
+ghost use Rattle.iddqd_run.specs.Answer.{end_text};
+ghost use Rattle.iddqd_run.specs.Lines.{ListAll, First, Last, PopFirst, PopLast};
+ghost use Rattle.iddqd_run.specs.Shown.{AnswersRequest, IsTable, WritesReply, entry_of, refusals_of, shown};
+
+use crate::entries::{Entry, LineReply, write_reply};
+use crate::table::{ListStop, NoEnds, Table};
+use std::alloc::{AllocError, Global};
+
+/// `list`: every entry, by ascending name. A map that keeps no order takes memory to sort them.
+pub(crate) fn list<M: Table<Item = Entry, Key = String>>(
+    alloc: Global,
+    map: &M,
+    text: &mut String,
+) -> Result<u64, AllocError>
+    requires table { IsTable M.key M.is_text M.entries M.state M.keyed M.limit map.now }
+    ensures { IfOk result (λ refusals. WritesReply M.kind ListAll (M.state map.now).items refusals (M.state map.now).items (string_bytes text.old) (string_bytes text.new)) }
+{
+    match map.write_list(alloc, text) {
+        Ok(()) => {
+            text.push('\n')?;
+            Ok(0)
+        }
+        Err(ListStop::Entries) => write_reply(text, LineReply::RefusedMemory),
+        Err(ListStop::Text) => Err(AllocError),
+    }
+}
+
+/// `first`: the entry of the least name.
+pub(crate) fn first<M: Table<Item = Entry, Key = String>>(map: &M) -> LineReply<'_>
+    requires table { IsTable M.key M.is_text M.entries M.state M.keyed M.limit map.now }
+    ensures { AnswersRequest M.kind First (M.state map.now).items result (M.state map.now).items }
+{
+    match map.least() {
+        Ok(entry) => end_reply(entry),
+        Err(NoEnds) => LineReply::Unsupported,
+    }
+}
+
+/// `last`: the entry of the greatest name.
+pub(crate) fn last<M: Table<Item = Entry, Key = String>>(map: &M) -> LineReply<'_>
+    requires table { IsTable M.key M.is_text M.entries M.state M.keyed M.limit map.now }
+    ensures { AnswersRequest M.kind Last (M.state map.now).items result (M.state map.now).items }
+{
+    match map.greatest() {
+        Ok(entry) => end_reply(entry),
+        Err(NoEnds) => LineReply::Unsupported,
+    }
+}
+
+/// `popfirst`: takes out the entry of the least name.
+pub(crate) fn pop_first<M: Table<Item = Entry, Key = String>>(
+    map: &mut M,
+    text: &mut String,
+) -> Result<u64, AllocError>
+    requires table { IsTable M.key M.is_text M.entries M.state M.keyed M.limit map.old }
+    ensures answered { IfOk result (λ refusals. WritesReply M.kind PopFirst (M.state map.old).items refusals (M.state map.new).items (string_bytes text.old) (string_bytes text.new)) }
+    ensures table { IsTable M.key M.is_text M.entries M.state M.keyed M.limit map.new }
+{
+    match map.take_least() {
+        Ok(taken) => write_reply(text, end_reply(taken.as_ref())),
+        Err(NoEnds) => write_reply(text, LineReply::Unsupported),
+    }
+}
+
+/// `poplast`: takes out the entry of the greatest name.
+pub(crate) fn pop_last<M: Table<Item = Entry, Key = String>>(
+    map: &mut M,
+    text: &mut String,
+) -> Result<u64, AllocError>
+    requires table { IsTable M.key M.is_text M.entries M.state M.keyed M.limit map.old }
+    ensures answered { IfOk result (λ refusals. WritesReply M.kind PopLast (M.state map.old).items refusals (M.state map.new).items (string_bytes text.old) (string_bytes text.new)) }
+    ensures table { IsTable M.key M.is_text M.entries M.state M.keyed M.limit map.new }
+{
+    match map.take_greatest() {
+        Ok(taken) => write_reply(text, end_reply(taken.as_ref())),
+        Err(NoEnds) => write_reply(text, LineReply::Unsupported),
+    }
+}
+
+// The reply that shows the entry at an end, if there is one.
+fn end_reply(end: Option<&Entry>) -> LineReply<'_>
+    ensures text { shown result ≡ end_text (option_map entry_of (option_copied end.entry)) }
+    ensures plain { refusals_of result ≡ 0 }
+{
+    match end {
+        Some(entry) => LineReply::Named {
+            name: entry.name.as_str(),
+            value: entry.value,
+        },
+        None => LineReply::Absent,
+    }
+}

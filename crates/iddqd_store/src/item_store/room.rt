@@ -1,0 +1,87 @@
+//! Room for items: made, and given back.
+ghost use Rattle.std.specs.Prelude.{◌≡◌, ◌+◌, ◌<◌, ◌≤◌, ◌↔◌, [], IfOk, IfErr, OnOk, OnErr, Err, min, max};
+ghost use Rattle.iddqd_store.specs.Refusal.{reservation_kind};
+ghost use Rattle.iddqd_store.specs.Store.{store_len, vacant, HasRoomFor};
+ghost use Rattle.iddqd_store.specs.declared.errors.TryReserveErrorKind.TheVariants.{CapacityOverflow, AllocError as OutOfMemory};
+
+use super::ItemStore;
+use crate::errors::TryReserveError;
+use std::alloc::Global;
+
+impl<T> ItemStore<T> {
+    /// A store without items that holds at most `limit`, with room for `capacity`. `CapacityOverflow` where that is above
+    /// the limit, else `AllocError` where memory was refused.
+    pub fn with_capacity(
+        alloc: Global,
+        limit: u32,
+        capacity: usize,
+    ) -> Result<Self, TryReserveError>
+        ensures empty { IfOk result (λ s. s ≡ record { slots = []; capacity = s.capacity; limit = limit }) }
+        ensures room { IfOk result (λ s. capacity ≤ s.capacity) }
+        ensures in_limit { OnOk result (capacity ≤ limit) }
+        ensures refused { IfErr result (λ e. e ≡ reservation_kind limit capacity) }
+    {
+        if capacity > limit as usize {
+            return Err(TryReserveError::capacity_overflow());
+        }
+        let Ok(slots) = Vec::with_capacity(alloc, capacity) else {
+            return Err(TryReserveError::alloc_error());
+        };
+        Ok(ItemStore::over(slots, limit))
+    }
+
+    /// Makes room for `additional` more items. `CapacityOverflow` where the limit has no room for
+    /// them, else `AllocError` where memory was refused; the slots stay as they were, and where
+    /// there is room it takes no memory.
+    #[inline]
+    pub fn try_reserve(&mut self, additional: usize) -> Result<(), TryReserveError>
+        ensures ok { OnOk result (HasRoomFor self.new additional) }
+        ensures overflow { (result ≡ Err CapacityOverflow) ↔ (self.old.limit < store_len self.old + additional) }
+        ensures memory { result ≡ Err OutOfMemory → self.old.capacity < store_len self.old + additional }
+        ensures rest { self.new ≡ record self.old { capacity = self.new.capacity } }
+        ensures capacity { self.old.capacity ≤ self.new.capacity }
+    {
+        if additional > self.limit as usize - self.len {
+            return Err(TryReserveError::capacity_overflow());
+        }
+        if additional > self.slots.capacity() - self.len {
+            return self.grow(additional);
+        }
+        Ok(())
+    }
+
+    // Makes room that is not there yet.
+    #[cold]
+    #[inline(never)]
+    fn grow(&mut self, additional: usize) -> Result<(), TryReserveError>
+        requires limit { store_len self.old + additional ≤ self.old.limit }
+        requires needed { self.old.capacity < store_len self.old + additional }
+        ensures ok { OnOk result (HasRoomFor self.new additional) }
+        ensures err { OnErr result (result ≡ Err OutOfMemory) }
+        ensures rest { self.new ≡ record self.old { capacity = self.new.capacity } }
+        ensures capacity { self.old.capacity ≤ self.new.capacity }
+    {
+        let vacant = self.slots.len() - self.len;
+        self.slots
+            .reserve(additional - vacant)
+            .map_err(|_| TryReserveError::alloc_error())
+    }
+
+    /// Gives memory back, but for room for `min_capacity` items and for those that are there (the
+    /// crate's `shrink_capacity_to`). No slot may be vacant, as after `last_into_hole` answered
+    /// `None`. Refused or not, the slots stay as they were; it is refused only where there is memory
+    /// to give back, and without items and without `min_capacity` it gives all of it back.
+    pub fn shrink_to(&mut self, min_capacity: usize) -> Result<(), TryReserveError>
+        requires { vacant self.old ≡ 0 }
+        ensures err { OnErr result (result ≡ Err OutOfMemory) }
+        ensures needed { OnErr result (max min_capacity (store_len self.old) < self.old.capacity) }
+        ensures frees { store_len self.old ≡ 0 → min_capacity ≡ 0 → OnOk result (self.new.capacity ≡ 0) }
+        ensures rest { self.new ≡ record self.old { capacity = self.new.capacity } }
+        ensures lowers { self.new.capacity ≤ self.old.capacity }
+        ensures keeps_items { store_len self.old ≤ self.new.capacity }
+        ensures keeps_room { min min_capacity self.old.capacity ≤ self.new.capacity }
+    {
+        self.slots.shrink_to(min_capacity);
+        Ok(())
+    }
+}

@@ -1,0 +1,13 @@
+//! What the tests of more than one crate stand on: items, a map under test, fakes, and the count of requests for memory.
+#![tactic(auto)]
+
+pub mod caseless;
+pub mod counted;
+pub mod counting;
+pub mod failing;
+pub mod hashers;
+pub mod heap;
+pub mod items;
+pub mod kept;
+pub mod tried;
+pub mod visitors;

@@ -1,0 +1,92 @@
+//! Rows of keys that are equal without regard to case.
+use iddqd::{IdHashMap, IdOrdMap};
+use iddqd_run::{Command, KeyedMap, Reply};
+use iddqd_testing::caseless::{Caseless, Coarse, item_of, spelled};
+use iddqd_testing::tried::Tried;
+use iddqd_testing::visitors::Untouched;
+use std::alloc::Global;
+use std::process::Abort;
+use std::test::Fail;
+
+fn overwrites<M: KeyedMap<Item = Coarse, Key = Caseless>>(
+    rt: &impl Abort,
+    mut map: Tried<M>,
+) -> Result<(), Fail>
+where
+    M: Drop,
+{
+    let Ok(first) = map.overwrite(item_of(*b"Foo", 1)) else {
+        return Err(Fail::from("no memory for an item"));
+    };
+    assert!(rt; first.is_none());
+    let Ok(Some(old)) = map.overwrite(item_of(*b"FOO", 2)) else {
+        return Err(Fail::from("no item was replaced"));
+    };
+    assert_eq!(rt; spelled(&old), (*b"Foo", 1));
+    let stored = map.get(&Caseless(*b"foo")).map(spelled);
+    assert_eq!(rt; stored, Some((*b"FOO", 2)));
+    assert_eq!(rt; map.len(), 1);
+    Ok(())
+}
+
+#[test]
+fn coarse_overwrite(rt: HostRuntime) -> Result<(), Fail> {
+    overwrites(&rt, Tried::new(IdOrdMap::new(rt.alloc())))?;
+    overwrites(&rt, Tried::new(IdHashMap::new(rt.alloc())))
+}
+
+fn coarse_commands(alloc: Global) -> Result<Vec<Command<Coarse, Caseless, Untouched>>, Fail> {
+    Ok(Vec::from_array(
+        alloc,
+        [
+            Command::InsertOverwrite(item_of(*b"Foo", 1)),
+            Command::InsertOverwrite(item_of(*b"FOO", 2)),
+            Command::Get(Caseless(*b"Foo")),
+            Command::Get(Caseless(*b"FOO")),
+            Command::Len,
+            Command::Clear,
+            Command::Len,
+        ],
+    )?)
+}
+
+/// Whether these are the replies to those commands, by the name's spelling and the value.
+fn are_coarse_replies(replies: &[Reply<Coarse>]) -> bool {
+    match replies {
+        [
+            Reply::Inserted,
+            Reply::Replaced(first),
+            Reply::Found(second),
+            Reply::Found(third),
+            Reply::Length(1),
+            Reply::Done,
+            Reply::Length(0),
+        ] => {
+            spelled(first) == (*b"Foo", 1)
+                && spelled(second) == (*b"FOO", 2)
+                && spelled(third) == (*b"FOO", 2)
+        }
+        _ => false,
+    }
+}
+
+fn is_run_so<M: KeyedMap<Item = Coarse, Key = Caseless>>(
+    alloc: Global,
+    mut map: Tried<M>,
+) -> Result<bool, Fail>
+where
+    M: Drop,
+{
+    let Ok(replies) = map.run(alloc, coarse_commands(alloc)?) else {
+        return Err(Fail::from("no memory for the replies"));
+    };
+    Ok(are_coarse_replies(replies.as_slice()))
+}
+
+#[test]
+fn coarse_overwrite_by_commands(rt: HostRuntime) -> Result<(), Fail> {
+    let alloc = rt.alloc();
+    assert!(rt; is_run_so(alloc, Tried::new(IdOrdMap::new(alloc)))?);
+    assert!(rt; is_run_so(alloc, Tried::new(IdHashMap::new(alloc)))?);
+    Ok(())
+}

@@ -1,0 +1,128 @@
+//! The rows of insertions as commands, through `run`, on a map of each kind.
+ghost use Rattle.iddqd.specs.Contents.{ClonesAreEqual};
+
+use crate::insertions::{BAR, FOO, OTHER_FOO, wide_item};
+use iddqd::{IdHashMap, IdOrdMap};
+use iddqd_run::{Command, KeyedMap, Reply};
+use iddqd_testing::items::{Named, Wide};
+use iddqd_testing::tried::Tried;
+use iddqd_testing::visitors::Untouched;
+use std::alloc::Global;
+use std::test::Fail;
+
+/// Whether the map gives these replies to the commands.
+fn answers_with<M: KeyedMap>(
+    alloc: Global,
+    mut map: Tried<M>,
+    commands: Vec<Command<M::Item, M::Key, Untouched>>,
+    expected: &[Reply<M::Item>],
+) -> bool
+where
+    M: Drop,
+    M::Item: Clone + PartialEq,
+    M::Key: Drop,
+    requires clones { ClonesAreEqual M.Item.is_clone }
+{
+    match map.run(alloc, commands) {
+        Ok(replies) => replies.as_slice() == expected,
+        Err(_) => false,
+    }
+}
+
+fn named_commands(alloc: Global) -> Result<Vec<Command<Named, [u8; 3], Untouched>>, Fail> {
+    Ok(Vec::from_array(
+        alloc,
+        [
+            Command::InsertUnique(FOO),
+            Command::InsertUnique(BAR),
+            Command::InsertUnique(OTHER_FOO),
+            Command::Len,
+            Command::Get(*b"foo"),
+            Command::Get(*b"bar"),
+            Command::Get(*b"baz"),
+            Command::Remove(*b"baz"),
+            Command::Remove(*b"foo"),
+            Command::Get(*b"foo"),
+            Command::Len,
+        ],
+    )?)
+}
+
+fn named_replies() -> [Reply<Named>; 11] {
+    [
+        Reply::Inserted,
+        Reply::Inserted,
+        Reply::Duplicate {
+            new: OTHER_FOO,
+            existing: Some(FOO),
+        },
+        Reply::Length(2),
+        Reply::Found(FOO),
+        Reply::Found(BAR),
+        Reply::Absent,
+        Reply::Absent,
+        Reply::Removed(FOO),
+        Reply::Absent,
+        Reply::Length(1),
+    ]
+}
+
+#[test]
+fn insert_unique_by_commands(rt: HostRuntime) -> Result<(), Fail> {
+    let alloc = rt.alloc();
+    let expected = named_replies();
+    let ordered = Tried::new(IdOrdMap::new(alloc));
+    assert!(rt; answers_with(alloc, ordered, named_commands(alloc)?, &expected));
+    let hashed = Tried::new(IdHashMap::new(alloc));
+    assert!(rt; answers_with(alloc, hashed, named_commands(alloc)?, &expected));
+    Ok(())
+}
+
+fn wide_commands(alloc: Global) -> Result<Vec<Command<Wide, u8, Untouched>>, Fail> {
+    Ok(Vec::from_array(
+        alloc,
+        [
+            Command::InsertUnique(wide_item(20, 'a', 'x')),
+            Command::InsertUnique(wide_item(20, 'a', 'x')),
+            Command::InsertUnique(wide_item(20, 'b', 'y')),
+            Command::InsertUnique(wide_item(5, 'a', 'y')),
+            Command::InsertUnique(wide_item(5, 'b', 'x')),
+            Command::Get(20),
+            Command::Get(5),
+        ],
+    )?)
+}
+
+fn wide_replies() -> [Reply<Wide>; 7] {
+    let first = wide_item(20, 'a', 'x');
+    let fourth = wide_item(5, 'a', 'y');
+    [
+        Reply::Inserted,
+        Reply::Duplicate {
+            new: first,
+            existing: Some(first),
+        },
+        Reply::Duplicate {
+            new: wide_item(20, 'b', 'y'),
+            existing: Some(first),
+        },
+        Reply::Inserted,
+        Reply::Duplicate {
+            new: wide_item(5, 'b', 'x'),
+            existing: Some(fourth),
+        },
+        Reply::Found(first),
+        Reply::Found(fourth),
+    ]
+}
+
+#[test]
+fn duplicate_chain_by_commands(rt: HostRuntime) -> Result<(), Fail> {
+    let alloc = rt.alloc();
+    let expected = wide_replies();
+    let ordered = Tried::new(IdOrdMap::new(alloc));
+    assert!(rt; answers_with(alloc, ordered, wide_commands(alloc)?, &expected));
+    let hashed = Tried::new(IdHashMap::new(alloc));
+    assert!(rt; answers_with(alloc, hashed, wide_commands(alloc)?, &expected));
+    Ok(())
+}

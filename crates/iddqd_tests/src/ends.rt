@@ -1,0 +1,86 @@
+//! Rows of the ordered map's ends.
+ghost use Rattle.std.specs.Prelude.{IfOk};
+ghost use Rattle.iddqd.specs.Contents.{Ascends};
+
+use iddqd::{IdOrdItem, IdOrdMap};
+use iddqd_run::KeyedMap;
+use iddqd_testing::tried::is_put;
+use std::test::Fail;
+
+/// A name of seven letters, and a value.
+#[derive(Clone, Copy, Debug, PartialEq, Eq)]
+pub struct Person {
+    pub name: [u8; 7],
+    pub value: u32,
+}
+
+impl IdOrdItem for Person {
+    type Key = [u8; 7];
+
+    ghost key = { λ person. person.name };
+
+    fn key(&self) -> &[u8; 7] {
+        &self.name
+    }
+}
+
+fn one(name: [u8; 7], value: u32) -> Person {
+    Person { name, value }
+}
+
+// The map with three people.
+fn filled<M: KeyedMap<Item = Person> + Drop>(mut map: M) -> Result<M, Fail>
+    requires { M.keyed map }
+    ensures { IfOk result M.keyed }
+{
+    let is_filled = is_put(&mut map, one(*b"charlie", 30))
+        && is_put(&mut map, one(*b"alice  ", 42))
+        && is_put(&mut map, one(*b"bob    ", 99));
+    if !is_filled {
+        return Err(Fail::from("an item is not in"));
+    }
+    Ok(map)
+}
+
+// Takes out the first item, or the last one.
+fn pop<T: IdOrdItem>(map: &mut IdOrdMap<T>, first: bool) -> Option<T>
+    requires { Ascends T.key T.Key.cmp map.old.items }
+    ensures { Ascends T.key T.Key.cmp map.new.items }
+{
+    if first {
+        map.pop_first()
+    } else {
+        map.pop_last()
+    }
+}
+
+#[test]
+fn ends(rt: HostRuntime) -> Result<(), Fail> {
+    let mut map = filled(IdOrdMap::new(rt.alloc()))?;
+    assert_eq!(rt; map.first().copied(), Some(one(*b"alice  ", 42)));
+    assert_eq!(rt; map.last().copied(), Some(one(*b"charlie", 30)));
+    assert_eq!(rt; pop(&mut map, true), Some(one(*b"alice  ", 42)));
+    assert_eq!(rt; map.len(), 2);
+    assert_eq!(rt; pop(&mut map, true), Some(one(*b"bob    ", 99)));
+    assert_eq!(rt; pop(&mut map, true), Some(one(*b"charlie", 30)));
+    assert_eq!(rt; pop(&mut map, true), None);
+    Ok(())
+}
+
+#[test]
+fn ends_from_behind(rt: HostRuntime) -> Result<(), Fail> {
+    let mut map = filled(IdOrdMap::new(rt.alloc()))?;
+    assert_eq!(rt; pop(&mut map, false), Some(one(*b"charlie", 30)));
+    assert_eq!(rt; pop(&mut map, false), Some(one(*b"bob    ", 99)));
+    assert_eq!(rt; pop(&mut map, false), Some(one(*b"alice  ", 42)));
+    assert_eq!(rt; pop(&mut map, false), None);
+    Ok(())
+}
+
+#[test]
+fn ends_of_empty_map(rt: HostRuntime) -> Result<(), Fail> {
+    let mut map: IdOrdMap<Person> = IdOrdMap::new(rt.alloc());
+    assert!(rt; map.first().is_none() && map.last().is_none());
+    assert!(rt; pop(&mut map, true).is_none() && pop(&mut map, false).is_none());
+    Ok(())
+}

@@ -1,0 +1,23 @@
+//! What no clause of the maps and of `run` says: the worked rows, printed texts, and that each call succeeds with memory at hand.
+#![tactic(auto)]
+
+#[cfg(test)]
+mod clones;
+#[cfg(test)]
+mod coarse;
+#[cfg(test)]
+mod commands;
+#[cfg(test)]
+mod ends;
+#[cfg(test)]
+mod errors;
+#[cfg(test)]
+mod insertions;
+#[cfg(test)]
+mod limits;
+#[cfg(test)]
+mod many;
+#[cfg(test)]
+mod queries;
+#[cfg(test)]
+mod walks;

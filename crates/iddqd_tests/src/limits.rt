@@ -1,0 +1,92 @@
+//! Rows of limits and reservations.
+use crate::insertions::{BAR, FOO, OTHER_FOO};
+use iddqd::errors::TryReserveError;
+use iddqd::{DefaultHashBuilder, IdHashMap, IdOrdMap};
+use iddqd_run::KeyedMap;
+use iddqd_testing::items::Named;
+use iddqd_testing::tried::{AskedForRoom, Inserted, Tried};
+use std::process::Abort;
+use std::test::Fail;
+
+const BAZ: Named = Named {
+    name: *b"baz",
+    value: 7,
+};
+
+fn full_at_two<M: KeyedMap<Item = Named, Key = [u8; 3]>>(rt: &impl Abort, mut map: Tried<M>)
+where
+    M: Drop,
+    Tried<M>: AskedForRoom,
+{
+    let full = TryReserveError::capacity_overflow();
+    let answers = [
+        map.insert(FOO),
+        map.insert(BAR),
+        map.insert(OTHER_FOO),
+        map.insert(BAZ),
+    ];
+    let expected = [
+        Inserted::Done,
+        Inserted::Done,
+        Inserted::Duplicate(OTHER_FOO, Some(FOO)),
+        Inserted::Refused(BAZ, full),
+    ];
+    assert_eq!(rt; answers, expected);
+    assert!(rt; matches!(map.overwrite(OTHER_FOO), Ok(Some(old)) if old == FOO));
+    assert_eq!(rt; map.remove(b"bar"), Some(BAR));
+    assert!(rt; !map.is_compact());
+    assert_eq!(rt; map.insert(BAZ), Inserted::Done);
+    assert!(rt; map.is_compact());
+    assert_eq!(rt; map.reserve(1), Err(full));
+}
+
+fn full_at_none<M: KeyedMap<Item = Named, Key = [u8; 3]>>(rt: &impl Abort, mut map: Tried<M>)
+where
+    M: Drop,
+    Tried<M>: AskedForRoom,
+{
+    let full = TryReserveError::capacity_overflow();
+    assert_eq!(rt; map.reserve(0), Ok(()));
+    assert_eq!(rt; map.insert(FOO), Inserted::Refused(FOO, full));
+}
+
+#[test]
+fn limit_two(rt: HostRuntime) {
+    let alloc = rt.alloc();
+    full_at_two(&rt, Tried::new(IdOrdMap::with_limit(alloc, 2)));
+    full_at_none(&rt, Tried::new(IdOrdMap::with_limit(alloc, 0)));
+    let hasher = DefaultHashBuilder::new();
+    full_at_two(&rt, Tried::new(IdHashMap::with_limit(alloc, 2, hasher)));
+    full_at_none(&rt, Tried::new(IdHashMap::with_limit(alloc, 0, hasher)));
+}
+
+#[test]
+fn limit_four(rt: HostRuntime) {
+    let full = TryReserveError::capacity_overflow();
+    let map = IdHashMap::with_limit(rt.alloc(), 4, DefaultHashBuilder::new());
+    let mut map = Tried::new(map);
+    assert!(rt; map.is_put(FOO) && map.is_put(BAR) && map.is_put(BAZ));
+    assert_eq!(rt; map.reserve(1), Ok(()));
+    assert_eq!(rt; map.room(), 1);
+    assert_eq!(rt; map.reserve(2), Err(full));
+    assert_eq!(rt; map.room(), 1);
+    let past: Result<IdHashMap<Named>, TryReserveError> = IdHashMap::with_capacity(
+        rt.alloc(),
+        4_294_967_296,
+    );
+    let error = match past {
+        Ok(_) => None,
+        Err(error) => Some(error),
+    };
+    assert_eq!(rt; error, Some(full));
+}
+
+// With memory at hand a map is made with the room that is asked for.
+#[test]
+fn made_with_room(rt: HostRuntime) -> Result<(), Fail> {
+    let ordered: IdOrdMap<Named> = IdOrdMap::with_capacity(rt.alloc(), 100)?;
+    assert!(rt; ordered.capacity() >= 100);
+    let hashed: IdHashMap<Named> = IdHashMap::with_capacity(rt.alloc(), 100)?;
+    assert!(rt; hashed.spare() >= 100);
+    Ok(())
+}

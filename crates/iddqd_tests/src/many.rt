@@ -1,0 +1,178 @@
+//! Maps of many items, hash maps over other hashers, and the numbers of a map.
+use iddqd::{IdHashMap, IdOrdMap};
+use iddqd_run::KeyedMap;
+use iddqd_testing::hashers::ZeroHasher;
+use iddqd_testing::items::Numbered;
+use iddqd_testing::tried::{Inserted, Tried, is_put};
+use std::alloc::{AllocError, Global};
+use std::collections::hash_map::RandomState;
+use std::hash::BuildHasherDefault;
+use std::process::Abort;
+use std::test::Fail;
+
+fn numbered(number: u32) -> Numbered {
+    Numbered {
+        number,
+        value: number ^ 5,
+    }
+}
+
+/// The items of all numbers below the prime, in an order that the factor gives.
+fn in_order(alloc: Global, prime: u32, factor: u32) -> Result<Vec<Numbered>, AllocError> {
+    let mut items = Vec::new(alloc);
+    for place in 1..prime {
+        let number = u64::from(place) * u64::from(factor) % u64::from(prime);
+        items.push(numbered(number as u32))?;
+    }
+    Ok(items)
+}
+
+/// The items before the place, and those from it on.
+fn parted(items: &[Numbered], place: usize) -> (&[Numbered], &[Numbered]) {
+    items.split_at(place.min(items.len()))
+}
+
+/// Whether each of the items goes in.
+fn all_go_in<M: KeyedMap<Item = Numbered, Key = u32>>(
+    map: &mut Tried<M>,
+    items: &[Numbered],
+) -> bool {
+    for item in items {
+        if map.insert(*item) != Inserted::Done {
+            return false;
+        }
+    }
+    true
+}
+
+/// Whether each of the items is found under its key.
+fn all_are_found<M: KeyedMap<Item = Numbered, Key = u32>>(
+    map: &Tried<M>,
+    items: &[Numbered],
+) -> bool {
+    for item in items {
+        if map.get(&item.number) != Some(item) {
+            return false;
+        }
+    }
+    true
+}
+
+/// Whether each of the items comes out, and is not there any more.
+fn all_come_out<M: KeyedMap<Item = Numbered, Key = u32>>(
+    map: &mut Tried<M>,
+    items: &[Numbered],
+) -> bool {
+    for item in items {
+        if map.remove(&item.number) != Some(*item) || map.get(&item.number).is_some() {
+            return false;
+        }
+    }
+    true
+}
+
+#[test]
+fn constant_hasher(rt: HostRuntime) -> Result<(), Fail> {
+    let alloc = rt.alloc();
+    let hasher: BuildHasherDefault<ZeroHasher> = BuildHasherDefault::new();
+    let mut map = Tried::new(IdHashMap::with_hasher(alloc, hasher));
+    let items = in_order(alloc, 101, 1)?;
+    let (front, rest) = parted(items.as_slice(), 50);
+    assert!(rt; all_go_in(&mut map, items.as_slice()));
+    assert!(rt; all_are_found(&map, items.as_slice()));
+    assert_eq!(rt; map.get(&101).copied(), None);
+    let again = Numbered {
+        number: 50,
+        value: 0,
+    };
+    assert_eq!(rt;
+        map.insert(again),
+        Inserted::Duplicate(again, Some(numbered(50)))
+    );
+    assert_eq!(rt; map.remove(&50), Some(numbered(50)));
+    assert_eq!(rt; map.get(&50).copied(), None);
+    assert!(rt; all_are_found(&map, parted(front, 49).0) && all_are_found(&map, rest));
+    Ok(())
+}
+
+// Ten thousand keys go in, in one order, and come out in another.
+fn ten_thousand<M: KeyedMap<Item = Numbered, Key = u32>>(
+    rt: &impl Abort,
+    alloc: Global,
+    mut map: Tried<M>,
+) -> Result<(), AllocError>
+where
+    M: Drop,
+{
+    assert!(rt; all_go_in(&mut map, in_order(alloc, 10_007, 7)?.as_slice()));
+    assert_eq!(rt; map.len(), 10_006);
+    let items = in_order(alloc, 10_007, 11)?;
+    let (front, rest) = parted(items.as_slice(), 5_000);
+    assert!(rt; all_come_out(&mut map, front));
+    assert_eq!(rt; map.len(), 5_006);
+    assert!(rt; all_are_found(&map, rest));
+    assert!(rt; all_come_out(&mut map, rest));
+    assert_eq!(rt; map.len(), 0);
+    Ok(())
+}
+
+#[test]
+fn ten_thousand_keys(rt: HostRuntime) -> Result<(), Fail> {
+    let alloc = rt.alloc();
+    ten_thousand(&rt, alloc, Tried::new(IdOrdMap::new(alloc)))?;
+    ten_thousand(&rt, alloc, Tried::new(IdHashMap::new(alloc)))?;
+    Ok(())
+}
+
+#[test]
+fn random_hasher(rt: HostRuntime) -> Result<(), Fail> {
+    let alloc = rt.alloc();
+    let mut map = Tried::new(IdHashMap::with_hasher(alloc, RandomState::new(&rt)?));
+    let items = in_order(alloc, 13, 2)?;
+    assert!(rt; all_go_in(&mut map, items.as_slice()));
+    assert_eq!(rt;
+        map.insert(numbered(7)),
+        Inserted::Duplicate(numbered(7), Some(numbered(7)))
+    );
+    assert!(rt; all_are_found(&map, items.as_slice()));
+    assert!(rt; all_come_out(&mut map, items.as_slice()));
+    Ok(())
+}
+
+// The numbers of a map without items.
+macro_rules! count_nothing {
+    ($rt:ident, $map:ident) => {{
+        assert!($rt; $map.is_empty());
+        assert!($rt; $map.capacity() == 0 && $map.vacant() == 0);
+        assert_eq!($rt; $map.limit(), 4_294_967_295);
+        assert!($rt; !$map.contains_key(&1));
+    }};
+}
+
+#[test]
+fn numbers_of_an_empty_map(rt: HostRuntime) {
+    let ordered: IdOrdMap<Numbered> = IdOrdMap::new(rt.alloc());
+    count_nothing!(rt, ordered);
+    let hashed: IdHashMap<Numbered> = IdHashMap::new(rt.alloc());
+    count_nothing!(rt, hashed);
+    assert_eq!(rt; hashed.spare(), 0);
+}
+
+// The numbers after one of two items has left.
+macro_rules! count_the_one_left {
+    ($rt:ident, $map:ident) => {{
+        assert!($rt; is_put(&mut $map, numbered(1)) && is_put(&mut $map, numbered(2)));
+        assert_eq!($rt; $map.remove(&1), Some(numbered(1)));
+        assert_eq!($rt; $map.vacant(), 1);
+        assert!($rt; $map.capacity() >= 2 && $map.contains_key(&2));
+    }};
+}
+
+#[test]
+fn numbers_after_a_removal(rt: HostRuntime) {
+    let mut ordered = IdOrdMap::new(rt.alloc());
+    count_the_one_left!(rt, ordered);
+    let mut hashed = IdHashMap::new(rt.alloc());
+    count_the_one_left!(rt, hashed);
+    assert!(rt; hashed.spare() >= 1);
+}

@@ -1,0 +1,123 @@
+//! Rows of reading walks, equality and clones.
+ghost use Rattle.std.specs.Prelude.{IfOk, nat_eq};
+ghost use Rattle.std.specs.Cmp.{on_equiv, on_per, nat_eq_equiv, partial_equiv_from_equiv};
+
+use iddqd::{IdHashItem, IdHashMap, IdOrdItem, IdOrdMap};
+use iddqd_run::KeyedMap;
+use iddqd_testing::items::Named;
+use iddqd_testing::tried::is_put;
+use std::test::Fail;
+
+fn named(name: [u8; 3], value: u32) -> Named {
+    Named { name, value }
+}
+
+// The map with foo, bar and baz.
+fn filled<M: KeyedMap<Item = Named> + Drop>(mut map: M) -> Result<M, Fail>
+    requires { M.keyed map }
+    ensures { IfOk result M.keyed }
+{
+    let is_filled = is_put(&mut map, named(*b"foo", 42))
+        && is_put(&mut map, named(*b"bar", 20))
+        && is_put(&mut map, named(*b"baz", 1));
+    if !is_filled {
+        return Err(Fail::from("an item is not in"));
+    }
+    Ok(map)
+}
+
+#[test]
+fn reading_walk(rt: HostRuntime) -> Result<(), Fail> {
+    let map = filled(IdOrdMap::new(rt.alloc()))?;
+    let mut walk = map.iter();
+    assert!(rt; walk.len() == 3 && walk.next().is_some());
+    assert!(rt; walk.len() == 2 && walk.next().is_some());
+    assert!(rt; walk.len() == 1 && walk.next().is_some());
+    assert!(rt; walk.len() == 0 && walk.next().is_none() && walk.next().is_none());
+    let mut walk = map.into_iter();
+    assert_eq!(rt; walk.next(), Some(named(*b"bar", 20)));
+    assert_eq!(rt; walk.len(), 2);
+    Ok(())
+}
+
+#[test]
+fn hash_reading_walk(rt: HostRuntime) -> Result<(), Fail> {
+    let map = filled(IdHashMap::new(rt.alloc()))?;
+    let mut walk = map.iter();
+    assert!(rt; walk.len() == 3 && walk.next().is_some());
+    assert!(rt; walk.len() == 2 && walk.next().is_some());
+    assert!(rt; walk.len() == 1 && walk.next().is_some());
+    assert!(rt; walk.len() == 0 && walk.next().is_none() && walk.next().is_none());
+    let mut walk = map.into_iter();
+    assert!(rt; walk.next().is_some());
+    assert_eq!(rt; walk.len(), 2);
+    Ok(())
+}
+
+#[test]
+fn walks_of_empty_maps(rt: HostRuntime) -> Result<(), Fail> {
+    let ordered: IdOrdMap<Named> = IdOrdMap::new(rt.alloc());
+    let mut walk = ordered.iter();
+    assert_eq!(rt; walk.len(), 0);
+    assert!(rt; walk.next().is_none() && walk.next().is_none());
+    assert!(rt; ordered == IdOrdMap::new(rt.alloc()));
+    let hashed: IdHashMap<Named> = IdHashMap::new(rt.alloc());
+    let mut walk = hashed.iter();
+    assert_eq!(rt; walk.len(), 0);
+    assert!(rt; walk.next().is_none() && walk.next().is_none());
+    assert!(rt; hashed.eq(&IdHashMap::new(rt.alloc())));
+    Ok(())
+}
+
+/// Items whose equality ignores the key.
+#[derive(Clone, Copy)]
+pub struct Valued {
+    pub key: u32,
+    pub value: u32,
+}
+
+impl PartialEq for Valued {
+    ghost eq = { λ one other. nat_eq one.value other.value };
+
+    ghost laws = { on_per (λ item. item.value) (partial_equiv_from_equiv nat_eq_equiv) };
+
+    fn eq(&self, other: &Valued) -> bool {
+        self.value == other.value
+    }
+}
+
+impl IdOrdItem for Valued {
+    type Key = u32;
+
+    ghost key = { λ item. item.key };
+
+    fn key(&self) -> &u32 {
+        &self.key
+    }
+}
+
+impl IdHashItem for Valued {
+    type Key = u32;
+
+    ghost key = { λ item. item.key };
+
+    fn key(&self) -> &u32 {
+        &self.key
+    }
+}
+
+#[test]
+fn equality_ignores_key(rt: HostRuntime) -> Result<(), Fail> {
+    let alloc = rt.alloc();
+    let mut one = IdOrdMap::new(alloc);
+    let mut other = IdOrdMap::new(alloc);
+    assert!(rt; is_put(&mut one, Valued { key: 1, value: 7 }));
+    assert!(rt; is_put(&mut other, Valued { key: 2, value: 7 }));
+    assert!(rt; one == other);
+    let mut one = IdHashMap::new(alloc);
+    let mut other = IdHashMap::new(alloc);
+    assert!(rt; is_put(&mut one, Valued { key: 1, value: 7 }));
+    assert!(rt; is_put(&mut other, Valued { key: 2, value: 7 }));
+    assert!(rt; !one.eq(&other));
+    Ok(())
+}

@@ -1,0 +1,7 @@
+//! What no clause of `serve` says: the worked lines and their replies, and what a reader and a writer see.
+#![tactic(auto)]
+
+#[cfg(test)]
+mod streams;
+#[cfg(test)]
+mod texts;

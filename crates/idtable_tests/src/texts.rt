@@ -1,0 +1,130 @@
+//! Lines of text and their replies, through `serve`.
+use iddqd_run::{Fault, Kind, Stop, after_name, exit_status, fault_text, kind_of, serve};
+use std::alloc::{AllocError, Global};
+use std::test::Fail;
+
+fn answer(alloc: Global, kind: Kind, input: &[u8]) -> Result<(u64, Vec<u8>), Fault> {
+    let mut reader = input;
+    let mut text = Vec::new(alloc);
+    let refusals = serve(alloc, kind, &mut reader, &mut text)?;
+    Ok((refusals, text))
+}
+
+/// Whether the lines are answered so, without a refusal, over maps of both kinds.
+fn are_answered(alloc: Global, input: &[u8], text: &[u8]) -> Result<bool, Fail> {
+    for kind in [Kind::Hash, Kind::Ord] {
+        let (refusals, answered) = answer(alloc, kind, input).map_err(|_| "a fault")?;
+        if refusals != 0 || answered.as_slice() != text {
+            return Ok(false);
+        }
+    }
+    Ok(true)
+}
+
+// The kind that a program is asked for that is called by its name and these words.
+fn kind_of_words(alloc: Global, args: &[&str]) -> Result<Option<Kind>, AllocError> {
+    let mut words = Vec::new(alloc);
+    words.push(String::from_str(alloc, "idtable")?)?;
+    for word in args {
+        words.push(String::from_str(alloc, word)?)?;
+    }
+    Ok(kind_of(after_name(words.as_slice())))
+}
+
+#[test]
+fn answers_texts(rt: HostRuntime) -> Result<(), Fail> {
+    for (input, text) in [
+        (b"".as_slice(), b"".as_slice()),
+        (b"\n", b"bad\n"),
+        (
+            b"add bob 2\nadd bob 9\nget bob\ndel bob\nlen\n",
+            b"added\nduplicate bob 2\n2\nremoved 2\n0\n",
+        ),
+        // no newline at the end
+        (
+            b"add a 0\nget a\nget b\ndel b\nlen",
+            b"added\n0\nnone\nnone\n1\n",
+        ),
+        // a counted lookup, present and absent
+        (
+            b"add a 0\ncost a\ncost b\ncost\ncost A\n",
+            b"added\nwithin\nwithin\nbad\nbad\n",
+        ),
+        // bytes that are no text
+        (b"add \xff 1\n\xc3\x28\nlen\n", b"bad\nbad\n0\n"),
+        // the greatest value, one more, a leading zero, a sign
+        (
+            b"add a 18446744073709551615\nadd b 18446744073709551616\nadd c 01\nadd d +1\nlen\n",
+            b"added\nbad\nbad\nbad\n1\n",
+        ),
+        // a field too few, a field too many, an empty field
+        (
+            b"add a\nadd a 1 2\nadd  1\nget\nlen 1\n len\n",
+            b"bad\nbad\nbad\nbad\nbad\nbad\n",
+        ),
+        // unknown words
+        (b"lists\naddall a 1\n", b"bad\nbad\n"),
+    ] {
+        assert!(rt; are_answered(rt.alloc(), input, text)?);
+    }
+    Ok(())
+}
+
+#[test]
+fn bad_lines(rt: HostRuntime) -> Result<(), Fail> {
+    let alloc = rt.alloc();
+    let input =
+        b"add Bob 2\nlen \nadd aaaaaaaaaaaaaaaaaaaaaaaaaaaaaaaaa 1\nadd aaaaaaaaaaaaaaaaaaaaaaaaaaaaaaaa 0\nlen\n";
+    assert!(rt; are_answered(alloc, input, b"bad\nbad\nbad\nadded\n1\n")?);
+    for (words, kind) in [
+        ([].as_slice(), Some(Kind::Ord)),
+        (["ord"].as_slice(), Some(Kind::Ord)),
+        (["tree"].as_slice(), None),
+        (["hash"].as_slice(), Some(Kind::Hash)),
+        (["hash", "ord"].as_slice(), None),
+        (["ord", "ord"].as_slice(), None),
+    ] {
+        assert_eq!(rt; kind_of_words(alloc, words)?, kind);
+    }
+    assert_eq!(rt; exit_status(&Ok(3)), 0);
+    assert_eq!(rt; exit_status(&Err(Stop::Fault(Fault::Write))), 1);
+    assert_eq!(rt; exit_status(&Err(Stop::Usage)), 2);
+    assert_eq!(rt; fault_text(&Fault::Read), "read failed");
+    assert_eq!(rt; fault_text(&Fault::Write), "write failed");
+    assert_eq!(rt; fault_text(&Fault::Memory), "no memory");
+    Ok(())
+}
+
+#[test]
+fn long_line(rt: HostRuntime) -> Result<(), Fail> {
+    let alloc = rt.alloc();
+    let mut input = vec![in alloc; b'a'; 1 << 20]?;
+    input.extend_from_slice(b"\nlen\n")?;
+    assert!(rt; are_answered(alloc, input.as_slice(), b"bad\n0\n")?);
+    Ok(())
+}
+
+#[test]
+fn put_and_delete(rt: HostRuntime) -> Result<(), Fail> {
+    let input = b"put a 1\nput a 2\ndel a\nput b 3\nlen\n";
+    let text = b"new\nreplaced 1\nremoved 2\nnew\n1\n";
+    assert!(rt; are_answered(rt.alloc(), input, text)?);
+    Ok(())
+}
+
+// Whether the lines are answered so over the map of this kind, without a refusal.
+fn is_answered(alloc: Global, kind: Kind, input: &[u8], text: &[u8]) -> Result<bool, Fail> {
+    let (refusals, answered) = answer(alloc, kind, input).map_err(|_| "a fault")?;
+    Ok(refusals == 0 && answered.as_slice() == text)
+}
+
+#[test]
+fn table_of_ends(rt: HostRuntime) -> Result<(), Fail> {
+    let alloc = rt.alloc();
+    let input = b"first\nadd b 1\nadd a 18446744073709551615\nadd c 18446744073709551616\nput b 01\nput b 5\nfirst\nkeep 5\npoplast\npopfirst\nlist";
+    let text = b"none\nadded\nadded\nbad\nbad\nreplaced 1\na 18446744073709551615\nkept 1 dropped 1\na 18446744073709551615\nnone\nlist 0\n";
+    assert!(rt; is_answered(alloc, Kind::Ord, input, text)?);
+    let text = b"unsupported\nadded\nadded\nbad\nbad\nreplaced 1\nunsupported\nkept 1 dropped 1\nunsupported\nunsupported\nlist 1 a=18446744073709551615\n";
+    assert!(rt; is_answered(alloc, Kind::Hash, input, text)?);
+    Ok(())
+}
