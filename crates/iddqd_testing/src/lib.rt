@@ -11,3 +11,4 @@ pub mod items;
 pub mod kept;
 pub mod tried;
 pub mod visitors;
+pub mod walked;

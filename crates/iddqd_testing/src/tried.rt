@@ -22,7 +22,7 @@ pub enum Inserted<T> {
 /// finds, so that its proof carries no contract of the map along.
 #[derive(Drop)]
 pub struct Tried<M: KeyedMap> {
-    map: M,
+    pub(crate) map: M,
 }
 
 impl<M: KeyedMap> Model for Tried<M> {
@@ -208,6 +208,12 @@ pub trait AskedForRoom {
     /// How many items fit, by the numbers that the map shows.
     fn room(&self) -> usize;
 
+    /// How many slots are vacant.
+    fn vacant(&self) -> u32;
+
+    /// Whether the map is as it should be, as `validate` says, where vacant slots may be.
+    fn is_sound(&self) -> bool;
+
     /// Whether no slot is vacant, as `validate` says.
     fn is_compact(&self) -> bool;
 }
@@ -219,6 +225,14 @@ impl<T: IdOrdItem> AskedForRoom for Tried<IdOrdMap<T>> {
 
     fn room(&self) -> usize {
         self.map.capacity()
+    }
+
+    fn vacant(&self) -> u32 {
+        self.map.vacant()
+    }
+
+    fn is_sound(&self) -> bool {
+        self.map.validate(ValidateCompact::NonCompact).is_ok()
     }
 
     fn is_compact(&self) -> bool {
@@ -233,6 +247,14 @@ impl<T: IdHashItem> AskedForRoom for Tried<IdHashMap<T>> {
 
     fn room(&self) -> usize {
         self.map.spare()
+    }
+
+    fn vacant(&self) -> u32 {
+        self.map.vacant()
+    }
+
+    fn is_sound(&self) -> bool {
+        self.map.validate(ValidateCompact::NonCompact).is_ok()
     }
 
     fn is_compact(&self) -> bool {

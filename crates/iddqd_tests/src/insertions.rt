@@ -3,6 +3,7 @@ use iddqd::{IdHashMap, IdOrdMap};
 use iddqd_run::KeyedMap;
 use iddqd_testing::items::{Named, Numbered, Wide};
 use iddqd_testing::tried::{Inserted, Tried};
+use iddqd_testing::walked::Walked;
 use std::process::Abort;
 
 pub(crate) const FOO: Named = Named {
@@ -13,6 +14,11 @@ pub(crate) const FOO: Named = Named {
 pub(crate) const BAR: Named = Named {
     name: *b"bar",
     value: 20,
+};
+
+const OLD_BAR: Named = Named {
+    name: *b"bar",
+    value: 99,
 };
 
 pub(crate) const OTHER_FOO: Named = Named {
@@ -103,6 +109,15 @@ where
 fn get_and_double(rt: HostRuntime) {
     one_and_two(&rt, Tried::new(IdOrdMap::new(rt.alloc())));
     one_and_two(&rt, Tried::new(IdHashMap::new(rt.alloc())));
+    let mut ordered = Tried::new(IdOrdMap::new(rt.alloc()));
+    assert!(rt; ordered.is_put(FOO) && ordered.is_put(OLD_BAR));
+    let (map, _) = ordered.written(
+        2,
+        |item: &mut Named| item.value = item.value.wrapping_mul(2),
+    );
+    let mut walk = map.iter();
+    assert_eq!(rt; walk.next().map(|item| item.value), Some(198));
+    assert_eq!(rt; walk.next().map(|item| item.value), Some(84));
 }
 
 // A removed item is not found, and the others are.

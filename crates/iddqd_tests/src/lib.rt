@@ -20,4 +20,6 @@ mod many;
 #[cfg(test)]
 mod queries;
 #[cfg(test)]
+mod visits;
+#[cfg(test)]
 mod walks;

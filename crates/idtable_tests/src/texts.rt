@@ -112,6 +112,14 @@ fn put_and_delete(rt: HostRuntime) -> Result<(), Fail> {
     Ok(())
 }
 
+#[test]
+fn set_and_keep(rt: HostRuntime) -> Result<(), Fail> {
+    let input = b"add a 5\nadd b 9\nset a 10\nkeep 9\nset b 1\nget a\nlen\n";
+    let text = b"added\nadded\nset 5\nkept 1 dropped 1\nnone\n10\n1\n";
+    assert!(rt; are_answered(rt.alloc(), input, text)?);
+    Ok(())
+}
+
 // Whether the lines are answered so over the map of this kind, without a refusal.
 fn is_answered(alloc: Global, kind: Kind, input: &[u8], text: &[u8]) -> Result<bool, Fail> {
     let (refusals, answered) = answer(alloc, kind, input).map_err(|_| "a fault")?;
@@ -121,10 +129,13 @@ fn is_answered(alloc: Global, kind: Kind, input: &[u8], text: &[u8]) -> Result<b
 #[test]
 fn table_of_ends(rt: HostRuntime) -> Result<(), Fail> {
     let alloc = rt.alloc();
-    let input = b"first\nadd b 1\nadd a 18446744073709551615\nadd c 18446744073709551616\nput b 01\nput b 5\nfirst\nkeep 5\npoplast\npopfirst\nlist";
-    let text = b"none\nadded\nadded\nbad\nbad\nreplaced 1\na 18446744073709551615\nkept 1 dropped 1\na 18446744073709551615\nnone\nlist 0\n";
+    let input =
+        b"first\nadd b 1\nadd a 18446744073709551615\nadd c 18446744073709551616\nput b 01\nput b 5\nfirst\nkeep 5\npoplast\npopfirst\nlist";
+    let text =
+        b"none\nadded\nadded\nbad\nbad\nreplaced 1\na 18446744073709551615\nkept 1 dropped 1\na 18446744073709551615\nnone\nlist 0\n";
     assert!(rt; is_answered(alloc, Kind::Ord, input, text)?);
-    let text = b"unsupported\nadded\nadded\nbad\nbad\nreplaced 1\nunsupported\nkept 1 dropped 1\nunsupported\nunsupported\nlist 1 a=18446744073709551615\n";
+    let text =
+        b"unsupported\nadded\nadded\nbad\nbad\nreplaced 1\nunsupported\nkept 1 dropped 1\nunsupported\nunsupported\nlist 1 a=18446744073709551615\n";
     assert!(rt; is_answered(alloc, Kind::Hash, input, text)?);
     Ok(())
 }

@@ -1,0 +1,65 @@
+//! What a row asks of the walks that write and that retain, of a map of either kind.
+use crate::tried::Tried;
+use iddqd::{IdHashItem, IdHashMap, IdOrdItem, IdOrdMap};
+
+/// A map of either kind, by its `retain` and `iter_mut`.
+pub trait Walked<T> {
+    /// The map itself.
+    type Map;
+
+    /// `retain`.
+    fn retain<F: FnMut(&T) -> bool>(&mut self, keep: F)
+    where
+        T: Drop,
+        requires { F.IsAlwaysCallable keep };
+
+    /// Writes items by `iter_mut`, which is let go after so many. Answers the map, and how many the walk had left.
+    fn written<F: Fn(&mut T)>(self, most: usize, write: F) -> (Self::Map, usize)
+        requires { F.IsAlwaysCallable write };
+}
+
+impl<T: IdOrdItem> Walked<T> for Tried<IdOrdMap<T>> {
+    type Map = IdOrdMap<T>;
+
+    fn retain<F: FnMut(&T) -> bool>(&mut self, keep: F)
+    where
+        T: Drop,
+    {
+        self.map.retain(keep)
+    }
+
+    fn written<F: Fn(&mut T)>(self, most: usize, write: F) -> (IdOrdMap<T>, usize) {
+        let mut map = self.map;
+        let mut walk = map.iter_mut();
+        for _ in 0..most {
+            if let Some(item) = walk.next() {
+                write(item);
+            }
+        }
+        let left = walk.len();
+        (map, left)
+    }
+}
+
+impl<T: IdHashItem> Walked<T> for Tried<IdHashMap<T>> {
+    type Map = IdHashMap<T>;
+
+    fn retain<F: FnMut(&T) -> bool>(&mut self, keep: F)
+    where
+        T: Drop,
+    {
+        self.map.retain(keep)
+    }
+
+    fn written<F: Fn(&mut T)>(self, most: usize, write: F) -> (IdHashMap<T>, usize) {
+        let mut map = self.map;
+        let mut walk = map.iter_mut();
+        for _ in 0..most {
+            if let Some(item) = walk.next() {
+                write(item);
+            }
+        }
+        let left = walk.len();
+        (map, left)
+    }
+}

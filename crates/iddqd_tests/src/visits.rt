@@ -1,0 +1,197 @@
+//! Rows of visitors, and of walks that write and that retain.
+ghost use Rattle.iddqd.specs.Visiting.{VisitsKeepKeys};
+ghost use Rattle.iddqd_testing.specs.Changed.{changed};
+
+use crate::insertions::{BAR, FOO};
+use iddqd::{IdHashMap, IdOrdMap};
+use iddqd_run::{Command, KeyedMap, Reply};
+use iddqd_testing::items::{Named, Numbered};
+use iddqd_testing::tried::{AskedForRoom, Tried};
+use iddqd_testing::visitors::Change;
+use iddqd_testing::walked::Walked;
+use std::alloc::Global;
+use std::process::Abort;
+use std::test::Fail;
+
+const BAZ: Named = Named {
+    name: *b"baz",
+    value: 99,
+};
+
+fn numbered(number: u32, value: u32) -> Numbered {
+    Numbered { number, value }
+}
+
+// The map with three numbers.
+fn of_three<M: KeyedMap<Item = Numbered, Key = u32>>(rt: &impl Abort, mut map: Tried<M>) -> Tried<M>
+where
+    M: Drop,
+{
+    for number in [3, 1, 2] {
+        assert!(rt; map.is_put(numbered(number, 10 * number)));
+    }
+    map
+}
+
+// The visitor, once it has kept the odd ones of three.
+fn odd_of_three<M: KeyedMap<Item = Numbered, Key = u32>>(rt: &impl Abort, map: Tried<M>) -> Change
+where
+    M: Drop,
+    requires keeps_keys { VisitsKeepKeys M.key M.Key.eq changed }
+{
+    let mut map = of_three(rt, map);
+    let mut visitor = Change::KeepOdd(0);
+    map.retain_mut(&mut visitor);
+    assert_eq!(rt; map.len(), 2);
+    assert_eq!(rt; map.get(&1).copied(), Some(numbered(1, 11)));
+    assert_eq!(rt; map.get(&3).copied(), Some(numbered(3, 31)));
+    visitor
+}
+
+// A visit that writes 0 and answers false takes nothing out.
+fn visited_by_command<M: KeyedMap<Item = Numbered, Key = u32>>(
+    rt: &impl Abort,
+    alloc: Global,
+    map: Tried<M>,
+) -> Result<(), Fail>
+where
+    M: Drop,
+    requires keeps_keys { VisitsKeepKeys M.key M.Key.eq changed }
+{
+    let mut map = of_three(rt, map);
+    let commands = Vec::from_array(alloc, [Command::Visit(1, Change::DenyAll), Command::Get(1)])?;
+    let Ok(replies) = map.run_visiting(alloc, commands) else {
+        return Err(Fail::from("the commands came back"));
+    };
+    let expected = [Reply::Visited(false), Reply::Found(numbered(1, 0))];
+    assert!(rt; replies.as_slice() == expected.as_slice());
+    Ok(())
+}
+
+#[test]
+fn visitor(rt: HostRuntime) -> Result<(), Fail> {
+    let alloc = rt.alloc();
+    assert_eq!(rt;
+        odd_of_three(&rt, Tried::new(IdOrdMap::new(alloc))),
+        Change::KeepOdd(123)
+    );
+    let _ = odd_of_three(&rt, Tried::new(IdHashMap::new(alloc)));
+    visited_by_command(&rt, alloc, Tried::new(IdOrdMap::new(alloc)))?;
+    visited_by_command(&rt, alloc, Tried::new(IdHashMap::new(alloc)))
+}
+
+// The names that were asked about, once the greater values were kept.
+fn kept_by_value<M: KeyedMap<Item = Named, Key = [u8; 3]>>(
+    rt: &impl Abort,
+    alloc: Global,
+    mut map: Tried<M>,
+) -> Result<Vec<[u8; 3]>, Fail>
+where
+    M: Drop,
+    Tried<M>: Walked<Named>,
+{
+    assert!(rt; map.is_put(FOO) && map.is_put(BAR) && map.is_put(BAZ));
+    let mut asked = Vec::with_capacity(alloc, 3)?;
+    map.retain(|item| {
+        let _ = asked.push(item.name);
+        item.value > 30
+    });
+    assert_eq!(rt; map.len(), 2);
+    assert_eq!(rt; map.get(b"foo").copied(), Some(FOO));
+    assert_eq!(rt; map.get(b"baz").copied(), Some(BAZ));
+    assert_eq!(rt; map.get(b"bar").copied(), None);
+    Ok(asked)
+}
+
+#[test]
+fn retain_by_value(rt: HostRuntime) -> Result<(), Fail> {
+    let alloc = rt.alloc();
+    let asked = kept_by_value(&rt, alloc, Tried::new(IdOrdMap::new(alloc)))?;
+    assert!(rt; asked.as_slice() == [*b"bar", *b"baz", *b"foo"].as_slice());
+    let asked = kept_by_value(&rt, alloc, Tried::new(IdHashMap::new(alloc)))?;
+    assert_eq!(rt; asked.len(), 3);
+    Ok(())
+}
+
+// The value of the name, by a walk that reads.
+fn value_of<'a>(walk: impl Iterator<Item = &'a Named>, name: [u8; 3]) -> Option<u32> {
+    for item in walk {
+        if item.name == name {
+            return Some(item.value);
+        }
+    }
+    None
+}
+
+fn of_foo_and_bar<M: KeyedMap<Item = Named, Key = [u8; 3]>>(
+    rt: &impl Abort,
+    mut map: Tried<M>,
+) -> Tried<M>
+where
+    M: Drop,
+{
+    assert!(rt; map.is_put(FOO) && map.is_put(BAR));
+    map
+}
+
+fn double(item: &mut Named) {
+    item.value = item.value.wrapping_mul(2);
+}
+
+#[test]
+fn writing_walk(rt: HostRuntime) {
+    let ordered = of_foo_and_bar(&rt, Tried::new(IdOrdMap::new(rt.alloc())));
+    let (map, left) = ordered.written(3, double);
+    assert_eq!(rt; left, 0);
+    assert_eq!(rt; value_of(map.iter(), *b"foo"), Some(84));
+    assert_eq!(rt; value_of(map.iter(), *b"bar"), Some(40));
+    let hashed = of_foo_and_bar(&rt, Tried::new(IdHashMap::new(rt.alloc())));
+    let (map, left) = hashed.written(3, double);
+    assert_eq!(rt; left, 0);
+    assert_eq!(rt; value_of(map.iter(), *b"foo"), Some(84));
+    assert_eq!(rt; value_of(map.iter(), *b"bar"), Some(40));
+}
+
+#[test]
+fn writing_walk_of_one_item(rt: HostRuntime) {
+    let ordered = of_foo_and_bar(&rt, Tried::new(IdOrdMap::new(rt.alloc())));
+    let (map, left) = ordered.written(1, double);
+    assert_eq!(rt; left, 1);
+    assert_eq!(rt; value_of(map.iter(), *b"foo"), Some(42));
+    assert_eq!(rt; value_of(map.iter(), *b"bar"), Some(40));
+    let hashed = of_foo_and_bar(&rt, Tried::new(IdHashMap::new(rt.alloc())));
+    let (map, left) = hashed.written(1, double);
+    assert_eq!(rt; left, 1);
+    let values = (value_of(map.iter(), *b"foo"), value_of(map.iter(), *b"bar"));
+    assert!(rt; values == (Some(84), Some(20)) || values == (Some(42), Some(40)));
+}
+
+const IDS: [u32; 25] = [
+    0, 17, 1, 12, 5, 21, 8, 10, 18, 4, 16, 22, 9, 24, 23, 13, 7, 25, 26, 20, 31, 11, 14, 2, 6,
+];
+
+const LEFT: [u32; 9] = [1, 5, 7, 11, 13, 17, 23, 25, 31];
+
+fn nine_left<M: KeyedMap<Item = Numbered, Key = u32>>(rt: &impl Abort, mut map: Tried<M>)
+where
+    M: Drop,
+    Tried<M>: Walked<Numbered> + AskedForRoom,
+{
+    for id in IDS {
+        assert!(rt; map.is_put(numbered(id, id)));
+    }
+    map.retain(|item| item.number % 2 == 1 && item.number % 3 != 0);
+    assert_eq!(rt; map.len(), 9);
+    for id in LEFT {
+        assert_eq!(rt; map.get(&id).copied(), Some(numbered(id, id)));
+    }
+    assert_eq!(rt; map.vacant(), 16);
+    assert_eq!(rt; map.reserve(10), Ok(()));
+    assert!(rt; map.is_sound() && !map.is_compact());
+}
+
+#[test]
+fn retain_then_shrink(rt: HostRuntime) {
+    nine_left(&rt, Tried::new(IdOrdMap::new(rt.alloc())));
+    nine_left(&rt, Tried::new(IdHashMap::new(rt.alloc())));
+}
