@@ -1,7 +1,7 @@
 //! Maps of many items, hash maps over other hashers, and the numbers of a map.
 use iddqd::{IdHashMap, IdOrdMap};
 use iddqd_run::KeyedMap;
-use iddqd_testing::hashers::ZeroHasher;
+use iddqd_testing::hashers::{FewBits, Varying, ZeroHasher};
 use iddqd_testing::items::Numbered;
 use iddqd_testing::tried::{Inserted, Tried, is_put};
 use std::alloc::{AllocError, Global};
@@ -92,6 +92,19 @@ fn constant_hasher(rt: HostRuntime) -> Result<(), Fail> {
     assert_eq!(rt; map.remove(&50), Some(numbered(50)));
     assert_eq!(rt; map.get(&50).copied(), None);
     assert!(rt; all_are_found(&map, parted(front, 49).0) && all_are_found(&map, rest));
+    Ok(())
+}
+
+// A hundred thousand keys whose hashes vary in few bits go in, and all are found: each in time that does not grow with their number.
+#[test]
+fn hashers_of_few_bits(rt: HostRuntime) -> Result<(), Fail> {
+    let alloc = rt.alloc();
+    let items = in_order(alloc, 100_003, 7)?;
+    for varying in [Varying::High, Varying::Low, Varying::Multiples] {
+        let mut map = Tried::new(IdHashMap::with_hasher(alloc, FewBits::new(varying)));
+        assert!(rt; all_go_in(&mut map, items.as_slice()));
+        assert!(rt; all_are_found(&map, items.as_slice()));
+    }
     Ok(())
 }
 

@@ -1,4 +1,5 @@
 //! Rows of visitors, and of walks that write and that retain.
+ghost use Rattle.std.specs.Prelude.{nat_eq};
 ghost use Rattle.iddqd.specs.Visiting.{VisitsKeepKeys};
 ghost use Rattle.iddqd_testing.specs.Changed.{changed};
 
@@ -37,7 +38,7 @@ where
 fn odd_of_three<M: KeyedMap<Item = Numbered, Key = u32>>(rt: &impl Abort, map: Tried<M>) -> Change
 where
     M: Drop,
-    requires keeps_keys { VisitsKeepKeys M.key M.Key.eq changed }
+    requires keeps_keys { VisitsKeepKeys M.key nat_eq changed }
 {
     let mut map = of_three(rt, map);
     let mut visitor = Change::KeepOdd(0);
@@ -56,7 +57,7 @@ fn visited_by_command<M: KeyedMap<Item = Numbered, Key = u32>>(
 ) -> Result<(), Fail>
 where
     M: Drop,
-    requires keeps_keys { VisitsKeepKeys M.key M.Key.eq changed }
+    requires keeps_keys { VisitsKeepKeys M.key nat_eq changed }
 {
     let mut map = of_three(rt, map);
     let commands = Vec::from_array(alloc, [Command::Visit(1, Change::DenyAll), Command::Get(1)])?;
@@ -113,14 +114,13 @@ fn retain_by_value(rt: HostRuntime) -> Result<(), Fail> {
     Ok(())
 }
 
-// The value of the name, by a walk that reads.
-fn value_of<'a>(walk: impl Iterator<Item = &'a Named>, name: [u8; 3]) -> Option<u32> {
-    for item in walk {
-        if item.name == name {
-            return Some(item.value);
-        }
-    }
-    None
+// The value of the name, by a walk that reads: the map need not be keyed for it.
+macro_rules! value_in {
+    ($map:ident, $name:literal) => {
+        $map.iter()
+            .find(|item| item.name == *$name)
+            .map(|item| item.value)
+    };
 }
 
 fn of_foo_and_bar<M: KeyedMap<Item = Named, Key = [u8; 3]>>(
@@ -143,13 +143,13 @@ fn writing_walk(rt: HostRuntime) {
     let ordered = of_foo_and_bar(&rt, Tried::new(IdOrdMap::new(rt.alloc())));
     let (map, left) = ordered.written(3, double);
     assert_eq!(rt; left, 0);
-    assert_eq!(rt; value_of(map.iter(), *b"foo"), Some(84));
-    assert_eq!(rt; value_of(map.iter(), *b"bar"), Some(40));
+    assert_eq!(rt; value_in!(map, b"foo"), Some(84));
+    assert_eq!(rt; value_in!(map, b"bar"), Some(40));
     let hashed = of_foo_and_bar(&rt, Tried::new(IdHashMap::new(rt.alloc())));
     let (map, left) = hashed.written(3, double);
     assert_eq!(rt; left, 0);
-    assert_eq!(rt; value_of(map.iter(), *b"foo"), Some(84));
-    assert_eq!(rt; value_of(map.iter(), *b"bar"), Some(40));
+    assert_eq!(rt; value_in!(map, b"foo"), Some(84));
+    assert_eq!(rt; value_in!(map, b"bar"), Some(40));
 }
 
 #[test]
@@ -157,12 +157,12 @@ fn writing_walk_of_one_item(rt: HostRuntime) {
     let ordered = of_foo_and_bar(&rt, Tried::new(IdOrdMap::new(rt.alloc())));
     let (map, left) = ordered.written(1, double);
     assert_eq!(rt; left, 1);
-    assert_eq!(rt; value_of(map.iter(), *b"foo"), Some(42));
-    assert_eq!(rt; value_of(map.iter(), *b"bar"), Some(40));
+    assert_eq!(rt; value_in!(map, b"foo"), Some(42));
+    assert_eq!(rt; value_in!(map, b"bar"), Some(40));
     let hashed = of_foo_and_bar(&rt, Tried::new(IdHashMap::new(rt.alloc())));
     let (map, left) = hashed.written(1, double);
     assert_eq!(rt; left, 1);
-    let values = (value_of(map.iter(), *b"foo"), value_of(map.iter(), *b"bar"));
+    let values = (value_in!(map, b"foo"), value_in!(map, b"bar"));
     assert!(rt; values == (Some(84), Some(20)) || values == (Some(42), Some(40)));
 }
 
