@@ -2,9 +2,9 @@
 --     SlotPlace, slot_place      the place of a slot that has an item
 --     length-written      writing to a slot keeps the number of items
 --     written_replaced      where the slot's item is the one that a query finds, writing to it replaces the item found
---     PlaceRead, place_read      the item at a place is that of its slot
+--     PlaceRead, place_read      the item at a place is that of its slot, to read, to write and to take out
 --     written_found      the same, of the item that is found
---     read_back, written_twice      what was written is there, and a second write leaves what it alone would
+--     read_back, written_twice, others_written      what was written is there, a second write leaves what it alone would, and the others stay
 --     keys_written      a write under the same key leaves the keys
 --     same_key_kept, akin_key_kept, akin_keys_differ      where an equal key was written the items still ascend, and their keys still differ
 --     listed_slot      a slot has an item exactly where it is one of the slots
@@ -15,9 +15,9 @@ use Rattle.std.proofs.Math.Seq.{map-set_same}
 use Rattle.std.specs.Cmp.{IsEquivalence, IsTotalOrder, Equal-is}
 use Rattle.std.specs.List.Sorted.{IsStrictlySortedBy}
 use Rattle.std.specs.Ordering.{is_eq}
-use Rattle.std.specs.List.{AllByRecursion, Contains, IsDistinct, slice_get}
+use Rattle.std.specs.List.{AllByRecursion, Contains, IsDistinct, remove, slice_get}
 use Rattle.iddqd_store.specs.Contents.{Ascends, IsKeyTest, NoTwoAkin, find_item, replaced}
-use Rattle.iddqd_store.specs.SlotItems.{HaveSlots, item_of_slot, written_to_slot}
+use Rattle.iddqd_store.specs.SlotItems.{HaveSlots, item_of_slot, without_slot, written_to_slot}
 use Rattle.iddqd_store.proofs.ContentsLemmas.{map_at, only_place}
 use Rattle.iddqd_store.proofs.KeepsLemmas.{ascends_set, differ_set}
 use Rattle.iddqd_store.proofs.OrderLemmas.{Tells, find_tells}
@@ -76,10 +76,20 @@ module _ {T : Type 0} where
       by behind true q = rw q (rw q refl)
       by behind false q = rw q (rw q (ap (λ ys. y ∷ ys) behind))
 
+  pub others_written : (slots : List ℕ) (items : List T) (slot : ℕ) (w : T) → without_slot slots (written_to_slot slots items slot w) slot ≡ without_slot slots items slot
+  others_written [] items slot w = refl
+  others_written (s ∷ slots) [] slot w = refl
+  others_written (s ∷ slots) (y ∷ items) slot w = by (others_written slots items slot w) (nat_eq s slot) refl
+    where
+      by : without_slot slots (written_to_slot slots items slot w) slot ≡ without_slot slots items slot → (b : Bool) → nat_eq s slot ≡ b → without_slot (s ∷ slots) (written_to_slot (s ∷ slots) (y ∷ items) slot w) slot ≡ without_slot (s ∷ slots) (y ∷ items) slot
+      by behind true q = rw q (rw q refl)
+      by behind false q = rw q (rw q (ap (λ ys. y ∷ ys) behind))
+
   -- of slots that each item has one of its own
   pub record PlaceRead (slots : List ℕ) (items : List T) (at slot : ℕ) : Type 0 where
     pub item : item_of_slot slots items slot ≡ slice_get items at
     pub written : (w : T) → written_to_slot slots items slot w ≡ set items at w
+    pub others : without_slot slots items slot ≡ remove items at
 
   pub place_read : (slots : List ℕ) (items : List T) (at slot : ℕ) → HaveSlots slots items → slice_get slots at ≡ Some slot → PlaceRead slots items at slot
   unfolding IsDistinct
@@ -87,11 +97,11 @@ module _ {T : Type 0} where
   place_read (s ∷ slots) [] at slot own e = absurd (omega (arith, own.as_many))
   place_read (s ∷ slots) (y ∷ items) zero slot own e =
       let here : s ≡ slot = cc in
-      record { item = rw (eq-eqb s slot here) refl; written = λ w. rw (eq-eqb s slot here) refl }
+      record { item = rw (eq-eqb s slot here) refl; written = λ w. rw (eq-eqb s slot here) refl; others = rw (eq-eqb s slot here) refl }
   place_read (s ∷ slots) (y ∷ items) (suc at) slot own e =
       let rest = place_read slots items at slot (record { as_many = omega (arith, own.as_many); each_once = own.each_once.1 }) e in
       let apart : nat_eq s slot ≡ false = all_at (λ n. nat_eq s n ≡ false) slots at slot own.each_once.0 e in
-      record { item = rw apart rest.item; written = λ w. rw apart (ap (λ ys. y ∷ ys) (rest.written w)) }
+      record { item = rw apart rest.item; written = λ w. rw apart (ap (λ ys. y ∷ ys) (rest.written w)); others = rw apart (ap (λ ys. y ∷ ys) rest.others) }
 
   occupied_listed : (slots : List ℕ) (items : List T) (slot : ℕ) → is_some (item_of_slot slots items slot) ≡ true → Contains slots slot
   occupied_listed slots items slot some = by (item_of_slot slots items slot) refl some
