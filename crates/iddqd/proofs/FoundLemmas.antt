@@ -1,6 +1,6 @@
 -- What a slot whose item's key passes a test says of the items: the search, the removal and the replacement.
 --     found_passes      what is found passes
---     without_absent      where nothing is found nothing is taken out
+--     without_absent, replaced_absent      where nothing is found nothing is taken out, and nothing replaced
 --     item_absent      no slot's item passes, and so none is found
 --     item_found      the item of the slot is the one that is found
 --     item_taken, item_exchanged      what the items are without it, and with another in its stead
@@ -30,6 +30,14 @@ module _ {T K : Type 0} (key : T → K) where
       by : (b : Bool) → test (key y) ≡ b → (IsAbsent key test ys → ys ≡ without key test ys) → y ∷ ys ≡ without key test (y ∷ ys)
       by true e rest = (let first = sym (ap (λ b. cond b (Some y) (find_item key test ys)) e) ∙ absent in cc)
       by false e rest = rw e (ap (λ zs. y ∷ zs) (rest (sym (ap (λ b. cond b (Some y) (find_item key test ys)) e) ∙ absent)))
+
+  pub replaced_absent : (test : K → Bool) (y : T) (items : List T) → IsAbsent key test items → items ≡ replaced key test y items
+  replaced_absent test y [] absent = refl
+  replaced_absent test y (z ∷ zs) absent = by (test (key z)) refl (replaced_absent test y zs)
+    where
+      by : (b : Bool) → test (key z) ≡ b → (IsAbsent key test zs → zs ≡ replaced key test y zs) → z ∷ zs ≡ replaced key test y (z ∷ zs)
+      by true e rest = (let first = sym (ap (λ b. cond b (Some z) (find_item key test zs)) e) ∙ absent in cc)
+      by false e rest = rw e (ap (λ vs. z ∷ vs) (rest (sym (ap (λ b. cond b (Some z) (find_item key test zs)) e) ∙ absent)))
 
   pub item_absent : (test : K → Bool) (slots : List (Option T)) → ((slot : ℕ) (x : T) → at slots slot ≡ Some x → test (key x) ≡ false) → IsAbsent key test (items_of slots)
   item_absent test [] none = refl

@@ -2,12 +2,14 @@
 --     Rises      the number of a later slot is greater
 --     item_in_slot      the item of a slot is what the store has there
 --     items_lent, numbers_lent      the items and their numbers after the write
+--     others_left      the items but for the slot's
+--     told_in_slot      what is told of each slot, at one that is occupied
 --     keyed_written, keyed_akin_written      a write under an equal key leaves the map keyed
 use Rattle.std.proofs.Common.{◌≡◌, ℕ, zero, suc, ◌<◌, Bool, true, List, [], ◌∷◌, set, Option, Some, None, is_some, refl, sym, ap, ◌∙◌, arith, true≢false}
 use Rattle.std.proofs.lemmas.Bool.{eq-eqb, ne_eqb}
 use Rattle.std.specs.Cmp.{IsEquivalence}
 use Rattle.std.specs.Hash.{HashWrites}
-use Rattle.iddqd_core.specs.SlotItems.{item_of_slot, written_to_slot}
+use Rattle.iddqd_core.specs.SlotItems.{item_of_slot, without_slot, written_to_slot}
 use Rattle.iddqd_core.proofs.WrittenLemmas.{akin_keys_differ, keys_written}
 use Rattle.iddqd.specs.HashItems.{HashItems, Keyed}
 use Rattle.iddqd.specs.Paired.{numbers_of}
@@ -43,6 +45,22 @@ module _ {T : Type 0} where
   items_numbered number rises (Some x ∷ xs) (suc slot) w some =
       rw (ne_eqb (number 0) (number (suc slot)) (λ e. (let h = rises 0 (suc slot) (omega arith) in omega arith))) (ap (λ ys. x ∷ ys) (items_numbered (λ s. number (suc s)) (rises_on number rises) xs slot w some))
 
+  others_numbered : (number : ℕ → ℕ) → Rises number → (xs : List (Option T)) (slot : ℕ) → is_some (at xs slot) ≡ true → items_of (set xs slot None) ≡ without_slot (numbers_of number xs) (items_of xs) (number slot)
+  others_numbered number rises [] slot some = absurd (true≢false (sym some))
+  others_numbered number rises (None ∷ xs) zero some = absurd (true≢false (sym some))
+  others_numbered number rises (None ∷ xs) (suc slot) some = others_numbered (λ s. number (suc s)) (rises_on number rises) xs slot some
+  others_numbered number rises (Some x ∷ xs) zero some = rw (eq-eqb (number 0) (number 0) refl) refl
+  others_numbered number rises (Some x ∷ xs) (suc slot) some =
+      rw (ne_eqb (number 0) (number (suc slot)) (λ e. (let h = rises 0 (suc slot) (omega arith) in omega arith))) (ap (λ ys. x ∷ ys) (others_numbered (λ s. number (suc s)) (rises_on number rises) xs slot some))
+
+  told_numbered : (number tell : ℕ → ℕ) → Rises number → (xs : List (Option T)) (slot : ℕ) → is_some (at xs slot) ≡ true → item_of_slot (numbers_of number xs) (numbers_of tell xs) (number slot) ≡ Some (tell slot)
+  told_numbered number tell rises [] slot some = absurd (true≢false (sym some))
+  told_numbered number tell rises (None ∷ xs) zero some = absurd (true≢false (sym some))
+  told_numbered number tell rises (None ∷ xs) (suc slot) some = told_numbered (λ s. number (suc s)) (λ s. tell (suc s)) (rises_on number rises) xs slot some
+  told_numbered number tell rises (Some x ∷ xs) zero some = rw (eq-eqb (number 0) (number 0) refl) refl
+  told_numbered number tell rises (Some x ∷ xs) (suc slot) some =
+      rw (ne_eqb (number 0) (number (suc slot)) (λ e. (let h = rises 0 (suc slot) (omega arith) in omega arith))) (told_numbered (λ s. number (suc s)) (λ s. tell (suc s)) (rises_on number rises) xs slot some)
+
   abbrev own : List (Option T) → List ℕ
   own xs = numbers_of (λ slot. slot) xs
 
@@ -51,6 +69,12 @@ module _ {T : Type 0} where
 
   pub items_lent : (xs : List (Option T)) (slot : ℕ) (w : T) → is_some (at xs slot) ≡ true → items_of (set xs slot (Some w)) ≡ written_to_slot (own xs) (items_of xs) slot w
   items_lent xs slot w some = items_numbered (λ s. s) (λ s t h. h) xs slot w some
+
+  pub others_left : (xs : List (Option T)) (slot : ℕ) → is_some (at xs slot) ≡ true → items_of (set xs slot None) ≡ without_slot (own xs) (items_of xs) slot
+  others_left xs slot some = others_numbered (λ s. s) (λ s t h. h) xs slot some
+
+  pub told_in_slot : (tell : ℕ → ℕ) (xs : List (Option T)) (slot : ℕ) → is_some (at xs slot) ≡ true → item_of_slot (own xs) (numbers_of tell xs) slot ≡ Some (tell slot)
+  told_in_slot tell xs slot some = told_numbered (λ s. s) tell (λ s t h. h) xs slot some
 
   pub numbers_lent : (number : ℕ → ℕ) (xs : List (Option T)) (slot : ℕ) (w : T) → is_some (at xs slot) ≡ true → numbers_of number (set xs slot (Some w)) ≡ numbers_of number xs
   numbers_lent number [] slot w some = refl

@@ -4,6 +4,7 @@ ghost use Rattle.iddqd_core.specs.Hashing.{hash_under};
 ghost use Rattle.iddqd_core.specs.SlotItems.{HaveSlots};
 
 mod clone;
+pub mod entry;
 mod equality;
 mod imp;
 mod insert;
@@ -18,6 +19,7 @@ mod room;
 mod slots;
 mod validate;
 
+pub use entry::{Entry, OccupiedEntry, VacantEntry};
 pub use iddqd_core::IdHashItem;
 use iddqd_core::{HashIndex, ItemStore};
 use iddqd_ord::MAX_ITEMS;

@@ -1,5 +1,6 @@
 mod CloneLemmas
 mod EndLemmas
+mod EntryLemmas
 pub mod LentLemmas
 pub mod PairedLemmas
 mod WalkLemmas

@@ -1,3 +1,4 @@
+pub mod Entry
 pub mod Guard
 pub mod OrdMap
 pub mod Paired

@@ -5,6 +5,7 @@ ghost use Rattle.iddqd_core.specs.SlotItems.{HaveSlots};
 
 mod clone;
 mod ends;
+pub mod entry;
 mod equality;
 mod imp;
 mod insert;
@@ -18,6 +19,7 @@ mod retain;
 mod room;
 mod validate;
 
+pub use entry::{Entry, OccupiedEntry, VacantEntry};
 pub use iddqd_core::IdOrdItem;
 use iddqd_core::{ItemStore, OrdIndex};
 pub use into_iter::IntoIter;

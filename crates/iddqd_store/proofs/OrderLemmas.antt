@@ -1,7 +1,8 @@
 -- The order plays no part in what is found among items of different keys.
 --     Tells, find_tells      what a search says of the elements
+--     found_answers      what is found passes
 --     differ_moved, find_moved      no two are akin, and one item is found, whatever the order
-use Rattle.std.proofs.Common.{◌≡◌, zero, suc, Bool, true, false, cond, List, [], ◌∷◌, length, map, get_or, Option, Some, None, refl, sym, ap, ◌∙◌, arith, find, suc-le-suc}
+use Rattle.std.proofs.Common.{◌≡◌, zero, suc, Bool, true, false, cond, List, [], ◌∷◌, length, map, get_or, Option, Some, None, IfSome, refl, sym, ap, ◌∙◌, arith, find, subst, suc-le-suc}
 use Rattle.std.proofs.Math.Nat.{le_of_suc-le-suc}
 use Rattle.std.proofs.lemmas.List.{get_or_read}
 use Rattle.std.proofs.lemmas.Option.{slice_get_read}
@@ -34,6 +35,10 @@ module _ {X : Type 0} (p : X → Bool) where
   pub find_tells : (xs : List X) → Tells xs (find p xs)
   find_tells [] = λ j d h. absurd (omega arith)
   find_tells (y ∷ xs) = first y xs (p y) refl (find_tells xs)
+
+  pub found_answers : (xs : List X) (o : Option X) → o ≡ find p xs → IfSome o (λ x. p x ≡ true)
+  found_answers xs None e = tt
+  found_answers xs (Some x) e = (subst (Tells xs) (sym e) (find_tells xs)).1
 
 pub differ_moved : {T K : Type 0} (key : T → K) {eq : K → K → Bool} → IsEquivalence eq → (xs ys : List T) → IsPermutation xs ys → NoTwoAkin key eq xs → NoTwoAkin key eq ys
 differ_moved key {eq} equivalence xs ys moved differ = IsDistinct-IsPermutation eq equivalence.symm (map key xs) (map key ys) (IsPermutation-map key xs ys moved) differ

@@ -2,7 +2,7 @@
 --     OrderedQuery eq cmp test compare      the laws of a query and of its keys' order, as one fact
 --     own_query      a key is a query for itself
 --     only_at, none_at      the item at the place found is the only one that the query is equivalent to; where the query belongs, there is none
---     find_there, place_there, without_there, replaced_there, find_nowhere, without_nowhere      what the search, the removal and the replacement give
+--     find_there, place_there, without_there, replaced_there, find_nowhere, without_nowhere, replaced_nowhere      what the search, the removal and the replacement give
 --     above_there, above_nowhere      where the first item stands whose key is above the query
 use Rattle.std.proofs.Common.{◌≡◌, ℕ, ◌+◌, ◌<◌, ◌≤◌, ⊎_elim, Bool, false, List, length, map, get_or, set, Some, None, IsTrue, sym, ap, ◌∙◌, arith, Ordering, Less, Equal, Greater, refl, below_more}
 use Rattle.std.proofs.lemmas.Bool.{cases_lt}
@@ -13,7 +13,7 @@ use Rattle.std.specs.List.{AllWithin, HoldsAt, remove, slice_get}
 use Rattle.std.specs.Ordering.{is_eq, is_lt, is_le, is_ge}
 use Rattle.iddqd_store.specs.Query.{differ_from_ascends, le_then_less, ge_then_greater}
 use Rattle.iddqd_store.specs.Contents.{IsKeyTest, find_item, without, replaced, Ascends}
-use Rattle.iddqd_store.proofs.ContentsLemmas.{IsOnlyPlace, NonePasses, only_place, find_at, find_none, filter_at, filter_none, map_at}
+use Rattle.iddqd_store.proofs.ContentsLemmas.{IsOnlyPlace, NonePasses, only_place, find_at, find_none, filter_at, filter_none, map_at, map_none}
 use Rattle.iddqd_store.proofs.SearchLemmas.{greater_in_front, less_at_back, find_from}
 
 pub record OrderedQuery {K : Type 0} (eq : K → K → Bool) (cmp : K → K → Ordering) (test : K → Bool) (compare : K → Ordering) : Type 0 where
@@ -66,6 +66,9 @@ module _ {T K : Type 0} (key : T → K) {eq : K → K → Bool} {cmp : K → K �
 
   pub without_nowhere : (i : ℕ) → AllWithin (λ k. compare k ≡ Greater) (map key items) 0 i → AllWithin (λ k. compare k ≡ Less) (map key items) i (length (map key items)) → items ≡ without key test items
   without_nowhere i before behind = sym (filter_none (λ y. test (key y)) items (none_at i before behind))
+
+  pub replaced_nowhere : (i : ℕ) (y : T) → AllWithin (λ k. compare k ≡ Greater) (map key items) 0 i → AllWithin (λ k. compare k ≡ Less) (map key items) i (length (map key items)) → items ≡ replaced key test y items
+  replaced_nowhere i y before behind = sym (map_none (λ x. test (key x)) y items (none_at i before behind))
 
   -- the first item whose key is above the query stands behind the one found, or where the query belongs
   first_above : (n : ℕ) → n ≤ length (map key items) → AllWithin (λ k. is_lt (compare k) ≡ false) (map key items) 0 n → AllWithin (λ k. compare k ≡ Less) (map key items) n (length (map key items)) → find_item key (λ k. is_lt (compare k)) items ≡ slice_get items n

@@ -2,9 +2,11 @@
 --     SlotPlace, slot_place      the place of a slot that has an item
 --     length-written      writing to a slot keeps the number of items
 --     written_replaced      where the slot's item is the one that a query finds, writing to it replaces the item found
---     PlaceRead, place_read      the item at a place is that of its slot
---     written_found      the same, of the item that is found
---     read_back, written_twice      what was written is there, and a second write leaves what it alone would
+--     PlaceRead, place_read      the item at a place is that of its slot, to read, to write and to take out
+--     others_without      ... and the others are what its removal leaves
+--     written_found, others_found      the same, of the item that is found
+--     told_of_slot      what is told of each item, at the item of a slot
+--     read_back, written_twice, others_written      what was written is there, a second write leaves what it alone would, and the others stay
 --     keys_written      a write under the same key leaves the keys
 --     same_key_kept, akin_key_kept, akin_keys_differ      where an equal key was written the items still ascend, and their keys still differ
 --     listed_slot      a slot has an item exactly where it is one of the slots
@@ -14,11 +16,12 @@ use Rattle.std.proofs.lemmas.Option.{get_or_from_slice_get, slice_get_within}
 use Rattle.std.proofs.Math.Seq.{map-set_same}
 use Rattle.std.specs.Cmp.{IsEquivalence, IsTotalOrder, Equal-is}
 use Rattle.std.specs.List.Sorted.{IsStrictlySortedBy}
+use Rattle.std.specs.Option.{option_map}
 use Rattle.std.specs.Ordering.{is_eq}
-use Rattle.std.specs.List.{AllByRecursion, Contains, IsDistinct, slice_get}
-use Rattle.iddqd_store.specs.Contents.{Ascends, IsKeyTest, NoTwoAkin, find_item, replaced}
-use Rattle.iddqd_store.specs.SlotItems.{HaveSlots, item_of_slot, written_to_slot}
-use Rattle.iddqd_store.proofs.ContentsLemmas.{map_at, only_place}
+use Rattle.std.specs.List.{AllByRecursion, Contains, IsDistinct, remove, slice_get}
+use Rattle.iddqd_store.specs.Contents.{Ascends, IsKeyTest, NoTwoAkin, find_item, replaced, without}
+use Rattle.iddqd_store.specs.SlotItems.{HaveSlots, item_of_slot, without_slot, written_to_slot}
+use Rattle.iddqd_store.proofs.ContentsLemmas.{filter_at, map_at, only_place}
 use Rattle.iddqd_store.proofs.KeepsLemmas.{ascends_set, differ_set}
 use Rattle.iddqd_store.proofs.OrderLemmas.{Tells, find_tells}
 use Rattle.iddqd_store.proofs.SearchLemmas.{at_key}
@@ -34,6 +37,7 @@ module _ {T : Type 0} where
     pub slot_there : slice_get slots place ≡ Some slot
     pub item_there : slice_get items place ≡ Some x
     pub written : (w : T) → written_to_slot slots items slot w ≡ set items place w
+    pub others : without_slot slots items slot ≡ remove items place
 
   pub slot_place : (slots : List ℕ) (items : List T) (slot : ℕ) (x : T) → item_of_slot slots items slot ≡ Some x → SlotPlace slots items slot x
   slot_place [] items slot x e = cc
@@ -41,7 +45,7 @@ module _ {T : Type 0} where
   slot_place (s ∷ slots) (y ∷ items) slot x e = by (slot_place slots items slot x) (nat_eq s slot) refl e
     where
       by : (item_of_slot slots items slot ≡ Some x → SlotPlace slots items slot x) → (b : Bool) → nat_eq s slot ≡ b → cond b (Some y) (item_of_slot slots items slot) ≡ Some x → SlotPlace (s ∷ slots) (y ∷ items) slot x
-      by behind true q there = record { place = zero; slot_there = ap Some (eqb-true s slot q); item_there = there; written = λ w. rw q refl }
+      by behind true q there = record { place = zero; slot_there = ap Some (eqb-true s slot q); item_there = there; written = λ w. rw q refl; others = rw q refl }
       by behind false q there =
           let rest = behind there in
           record {
@@ -49,6 +53,7 @@ module _ {T : Type 0} where
             slot_there = rest.slot_there;
             item_there = rest.item_there;
             written = λ w. rw q (ap (λ ys. y ∷ ys) (rest.written w));
+            others = rw q (ap (λ ys. y ∷ ys) rest.others);
           }
 
   pub length-written : (slots : List ℕ) (items : List T) (slot : ℕ) (w : T) → length (written_to_slot slots items slot w) ≡ length items
@@ -76,10 +81,20 @@ module _ {T : Type 0} where
       by behind true q = rw q (rw q refl)
       by behind false q = rw q (rw q (ap (λ ys. y ∷ ys) behind))
 
+  pub others_written : (slots : List ℕ) (items : List T) (slot : ℕ) (w : T) → without_slot slots (written_to_slot slots items slot w) slot ≡ without_slot slots items slot
+  others_written [] items slot w = refl
+  others_written (s ∷ slots) [] slot w = refl
+  others_written (s ∷ slots) (y ∷ items) slot w = by (others_written slots items slot w) (nat_eq s slot) refl
+    where
+      by : without_slot slots (written_to_slot slots items slot w) slot ≡ without_slot slots items slot → (b : Bool) → nat_eq s slot ≡ b → without_slot (s ∷ slots) (written_to_slot (s ∷ slots) (y ∷ items) slot w) slot ≡ without_slot (s ∷ slots) (y ∷ items) slot
+      by behind true q = rw q (rw q refl)
+      by behind false q = rw q (rw q (ap (λ ys. y ∷ ys) behind))
+
   -- of slots that each item has one of its own
   pub record PlaceRead (slots : List ℕ) (items : List T) (at slot : ℕ) : Type 0 where
     pub item : item_of_slot slots items slot ≡ slice_get items at
     pub written : (w : T) → written_to_slot slots items slot w ≡ set items at w
+    pub others : without_slot slots items slot ≡ remove items at
 
   pub place_read : (slots : List ℕ) (items : List T) (at slot : ℕ) → HaveSlots slots items → slice_get slots at ≡ Some slot → PlaceRead slots items at slot
   unfolding IsDistinct
@@ -87,11 +102,11 @@ module _ {T : Type 0} where
   place_read (s ∷ slots) [] at slot own e = absurd (omega (arith, own.as_many))
   place_read (s ∷ slots) (y ∷ items) zero slot own e =
       let here : s ≡ slot = cc in
-      record { item = rw (eq-eqb s slot here) refl; written = λ w. rw (eq-eqb s slot here) refl }
+      record { item = rw (eq-eqb s slot here) refl; written = λ w. rw (eq-eqb s slot here) refl; others = rw (eq-eqb s slot here) refl }
   place_read (s ∷ slots) (y ∷ items) (suc at) slot own e =
       let rest = place_read slots items at slot (record { as_many = omega (arith, own.as_many); each_once = own.each_once.1 }) e in
       let apart : nat_eq s slot ≡ false = all_at (λ n. nat_eq s n ≡ false) slots at slot own.each_once.0 e in
-      record { item = rw apart rest.item; written = λ w. rw apart (ap (λ ys. y ∷ ys) (rest.written w)) }
+      record { item = rw apart rest.item; written = λ w. rw apart (ap (λ ys. y ∷ ys) (rest.written w)); others = rw apart (ap (λ ys. y ∷ ys) rest.others) }
 
   occupied_listed : (slots : List ℕ) (items : List T) (slot : ℕ) → is_some (item_of_slot slots items slot) ≡ true → Contains slots slot
   occupied_listed slots items slot some = by (item_of_slot slots items slot) refl some
@@ -115,6 +130,12 @@ module _ {T : Type 0} where
   listed_slot slots items slot many = (occupied_listed slots items slot, λ c. listed_occupied slots items slot many c.0 c.1 c.2)
 
 -- the slot's item is the one that a query finds
+pub others_without : {T K : Type 0} (key : T → K) {eq : K → K → Bool} → IsEquivalence eq → (test : K → Bool) → IsKeyTest eq test → (slots : List ℕ) (items : List T) → NoTwoAkin key eq items → (slot : ℕ) (x : T) → item_of_slot slots items slot ≡ Some x → test (key x) ≡ true → without_slot slots items slot ≡ without key test items
+others_without key equivalence test tests slots items differ slot x there passes =
+    let p = slot_place slots items slot x there in
+    let only = only_place key equivalence test tests items differ p.place (slice_get_within items p.place x p.item_there) (λ d. ap (λ y. test (key y)) (get_or_from_slice_get items p.place x d p.item_there) ∙ passes) in
+    p.others ∙ sym (filter_at (λ y. test (key y)) items p.place only)
+
 pub written_replaced : {T K : Type 0} (key : T → K) {eq : K → K → Bool} → IsEquivalence eq → (test : K → Bool) → IsKeyTest eq test → (slots : List ℕ) (items : List T) → NoTwoAkin key eq items → (slot : ℕ) (x w : T) → item_of_slot slots items slot ≡ Some x → test (key x) ≡ true → written_to_slot slots items slot w ≡ replaced key test w items
 written_replaced key equivalence test tests slots items differ slot x w there passes =
     let p = slot_place slots items slot x there in
@@ -128,6 +149,22 @@ written_found {T} key equivalence test tests slots items differ slot w some foun
     by None e none = absurd (true≢false (sym none))
     by (Some x) e there =
         written_replaced key equivalence test tests slots items differ slot x w e (subst (Tells (λ y. test (key y)) items) (found ∙ e) (find_tells (λ y. test (key y)) items)).1
+
+pub others_found : {T K : Type 0} (key : T → K) {eq : K → K → Bool} → IsEquivalence eq → (test : K → Bool) → IsKeyTest eq test → (slots : List ℕ) (items : List T) → NoTwoAkin key eq items → (slot : ℕ) → is_some (item_of_slot slots items slot) ≡ true → find_item key test items ≡ item_of_slot slots items slot → without_slot slots items slot ≡ without key test items
+others_found {T} key equivalence test tests slots items differ slot some found = by (item_of_slot slots items slot) refl some
+  where
+    by : (o : Option T) → item_of_slot slots items slot ≡ o → is_some o ≡ true → without_slot slots items slot ≡ without key test items
+    by None e none = absurd (true≢false (sym none))
+    by (Some x) e there =
+        others_without key equivalence test tests slots items differ slot x e (subst (Tells (λ y. test (key y)) items) (found ∙ e) (find_tells (λ y. test (key y)) items)).1
+
+-- what is told of each item, at the item of a slot
+pub told_of_slot : {T U : Type 0} (tell : T → U) (slots : List ℕ) (items : List T) (slot : ℕ) → item_of_slot slots (map tell items) slot ≡ option_map tell (item_of_slot slots items slot)
+told_of_slot tell [] items slot = refl
+told_of_slot tell (s ∷ slots) [] slot = refl
+told_of_slot tell (s ∷ slots) (y ∷ items) slot =
+    let rest = told_of_slot tell slots items slot in
+    elim (nat_eq s slot) as (λ b. cond b (Some (tell y)) (item_of_slot slots (map tell items) slot) ≡ option_map tell (cond b (Some y) (item_of_slot slots items slot))) [ true ↦ refl | false ↦ rest ]
 
 module _ {T K : Type 0} (key : T → K) (slots : List ℕ) (items : List T) (slot : ℕ) (x w : T) (there : item_of_slot slots items slot ≡ Some x) where
   -- what is written under the same key leaves the keys

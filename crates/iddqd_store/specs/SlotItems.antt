@@ -3,6 +3,7 @@
 --     item_of_slot slots items slot      the item of the slot, or none
 --     still_there      a slot that was written to has an item still, as the guard of a map says of its slot
 --     written_to_slot slots items slot w      the items with w in the place of the slot's (ours; a write through the crate's `RefMut`)
+--     without_slot slots items slot      the items but for the slot's (ours; a removal by the crate's `OccupiedEntry`)
 use Rattle.std.specs.Prelude.{◌≡◌, ℕ, List, [], ◌∷◌, length, nat_eq, Option, Some, None, is_some, if◌then◌else◌, ◌==◌}
 use Rattle.std.specs.List.{IsDistinct}
 use Rattle.std.proofs.Common.{Bool, true, false, cond, refl}
@@ -21,6 +22,12 @@ module _ {T : Type 0} where
   written_to_slot [] items slot w = items
   written_to_slot (s ∷ slots) [] slot w = []
   written_to_slot (s ∷ slots) (x ∷ items) slot w = if s == slot then w ∷ items else x ∷ written_to_slot slots items slot w
+
+  -- with the slots themselves for items, the slots but for this one
+  abbrev pub without_slot : List ℕ → List T → ℕ → List T
+  without_slot [] items slot = items
+  without_slot (s ∷ slots) [] slot = []
+  without_slot (s ∷ slots) (x ∷ items) slot = if s == slot then items else x ∷ without_slot slots items slot
 
   pub still_there : (slots : List ℕ) (items : List T) (slot : ℕ) (w : T) → is_some (item_of_slot slots items slot) ≡ true → is_some (item_of_slot slots (written_to_slot slots items slot w) slot) ≡ true
   still_there [] items slot w some = some

@@ -1,9 +1,10 @@
 //! Insertions. An akin item is looked for first, then the limit, then memory, and only then is anything changed.
-ghost use Rattle.std.specs.Prelude.{◌≡◌, IfOk, IfErr, IfNone, OnOk, OnErr, OnSome, Err};
+ghost use Rattle.std.specs.Prelude.{◌≡◌, IfOk, IfErr, IfNone, OnOk, OnErr, OnSome, Err, Some};
 ghost use Rattle.std.specs.Borrow.{sem};
-ghost use Rattle.iddqd_core.specs.Contents.{IsAbsent, find_item, replaced};
+ghost use Rattle.iddqd_core.specs.Contents.{AddsItem, IsAbsent, find_item, replaced};
 ghost use Rattle.iddqd_core.specs.Hashing.{hash_under};
 ghost use Rattle.iddqd_core.specs.Refusal.{FindsNoRoom, OnRefused, RefusesInsertion, refusal_kind};
+ghost use Rattle.iddqd_core.specs.SlotItems.{item_of_slot, without_slot, written_to_slot};
 
 use super::paired::{exchange, find_slot, put_in, reserve_one};
 use super::{IdHashMap, Lookups};
@@ -32,7 +33,7 @@ impl<T: IdHashItem, S: BuildHasher> IdHashMap<T, S> {
             return Err(InsertError::Duplicate(DuplicateItem::internal_new(item, existing)));
         }
         match self.insert_new(hash, item) {
-            Ok(()) => Ok(&mut self.done),
+            Ok(_) => Ok(&mut self.done),
             Err(refused) => Err(InsertError::Refused(refused)),
         }
     }
@@ -63,12 +64,16 @@ impl<T: IdHashItem, S: BuildHasher> IdHashMap<T, S> {
         }
     }
 
-    // Puts in an item whose key no other has.
-    fn insert_new(&mut self, hash: u64, item: T) -> Result<(), Refused<T>>
+    // Puts in an item whose key no other has, and answers its slot.
+    pub(super) fn insert_new(&mut self, hash: u64, item: T) -> Result<u32, Refused<T>>
         requires keyed { ⟦<IdHashMap<T, S> as Lookups>⟧.keyed self.old }
         requires absent { IsAbsent T.key (T.Key.eq (T.key item)) self.old.items }
         requires hash { hash ≡ hash_under S.BuildHasher S.Hasher.Hasher self.old.hasher (T.Key.hash_input (T.key item)) }
         ensures inserted { OnOk result (HashInserts ⟦<IdHashMap<T, S> as Lookups>⟧.keyed item self.old self.new) }
+        ensures there { IfOk result (λ slot. item_of_slot self.new.slots self.new.items slot ≡ Some item) }
+        ensures listed { IfOk result (λ slot. item_of_slot self.new.slots self.new.hashes slot ≡ Some hash) }
+        ensures written { IfOk result (λ slot. (w : T) → AddsItem w self.old.items (written_to_slot self.new.slots self.new.items slot w)) }
+        ensures others { IfOk result (λ slot. without_slot self.new.slots self.new.items slot ≡ self.old.items) }
         ensures kept { OnErr result (HashKeeps ⟦<IdHashMap<T, S> as Lookups>⟧.keyed self.old self.new) }
         ensures item { IfErr result (λ refused. refused.item ≡ item) }
         ensures kind { IfErr result (λ refused. refused.error ≡ refusal_kind self.old.limit self.old.items) }
@@ -77,7 +82,6 @@ impl<T: IdHashItem, S: BuildHasher> IdHashMap<T, S> {
         if let Err(error) = reserve_one(&mut self.store, &mut self.index) {
             return Err(Refused { item, error });
         }
-        put_in(&mut self.store, &mut self.index, hash, item);
-        Ok(())
+        Ok(put_in(&mut self.store, &mut self.index, hash, item))
     }
 }

@@ -86,6 +86,23 @@ impl<T: IdHashItem, S: BuildHasher> IdHashMap<T, S> {
         ensures keyed { ⟦<IdHashMap<T, S> as Lookups>⟧.keyed self.new }
     {
         let hash = self.hasher.hash_one(self.item_in(slot).key());
+        self.take_hashed(hash, slot)
+    }
+
+    // The same, where the hash that is stored for the slot is known.
+    pub(super) fn take_hashed(&mut self, hash: u64, slot: u32) -> T
+        requires keyed { ⟦<IdHashMap<T, S> as Lookups>⟧.keyed self.old }
+        requires there { IsSome (item_of_slot self.old.slots self.old.items slot) }
+        requires listed { item_of_slot self.old.slots self.old.hashes slot ≡ Some hash }
+        ensures value { item_of_slot self.old.slots self.old.items slot ≡ Some result }
+        ensures gone { (at : ℕ) → slice_get self.old.slots at ≡ Some slot → (self.new.items ≡ remove self.old.items at) × (self.new.slots ≡ remove self.old.slots at) }
+        ensures vacant { self.new.vacant ≡ self.old.vacant + 1 }
+        ensures capacity { self.new.capacity ≡ self.old.capacity }
+        ensures limit { self.new.limit ≡ self.old.limit }
+        ensures hasher { self.new.hasher ≡ self.old.hasher }
+        ensures spare { KeepsSpare self.old self.new }
+        ensures keyed { ⟦<IdHashMap<T, S> as Lookups>⟧.keyed self.new }
+    {
         take_out(&mut self.store, &mut self.index, hash, slot)
     }
 }

@@ -1,5 +1,5 @@
 //! Insertions. An akin item is looked for first, then the limit, then memory, and only then is anything changed.
-ghost use Rattle.std.specs.Prelude.{◌≡◌, ◌+◌, ◌*◌, ◌≤◌, length, IfOk, IfErr, IfNone, OnOk, OnErr, OnSome, Err};
+ghost use Rattle.std.specs.Prelude.{◌≡◌, ◌+◌, ◌*◌, ◌≤◌, length, insert, IfOk, IfErr, IfNone, OnOk, OnErr, OnSome, Err, Some, slice_get};
 ghost use Rattle.std.specs.Borrow.{sem};
 ghost use Rattle.iddqd_core.specs.Contents.{Ascends, IsAbsent, find_item, keys, replaced};
 ghost use Rattle.iddqd_core.specs.Digits.{digits};
@@ -48,7 +48,7 @@ impl<T: IdOrdItem> IdOrdMap<T> {
             Err(place) => place,
         };
         match self.insert_at(place, item) {
-            Ok(()) => Ok(&mut self.done),
+            Ok(_) => Ok(&mut self.done),
             Err(refused) => Err(InsertError::Refused(refused)),
         }
     }
@@ -75,11 +75,13 @@ impl<T: IdOrdItem> IdOrdMap<T> {
         }
     }
 
-    // Puts the item in at the place where its key belongs.
-    fn insert_at(&mut self, place: Place, item: T) -> Result<(), Refused<T>>
+    // Puts the item in at the place where its key belongs, and answers its slot.
+    pub(super) fn insert_at(&mut self, place: Place, item: T) -> Result<u32, Refused<T>>
         requires keyed { Ascends T.key T.Key.cmp self.old.items }
         requires place { IsPlaceAmong (T.Key.cmp (T.key item)) (keys T.key self.old.items) (Err place) }
         ensures inserted { OnOk result (OrdInserts T.key T.Key.cmp item self.old self.new) }
+        ensures put { OnOk result (self.new.items ≡ insert self.old.items place item) }
+        ensures slot { IfOk result (λ slot. slice_get self.new.slots place ≡ Some slot) }
         ensures kept { OnErr result (OrdKeeps T.key T.Key.cmp self.old self.new) }
         ensures item { IfErr result (λ refused. refused.item ≡ item) }
         ensures kind { IfErr result (λ refused. refused.error ≡ refusal_kind self.old.limit self.old.items) }
@@ -87,7 +89,6 @@ impl<T: IdOrdItem> IdOrdMap<T> {
         if let Err(error) = reserve_one(&mut self.store, &mut self.index) {
             return Err(Refused { item, error });
         }
-        put_in(&mut self.store, &mut self.index, place, item);
-        Ok(())
+        Ok(put_in(&mut self.store, &mut self.index, place, item))
     }
 }

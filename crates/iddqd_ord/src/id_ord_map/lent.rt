@@ -1,11 +1,11 @@
 //! Lending one item for writing, and what lends it.
-ghost use Rattle.std.specs.Prelude.{◌≡◌, ◌<◌, length, IfNone, IfSome, IsSome, IsTrue, Some, None, slice_get, slice_set};
+ghost use Rattle.std.specs.Prelude.{◌≡◌, ◌<◌, length, remove, IfNone, IfSome, IsSome, IsTrue, Some, None, slice_get, slice_set};
 ghost use Rattle.std.specs.Borrow.{sem};
 ghost use Rattle.iddqd_core.specs.Contents.{Ascends, find_item, replaced};
-ghost use Rattle.iddqd_core.specs.SlotItems.{item_of_slot, written_to_slot};
+ghost use Rattle.iddqd_core.specs.SlotItems.{item_of_slot, without_slot, written_to_slot};
 
 use super::{IdOrdMap, RefMut};
-use iddqd_core::{Comparable, IdOrdItem, Steps};
+use iddqd_core::{Comparable, IdOrdItem, Place, Steps};
 
 impl<T> IdOrdMap<T> {
     ghost use Rattle.iddqd_ord.specs.Guard.{lends_item};
@@ -36,7 +36,19 @@ impl<T> IdOrdMap<T> {
         ensures item { item_of_slot self.now.slots self.now.items result ≡ slice_get self.now.items at }
         ensures written { (w : T) → written_to_slot self.now.slots self.now.items result w ≡ slice_set self.now.items at w }
     {
-        self.index.slot_at(self.index.place(at))
+        self.slot_at(self.index.place(at))
+    }
+
+    // The slot at the place. It goes down the index once.
+    #[inline]
+    pub(super) fn slot_at(&self, place: Place) -> u32
+        requires { place < length self.now.items }
+        ensures item { item_of_slot self.now.slots self.now.items result ≡ slice_get self.now.items place }
+        ensures written { (w : T) → written_to_slot self.now.slots self.now.items result w ≡ slice_set self.now.items place w }
+        ensures others { without_slot self.now.slots self.now.items result ≡ remove self.now.items place }
+        ensures placed { slice_get self.now.slots place ≡ Some result }
+    {
+        self.index.slot_at(place)
     }
 }
 

@@ -4,11 +4,12 @@ ghost use Rattle.std.specs.Fn.{CalledAt};
 ghost use Rattle.std.specs.List.Retain.{IsFiltered};
 ghost use Rattle.iddqd_core.specs.Contents.{Ascends};
 ghost use Rattle.iddqd_core.specs.Holding.{LeavesSlots};
+ghost use Rattle.iddqd_core.specs.SlotItems.{HaveSlots};
 ghost use Rattle.iddqd_core.specs.Visiting.{VisitsKeepKeys, kept_by, visitor_after};
 
 use super::IdOrdMap;
 use super::paired::take_out;
-use iddqd_core::{IdOrdItem, Visit};
+use iddqd_core::{IdOrdItem, Place, Visit};
 
 impl<T: IdOrdItem> IdOrdMap<T> {
     /// Asks once about each item, ascending, and takes out each that is answered false (the crate's `retain`, over a
@@ -79,6 +80,22 @@ impl<T: IdOrdItem> IdOrdMap<T> {
         ensures keyed { Ascends T.key T.Key.cmp self.new.items }
     {
         let place = self.index.place(at);
+        self.take_placed(place)
+    }
+
+    // The same, where the place is known.
+    pub(super) fn take_placed(&mut self, place: Place) -> T
+        requires keyed { Ascends T.key T.Key.cmp self.old.items }
+        requires in_list { place < length self.old.slots }
+        ensures item { slice_get self.old.items place ≡ Some result }
+        ensures items { self.new.items ≡ remove self.old.items place }
+        ensures slots { self.new.slots ≡ remove self.old.slots place }
+        ensures own { HaveSlots self.old.slots self.old.items }
+        ensures vacant { self.new.vacant ≡ self.old.vacant + 1 }
+        ensures capacity { self.new.capacity ≡ self.old.capacity }
+        ensures limit { self.new.limit ≡ self.old.limit }
+        ensures keyed { Ascends T.key T.Key.cmp self.new.items }
+    {
         take_out(&mut self.store, &mut self.index, place)
     }
 }

@@ -1,12 +1,16 @@
-use Rattle.std.proofs.Common.{◌∙◌, ◌<◌, length, sym, ap, subst, arith}
-use Rattle.iddqd_core.specs.Contents.{IsAbsent}
+use Rattle.std.proofs.Common.{◌∙◌, ◌<◌, Some, length, sym, ap, subst, arith}
+use Rattle.std.specs.Option.{option_map}
+use Rattle.iddqd_core.specs.Contents.{AddsItem, IsAbsent}
 use Rattle.iddqd_core.specs.Hashing.{hash_under}
 use Rattle.iddqd_core.specs.HashPairs.{HasOneMore}
 use Rattle.iddqd_core.specs.Refusal.{refusal_kind}
+use Rattle.iddqd_core.specs.SlotItems.{item_of_slot, written_to_slot}
 use Rattle.iddqd_core.proofs.RefusalLemmas.{kind_by_length}
+use Rattle.iddqd_core.proofs.WrittenLemmas.{told_of_slot}
 use Rattle.iddqd.specs.HashItems.{Keyed}
 use Rattle.iddqd.specs.HashMap.{HashInserts, HashKeeps}
-use Rattle.iddqd.specs.Paired.{items_in, shown}
+use Rattle.iddqd.specs.Paired.{items_in, shown, slots_in}
+use Rattle.iddqd.proofs.EntryLemmas.{added_item, added_others, added_written}
 use Rattle.iddqd.proofs.MapLemmas.{inserted_after, map_inserted, map_kept}
 use Rattle.iddqd.proofs.SlotItemLemmas.{length-items}
 use Rattle.iddqd.proofs.id_hash_map.IdHashMap.insert_new.Goals as goal
@@ -53,3 +57,35 @@ returns-clause-inserted g c =
     put.ensures.was_vacant put.ensures.updates put.ensures.spare put.ensures.len put.ensures.vacant put.ensures.capacity put.ensures.limit in
     subst (λ old. HashInserts (Keyed key eq input hash) x old (shown put.new.store put.new.index m.hasher)) c.self.view_is
     (inserted_after key eq input hash x (shown m.store m.index m.hasher) (shown room.store room.index m.hasher) (shown put.new.store put.new.index m.hasher) kept inserted)
+
+pub returns-clause-there : goal.returns-clause-there
+returns-clause-there g c =
+    added_item c.reserve_one.new.store c.put_in.new.store c.put_in.result c.args.item c.put_in.ensures.was_vacant c.put_in.ensures.updates
+
+pub returns-clause-listed : goal.returns-clause-listed
+returns-clause-listed g c =
+    let key = g.T.IdHashItem.key in
+    let input = g.T.Key.Hash.hash_input in
+    let hash = hash_under g.S.BuildHasher g.S.Hasher.Hasher in
+    let m = c.self.inside in
+    let new = shown c.put_in.new.store c.put_in.new.index m.hasher in
+    let slot = c.put_in.result in
+    let tell = λ (y : g.row.T.Denot). hash m.hasher (input (key y)) in
+    ap (λ hashes. item_of_slot new.slots hashes slot) (returns-clause-inserted g c).keyed.stored
+    ∙ told_of_slot tell new.slots new.items slot
+    ∙ ap (option_map tell) (returns-clause-there g c)
+    ∙ ap (λ v. Some (hash v.hasher (input (key c.args.item)))) c.self.view_is
+    ∙ ap Some (sym c.requires.hash)
+
+pub returns-clause-written : goal.returns-clause-written
+returns-clause-written g c w =
+    let room = c.reserve_one.new.store in
+    let new = c.put_in.new.store in
+    let same = ap (λ s. items_in s) c.reserve_one.ensures.store ∙ ap (λ v. v.items) c.self.view_is in
+    subst (λ items. AddsItem w items (written_to_slot (slots_in new) (items_in new) c.put_in.result w)) same
+    (added_written room new c.put_in.result c.args.item c.put_in.ensures.was_vacant c.put_in.ensures.updates w)
+
+pub returns-clause-others : goal.returns-clause-others
+returns-clause-others g c =
+    added_others c.reserve_one.new.store c.put_in.new.store c.put_in.result c.args.item c.put_in.ensures.was_vacant c.put_in.ensures.updates
+    ∙ ap (λ s. items_in s) c.reserve_one.ensures.store ∙ ap (λ v. v.items) c.self.view_is

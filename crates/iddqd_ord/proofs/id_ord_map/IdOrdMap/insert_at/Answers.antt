@@ -1,4 +1,4 @@
-use Rattle.std.proofs.Common.{◌≡◌, ◌-◌, ◌∙◌, insert, ap, subst, sym, length, arith}
+use Rattle.std.proofs.Common.{◌≡◌, ◌≤◌, ◌-◌, ◌∙◌, insert, slice_get, ap, subst, sym, length, arith}
 use Rattle.std.proofs.lemmas.List.{length-map}
 use Rattle.iddqd_core.specs.Contents.{Ascends}
 use Rattle.iddqd_core.specs.Listed.{listed_items}
@@ -7,6 +7,7 @@ use Rattle.iddqd_core.specs.Store.{vacant}
 use Rattle.iddqd_core.proofs.KeepsLemmas.{ascends_insert}
 use Rattle.iddqd_core.proofs.ListedLemmas.{length-listed}
 use Rattle.iddqd_core.proofs.RefusalLemmas.{kind_by_length}
+use Rattle.iddqd_ord.proofs.EntryLemmas.{insert_then_get}
 use Rattle.iddqd_ord.proofs.PairedLemmas.{have_slots}
 use Rattle.iddqd_ord.proofs.id_ord_map.IdOrdMap.insert_at.Goals as goal
 
@@ -43,3 +44,9 @@ returns-clause-inserted g c =
       };
       keyed = subst (Ascends key g.T.Key.Ord.cmp) (sym put) (ascends_insert key g.met.T.Key.Ord.total c.args.item items place c.requires.keyed c.requires.place.0 c.requires.place.1 c.requires.place.2);
     }
+
+pub returns-clause-slot : goal.returns-clause-slot
+returns-clause-slot g c =
+    let m = c.self.inside in
+    let within : c.args.place ≤ length c.reserve_one.new.index.slots = omega (arith, c.requires.place.0, length-map c.args.self.now.items g.T.IdOrdItem.key, ap (λ v. length v.items) c.self.view_is, length-listed m.store m.index.slots c.self.invariant.occupied, ap length c.in_default.ensures.slots) in
+    ap (λ xs. slice_get xs c.args.place) c.put_in.ensures.slots ∙ insert_then_get c.reserve_one.new.index.slots c.args.place c.put_in.result within

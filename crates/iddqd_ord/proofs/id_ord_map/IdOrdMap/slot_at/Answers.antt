@@ -1,0 +1,30 @@
+use Rattle.std.proofs.Common.{◌∙◌, sym, ap, arith, length, slice_get, set}
+use Rattle.std.specs.List.{remove}
+use Rattle.iddqd_core.specs.Listed.{listed_items}
+use Rattle.iddqd_core.specs.SlotItems.{item_of_slot, without_slot, written_to_slot}
+use Rattle.iddqd_core.proofs.WrittenLemmas.{PlaceRead, place_read}
+use Rattle.iddqd_ord.proofs.PairedLemmas.{have_slots}
+use Rattle.iddqd_ord.proofs.id_ord_map.IdOrdMap.slot_at.Given.{Over}
+use Rattle.iddqd_ord.proofs.id_ord_map.IdOrdMap.slot_at.Goals as goal
+
+pub slot_at-requires : goal.slot_at-requires
+slot_at-requires g c =
+    let m = c.self.inside in
+    omega (arith, c.requires, (have_slots m.store m.index.slots c.self.invariant).as_many, ap (λ v. length v.items) c.self.view_is)
+
+read : (g : Over) (c : goal.After-slot_at g) → PlaceRead c.self.inside.index.slots (listed_items c.self.inside.store c.self.inside.index.slots) c.args.place c.slot_at.result
+read g c =
+    let m = c.self.inside in
+    place_read m.index.slots (listed_items m.store m.index.slots) c.args.place c.slot_at.result (have_slots m.store m.index.slots c.self.invariant) c.slot_at.ensures
+
+pub returns-clause-item : goal.returns-clause-item
+returns-clause-item g c =
+    ap (λ v. item_of_slot v.slots v.items c.slot_at.result) (sym c.self.view_is) ∙ (read g c).item ∙ ap (λ v. slice_get v.items c.args.place) c.self.view_is
+
+pub returns-clause-written : goal.returns-clause-written
+returns-clause-written g c w =
+    ap (λ v. written_to_slot v.slots v.items c.slot_at.result w) (sym c.self.view_is) ∙ (read g c).written w ∙ ap (λ v. set v.items c.args.place w) c.self.view_is
+
+pub returns-clause-others : goal.returns-clause-others
+returns-clause-others g c =
+    ap (λ v. without_slot v.slots v.items c.slot_at.result) (sym c.self.view_is) ∙ (read g c).others ∙ ap (λ v. remove v.items c.args.place) c.self.view_is

@@ -1,0 +1,66 @@
+//! Entries: the place of an item in a map, or a map that lacks one.
+ghost use Rattle.std.specs.Prelude.{◌≡◌, IfSome, IsSome, IsTrue, Some, slice_get};
+ghost use Rattle.iddqd_core.specs.Contents.{Ascends, find_item, replaced, without};
+ghost use Rattle.iddqd_core.specs.SlotItems.{item_of_slot};
+
+mod ends;
+mod inserting;
+mod methods;
+mod occupied;
+mod vacant;
+
+use super::IdOrdMap;
+use iddqd_core::{Comparable, IdOrdItem, Place, Steps};
+
+/// What `entry` finds (the crate's `Entry`). One that is let go changes nothing more.
+#[derive(Drop)]
+pub enum Entry<'a, T> {
+    /// No item has a key that the query stands for.
+    Vacant(VacantEntry<'a, T>),
+    /// The item that the query finds.
+    Occupied(OccupiedEntry<'a, T>),
+}
+
+/// A map that lacks the item that was asked for (the crate's `VacantEntry`).
+#[derive(Drop)]
+pub struct VacantEntry<'a, T> {
+    pub(super) map: &'a mut IdOrdMap<T>,
+}
+
+/// An item of a map (the crate's `OccupiedEntry`). It holds the item's slot, and the place that a removal needs.
+#[derive(Drop)]
+pub struct OccupiedEntry<'a, T> {
+    pub(super) map: &'a mut IdOrdMap<T>,
+    pub(super) slot: u32,
+    pub(super) place: Place,
+    ghost there: { IsSome (item_of_slot map.now.slots map.now.items slot) },
+    ghost placed: { slice_get map.now.slots place ≡ Some slot },
+}
+
+impl<T: IdOrdItem> IdOrdMap<T> {
+    ghost use Rattle.iddqd_ord.specs.Entry.{entry_item, entry_map, entry_name, entry_others, entry_with};
+
+    /// The entry of the query: occupied where it finds an item. It makes as many comparisons as `get`, takes no memory, and
+    /// changes nothing.
+    pub fn entry<Q: Comparable<T::Key>>(&mut self, query: &Q) -> Entry<'_, T>
+        requires keyed { Ascends T.key T.Key.cmp self.old.items }
+        ensures same_map { entry_name result ≡ self.entry.ghost_name }
+        ensures unchanged { entry_map result ≡ self.old }
+        ensures found { entry_item result ≡ find_item T.key (Q.equivalent query.now) self.old.items }
+        ensures answers { IfSome (entry_item result) (λ x. IsTrue (Q.equivalent query.now (T.key x))) }
+        ensures written { (w : T) → (entry_with result w).items ≡ replaced T.key (Q.equivalent query.now) w self.old.items }
+        ensures others { entry_others result ≡ without T.key (Q.equivalent query.now) self.old.items }
+    {
+        match self.index.find(&self.store, query, &mut Steps::new()) {
+            Ok(place) => {
+                let slot = self.slot_at(place);
+                Entry::Occupied(OccupiedEntry {
+                    map: self,
+                    slot,
+                    place,
+                })
+            }
+            Err(_) => Entry::Vacant(VacantEntry { map: self }),
+        }
+    }
+}
