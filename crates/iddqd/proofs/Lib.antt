@@ -1,4 +1,5 @@
 pub mod CloneLemmas
+mod CollectLemmas
 pub mod FoundLemmas
 pub mod GuardLemmas
 pub mod HashCountLemmas

@@ -4,6 +4,7 @@ ghost use Rattle.iddqd_core.specs.Hashing.{hash_under};
 ghost use Rattle.iddqd_core.specs.SlotItems.{HaveSlots};
 
 mod clone;
+mod collect;
 mod equality;
 mod imp;
 mod insert;

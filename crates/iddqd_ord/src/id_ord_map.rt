@@ -4,6 +4,7 @@ ghost use Rattle.iddqd_core.specs.Contents.{Ascends};
 ghost use Rattle.iddqd_core.specs.SlotItems.{HaveSlots};
 
 mod clone;
+mod collect;
 mod ends;
 mod equality;
 mod imp;

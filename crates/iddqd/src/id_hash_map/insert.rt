@@ -64,7 +64,7 @@ impl<T: IdHashItem, S: BuildHasher> IdHashMap<T, S> {
     }
 
     // Puts in an item whose key no other has.
-    fn insert_new(&mut self, hash: u64, item: T) -> Result<(), Refused<T>>
+    pub(super) fn insert_new(&mut self, hash: u64, item: T) -> Result<(), Refused<T>>
         requires keyed { ⟦<IdHashMap<T, S> as Lookups>⟧.keyed self.old }
         requires absent { IsAbsent T.key (T.Key.eq (T.key item)) self.old.items }
         requires hash { hash ≡ hash_under S.BuildHasher S.Hasher.Hasher self.old.hasher (T.Key.hash_input (T.key item)) }

@@ -76,7 +76,7 @@ impl<T: IdOrdItem> IdOrdMap<T> {
     }
 
     // Puts the item in at the place where its key belongs.
-    fn insert_at(&mut self, place: Place, item: T) -> Result<(), Refused<T>>
+    pub(super) fn insert_at(&mut self, place: Place, item: T) -> Result<(), Refused<T>>
         requires keyed { Ascends T.key T.Key.cmp self.old.items }
         requires place { IsPlaceAmong (T.Key.cmp (T.key item)) (keys T.key self.old.items) (Err place) }
         ensures inserted { OnOk result (OrdInserts T.key T.Key.cmp item self.old self.new) }
