@@ -1,4 +1,5 @@
 mod CloneLemmas
+mod CompactLemmas
 mod EndLemmas
 pub mod LentLemmas
 pub mod PairedLemmas
