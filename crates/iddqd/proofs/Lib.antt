@@ -1,5 +1,6 @@
 pub mod CloneLemmas
 mod EntryLemmas
+mod CollectLemmas
 pub mod FoundLemmas
 pub mod GuardLemmas
 pub mod HashCountLemmas

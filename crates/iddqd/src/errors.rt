@@ -1,2 +1,4 @@
 //! The errors of both maps.
-pub use iddqd_core::{DuplicateItem, Few, InsertError, Refused, TryReserveError};
+pub use iddqd_core::{
+    DuplicateItem, ExtendError, Few, FromIterError, InsertError, Refused, TryReserveError,
+};

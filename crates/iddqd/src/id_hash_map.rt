@@ -5,6 +5,7 @@ ghost use Rattle.iddqd_core.specs.SlotItems.{HaveSlots};
 
 mod clone;
 pub mod entry;
+mod collect;
 mod equality;
 mod imp;
 mod insert;

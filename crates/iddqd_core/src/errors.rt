@@ -1,2 +1,4 @@
 //! What is answered where an item is not taken.
-pub use iddqd_store::{DuplicateItem, Few, InsertError, Refused, TryReserveError};
+pub use iddqd_store::{
+    DuplicateItem, ExtendError, Few, FromIterError, InsertError, Refused, TryReserveError,
+};

@@ -4,10 +4,12 @@
 pub mod errors;
 pub mod laws;
 
-pub use errors::{DuplicateItem, Few, InsertError, Refused, TryReserveError};
+pub use errors::{
+    DuplicateItem, ExtendError, Few, FromIterError, InsertError, Refused, TryReserveError,
+};
 pub use iddqd_hash_index::HashIndex;
 pub use iddqd_ord_index::{IntoWalk, OrdIndex, Place, Walk};
 pub use iddqd_store::{
     Comparable, Equivalent, IdHashItem, IdOrdItem, ItemStore, Steps, Text, ValidateCompact,
-    ValidationError, Visit,
+    ValidationError, Visit, likely_new,
 };

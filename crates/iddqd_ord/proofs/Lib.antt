@@ -1,4 +1,5 @@
 mod CloneLemmas
+mod CompactLemmas
 mod EndLemmas
 mod EntryLemmas
 pub mod LentLemmas

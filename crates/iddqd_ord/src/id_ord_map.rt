@@ -4,6 +4,8 @@ ghost use Rattle.iddqd_core.specs.Contents.{Ascends};
 ghost use Rattle.iddqd_core.specs.SlotItems.{HaveSlots};
 
 mod clone;
+mod collect;
+mod compact;
 mod ends;
 pub mod entry;
 mod equality;

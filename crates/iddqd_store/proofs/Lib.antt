@@ -1,5 +1,6 @@
 pub mod ChainLemmas
 pub mod CloneLemmas
+pub mod CollectingLemmas
 pub mod ContentsLemmas
 pub mod DistinctLemmas
 pub mod KeepsLemmas

@@ -58,6 +58,14 @@ pub record LeavesSlots {T : Type 0} (old new : Holding T) : Type 0 where
   pub capacity : new.capacity ≡ old.capacity
   pub limit : new.limit ≡ old.limit
 
+-- what putting in many leaves besides the items: each new item has taken a vacant slot where there was one (`extend`)
+pub record FillsSlots {T : Type 0} (old new : Holding T) : Type 0 where
+  pub slots : HaveSlots new.slots new.items
+  pub never_fewer : length old.items ≤ length new.items
+  pub vacant : new.vacant ≡ old.vacant - (length new.items - length old.items)
+  pub capacity : old.capacity ≤ new.capacity
+  pub limit : new.limit ≡ old.limit
+
 -- what a shrink to room for so many items leaves, refused or not: no slot is vacant, and the capacity lies between its bounds (`shrink_to`)
 pub record Shrinks {T : Type 0} (min : ℕ) (old new : Holding T) : Type 0 where
   pub vacant : new.vacant ≡ 0

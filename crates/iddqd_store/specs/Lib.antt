@@ -1,3 +1,4 @@
+pub mod Collecting
 pub mod Contents
 pub mod Errors
 pub mod Hashing

@@ -201,3 +201,21 @@ pub enum InsertError<'a, T> {
     /// There was no room.
     Refused(Refused<T>),
 }
+
+/// Items of an iterator that were not taken, and why (ours: the crate panics or aborts).
+#[derive(Debug, Drop)]
+pub struct ExtendError<T> {
+    /// The first item that was not taken; `None` where room for the items was refused before one was asked for.
+    pub item: Option<T>,
+    /// Whether the map is full or memory was refused.
+    pub error: TryReserveError,
+}
+
+/// Why no map was made of an iterator's items (ours).
+#[derive(Debug, Drop)]
+pub enum FromIterError<T> {
+    /// An item has the key of an earlier one: that item as the new one, and the earlier one alone.
+    Duplicate(DuplicateItem<T>),
+    /// There was no room.
+    Refused(TryReserveError),
+}

@@ -203,6 +203,18 @@ impl<T> ItemStore<T> {
         self.first_vacant = NO_SLOT;
     }
 
+    /// Cuts off the vacant slots at the end, so that the last slot is occupied (ours, the beginning of the crate's
+    /// `compact`). It takes no memory, and looks only at the slots that go.
+    pub fn cut_end(&mut self)
+        ensures items { SameItems self.old self.new }
+        ensures cut { EndsOccupied self.new.slots }
+        ensures len { store_len self.new ≡ store_len self.old }
+        ensures capacity { self.new.capacity ≡ self.old.capacity }
+        ensures limit { self.new.limit ≡ self.old.limit }
+    {
+        self.first_vacant = cut_vacant(&mut self.slots, self.first_vacant);
+    }
+
     /// Moves the item of the greatest occupied slot into a lower vacant one, and answers the old slot
     /// and the new one; `None` where there is no such move, and then no slot is vacant any more (ours,
     /// a step of the crate's `compact`). Vacant slots at the end are cut off. It takes no memory, and

@@ -2,6 +2,7 @@
 #![tactic(auto)]
 
 mod errors;
+mod hints;
 mod item_store;
 mod items;
 pub mod laws;
@@ -11,7 +12,10 @@ mod text;
 mod validation;
 mod visits;
 
-pub use errors::{DuplicateItem, Few, InsertError, Refused, TryReserveError};
+pub use errors::{
+    DuplicateItem, ExtendError, Few, FromIterError, InsertError, Refused, TryReserveError,
+};
+pub use hints::likely_new;
 pub use item_store::ItemStore;
 pub use items::{IdHashItem, IdOrdItem};
 pub use queries::{Comparable, Equivalent};

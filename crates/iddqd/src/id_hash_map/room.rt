@@ -1,7 +1,7 @@
 //! Room for items.
 ghost use Rattle.std.specs.Prelude.{◌≡◌, ◌+◌, ◌<◌, ◌≤◌, [], length, IfOk, IfErr, OnOk, OnErr};
 ghost use Rattle.iddqd_core.specs.Refusal.{reservation_kind};
-ghost use Rattle.iddqd.specs.HashMap.{HashKeeps};
+ghost use Rattle.iddqd.specs.HashMap.{HashKeeps, SpareFits};
 
 use super::paired::reserve_room;
 use super::{DefaultHashBuilder, IdHashMap, Lookups};
@@ -15,6 +15,7 @@ impl<T: IdHashItem> IdHashMap<T> {
     pub fn with_capacity(alloc: Global, capacity: usize) -> Result<Self, TryReserveError>
         ensures empty { IfOk result (λ m. (m.items ≡ []) × (m.vacant ≡ 0) × (m.limit ≡ MAX_ITEMS)) }
         ensures spare { IfOk result (λ m. capacity ≤ m.spare) }
+        ensures within_limit { IfOk result SpareFits }
         ensures capacity { IfOk result (λ m. capacity ≤ m.capacity) }
         ensures in_limit { OnOk result (capacity ≤ MAX_ITEMS) }
         ensures refused { IfErr result (λ e. e ≡ reservation_kind MAX_ITEMS capacity) }
@@ -36,6 +37,7 @@ impl<T: IdHashItem, S: BuildHasher> IdHashMap<T, S> {
         S: Drop,
         ensures empty { IfOk result (λ m. (m.items ≡ []) × (m.vacant ≡ 0) × (m.limit ≡ MAX_ITEMS)) }
         ensures spare { IfOk result (λ m. capacity ≤ m.spare) }
+        ensures within_limit { IfOk result SpareFits }
         ensures capacity { IfOk result (λ m. capacity ≤ m.capacity) }
         ensures hasher { IfOk result (λ m. m.hasher ≡ hasher) }
         ensures in_limit { OnOk result (capacity ≤ MAX_ITEMS) }

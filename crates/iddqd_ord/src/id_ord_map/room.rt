@@ -1,8 +1,10 @@
 //! Room for items.
-ghost use Rattle.std.specs.Prelude.{◌≡◌, ◌+◌, ◌<◌, ◌≤◌, [], length, Err, IfOk, IfErr, OnOk};
+ghost use Rattle.std.specs.Prelude.{◌≡◌, ◌+◌, ◌<◌, ◌≤◌, [], length, max, Err, IfOk, IfErr, OnOk, OnErr};
 ghost use Rattle.iddqd_core.specs.Contents.{Ascends};
+ghost use Rattle.iddqd_core.specs.Holding.{Shrinks};
 ghost use Rattle.iddqd_core.specs.Refusal.{memory_refused, reservation_kind};
 
+use super::compact::compact;
 use super::paired::reserve_slots;
 use super::{IdOrdMap, MAX_ITEMS};
 use iddqd_core::{IdOrdItem, ItemStore, TryReserveError};
@@ -36,5 +38,34 @@ impl<T: IdOrdItem> IdOrdMap<T> {
         ensures keyed { Ascends T.key T.Key.cmp self.new.items }
     {
         reserve_slots(&mut self.store, &self.index, additional)
+    }
+
+    /// As `shrink_to(0)`: gives back what memory the items do not need.
+    pub fn shrink_to_fit(&mut self) -> Result<(), TryReserveError>
+        requires keyed { Ascends T.key T.Key.cmp self.old.items }
+        ensures items { self.new.items ≡ self.old.items }
+        ensures shrinks { Shrinks 0 self.old self.new }
+        ensures only_memory { IfErr result (λ e. e ≡ memory_refused) }
+        ensures needed { OnErr result (length self.old.items < self.old.capacity) }
+        ensures frees { length self.old.items ≡ 0 → OnOk result (self.new.capacity ≡ 0) }
+        ensures keyed { Ascends T.key T.Key.cmp self.new.items }
+    {
+        self.shrink_to(0)
+    }
+
+    /// Closes up the slots, and gives memory back, but for room for `min` items and for those that are there. Refused or
+    /// not, the items stay and no slot is vacant then (the crate says that it does nothing where `min` is above the
+    /// capacity, and closes up all the same). Each item that moves into a vacant slot costs one search; no other is touched.
+    pub fn shrink_to(&mut self, min: usize) -> Result<(), TryReserveError>
+        requires keyed { Ascends T.key T.Key.cmp self.old.items }
+        ensures items { self.new.items ≡ self.old.items }
+        ensures shrinks { Shrinks min self.old self.new }
+        ensures only_memory { IfErr result (λ e. e ≡ memory_refused) }
+        ensures needed { OnErr result (max min (length self.old.items) < self.old.capacity) }
+        ensures frees { length self.old.items ≡ 0 → min ≡ 0 → OnOk result (self.new.capacity ≡ 0) }
+        ensures keyed { Ascends T.key T.Key.cmp self.new.items }
+    {
+        compact(&mut self.store, &mut self.index);
+        self.store.shrink_to(min)
     }
 }

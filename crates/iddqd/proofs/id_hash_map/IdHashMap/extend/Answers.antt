@@ -1,0 +1,31 @@
+use Rattle.std.proofs.Common.{subst, ap, arith, ◌∙◌}
+use Rattle.std.proofs.iter.Next.{on}
+use Rattle.iddqd_core.specs.Contents.{OverwritesItem}
+use Rattle.iddqd_core.proofs.CollectingLemmas.{fills_on, overwrites_last, overwritten}
+use Rattle.iddqd_core.specs.Hashing.{hash_under}
+use Rattle.iddqd.specs.HashItems.{Keyed, held}
+use Rattle.iddqd.proofs.CollectLemmas.{overwritten_hasher}
+use Rattle.iddqd.proofs.id_hash_map.IdHashMap.extend.Goals as goal
+
+pub loop-item-preserved : goal.loop-item-preserved
+loop-item-preserved g c =
+    let key = g.T.IdHashItem.key in
+    let eq = g.T.Key.PartialEq.eq in
+    let old = c.args.self.now in
+    let between = c.loop-item.self in
+    let new = c.insert_overwrite.new.self in
+    let x = c.in-Some.item in
+    let back = c.in-Ok.replaced in
+    let told = c.in-Ok.ensures in
+    let inv = c.loop-item.invariant in
+    let goes = on x c.in-Some.is c.next.ensures.goes inv.1 in
+    let put = overwritten key eq x (held between) (held new) inv.3.slots (λ h. ap held h) (λ h. h.takes) back told.found told.replaced told.inserted in (
+      goes.0,
+      goes.1,
+      overwrites_last key eq old.limit x c.loop-item.yielded old.items between.items back new.items inv.2
+          (subst (λ limit. OverwritesItem key eq x limit between.items back new.items) inv.3.limit put.0),
+      fills_on (held old) (held between) (held new) inv.3 put.1,
+      record { never_less = omega (arith, inv.4.never_less, told.spare.never_less); in_limit = told.spare.in_limit },
+      overwritten_hasher key eq (Keyed key eq g.T.Key.Hash.hash_input (hash_under g.S.BuildHasher g.S.Hasher.Hasher)) x between new back told.replaced told.inserted ∙ inv.5,
+      told.keyed,
+    )

@@ -1,0 +1,57 @@
+//! Closing up the slots, so that none is vacant (the crate's `compact`).
+ghost use Rattle.std.specs.Prelude.{◌≡◌, ◌-◌, ◌<◌, length, Some, slice_get};
+ghost use Rattle.iddqd_core.specs.Contents.{Ascends};
+ghost use Rattle.iddqd_core.specs.Listed.{listed_items};
+ghost use Rattle.iddqd_core.specs.Store.{EndsOccupied, IsOccupied, vacant};
+ghost use Rattle.iddqd_ord.specs.Paired.{ListsOccupied};
+
+use iddqd_core::{IdOrdItem, ItemStore, OrdIndex, Place, Steps};
+
+// Moves the item of the last slot into a vacant one, and goes on until no slot is vacant. It takes no memory.
+pub(super) fn compact<T: IdOrdItem>(store: &mut ItemStore<T>, index: &mut OrdIndex)
+    requires paired { ListsOccupied store.old index.old.slots }
+    requires keyed { Ascends T.key T.Key.cmp (listed_items store.old index.old.slots) }
+    ensures paired { ListsOccupied store.new index.new.slots }
+    ensures items { listed_items store.new index.new.slots ≡ listed_items store.old index.old.slots }
+    ensures vacant { vacant store.new ≡ 0 }
+    ensures capacity { store.new.capacity ≡ store.old.capacity }
+    ensures limit { store.new.limit ≡ store.old.limit }
+{
+    store.cut_end();
+    while store.vacant() > 0 {
+        move_last(store, index);
+    }
+}
+
+// Moves the item of the last slot into a vacant one, and lists that one in its stead. Its place is found beforehand.
+fn move_last<T: IdOrdItem>(store: &mut ItemStore<T>, index: &mut OrdIndex)
+    requires paired { ListsOccupied store.old index.old.slots }
+    requires keyed { Ascends T.key T.Key.cmp (listed_items store.old index.old.slots) }
+    requires cut { EndsOccupied store.old.slots }
+    requires some { 0 < vacant store.old }
+    ensures paired { ListsOccupied store.new index.new.slots }
+    ensures items { listed_items store.new index.new.slots ≡ listed_items store.old index.old.slots }
+    ensures cut { EndsOccupied store.new.slots }
+    ensures fewer { vacant store.new < vacant store.old }
+    ensures capacity { store.new.capacity ≡ store.old.capacity }
+    ensures limit { store.new.limit ≡ store.old.limit }
+{
+    let place = place_of(store, index, store.slots() - 1);
+    if let Some((_, hole)) = store.last_into_hole() {
+        index.rename(place, hole);
+    }
+}
+
+// The place of the slot, by its item's key.
+fn place_of<T: IdOrdItem>(store: &ItemStore<T>, index: &OrdIndex, slot: u32) -> Place
+    requires paired { ListsOccupied store.now index.now.slots }
+    requires keyed { Ascends T.key T.Key.cmp (listed_items store.now index.now.slots) }
+    requires occupied { IsOccupied store.now slot }
+    ensures { slice_get index.now.slots result ≡ Some slot }
+{
+    let item = store.get(slot).unwrap();
+    match index.find(store, item.key(), &mut Steps::new()) {
+        Ok(place) => place,
+        Err(_) => unreachable!(),
+    }
+}

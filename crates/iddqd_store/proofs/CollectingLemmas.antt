@@ -1,0 +1,91 @@
+-- One item more is put in.
+--     overwrites_last      the list of the items that were overwritten into another grows at its end
+--     collects_last      so does the list of the items of different keys that were inserted
+--     fills_kept, fills_on      what a reservation, and what two calls after one another, leave besides the items
+--     overwritten      one item is put in
+--     collected_differ, shows_first      what the items in a map say of those that were collected
+use Rattle.std.proofs.Common.{◌≡◌, ℕ, Bool, List, [], ◌∷◌, ◌++◌, Option, Some, None, IfNone, OnSome, length, nat_eq, refl, sym, ap, ◌∙◌, subst, arith}
+use Rattle.std.proofs.lemmas.List.{length-map}
+use Rattle.std.proofs.lemmas.List.Edits.{length-insert}
+use Rattle.std.proofs.lemmas.List.Sorted.{IsPermutation-cons, IsPermutation-insert, IsPermutation-sym, IsPermutation-to_front, IsPermutation-trans}
+use Rattle.std.specs.Cmp.{IsEquivalence}
+use Rattle.std.specs.List.{IsDistinct}
+use Rattle.iddqd_store.specs.Collecting.{IsFirstRepeat, OverwritesAll, ShowsAkin, ShowsFirstRepeat}
+use Rattle.iddqd_store.specs.Contents.{AddsItem, NoTwoAkin, OverwritesItem, SameInAnyOrder, find_item, replaced}
+use Rattle.iddqd_store.specs.Holding.{FillsSlots, Holding, KeepsItems, TakesItem}
+use Rattle.iddqd_store.specs.SlotItems.{HaveSlots}
+use Rattle.iddqd_store.specs.declared.errors.FromIterError.{FromIterError}
+use Rattle.iddqd_store.specs.declared.errors.FromIterError.TheVariants.{Duplicate, Refused}
+use Rattle.iddqd_store.proofs.OrderLemmas.{differ_moved, find_moved}
+
+module _ {T K : Type 0} (key : T → K) (eq : K → K → Bool) (limit : ℕ) (x : T) where
+  pub overwrites_last : (xs old between : List T) (back : Option T) (new : List T) → OverwritesAll key eq limit xs old between → OverwritesItem key eq x limit between back new → OverwritesAll key eq limit (xs ++ x ∷ []) old new
+  overwrites_last [] old between back new same last = (new, back, subst (λ ys. OverwritesItem key eq x limit ys back new) same last, refl)
+  overwrites_last (y ∷ xs) old between back new all last = (all.0, all.1, all.2, overwrites_last xs all.0 between back new all.3 last)
+
+pub collects_last : {T : Type 0} (x : T) (xs items new : List T) → SameInAnyOrder xs items → AddsItem x items new → SameInAnyOrder (xs ++ x ∷ []) new
+collects_last x xs items new same added =
+    IsPermutation-trans (xs ++ x ∷ []) (x ∷ xs) new (IsPermutation-to_front xs x)
+    (IsPermutation-trans (x ∷ xs) (x ∷ items) new (IsPermutation-cons x xs items same)
+    (subst (λ l. SameInAnyOrder (x ∷ items) l) (sym added.put) (IsPermutation-insert items added.place x)))
+
+module _ {T K : Type 0} (key : T → K) {eq : K → K → Bool} (equivalence : IsEquivalence eq) (xs items : List T) (same : SameInAnyOrder xs items) (differ : NoTwoAkin key eq items) where
+  pub collected_differ : NoTwoAkin key eq xs
+  collected_differ = differ_moved key equivalence items xs (IsPermutation-sym xs items same) differ
+
+  first_repeat : (x earlier : T) → find_item key (eq (key x)) items ≡ Some earlier → IsFirstRepeat key eq xs x earlier
+  first_repeat x earlier found = record {
+    differ = collected_differ;
+    akin = find_moved key equivalence (eq (key x)) (equivalence.congr (key x)) items xs (IsPermutation-sym xs items same) differ ∙ found;
+  }
+
+  pub shows_first : (gives : List T → T → Type 0) (x : T) (e : FromIterError T) → gives xs x → ShowsAkin key eq items x e → ShowsFirstRepeat key eq gives e
+  shows_first gives x (Duplicate d) came akin = (xs, akin.1, subst (gives xs) (sym akin.0) came, subst (λ y. IsFirstRepeat key eq xs y akin.1) (sym akin.0) (first_repeat x akin.1 akin.2), akin.3)
+  shows_first gives x (Refused r) came akin = tt
+
+module _ {T : Type 0} where
+  pub fills_kept : (old new : Holding T) → HaveSlots old.slots old.items → KeepsItems old new → FillsSlots old new
+  fills_kept old new own kept = record {
+    slots = rw (kept.slots, kept.items) own;
+    never_fewer = omega (arith, ap length kept.items);
+    vacant = omega (arith, kept.vacant, ap length kept.items);
+    capacity = kept.capacity;
+    limit = kept.limit;
+  }
+
+  pub fills_on : (old between new : Holding T) → FillsSlots old between → FillsSlots between new → FillsSlots old new
+  fills_on old between new one other = record {
+    slots = other.slots;
+    never_fewer = omega (arith, one.never_fewer, other.never_fewer);
+    vacant = omega (arith, one.vacant, other.vacant, one.never_fewer, other.never_fewer);
+    capacity = omega (arith, one.capacity, other.capacity);
+    limit = other.limit ∙ one.limit;
+  }
+
+-- Same and Takes are what a call says where an akin item was there, and where none was
+module _ {T K Same Takes : Type 0} (key : T → K) (eq : K → K → Bool) (x : T) (old new : Holding T) (own : HaveSlots old.slots old.items) (swaps : Same → new ≡ record old { items = replaced key (eq (key x)) x old.items }) (takes : Takes → TakesItem x old new) where
+  pub overwritten : (found : Option T) → found ≡ find_item key (eq (key x)) old.items → OnSome found Same → IfNone found Takes → OverwritesItem key eq x old.limit old.items found new.items × FillsSlots old new
+  overwritten None told some none =
+      let took = takes none in
+      let longer = length-insert old.items took.added.place x took.added.within in (
+        (sym told, took.room, took.added),
+        record {
+          slots = took.slots;
+          never_fewer = omega (arith, ap length took.added.put, longer);
+          vacant = omega (arith, took.vacant, ap length took.added.put, longer);
+          capacity = took.capacity;
+          limit = took.limit;
+        },
+      )
+  overwritten (Some y) told some none =
+      let same = swaps some in
+      let long : length new.items ≡ length old.items = ap (λ m. length m.items) same ∙ length-map old.items _ in (
+        (sym told, ap (λ m. m.items) same),
+        record {
+          slots = record { as_many = ap (λ m. length m.slots) same ∙ own.as_many ∙ sym long; each_once = subst (λ m. IsDistinct nat_eq m.slots) (sym same) own.each_once };
+          never_fewer = omega (arith, long);
+          vacant = omega (arith, ap (λ m. m.vacant) same, long);
+          capacity = omega (arith, ap (λ m. m.capacity) same);
+          limit = ap (λ m. m.limit) same;
+        },
+      )

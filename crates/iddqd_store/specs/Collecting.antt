@@ -1,0 +1,39 @@
+-- What it is to put the items of an iterator into a map, one after the other.
+--     GivesAll, GivesThen      what an iterator gives: these items and no more, or these and then one
+--     OverwritesAll      each item stands in the stead of the akin one, or beside the others where there is none (the crate's `extend`)
+--     IsFirstRepeat      the first item that is akin to an earlier one, and that one (the crate's `from_iter_unique`)
+--     ShowsFirstRepeat      what `from_iter_unique` answers in place of a map
+--     ShowsAkin      one step of it
+use Rattle.std.specs.Prelude.{◌≡◌, ℕ, Bool, List, [], ◌∷◌, Option, Some}
+use Rattle.std.specs.Iterator.{Drains, YieldsThen}
+use Rattle.iddqd_store.specs.Contents.{NoTwoAkin, OverwritesItem, find_item}
+use Rattle.iddqd_store.specs.Errors.{new_item_of, duplicates_of}
+use Rattle.iddqd_store.specs.declared.errors.FromIterError.{FromIterError}
+use Rattle.iddqd_store.specs.declared.errors.FromIterError.TheVariants.{Duplicate, Refused}
+
+module _ {U S T : Type 0} (becomes : U → S → Type 0) (steps : S → Option T → S → Type 0) where
+  abbrev pub GivesAll : U → List T → Type 0
+  GivesAll iter xs = (it : S) × becomes iter it × Drains steps it xs
+
+  abbrev pub GivesThen : U → List T → T → Type 0
+  GivesThen iter xs x = (it : S) × (rest : S) × becomes iter it × YieldsThen steps it xs (Some x) rest
+
+module _ {T K : Type 0} (key : T → K) (eq : K → K → Bool) where
+  abbrev pub OverwritesAll : ℕ → List T → List T → List T → Type 0
+  OverwritesAll limit [] old new = new ≡ old
+  OverwritesAll limit (x ∷ xs) old new = (between : List T) × (back : Option T) × OverwritesItem key eq x limit old back between × OverwritesAll limit xs between new
+
+  -- the items before x differ in their keys, and x has the key of the one that is earlier
+  pub record IsFirstRepeat (before : List T) (x earlier : T) : Type 0 where
+    pub differ : NoTwoAkin key eq before
+    pub akin : find_item key (eq (key x)) before ≡ Some earlier
+
+  -- gives tells which items came before one; the first that repeats a key is shown as new, and the earlier one alone as its duplicate
+  abbrev pub ShowsFirstRepeat : (List T → T → Type 0) → FromIterError T → Type 0
+  ShowsFirstRepeat gives (Duplicate d) = (before : List T) × (earlier : T) × gives before (new_item_of d) × IsFirstRepeat before (new_item_of d) earlier × (duplicates_of d ≡ earlier ∷ [])
+  ShowsFirstRepeat gives (Refused e) = Unit
+
+  -- x is shown as new, and the one item that has its key alone as its duplicate
+  abbrev pub ShowsAkin : List T → T → FromIterError T → Type 0
+  ShowsAkin items x (Duplicate d) = (new_item_of d ≡ x) × (akin : T) × (find_item key (eq (key x)) items ≡ Some akin) × (duplicates_of d ≡ akin ∷ [])
+  ShowsAkin items x (Refused e) = Unit

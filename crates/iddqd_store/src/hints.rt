@@ -1,0 +1,17 @@
+//! Room for the items that an iterator announces.
+ghost use Rattle.std.specs.Prelude.{◌≡◌, ◌+◌, ◌*◌, ◌<◌, ◌≤◌};
+
+/// For how many items to make room where so many are there and at least so many are announced: for all of them in a map
+/// without items, and for half of them, rounded up, in another, which may have their keys already (as the crate's `Extend`
+/// does).
+#[doc(hidden)]
+pub fn likely_new(there: usize, announced: usize) -> usize
+    ensures all { there ≡ 0 → result ≡ announced }
+    ensures half { 0 < there → (announced ≤ 2 * result) × (2 * result ≤ announced + 1) }
+{
+    if there == 0 {
+        announced
+    } else {
+        announced.div_ceil(2)
+    }
+}
