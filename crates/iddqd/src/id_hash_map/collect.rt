@@ -132,7 +132,7 @@ impl<T: IdHashItem, S: BuildHasher> IdHashMap<T, S> {
                 Err(FromIterError::Duplicate(DuplicateItem::internal_new(item, earlier)))
             }
             None => match self.insert_new(hash, item) {
-                Ok(()) => Ok(()),
+                Ok(_) => Ok(()),
                 Err(refused) => Err(FromIterError::Refused(refused.error)),
             },
         }

@@ -117,7 +117,7 @@ impl<T: IdOrdItem> IdOrdMap<T> {
                 Err(FromIterError::Duplicate(DuplicateItem::internal_new(item, earlier)))
             }
             Err(place) => match self.insert_at(place, item) {
-                Ok(()) => Ok(()),
+                Ok(_) => Ok(()),
                 Err(refused) => Err(FromIterError::Refused(refused.error)),
             },
         }
