@@ -1,6 +1,7 @@
 //! What the tests of more than one crate stand on: items, a map under test, fakes, and the count of requests for memory.
 #![tactic(auto)]
 
+pub mod bulk;
 pub mod caseless;
 pub mod counted;
 pub mod counting;

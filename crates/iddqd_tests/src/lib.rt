@@ -6,6 +6,8 @@ mod clones;
 #[cfg(test)]
 mod coarse;
 #[cfg(test)]
+mod collecting;
+#[cfg(test)]
 mod commands;
 #[cfg(test)]
 mod ends;
