@@ -1,6 +1,7 @@
 -- What a contract sees of a guard of a hash map.
 --     with_item_in m slot w      the map, once w stands in the slot
 --     lent_map, lent_slot, lent_item, lent_name      the map as the guard holds it, the slot, its item, the name of the reference to the map
+--     lent_with r w      the map once w is written through the guard
 --     shown_map, shown_item, shown_name      the same of what `into_ref` answers
 --     lends_item, item_follows, guard_follows      the map, or the guard, ends with the last value written
 --     rests_at_none      with no guard the map stays as it is
@@ -29,6 +30,9 @@ module _ {S T : Type 0} where
 
   abbrev pub lent_name : RefMut T S → GName
   lent_name r = r.map.ghost_name
+
+  abbrev pub lent_with : RefMut T S → T → HashItems S T
+  lent_with r w = with_item_in r.map.now r.slot w
 
   -- the guard, once w is written through it
   abbrev pub with_item : RefMut T S → T → RefMut T S

@@ -1,7 +1,7 @@
 //! Items of both kinds of map, and what is done with them.
-ghost use Rattle.std.specs.Prelude.{◌≡◌};
+ghost use Rattle.std.specs.Prelude.{◌≡◌, true};
 
-use iddqd::{IdHashItem, IdOrdItem};
+use iddqd::{IdHashItem, IdOrdItem, Visit};
 
 /// A key and a value.
 #[derive(Clone, Copy, Drop)]
@@ -52,4 +52,19 @@ pub fn write_value(pair: &mut Pair, value: u32)
     ensures { pair.new ≡ record pair.old { value = value } }
 {
     pair.value = value;
+}
+
+/// Writes a value.
+#[derive(Drop)]
+pub struct SetsValue {
+    pub value: u32,
+}
+
+impl Visit<Pair> for SetsValue {
+    ghost visits = { λ v x. (v, record x { value = v.value }, true) };
+
+    fn visit(&mut self, item: &mut Pair) -> bool {
+        item.value = self.value;
+        true
+    }
 }

@@ -3,7 +3,7 @@ ghost use Rattle.std.specs.Prelude.{◌≡◌, ◌+◌, IfSome, IsTrue, Some};
 ghost use Rattle.std.specs.Borrow.{sem};
 ghost use Rattle.iddqd_core.specs.Holding.{LeavesSlot};
 ghost use Rattle.iddqd.specs.Entry.{Occupied, entry_follows, entry_item, entry_map, entry_name, entry_others, entry_slot, entry_with};
-ghost use Rattle.iddqd.specs.Guard.{lent_map, lent_name, lent_slot, shown_item, shown_map, shown_name};
+ghost use Rattle.iddqd.specs.Guard.{lent_item, lent_map, lent_name, lent_slot, lent_with, shown_item, shown_map, shown_name};
 ghost use Rattle.iddqd.specs.HashItems.{held};
 ghost use Rattle.iddqd.specs.HashMap.{KeepsSpare};
 
@@ -33,21 +33,6 @@ impl<'a, T, S> OccupiedEntry<'a, T, S> {
         self.map.item_mut(slot)
     }
 
-    /// Lends the item for as long as the map is lent. The guard has to be spent.
-    #[inline]
-    pub fn into_mut(self) -> RefMut<'a, T, S>
-        ensures same_map { lent_name result ≡ entry_name (Occupied self.entry) }
-        ensures lent { lent_map result ≡ entry_map (Occupied self.entry) }
-        ensures slot { lent_slot result ≡ entry_slot self.entry }
-    {
-        let OccupiedEntry { map, slot, hash: _ } = self;
-        RefMut {
-            map,
-            slot,
-            spent: false,
-        }
-    }
-
     /// Shows the item for as long as the map is lent (ours: the crate's answers a plain reference).
     #[inline]
     pub fn into_ref(self) -> Shown<'a, T, S>
@@ -61,6 +46,24 @@ impl<'a, T, S> OccupiedEntry<'a, T, S> {
 }
 
 impl<'a, T: IdHashItem, S: BuildHasher> OccupiedEntry<'a, T, S> {
+    /// Lends the item for as long as the map is lent. The guard has to be spent.
+    #[inline]
+    pub fn into_mut(self) -> RefMut<'a, T, S>
+        requires keyed { ⟦<IdHashMap<T, S> as Lookups>⟧.keyed (entry_map (Occupied self)) }
+        ensures same_map { lent_name result ≡ entry_name (Occupied self.entry) }
+        ensures lent { lent_map result ≡ entry_map (Occupied self.entry) }
+        ensures slot { lent_slot result ≡ entry_slot self.entry }
+        ensures keyed { (x w : T) → lent_item result ≡ Some x → T.key w ≡ T.key x → ⟦<IdHashMap<T, S> as Lookups>⟧.keyed (lent_with result w) }
+        ensures keyed_akin { (x w : T) → lent_item result ≡ Some x → IsTrue (T.Key.eq (T.key x) (T.key w)) → ⟦<IdHashMap<T, S> as Lookups>⟧.keyed (lent_with result w) }
+    {
+        let OccupiedEntry { map, slot, hash: _ } = self;
+        RefMut {
+            map,
+            slot,
+            spent: false,
+        }
+    }
+
     /// Puts the item, whose key is equal to the entry's, in the stead of the one there, which it answers: the whole item,
     /// its key's spelling too. It hashes and compares no keys.
     pub fn insert(&mut self, item: T) -> T

@@ -1,11 +1,10 @@
 //! Insertions where no item was found. The limit is looked at first, then memory, and only then is anything changed.
-ghost use Rattle.std.specs.Prelude.{◌≡◌, IfErr, IfOk, OnErr, Some};
+ghost use Rattle.std.specs.Prelude.{◌≡◌, IfErr, IfOk, IsTrue, OnErr, Some};
 ghost use Rattle.std.specs.Borrow.{sem};
 ghost use Rattle.iddqd_core.specs.Contents.{AddsItem, IsAbsent};
 ghost use Rattle.iddqd_core.specs.Refusal.{FindsNoRoom};
-ghost use Rattle.iddqd_core.specs.SlotItems.{written_to_slot};
 ghost use Rattle.iddqd.specs.Entry.{Occupied, Vacant, entry_item, entry_map, entry_name, entry_others, entry_with, rests_if_refused};
-ghost use Rattle.iddqd.specs.Guard.{lent_item, lent_map, lent_name, lent_slot};
+ghost use Rattle.iddqd.specs.Guard.{lent_item, lent_map, lent_name, lent_with};
 ghost use Rattle.iddqd.specs.HashMap.{HashInserts};
 
 use super::{OccupiedEntry, VacantEntry};
@@ -25,7 +24,9 @@ impl<'a, T: IdHashItem, S: BuildHasher> VacantEntry<'a, T, S> {
         ensures same_map { IfOk result (λ r. lent_name r ≡ entry_name (Vacant self.entry)) }
         ensures inserted { IfOk result (λ r. HashInserts ⟦<IdHashMap<T, S> as Lookups>⟧.keyed item (entry_map (Vacant self.entry)) (lent_map r)) }
         ensures lent { IfOk result (λ r. lent_item r ≡ Some item) }
-        ensures written { IfOk result (λ r. (w : T) → AddsItem w (entry_map (Vacant self.entry)).items (written_to_slot (lent_map r).slots (lent_map r).items (lent_slot r) w)) }
+        ensures written { IfOk result (λ r. (w : T) → AddsItem w (entry_map (Vacant self.entry)).items (lent_with r w).items) }
+        ensures keyed { IfOk result (λ r. (x w : T) → lent_item r ≡ Some x → T.key w ≡ T.key x → ⟦<IdHashMap<T, S> as Lookups>⟧.keyed (lent_with r w)) }
+        ensures keyed_akin { IfOk result (λ r. (x w : T) → lent_item r ≡ Some x → IsTrue (T.Key.eq (T.key x) (T.key w)) → ⟦<IdHashMap<T, S> as Lookups>⟧.keyed (lent_with r w)) }
         ensures item { IfErr result (λ refused. refused.item ≡ item) }
         ensures refused { IfErr result (λ refused. FindsNoRoom T.key T.Key.eq (entry_map (Vacant self.entry)).limit (entry_map (Vacant self.entry)).items item refused.error) }
         ensures no_spare { OnErr result ((entry_map (Vacant self.entry)).spare ≡ 0) }

@@ -1,4 +1,4 @@
-use Rattle.std.proofs.Common.{rules, refl, sym, ap, ◌∙◌}
+use Rattle.std.proofs.Common.{rules, refl}
 use Rattle.iddqd_callers.proofs.ord_guards.set_value.Goals as goal
 
 pub returns-in-Some-clause-keyed : goal.returns-in-Some-clause-keyed

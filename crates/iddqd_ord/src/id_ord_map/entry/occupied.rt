@@ -4,7 +4,7 @@ ghost use Rattle.std.specs.Borrow.{sem};
 ghost use Rattle.iddqd_core.specs.Contents.{Ascends};
 ghost use Rattle.iddqd_core.specs.Holding.{LeavesSlot};
 ghost use Rattle.iddqd_ord.specs.Entry.{Occupied, entry_follows, entry_item, entry_map, entry_name, entry_others, entry_slot, entry_with};
-ghost use Rattle.iddqd_ord.specs.Guard.{lent_map, lent_name, lent_slot, shown_item, shown_map, shown_name};
+ghost use Rattle.iddqd_ord.specs.Guard.{lent_item, lent_map, lent_name, lent_slot, lent_with, shown_item, shown_map, shown_name};
 
 use super::OccupiedEntry;
 use crate::id_ord_map::{RefMut, Shown};
@@ -31,25 +31,6 @@ impl<'a, T> OccupiedEntry<'a, T> {
         self.map.item_mut(slot)
     }
 
-    /// Lends the item for as long as the map is lent. The guard has to be spent.
-    #[inline]
-    pub fn into_mut(self) -> RefMut<'a, T>
-        ensures same_map { lent_name result ≡ entry_name (Occupied self.entry) }
-        ensures lent { lent_map result ≡ entry_map (Occupied self.entry) }
-        ensures slot { lent_slot result ≡ entry_slot self.entry }
-    {
-        let OccupiedEntry {
-            map,
-            slot,
-            place: _,
-        } = self;
-        RefMut {
-            map,
-            slot,
-            spent: false,
-        }
-    }
-
     /// Shows the item for as long as the map is lent (ours: the crate's answers a plain reference).
     #[inline]
     pub fn into_ref(self) -> Shown<'a, T>
@@ -67,6 +48,28 @@ impl<'a, T> OccupiedEntry<'a, T> {
 }
 
 impl<'a, T: IdOrdItem> OccupiedEntry<'a, T> {
+    /// Lends the item for as long as the map is lent. The guard has to be spent.
+    #[inline]
+    pub fn into_mut(self) -> RefMut<'a, T>
+        requires keyed { Ascends T.key T.Key.cmp (entry_map (Occupied self)).items }
+        ensures same_map { lent_name result ≡ entry_name (Occupied self.entry) }
+        ensures lent { lent_map result ≡ entry_map (Occupied self.entry) }
+        ensures slot { lent_slot result ≡ entry_slot self.entry }
+        ensures keyed { (x w : T) → lent_item result ≡ Some x → T.key w ≡ T.key x → Ascends T.key T.Key.cmp (lent_with result w).items }
+        ensures keyed_akin { (x w : T) → lent_item result ≡ Some x → IsTrue (T.Key.eq (T.key x) (T.key w)) → Ascends T.key T.Key.cmp (lent_with result w).items }
+    {
+        let OccupiedEntry {
+            map,
+            slot,
+            place: _,
+        } = self;
+        RefMut {
+            map,
+            slot,
+            spent: false,
+        }
+    }
+
     /// Puts the item, whose key is equal to the entry's, in the stead of the one there, which it answers: the whole item,
     /// its key's spelling too. It compares no keys.
     pub fn insert(&mut self, item: T) -> T

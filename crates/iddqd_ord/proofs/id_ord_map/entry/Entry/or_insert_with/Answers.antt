@@ -1,0 +1,27 @@
+use Rattle.std.proofs.Common.{◌≡◌, ◌∙◌, None, ap, is_some, refl, subst, sym, true≢false}
+use Rattle.iddqd_core.specs.Contents.{Ascends}
+use Rattle.iddqd_core.proofs.WrittenLemmas.{akin_key_kept, same_key_kept}
+use Rattle.iddqd_ord.specs.Entry.{entry_item, entry_map, entry_name, entry_with}
+use Rattle.iddqd_ord.proofs.id_ord_map.entry.Entry.or_insert_with.Goals as goal
+
+pub returns-in-Occupied : goal.returns-in-Occupied
+returns-in-Occupied g c =
+    let e = c.in-Occupied.entry in
+    let is = c.in-Occupied.is in
+    let sorted = subst (λ s. Ascends g.T.IdOrdItem.key g.T.Key.Ord.cmp (entry_map s).items) is c.requires.keyed in
+    let absurdly = λ (none : entry_item c.args.self ≡ None). true≢false (sym e.there ∙ ap (λ s. is_some (entry_item s)) (sym is) ∙ ap is_some none) in (
+      (refl, λ w. refl, tt),
+      record {
+        kept = tt;
+        same_map = ap entry_name (sym is);
+        found = λ some. (ap entry_map (sym is), ap entry_item (sym is));
+        found_written = λ some w. ap (λ s. entry_with s w) (sym is);
+        inserted = λ none. absurd (absurdly none);
+        inserted_written = λ none. absurd (absurdly none);
+        keyed = λ x w at same. same_key_kept g.T.IdOrdItem.key e.map.now.slots e.map.now.items e.slot x w at g.T.Key.Ord.cmp same sorted;
+        keyed_akin = λ x w at akin. akin_key_kept g.T.IdOrdItem.key e.map.now.slots e.map.now.items e.slot x w at g.met.T.Key.Eq.laws akin g.met.T.Key.Ord.total g.met.T.Key.Ord.matches_eq sorted;
+        absent = tt;
+        item = tt;
+        refused = tt;
+      },
+    )
