@@ -100,9 +100,8 @@ impl Iterator for Liar {
     type Item = Named;
 
     ghost use Rattle.std.specs.Iterator.{at_most};
-    ghost use Rattle.std.specs.Prelude.{usize.MAX};
 
-    ghost remaining = { λ _. at_most usize.MAX };
+    ghost remaining = { λ _. at_most u64.MAX };
 
     fn next(&mut self) -> Option<Named> {
         self.asked = self.asked.saturating_add(1);
