@@ -1,5 +1,6 @@
 pub mod CloneLemmas
 mod CollectLemmas
+mod CompactLemmas
 pub mod FoundLemmas
 pub mod GuardLemmas
 pub mod HashCountLemmas

@@ -5,6 +5,7 @@ ghost use Rattle.iddqd_core.specs.SlotItems.{HaveSlots};
 
 mod clone;
 mod collect;
+mod compact;
 mod equality;
 mod imp;
 mod insert;
