@@ -1,6 +1,7 @@
 pub mod CloneLemmas
 mod EntryLemmas
 mod CollectLemmas
+mod CompactLemmas
 pub mod FoundLemmas
 pub mod GuardLemmas
 pub mod HashCountLemmas

@@ -21,10 +21,10 @@ use Rattle.iddqd_core.specs.HashPairs.{HashPairs, HasOneMore, IsMatch, SamePairs
 use Rattle.iddqd_core.specs.Store.{Store, item_at, store_len, vacant, Updates}
 use Rattle.iddqd.specs.HashItems.{HashItems, Keyed}
 use Rattle.iddqd.specs.HashMap.{HashInserts, HashKeeps, KeepsSpare, SpareFits}
-use Rattle.iddqd.specs.Paired.{PairsOccupied, hash_of_slot, items_in, numbers_of, shown, slots_in, spare_in}
+use Rattle.iddqd.specs.Paired.{AreListedUnder, PairsOccupied, hash_of_slot, items_in, numbers_of, shown, slots_in, spare_in}
 use Rattle.iddqd.proofs.FoundLemmas.{differ_added, differ_exchanged, differ_taken, item_absent, item_exchanged, item_found, item_taken, same_numbers}
 use Rattle.iddqd.proofs.PairLemmas.{listed_hash}
-use Rattle.iddqd.proofs.PairedLemmas.{AreListedUnder, hashes_agree, listed_under, occupied_listed, under_added, under_removed, under_same}
+use Rattle.iddqd.proofs.PairedLemmas.{hashes_agree, listed_under, occupied_listed, under_added, under_removed, under_same}
 use Rattle.iddqd.proofs.SlotItemLemmas.{item_added, length-items, slots_apart}
 
 -- what a search of the index says of the items

@@ -1,15 +1,14 @@
 -- The index and the store of a hash map belong together still where a slot is added to both, taken out of both, or has another item.
 --     occupied_listed, vacant_unlisted, listed_occupied      a slot is listed exactly where it is occupied
---     paired_empty, paired_grown, paired_added, paired_removed, paired_kept      the pair after a change
---     AreListedUnder      each item's slot is listed with the hash that is told of the item
---     listed_under, hashes_agree      the same, of the list of hashes
+--     paired_empty, paired_room, paired_grown, paired_added, paired_removed, paired_kept      the pair after a change
+--     listed_under, hashes_agree      that each item's slot is listed with the hash that is told of the item, and the same of the list of hashes
 --     under_same, under_added, under_removed, under_kept      ... after a change
 use Rattle.std.proofs.Common.{◌≡◌, ◌≢◌, ℕ, ◌+◌, ◌<◌, ◌≤◌, List, [], length, map, get_or, Some, None, is_some, cond, Bool, true, false, refl, sym, ap, ◌∙◌, arith, subst, ⊎_elim, count_by}
 use Rattle.std.proofs.lemmas.Bool.{cases_eq, eq-eqb, ne_eqb}
 use Rattle.std.specs.List.{Contains}
 use Rattle.iddqd_core.specs.HashPairs.{HasOneMore, SamePairs, of_slot}
 use Rattle.iddqd_core.specs.Store.{Store, item_at, IsOccupied, store_len, Updates}
-use Rattle.iddqd.specs.Paired.{PairsOccupied, hash_of_slot, hashes_in, items_in}
+use Rattle.iddqd.specs.Paired.{AreListedUnder, PairsOccupied, hash_of_slot, hashes_in, items_in}
 use Rattle.iddqd.proofs.PairLemmas.{length-weight, listed_some, no_hash, counts, tells}
 use Rattle.iddqd.proofs.SlotItemLemmas.{number_at, numbers_agree}
 
@@ -58,17 +57,20 @@ module _ {T : Type 0} where
       }
 
   module _ (old new : Store T) (ps qs : List (ℕ × ℕ)) (paired : PairsOccupied old ps) where
-    -- the pairs may stand in another order, and there may be more room
-    pub paired_grown : new ≡ record old { capacity = new.capacity } → old.capacity ≤ new.capacity → SamePairs ps qs → PairsOccupied new qs
-    paired_grown rest more same =
+    -- the pairs may stand in another order, and there may be more room or less
+    pub paired_room : new ≡ record old { capacity = new.capacity } → store_len old ≤ new.capacity → SamePairs ps qs → PairsOccupied new qs
+    paired_room rest enough same =
         let slots = ap (λ s. s.slots) rest in
         let len : store_len new ≡ store_len old = ap (λ xs. count_by is_some xs) slots in
         record {
           each_once = λ slot. same (counts slot) ∙ paired.each_once slot ∙ sym (ap (λ xs. cond (is_some (get_or xs slot None)) 1 0) slots);
           counted = omega (arith, same (λ _. 1), length-weight ps, length-weight qs, paired.counted, len);
-          in_memory = omega (arith, len, paired.in_memory, more);
+          in_memory = omega (arith, len, enough);
           in_limit = omega (arith, len, paired.in_limit, ap (λ s. s.limit) rest);
         }
+
+    pub paired_grown : new ≡ record old { capacity = new.capacity } → old.capacity ≤ new.capacity → SamePairs ps qs → PairsOccupied new qs
+    paired_grown rest more same = paired_room rest (omega (arith, paired.in_memory, more)) same
 
     pub paired_added : (hash slot : ℕ) (x : T) → HasOneMore ps qs (hash, slot) → item_at old slot ≡ None → Updates old new slot (Some x) → store_len new ≡ store_len old + 1 → store_len old + 1 ≤ old.capacity → store_len old + 1 ≤ old.limit → new.capacity ≡ old.capacity → new.limit ≡ old.limit → PairsOccupied new qs
     paired_added hash slot x more vacant updates len memory limit same_capacity same_limit =
@@ -110,20 +112,17 @@ module _ {T : Type 0} where
         }
 
   module _ (tell : T → ℕ) where
-    abbrev pub AreListedUnder : Store T → List (ℕ × ℕ) → Type 0
-    AreListedUnder store pairs = (slot : ℕ) (x : T) → item_at store slot ≡ Some x → hash_of_slot pairs slot ≡ tell x
-
-    pub listed_under : (store : Store T) (pairs : List (ℕ × ℕ)) → hashes_in store pairs ≡ map tell (items_in store) → AreListedUnder store pairs
+    pub listed_under : (store : Store T) (pairs : List (ℕ × ℕ)) → hashes_in store pairs ≡ map tell (items_in store) → AreListedUnder tell store pairs
     listed_under store pairs same = number_at tell (hash_of_slot pairs) store.slots same
 
-    pub hashes_agree : (store : Store T) (pairs : List (ℕ × ℕ)) → AreListedUnder store pairs → hashes_in store pairs ≡ map tell (items_in store)
+    pub hashes_agree : (store : Store T) (pairs : List (ℕ × ℕ)) → AreListedUnder tell store pairs → hashes_in store pairs ≡ map tell (items_in store)
     hashes_agree store pairs under = numbers_agree tell (hash_of_slot pairs) store.slots under
 
-    module _ (old new : Store T) (ps qs : List (ℕ × ℕ)) (under : AreListedUnder old ps) where
-      pub under_same : new.slots ≡ old.slots → SamePairs ps qs → AreListedUnder new qs
+    module _ (old new : Store T) (ps qs : List (ℕ × ℕ)) (under : AreListedUnder tell old ps) where
+      pub under_same : new.slots ≡ old.slots → SamePairs ps qs → AreListedUnder tell new qs
       under_same slots same slot x there = same (tells slot) ∙ under slot x (ap (λ xs. get_or xs slot None) (sym slots) ∙ there)
 
-      pub under_added : (hash slot : ℕ) (x : T) → PairsOccupied old ps → HasOneMore ps qs (hash, slot) → item_at old slot ≡ None → Updates old new slot (Some x) → hash ≡ tell x → AreListedUnder new qs
+      pub under_added : (hash slot : ℕ) (x : T) → PairsOccupied old ps → HasOneMore ps qs (hash, slot) → item_at old slot ≡ None → Updates old new slot (Some x) → hash ≡ tell x → AreListedUnder tell new qs
       under_added hash slot x paired more vacant updates told other y there = ⊎_elim
           (λ e. let same : x ≡ y = (let now = updates.changed in let seen = ap (item_at new) (sym e) ∙ there in cc) in
           let none = no_hash ps slot (vacant_unlisted old ps paired slot vacant) in
@@ -132,7 +131,7 @@ module _ {T : Type 0} where
           (λ n. hash_other ps qs hash slot more other n ∙ under other y (sym (updates.others other n) ∙ there))
           (cases_eq other slot)
 
-      pub under_removed : (hash slot : ℕ) → HasOneMore qs ps (hash, slot) → Updates old new slot None → AreListedUnder new qs
+      pub under_removed : (hash slot : ℕ) → HasOneMore qs ps (hash, slot) → Updates old new slot None → AreListedUnder tell new qs
       under_removed hash slot more updates other y there = ⊎_elim
           (λ e. (let now = updates.changed in let seen = ap (item_at new) (sym e) ∙ there in cc))
           (λ n. sym (hash_other qs ps hash slot more other n) ∙ under other y (sym (updates.others other n) ∙ there))

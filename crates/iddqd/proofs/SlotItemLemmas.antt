@@ -1,7 +1,7 @@
 -- The items of a store, and a number for each, as one slot changes.
 --     same_items      slots that have the same items, slot by slot, have the same items in a row
 --     AreSplit      what stands before a slot's item and what behind it, where two stores differ at that slot alone
---     item_added, PlaceOf, place_of      what the change of a slot makes of the items
+--     item_added, item_left, PlaceOf, place_of      what the change of a slot makes of the items
 --     slot_of      each item has a slot
 --     length-items      there are as many items as occupied slots
 --     number_at, numbers_agree      a number for each slot, told by its item
@@ -9,12 +9,13 @@
 --     slot_left      an item that is taken out leaves its place and its slot
 use Rattle.std.proofs.Common.{append_assoc, ◌≡◌, ◌≢◌, ℕ, zero, suc, ◌≤◌, List, [], ◌∷◌, ◌++◌, length, map, set, get_or, drop, ◌<◌, nat_eq, false, Option, Some, None, is_some, cond, refl, sym, ap, ◌∙◌, arith, subst, count_by}
 use Rattle.std.proofs.lemmas.List.{length-map}
+use Rattle.std.proofs.lemmas.List.Sorted.{IsPermutation-middle}
 use Rattle.std.proofs.lemmas.List.Sums.{sum_by-cons}
 use Rattle.std.proofs.lemmas.Bool.{ne_eqb}
 use Rattle.std.proofs.lemmas.Option.{slice_get-map}
 use Rattle.std.specs.List.{AllByRecursion, IsDistinct, filter_map, cons_option, insert, remove, slice_get}
 use Rattle.std.specs.Option.{option_map}
-use Rattle.iddqd_core.specs.Contents.{AddsItem}
+use Rattle.iddqd_core.specs.Contents.{AddsItem, SameInAnyOrder}
 use Rattle.iddqd_core.specs.SlotItems.{HaveSlots}
 use Rattle.iddqd_core.proofs.MappedLemmas.{remove-map}
 use Rattle.iddqd.specs.Paired.{numbers_of}
@@ -107,6 +108,14 @@ module _ {T : Type 0} where
         within = subst (λ vs. length s.before ≤ length vs) (sym left) (front-within s.before s.behind);
         put = put ∙ sym (insert-middle s.before s.behind x) ∙ ap (λ vs. insert vs (length s.before) x) (sym left);
       }
+
+  -- a slot that had an item is vacant
+  pub item_left : (old new : List (Option T)) (slot : ℕ) (x : T) → at old slot ≡ Some x → at new slot ≡ None → ((other : ℕ) → other ≢ slot → at new other ≡ at old other) → SameInAnyOrder (items_of old) (x ∷ items_of new)
+  item_left old new slot x there none others =
+      let s = split new old slot others in
+      let was : items_of old ≡ s.before ++ x ∷ s.behind = s.second ∙ ap (λ o. s.before ++ (one o ++ s.behind)) there in
+      let left : items_of new ≡ s.before ++ s.behind = s.first ∙ ap (λ o. s.before ++ (one o ++ s.behind)) none in
+      rw (was, left) (IsPermutation-middle s.before x s.behind)
 
   -- the place of a slot's item among the items, and what they are where the slot changes
   pub record PlaceOf (old new : List (Option T)) (slot : ℕ) (x : T) : Type 0 where

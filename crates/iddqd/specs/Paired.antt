@@ -4,6 +4,7 @@
 --     hash_of_slot pairs slot      the hash that is listed with a slot
 --     hashes_in store pairs      the hash that is stored for each item, in the items' order
 --     spare_in store index      how many new items fit without memory: in the index, in the store, and within the limit
+--     AreListedUnder tell store pairs      each item's slot is listed with the hash that is told of the item
 --     shown store index hasher      what a contract sees of a map of these
 use Rattle.std.specs.Prelude.{◌≡◌, ℕ, ◌-◌, ◌≤◌, ◌==◌, min, List, [], ◌∷◌, length, Option, Some, None, is_some, if◌then◌else◌}
 use Rattle.std.proofs.Common.{suc}
@@ -53,3 +54,6 @@ module _ {T : Type 0} where
     pub counted : length pairs ≡ store_len store
     pub in_memory : store_len store ≤ store.capacity
     pub in_limit : store_len store ≤ store.limit
+
+  abbrev pub AreListedUnder : (T → ℕ) → Store T → List (ℕ × ℕ) → Type 0
+  AreListedUnder tell store pairs = (slot : ℕ) (x : T) → item_at store slot ≡ Some x → hash_of_slot pairs slot ≡ tell x

@@ -6,6 +6,7 @@ ghost use Rattle.iddqd_core.specs.SlotItems.{HaveSlots};
 mod clone;
 pub mod entry;
 mod collect;
+mod compact;
 mod equality;
 mod imp;
 mod insert;

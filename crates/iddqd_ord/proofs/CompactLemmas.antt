@@ -1,11 +1,10 @@
 -- An index and a store belong together still where items move from slot to slot.
 --     own_place, has_place      the place of an item's own key is that of its slot, and there is one
 --     paired_same, listed_same      each slot has what it had
---     last_is      the item that moves is that of the last slot
 --     paired_renamed, listed_renamed      the item of one slot stands in another, which is listed in its stead
-use Rattle.std.proofs.Common.{◌≡◌, ◌≢◌, ℕ, zero, suc, ◌-◌, ◌<◌, ⊎_elim, Bool, true, List, [], ◌∷◌, length, map, get_or, set, Option, Some, None, is_some, refl, sym, ap, ◌∙◌, arith, true≢false, nat_eq, subst, suc-le-suc, slice_get}
+use Rattle.std.proofs.Common.{◌≡◌, ◌≢◌, ℕ, zero, suc, ◌<◌, ⊎_elim, Bool, true, List, [], ◌∷◌, length, map, get_or, set, Some, is_some, refl, sym, ap, ◌∙◌, arith, true≢false, nat_eq, subst, suc-le-suc, slice_get}
 use Rattle.std.proofs.lemmas.Bool.{cases_lt, cases_eq, eqb-false}
-use Rattle.std.proofs.lemmas.List.{get_or_past, get_or_read, get_or-set_same, get_or-set_other, length-set}
+use Rattle.std.proofs.lemmas.List.{get_or_read, get_or-set_same, get_or-set_other, length-set}
 use Rattle.std.proofs.lemmas.Map.Keys.{apart_from_distinct}
 use Rattle.std.proofs.lemmas.Option.{get_or_from_slice_get, slice_get_read, slice_get_within}
 use Rattle.std.specs.declared.cmp.Ordering.{Ordering}
@@ -15,7 +14,7 @@ use Rattle.std.specs.List.{AllWithin, Contains, HoldsAt, cons_option}
 use Rattle.std.specs.Ordering.{is_eq}
 use Rattle.iddqd_core.specs.Contents.{Ascends}
 use Rattle.iddqd_core.specs.Listed.{listed_items}
-use Rattle.iddqd_core.specs.Store.{Store, item_at, store_len, EndsOccupied, MovesLast, SameItems}
+use Rattle.iddqd_core.specs.Store.{Store, item_at, store_len, MovesLast, SameItems}
 use Rattle.iddqd_core.proofs.DistinctLemmas.{absent_apart, distinct_set}
 use Rattle.iddqd_core.proofs.ListedLemmas.{length-listed, listed-same, read-listed}
 use Rattle.iddqd_core.proofs.QueryLemmas.{none_at, only_at, own_query}
@@ -127,12 +126,3 @@ renamed old new (s ∷ ss) (suc i) last hole at moved kept =
 
 pub listed_renamed : {T : Type 0} (old new : Store T) (slots : List ℕ) (paired : ListsOccupied old slots) (len : store_len new ≡ store_len old) (last hole i : ℕ) (at : slice_get slots i ≡ Some last) (moves : MovesLast old.slots new.slots last hole) → listed_items new (set slots i hole) ≡ listed_items old slots
 listed_renamed old new slots paired len last hole i at moves = renamed old new slots i last hole at moves.moved (kept old new slots paired len last hole i at moves)
-
--- the item that moves is that of the last slot, where that is occupied
-pub last_is : {T : Type 0} (old new : List (Option T)) (last hole : ℕ) → EndsOccupied old → MovesLast old new last hole → last ≡ length old - 1
-last_is old new last hole ends moves =
-    let within : last < length old = ⊎_elim (λ l. l) (λ l. absurd (true≢false (sym moves.was_occupied ∙ ap is_some (get_or_past old last None l)))) (cases_lt last (length old)) in
-    ⊎_elim
-    (λ l. absurd (true≢false (sym (ends (omega (arith, within))) ∙ ap is_some (moves.greatest (length old - 1) l))))
-    (λ l. omega (arith, within, l))
-    (cases_lt last (length old - 1))

@@ -1,13 +1,15 @@
--- A write to an occupied slot of a store.
+-- A write to an occupied slot of a store, and the move of its last item.
 --     updates-set      what it changes
 --     vacant_lent, len_lent      a write to an occupied slot leaves as many slots vacant, and as many items
+--     len_left      how many items there are without that of one slot
 --     given      what is there has a value
+--     last_moves      the item that moves into a vacant slot is that of the last slot
 --     some_lent      what is lent is the item, if there is one
-use Rattle.std.proofs.Common.{Bool, true, false, cond, List, get_or, is_none, count_by, arith, ◌≡◌, ℕ, ◌<◌, ⊎_elim, length, set, Option, Some, None, IsSome, is_some, refl, sym, ap, ◌∙◌, true≢false, Bor, option_copied}
+use Rattle.std.proofs.Common.{Bool, true, false, cond, List, get_or, is_none, count_by, arith, ◌≡◌, ℕ, ◌+◌, ◌-◌, ◌<◌, ⊎_elim, length, set, Option, Some, None, IsSome, is_some, refl, sym, ap, ◌∙◌, true≢false, Bor, option_copied}
 use Rattle.std.proofs.lemmas.Bool.{cases_lt}
 use Rattle.std.proofs.lemmas.List.{get_or-set_same, get_or-set_other, get_or_past}
 use Rattle.std.proofs.lemmas.List.Sums.{sum_by-set}
-use Rattle.iddqd_store.specs.Store.{Store, IsOccupied, Updates, store_len, vacant, with_item}
+use Rattle.iddqd_store.specs.Store.{Store, EndsOccupied, IsOccupied, MovesLast, Updates, store_len, vacant, with_item}
 
 module _ {T : Type 0} where
   -- an occupied slot is one of the slots
@@ -26,6 +28,11 @@ module _ {T : Type 0} where
   count_kept : (p : Option T → Bool) (xs : List (Option T)) (i : ℕ) (o : Option T) → i < length xs → p (get_or xs i None) ≡ p o → count_by p (set xs i o) ≡ count_by p xs
   count_kept p xs i o within same =
       omega (arith, sum_by-set (λ o. cond (p o) 1 0) xs i o None within, ap {B = ℕ} (λ b. cond b 1 0) same)
+
+  -- without the item of one slot there is one item less
+  pub len_left : (store : Store T) (slot : ℕ) → IsOccupied store slot → store_len (record store { slots = set store.slots slot None }) + 1 ≡ store_len store
+  len_left store slot some =
+      omega (arith, sum_by-set (λ o. cond (is_some o) 1 0) store.slots slot None None (occupied_within store slot some), ap {B = ℕ} (λ b. cond b 1 0) some)
 
   some_not_none : (o : Option T) → is_some o ≡ true → is_none o ≡ false
   some_not_none None e = absurd (true≢false (sym e))
@@ -46,3 +53,12 @@ module _ {T : Type 0} where
   pub some_lent : (lent : Option (Bor T)) (o : Option T) → option_copied lent ≡ o → IsSome o → IsSome lent
   some_lent None o e some = absurd (true≢false (sym some ∙ ap is_some (sym e)))
   some_lent (Some x) o e some = refl
+
+-- the item that moves is that of the last slot, where that is occupied
+pub last_moves : {T : Type 0} (old new : List (Option T)) (last hole : ℕ) → EndsOccupied old → MovesLast old new last hole → last ≡ length old - 1
+last_moves old new last hole ends moves =
+    let within : last < length old = ⊎_elim (λ l. l) (λ l. absurd (true≢false (sym moves.was_occupied ∙ ap is_some (get_or_past old last None l)))) (cases_lt last (length old)) in
+    ⊎_elim
+    (λ l. absurd (true≢false (sym (ends (omega (arith, within))) ∙ ap is_some (moves.greatest (length old - 1) l))))
+    (λ l. omega (arith, within, l))
+    (cases_lt last (length old - 1))

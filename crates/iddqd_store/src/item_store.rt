@@ -212,7 +212,8 @@ impl<T> ItemStore<T> {
         ensures capacity { self.new.capacity ≡ self.old.capacity }
         ensures limit { self.new.limit ≡ self.old.limit }
     {
-        self.first_vacant = cut_vacant(&mut self.slots, self.first_vacant);
+        let first = self.first_vacant;
+        self.first_vacant = cut_vacant(&mut self.slots, first);
     }
 
     /// Moves the item of the greatest occupied slot into a lower vacant one, and answers the old slot

@@ -1,9 +1,10 @@
 //! What looks into the store and the index together, or changes both. Only the search looks at keys.
 ghost use Rattle.std.specs.Prelude.{◌≡◌, ℕ, ◌+◌, ◌-◌, ◌<◌, ◌≤◌, length, IfErr, IfSome, OnOk, OnErr, Some, None, IsTrue, Contains};
+ghost use Rattle.std.specs.Prelude.{min as least};
 ghost use Rattle.std.specs.Option.{option_and_then};
 ghost use Rattle.iddqd_core.specs.Contents.{NoTwoAkin, find_item};
 ghost use Rattle.iddqd_core.specs.HashPairs.{HasOneMore, SamePairs, of_hash};
-ghost use Rattle.iddqd_core.specs.Refusal.{refusal_kind, reservation_kind};
+ghost use Rattle.iddqd_core.specs.Refusal.{memory_refused, refusal_kind, reservation_kind};
 ghost use Rattle.iddqd_core.specs.Store.{item_at, store_len, vacant, HasRoomFor, Updates};
 ghost use Rattle.iddqd.specs.Paired.{PairsOccupied, hash_of_slot, items_in, spare_in};
 
@@ -91,6 +92,27 @@ pub(super) fn reserve_room<T>(
 {
     store.try_reserve(additional)?;
     index.try_reserve(additional)
+}
+
+// Gives memory back in both, but for room for so many items and for those that are there.
+pub(super) fn shrink_room<T>(
+    store: &mut ItemStore<T>,
+    index: &mut HashIndex,
+    min: usize,
+) -> Result<(), TryReserveError>
+    requires paired { PairsOccupied store.old index.old.pairs }
+    requires compact { vacant store.old ≡ 0 }
+    ensures paired { PairsOccupied store.new index.new.pairs }
+    ensures only_memory { IfErr result (λ e. e ≡ memory_refused) }
+    ensures store { store.new ≡ record store.old { capacity = store.new.capacity } }
+    ensures lowers { store.new.capacity ≤ store.old.capacity }
+    ensures keeps_items { store_len store.old ≤ store.new.capacity }
+    ensures keeps_min { least min store.old.capacity ≤ store.new.capacity }
+    ensures pairs { SamePairs index.old.pairs index.new.pairs }
+    ensures spare { least min (spare_in store.old index.old + store_len store.old) ≤ spare_in store.new index.new + store_len store.new }
+{
+    index.shrink(min)?;
+    store.shrink_to(min)
 }
 
 // Puts the item into a slot, and the slot into the index under the hash. It takes no memory.

@@ -1,9 +1,14 @@
 //! Room for items.
 ghost use Rattle.std.specs.Prelude.{◌≡◌, ◌+◌, ◌<◌, ◌≤◌, [], length, IfOk, IfErr, OnOk, OnErr};
-ghost use Rattle.iddqd_core.specs.Refusal.{reservation_kind};
+ghost use Rattle.std.specs.Prelude.{min as least};
+ghost use Rattle.iddqd_core.specs.Contents.{SameInAnyOrder};
+ghost use Rattle.iddqd_core.specs.Holding.{Shrinks};
+ghost use Rattle.iddqd_core.specs.Refusal.{memory_refused, reservation_kind};
+ghost use Rattle.iddqd.specs.HashItems.{held};
 ghost use Rattle.iddqd.specs.HashMap.{HashKeeps, SpareFits};
 
-use super::paired::reserve_room;
+use super::compact::compact;
+use super::paired::{reserve_room, shrink_room};
 use super::{DefaultHashBuilder, IdHashMap, Lookups};
 use iddqd_core::{HashIndex, IdHashItem, ItemStore, TryReserveError};
 use iddqd_ord::MAX_ITEMS;
@@ -78,5 +83,37 @@ impl<T: IdHashItem, S: BuildHasher> IdHashMap<T, S> {
         ensures kept { HashKeeps ⟦<IdHashMap<T, S> as Lookups>⟧.keyed self.old self.new }
     {
         self.reserve(additional)
+    }
+
+    /// As `shrink_to(0)`: gives back what memory the items do not need.
+    pub fn shrink_to_fit(&mut self) -> Result<(), TryReserveError>
+        requires keyed { ⟦<IdHashMap<T, S> as Lookups>⟧.keyed self.old }
+        ensures items { SameInAnyOrder self.old.items self.new.items }
+        ensures shrinks { Shrinks 0 (held self.old) (held self.new) }
+        ensures only_memory { IfErr result (λ e. e ≡ memory_refused) }
+        ensures within_limit { SpareFits self.new }
+        ensures hasher { self.new.hasher ≡ self.old.hasher }
+        ensures keyed { ⟦<IdHashMap<T, S> as Lookups>⟧.keyed self.new }
+    {
+        self.shrink_to(0)
+    }
+
+    /// Closes up the slots, and gives memory back, in the store and in the index, but for room for `min` items and for those
+    /// that are there: the items and the spare are then at least `min`, or as many as before. Refused or not, the items
+    /// stay and no slot is vacant then (the crate says that it does nothing where `min` is above the capacity, and closes up
+    /// all the same). Each item that moves into a vacant slot has its key hashed once; an index that gives memory back
+    /// reads each of its pairs.
+    pub fn shrink_to(&mut self, min: usize) -> Result<(), TryReserveError>
+        requires keyed { ⟦<IdHashMap<T, S> as Lookups>⟧.keyed self.old }
+        ensures items { SameInAnyOrder self.old.items self.new.items }
+        ensures shrinks { Shrinks min (held self.old) (held self.new) }
+        ensures spare { least min (self.old.spare + length self.old.items) ≤ self.new.spare + length self.new.items }
+        ensures only_memory { IfErr result (λ e. e ≡ memory_refused) }
+        ensures within_limit { SpareFits self.new }
+        ensures hasher { self.new.hasher ≡ self.old.hasher }
+        ensures keyed { ⟦<IdHashMap<T, S> as Lookups>⟧.keyed self.new }
+    {
+        compact(&mut self.store, &mut self.index, &self.hasher);
+        shrink_room(&mut self.store, &mut self.index, min)
     }
 }

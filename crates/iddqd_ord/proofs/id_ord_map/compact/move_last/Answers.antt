@@ -1,7 +1,8 @@
 use Rattle.std.proofs.Common.{◌≡◌, ◌-◌, ◌∙◌, Some, sym, ap, subst, slice_get}
 use Rattle.iddqd_core.specs.Listed.{listed_items}
+use Rattle.iddqd_core.proofs.StoreLemmas.{last_moves}
 use Rattle.iddqd_ord.specs.Paired.{ListsOccupied}
-use Rattle.iddqd_ord.proofs.CompactLemmas.{last_is, listed_renamed, paired_renamed}
+use Rattle.iddqd_ord.proofs.CompactLemmas.{listed_renamed, paired_renamed}
 use Rattle.iddqd_ord.proofs.id_ord_map.compact.move_last.Goals as goal
 
 pub returns-in-Some-clause-paired : goal.returns-in-Some-clause-paired
@@ -12,7 +13,7 @@ returns-in-Some-clause-paired g c =
     let last = c.in-Some.field-0-0 in
     let place = c.place_of-place.result in
     let moves = c.in-Some.ensures.moves in
-    let same : c.slots.result - 1 ≡ last = ap (λ n. n - 1) c.slots.ensures.slots ∙ sym (last_is old.slots new.slots last c.in-Some.hole c.requires.cut moves) in
+    let same : c.slots.result - 1 ≡ last = ap (λ n. n - 1) c.slots.ensures.slots ∙ sym (last_moves old.slots new.slots last c.in-Some.hole c.requires.cut moves) in
     let at : slice_get slots place ≡ Some last = c.place_of-place.ensures ∙ ap Some same in
     subst (ListsOccupied new) (sym (ap (λ i. i.slots) c.rename.ensures)) (paired_renamed old new slots c.requires.paired c.last_into_hole.ensures.len last c.in-Some.hole place at moves)
 
@@ -24,6 +25,6 @@ returns-in-Some-clause-items g c =
     let last = c.in-Some.field-0-0 in
     let place = c.place_of-place.result in
     let moves = c.in-Some.ensures.moves in
-    let same : c.slots.result - 1 ≡ last = ap (λ n. n - 1) c.slots.ensures.slots ∙ sym (last_is old.slots new.slots last c.in-Some.hole c.requires.cut moves) in
+    let same : c.slots.result - 1 ≡ last = ap (λ n. n - 1) c.slots.ensures.slots ∙ sym (last_moves old.slots new.slots last c.in-Some.hole c.requires.cut moves) in
     let at : slice_get slots place ≡ Some last = c.place_of-place.ensures ∙ ap Some same in
     ap (λ i. listed_items new i.slots) c.rename.ensures ∙ listed_renamed old new slots c.requires.paired c.last_into_hole.ensures.len last c.in-Some.hole place at moves
