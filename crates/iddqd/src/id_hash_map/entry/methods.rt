@@ -65,8 +65,8 @@ impl<'a, T: IdHashItem, S: BuildHasher> Entry<'a, T, S> {
         ensures no_spare { OnErr result ((entry_map self.entry).spare ≡ 0) }
     {
         match self {
-            Entry::Occupied(entry) => {
-                let OccupiedEntry { map, slot, hash: _ } = entry;
+            Entry::Occupied(found) => {
+                let OccupiedEntry { map, slot, hash: _ } = found;
                 Ok(RefMut {
                     map,
                     slot,

@@ -66,12 +66,12 @@ impl<'a, T: IdOrdItem> Entry<'a, T> {
         ensures refused { IfErr result (λ refused. FindsNoRoom T.key T.Key.eq (entry_map self.entry).limit (entry_map self.entry).items refused.item refused.error) }
     {
         match self {
-            Entry::Occupied(entry) => {
+            Entry::Occupied(found) => {
                 let OccupiedEntry {
                     map,
                     slot,
                     place: _,
-                } = entry;
+                } = found;
                 Ok(RefMut {
                     map,
                     slot,

@@ -6,7 +6,7 @@ use Rattle.iddqd_ord.proofs.id_ord_map.entry.Entry.or_insert_with.Goals as goal
 
 pub returns-in-Occupied : goal.returns-in-Occupied
 returns-in-Occupied g c =
-    let e = c.in-Occupied.entry in
+    let e = c.in-Occupied.found in
     let is = c.in-Occupied.is in
     let sorted = subst (λ s. Ascends g.T.IdOrdItem.key g.T.Key.Ord.cmp (entry_map s).items) is c.requires.keyed in
     let absurdly = λ (none : entry_item c.args.self ≡ None). true≢false (sym e.there ∙ ap (λ s. is_some (entry_item s)) (sym is) ∙ ap is_some none) in (
