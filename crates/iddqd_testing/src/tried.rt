@@ -205,8 +205,17 @@ pub trait AskedForRoom {
     /// `reserve`.
     fn reserve(&mut self, additional: usize) -> Result<(), TryReserveError>;
 
+    /// `shrink_to`.
+    fn shrink_to(&mut self, min: usize) -> Result<(), TryReserveError>;
+
+    /// `shrink_to_fit`.
+    fn shrink_to_fit(&mut self) -> Result<(), TryReserveError>;
+
     /// How many items fit, by the numbers that the map shows.
     fn room(&self) -> usize;
+
+    /// How many items fit before the store needs memory.
+    fn capacity(&self) -> usize;
 
     /// How many slots are vacant.
     fn vacant(&self) -> u32;
@@ -223,7 +232,19 @@ impl<T: IdOrdItem> AskedForRoom for Tried<IdOrdMap<T>> {
         self.map.reserve(additional)
     }
 
+    fn shrink_to(&mut self, min: usize) -> Result<(), TryReserveError> {
+        self.map.shrink_to(min)
+    }
+
+    fn shrink_to_fit(&mut self) -> Result<(), TryReserveError> {
+        self.map.shrink_to_fit()
+    }
+
     fn room(&self) -> usize {
+        self.map.capacity()
+    }
+
+    fn capacity(&self) -> usize {
         self.map.capacity()
     }
 
@@ -245,8 +266,20 @@ impl<T: IdHashItem> AskedForRoom for Tried<IdHashMap<T>> {
         self.map.reserve(additional)
     }
 
+    fn shrink_to(&mut self, min: usize) -> Result<(), TryReserveError> {
+        self.map.shrink_to(min)
+    }
+
+    fn shrink_to_fit(&mut self) -> Result<(), TryReserveError> {
+        self.map.shrink_to_fit()
+    }
+
     fn room(&self) -> usize {
         self.map.spare()
+    }
+
+    fn capacity(&self) -> usize {
+        self.map.capacity()
     }
 
     fn vacant(&self) -> u32 {

@@ -90,3 +90,53 @@ fn made_with_room(rt: HostRuntime) -> Result<(), Fail> {
     assert!(rt; hashed.spare() >= 100);
     Ok(())
 }
+
+// Whether foo and bar are there.
+fn has_both<M: KeyedMap<Item = Named, Key = [u8; 3]>>(map: &Tried<M>) -> bool {
+    map.get(b"foo") == Some(&FOO) && map.get(b"bar") == Some(&BAR)
+}
+
+// Shrinks a map that was made with room for 100. The least room that is left after each shrink is told apart.
+fn shrunk<M: KeyedMap<Item = Named, Key = [u8; 3]> + Drop>(
+    rt: &impl Abort,
+    mut map: Tried<M>,
+    room_of_ten: usize,
+)
+where
+    Tried<M>: AskedForRoom,
+{
+    assert!(rt; map.is_put(FOO) && map.is_put(BAR));
+    let capacity = map.capacity();
+    assert!(rt; capacity >= 100);
+    assert_eq!(rt; map.shrink_to(usize::MAX), Ok(()));
+    assert!(rt; map.capacity() == capacity && map.vacant() == 0 && has_both(&map));
+    assert_eq!(rt; map.shrink_to(10), Ok(()));
+    assert!(rt; map.capacity() >= 10 && map.room() >= room_of_ten && has_both(&map));
+    assert_eq!(rt; map.shrink_to(0), Ok(()));
+    assert!(rt; map.capacity() >= 2 && has_both(&map));
+}
+
+#[test]
+fn capacity_and_shrink(rt: HostRuntime) -> Result<(), Fail> {
+    let ordered = IdOrdMap::with_capacity(rt.alloc(), 100)?;
+    shrunk(&rt, Tried::new(ordered), 10);
+    let hashed = IdHashMap::with_capacity(rt.alloc(), 100)?;
+    shrunk(&rt, Tried::new(hashed), 8);
+    Ok(())
+}
+
+// A map without items lacks what is asked for, and is as it should be.
+fn of_nothing<M: KeyedMap<Item = Named, Key = [u8; 3]> + Drop>(rt: &impl Abort, mut map: Tried<M>)
+where
+    Tried<M>: AskedForRoom,
+{
+    assert!(rt; map.get(b"foo").is_none());
+    assert!(rt; map.remove(b"foo").is_none());
+    assert!(rt; map.len() == 0 && map.is_compact());
+}
+
+#[test]
+fn empty_map(rt: HostRuntime) {
+    of_nothing(&rt, Tried::new(IdOrdMap::new(rt.alloc())));
+    of_nothing(&rt, Tried::new(IdHashMap::new(rt.alloc())));
+}

@@ -172,6 +172,16 @@ const IDS: [u32; 25] = [
 
 const LEFT: [u32; 9] = [1, 5, 7, 11, 13, 17, 23, 25, 31];
 
+// Whether the nine are there, and no others.
+fn are_left<M: KeyedMap<Item = Numbered, Key = u32>>(map: &Tried<M>) -> bool {
+    for id in LEFT {
+        if map.get(&id) != Some(&numbered(id, id)) {
+            return false;
+        }
+    }
+    map.len() == 9
+}
+
 fn nine_left<M: KeyedMap<Item = Numbered, Key = u32>>(rt: &impl Abort, mut map: Tried<M>)
 where
     M: Drop,
@@ -181,13 +191,12 @@ where
         assert!(rt; map.is_put(numbered(id, id)));
     }
     map.retain(|item| item.number % 2 == 1 && item.number % 3 != 0);
-    assert_eq!(rt; map.len(), 9);
-    for id in LEFT {
-        assert_eq!(rt; map.get(&id).copied(), Some(numbered(id, id)));
-    }
+    assert!(rt; are_left(&map));
     assert_eq!(rt; map.vacant(), 16);
     assert_eq!(rt; map.reserve(10), Ok(()));
     assert!(rt; map.is_sound() && !map.is_compact());
+    assert_eq!(rt; map.shrink_to_fit(), Ok(()));
+    assert!(rt; map.is_compact() && are_left(&map));
 }
 
 #[test]
