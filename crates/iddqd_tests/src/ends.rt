@@ -1,7 +1,5 @@
 //! Rows of the ordered map's ends.
 ghost use Rattle.std.specs.Prelude.{IfOk};
-ghost use Rattle.std.specs.Cmp.Lexicographic.{slice_cmp};
-ghost use Rattle.std.specs.Ordering.{nat_cmp};
 ghost use Rattle.iddqd.specs.Contents.{Ascends};
 
 use iddqd::{IdOrdItem, IdOrdMap};
@@ -79,28 +77,11 @@ fn ends_from_behind(rt: HostRuntime) -> Result<(), Fail> {
     Ok(())
 }
 
-// Writes the value of the first item through its entry.
-fn write_first(map: &mut IdOrdMap<Person>, value: u32) -> Option<()>
-    requires { Ascends (λ p. p.name) (slice_cmp nat_cmp) map.old.items }
-    ensures { Ascends (λ p. p.name) (slice_cmp nat_cmp) map.new.items }
-{
-    map.first_entry()?.get_mut().value = value;
-    Some(())
-}
-
-#[test]
-fn ends_by_entries(rt: HostRuntime) -> Result<(), Fail> {
-    let mut map = filled(IdOrdMap::new(rt.alloc()))?;
-    assert!(rt; write_first(&mut map, 100).is_some());
-    assert_eq!(rt; map.get(b"alice  ").copied(), Some(one(*b"alice  ", 100)));
-    Ok(())
-}
-
 #[test]
 fn ends_of_empty_map(rt: HostRuntime) -> Result<(), Fail> {
     let mut map: IdOrdMap<Person> = IdOrdMap::new(rt.alloc());
     assert!(rt; map.first().is_none() && map.last().is_none());
-    assert!(rt; write_first(&mut map, 100).is_none() && map.last_entry().is_none());
+    assert!(rt; map.first_entry().is_none() && map.last_entry().is_none());
     assert!(rt; pop(&mut map, true).is_none() && pop(&mut map, false).is_none());
     Ok(())
 }

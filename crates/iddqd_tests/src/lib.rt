@@ -12,8 +12,6 @@ mod commands;
 #[cfg(test)]
 mod ends;
 #[cfg(test)]
-mod entries;
-#[cfg(test)]
 mod errors;
 #[cfg(test)]
 mod insertions;
