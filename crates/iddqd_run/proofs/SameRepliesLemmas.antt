@@ -12,7 +12,7 @@ use Rattle.iddqd.specs.Visiting.{VisitsKeepKeys}
 use Rattle.iddqd_run.specs.SameReplies.{IsOrderless, IsUnrefused, HoldSameItems, RunUnrefused, SameReplies}
 use Rattle.iddqd_run.specs.Step.{MapState, SpareRule, Answers}
 use Rattle.iddqd_run.specs.declared.commands.Command.{Command}
-use Rattle.iddqd_run.specs.declared.commands.Command.TheVariants.{InsertUnique, InsertOverwrite, Get, Remove, Visit, RetainMut, Clear, Len}
+use Rattle.iddqd_run.specs.declared.commands.Command.TheVariants.{InsertUnique, InsertOverwrite, Get, Remove, Visit, RetainMut, Clear, Reserve, Shrink, Len}
 use Rattle.iddqd_run.specs.declared.commands.Reply.{Reply}
 use Rattle.iddqd_run.specs.declared.commands.Reply.TheVariants.{Inserted, Duplicate, Replaced, Found, Removed, Absent, Visited, Done, Length, Refused}
 use Rattle.iddqd.proofs.KeepsLemmas.{differ_filter, differ_insert}
@@ -28,6 +28,8 @@ module _ {T K V : Type 0} (key : T → K) (eq : K → K → Bool) (visits : V �
   sought (Visit k v) items = find_item key (eq k) items
   sought (RetainMut v) items = None
   sought Clear items = None
+  sought (Reserve n) items = None
+  sought Shrink items = None
   sought Len items = None
 
   abbrev plain_reply : Command T K V → Option T → ℕ → Reply T
@@ -43,6 +45,8 @@ module _ {T K V : Type 0} (key : T → K) (eq : K → K → Bool) (visits : V �
   plain_reply (Visit k v) (Some x) count = Visited (visits v x).2
   plain_reply (RetainMut v) found count = Done
   plain_reply Clear found count = Done
+  plain_reply (Reserve n) found count = Done
+  plain_reply Shrink found count = Done
   plain_reply Len found count = Length count
 
   abbrev plain_items : Command T K V → Option T → List T → List T
@@ -57,6 +61,8 @@ module _ {T K V : Type 0} (key : T → K) (eq : K → K → Bool) (visits : V �
   plain_items (Visit k v) (Some x) items = replaced key (eq k) (visits v x).1 items
   plain_items (RetainMut v) found items = items
   plain_items Clear found items = []
+  plain_items (Reserve n) found items = items
+  plain_items Shrink found items = items
   plain_items Len found items = items
 
   record IsPlain (command : Command T K V) (old : List T) (reply : Reply T) (new : List T) : Type 0 where
@@ -110,6 +116,16 @@ module _ {T K V : Type 0} (key : T → K) (eq : K → K → Bool) (visits : V �
     clear_plain Done a = record { replied = refl; held = now [] new a }
     clear_plain reply a = absurd a
 
+    reserve_plain : (n : ℕ) (reply : Reply T) → Answers key eq visits limit (Reserve n) old reply new → IsUnrefused reply → IsPlain (Reserve n) old.items reply new
+    reserve_plain n Done a u = record { replied = refl; held = now old.items new a.1 }
+    reserve_plain n (Refused back kind) a u = absurd u
+    reserve_plain n reply a u = absurd a
+
+    shrink_plain : (reply : Reply T) → Answers key eq visits limit Shrink old reply new → IsUnrefused reply → IsPlain Shrink old.items reply new
+    shrink_plain Done a u = record { replied = refl; held = a }
+    shrink_plain (Refused back kind) a u = absurd u
+    shrink_plain reply a u = absurd a
+
     len_plain : (reply : Reply T) → Answers key eq visits limit Len old reply new → IsPlain Len old.items reply new
     len_plain (Length n) a = record { replied = ap Length a.0; held = now old.items new a.1 }
     len_plain reply a = absurd a
@@ -122,6 +138,8 @@ module _ {T K V : Type 0} (key : T → K) (eq : K → K → Bool) (visits : V �
     step_plain (Visit k v) reply o a u = visit_plain k v reply a
     step_plain (RetainMut v) reply o a u = absurd o
     step_plain Clear reply o a u = clear_plain reply a
+    step_plain (Reserve n) reply o a u = reserve_plain n reply a u
+    step_plain Shrink reply o a u = shrink_plain reply a u
     step_plain Len reply o a u = len_plain reply a
 
 module _ {T K V : Type 0} (key : T → K) (eq : K → K → Bool) (visits : V → T → V × T × Bool) (equivalence : IsEquivalence eq) (keeps : VisitsKeepKeys key eq visits) where
@@ -133,6 +151,8 @@ module _ {T K V : Type 0} (key : T → K) (eq : K → K → Bool) (visits : V �
   sought_same (Visit k v) xs ys h = sym (find_moved key equivalence (eq k) (equivalence.congr k) xs ys h.same h.differ)
   sought_same (RetainMut v) xs ys h = refl
   sought_same Clear xs ys h = refl
+  sought_same (Reserve n) xs ys h = refl
+  sought_same Shrink xs ys h = refl
   sought_same Len xs ys h = refl
 
   -- the query is equivalent to the keys that the visited item's own is equal to
@@ -156,6 +176,8 @@ module _ {T K V : Type 0} (key : T → K) (eq : K → K → Bool) (visits : V �
       let y = (visits v x).1 in
       record { same = IsPermutation-map (λ w. cond (eq k (key w)) y w) xs ys h.same; differ = subst (λ test. NoTwoAkin key eq (replaced key test y xs)) (sym (own_test k v x xs e)) (differ_replaced key equivalence y xs h.differ) }
   items_same (RetainMut v) found xs ys e h = h
+  items_same (Reserve n) found xs ys e h = h
+  items_same Shrink found xs ys e h = h
   items_same Clear found xs ys e h = record { same = IsPermutation-refl []; differ = tt }
   items_same Len found xs ys e h = h
 

@@ -1,6 +1,6 @@
 -- Steps put together.
-use Rattle.std.proofs.Common.{arith, ℕ, Bool, List, [], ◌∷◌, ◌++◌, refl, subst}
-use Rattle.iddqd_run.specs.Step.{FitsRoom, KeepsRoom, MapState, SpareRule, WithSpare, WithoutSpare, Step, Run}
+use Rattle.std.proofs.Common.{arith, max, ℕ, Bool, List, [], ◌∷◌, ◌++◌, refl, subst}
+use Rattle.iddqd_run.specs.Step.{FitsRoom, KeepsRoom, LeavesRoom, MapState, SpareRule, WithSpare, WithoutSpare, Step, Run}
 use Rattle.iddqd_run.specs.declared.commands.Command.{Command}
 use Rattle.iddqd_run.specs.declared.commands.Reply.{Reply}
 
@@ -8,6 +8,11 @@ use Rattle.iddqd_run.specs.declared.commands.Reply.{Reply}
 pub room_kept : {T : Type 0} (rule : SpareRule) (limit : ℕ) (m : MapState T) → FitsRoom rule limit m → KeepsRoom rule limit m m
 room_kept WithoutSpare limit m fits = (fits, fits)
 room_kept WithSpare limit m fits = record { at_least = omega arith; in_limit = fits }
+
+-- the greater of the rooms that two facts tell
+pub room_both : {T : Type 0} (rule : SpareRule) (limit one other : ℕ) (old new : MapState T) → LeavesRoom rule limit one old new → LeavesRoom rule limit other old new → LeavesRoom rule limit (max one other) old new
+room_both WithoutSpare limit one other old new a b = a
+room_both WithSpare limit one other old new a b = record { at_least = omega (arith, a.at_least, b.at_least); in_limit = a.in_limit }
 
 module _ {T K V : Type 0} (key : T → K) (eq : K → K → Bool) (visits : V → T → V × T × Bool) where
   -- one step more at the end of a run

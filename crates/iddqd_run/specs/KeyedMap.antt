@@ -5,9 +5,9 @@
 --     IsKeyed      its items lie as its lookups expect them
 use Rattle.std.specs.Prelude.{◌≡◌, ℕ, Bool, None, IfErr, Result}
 use Rattle.std.specs.Borrow.{Fml, RattleType, MutBor, LendsSoOk, unit}
-use Rattle.iddqd.specs.Contents.{OverwritesItem}
+use Rattle.iddqd.specs.Contents.{OverwritesItem, SameInAnyOrder}
 use Rattle.iddqd.specs.Refusal.{InsertionError, OnDuplicate}
-use Rattle.iddqd_run.specs.Step.{MapState, SpareRule, KeepsRoom}
+use Rattle.iddqd_run.specs.Step.{MapState, SpareRule, KeepsRoom, LeavesRoom}
 
 module _ {M T : Type 0} (state : M → MapState T) (limit_of : M → ℕ) (rule : SpareRule) (IsKeyed : M → Type 0) where
   -- what each call leaves, whatever it answers: the map can be searched, under the same limit, and keeps its room
@@ -20,6 +20,13 @@ module _ {M T : Type 0} (state : M → MapState T) (limit_of : M → ℕ) (rule 
   pub record KeepsMap (old new : M) : Type 0 where
     pub items : (state new).items ≡ (state old).items
     pub stays : StaysKeyed old new
+
+  -- what a shrink leaves, refused or not: the items in whatever order, in a map that can be searched, under the same limit; room may go
+  pub record ShrinksMap (old new : M) : Type 0 where
+    pub items : SameInAnyOrder (state old).items (state new).items
+    pub keyed : IsKeyed new
+    pub limit : limit_of new ≡ limit_of old
+    pub room : LeavesRoom rule (limit_of old) 0 (state old) (state new)
 
   -- the item was put in where its key was absent and the map was not full
   pub record InsertsItem {K : Type 0} (key : T → K) (eq : K → K → Bool) (x : T) (old new : M) : Type 0 where

@@ -2,15 +2,16 @@
 --     MapState      the items of a map, and its spare: how many new items it takes without a refusal
 --     SpareRule      whether a map keeps a spare
 --     room_left, LeavesRoom      how much room a command leaves at least to a map that keeps a spare
+--     MakesRoom, RefusesRoom      room is made, or refused
 --     VisitsItem, RetainsVisited      an item is visited; all are, in some order, and some stay
 --     Answers      what a command is answered, and the items then
 --     Step, Run      one command and its reply; a list of commands and their replies
-use Rattle.std.specs.Prelude.{◌≡◌, ℕ, ◌+◌, ◌≤◌, Bool, List, [], ◌∷◌, length, Option, Some, None, IfSome}
+use Rattle.std.specs.Prelude.{◌≡◌, ℕ, ◌+◌, ◌<◌, ◌≤◌, max, Bool, List, [], ◌∷◌, length, Option, Some, None, IfSome}
 use Rattle.iddqd.specs.Contents.{find_item, IsAbsent, replaced, SameInAnyOrder, without, OverwritesItem}
 use Rattle.iddqd.specs.Visiting.{kept_by, visitor_after}
-use Rattle.iddqd.specs.Refusal.{FindsNoRoom, RefusalKind, memory_refused}
+use Rattle.iddqd.specs.Refusal.{FindsNoRoom, RefusalKind, memory_refused, reservation_kind}
 use Rattle.iddqd_run.specs.declared.commands.Command.{Command}
-use Rattle.iddqd_run.specs.declared.commands.Command.TheVariants.{InsertUnique, InsertOverwrite, Get, Remove, Visit, RetainMut, Clear, Len}
+use Rattle.iddqd_run.specs.declared.commands.Command.TheVariants.{InsertUnique, InsertOverwrite, Get, Remove, Visit, RetainMut, Clear, Reserve, Shrink, Len}
 use Rattle.iddqd_run.specs.declared.commands.Reply.{Reply}
 use Rattle.iddqd_run.specs.declared.commands.Reply.TheVariants.{Inserted, Duplicate, Replaced, Found, Removed, Absent, Visited, Kept, Done, Length, Refused}
 
@@ -18,7 +19,7 @@ pub record MapState (T : Type 0) : Type 0 where
   pub items : List T
   pub spare : ℕ
 
--- a map that keeps no spare has 0 throughout; one that keeps a spare loses room by no command (`reserve`; the number is ours)
+-- a map that keeps no spare has 0 throughout; one that keeps a spare loses room by a shrink alone (`reserve`; the number is ours)
 pub data SpareRule : Type 0 where
   WithoutSpare : SpareRule
   WithSpare : SpareRule
@@ -50,9 +51,20 @@ FitsRoom WithSpare limit m = room_of m ≤ limit
 abbrev pub KeepsRoom : {T : Type 0} → SpareRule → (limit : ℕ) → (old new : MapState T) → Type 0
 KeepsRoom rule limit old new = LeavesRoom rule limit (room_of old) old new
 
--- what a command may lower so much room to: none lowers it
-abbrev pub room_left : {T K V : Type 0} → Command T K V → ℕ → ℕ
-room_left _ room = room
+-- how much room there is at least after a command: a reservation makes it, a shrink may give all of it back, and no other command lowers it
+abbrev pub room_left : {T K V : Type 0} → Command T K V → Reply T → MapState T → ℕ
+room_left (Reserve n) Done old = max (room_of old) (length old.items + n)
+room_left Shrink _ old = 0
+room_left _ _ old = room_of old
+
+-- there is room for so many more items: the limit has it, and a map that keeps a spare has so much (`reserve`)
+pub record MakesRoom {T : Type 0} (rule : SpareRule) (limit n : ℕ) (old new : MapState T) : Type 0 where
+  pub in_limit : length old.items + n ≤ limit
+  pub room : LeavesRoom rule limit (length old.items + n) old new
+
+-- room for so many more items was refused: the kind is told by the limit, and for so many as are spare this never comes
+abbrev pub RefusesRoom : {T : Type 0} → (limit n : ℕ) → MapState T → RefusalKind → Type 0
+RefusesRoom limit n old kind = (kind ≡ reservation_kind limit (length old.items + n)) × (old.spare < n)
 
 module _ {T K : Type 0} (key : T → K) (eq : K → K → Bool) (limit : ℕ) where
   -- x comes back for want of room; at a spare above 0 this never comes
@@ -91,13 +103,19 @@ module _ {T K V : Type 0} (key : T → K) (eq : K → K → Bool) (visits : V �
   Answers (Visit k v) old Absent new = IsAbsent key (eq k) old.items × (new ≡ old.items)
   Answers (RetainMut v) old (Kept n) new = (w : V) × RetainsVisited key visits v w old.items new × (n ≡ length new)
   Answers Clear old Done new = new ≡ []
+  -- the items stay
+  Answers (Reserve n) old Done new = (length old.items + n ≤ limit) × (new ≡ old.items)
+  Answers (Reserve n) old (Refused back kind) new = (back ≡ None) × RefusesRoom limit n old kind × (new ≡ old.items)
+  -- they stay, in whatever order, refused or not
+  Answers Shrink old Done new = SameInAnyOrder old.items new
+  Answers Shrink old (Refused back kind) new = (back ≡ None) × (kind ≡ memory_refused) × SameInAnyOrder old.items new
   Answers Len old (Length n) new = (n ≡ length old.items) × (new ≡ old.items)
   Answers _ _ _ _ = ⊥
 
   -- one command: the reply and the items then, and the room that is left
   pub record Step (rule : SpareRule) (old : MapState T) (command : Command T K V) (reply : Reply T) (new : MapState T) : Type 0 where
     pub answers : Answers command old reply new.items
-    pub room : LeavesRoom rule limit (room_left command (room_of old)) old new
+    pub room : LeavesRoom rule limit (room_left command reply old) old new
 
   -- a reply for each command, in order, each from where the one before ended
   abbrev pub Run : SpareRule → MapState T → List (Command T K V) → List (Reply T) → MapState T → Type 0

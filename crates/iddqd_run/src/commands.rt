@@ -18,6 +18,10 @@ pub enum Command<T, K, V> {
     RetainMut(V),
     /// `clear`.
     Clear,
+    /// `reserve`.
+    Reserve(usize),
+    /// `shrink`.
+    Shrink,
     /// `len`.
     Len,
 }
@@ -48,7 +52,8 @@ pub enum Reply<T> {
     Done,
     /// How many items there are.
     Length(usize),
-    /// There was no room: for the item, which comes back, or for the clone that `Get` answers.
+    /// There was no room: for the item, which comes back, for the clone that `Get` answers, or for what `Reserve` or
+    /// `Shrink` needs.
     Refused {
         item: Option<T>,
         error: TryReserveError,

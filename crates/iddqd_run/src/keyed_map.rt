@@ -1,20 +1,20 @@
 //! What generic code asks of a map of either kind.
-ghost use Rattle.std.specs.Prelude.{◌≡◌, ℕ, [], length, Some, None, IfOk, IfErr, IfNone, IfSome, OnErr, option_copied};
+ghost use Rattle.std.specs.Prelude.{◌≡◌, ℕ, [], length, Some, None, IfOk, IfErr, IfNone, IfSome, OnErr, OnOk, option_copied};
 ghost use Rattle.std.specs.Borrow.{sem};
 ghost use Rattle.iddqd.specs.Contents.{NoTwoAkin, OverwritesItem, find_item, without};
-ghost use Rattle.iddqd.specs.Refusal.{OnRefused, RefusesInsertion};
-ghost use Rattle.iddqd_run.specs.KeyedMap.{StaysKeyed, ends_inserted};
+ghost use Rattle.iddqd.specs.Refusal.{OnRefused, RefusesInsertion, memory_refused};
+ghost use Rattle.iddqd_run.specs.KeyedMap.{ShrinksMap, StaysKeyed, ends_inserted};
 ghost use Rattle.iddqd.specs.Visiting.{VisitsKeepKeys};
-ghost use Rattle.iddqd_run.specs.Step.{MapState, SpareRule, FitsRoom, RefusesItem, RetainsVisited, VisitsItem};
+ghost use Rattle.iddqd_run.specs.Step.{MapState, SpareRule, FitsRoom, MakesRoom, RefusesItem, RefusesRoom, RetainsVisited, VisitsItem};
 
 mod hash;
 mod ord;
 
 use iddqd::Visit;
-use iddqd::errors::{InsertError, Refused};
+use iddqd::errors::{InsertError, Refused, TryReserveError};
 
 /// A map whose keys live in its items, for callers that take any (ours). Contracts see its items and its spare, the most
-/// items that it ever holds, and whether it is keyed: each call leaves it keyed, under the same limit and with the room that
+/// items that it ever holds, and whether it is keyed: each call leaves it keyed, under the same limit and, but for a shrink, with the room that
 /// its rule promises. A call is answered as its command is (`run`), and costs what the map's own call of that name does.
 pub trait KeyedMap {
     /// What the map holds.
@@ -102,6 +102,23 @@ pub trait KeyedMap {
         Self::Item: Drop,
         ensures empty { (state self.new).items ≡ [] }
         ensures stays { StaysKeyed state limit rule keyed self.old self.new };
+
+    /// Makes room for `additional` more items: where the map keeps a spare, as many new keys then meet no refusal. It is
+    /// refused by the limit where that has no room for them, and else for want of memory, but never for as many as are
+    /// spare. The items stay.
+    fn reserve(&mut self, additional: usize) -> Result<(), TryReserveError>
+        requires keyed { keyed self.old }
+        ensures made { OnOk result (MakesRoom rule (limit self.old) additional (state self.old) (state self.new)) }
+        ensures refused { IfErr result (RefusesRoom (limit self.old) additional (state self.old)) }
+        ensures unchanged { (state self.new).items ≡ (state self.old).items }
+        ensures stays { StaysKeyed state limit rule keyed self.old self.new };
+
+    /// Gives back what memory the items do not need (`shrink_to_fit`). Refused or not, the items stay; the order in which a
+    /// hash map has them may change, and its spare may go.
+    fn shrink(&mut self) -> Result<(), TryReserveError>
+        requires keyed { keyed self.old }
+        ensures shrinks { ShrinksMap state limit rule keyed self.old self.new }
+        ensures only_memory { IfErr result (λ error. error ≡ memory_refused) };
 
     /// How many items there are.
     fn len(&self) -> usize

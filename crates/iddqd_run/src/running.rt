@@ -5,7 +5,7 @@ ghost use Rattle.iddqd.specs.Errors.{listed};
 ghost use Rattle.iddqd.specs.Refusal.{IsLent};
 ghost use Rattle.iddqd.specs.Visiting.{VisitsKeepKeys};
 ghost use Rattle.iddqd_run.specs.KeyedMap.{StaysKeyed};
-ghost use Rattle.iddqd_run.specs.declared.commands.Command.TheVariants.{InsertUnique, InsertOverwrite, Get, Visit, RetainMut};
+ghost use Rattle.iddqd_run.specs.declared.commands.Command.TheVariants.{InsertUnique, InsertOverwrite, Get, Visit, RetainMut, Reserve, Shrink};
 ghost use Rattle.iddqd_run.specs.Step.{Answers, FitsRoom, Step, Run};
 
 use crate::commands::{Command, Reply, RunStop};
@@ -76,6 +76,8 @@ where
             map.clear();
             Reply::Done
         }
+        Command::Reserve(additional) => reserve::<M, V>(map, additional),
+        Command::Shrink => shrink::<M, V>(map),
         Command::Len => Reply::Length(map.len()),
     }
 }
@@ -161,6 +163,32 @@ where
 {
     map.retain_mut(&mut visitor);
     Reply::Kept(map.len())
+}
+
+// `Reserve`.
+#[tactic(auto, using(crate::proofs::StepLemmas::room_both))]
+fn reserve<M: KeyedMap, V: Visit<M::Item>>(map: &mut M, additional: usize) -> Reply<M::Item>
+    requires keyed { M.keyed map.old }
+    ensures step { Step M.key M.Key.eq V.visits (M.limit map.old) M.rule (M.state map.old) (Reserve additional) result (M.state map.new) }
+    ensures stays { StaysKeyed M.state M.limit M.rule M.keyed map.old map.new }
+{
+    match map.reserve(additional) {
+        Ok(()) => Reply::Done,
+        Err(error) => Reply::Refused { item: None, error },
+    }
+}
+
+// `Shrink`.
+fn shrink<M: KeyedMap, V: Visit<M::Item>>(map: &mut M) -> Reply<M::Item>
+    requires keyed { M.keyed map.old }
+    ensures step { Step M.key M.Key.eq V.visits (M.limit map.old) M.rule (M.state map.old) Shrink result (M.state map.new) }
+    ensures keyed { M.keyed map.new }
+    ensures limit { M.limit map.new ≡ M.limit map.old }
+{
+    match map.shrink() {
+        Ok(()) => Reply::Done,
+        Err(error) => Reply::Refused { item: None, error },
+    }
 }
 
 // `Get`.

@@ -33,6 +33,7 @@ impl<T: IdOrdItem> IdOrdMap<T> {
         ensures in_limit { OnOk result (length self.old.items + additional ≤ self.old.limit) }
         ensures refused { IfErr result (λ e. e ≡ reservation_kind self.old.limit (length self.old.items + additional)) }
         ensures needed { result ≡ Err memory_refused → self.old.capacity < length self.old.items + additional }
+        ensures asked { OnErr result (0 < additional) }
         ensures rest { self.new ≡ record self.old { capacity = self.new.capacity } }
         ensures capacity { self.old.capacity ≤ self.new.capacity }
         ensures keyed { Ascends T.key T.Key.cmp self.new.items }

@@ -4,7 +4,7 @@ ghost use Rattle.iddqd.specs.Hashing.{hash_under};
 ghost use Rattle.iddqd_run.specs.Step.{WithSpare};
 
 use super::KeyedMap;
-use iddqd::errors::{InsertError, Refused};
+use iddqd::errors::{InsertError, Refused, TryReserveError};
 use iddqd::{IdHashItem, IdHashMap, Visit};
 use std::hash::BuildHasher;
 
@@ -61,6 +61,14 @@ impl<T: IdHashItem, S: BuildHasher> KeyedMap for IdHashMap<T, S> {
         T: Drop,
     {
         self.clear();
+    }
+
+    fn reserve(&mut self, additional: usize) -> Result<(), TryReserveError> {
+        self.reserve(additional)
+    }
+
+    fn shrink(&mut self) -> Result<(), TryReserveError> {
+        self.shrink_to_fit()
     }
 
     fn len(&self) -> usize {

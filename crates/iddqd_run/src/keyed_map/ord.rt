@@ -4,7 +4,7 @@ ghost use Rattle.iddqd.specs.Query.{differ_from_ascends};
 ghost use Rattle.iddqd_run.specs.Step.{WithoutSpare, spareless};
 
 use super::KeyedMap;
-use iddqd::errors::{InsertError, Refused};
+use iddqd::errors::{InsertError, Refused, TryReserveError};
 use iddqd::{IdOrdItem, IdOrdMap, Visit};
 
 // Each call is the map's own of that name.
@@ -60,6 +60,14 @@ impl<T: IdOrdItem> KeyedMap for IdOrdMap<T> {
         T: Drop,
     {
         self.clear();
+    }
+
+    fn reserve(&mut self, additional: usize) -> Result<(), TryReserveError> {
+        self.reserve(additional)
+    }
+
+    fn shrink(&mut self) -> Result<(), TryReserveError> {
+        self.shrink_to_fit()
     }
 
     fn len(&self) -> usize {
