@@ -1,23 +1,23 @@
 -- What the map answers is what the entries answer that its items are seen as, in the order of their names.
-use Rattle.std.proofs.Common.{◌≡◌, ℕ, ◌<◌, [], Bor, Bool, true, false, cond, eqb, List, length, Option, Some, None, IsPermutation, sym, refl, ap, ◌∙◌, subst, ◌++◌, eq-eqb, arith, ap₂}
+use Rattle.std.proofs.Common.{rules, ◌≡◌, ℕ, ◌+◌, ◌<◌, ◌≤◌, [], Bor, Bool, true, false, cond, eqb, List, length, Option, Some, None, IsPermutation, sym, refl, ap, ◌∙◌, subst, ◌++◌, eq-eqb, arith, ap₂}
 use Rattle.std.specs.Prelude.{filter, nat_lt, ◌-◌, string_bytes, bytes_eq, codes, decimal}
 use Rattle.std.specs.Cmp.Lexicographic.{bytes_decides, nat_list_cmp_total, nat_list_eq_equiv, texts_ties}
 use Rattle.std.specs.Option.{option_map, option_map_or}
 use Rattle.std.proofs.lemmas.Bool.{ne_eqb, eqb-true}
 use Rattle.std.proofs.lemmas.List.{length-map}
-use Rattle.std.proofs.lemmas.List.Sorted.{length_permutation, IsPermutation-refl}
+use Rattle.std.proofs.lemmas.List.Sorted.{length_permutation, IsPermutation-map, IsPermutation-refl, IsPermutation-sym, IsPermutation-trans}
 use Rattle.std.specs.List.Sorted.{IsStrictlySortedBy}
 use Rattle.std.proofs.Common.{String, Global}
 use Rattle.iddqd_run.specs.Answer as answer
 use Rattle.iddqd_run.specs.Answer.{greater, name_of, name_cmp, entry_named, is_full, line_reply, entries_after, RefusedLeaves}
-use Rattle.iddqd.specs.Contents.{AddsItem, find_item, without, replaced, placed}
-use Rattle.iddqd_run.specs.Lines.{Request, Add, Put, Get, Del, Set, Keep, Len}
-use Rattle.iddqd_run.specs.Shown.{entry_of, entries_of, shown, AnswersPlainly, AnswersRequest, ShowsEntries, no_room_reply}
+use Rattle.iddqd.specs.Contents.{AddsItem, SameInAnyOrder, find_item, without, replaced, placed}
+use Rattle.iddqd_run.specs.Lines.{Request, Add, Put, Get, Del, Set, Keep, Reserve, Shrink, Len}
+use Rattle.iddqd_run.specs.Shown.{entry_of, entries_of, shown, AnswersPlainly, AnswersRequest, ShowsEntries, no_room_reply, no_space_reply}
 use Rattle.iddqd.specs.Holding.{max_items}
 use Rattle.iddqd_run.specs.declared.arguments.Kind.{Kind}
 use Rattle.iddqd_run.specs.declared.entries.Entry.{Entry}
 use Rattle.iddqd_run.specs.declared.entries.LineReply.{LineReply}
-use Rattle.iddqd_run.specs.declared.entries.LineReply.TheVariants.{Added, Duplicate, New, Replaced, Found, Removed, Absent, Set as Written, Kept, Length, RefusedCapacity, RefusedMemory}
+use Rattle.iddqd_run.specs.declared.entries.LineReply.TheVariants.{Added, Duplicate, New, Replaced, Found, Removed, Absent, Set as Written, Kept, Length, Done, RefusedCapacity, RefusedMemory}
 use Rattle.iddqd.proofs.KeepsLemmas.{ascends_filter}
 use Rattle.iddqd.proofs.MappedLemmas.{filter-map, find_item-map, insert-map, without-map, replaced-map}
 use Rattle.iddqd.proofs.OrderLemmas.{Tells, find_tells}
@@ -78,6 +78,41 @@ module _ (kind : Kind) where
       by : (b : Bool) → eqb (length items) max_items ≡ b → AnswersRequest kind request items (cond b RefusedCapacity RefusedMemory) new
       by true e = full (eqb-true (length items) max_items e)
       by false e = refused_answered request items new leaves stays
+
+  -- what `reserve` answers where there is room, and where there is none
+  pub reserved_answered : (items new : List Entry) (n : ℕ) → length items + n ≤ max_items → new ≡ items → AnswersRequest kind (Reserve n) items Done new
+  reserved_answered items new n fits stays = λ entries shows.
+      let within : length entries + n ≤ max_items = omega (arith, fits, length_shown items entries shows) in
+      let below : nat_lt max_items (length entries + n) ≡ false = search (rules, within) in
+      record { text = rw below refl; after = subst (λ is. ShowsEntries is entries) (sym stays) shows }
+
+  pub no_space_answered : (items new : List Entry) (n : ℕ) (reply : LineReply) → new ≡ items → reply ≡ no_space_reply (length items + n) → AnswersRequest kind (Reserve n) items reply new
+  no_space_answered items new n reply stays is = subst (λ r. AnswersRequest kind (Reserve n) items r new) (sym is) (by (nat_lt max_items (length items + n)) refl)
+    where
+      by : (b : Bool) → nat_lt max_items (length items + n) ≡ b → AnswersRequest kind (Reserve n) items (cond b RefusedCapacity RefusedMemory) new
+      by true e = λ entries shows. record {
+        text = rw (ap (λ m. nat_lt max_items (m + n)) (length_shown items entries shows) ∙ e) refl;
+        after = subst (λ is. ShowsEntries is entries) (sym stays) shows;
+      }
+      by false e = λ entries shows. record {
+        left = entries;
+        by_request = (let within : length items + n ≤ max_items = search (rules, e) in omega (arith, within, length_shown items entries shows), refl);
+        after = subst (λ is. ShowsEntries is entries) (sym stays) shows;
+      }
+
+  -- what `shrink` leaves: the entries of the same items in whatever order
+  module _ (items new : List Entry) (same : SameInAnyOrder items new) where
+    moved_shown : (entries : List answer.Entry) → ShowsEntries items entries → ShowsEntries new entries
+    moved_shown entries shows = record {
+      same = IsPermutation-trans (entries_of new) (entries_of items) entries (IsPermutation-sym (entries_of items) (entries_of new) (IsPermutation-map entry_of items new same)) shows.same;
+      ascending = shows.ascending;
+    }
+
+    pub shrunk_answered : AnswersRequest kind Shrink items Done new
+    shrunk_answered = λ entries shows. record { text = refl; after = moved_shown entries shows }
+
+    pub not_shrunk_answered : AnswersRequest kind Shrink items RefusedMemory new
+    not_shrunk_answered = λ entries shows. record { left = entries; by_request = refl; after = moved_shown entries shows }
 
   -- what `len` answers
   pub len_answered : (items : List Entry) (n : ℕ) → n ≡ length items → AnswersRequest kind Len items (Length n) items

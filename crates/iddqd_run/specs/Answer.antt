@@ -2,13 +2,13 @@
 --     line_reply, entries_after      the reply to a request, and the entries then
 --     answer_text kind input      the answer to a whole text, over a map of the kind, which decides only whether there are ends: a hash map has none
 --     AnswersWithRefusals kind input refusals text      the same, with so many lines refused for want of memory
-use Rattle.std.specs.Prelude.{◌≡◌, ℕ, Bool, List, [], ◌∷◌, ◌++◌, length, Option, Some, None, ◌-◌, drop, take, flat_map, slice_get, decimal, codes, bytes_eq, ◌==◌, if◌then◌else◌, ◌⊎◌, suc, filter, nat_lt}
+use Rattle.std.specs.Prelude.{◌≡◌, ℕ, Bool, List, [], ◌∷◌, ◌++◌, length, Option, Some, None, ◌+◌, ◌-◌, ◌≤◌, drop, take, flat_map, slice_get, decimal, codes, bytes_eq, ◌==◌, if◌then◌else◌, ◌⊎◌, suc, filter, nat_lt}
 use Rattle.std.specs.declared.cmp.Ordering.{Ordering}
 use Rattle.std.specs.Ordering.{nat_cmp}
 use Rattle.std.specs.Option.{option_map_or}
 use Rattle.std.specs.Cmp.Lexicographic.{slice_cmp}
 use Rattle.iddqd.specs.Contents.{find_item, without, replaced, placed}
-use Rattle.iddqd_run.specs.Lines.{Request, Add, Put, Get, Del, Cost, Len, ListAll, First, Last, PopFirst, PopLast, Bad, lines_of, request_of, Set, Keep}
+use Rattle.iddqd_run.specs.Lines.{Request, Add, Put, Get, Del, Cost, Len, ListAll, First, Last, PopFirst, PopLast, Bad, lines_of, request_of, Set, Keep, Reserve, Shrink}
 use Rattle.iddqd.specs.Holding.{max_items}
 use Rattle.iddqd_run.specs.declared.arguments.Kind.{Kind}
 use Rattle.iddqd_run.specs.declared.arguments.Kind.TheVariants.{Hash, Ord}
@@ -60,6 +60,8 @@ module _ (kind : Kind) where
   line_reply (Cost name) entries = codes "within"
   line_reply (Set name value) entries = option_map_or (λ old. codes "set " ++ decimal old.1) (entry_named name entries) (codes "none")
   line_reply (Keep value) entries = let kept = length (greater value entries) in codes "kept " ++ decimal kept ++ codes " dropped " ++ decimal (length entries - kept)
+  line_reply (Reserve value) entries = if nat_lt max_items (length entries + value) then codes "refused capacity" else codes "ok"
+  line_reply Shrink entries = codes "ok"
   line_reply Len entries = decimal (length entries)
   line_reply ListAll entries = codes "list " ++ decimal (length entries) ++ list_text entries
   line_reply First entries = by_ends kind (codes "unsupported") (end_text (slice_get entries 0))
@@ -77,6 +79,8 @@ module _ (kind : Kind) where
   entries_after (Cost name) entries = entries
   entries_after (Set name value) entries = option_map_or (λ _. replaced name_of (bytes_eq name) (name, value) entries) (entry_named name entries) entries
   entries_after (Keep value) entries = greater value entries
+  entries_after (Reserve value) entries = entries
+  entries_after Shrink entries = entries
   entries_after Len entries = entries
   entries_after ListAll entries = entries
   entries_after First entries = entries
@@ -93,10 +97,13 @@ module _ (kind : Kind) where
   abbrev pub answer_text : List ℕ → List ℕ
   answer_text input = replies (lines_of input) []
 
-  -- what a line leaves that is refused memory, where it takes any: what was there, of a line that makes one item, and of one that sorts
+  -- what a line leaves that is refused memory, where it takes any: what was there, of a line that makes one item, of one that sorts, and of one that makes room
+  -- or gives it back; a reservation past the limit is never refused memory
   abbrev pub RefusedLeaves : Request → (old new : List Entry) → Type 0
   RefusedLeaves (Add name value) old new = new ≡ old
   RefusedLeaves (Put name value) old new = new ≡ old
+  RefusedLeaves (Reserve value) old new = (length old + value ≤ max_items) × (new ≡ old)
+  RefusedLeaves Shrink old new = new ≡ old
   RefusedLeaves ListAll old new = (kind ≡ Hash) × (new ≡ old)
   RefusedLeaves _ old new = ⊥
 

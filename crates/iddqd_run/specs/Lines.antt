@@ -38,6 +38,8 @@ pub data Request : Type 0 where
   Cost : List ℕ → Request
   Set : List ℕ → ℕ → Request
   Keep : ℕ → Request
+  Reserve : ℕ → Request
+  Shrink : Request
   Len : Request
   ListAll : Request
   First : Request
@@ -51,7 +53,8 @@ abbrev pub bare_request : List ℕ → Request
 bare_request word =
     if bytes_eq word (codes "len") then Len else (if bytes_eq word (codes "list") then ListAll else
     (if bytes_eq word (codes "first") then First else (if bytes_eq word (codes "last") then Last else
-    (if bytes_eq word (codes "popfirst") then PopFirst else (if bytes_eq word (codes "poplast") then PopLast else Bad)))))
+    (if bytes_eq word (codes "popfirst") then PopFirst else (if bytes_eq word (codes "poplast") then PopLast else
+    (if bytes_eq word (codes "shrink") then Shrink else Bad))))))
 
 -- a request by its word and a name
 abbrev pub named_request : List ℕ → List ℕ → Request
@@ -67,9 +70,16 @@ abbrev pub kept_request : Option ℕ → Request
 kept_request None = Bad
 kept_request (Some value) = Keep value
 
--- a request by its word and one field, which is a name or, of `keep`, a value
+-- a request by a value alone: `reserve`
+abbrev pub reserved_request : Option ℕ → Request
+reserved_request None = Bad
+reserved_request (Some value) = Reserve value
+
+-- a request by its word and one field, which is a name or, of `keep` and `reserve`, a value
 abbrev pub field_request : List ℕ → List ℕ → Request
-field_request word field = if bytes_eq word (codes "keep") then kept_request (value_of field) else (if is_name field then named_request word field else Bad)
+field_request word field =
+    if bytes_eq word (codes "keep") then kept_request (value_of field) else (if bytes_eq word (codes "reserve") then reserved_request (value_of field) else
+    (if is_name field then named_request word field else Bad))
 
 abbrev pub request_of_words : List (List ℕ) → Request
 request_of_words [] = Bad

@@ -1,5 +1,5 @@
 -- What the program's own types for an entry and a reply stand for.
-use Rattle.std.specs.Prelude.{◌≡◌, ℕ, Bool, List, [], ◌∷◌, length, map, ◌++◌, ◌⊎◌, ◌==◌, if◌then◌else◌, decimal, codes, bytes_eq, string_bytes, String}
+use Rattle.std.specs.Prelude.{◌≡◌, ℕ, Bool, List, [], ◌∷◌, length, map, ◌++◌, ◌⊎◌, ◌==◌, nat_lt, if◌then◌else◌, decimal, codes, bytes_eq, string_bytes, String}
 use Rattle.std.specs.Borrow.{Bor}
 use Rattle.std.specs.Global.{Global}
 use Rattle.iddqd_run.specs.Answer as answer
@@ -11,7 +11,7 @@ use Rattle.iddqd_run.specs.declared.arguments.Kind.{Kind}
 use Rattle.iddqd_run.specs.declared.arguments.Kind.TheVariants.{Ord}
 use Rattle.iddqd_run.specs.declared.entries.Entry.{Entry}
 use Rattle.iddqd_run.specs.declared.entries.LineReply.{LineReply}
-use Rattle.iddqd_run.specs.declared.entries.LineReply.TheVariants.{Added, Duplicate, New, Replaced, Found, Removed, Named, Absent, Within, Length, Unsupported, Bad, RefusedCapacity, RefusedMemory, Set, Kept}
+use Rattle.iddqd_run.specs.declared.entries.LineReply.TheVariants.{Added, Duplicate, New, Replaced, Found, Removed, Named, Absent, Within, Length, Unsupported, Bad, RefusedCapacity, RefusedMemory, Set, Kept, Done}
 
 abbrev pub entry_of : Entry → answer.Entry
 entry_of entry = (string_bytes entry.name, entry.value)
@@ -37,6 +37,7 @@ shown Within = codes "within"
 shown (Set value) = codes "set " ++ decimal value
 shown (Kept kept dropped) = codes "kept " ++ decimal kept ++ codes " dropped " ++ decimal dropped
 shown (Length count) = decimal count
+shown Done = codes "ok"
 shown Unsupported = codes "unsupported"
 shown Bad = codes "bad"
 shown RefusedCapacity = codes "refused capacity"
@@ -45,6 +46,10 @@ shown RefusedMemory = codes "refused memory"
 -- the reply to a line whose new entry finds no room among these
 abbrev pub no_room_reply : {T : Type 0} → List T → LineReply
 no_room_reply items = if length items == max_items then RefusedCapacity else RefusedMemory
+
+-- the reply to a line that finds no room for so many entries in all
+abbrev pub no_space_reply : ℕ → LineReply
+no_space_reply wanted = if nat_lt max_items wanted then RefusedCapacity else RefusedMemory
 
 -- how many refusals for want of memory a reply is
 abbrev pub refusals_of : LineReply → ℕ

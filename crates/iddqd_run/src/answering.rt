@@ -33,7 +33,7 @@ pub(crate) fn answer<M: Table<Item = Entry, Key = String> + Drop>(
 }
 
 // Writes the reply to one line, and answers how many refusals for want of memory it tells. Beside the text only the making of
-// an entry takes memory, and the list of a map that keeps no order.
+// an entry takes memory, the list of a map that keeps no order, and what makes room or gives it back.
 fn answer_line<M: Table<Item = Entry, Key = String>>(
     alloc: Global,
     map: &mut M,
@@ -52,6 +52,8 @@ fn answer_line<M: Table<Item = Entry, Key = String>>(
         Line::Cost { name } => { write_reply(text, requests::cost(map, name, &mut Steps::new())) }
         Line::Set { name, value } => write_reply(text, requests::set(map, name, value)),
         Line::Keep { value } => write_reply(text, requests::keep(map, value)),
+        Line::Reserve { value } => write_reply(text, requests::reserve(map, value)),
+        Line::Shrink => write_reply(text, requests::shrink(map)),
         Line::Len => write_reply(text, requests::len(map)),
         Line::ListAll => ends::list(alloc, map, text),
         Line::First => write_reply(text, ends::first(map)),

@@ -1,7 +1,7 @@
 //! The lines of a text, and what a line asks for.
 ghost use Rattle.std.specs.Prelude.{◌≡◌, ◌∷◌, ◌<◌, ◌↔◌, [], length, MatchOption, IsTrue, true, false};
 ghost use Rattle.std.specs.List.{list_all};
-ghost use Rattle.iddqd_run.specs.Lines.{lines_of, words_of, is_name, is_name_byte, value_of, HasOneForm, request_of, bare_request, named_request, valued_request, field_request, kept_request};
+ghost use Rattle.iddqd_run.specs.Lines.{lines_of, words_of, is_name, is_name_byte, value_of, HasOneForm, request_of, bare_request, named_request, valued_request, field_request, kept_request, reserved_request};
 ghost use Rattle.iddqd_run.specs.Asked.{asked};
 
 /// What a line asks for.
@@ -14,6 +14,8 @@ pub(crate) enum Line<'a> {
     Cost { name: &'a str },
     Set { name: &'a str, value: u64 },
     Keep { value: u64 },
+    Reserve { value: u64 },
+    Shrink,
     Len,
     ListAll,
     First,
@@ -61,7 +63,10 @@ fn by_field<'a>(word: &[u8], field: &'a [u8]) -> Line<'a>
     ensures { asked result ≡ field_request word.now field.now }
 {
     if word == b"keep".as_slice() {
-        return by_value(field);
+        return kept(field);
+    }
+    if word == b"reserve".as_slice() {
+        return reserved(field);
     }
     match name_in(field) {
         None => Line::Bad,
@@ -150,6 +155,8 @@ fn by_word<'a>(word: &[u8]) -> Line<'a>
         Line::PopFirst
     } else if word == b"poplast".as_slice() {
         Line::PopLast
+    } else if word == b"shrink".as_slice() {
+        Line::Shrink
     } else {
         Line::Bad
     }
@@ -171,11 +178,21 @@ fn by_name<'a>(word: &[u8], name: &'a str) -> Line<'a>
 }
 
 // What a line of the word `keep` and a value asks for.
-fn by_value<'a>(value: &[u8]) -> Line<'a>
+fn kept<'a>(value: &[u8]) -> Line<'a>
     ensures { asked result ≡ kept_request (value_of value.now) }
 {
     match value_in(value) {
         Some(value) => Line::Keep { value },
+        None => Line::Bad,
+    }
+}
+
+// What a line of the word `reserve` and a value asks for.
+fn reserved<'a>(value: &[u8]) -> Line<'a>
+    ensures { asked result ≡ reserved_request (value_of value.now) }
+{
+    match value_in(value) {
+        Some(value) => Line::Reserve { value },
         None => Line::Bad,
     }
 }

@@ -1,9 +1,9 @@
 //! What a line asks of a table, and its reply.
-ghost use Rattle.std.specs.Prelude.{◌≡◌, ◌≢◌, ◌+◌, ◌≤◌, List, length, string_bytes};
+ghost use Rattle.std.specs.Prelude.{◌≡◌, ◌≢◌, ℕ, ◌+◌, ◌≤◌, List, length, string_bytes};
 ghost use Rattle.iddqd.specs.Errors.{listed};
-ghost use Rattle.iddqd.specs.Refusal.{IsLent, refusal_kind};
-ghost use Rattle.iddqd_run.specs.Lines.{Add, Put, Get, Del, Cost, Set, Keep, Len};
-ghost use Rattle.iddqd_run.specs.Shown.{AnswersRequest, IsTable, no_room_reply};
+ghost use Rattle.iddqd.specs.Refusal.{IsLent, refusal_kind, reservation_kind};
+ghost use Rattle.iddqd_run.specs.Lines.{Add, Put, Get, Del, Cost, Set, Keep, Reserve, Shrink, Len};
+ghost use Rattle.iddqd_run.specs.Shown.{AnswersRequest, IsTable, no_room_reply, no_space_reply};
 ghost use Rattle.iddqd_run.specs.declared.entries.Entry.{Entry};
 ghost use Rattle.iddqd_run.specs.declared.entries.LineReply.TheVariants.{RefusedMemory};
 
@@ -166,9 +166,37 @@ fn put_entry<'a, M: Table<Item = Entry, Key = String>>(map: &mut M, entry: Entry
     }
 }
 
-// The reply where a new entry found no room.
+/// `reserve`: makes room for so many more entries.
+pub(crate) fn reserve<'a, M: Table<Item = Entry, Key = String>>(
+    map: &mut M,
+    additional: u64,
+) -> LineReply<'a>
+    requires table { IsTable M.key M.is_text M.entries M.state M.keyed M.limit map.old }
+    ensures answered { AnswersRequest M.kind (Reserve additional) (M.state map.old).items result (M.state map.new).items }
+    ensures table { IsTable M.key M.is_text M.entries M.state M.keyed M.limit map.new }
+{
+    match map.reserve(additional as usize) {
+        Ok(()) => LineReply::Done,
+        Err(error) => no_room(error),
+    }
+}
+
+/// `shrink`: gives back what memory the entries do not need.
+pub(crate) fn shrink<'a, M: Table<Item = Entry, Key = String>>(map: &mut M) -> LineReply<'a>
+    requires table { IsTable M.key M.is_text M.entries M.state M.keyed M.limit map.old }
+    ensures answered { AnswersRequest M.kind Shrink (M.state map.old).items result (M.state map.new).items }
+    ensures table { IsTable M.key M.is_text M.entries M.state M.keyed M.limit map.new }
+{
+    match map.shrink() {
+        Ok(()) => LineReply::Done,
+        Err(_) => LineReply::RefusedMemory,
+    }
+}
+
+// The reply where there was no room: for a new entry, or for so many in all.
 fn no_room<'a>(error: TryReserveError) -> LineReply<'a>
-    ensures { (items : List Entry) → error ≡ refusal_kind MAX_ITEMS items → result ≡ no_room_reply items }
+    ensures entry { (items : List Entry) → error ≡ refusal_kind MAX_ITEMS items → result ≡ no_room_reply items }
+    ensures space { (wanted : ℕ) → error ≡ reservation_kind MAX_ITEMS wanted → result ≡ no_space_reply wanted }
 {
     if error.is_capacity_overflow() {
         LineReply::RefusedCapacity

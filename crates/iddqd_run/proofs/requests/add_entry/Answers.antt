@@ -22,4 +22,4 @@ pub returns-in-Err-Refused-clause-answered : goal.returns-in-Err-Refused-clause-
 returns-in-Err-Refused-clause-answered g c =
     let items = (g.M.KeyedMap.state c.args.map.now).items in
     let refused = rw (c.in-Err-Refused.field-0-is, c.requires.table.names) at c.in-Err-Refused.ensures.refused in
-    no_room_answered g.M.Table.kind (Add c.args.name.now c.args.entry.value) items _ c.no_room.result (λ _. refl) (λ full entries shows. full_plainly g.M.Table.kind c.args.entry items c.args.name.now c.requires.name _ refused.1.0 (Add c.args.name.now c.args.entry.value) Added (add_makes g.M.Table.kind c.args.name.now c.args.entry.value) entries shows full (search rules)) (search rules) (c.no_room.ensures items (rw c.requires.table.limit at refused.1.1))
+    no_room_answered g.M.Table.kind (Add c.args.name.now c.args.entry.value) items _ c.no_room.result (λ _. refl) (λ full entries shows. full_plainly g.M.Table.kind c.args.entry items c.args.name.now c.requires.name _ refused.1.0 (Add c.args.name.now c.args.entry.value) Added (add_makes g.M.Table.kind c.args.name.now c.args.entry.value) entries shows full (search rules)) (search rules) (c.no_room.ensures.entry items (rw c.requires.table.limit at refused.1.1))

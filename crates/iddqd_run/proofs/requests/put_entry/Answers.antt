@@ -21,4 +21,4 @@ returns-in-Err-clause-answered g c =
     let name = string_bytes c.args.entry.name in
     let items = (g.M.KeyedMap.state c.args.map.now).items in
     let refused = rw c.requires.table.names at c.in-Err.ensures.refused in
-    no_room_answered g.M.Table.kind (Put name c.args.entry.value) items _ c.no_room.result (λ _. refl) (λ full entries shows. full_plainly g.M.Table.kind c.args.entry items name refl _ refused.1.0 (Put name c.args.entry.value) New (put_makes g.M.Table.kind name c.args.entry.value) entries shows full c.in-Err.ensures.unchanged) c.in-Err.ensures.unchanged (c.no_room.ensures items (rw c.requires.table.limit at refused.1.1))
+    no_room_answered g.M.Table.kind (Put name c.args.entry.value) items _ c.no_room.result (λ _. refl) (λ full entries shows. full_plainly g.M.Table.kind c.args.entry items name refl _ refused.1.0 (Put name c.args.entry.value) New (put_makes g.M.Table.kind name c.args.entry.value) entries shows full c.in-Err.ensures.unchanged) c.in-Err.ensures.unchanged (c.no_room.ensures.entry items (rw c.requires.table.limit at refused.1.1))
