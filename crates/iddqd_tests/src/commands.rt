@@ -126,3 +126,18 @@ fn duplicate_chain_by_commands(rt: HostRuntime) -> Result<(), Fail> {
     assert!(rt; answers_with(alloc, hashed, wide_commands(alloc)?, &expected));
     Ok(())
 }
+
+fn room_commands(alloc: Global) -> Result<Vec<Command<Named, [u8; 3], Untouched>>, Fail> {
+    Ok(Vec::from_array(alloc, [Command::Reserve(3), Command::Shrink])?)
+}
+
+#[test]
+fn reserve_and_shrink_by_commands(rt: HostRuntime) -> Result<(), Fail> {
+    let alloc = rt.alloc();
+    let expected = [Reply::Done, Reply::Done];
+    let ordered = Tried::new(IdOrdMap::new(alloc));
+    assert!(rt; answers_with(alloc, ordered, room_commands(alloc)?, &expected));
+    let hashed = Tried::new(IdHashMap::new(alloc));
+    assert!(rt; answers_with(alloc, hashed, room_commands(alloc)?, &expected));
+    Ok(())
+}

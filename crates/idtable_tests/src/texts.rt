@@ -120,6 +120,22 @@ fn set_and_keep(rt: HostRuntime) -> Result<(), Fail> {
     Ok(())
 }
 
+#[test]
+fn table_for_both_kinds(rt: HostRuntime) -> Result<(), Fail> {
+    let input = b"add bob 2\nadd al 1\nadd bob 9\nset al 7\nlist\nreserve 5000000000\ndel zed\n\n";
+    let text =
+        b"added\nadded\nduplicate bob 2\nset 1\nlist 2 al=7 bob=2\nrefused capacity\nnone\nbad\n";
+    assert!(rt; are_answered(rt.alloc(), input, text)?);
+    Ok(())
+}
+
+#[test]
+fn reserve_and_shrink(rt: HostRuntime) -> Result<(), Fail> {
+    let input = b"reserve 3\nadd a 1\nshrink\nlen\nreserve\nshrink 0\n";
+    assert!(rt; are_answered(rt.alloc(), input, b"ok\nadded\nok\n1\nbad\nbad\n")?);
+    Ok(())
+}
+
 // Whether the lines are answered so over the map of this kind, without a refusal.
 fn is_answered(alloc: Global, kind: Kind, input: &[u8], text: &[u8]) -> Result<bool, Fail> {
     let (refusals, answered) = answer(alloc, kind, input).map_err(|_| "a fault")?;
