@@ -4,9 +4,9 @@ ghost use Rattle.iddqd_core.specs.Hashing.{hash_under};
 ghost use Rattle.iddqd_core.specs.SlotItems.{HaveSlots};
 
 mod clone;
-pub mod entry;
 mod collect;
 mod compact;
+pub mod entry;
 mod equality;
 mod imp;
 mod insert;
