@@ -2,7 +2,8 @@
 --     own_place, has_place      the place of an item's own key is that of its slot, and there is one
 --     paired_same, listed_same      each slot has what it had
 --     paired_renamed, listed_renamed      the item of one slot stands in another, which is listed in its stead
-use Rattle.std.proofs.Common.{◌≡◌, ◌≢◌, ℕ, zero, suc, ◌<◌, ⊎_elim, Bool, true, List, [], ◌∷◌, length, map, get_or, set, Some, is_some, refl, sym, ap, ◌∙◌, arith, true≢false, nat_eq, subst, suc-le-suc, slice_get}
+--     moved_paired, moved_items      the same, told of the last slot
+use Rattle.std.proofs.Common.{false, ◌-◌, ◌≡◌, ◌≢◌, ℕ, zero, suc, ◌<◌, ⊎_elim, Bool, true, List, [], ◌∷◌, length, map, get_or, set, Some, is_some, refl, sym, ap, ◌∙◌, arith, true≢false, nat_eq, subst, suc-le-suc, slice_get}
 use Rattle.std.proofs.lemmas.Bool.{cases_lt, cases_eq, eqb-false}
 use Rattle.std.proofs.lemmas.List.{get_or_read, get_or-set_same, get_or-set_other, length-set}
 use Rattle.std.proofs.lemmas.Map.Keys.{apart_from_distinct}
@@ -13,11 +14,12 @@ use Rattle.std.specs.Cmp.{IsEquivalence, IsTotalOrder, nat_eq_equiv}
 use Rattle.std.specs.List.{AllWithin, Contains, HoldsAt, cons_option}
 use Rattle.std.specs.Ordering.{is_eq}
 use Rattle.iddqd_core.specs.Contents.{Ascends}
-use Rattle.iddqd_core.specs.Listed.{listed_items}
-use Rattle.iddqd_core.specs.Store.{Store, item_at, store_len, MovesLast, SameItems}
+use Rattle.iddqd_core.specs.Listed.{SlotList, listed_items}
+use Rattle.iddqd_core.specs.Store.{Store, item_at, store_len, EndsOccupied, MovesLast, SameItems}
 use Rattle.iddqd_core.proofs.DistinctLemmas.{absent_apart, distinct_set}
 use Rattle.iddqd_core.proofs.ListedLemmas.{length-listed, listed-same, read-listed}
 use Rattle.iddqd_core.proofs.QueryLemmas.{none_at, only_at, own_query}
+use Rattle.iddqd_core.proofs.StoreLemmas.{last_moves}
 use Rattle.iddqd_ord.specs.Paired.{ListsOccupied}
 use Rattle.iddqd_ord.proofs.PairedLemmas.{vacant_absent}
 
@@ -126,3 +128,14 @@ renamed old new (s ∷ ss) (suc i) last hole at moved kept =
 
 pub listed_renamed : {T : Type 0} (old new : Store T) (slots : List ℕ) (paired : ListsOccupied old slots) (len : store_len new ≡ store_len old) (last hole i : ℕ) (at : slice_get slots i ≡ Some last) (moves : MovesLast old.slots new.slots last hole) → listed_items new (set slots i hole) ≡ listed_items old slots
 listed_renamed old new slots paired len last hole i at moves = renamed old new slots i last hole at moves.moved (kept old new slots paired len last hole i at moves)
+
+-- the two facts of a move, told of the last slot and of the index after it
+module _ {T : Type 0} (old new : Store T) (slots : List ℕ) (after : SlotList) (count place last hole : ℕ) (paired : ListsOccupied old slots) (ends : EndsOccupied old.slots) (counted : count ≡ length old.slots) (at : slice_get slots place ≡ Some (count - 1)) (moves : MovesLast old.slots new.slots last hole) (len : store_len new ≡ store_len old) (is : after ≡ record { slots = set slots place hole; prepared = false }) where
+  last_at : slice_get slots place ≡ Some last
+  last_at = at ∙ ap (λ n. Some (n - 1)) counted ∙ ap Some (sym (last_moves old.slots new.slots last hole ends moves))
+
+  pub moved_paired : ListsOccupied new after.slots
+  moved_paired = subst (ListsOccupied new) (sym (ap (λ i. i.slots) is)) (paired_renamed old new slots paired len last hole place last_at moves)
+
+  pub moved_items : listed_items new after.slots ≡ listed_items old slots
+  moved_items = ap (λ i. listed_items new i.slots) is ∙ listed_renamed old new slots paired len last hole place last_at moves

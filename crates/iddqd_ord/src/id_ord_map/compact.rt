@@ -24,6 +24,7 @@ pub(super) fn compact<T: IdOrdItem>(store: &mut ItemStore<T>, index: &mut OrdInd
 }
 
 // Moves the item of the last slot into a vacant one, and lists that one in its stead. Its place is found beforehand.
+#[tactic(auto, using(crate::proofs::CompactLemmas::moved_paired, crate::proofs::CompactLemmas::moved_items))]
 fn move_last<T: IdOrdItem>(store: &mut ItemStore<T>, index: &mut OrdIndex)
     requires paired { ListsOccupied store.old index.old.slots }
     requires keyed { Ascends T.key T.Key.cmp (listed_items store.old index.old.slots) }
