@@ -14,3 +14,5 @@ mod growth;
 mod lines;
 #[cfg(test)]
 mod maps;
+#[cfg(test)]
+mod reservations;

@@ -22,12 +22,12 @@ fn first_repeat<M: KeyedMap<Item = T> + Drop, T: Copy + Drop>(
 where
     Tried<M>: Bulk<T>,
 {
-    match Tried::<M>::collected_unique(alloc, items) {
-        Err(FromIterError::Duplicate(repeat)) => {
+    match Tried::<M>::collected_unique(alloc, items).err()? {
+        FromIterError::Duplicate(repeat) => {
             let earlier = repeat.duplicates();
             Some((*repeat.new_item(), earlier.len(), earlier.get(0).copied()))
         }
-        Ok(_) | Err(FromIterError::Refused(_)) => None,
+        FromIterError::Refused(_) => None,
     }
 }
 

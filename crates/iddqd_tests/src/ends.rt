@@ -81,7 +81,6 @@ fn ends_from_behind(rt: HostRuntime) -> Result<(), Fail> {
 fn ends_of_empty_map(rt: HostRuntime) -> Result<(), Fail> {
     let mut map: IdOrdMap<Person> = IdOrdMap::new(rt.alloc());
     assert!(rt; map.first().is_none() && map.last().is_none());
-    assert!(rt; map.first_entry().is_none() && map.last_entry().is_none());
     assert!(rt; pop(&mut map, true).is_none() && pop(&mut map, false).is_none());
     Ok(())
 }
