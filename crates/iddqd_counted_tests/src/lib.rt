@@ -6,4 +6,6 @@ mod counting;
 #[cfg(test)]
 mod rows;
 #[cfg(test)]
+mod stored;
+#[cfg(test)]
 mod trees;

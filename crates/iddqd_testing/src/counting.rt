@@ -97,3 +97,51 @@ impl<'a> IdHashItem for Tallied<'a> {
         &self.key
     }
 }
+
+/// A number that counts in the cell how often it is hashed.
+#[derive(Clone, Copy)]
+pub struct HashedKey<'a> {
+    pub number: u32,
+    pub hashed: &'a Cell<u32>,
+}
+
+impl PartialEq for HashedKey<'_> {
+    ghost eq = { on (λ key. key.number) ◌==◌ };
+
+    ghost laws = { Prim.search (comparing, rules) };
+
+    fn eq(&self, other: &Self) -> bool {
+        self.number == other.number
+    }
+}
+
+impl Eq for HashedKey<'_> {
+    ghost laws = { Prim.search (comparing, rules) };
+}
+
+impl Hash for HashedKey<'_> {
+    ghost hash_input = { λ key. fed.u32 key.number };
+
+    ghost respects_eq = { Prim.search (hashing, rules) };
+
+    fn hash<H: Hasher>(&self, state: &mut H) {
+        count_one(self.hashed);
+        state.write_u32(self.number);
+    }
+}
+
+/// An item of such a key.
+#[derive(Clone, Copy)]
+pub struct Fed<'a> {
+    pub key: HashedKey<'a>,
+}
+
+impl<'a> IdHashItem for Fed<'a> {
+    type Key = HashedKey<'a>;
+
+    ghost key = { λ item. item.key };
+
+    fn key(&self) -> &HashedKey<'a> {
+        &self.key
+    }
+}

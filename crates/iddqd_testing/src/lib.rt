@@ -5,6 +5,7 @@ pub mod bulk;
 pub mod caseless;
 pub mod counted;
 pub mod counting;
+pub mod entered;
 pub mod failing;
 pub mod hashers;
 pub mod heap;

@@ -1,5 +1,7 @@
 //! Rows of the ordered map's ends.
 ghost use Rattle.std.specs.Prelude.{IfOk};
+ghost use Rattle.std.specs.Cmp.Lexicographic.{slice_cmp};
+ghost use Rattle.std.specs.Ordering.{nat_cmp};
 ghost use Rattle.iddqd.specs.Contents.{Ascends};
 
 use iddqd::{IdOrdItem, IdOrdMap};
@@ -77,10 +79,37 @@ fn ends_from_behind(rt: HostRuntime) -> Result<(), Fail> {
     Ok(())
 }
 
+// Writes the value of the first item through its entry.
+#[tactic(auto, using(iddqd::proofs::GuardLemmas::same_key_kept))]
+fn write_first(map: &mut IdOrdMap<Person>, value: u32) -> bool
+    requires { Ascends (λ p. p.name) (slice_cmp nat_cmp) map.old.items }
+    ensures { Ascends (λ p. p.name) (slice_cmp nat_cmp) map.new.items }
+{
+    match map.first_entry() {
+        Some(entry) => {
+            let mut lent = entry.into_mut();
+            lent.value = value;
+            lent.finish();
+            true
+        }
+        None => false,
+    }
+}
+
+#[test]
+fn ends_by_entries(rt: HostRuntime) -> Result<(), Fail> {
+    let mut map = filled(IdOrdMap::new(rt.alloc()))?;
+    assert!(rt; write_first(&mut map, 100));
+    assert_eq!(rt; map.get(b"alice  ").copied(), Some(one(*b"alice  ", 100)));
+    Ok(())
+}
+
 #[test]
 fn ends_of_empty_map(rt: HostRuntime) -> Result<(), Fail> {
     let mut map: IdOrdMap<Person> = IdOrdMap::new(rt.alloc());
     assert!(rt; map.first().is_none() && map.last().is_none());
+    assert!(rt; !write_first(&mut map, 100));
     assert!(rt; pop(&mut map, true).is_none() && pop(&mut map, false).is_none());
+    assert!(rt; map.last_entry().is_none());
     Ok(())
 }

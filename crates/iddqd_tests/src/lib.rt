@@ -12,6 +12,8 @@ mod commands;
 #[cfg(test)]
 mod ends;
 #[cfg(test)]
+mod entries;
+#[cfg(test)]
 mod errors;
 #[cfg(test)]
 mod insertions;

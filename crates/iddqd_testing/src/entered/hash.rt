@@ -1,0 +1,117 @@
+//! The entries of a hash map, by calls that a row makes. Each leaves the map keyed.
+use super::DoublesAndDenies;
+use crate::caseless::{Caseless, Coarse};
+use iddqd::id_hash_map::Entry;
+use iddqd::{IdHashMap, Lookups};
+
+pub(super) fn insert_vacant(
+    map: &mut IdHashMap<Coarse>,
+    asked: &Caseless,
+    item: Coarse,
+) -> Option<Coarse>
+    requires keyed { ⟦<IdHashMap<Coarse> as Lookups>⟧.keyed map.old }
+    ensures keyed { ⟦<IdHashMap<Coarse> as Lookups>⟧.keyed map.new }
+{
+    if map.contains_key(&item.name) {
+        return None;
+    }
+    match map.entry(asked) {
+        Entry::Vacant(entry) => match entry.insert(item) {
+            Ok(lent) => {
+                lent.finish();
+                Some(item)
+            }
+            Err(_) => None,
+        },
+        Entry::Occupied(_) => None,
+    }
+}
+
+pub(super) fn insert_and_remove(map: &mut IdHashMap<Coarse>, item: Coarse) -> Option<Coarse>
+    requires keyed { ⟦<IdHashMap<Coarse> as Lookups>⟧.keyed map.old }
+    ensures keyed { ⟦<IdHashMap<Coarse> as Lookups>⟧.keyed map.new }
+{
+    match map.entry(&item.name) {
+        Entry::Vacant(entry) => match entry.insert_entry(item) {
+            Ok(entry) => Some(entry.remove()),
+            Err(_) => None,
+        },
+        Entry::Occupied(_) => None,
+    }
+}
+
+pub(super) fn insert_occupied(map: &mut IdHashMap<Coarse>, item: Coarse) -> Option<Coarse>
+    requires keyed { ⟦<IdHashMap<Coarse> as Lookups>⟧.keyed map.old }
+    ensures keyed { ⟦<IdHashMap<Coarse> as Lookups>⟧.keyed map.new }
+{
+    match map.entry(&item.name) {
+        Entry::Occupied(mut entry) => Some(entry.insert(item)),
+        Entry::Vacant(_) => None,
+    }
+}
+
+#[tactic(auto, using(iddqd::proofs::GuardLemmas::same_key_kept))]
+pub(super) fn write(map: &mut IdHashMap<Coarse>, asked: &Caseless, value: u32) -> bool
+    requires keyed { ⟦<IdHashMap<Coarse> as Lookups>⟧.keyed map.old }
+    ensures keyed { ⟦<IdHashMap<Coarse> as Lookups>⟧.keyed map.new }
+{
+    match map.entry(asked) {
+        Entry::Occupied(entry) => {
+            let mut lent = entry.into_mut();
+            lent.value = value;
+            lent.finish();
+            true
+        }
+        Entry::Vacant(_) => false,
+    }
+}
+
+pub(super) fn double_or_insert(map: &mut IdHashMap<Coarse>, item: Coarse) -> Option<Coarse>
+    requires keyed { ⟦<IdHashMap<Coarse> as Lookups>⟧.keyed map.old }
+    ensures keyed { ⟦<IdHashMap<Coarse> as Lookups>⟧.keyed map.new }
+{
+    let entry = map.entry(&item.name).and_modify(&mut DoublesAndDenies);
+    match entry.or_insert(item) {
+        Ok(lent) => {
+            let shown = lent.into_ref();
+            Some(*shown)
+        }
+        Err(_) => None,
+    }
+}
+
+#[tactic(auto, using(iddqd::proofs::GuardLemmas::same_key_kept))]
+pub(super) fn insert_and_write(map: &mut IdHashMap<Coarse>, item: Coarse, value: u32) -> bool
+    requires keyed { ⟦<IdHashMap<Coarse> as Lookups>⟧.keyed map.old }
+    ensures keyed { ⟦<IdHashMap<Coarse> as Lookups>⟧.keyed map.new }
+{
+    match map.entry(&item.name).or_insert(item) {
+        Ok(mut lent) => {
+            lent.value = value;
+            lent.finish();
+            true
+        }
+        Err(_) => false,
+    }
+}
+
+pub(super) fn find_or_make(
+    map: &mut IdHashMap<Coarse>,
+    item: Coarse,
+    asked: &mut u32,
+) -> Option<Coarse>
+    requires keyed { ⟦<IdHashMap<Coarse> as Lookups>⟧.keyed map.old }
+    ensures keyed { ⟦<IdHashMap<Coarse> as Lookups>⟧.keyed map.new }
+{
+    let make = || {
+        *asked = asked.saturating_add(1);
+        item
+    };
+    match map.entry(&item.name).or_insert_with(make) {
+        Ok(lent) => {
+            let shown = lent.into_ref();
+            Some(*shown)
+        }
+        Err(_) => None,
+    }
+}
