@@ -7,6 +7,8 @@ mod clones;
 #[cfg(test)]
 mod commands;
 #[cfg(test)]
+mod entries;
+#[cfg(test)]
 mod errors;
 #[cfg(test)]
 mod growth;
@@ -16,3 +18,5 @@ mod lines;
 mod maps;
 #[cfg(test)]
 mod reservations;
+#[cfg(test)]
+mod rooms;

@@ -12,7 +12,7 @@ fn numbered(number: u32, value: u32) -> Numbered {
 }
 
 // Puts in the numbers below the count, each with the value 5.
-fn fill<M: KeyedMap<Item = Numbered, Key = u32>>(
+pub(crate) fn fill<M: KeyedMap<Item = Numbered, Key = u32>>(
     map: &mut Tried<M>,
     count: u32,
 ) -> Result<(), Fail> {
@@ -25,7 +25,7 @@ fn fill<M: KeyedMap<Item = Numbered, Key = u32>>(
 }
 
 // Whether the map holds the numbers below the count, each with the value 5, and no other but for 1000 where a value is given.
-fn holds<M: KeyedMap<Item = Numbered, Key = u32>>(
+pub(crate) fn holds<M: KeyedMap<Item = Numbered, Key = u32>>(
     map: &Tried<M>,
     count: u32,
     new: Option<u32>,
