@@ -1,4 +1,5 @@
 //! The errors of both maps.
 pub use iddqd_core::{
-    DuplicateItem, ExtendError, Few, FromIterError, InsertError, Refused, TryReserveError,
+    DuplicateItem, ExtendError, ExtendUniqueError, Few, FromIterError, InsertError, Refused,
+    TryReserveError,
 };

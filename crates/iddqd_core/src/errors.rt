@@ -1,4 +1,5 @@
 //! What is answered where an item is not taken.
 pub use iddqd_store::{
-    DuplicateItem, ExtendError, Few, FromIterError, InsertError, Refused, TryReserveError,
+    DuplicateItem, ExtendError, ExtendUniqueError, Few, FromIterError, InsertError, Refused,
+    TryReserveError,
 };

@@ -5,7 +5,8 @@ pub mod errors;
 pub mod laws;
 
 pub use errors::{
-    DuplicateItem, ExtendError, Few, FromIterError, InsertError, Refused, TryReserveError,
+    DuplicateItem, ExtendError, ExtendUniqueError, Few, FromIterError, InsertError, Refused,
+    TryReserveError,
 };
 pub use iddqd_hash_index::HashIndex;
 pub use iddqd_ord_index::{IntoWalk, OrdIndex, Place, Walk};

@@ -3,10 +3,12 @@
 --     OverwritesAll      each item stands in the stead of the akin one, or beside the others where there is none (the crate's `extend`)
 --     IsFirstRepeat      the first item that is akin to an earlier one, and that one (the crate's `from_iter_unique`)
 --     ShowsFirstRepeat      what `from_iter_unique` answers in place of a map
+--     AddsAll      each item stands beside the others, and none has the key of another (`extend_unique`, ours)
+--     IsFirstConflict      the first item that is akin to one that is there by then, and that one (ours)
 --     ShowsAkin      one step of it
-use Rattle.std.specs.Prelude.{◌≡◌, ℕ, Bool, List, [], ◌∷◌, Option, Some}
+use Rattle.std.specs.Prelude.{◌≡◌, ℕ, Bool, List, [], ◌∷◌, ◌++◌, Option, Some}
 use Rattle.std.specs.Iterator.{Drains, YieldsThen}
-use Rattle.iddqd_store.specs.Contents.{NoTwoAkin, OverwritesItem, find_item}
+use Rattle.iddqd_store.specs.Contents.{NoTwoAkin, OverwritesItem, SameInAnyOrder, find_item}
 use Rattle.iddqd_store.specs.Errors.{new_item_of, duplicates_of}
 use Rattle.iddqd_store.specs.declared.errors.FromIterError.{FromIterError}
 use Rattle.iddqd_store.specs.declared.errors.FromIterError.TheVariants.{Duplicate, Refused}
@@ -32,6 +34,15 @@ module _ {T K : Type 0} (key : T → K) (eq : K → K → Bool) where
   abbrev pub ShowsFirstRepeat : (List T → T → Type 0) → FromIterError T → Type 0
   ShowsFirstRepeat gives (Duplicate d) = (before : List T) × (earlier : T) × gives before (new_item_of d) × IsFirstRepeat before (new_item_of d) earlier × (duplicates_of d ≡ earlier ∷ [])
   ShowsFirstRepeat gives (Refused e) = Unit
+
+  -- the items xs are in beside the old ones, in whatever order, and no two of them all are akin
+  pub record AddsAll (xs old new : List T) : Type 0 where
+    pub differ : NoTwoAkin key eq (old ++ xs)
+    pub same : SameInAnyOrder (old ++ xs) new
+
+  -- of items that are put in beside the old ones, those before x are akin to none that is there, and x is akin to one: an old one, or one of them
+  abbrev pub IsFirstConflict : (old before : List T) → (x there : T) → Type 0
+  IsFirstConflict old before x there = IsFirstRepeat (old ++ before) x there
 
   -- x is shown as new, and the one item that has its key alone as its duplicate
   abbrev pub ShowsAkin : List T → T → FromIterError T → Type 0

@@ -219,3 +219,12 @@ pub enum FromIterError<T> {
     /// There was no room.
     Refused(TryReserveError),
 }
+
+/// Why not each item of an iterator was put in, where none may be in the stead of another (ours).
+#[derive(Drop)]
+pub enum ExtendUniqueError<'a, T> {
+    /// An item of an equal key is there, from before or from the iterator: the new item, and that one alone.
+    Duplicate(DuplicateItem<T, &'a T>),
+    /// There was no room.
+    Refused(ExtendError<T>),
+}

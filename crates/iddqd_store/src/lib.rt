@@ -13,7 +13,8 @@ mod validation;
 mod visits;
 
 pub use errors::{
-    DuplicateItem, ExtendError, Few, FromIterError, InsertError, Refused, TryReserveError,
+    DuplicateItem, ExtendError, ExtendUniqueError, Few, FromIterError, InsertError, Refused,
+    TryReserveError,
 };
 pub use hints::likely_new;
 pub use item_store::ItemStore;
