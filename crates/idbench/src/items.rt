@@ -1,18 +1,26 @@
 //! What the maps hold while they are timed.
+ghost use Rattle.std.specs.Prelude.{◌≡◌, true};
+ghost use Rattle.std.proofs.Common.{rules};
+
 use iddqd::{IdHashItem, IdOrdItem};
 use std::alloc::{AllocError, Global};
 use std::hash::Hash;
 
 /// A key that is made out of a number: other numbers give other keys.
-pub(crate) trait BenchKey: Ord + Hash + Drop {
+pub(crate) trait BenchKey: Ord + Hash + Clone + Drop {
     /// The key of the number.
     fn of_number(alloc: Global, number: u64) -> Result<Self, AllocError>;
 
     /// The name of the type in the report.
     fn name() -> &'static str;
+
+    // A clone is equal to the key that it was made of.
+    ghost keeps: { (x y : Self) → Self.is_clone x y → Self.eq x y ≡ true };
 }
 
 impl BenchKey for u64 {
+    ghost keeps = { λ x y same. Prim.search rules };
+
     fn of_number(_alloc: Global, number: u64) -> Result<u64, AllocError> {
         Ok(number.wrapping_mul(0x9e37_79b9_7f4a_7c15))
     }
@@ -23,6 +31,8 @@ impl BenchKey for u64 {
 }
 
 impl BenchKey for String {
+    ghost keeps = { λ x y same. Prim.search rules };
+
     fn of_number(alloc: Global, number: u64) -> Result<String, AllocError> {
         let mut name = "item number ".to_string(alloc)?;
         name.push_str(number.to_string(alloc)?.as_str())?;
@@ -35,7 +45,7 @@ impl BenchKey for String {
 }
 
 /// A key and a value.
-#[derive(Drop)]
+#[derive(Clone, Drop)]
 pub(crate) struct Item<K> {
     pub(crate) key: K,
     pub(crate) value: u64,

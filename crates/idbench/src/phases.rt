@@ -6,7 +6,16 @@ use std::io;
 use std::time::{Clock, Instant};
 
 /// The phases, in their order.
-pub(crate) const PHASES: [&str; 6] = ["insertion", "lookup", "absent", "walk", "churn", "removal"];
+pub(crate) const PHASES: [&str; 8] = [
+    "insertion",
+    "reserved",
+    "lookup",
+    "absent",
+    "walk",
+    "clone",
+    "churn",
+    "removal",
+];
 
 /// The numbers of one size: those that go in, those that come later, and the order in which both are asked for.
 #[derive(Drop)]
@@ -15,10 +24,10 @@ pub(crate) struct Plan {
     shuffled: Vec<u64>,
 }
 
-/// The nanoseconds of each phase, and a sum over all that was found.
+/// The nanoseconds of each phase, 0 for one that the map has no calls for, and a sum over all that was found.
 #[derive(Clone, Copy)]
 pub(crate) struct Times {
-    pub(crate) nanos: [u64; 6],
+    pub(crate) nanos: [u64; 8],
     pub(crate) found: u64,
 }
 
@@ -123,6 +132,38 @@ fn churn<S: Subject>(map: &mut S, keys: &[S::Key], loads: Vec<S::Load>) -> u64 {
     found
 }
 
+// The nanoseconds of the same insertions into a map that has room for all, and how many went in.
+fn put_reserved<S: Subject>(
+    clock: &impl Clock,
+    alloc: Global,
+    loads: Vec<S::Load>,
+) -> io::Result<(u64, u64)> {
+    let Some(mut map) = S::with_room(alloc, loads.len()) else {
+        return Ok((0, 0));
+    };
+    let start = Instant::now(clock)?;
+    let count = put_all(&mut map, loads);
+    Ok((nanos_since(clock, start)?, count))
+}
+
+// The nanoseconds of lookups of all keys, and the sum of the values that are found.
+fn looked_up<S: Subject>(clock: &impl Clock, map: &S, keys: &[S::Key]) -> io::Result<(u64, u64)> {
+    let start = Instant::now(clock)?;
+    let found = look_up_all(map, keys);
+    Ok((nanos_since(clock, start)?, found))
+}
+
+// The nanoseconds of a walk and of a clone, which is dropped, and a sum over both.
+fn walked<S: Subject>(clock: &impl Clock, map: &S) -> io::Result<(u64, u64, u64)> {
+    let start = Instant::now(clock)?;
+    let sum = map.sum();
+    let walk = nanos_since(clock, start)?;
+    let start = Instant::now(clock)?;
+    let copied = map.copied();
+    let clone = nanos_since(clock, start)?;
+    Ok((walk, clone, sum.wrapping_add(copied as u64)))
+}
+
 /// Times each phase over a new map.
 pub(crate) fn timed<S: Subject>(
     clock: &impl Clock,
@@ -131,29 +172,37 @@ pub(crate) fn timed<S: Subject>(
 ) -> io::Result<Times> {
     let present: Vec<S::Key> = plan.keys(alloc, 0)?;
     let absent: Vec<S::Key> = plan.keys(alloc, plan.size)?;
-    let loads = plan.loads::<S>(alloc, 0)?;
     let more = plan.loads::<S>(alloc, plan.size)?;
+    let (reserved, reserved_count) = put_reserved::<S>(clock, alloc, plan.loads::<S>(alloc, 0)?)?;
     let mut map = S::empty(alloc);
+    let loads = plan.loads::<S>(alloc, 0)?;
     let start = Instant::now(clock)?;
-    let mut found = put_all(&mut map, loads);
+    let count = put_all(&mut map, loads);
     let insertion = nanos_since(clock, start)?;
+    let (lookup, found) = looked_up(clock, &map, present.as_slice())?;
+    let (absent_lookup, missed) = looked_up(clock, &map, absent.as_slice())?;
+    let (walk, clone, seen) = walked(clock, &map)?;
     let start = Instant::now(clock)?;
-    found = found.wrapping_add(look_up_all(&map, present.as_slice()));
-    let lookup = nanos_since(clock, start)?;
+    let churned = churn(&mut map, present.as_slice(), more);
+    let churn = nanos_since(clock, start)?;
     let start = Instant::now(clock)?;
-    found = found.wrapping_add(look_up_all(&map, absent.as_slice()));
-    let absent_lookup = nanos_since(clock, start)?;
-    let start = Instant::now(clock)?;
-    found = found.wrapping_add(map.sum());
-    let walk = nanos_since(clock, start)?;
-    let start = Instant::now(clock)?;
-    found = found.wrapping_add(churn(&mut map, present.as_slice(), more));
-    let churned = nanos_since(clock, start)?;
-    let start = Instant::now(clock)?;
-    found = found.wrapping_add(take_all(&mut map, absent.as_slice()));
+    let taken = take_all(&mut map, absent.as_slice());
     let removal = nanos_since(clock, start)?;
+    let mut sum = 0u64;
+    for part in [reserved_count, count, found, missed, seen, churned, taken] {
+        sum = sum.wrapping_add(part);
+    }
     Ok(Times {
-        nanos: [insertion, lookup, absent_lookup, walk, churned, removal],
-        found,
+        nanos: [
+            insertion,
+            reserved,
+            lookup,
+            absent_lookup,
+            walk,
+            clone,
+            churn,
+            removal,
+        ],
+        found: sum,
     })
 }

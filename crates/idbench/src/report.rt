@@ -16,7 +16,7 @@ fn write_bar(out: &mut impl Write, hundredths: u64) -> io::Result<()> {
     writeln!(out, "")
 }
 
-/// Writes a line a phase: the nanoseconds an operation of ours and of std's, their ratio, and a bar that shows it.
+/// Writes a line a phase that both have: the nanoseconds an operation of ours and of std's, their ratio, and a bar that shows it.
 pub(crate) fn write_times(
     out: &mut impl Write,
     pair: (&str, &str),
@@ -25,6 +25,9 @@ pub(crate) fn write_times(
 ) -> io::Result<()> {
     let (map, key) = pair;
     for (phase, (ours, std)) in PHASES.iter().zip(times.0.nanos.iter().zip(times.1.nanos)) {
+        if *ours == 0 || std == 0 {
+            continue;
+        }
         let (ours, std) = (tenths(*ours, size), tenths(std, size));
         let ratio = ours.saturating_mul(100) / std.max(1);
         write!(out, "{map:<5} {key:<7} {size:>8} {phase:<10} ")?;

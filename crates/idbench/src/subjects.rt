@@ -16,6 +16,9 @@ pub(crate) trait Subject: Drop {
     /// A map without items.
     fn empty(alloc: Global) -> Self;
 
+    /// A map without items that has room for so many; `None` where there is no such call, or no memory.
+    fn with_room(alloc: Global, size: usize) -> Option<Self>;
+
     /// What goes in for the number.
     fn load(alloc: Global, number: u64) -> Result<Self::Load, AllocError>;
 
@@ -30,6 +33,9 @@ pub(crate) trait Subject: Drop {
 
     /// The sum of all values, by a walk.
     fn sum(&self) -> u64;
+
+    /// How many items a clone has, which is dropped; 0 where memory was refused.
+    fn copied(&self) -> usize;
 }
 
 impl<K: BenchKey> Subject for Tried<IdHashMap<Item<K>>> {
@@ -39,6 +45,11 @@ impl<K: BenchKey> Subject for Tried<IdHashMap<Item<K>>> {
 
     fn empty(alloc: Global) -> Tried<IdHashMap<Item<K>>> {
         Tried::new(IdHashMap::new(alloc))
+    }
+
+    fn with_room(alloc: Global, size: usize) -> Option<Tried<IdHashMap<Item<K>>>> {
+        let map = IdHashMap::with_capacity(alloc, size).ok()?;
+        Some(Tried::new(map))
     }
 
     fn load(alloc: Global, number: u64) -> Result<Item<K>, AllocError> {
@@ -63,6 +74,10 @@ impl<K: BenchKey> Subject for Tried<IdHashMap<Item<K>>> {
             sum = sum.wrapping_add(item.value);
         }
         sum
+    }
+
+    fn copied(&self) -> usize {
+        self.copied().map_or(0, |copy| copy.len())
     }
 }
 
@@ -75,6 +90,10 @@ impl<K: BenchKey> Subject for Tried<IdOrdMap<Item<K>>> {
         Tried::new(IdOrdMap::new(alloc))
     }
 
+    fn with_room(_alloc: Global, _size: usize) -> Option<Tried<IdOrdMap<Item<K>>>> {
+        None
+    }
+
     fn load(alloc: Global, number: u64) -> Result<Item<K>, AllocError> {
         item_of(alloc, number)
     }
@@ -98,6 +117,10 @@ impl<K: BenchKey> Subject for Tried<IdOrdMap<Item<K>>> {
         }
         sum
     }
+
+    fn copied(&self) -> usize {
+        self.copied().map_or(0, |copy| copy.len())
+    }
 }
 
 impl<K: BenchKey> Subject for HashMap<K, Item<K>> {
@@ -107,6 +130,10 @@ impl<K: BenchKey> Subject for HashMap<K, Item<K>> {
 
     fn empty(alloc: Global) -> HashMap<K, Item<K>> {
         HashMap::new(alloc)
+    }
+
+    fn with_room(alloc: Global, size: usize) -> Option<HashMap<K, Item<K>>> {
+        HashMap::with_capacity(alloc, size).ok()
     }
 
     fn load(alloc: Global, number: u64) -> Result<(K, Item<K>), AllocError> {
@@ -131,6 +158,10 @@ impl<K: BenchKey> Subject for HashMap<K, Item<K>> {
             sum = sum.wrapping_add(item.value);
         }
         sum
+    }
+
+    fn copied(&self) -> usize {
+        self.clone().map_or(0, |copy| copy.len())
     }
 }
 
@@ -143,6 +174,10 @@ impl<K: BenchKey> Subject for BTreeMap<K, Item<K>> {
         BTreeMap::new(alloc)
     }
 
+    fn with_room(_alloc: Global, _size: usize) -> Option<BTreeMap<K, Item<K>>> {
+        None
+    }
+
     fn load(alloc: Global, number: u64) -> Result<(K, Item<K>), AllocError> {
         Ok((K::of_number(alloc, number)?, item_of(alloc, number)?))
     }
@@ -165,5 +200,9 @@ impl<K: BenchKey> Subject for BTreeMap<K, Item<K>> {
             sum = sum.wrapping_add(item.value);
         }
         sum
+    }
+
+    fn copied(&self) -> usize {
+        self.clone().map_or(0, |copy| copy.len())
     }
 }

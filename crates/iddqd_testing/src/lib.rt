@@ -3,6 +3,7 @@
 
 pub mod bulk;
 pub mod caseless;
+mod copied;
 pub mod counted;
 pub mod counting;
 pub mod entered;
