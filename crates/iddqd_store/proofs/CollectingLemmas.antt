@@ -33,7 +33,7 @@ module _ {T K : Type 0} (key : T → K) {eq : K → K → Bool} (equivalence : I
   pub collected_differ : NoTwoAkin key eq xs
   collected_differ = differ_moved key equivalence items xs (IsPermutation-sym xs items same) differ
 
-  first_repeat : (x earlier : T) → find_item key (eq (key x)) items ≡ Some earlier → IsFirstRepeat key eq xs x earlier
+  pub first_repeat : (x earlier : T) → find_item key (eq (key x)) items ≡ Some earlier → IsFirstRepeat key eq xs x earlier
   first_repeat x earlier found = record {
     differ = collected_differ;
     akin = find_moved key equivalence (eq (key x)) (equivalence.congr (key x)) items xs (IsPermutation-sym xs items same) differ ∙ found;
