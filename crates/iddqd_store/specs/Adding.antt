@@ -2,7 +2,8 @@
 --     ShowsFirstConflict      what it shows of the items that came
 --     StopsAdding      what it shows, and what is in the map then
 --     HaltsAdding, HaltsAt      the same while the item that is there is told by its slot alone, and one step of it
-use Rattle.std.specs.Prelude.{◌≡◌, Bool, List, Some, IfSome, IfNone}
+--     OnItemRefused, OnItemBack      what holds where an item came back for want of room, of what is shown and of that
+use Rattle.std.specs.Prelude.{◌≡◌, Bool, List, Some, IfSome, IfNone, OnSome}
 use Rattle.iddqd_store.specs.Collecting.{AddsAll, IsFirstConflict}
 use Rattle.iddqd_store.specs.Contents.{find_item}
 use Rattle.iddqd_store.specs.Errors.{new_item_of, duplicates_of}
@@ -38,7 +39,16 @@ module _ {T K : Type 0} (key : T → K) (eq : K → K → Bool) where
   HaltsAdding gives old new (Akin x slot) = (before : List T) × (there : T) × gives before x × IsFirstConflict key eq old.items before x there × (item_of_slot new.slots new.items slot ≡ Some there) × AddsAll key eq before old.items new.items
   HaltsAdding gives old new (NoRoom e) = RefusesAdding gives old new e
 
-  -- x was not put in, and nothing has changed but the room
-  abbrev pub HaltsAt : T → (old new : Holding T) → Halt T → Type 0
-  HaltsAt x old new (Akin y slot) = (y ≡ x) × (there : T) × (find_item key (eq (key x)) new.items ≡ Some there) × (item_of_slot new.slots new.items slot ≡ Some there) × KeepsItems old new
-  HaltsAt x old new (NoRoom e) = (e.item ≡ Some x) × FindsNoRoom key eq old.limit old.items x e.error × KeepsItems old new
+  -- x is not put in
+  abbrev pub HaltsAt : T → Holding T → Halt T → Type 0
+  HaltsAt x m (Akin y slot) = (y ≡ x) × (there : T) × (find_item key (eq (key x)) m.items ≡ Some there) × (item_of_slot m.slots m.items slot ≡ Some there)
+  HaltsAt x m (NoRoom e) = (e.item ≡ Some x) × FindsNoRoom key eq m.limit m.items x e.error
+
+-- what holds where an item found no room
+abbrev pub OnItemRefused : {T : Type 0} → Type 0 → ExtendUniqueError T → Type 0
+OnItemRefused P (Duplicate d) = Unit
+OnItemRefused P (Refused e) = OnSome e.item P
+
+abbrev pub OnItemBack : {T : Type 0} → Type 0 → Halt T → Type 0
+OnItemBack P (Akin x slot) = Unit
+OnItemBack P (NoRoom e) = OnSome e.item P
