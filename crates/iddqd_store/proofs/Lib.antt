@@ -1,3 +1,4 @@
+pub mod AddingLemmas
 pub mod ChainLemmas
 pub mod CloneLemmas
 pub mod CollectingLemmas
