@@ -1,5 +1,6 @@
 pub mod Answer
 pub mod Asked
+pub mod Failing
 pub mod KeyedMap
 pub mod Lines
 pub mod SameReplies

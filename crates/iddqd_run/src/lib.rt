@@ -6,6 +6,7 @@ mod arguments;
 mod commands;
 mod ends;
 mod entries;
+mod failing;
 mod keyed_map;
 pub mod laws;
 mod lines;
@@ -17,6 +18,7 @@ mod table;
 
 pub use arguments::{Kind, after_name, kind_of};
 pub use commands::{Command, Reply, RunStop};
+pub use failing::{FailingReader, FailingWriter};
 pub use iddqd::errors::{DuplicateItem, Few, InsertError, Refused, TryReserveError};
 pub use iddqd::{IdHashItem, IdHashMap, IdOrdItem, IdOrdMap, MAX_ITEMS};
 pub use keyed_map::KeyedMap;

@@ -1,3 +1,4 @@
 pub mod Folded
 pub mod Changed
 pub mod FewBits
+pub mod Respelled

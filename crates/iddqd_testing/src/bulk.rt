@@ -1,4 +1,4 @@
-//! What a row asks of the bulk calls of a map of either kind, and an iterator that lies.
+//! What a row asks of the bulk calls of a map of either kind, and iterators that lie.
 ghost use Rattle.std.specs.Iterator.{IsFiniteIterable};
 
 use crate::items::Named;
@@ -6,6 +6,7 @@ use crate::tried::Tried;
 use iddqd::errors::{ExtendError, FromIterError, TryReserveError};
 use iddqd::{IdHashItem, IdHashMap, IdOrdItem, IdOrdMap};
 use std::alloc::Global;
+use std::hash::BuildHasher;
 
 /// A map of either kind, by its calls on many items.
 pub trait Bulk<T>: Sized {
@@ -15,9 +16,13 @@ pub trait Bulk<T>: Sized {
         T: Drop;
 
     /// `from_iter_unique`.
-    fn collected_unique(alloc: Global, items: Vec<T>) -> Result<Self, FromIterError<T>>
+    fn collected_unique<U: IntoIterator<Item = T>>(
+        alloc: Global,
+        items: U,
+    ) -> Result<Self, FromIterError<T>>
     where
-        T: Drop;
+        T: Drop,
+        requires ends { IsFiniteIterable U.into_iter_gives U.IntoIter.can_next U.IntoIter.remaining items };
 
     /// `extend`.
     fn extend<U: IntoIterator<Item = T>>(&mut self, items: U) -> Result<(), ExtendError<T>>
@@ -34,9 +39,9 @@ impl<T: IdOrdItem> Bulk<T> for Tried<IdOrdMap<T>> {
         Ok(Tried::new(IdOrdMap::from_iter(alloc, items)?))
     }
 
-    fn collected_unique(
+    fn collected_unique<U: IntoIterator<Item = T>>(
         alloc: Global,
-        items: Vec<T>,
+        items: U,
     ) -> Result<Tried<IdOrdMap<T>>, FromIterError<T>>
     where
         T: Drop,
@@ -52,18 +57,18 @@ impl<T: IdOrdItem> Bulk<T> for Tried<IdOrdMap<T>> {
     }
 }
 
-impl<T: IdHashItem> Bulk<T> for Tried<IdHashMap<T>> {
-    fn collected(alloc: Global, items: Vec<T>) -> Result<Tried<IdHashMap<T>>, TryReserveError>
+impl<T: IdHashItem, S: BuildHasher + Default + Drop> Bulk<T> for Tried<IdHashMap<T, S>> {
+    fn collected(alloc: Global, items: Vec<T>) -> Result<Tried<IdHashMap<T, S>>, TryReserveError>
     where
         T: Drop,
     {
         Ok(Tried::new(IdHashMap::from_iter(alloc, items)?))
     }
 
-    fn collected_unique(
+    fn collected_unique<U: IntoIterator<Item = T>>(
         alloc: Global,
-        items: Vec<T>,
-    ) -> Result<Tried<IdHashMap<T>>, FromIterError<T>>
+        items: U,
+    ) -> Result<Tried<IdHashMap<T, S>>, FromIterError<T>>
     where
         T: Drop,
     {
@@ -110,5 +115,38 @@ impl Iterator for Liar {
 
     fn size_hint(&self) -> (usize, Option<usize>) {
         (usize::MAX, None)
+    }
+}
+
+/// Gives the items of a list, and announces that so many are to come at least.
+#[derive(Drop)]
+pub struct Hinted<'a, T> {
+    rest: &'a [T],
+    hint: usize,
+}
+
+impl<'a, T> Hinted<'a, T> {
+    /// Before the first item.
+    pub fn new(items: &'a [T], hint: usize) -> Hinted<'a, T> {
+        Hinted { rest: items, hint }
+    }
+}
+
+impl<T: Copy> Iterator for Hinted<'_, T> {
+    type Item = T;
+
+    ghost use Rattle.std.specs.Prelude.{◌+◌, length};
+    ghost use Rattle.std.specs.Iterator.{at_most};
+
+    ghost remaining = { λ hinted. at_most (hinted.hint + length hinted.rest.now) };
+
+    fn next(&mut self) -> Option<T> {
+        let (first, rest) = self.rest.split_first()?;
+        self.rest = rest;
+        Some(*first)
+    }
+
+    fn size_hint(&self) -> (usize, Option<usize>) {
+        (self.hint, None)
     }
 }

@@ -71,7 +71,7 @@ impl Hash for Caseless {
 }
 
 /// An item of such a name.
-#[derive(Clone, Copy, Debug)]
+#[derive(Clone, Copy, Debug, PartialEq, Eq)]
 pub struct Coarse {
     pub name: Caseless,
     pub value: u32,

@@ -146,4 +146,17 @@ impl<T: IdHashItem, S: BuildHasher> Hashed<T, S> {
     {
         self.map.insert_unique(item).is_ok()
     }
+
+    /// `remove`.
+    pub fn take_plainly(&mut self, key: &T::Key) -> bool
+    where
+        T: Drop,
+    {
+        self.map.remove(key).is_some()
+    }
+
+    /// `shrink_to_fit`, and whether no slot is vacant then.
+    pub fn is_shrunk(&mut self) -> bool {
+        self.map.shrink_to_fit().is_ok() && self.map.vacant() == 0
+    }
 }

@@ -5,6 +5,7 @@ mod ord;
 use crate::caseless::{Caseless, Coarse};
 use crate::tried::Tried;
 use iddqd::{IdHashMap, IdOrdMap, Visit};
+use std::hash::BuildHasher;
 
 /// Doubles the value, and answers false.
 #[derive(Clone, Copy)]
@@ -76,7 +77,7 @@ impl Entered for Tried<IdOrdMap<Coarse>> {
     }
 }
 
-impl Entered for Tried<IdHashMap<Coarse>> {
+impl<S: BuildHasher> Entered for Tried<IdHashMap<Coarse, S>> {
     fn insert_vacant(&mut self, asked: [u8; 3], item: Coarse) -> Option<Coarse> {
         hash::insert_vacant(&mut self.map, &Caseless(asked), item)
     }

@@ -8,6 +8,7 @@ use iddqd::internal::ValidateCompact;
 use iddqd::{IdHashItem, IdHashMap, IdOrdItem, IdOrdMap, Text, Visit};
 use iddqd_run::{Command, KeyedMap, Reply, RunStop, run};
 use std::alloc::Global;
+use std::hash::BuildHasher;
 use std::marker::Model;
 
 /// What an insertion left: nothing in its way, the new item and the one that is there, or a refusal.
@@ -261,7 +262,7 @@ impl<T: IdOrdItem> AskedForRoom for Tried<IdOrdMap<T>> {
     }
 }
 
-impl<T: IdHashItem> AskedForRoom for Tried<IdHashMap<T>> {
+impl<T: IdHashItem, S: BuildHasher> AskedForRoom for Tried<IdHashMap<T, S>> {
     fn reserve(&mut self, additional: usize) -> Result<(), TryReserveError> {
         self.map.reserve(additional)
     }

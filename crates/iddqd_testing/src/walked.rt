@@ -1,6 +1,7 @@
 //! What a row asks of the walks that write and that retain, of a map of either kind.
 use crate::tried::Tried;
 use iddqd::{IdHashItem, IdHashMap, IdOrdItem, IdOrdMap};
+use std::hash::BuildHasher;
 
 /// A map of either kind, by its `retain` and `iter_mut`.
 pub trait Walked<T> {
@@ -41,8 +42,8 @@ impl<T: IdOrdItem> Walked<T> for Tried<IdOrdMap<T>> {
     }
 }
 
-impl<T: IdHashItem> Walked<T> for Tried<IdHashMap<T>> {
-    type Map = IdHashMap<T>;
+impl<T: IdHashItem, S: BuildHasher> Walked<T> for Tried<IdHashMap<T, S>> {
+    type Map = IdHashMap<T, S>;
 
     fn retain<F: FnMut(&T) -> bool>(&mut self, keep: F)
     where
@@ -51,7 +52,7 @@ impl<T: IdHashItem> Walked<T> for Tried<IdHashMap<T>> {
         self.map.retain(keep)
     }
 
-    fn written<F: Fn(&mut T)>(self, most: usize, write: F) -> (IdHashMap<T>, usize) {
+    fn written<F: Fn(&mut T)>(self, most: usize, write: F) -> (IdHashMap<T, S>, usize) {
         let mut map = self.map;
         let mut walk = map.iter_mut();
         for _ in 0..most {

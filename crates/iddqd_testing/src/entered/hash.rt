@@ -3,14 +3,15 @@ use super::DoublesAndDenies;
 use crate::caseless::{Caseless, Coarse};
 use iddqd::id_hash_map::Entry;
 use iddqd::{IdHashMap, Lookups};
+use std::hash::BuildHasher;
 
-pub(super) fn insert_vacant(
-    map: &mut IdHashMap<Coarse>,
+pub(super) fn insert_vacant<S: BuildHasher>(
+    map: &mut IdHashMap<Coarse, S>,
     asked: &Caseless,
     item: Coarse,
 ) -> Option<Coarse>
-    requires keyed { ⟦<IdHashMap<Coarse> as Lookups>⟧.keyed map.old }
-    ensures keyed { ⟦<IdHashMap<Coarse> as Lookups>⟧.keyed map.new }
+    requires keyed { ⟦<IdHashMap<Coarse, S> as Lookups>⟧.keyed map.old }
+    ensures keyed { ⟦<IdHashMap<Coarse, S> as Lookups>⟧.keyed map.new }
 {
     if map.contains_key(&item.name) {
         return None;
@@ -27,9 +28,12 @@ pub(super) fn insert_vacant(
     }
 }
 
-pub(super) fn insert_and_remove(map: &mut IdHashMap<Coarse>, item: Coarse) -> Option<Coarse>
-    requires keyed { ⟦<IdHashMap<Coarse> as Lookups>⟧.keyed map.old }
-    ensures keyed { ⟦<IdHashMap<Coarse> as Lookups>⟧.keyed map.new }
+pub(super) fn insert_and_remove<S: BuildHasher>(
+    map: &mut IdHashMap<Coarse, S>,
+    item: Coarse,
+) -> Option<Coarse>
+    requires keyed { ⟦<IdHashMap<Coarse, S> as Lookups>⟧.keyed map.old }
+    ensures keyed { ⟦<IdHashMap<Coarse, S> as Lookups>⟧.keyed map.new }
 {
     match map.entry(&item.name) {
         Entry::Vacant(entry) => match entry.insert_entry(item) {
@@ -40,9 +44,12 @@ pub(super) fn insert_and_remove(map: &mut IdHashMap<Coarse>, item: Coarse) -> Op
     }
 }
 
-pub(super) fn insert_occupied(map: &mut IdHashMap<Coarse>, item: Coarse) -> Option<Coarse>
-    requires keyed { ⟦<IdHashMap<Coarse> as Lookups>⟧.keyed map.old }
-    ensures keyed { ⟦<IdHashMap<Coarse> as Lookups>⟧.keyed map.new }
+pub(super) fn insert_occupied<S: BuildHasher>(
+    map: &mut IdHashMap<Coarse, S>,
+    item: Coarse,
+) -> Option<Coarse>
+    requires keyed { ⟦<IdHashMap<Coarse, S> as Lookups>⟧.keyed map.old }
+    ensures keyed { ⟦<IdHashMap<Coarse, S> as Lookups>⟧.keyed map.new }
 {
     match map.entry(&item.name) {
         Entry::Occupied(mut entry) => Some(entry.insert(item)),
@@ -51,9 +58,13 @@ pub(super) fn insert_occupied(map: &mut IdHashMap<Coarse>, item: Coarse) -> Opti
 }
 
 #[tactic(auto, using(iddqd::proofs::GuardLemmas::same_key_kept))]
-pub(super) fn write(map: &mut IdHashMap<Coarse>, asked: &Caseless, value: u32) -> bool
-    requires keyed { ⟦<IdHashMap<Coarse> as Lookups>⟧.keyed map.old }
-    ensures keyed { ⟦<IdHashMap<Coarse> as Lookups>⟧.keyed map.new }
+pub(super) fn write<S: BuildHasher>(
+    map: &mut IdHashMap<Coarse, S>,
+    asked: &Caseless,
+    value: u32,
+) -> bool
+    requires keyed { ⟦<IdHashMap<Coarse, S> as Lookups>⟧.keyed map.old }
+    ensures keyed { ⟦<IdHashMap<Coarse, S> as Lookups>⟧.keyed map.new }
 {
     match map.entry(asked) {
         Entry::Occupied(entry) => {
@@ -66,9 +77,12 @@ pub(super) fn write(map: &mut IdHashMap<Coarse>, asked: &Caseless, value: u32) -
     }
 }
 
-pub(super) fn double_or_insert(map: &mut IdHashMap<Coarse>, item: Coarse) -> Option<Coarse>
-    requires keyed { ⟦<IdHashMap<Coarse> as Lookups>⟧.keyed map.old }
-    ensures keyed { ⟦<IdHashMap<Coarse> as Lookups>⟧.keyed map.new }
+pub(super) fn double_or_insert<S: BuildHasher>(
+    map: &mut IdHashMap<Coarse, S>,
+    item: Coarse,
+) -> Option<Coarse>
+    requires keyed { ⟦<IdHashMap<Coarse, S> as Lookups>⟧.keyed map.old }
+    ensures keyed { ⟦<IdHashMap<Coarse, S> as Lookups>⟧.keyed map.new }
 {
     let entry = map.entry(&item.name).and_modify(&mut DoublesAndDenies);
     match entry.or_insert(item) {
@@ -81,9 +95,13 @@ pub(super) fn double_or_insert(map: &mut IdHashMap<Coarse>, item: Coarse) -> Opt
 }
 
 #[tactic(auto, using(iddqd::proofs::GuardLemmas::same_key_kept))]
-pub(super) fn insert_and_write(map: &mut IdHashMap<Coarse>, item: Coarse, value: u32) -> bool
-    requires keyed { ⟦<IdHashMap<Coarse> as Lookups>⟧.keyed map.old }
-    ensures keyed { ⟦<IdHashMap<Coarse> as Lookups>⟧.keyed map.new }
+pub(super) fn insert_and_write<S: BuildHasher>(
+    map: &mut IdHashMap<Coarse, S>,
+    item: Coarse,
+    value: u32,
+) -> bool
+    requires keyed { ⟦<IdHashMap<Coarse, S> as Lookups>⟧.keyed map.old }
+    ensures keyed { ⟦<IdHashMap<Coarse, S> as Lookups>⟧.keyed map.new }
 {
     match map.entry(&item.name).or_insert(item) {
         Ok(mut lent) => {
@@ -95,13 +113,13 @@ pub(super) fn insert_and_write(map: &mut IdHashMap<Coarse>, item: Coarse, value:
     }
 }
 
-pub(super) fn find_or_make(
-    map: &mut IdHashMap<Coarse>,
+pub(super) fn find_or_make<S: BuildHasher>(
+    map: &mut IdHashMap<Coarse, S>,
     item: Coarse,
     asked: &mut u32,
 ) -> Option<Coarse>
-    requires keyed { ⟦<IdHashMap<Coarse> as Lookups>⟧.keyed map.old }
-    ensures keyed { ⟦<IdHashMap<Coarse> as Lookups>⟧.keyed map.new }
+    requires keyed { ⟦<IdHashMap<Coarse, S> as Lookups>⟧.keyed map.old }
+    ensures keyed { ⟦<IdHashMap<Coarse, S> as Lookups>⟧.keyed map.new }
 {
     let make = || {
         *asked = asked.saturating_add(1);

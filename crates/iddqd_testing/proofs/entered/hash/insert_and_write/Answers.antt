@@ -2,6 +2,6 @@ use Rattle.std.proofs.Common.{rules, refl}
 use Rattle.iddqd_testing.proofs.entered.hash.insert_and_write.Goals as goal
 
 pub returns-in-Ok : goal.returns-in-Ok
-returns-in-Ok c =
+returns-in-Ok g c =
     let keyed = c.in-Ok.ensures.keyed c.deref_mut.result.now (record c.deref_mut.result.now { value = c.args.value }) c.deref_mut.ensures.value refl in
     search rules

@@ -1,43 +1,44 @@
-//! A reader and a writer in memory that fail at a call of a given number, and tell what was asked of them.
+//! A reader and a writer in memory that give and take a few bytes at a call, fail at some calls, and count them.
 ghost use Rattle.std.specs.Prelude.{Some};
 
 use std::io::{Error, ErrorKind, Read, Result, Write};
 
-/// The number of the call that fails, from 1 on (0: none does), and its error.
+/// Which calls fail, and by what error.
 #[derive(Clone, Copy)]
-pub struct Failure {
-    pub at: u32,
-    pub kind: ErrorKind,
+pub enum Failure {
+    Never,
+    /// The call of this number, from 1 on.
+    At(u32, ErrorKind),
+    /// Each second call, from the first on, is interrupted.
+    Interruptions,
 }
-
-/// No call fails.
-pub const NEVER: Failure = Failure {
-    at: 0,
-    kind: ErrorKind::Other,
-};
 
 impl Failure {
     // What the call of this number does before anything else.
     fn meet(&self, call: u32) -> Result<()> {
-        if call == self.at {
-            return Err(Error::from(self.kind));
+        match *self {
+            Failure::At(at, kind) if call == at => Err(Error::from(kind)),
+            Failure::Interruptions if call % 2 == 1 => Err(Error::from(ErrorKind::Interrupted)),
+            _ => Ok(()),
         }
-        Ok(())
     }
 }
 
-/// Gives its bytes, and fails at one read.
+/// Gives its bytes, so many at a read or fewer, and fails at some reads.
 #[derive(Drop)]
-pub struct FailingReader<'a> {
+pub struct PartReader<'a> {
     rest: &'a [u8],
+    part: usize,
     failure: Failure,
     reads: u32,
 }
 
-impl<'a> FailingReader<'a> {
-    pub fn new(bytes: &'a [u8], failure: Failure) -> FailingReader<'a> {
-        FailingReader {
+impl<'a> PartReader<'a> {
+    /// Gives at least one byte at a read, where one is left.
+    pub fn new(bytes: &'a [u8], part: usize, failure: Failure) -> PartReader<'a> {
+        PartReader {
             rest: bytes,
+            part,
             failure,
             reads: 0,
         }
@@ -49,23 +50,22 @@ impl<'a> FailingReader<'a> {
     }
 }
 
-impl Read for FailingReader<'_> {
+impl Read for PartReader<'_> {
     ghost remaining = { λ reader. Some reader.rest.now };
 
     fn read(&mut self, buf: &mut [u8]) -> Result<usize> {
         self.reads = self.reads.saturating_add(1);
         self.failure.meet(self.reads)?;
-        self.rest.read(buf)
+        let room = buf.len().min(self.part.max(1));
+        self.rest.read(&mut buf[..room])
     }
 }
 
-/// How many bytes a write takes at most.
-pub const PART: usize = 8;
-
-/// Takes bytes, a part at each write, and fails at one write.
+/// Takes bytes, so many at a write or fewer, and fails at some writes.
 #[derive(Drop)]
-pub struct FailingWriter {
+pub struct PartWriter {
     taken: Vec<u8>,
+    part: usize,
     failure: Failure,
     writes: u32,
     flushes: u32,
@@ -73,10 +73,12 @@ pub struct FailingWriter {
     fails_flush: bool,
 }
 
-impl FailingWriter {
-    pub fn new(bytes: Vec<u8>, failure: Failure) -> FailingWriter {
-        FailingWriter {
+impl PartWriter {
+    /// Takes no byte at all where the part is 0.
+    pub fn new(bytes: Vec<u8>, part: usize, failure: Failure) -> PartWriter {
+        PartWriter {
             taken: bytes,
+            part,
             failure,
             writes: 0,
             flushes: 0,
@@ -86,7 +88,7 @@ impl FailingWriter {
     }
 
     /// The same, but that each flush fails.
-    pub fn with_failing_flush(mut self) -> FailingWriter {
+    pub fn with_failing_flush(mut self) -> PartWriter {
         self.fails_flush = true;
         self
     }
@@ -107,13 +109,13 @@ impl FailingWriter {
     }
 }
 
-impl Write for FailingWriter {
+impl Write for PartWriter {
     ghost contents = { λ writer. Some writer.taken.items };
 
     fn write(&mut self, buf: &[u8]) -> Result<usize> {
         self.writes = self.writes.saturating_add(1);
         self.failure.meet(self.writes)?;
-        let part = &buf[..buf.len().min(PART)];
+        let part = &buf[..buf.len().min(self.part)];
         if self.taken.extend_from_slice(part).is_err() {
             return Err(Error::from(ErrorKind::OutOfMemory));
         }

@@ -1,0 +1,57 @@
+//! Guards and entries of a hash map, by calls that leave it keyed, or end it.
+use crate::caseless::{Caseless, Coarse};
+use iddqd::id_hash_map::Entry;
+use iddqd::{IdHashMap, Lookups};
+use std::hash::BuildHasher;
+
+#[tactic(auto, using(iddqd::proofs::GuardLemmas::same_key_kept))]
+pub(super) fn write_by_reborrow<S: BuildHasher>(
+    map: &mut IdHashMap<Coarse, S>,
+    name: &Caseless,
+    value: u32,
+) -> Option<(Coarse, Coarse)>
+    requires keyed { ⟦<IdHashMap<Coarse, S> as Lookups>⟧.keyed map.old }
+    ensures keyed { ⟦<IdHashMap<Coarse, S> as Lookups>⟧.keyed map.new }
+{
+    match map.get_mut(name) {
+        Some(mut outer) => {
+            let old = *outer;
+            let inner = outer.reborrow();
+            inner.value = value;
+            let shown = outer.into_ref();
+            Some((old, *shown))
+        }
+        None => None,
+    }
+}
+
+pub(super) fn write_by_entry<S: BuildHasher + Drop>(
+    mut map: IdHashMap<Coarse, S>,
+    name: &Caseless,
+    value: u32,
+) -> Option<(Coarse, Coarse)>
+    requires keyed { ⟦<IdHashMap<Coarse, S> as Lookups>⟧.keyed map }
+{
+    match map.entry(name) {
+        Entry::Occupied(mut entry) => {
+            let old = *entry.get();
+            entry.get_mut().value = value;
+            let shown = entry.into_ref();
+            Some((old, *shown))
+        }
+        Entry::Vacant(_) => None,
+    }
+}
+
+pub(super) fn remove_by_entry<S: BuildHasher>(
+    map: &mut IdHashMap<Coarse, S>,
+    name: &Caseless,
+) -> Option<Coarse>
+    requires keyed { ⟦<IdHashMap<Coarse, S> as Lookups>⟧.keyed map.old }
+    ensures keyed { ⟦<IdHashMap<Coarse, S> as Lookups>⟧.keyed map.new }
+{
+    match map.entry(name) {
+        Entry::Occupied(entry) => Some(entry.remove()),
+        Entry::Vacant(_) => None,
+    }
+}
