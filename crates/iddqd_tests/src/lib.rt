@@ -16,6 +16,10 @@ mod entries;
 #[cfg(test)]
 mod errors;
 #[cfg(test)]
+mod hints;
+#[cfg(test)]
+mod hostile;
+#[cfg(test)]
 mod insertions;
 #[cfg(test)]
 mod limits;

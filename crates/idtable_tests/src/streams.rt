@@ -1,38 +1,83 @@
 //! What `serve` asks of its reader and its writer, and what it does where one fails.
-use iddqd_run::{Fault, Kind, serve};
-use iddqd_testing::failing::{FailingReader, FailingWriter, Failure, NEVER, PART};
-use std::alloc::Global;
+use iddqd_run::{FailingReader, FailingWriter, Fault, Kind, serve};
+use iddqd_testing::parts::{Failure, PartReader, PartWriter};
+use std::alloc::{AllocError, Global};
 use std::io::ErrorKind;
+use std::process::Abort;
 use std::test::Fail;
 
 const LINES: &[u8] = b"add bob 2\nadd bob 9\nget bob\ndel bob\nlen\n";
 
 const ANSWER: &[u8] = b"added\nduplicate bob 2\n2\nremoved 2\n0\n";
 
-// What `serve` answers to the lines, with one read and one write failing, and its reader and writer afterwards.
+// What `serve` answers to the lines where the read and the write of these numbers fail, and what was written.
+fn served_failing(
+    alloc: Global,
+    kind: Kind,
+    read: u32,
+    write: u32,
+) -> Result<(Result<u64, Fault>, FailingWriter), AllocError> {
+    let mut lines = Vec::new(alloc);
+    lines.extend_from_slice(LINES)?;
+    let mut reader = FailingReader::new(lines, read);
+    let mut writer = FailingWriter::new(Vec::new(alloc), write);
+    let outcome = serve(alloc, kind, &mut reader, &mut writer);
+    Ok((outcome, writer))
+}
+
+#[test]
+fn failing_read(rt: HostRuntime) -> Result<(), Fail> {
+    for kind in [Kind::Hash, Kind::Ord] {
+        let (outcome, writer) = served_failing(rt.alloc(), kind, 1, 0)?;
+        assert_eq!(rt; outcome, Err(Fault::Read));
+        assert!(rt; writer.taken().is_empty());
+    }
+    Ok(())
+}
+
+#[test]
+fn failing_write(rt: HostRuntime) -> Result<(), Fail> {
+    for kind in [Kind::Hash, Kind::Ord] {
+        let (outcome, _) = served_failing(rt.alloc(), kind, 0, 1)?;
+        assert_eq!(rt; outcome, Err(Fault::Write));
+    }
+    Ok(())
+}
+
+#[test]
+fn no_failure(rt: HostRuntime) -> Result<(), Fail> {
+    for kind in [Kind::Hash, Kind::Ord] {
+        let (outcome, writer) = served_failing(rt.alloc(), kind, 0, 0)?;
+        assert_eq!(rt; outcome, Ok(0));
+        assert!(rt; writer.taken() == ANSWER);
+    }
+    Ok(())
+}
+
+// How many bytes a write takes at most.
+const PART: usize = 8;
+
+// What `serve` answers to the lines, with some reads and writes failing, and its reader and writer afterwards.
 fn served(
     alloc: Global,
     read: Failure,
     write: Failure,
-) -> (Result<u64, Fault>, FailingReader<'static>, FailingWriter) {
-    let mut reader = FailingReader::new(LINES, read);
-    let mut writer = FailingWriter::new(Vec::new(alloc), write);
+) -> (Result<u64, Fault>, PartReader<'static>, PartWriter) {
+    let mut reader = PartReader::new(LINES, usize::MAX, read);
+    let mut writer = PartWriter::new(Vec::new(alloc), PART, write);
     let outcome = serve(alloc, Kind::Ord, &mut reader, &mut writer);
     (outcome, reader, writer)
 }
 
-fn failing(at: u32, kind: ErrorKind) -> Failure {
-    Failure { at, kind }
-}
-
 #[test]
 fn flushes_after_writing(rt: HostRuntime) {
-    let (outcome, _, writer) = served(rt.alloc(), NEVER, NEVER);
+    let (outcome, _, writer) = served(rt.alloc(), Failure::Never, Failure::Never);
     assert_eq!(rt; outcome, Ok(0));
     assert!(rt; writer.taken() == ANSWER);
     assert_eq!(rt; writer.flushes(), (1, ANSWER.len()));
     let mut reader = LINES;
-    let mut writer = FailingWriter::new(Vec::new(rt.alloc()), NEVER).with_failing_flush();
+    let writer = PartWriter::new(Vec::new(rt.alloc()), PART, Failure::Never);
+    let mut writer = writer.with_failing_flush();
     assert_eq!(rt;
         serve(rt.alloc(), Kind::Ord, &mut reader, &mut writer),
         Err(Fault::Write)
@@ -42,15 +87,13 @@ fn flushes_after_writing(rt: HostRuntime) {
 #[test]
 fn stops_reading_at_an_error(rt: HostRuntime) {
     for at in [1, 2] {
-        let (outcome, reader, writer) = served(rt.alloc(), failing(at, ErrorKind::Other), NEVER);
+        let failure = Failure::At(at, ErrorKind::Other);
+        let (outcome, reader, writer) = served(rt.alloc(), failure, Failure::Never);
         assert_eq!(rt; outcome, Err(Fault::Read));
         assert_eq!(rt; reader.reads(), at);
         assert_eq!(rt; (writer.writes(), writer.flushes()), (0, (0, 0)));
-        let (outcome, reader, writer) = served(
-            rt.alloc(),
-            failing(at, ErrorKind::Interrupted),
-            NEVER,
-        );
+        let failure = Failure::At(at, ErrorKind::Interrupted);
+        let (outcome, reader, writer) = served(rt.alloc(), failure, Failure::Never);
         assert_eq!(rt; outcome, Ok(0));
         assert_eq!(rt; reader.reads(), 3);
         assert!(rt; writer.taken() == ANSWER);
@@ -60,12 +103,43 @@ fn stops_reading_at_an_error(rt: HostRuntime) {
 #[test]
 fn writes_nothing_more_after_a_failure(rt: HostRuntime) {
     for at in [1, 2, 4] {
-        let (outcome, _, writer) = served(rt.alloc(), NEVER, failing(at, ErrorKind::Other));
+        let failure = Failure::At(at, ErrorKind::Other);
+        let (outcome, _, writer) = served(rt.alloc(), Failure::Never, failure);
         assert_eq!(rt; outcome, Err(Fault::Write));
         assert_eq!(rt; (writer.writes(), writer.flushes()), (at, (0, 0)));
         assert!(rt; writer.taken() == &ANSWER[..(at as usize - 1) * PART]);
-        let (outcome, _, writer) = served(rt.alloc(), NEVER, failing(at, ErrorKind::Interrupted));
+        let failure = Failure::At(at, ErrorKind::Interrupted);
+        let (outcome, _, writer) = served(rt.alloc(), Failure::Never, failure);
         assert_eq!(rt; outcome, Ok(0));
         assert!(rt; writer.taken() == ANSWER);
+    }
+}
+
+// The lines are answered so where reads and writes are of so many bytes and meet such failures.
+fn serve_in_parts(rt: &impl Abort, alloc: Global, part: usize, failure: Failure) {
+    for kind in [Kind::Hash, Kind::Ord] {
+        let mut reader = PartReader::new(LINES, part, failure);
+        let mut writer = PartWriter::new(Vec::new(alloc), part, failure);
+        let outcome = serve(alloc, kind, &mut reader, &mut writer);
+        assert_eq!(rt; outcome, Ok(0));
+        assert!(rt; writer.taken() == ANSWER);
+    }
+}
+
+#[test]
+fn one_byte_at_a_time(rt: HostRuntime) {
+    serve_in_parts(&rt, rt.alloc(), 1, Failure::Never);
+    serve_in_parts(&rt, rt.alloc(), 1, Failure::Interruptions);
+    serve_in_parts(&rt, rt.alloc(), 7, Failure::Interruptions);
+}
+
+#[test]
+fn writer_that_takes_no_byte(rt: HostRuntime) {
+    for kind in [Kind::Hash, Kind::Ord] {
+        let mut reader = LINES;
+        let mut writer = PartWriter::new(Vec::new(rt.alloc()), 0, Failure::Never);
+        let outcome = serve(rt.alloc(), kind, &mut reader, &mut writer);
+        assert_eq!(rt; outcome, Err(Fault::Write));
+        assert!(rt; writer.taken().is_empty());
     }
 }

@@ -1,0 +1,133 @@
+//! Rows of iterators whose hints lie, and of maps that are full.
+use iddqd::errors::{ExtendError, FromIterError, TryReserveError};
+use iddqd::{DefaultHashBuilder, IdHashMap, IdOrdMap};
+use iddqd_run::KeyedMap;
+use iddqd_testing::bulk::{Bulk, Hinted};
+use iddqd_testing::items::Numbered;
+use iddqd_testing::tried::Tried;
+use std::process::Abort;
+
+fn numbered(number: u32, value: u32) -> Numbered {
+    Numbered { number, value }
+}
+
+// The item that was refused for the limit, and whether there was such a refusal.
+fn stopped_at(outcome: Result<(), ExtendError<Numbered>>) -> (Option<Numbered>, bool) {
+    match outcome {
+        Ok(()) => (None, false),
+        Err(stopped) => (stopped.item, stopped.error.is_capacity_overflow()),
+    }
+}
+
+fn fill_to_two<M: KeyedMap<Item = Numbered, Key = u32> + Drop>(rt: &impl Abort, mut map: Tried<M>)
+where
+    Tried<M>: Bulk<Numbered>,
+{
+    let items = [
+        numbered(1, 1),
+        numbered(2, 2),
+        numbered(1, 3),
+        numbered(3, 4),
+    ];
+    let stopped = stopped_at(map.extend(Hinted::new(&items, 0)));
+    assert_eq!(rt; stopped, (Some(numbered(3, 4)), true));
+    assert_eq!(rt; map.len(), 2);
+    assert_eq!(rt; map.get(&1).copied(), Some(numbered(1, 3)));
+    assert_eq!(rt; map.get(&2).copied(), Some(numbered(2, 2)));
+}
+
+#[test]
+fn extend_to_the_limit(rt: HostRuntime) {
+    let alloc = rt.alloc();
+    fill_to_two(&rt, Tried::new(IdOrdMap::with_limit(alloc, 2)));
+    let hasher = DefaultHashBuilder::new();
+    fill_to_two(&rt, Tried::new(IdHashMap::with_limit(alloc, 2, hasher)));
+}
+
+// What an announcement of so many comes to, of which none is there.
+fn announced<M: KeyedMap<Item = Numbered, Key = u32> + Drop>(
+    map: &mut Tried<M>,
+    hint: usize,
+) -> (Option<Numbered>, bool)
+where
+    Tried<M>: Bulk<Numbered>,
+{
+    stopped_at(map.extend(Hinted::new(&[], hint)))
+}
+
+fn hint_at_two<M: KeyedMap<Item = Numbered, Key = u32> + Drop>(rt: &impl Abort, mut map: Tried<M>)
+where
+    Tried<M>: Bulk<Numbered>,
+{
+    assert_eq!(rt; announced(&mut map, 3), (None, true));
+    assert_eq!(rt; map.len(), 0);
+    assert!(rt; map.is_put(numbered(1, 1)));
+    assert_eq!(rt; announced(&mut map, 3), (None, true));
+    assert_eq!(rt; announced(&mut map, 2), (None, false));
+    assert_eq!(rt;
+        (map.len(), map.get(&1).copied()),
+        (1, Some(numbered(1, 1)))
+    );
+}
+
+#[test]
+fn hints_at_the_limit(rt: HostRuntime) {
+    let alloc = rt.alloc();
+    hint_at_two(&rt, Tried::new(IdOrdMap::with_limit(alloc, 2)));
+    let hasher = DefaultHashBuilder::new();
+    hint_at_two(&rt, Tried::new(IdHashMap::with_limit(alloc, 2, hasher)));
+}
+
+fn few_come<M: KeyedMap<Item = Numbered, Key = u32> + Drop>(rt: &impl Abort, mut map: Tried<M>)
+where
+    Tried<M>: Bulk<Numbered>,
+{
+    let one = [numbered(1, 1)];
+    assert_eq!(rt; stopped_at(map.extend(Hinted::new(&one, 5))), (None, false));
+    assert_eq!(rt; map.len(), 1);
+}
+
+fn many_come<M: KeyedMap<Item = Numbered, Key = u32> + Drop>(rt: &impl Abort, mut map: Tried<M>)
+where
+    Tried<M>: Bulk<Numbered>,
+{
+    let mut hundred = [numbered(0, 0); 100];
+    for (at, item) in hundred.iter_mut().enumerate() {
+        item.number = at as u32;
+    }
+    assert_eq!(rt;
+        stopped_at(map.extend(Hinted::new(&hundred, 0))),
+        (None, false)
+    );
+    assert_eq!(rt; map.len(), 100);
+}
+
+// The error of an announcement that passes what a map ever holds.
+fn refused_whole<M: KeyedMap<Item = Numbered> + Drop>(
+    made: Result<Tried<M>, FromIterError<Numbered>>,
+) -> Option<TryReserveError> {
+    match made.err()? {
+        FromIterError::Duplicate(_) => None,
+        FromIterError::Refused(error) => Some(error),
+    }
+}
+
+#[test]
+fn few_or_many_items(rt: HostRuntime) {
+    let alloc = rt.alloc();
+    few_come(&rt, Tried::new(IdOrdMap::new(alloc)));
+    few_come(&rt, Tried::new(IdHashMap::new(alloc)));
+    many_come(&rt, Tried::new(IdOrdMap::new(alloc)));
+    many_come(&rt, Tried::new(IdHashMap::new(alloc)));
+    let full = Some(TryReserveError::capacity_overflow());
+    let ordered = Tried::<IdOrdMap<Numbered>>::collected_unique(
+        alloc,
+        Hinted::new(&[], 4_294_967_296),
+    );
+    assert_eq!(rt; refused_whole(ordered), full);
+    let hashed = Tried::<IdHashMap<Numbered>>::collected_unique(
+        alloc,
+        Hinted::new(&[], 4_294_967_296),
+    );
+    assert_eq!(rt; refused_whole(hashed), full);
+}

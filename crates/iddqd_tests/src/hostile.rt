@@ -1,0 +1,212 @@
+//! Rows of writes that spell a key anew, of guards lent once more, of equal hashes, and of walks that end early.
+use iddqd::{IdHashMap, IdOrdMap};
+use iddqd_run::KeyedMap;
+use iddqd_testing::caseless::{Caseless, Coarse, item_of, spelled};
+use iddqd_testing::counted::Hashed;
+use iddqd_testing::hashers::ZeroHasher;
+use iddqd_testing::items::Numbered;
+use iddqd_testing::lent::Lent;
+use iddqd_testing::respelled::Respelled;
+use iddqd_testing::tried::{Inserted, Tried};
+use iddqd_testing::walked::Walked;
+use std::hash::BuildHasherDefault;
+use std::process::Abort;
+
+// The map with bar 1 and Foo 2.
+fn of_bar_and_foo<M: KeyedMap<Item = Coarse, Key = Caseless> + Drop>(
+    rt: &impl Abort,
+    mut map: Tried<M>,
+) -> Tried<M> {
+    assert!(rt; map.is_put(item_of(*b"bar", 1)) && map.is_put(item_of(*b"Foo", 2)));
+    map
+}
+
+// Another item of FOO is a duplicate of fOO 7, and bar is as it was.
+fn is_respelled<M: KeyedMap<Item = Coarse, Key = Caseless> + Drop>(
+    rt: &impl Abort,
+    mut map: Tried<M>,
+) -> Tried<M> {
+    let existing = match map.insert(item_of(*b"FOO", 9)) {
+        Inserted::Duplicate(_, existing) => existing,
+        Inserted::Done | Inserted::Refused(_, _) => None,
+    };
+    assert_eq!(rt; existing.as_ref().map(spelled), Some((*b"fOO", 7)));
+    assert_eq!(rt;
+        map.get(&Caseless(*b"BAR")).map(spelled),
+        Some((*b"bar", 1))
+    );
+    assert_eq!(rt; map.len(), 2);
+    map
+}
+
+const RESPELLED: Coarse = Coarse {
+    name: Caseless(*b"fOO"),
+    value: 7,
+};
+
+fn by_guard<M: KeyedMap<Item = Coarse, Key = Caseless> + Drop>(
+    rt: &impl Abort,
+    map: Tried<M>,
+) -> Tried<M>
+where
+    Tried<M>: Respelled,
+{
+    let mut map = of_bar_and_foo(rt, map);
+    assert!(rt; map.respell_by_guard(&Caseless(*b"FOO"), RESPELLED));
+    is_respelled(rt, map)
+}
+
+fn by_entry<M: KeyedMap<Item = Coarse, Key = Caseless> + Drop>(
+    rt: &impl Abort,
+    map: Tried<M>,
+) -> Tried<M>
+where
+    Tried<M>: Respelled,
+{
+    let mut map = of_bar_and_foo(rt, map);
+    assert!(rt; map.respell_by_entry(&Caseless(*b"FOO"), RESPELLED));
+    is_respelled(rt, map)
+}
+
+fn by_visitor<M: KeyedMap<Item = Coarse, Key = Caseless> + Drop>(
+    rt: &impl Abort,
+    map: Tried<M>,
+) -> Tried<M>
+where
+    Tried<M>: Respelled,
+{
+    let mut map = of_bar_and_foo(rt, map);
+    map.respell_by_visitor(RESPELLED);
+    is_respelled(rt, map)
+}
+
+// Writes by a writing walk what the others write.
+fn respell(item: &mut Coarse) {
+    if item.name == RESPELLED.name {
+        *item = RESPELLED;
+    }
+}
+
+// Whether the walk shows bar 1, and fOO 7 behind it.
+fn is_in_order(map: &IdOrdMap<Coarse>) -> bool {
+    let mut walk = map.iter();
+    let (one, other) = (walk.next().map(spelled), walk.next().map(spelled));
+    one == Some((*b"bar", 1)) && other == Some((*b"fOO", 7)) && walk.next().is_none()
+}
+
+#[test]
+fn coarse_writes(rt: HostRuntime) {
+    let map = by_guard(&rt, Tried::new(IdOrdMap::new(rt.alloc())));
+    assert!(rt; is_in_order(map.map()));
+    let _ = by_guard(&rt, Tried::new(IdHashMap::new(rt.alloc())));
+}
+
+#[test]
+fn coarse_writes_by_entry(rt: HostRuntime) {
+    let map = by_entry(&rt, Tried::new(IdOrdMap::new(rt.alloc())));
+    assert!(rt; is_in_order(map.map()));
+    let _ = by_entry(&rt, Tried::new(IdHashMap::new(rt.alloc())));
+}
+
+#[test]
+fn coarse_writes_by_visitor(rt: HostRuntime) {
+    let map = by_visitor(&rt, Tried::new(IdOrdMap::new(rt.alloc())));
+    assert!(rt; is_in_order(map.map()));
+    let _ = by_visitor(&rt, Tried::new(IdHashMap::new(rt.alloc())));
+}
+
+#[test]
+fn coarse_writes_by_walk(rt: HostRuntime) {
+    let map = of_bar_and_foo(&rt, Tried::new(IdOrdMap::new(rt.alloc())));
+    let (map, _) = map.written(2, respell);
+    assert!(rt; is_in_order(&map));
+}
+
+// Whether the walk shows bar 1 and fOO 7, in whatever order.
+fn has_both(map: &IdHashMap<Coarse>) -> bool {
+    let mut walk = map.iter();
+    let (one, other) = (walk.next().map(spelled), walk.next().map(spelled));
+    let (bar, foo) = (Some((*b"bar", 1)), Some((*b"fOO", 7)));
+    walk.next().is_none() && ((one == bar && other == foo) || (one == foo && other == bar))
+}
+
+#[test]
+fn hash_coarse_writes_by_walk(rt: HostRuntime) {
+    let map = of_bar_and_foo(&rt, Tried::new(IdHashMap::new(rt.alloc())));
+    let (map, _) = map.written(2, respell);
+    assert!(rt; has_both(&map));
+}
+
+fn numbered(number: u32, value: u32) -> Numbered {
+    Numbered { number, value }
+}
+
+fn of_one<M: KeyedMap<Item = Numbered, Key = u32> + Drop>(
+    rt: &impl Abort,
+    mut map: Tried<M>,
+) -> Tried<M> {
+    assert!(rt; map.is_put(numbered(1, 4)) && map.is_put(numbered(2, 8)));
+    map
+}
+
+#[test]
+fn reborrow(rt: HostRuntime) {
+    let map = of_one(&rt, Tried::new(IdOrdMap::new(rt.alloc())));
+    assert_eq!(rt; map.write_by_reborrow(1, 5), Some((5, 5)));
+    let map = of_one(&rt, Tried::new(IdHashMap::new(rt.alloc())));
+    assert_eq!(rt; map.write_by_reborrow(1, 5), Some((5, 5)));
+}
+
+#[test]
+fn guard_spent_unwritten(rt: HostRuntime) {
+    let map = of_one(&rt, Tried::new(IdOrdMap::new(rt.alloc())));
+    assert_eq!(rt; map.spend_unwritten(1), Some(true));
+    let map = of_one(&rt, Tried::new(IdHashMap::new(rt.alloc())));
+    assert_eq!(rt; map.spend_unwritten(1), Some(true));
+}
+
+#[test]
+fn equal_hashes_shrunk(rt: HostRuntime) {
+    let hasher: BuildHasherDefault<ZeroHasher> = BuildHasherDefault::new();
+    let mut map = Hashed::new(rt.alloc(), hasher);
+    for number in 0..100 {
+        assert!(rt; map.put_plainly(numbered(number, number)));
+    }
+    for half in 0..50 {
+        assert!(rt; map.take_plainly(&(2 * half)));
+    }
+    assert!(rt; map.is_shrunk());
+    for half in 0..50 {
+        assert!(rt; map.put_plainly(numbered(2 * half, half)));
+    }
+    for number in 0..100 {
+        let found = map.find(&number);
+        assert!(rt; found.is_done && found.steps <= 100);
+    }
+}
+
+// Whether the values of the keys 1 to 10 are one more than their keys, and those of the others their keys.
+fn is_raised_to_ten(map: &IdOrdMap<Numbered>) -> bool {
+    for item in map.iter() {
+        let raised = u32::from(item.number <= 10);
+        if item.value.checked_sub(item.number) != Some(raised) {
+            return false;
+        }
+    }
+    map.len() == 30
+}
+
+fn raise(item: &mut Numbered) {
+    item.value = item.value.wrapping_add(1);
+}
+
+#[test]
+fn writing_walk_stopped(rt: HostRuntime) {
+    let mut map = Tried::new(IdOrdMap::new(rt.alloc()));
+    for number in 1..=30 {
+        assert!(rt; map.is_put(numbered(number, number)));
+    }
+    let (map, left) = map.written(10, raise);
+    assert_eq!(rt; left, 20);
+    assert!(rt; is_raised_to_ten(&map));
+}
