@@ -3,15 +3,16 @@ ghost use Rattle.std.specs.Prelude.{◌≡◌, ℕ, [], length, Some, None, IfOk
 ghost use Rattle.std.specs.Borrow.{sem};
 ghost use Rattle.iddqd.specs.Contents.{NoTwoAkin, OverwritesItem, find_item, without};
 ghost use Rattle.iddqd.specs.Refusal.{OnRefused, RefusesInsertion, memory_refused};
-ghost use Rattle.iddqd_run.specs.KeyedMap.{ShrinksMap, StaysKeyed, ends_inserted};
+ghost use Rattle.iddqd_run.specs.KeyedMap.{ShrinksMap, StaysKeyed, ends_extended, ends_inserted};
 ghost use Rattle.iddqd.specs.Visiting.{VisitsKeepKeys};
-ghost use Rattle.iddqd_run.specs.Step.{MapState, SpareRule, FitsRoom, MakesRoom, RefusesItem, RefusesRoom, RetainsVisited, VisitsItem};
+ghost use Rattle.iddqd_run.specs.Step.{MapState, SpareRule, FitsLikely, FitsRoom, MakesRoom, RefusesItem, RefusesRoom, RetainsVisited, TakesAll, VisitsItem};
 
+mod extend;
 mod hash;
 mod ord;
 
 use iddqd::Visit;
-use iddqd::errors::{InsertError, Refused, TryReserveError};
+use iddqd::errors::{ExtendUniqueError, InsertError, Refused, TryReserveError};
 
 /// A map whose keys live in its items, for callers that take any (ours). Contracts see its items and its spare, the most
 /// items that it ever holds, and whether it is keyed: each call leaves it keyed, under the same limit and, but for a shrink, with the room that
@@ -124,6 +125,26 @@ pub trait KeyedMap {
     fn len(&self) -> usize
         ensures len { result ≡ length (state self.now).items }
         ensures room { FitsRoom rule (limit self.now) (state self.now) };
+
+    /// Inserts the items one after the other, each where none of an equal key is there, and answers the map. Room is made
+    /// before: for as many as there are items where the map is empty, and else for half of them, rounded up; where that is
+    /// refused, the error has no item and the items are as they were. Else the first item of which one of an equal key is
+    /// there by then, from before or put in by this call, comes back beside that one, which is lent; or the first that
+    /// finds no room comes back, and as many were put in then as were spare. Those before it stay, and the others are
+    /// dropped. A duplicate needs no memory, and is searched for twice.
+    final fn extend_unique(
+        &mut self,
+        items: Vec<Self::Item>,
+    ) -> Result<&mut Self, ExtendUniqueError<'_, Self::Item>>
+    where
+        Self::Item: Drop,
+        requires keyed { keyed self.old }
+        ensures* after { sem 𝓛 (ends_extended Self.row state limit rule keyed key Self.Key.eq self.entry result items.items) }
+        ensures taken { IfOk result (λ map. FitsLikely key Self.Key.eq (limit self.old) items.items (state self.old).items × TakesAll key Self.Key.eq (limit self.old) items.items (state self.old).items (state map.now).items) }
+        ensures stays { IfOk result (λ map. StaysKeyed state limit rule keyed self.old map.now) }
+    {
+        extend::extend_unique(self, items)
+    }
 
     // No two items of a keyed map are akin.
     ghost differ: { (m : Self) → keyed m → NoTwoAkin key Self.Key.eq (state m).items };
