@@ -8,6 +8,7 @@ mod collect;
 mod compact;
 pub mod entry;
 mod equality;
+mod extend_unique;
 mod imp;
 mod insert;
 mod into_iter;

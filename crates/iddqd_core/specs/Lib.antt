@@ -2,6 +2,7 @@ pub use Rattle.iddqd_hash_index.specs.HashPairs
 pub use Rattle.iddqd_ord_index.specs.Digits
 pub use Rattle.iddqd_ord_index.specs.Listed
 pub use Rattle.iddqd_ord_index.specs.Search
+pub use Rattle.iddqd_store.specs.Adding
 pub use Rattle.iddqd_store.specs.Collecting
 pub use Rattle.iddqd_store.specs.Contents
 pub use Rattle.iddqd_store.specs.Errors

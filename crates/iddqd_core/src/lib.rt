@@ -11,6 +11,6 @@ pub use errors::{
 pub use iddqd_hash_index::HashIndex;
 pub use iddqd_ord_index::{IntoWalk, OrdIndex, Place, Walk};
 pub use iddqd_store::{
-    Comparable, Equivalent, IdHashItem, IdOrdItem, ItemStore, Steps, Text, ValidateCompact,
+    Comparable, Equivalent, Halt, IdHashItem, IdOrdItem, ItemStore, Steps, Text, ValidateCompact,
     ValidationError, Visit, likely_new,
 };

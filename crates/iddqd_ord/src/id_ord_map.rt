@@ -9,6 +9,7 @@ mod compact;
 mod ends;
 pub mod entry;
 mod equality;
+mod extend_unique;
 mod imp;
 mod insert;
 mod into_iter;

@@ -1,7 +1,7 @@
 -- One item more is put in.
 --     overwrites_last      the list of the items that were overwritten into another grows at its end
 --     collects_last      so does the list of the items of different keys that were inserted
---     fills_kept, fills_on      what a reservation, and what two calls after one another, leave besides the items
+--     fills_kept, fills_taken, fills_on      what a reservation, one new item, and two calls after one another leave besides the items
 --     overwritten      one item is put in
 --     collected_differ, shows_first      what the items in a map say of those that were collected
 use Rattle.std.proofs.Common.{◌≡◌, ℕ, Bool, List, [], ◌∷◌, ◌++◌, Option, Some, None, IfNone, OnSome, length, nat_eq, refl, sym, ap, ◌∙◌, subst, arith}
@@ -62,21 +62,23 @@ module _ {T : Type 0} where
     limit = other.limit ∙ one.limit;
   }
 
+  pub fills_taken : (x : T) (old new : Holding T) → TakesItem x old new → FillsSlots old new
+  fills_taken x old new took =
+      let longer = length-insert old.items took.added.place x took.added.within in
+      record {
+        slots = took.slots;
+        never_fewer = omega (arith, ap length took.added.put, longer);
+        vacant = omega (arith, took.vacant, ap length took.added.put, longer);
+        capacity = took.capacity;
+        limit = took.limit;
+      }
+
 -- Same and Takes are what a call says where an akin item was there, and where none was
 module _ {T K Same Takes : Type 0} (key : T → K) (eq : K → K → Bool) (x : T) (old new : Holding T) (own : HaveSlots old.slots old.items) (swaps : Same → new ≡ record old { items = replaced key (eq (key x)) x old.items }) (takes : Takes → TakesItem x old new) where
   pub overwritten : (found : Option T) → found ≡ find_item key (eq (key x)) old.items → OnSome found Same → IfNone found Takes → OverwritesItem key eq x old.limit old.items found new.items × FillsSlots old new
   overwritten None told some none =
       let took = takes none in
-      let longer = length-insert old.items took.added.place x took.added.within in (
-        (sym told, took.room, took.added),
-        record {
-          slots = took.slots;
-          never_fewer = omega (arith, ap length took.added.put, longer);
-          vacant = omega (arith, took.vacant, ap length took.added.put, longer);
-          capacity = took.capacity;
-          limit = took.limit;
-        },
-      )
+      ((sym told, took.room, took.added), fills_taken x old new took)
   overwritten (Some y) told some none =
       let same = swaps some in
       let long : length new.items ≡ length old.items = ap (λ m. length m.items) same ∙ length-map old.items _ in (

@@ -1,3 +1,4 @@
+pub mod Adding
 pub mod Collecting
 pub mod Contents
 pub mod Errors

@@ -2,6 +2,7 @@
 #![tactic(auto)]
 
 mod errors;
+mod halts;
 mod hints;
 mod item_store;
 mod items;
@@ -16,6 +17,7 @@ pub use errors::{
     DuplicateItem, ExtendError, ExtendUniqueError, Few, FromIterError, InsertError, Refused,
     TryReserveError,
 };
+pub use halts::Halt;
 pub use hints::likely_new;
 pub use item_store::ItemStore;
 pub use items::{IdHashItem, IdOrdItem};

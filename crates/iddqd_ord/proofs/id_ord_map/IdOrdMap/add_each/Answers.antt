@@ -1,0 +1,49 @@
+use Rattle.std.proofs.Common.{[], rules, ap, subst, sym}
+use Rattle.std.proofs.iter.Next.{on}
+use Rattle.std.proofs.lemmas.Result.{err_from_is_err_and}
+use Rattle.iddqd_core.specs.Collecting.{AddsAll, GivesThen}
+use Rattle.iddqd_core.specs.Holding.{KeepsItems}
+use Rattle.iddqd_core.specs.Query.{differ_from_ascends}
+use Rattle.iddqd_core.proofs.AddingLemmas.{adds_last, adds_none, halts_adding}
+use Rattle.iddqd_core.proofs.CollectingLemmas.{fills_kept, fills_on, fills_taken}
+use Rattle.iddqd_ord.proofs.id_ord_map.IdOrdMap.add_each.Goals as goal
+
+pub loop-item-init : goal.loop-item-init
+loop-item-init g c =
+    let key = g.T.IdOrdItem.key in
+    let eq = g.T.Key.PartialEq.eq in
+    let old = c.args.self.now in
+    let new = c.reserve.new.self in
+    let rest = c.reserve.ensures.rest in
+    let items = ap (λ m. m.items) rest in
+    let differ = differ_from_ascends key g.T.Key.Ord.cmp g.met.T.Key.Ord.matches_eq old.items c.requires.keyed in
+    let kept : KeepsItems old new = record { items = items; slots = ap (λ m. m.slots) rest; vacant = ap (λ m. m.vacant) rest; capacity = c.reserve.ensures.capacity; limit = ap (λ m. m.limit) rest } in (
+      search rules,
+      search rules,
+      subst (AddsAll key eq [] old.items) (sym items) (adds_none key old.items differ),
+      record { fills = fills_kept old new c.len.ensures.slots kept; keyed = c.reserve.ensures.keyed },
+    )
+
+pub loop-item-preserved : goal.loop-item-preserved
+loop-item-preserved g c =
+    let old = c.args.self.now in
+    let between = c.loop-item.self in
+    let new = c.add.new.self in
+    let x = c.in-Some.item in
+    let put = c.in_ok-add.ensures in
+    let inv = c.loop-item.invariant in
+    let goes = on x c.in-Some.is c.next.ensures.goes inv.1 in (
+      goes.0,
+      goes.1,
+      adds_last g.T.IdOrdItem.key g.met.T.Key.Eq.laws c.loop-item.yielded old.items between.items inv.2 x new.items put.absent put.inserted.takes.added,
+      record { fills = fills_on old between new inv.3.fills (fills_taken x between new put.inserted.takes); keyed = put.inserted.keyed },
+    )
+
+pub returns-in_err-add-clause-halted : goal.returns-in_err-add-clause-halted
+returns-in_err-add-clause-halted g c =
+    let old = c.args.self.now in
+    let inv = c.loop-item.invariant in
+    let back = err_from_is_err_and c.from_residual.result c.from_residual.ensures.1 in
+    let stopped = c.in_err-add.ensures in
+    let gives = GivesThen g.U.IntoIterator.into_iter_gives g.U.IntoIter.Iterator.next_gives c.args.iter in
+    rw back.1 (halts_adding g.T.IdOrdItem.key g.met.T.Key.Eq.laws gives old c.loop-item.self c.add.new.self c.loop-item.yielded inv.2 inv.3.fills.limit stopped.kept.keeps c.in-Some.item (search rules) _ (rw back.2 stopped.halted))

@@ -1,0 +1,87 @@
+//! Many items at once, none in the stead of another.
+ghost use Rattle.std.specs.Prelude.{List, IfErr, OnErr, OnOk};
+ghost use Rattle.std.specs.Borrow.{sem};
+ghost use Rattle.std.specs.Iterator.{IsFiniteIterable};
+ghost use Rattle.iddqd_core.specs.Adding.{HaltsAdding, HaltsAt, ShowsFirstConflict};
+ghost use Rattle.iddqd_core.specs.Collecting.{AddsAll, GivesAll, GivesThen};
+ghost use Rattle.iddqd_core.specs.Contents.{Ascends, IsAbsent};
+
+use super::IdOrdMap;
+use iddqd_core::{
+    DuplicateItem, ExtendError, ExtendUniqueError, Few, Halt, IdOrdItem, Steps, likely_new,
+};
+
+impl<T: IdOrdItem> IdOrdMap<T> {
+    ghost use Rattle.iddqd_ord.specs.OrdMap.{OrdFills, OrdInserts, OrdKeeps, ends_ord_extended};
+
+    /// Inserts the items one after the other, up to the first whose key is there, from before or from the iterator (ours).
+    /// That one is answered as the new item beside the one that is there, which is lent; a duplicate needs no memory, and
+    /// comes before a full map. Room in the store is made before an item is asked for, as `extend` makes it; where that is
+    /// refused, the error has no item and the items are as they were. Else the first item that is refused comes back. In
+    /// each error the items before it stay, and the rest of the iterator is dropped. It makes as many comparisons as that
+    /// many calls of `insert_unique`.
+    pub fn extend_unique<U: IntoIterator<Item = T>>(
+        &mut self,
+        iter: U,
+    ) -> Result<&mut (), ExtendUniqueError<'_, T>>
+    where
+        T: Drop,
+        requires keyed { Ascends T.key T.Key.cmp self.old.items }
+        requires ends { IsFiniteIterable U.into_iter_gives U.IntoIter.can_next U.IntoIter.remaining iter }
+        ensures* after { sem 𝓛 (ends_ord_extended T.row T.key T.Key.eq T.Key.cmp (GivesAll U.into_iter_gives U.IntoIter.next_gives iter) (GivesThen U.into_iter_gives U.IntoIter.next_gives iter) self.entry result) }
+        ensures conflict { IfErr result (ShowsFirstConflict T.key T.Key.eq (GivesThen U.into_iter_gives U.IntoIter.next_gives iter) self.old.items) }
+    {
+        match self.add_each(iter) {
+            Ok(()) => Ok(&mut self.done),
+            Err(Halt::Akin(item, slot)) => {
+                let there = Few::One(self.item_in(slot));
+                Err(ExtendUniqueError::Duplicate(DuplicateItem::internal_new(item, there)))
+            }
+            Err(Halt::NoRoom(refused)) => Err(ExtendUniqueError::Refused(refused)),
+        }
+    }
+
+    // The same, but that it answers the slot of the item that is there in place of lending it: a loan cannot leave a loop.
+    fn add_each<U: IntoIterator<Item = T>>(&mut self, iter: U) -> Result<(), Halt<T>>
+    where
+        T: Drop,
+        requires keyed { Ascends T.key T.Key.cmp self.old.items }
+        requires ends { IsFiniteIterable U.into_iter_gives U.IntoIter.can_next U.IntoIter.remaining iter }
+        ensures added { OnOk result ((xs : List T) × GivesAll U.into_iter_gives U.IntoIter.next_gives iter xs × AddsAll T.key T.Key.eq xs self.old.items self.new.items) }
+        ensures halted { IfErr result (HaltsAdding T.key T.Key.eq (GivesThen U.into_iter_gives U.IntoIter.next_gives iter) self.old self.new) }
+        ensures fills { OrdFills T.key T.Key.cmp self.old self.new }
+    {
+        let items = iter.into_iter();
+        let room = likely_new(self.len(), items.size_hint().0);
+        if let Err(error) = self.reserve(room) {
+            return Err(Halt::NoRoom(ExtendError { item: None, error }));
+        }
+        for item in items {
+            self.add(item)?;
+        }
+        Ok(())
+    }
+
+    // Inserts the item where none of an equal key is there, and else answers that one's slot.
+    fn add(&mut self, item: T) -> Result<(), Halt<T>>
+        requires keyed { Ascends T.key T.Key.cmp self.old.items }
+        ensures inserted { OnOk result (OrdInserts T.key T.Key.cmp item self.old self.new) }
+        ensures absent { OnOk result (IsAbsent T.key (T.Key.eq (T.key item)) self.old.items) }
+        ensures halted { IfErr result (HaltsAt T.key T.Key.eq item self.old) }
+        ensures kept { OnErr result (OrdKeeps T.key T.Key.cmp self.old self.new) }
+    {
+        match self.index.find(&self.store, item.key(), &mut Steps::new()) {
+            Ok(place) => {
+                let slot = self.slot_at(place);
+                Err(Halt::Akin(item, slot))
+            }
+            Err(place) => match self.insert_at(place, item) {
+                Ok(_) => Ok(()),
+                Err(refused) => Err(Halt::NoRoom(ExtendError {
+                    item: Some(refused.item),
+                    error: refused.error,
+                })),
+            },
+        }
+    }
+}
