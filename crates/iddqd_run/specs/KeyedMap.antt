@@ -5,13 +5,13 @@
 --     IsKeyed      its items lie as its lookups expect them
 --     StopsExtension      why not all of many items were put in, and what is in then
 use Rattle.std.specs.Prelude.{◌≡◌, ℕ, Bool, List, length, Some, None, IfErr, IfNone, IfSome, Result}
-use Rattle.std.specs.Borrow.{Fml, RattleType, MutBor, LendsSoOk, RestsIfErr, unit}
+use Rattle.std.specs.Borrow.{Fml, RattleType, MutBor, LendsSoOk, unit}
 use Rattle.iddqd.specs.Contents.{OverwritesItem, SameInAnyOrder, find_item}
 use Rattle.iddqd.specs.Errors.{duplicates_of, new_item_of}
 use Rattle.iddqd.specs.Refusal.{FindsNoRoom, InsertionError, IsLent, OnDuplicate}
 use Rattle.iddqd.specs.declared.errors.ExtendUniqueError.{ExtendUniqueError}
 use Rattle.iddqd.specs.declared.errors.ExtendUniqueError.TheVariants.{Duplicate, Refused}
-use Rattle.iddqd_run.specs.Step.{MapState, SpareRule, FindsFull, FitsLikely, KeepsRoom, LeavesRoom, MeetsAkin, RefusesRoom, likely_new}
+use Rattle.iddqd_run.specs.Step.{MapState, SpareRule, FindsFull, FitsLikely, KeepsRoom, LeavesRoom, MeetsAkin, RefusesRoom, TakesAll, likely_new}
 use Rattle.iddqd_run.specs.declared.keyed_map.extend.NotTaken.{NotTaken}
 use Rattle.iddqd_run.specs.declared.keyed_map.extend.NotTaken.TheVariants as not_taken
 
@@ -62,8 +62,9 @@ module _ {T K : Type 0} (key : T → K) (eq : K → K → Bool) (limit : ℕ) wh
   RefusesAmong xs old new (not_taken.Akin x) = (y : T) × (after : ℕ) × MeetsAkin key eq limit xs x y after old.items new × (find_item key (eq (key x)) new ≡ Some y)
   RefusesAmong xs old new (not_taken.Refused r) = (after : ℕ) × FindsFull key eq limit xs r.item r.error after old new
 
--- what the map is once what an extension shows is let go: the map that it answers; at `Err` it can be searched, under the same limit, and tells why not all is in
-abbrev pub ends_extended : (M : RattleType) {T K : Type 0} (state : M.Denot → MapState T) (limit_of : M.Denot → ℕ) (rule : SpareRule) (IsKeyed : M.Denot → Type 0) (key : T → K) (eq : K → K → Bool) → MutBor M.Denot → Result (MutBor M.Denot) (ExtendUniqueError T) → List T → Fml
+-- what the map is once what an extension shows is let go: at `Ok` all items are in; at `Err` the error tells why not all are, and which
+abbrev pub ends_extended : (M : RattleType) {T K : Type 0} (state : M.Denot → MapState T) (limit_of : M.Denot → ℕ) (rule : SpareRule) (IsKeyed : M.Denot → Type 0) (key : T → K) (eq : K → K → Bool) → MutBor M.Denot → Result (MutBor unit.Denot) (ExtendUniqueError T) → List T → Fml
 ends_extended M state limit_of rule IsKeyed key eq map result xs =
-    RestsIfErr M map (λ m. m.ghost_name) result
+    LendsSoOk M unit map result
+    (λ new _. StaysKeyed state limit_of rule IsKeyed map.now new × FitsLikely key eq (limit_of map.now) xs (state map.now).items × TakesAll key eq (limit_of map.now) xs (state map.now).items (state new).items)
     (λ new. StaysKeyed state limit_of rule IsKeyed map.now new × IfErr result (StopsExtension key eq (limit_of map.now) xs (state map.now) (state new).items))

@@ -6,7 +6,9 @@ ghost use Rattle.iddqd_run.specs.Step.{FitsLikely, FitsRoom, TakesAll};
 ghost use Rattle.iddqd_run.specs.Step as step;
 
 use super::KeyedMap;
-use iddqd::errors::{ExtendError, ExtendUniqueError, InsertError, Refused};
+use iddqd::errors::{
+    DuplicateItem, ExtendError, ExtendUniqueError, Few, InsertError, Refused,
+};
 
 // An item that was not put in.
 #[derive(Drop)]
@@ -21,24 +23,22 @@ pub(crate) enum NotTaken<T> {
 pub(super) fn extend_unique<M: KeyedMap>(
     map: &mut M,
     items: Vec<M::Item>,
-) -> Result<&mut M, ExtendUniqueError<'_, M::Item>>
+) -> Result<&mut (), ExtendUniqueError<'_, M::Item>>
 where
     M::Item: Drop,
     requires keyed { M.keyed map.old }
     ensures* after { sem 𝓛 (ends_extended M.row M.state M.limit M.rule M.keyed M.key M.Key.eq map.entry result items.items) }
-    ensures taken { IfOk result (λ m. FitsLikely M.key M.Key.eq (M.limit map.old) items.items (M.state map.old).items × TakesAll M.key M.Key.eq (M.limit map.old) items.items (M.state map.old).items (M.state m.now).items) }
-    ensures stays { IfOk result (λ m. StaysKeyed M.state M.limit M.rule M.keyed map.old m.now) }
 {
     let room = likely_new(map.len(), items.len());
     if let Err(error) = map.reserve(room) {
         return Err(ExtendUniqueError::Refused(ExtendError { item: None, error }));
     }
     match insert_each(map, items) {
-        Ok(()) => Ok(map),
-        Err(NotTaken::Akin(item)) => match map.insert_unique(item) {
-            Err(InsertError::Duplicate(duplicate)) => Err(ExtendUniqueError::Duplicate(duplicate)),
-            Ok(()) | Err(InsertError::Refused(_)) => unreachable!(),
-        },
+        Ok(()) => Ok(map.lend_nothing()),
+        Err(NotTaken::Akin(item)) => {
+            let there = Few::One(map.akin(&item).unwrap());
+            Err(ExtendUniqueError::Duplicate(DuplicateItem::internal_new(item, there)))
+        }
         Err(NotTaken::Refused(refused)) => Err(ExtendUniqueError::Refused(ExtendError {
             item: Some(refused.item),
             error: refused.error,
