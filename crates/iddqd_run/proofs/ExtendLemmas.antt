@@ -5,9 +5,10 @@
 --     takes_none, takes_last, stops_here      none, one more, and the one that is not
 --     spare_first      before one finds no room, at least as many were put in as were spare
 --     Ends, extended_same      what an unrefused extension answers and leaves is told by the items alone, and by no order of theirs
-use Rattle.std.proofs.Common.{◌≡◌, ◌≢◌, ℕ, zero, suc, ◌+◌, ◌<◌, ◌≤◌, ◌⊎◌, Bool, false, cond, List, [], ◌∷◌, ◌++◌, length, take, map, Option, Some, None, refl, sym, ap, ap₂, ◌∙◌, subst, arith, inl, inr, ⊎_elim}
-use Rattle.std.specs.Prelude.{slice_get, IfSome}
+use Rattle.std.proofs.Common.{◌≡◌, ℕ, zero, suc, ◌+◌, ◌-◌, ◌<◌, ◌≤◌, ◌⊎◌, Bool, false, cond, List, [], ◌∷◌, ◌++◌, length, take, map, Option, Some, None, refl, sym, ap, ap₂, ◌∙◌, subst, arith, inl, inr, ⊎_elim}
+use Rattle.std.specs.Prelude.{slice_get, IfNone, IfSome}
 use Rattle.std.specs.Cmp.{IsEquivalence}
+use Rattle.std.specs.Global.{Vec}
 use Rattle.std.specs.List.{AllByRecursion, IsDistinct}
 use Rattle.std.proofs.Math.Nat.{le_of_suc-le-suc, lt_of_not-le}
 use Rattle.std.proofs.Math.Seq.{take-append_seam, take-length}
@@ -17,12 +18,14 @@ use Rattle.std.proofs.lemmas.List.Sorted.{IsPermutation-append_left, IsPermutati
 use Rattle.std.proofs.lemmas.Option.{slice_get_within}
 use Rattle.iddqd.specs.Collecting.{AddsAll}
 use Rattle.iddqd.specs.Contents.{NoTwoAkin, OverwritesItem, SameInAnyOrder, find_item}
-use Rattle.iddqd.proofs.AddingLemmas.{adds_last, adds_none, added_differ, conflicts_first}
+use Rattle.iddqd.proofs.AddingLemmas.{adds_last, adds_none, conflicts_first}
 use Rattle.iddqd.proofs.OrderLemmas.{differ_moved, find_moved}
-use Rattle.iddqd.specs.Refusal.{FindsNoRoom}
-use Rattle.iddqd_run.specs.KeyedMap.{RefusesAmong, RefusesOne, StaysKeyed}
+use Rattle.iddqd.specs.Errors.{duplicates_of, new_item_of}
+use Rattle.iddqd.specs.Refusal.{FindsNoRoom, IsLent}
+use Rattle.iddqd.specs.declared.errors.ExtendUniqueError.TheVariants as unique_error
+use Rattle.iddqd_run.specs.KeyedMap.{RefusesAmong, RefusesOne, StaysKeyed, StopsExtension}
 use Rattle.iddqd_run.specs.SameReplies.{HoldSameItems, IsUnrefused}
-use Rattle.iddqd_run.specs.Step.{Answers, FindsFull, KeepsRoom, MapState, MeetsAkin, SpareRule, StopsAt, TakesAll, WithSpare, WithoutSpare}
+use Rattle.iddqd_run.specs.Step.{Answers, FindsFull, FitsLikely, KeepsRoom, MapState, MeetsAkin, RefusesRoom, SpareRule, StopsAt, TakesAll, WithSpare, WithoutSpare, likely_new}
 use Rattle.iddqd_run.specs.declared.commands.Command.TheVariants.{ExtendUnique}
 use Rattle.iddqd_run.specs.declared.keyed_map.extend.NotTaken.{NotTaken}
 use Rattle.iddqd_run.specs.declared.keyed_map.extend.NotTaken.TheVariants.{Akin, Refused}
@@ -115,8 +118,7 @@ module _ {T K : Type 0} (key : T → K) {eq : K → K → Bool} (equivalence : I
         let meets = meets_here front rest xs old.items new x y is (subst (TakesAll key eq limit front old.items) (sym same) takes) there in
         (y, length front, subst (λ z. MeetsAkin key eq limit xs z y (length front) old.items new) (sym itself) meets, subst (λ z. find_item key (eq (key z)) new ≡ Some y) (sym itself) there)
     refuses_among rule front rest xs x is old middle new same takes room (Refused r) (itself, finds, none) =
-        let stops = stops_here front rest xs old.items new x is (subst (TakesAll key eq limit front old.items) (sym same) takes) in
-        (
+        let stops = stops_here front rest xs old.items new x is (subst (TakesAll key eq limit front old.items) (sym same) takes) in (
           length front,
           subst (λ z. FindsFull key eq limit xs z r.error (length front) old new) (sym itself) (record {
             stops = stops;
@@ -124,6 +126,36 @@ module _ {T K : Type 0} (key : T → K) {eq : K → K → Bool} (equivalence : I
             spare_first = spare_first rule front old middle takes room none;
           }),
         )
+
+    -- what `run` answers of an extension that stops: how many were put in is told by how many there are
+    module _ (xs : List T) (old : MapState T) (new : List T) (before now : ℕ) (b : before ≡ length old.items) (n : now ≡ length new) where
+      counted : (x : T) (after : ℕ) → StopsAt key eq limit xs x after old.items new → (before ≤ now) × (now - before ≡ after)
+      counted x after stops =
+          let long = as_many_before xs old.items new x after stops.next stops.taken.added in
+          (omega (arith, b, n, long), omega (arith, b, n, long))
+
+      pub conflict_more : (d : _) → StopsExtension key eq limit xs old new (unique_error.Duplicate d) → before ≤ now
+      conflict_more d told = (counted (new_item_of d) told.3 told.4.stops).0
+
+      pub conflict_answered : (d : _) → StopsExtension key eq limit xs old new (unique_error.Duplicate d) → (x : T) → x ≡ new_item_of d → (existing : Option T) → ((y : T) → IsLent (duplicates_of d) y → IfSome existing (λ e. e ≡ y))
+          → (y : T) × FitsLikely key eq limit xs old.items × MeetsAkin key eq limit xs x y (now - before) old.items new × IfSome existing (λ e. e ≡ y)
+      conflict_answered d (y, lent, fits, after, meets) x is existing clone =
+          let told = subst (λ m. MeetsAkin key eq limit xs (new_item_of d) y m old.items new) (sym (counted (new_item_of d) after meets.stops).1) meets in
+          (y, fits, subst (λ z. MeetsAkin key eq limit xs z y (now - before) old.items new) (sym is) told, clone y lent)
+
+      pub refused_more : (e : _) → StopsExtension key eq limit xs old new (unique_error.Refused e) → before ≤ now
+      refused_more e told = by e.item told.0 told.1
+        where
+          by : (item : Option T) → IfSome item (λ x. FitsLikely key eq limit xs old.items × (after : ℕ) × FindsFull key eq limit xs x e.error after old new) → IfNone item (RefusesRoom limit (likely_new (length old.items) (length xs)) old e.error × (new ≡ old.items)) → before ≤ now
+          by (Some x) some none = (counted x some.1 some.2.stops).0
+          by None some none = omega (arith, b, n, ap length none.1)
+
+      pub refused_answered : {V : Type 0} (visits : V → T → V × T × Bool) (items : Vec T) → items.items ≡ xs → (item : Option T) (kind : _) → IfSome item (λ x. FitsLikely key eq limit xs old.items × (after : ℕ) × FindsFull key eq limit xs x kind after old new) → IfNone item (RefusesRoom limit (likely_new (length old.items) (length xs)) old kind × (new ≡ old.items)) → Answers key eq visits limit (ExtendUnique items) old (Stopped item kind (now - before)) new
+      refused_answered visits items is (Some x) kind some none =
+          let told = subst (λ m. FindsFull key eq limit xs x kind m old new) (sym (counted x some.1 some.2.stops).1) some.2 in
+          (subst (λ zs. FitsLikely key eq limit zs old.items) (sym is) some.0, subst (λ zs. FindsFull key eq limit zs x kind (now - before) old new) (sym is) told)
+      refused_answered visits items is None kind some none =
+          (subst (λ zs. RefusesRoom limit (likely_new (length old.items) (length zs)) old kind) (sym is) none.0, omega (arith, b, n, ap length none.1), none.1)
 
   -- one item is akin to one that is there where the items of another map, of the same items, are put in past it
   clash : (xs one other : List T) (n m : ℕ) (x y : T) → SameInAnyOrder one other → slice_get xs n ≡ Some x → n < m → NoTwoAkin key eq (other ++ take m xs) → NoTwoAkin key eq (one ++ take n xs) → find_item key (eq (key x)) (one ++ take n xs) ≡ Some y → ⊥

@@ -214,10 +214,7 @@ where
 }
 
 // `ExtendUnique`.
-fn extend_unique<M: KeyedMap, V: Visit<M::Item>>(
-    map: &mut M,
-    items: Vec<M::Item>,
-) -> Reply<M::Item>
+fn extend_unique<M: KeyedMap, V: Visit<M::Item>>(map: &mut M, items: Vec<M::Item>) -> Reply<M::Item>
 where
     M::Item: Clone,
     requires keyed { M.keyed map.old }

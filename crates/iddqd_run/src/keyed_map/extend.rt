@@ -6,9 +6,7 @@ ghost use Rattle.iddqd_run.specs.Step.{FitsLikely, FitsRoom, TakesAll};
 ghost use Rattle.iddqd_run.specs.Step as step;
 
 use super::KeyedMap;
-use iddqd::errors::{
-    DuplicateItem, ExtendError, ExtendUniqueError, Few, InsertError, Refused,
-};
+use iddqd::errors::{DuplicateItem, ExtendError, ExtendUniqueError, Few, InsertError, Refused};
 
 // An item that was not put in.
 #[derive(Drop)]
