@@ -12,6 +12,7 @@ pub mod PairedLemmas
 pub mod RisingLemmas
 pub mod SlotItemLemmas
 pub mod WalkedLemmas
+pub use Rattle.iddqd_core.proofs.AddingLemmas
 pub use Rattle.iddqd_core.proofs.DistinctLemmas
 pub use Rattle.iddqd_core.proofs.KeepsLemmas
 pub use Rattle.iddqd_core.proofs.MappedLemmas

@@ -8,7 +8,7 @@
 --     HaveEqualItems      what `eq` of two maps says
 --     CloneHashesAlike      a hasher's clone hashes as it does
 use Rattle.std.specs.Prelude.{◌≡◌, ℕ, ◌+◌, ◌≤◌, [], List, length, Bool, true, All, IfErr, IsSomeAnd, Result}
-use Rattle.std.specs.Borrow.{Fml, RattleType, MutBor, LendsSoOk, unit}
+use Rattle.std.specs.Borrow.{Fml, RattleType, MutBor, Lends, LendsSoOk, unit}
 use Rattle.std.specs.Hash.{HashWrites}
 use Rattle.iddqd_core.specs.Adding.{OnItemRefused, StopsAdding}
 use Rattle.iddqd_core.specs.Collecting.{AddsAll}
@@ -69,6 +69,10 @@ ends_hash_inserted S T IsKeyed map result x =
     LendsSoOk (the_row T S) unit map result
     (λ new _. HashInserts IsKeyed x map.now new)
     (λ new. HashKeeps IsKeyed map.now new × IfErr result (OnDuplicate (new ≡ map.now)))
+
+-- nothing of the map is lent
+abbrev pub lends_nothing : (S T : RattleType) → MutBor (HashItems S.Denot T.Denot) → MutBor unit.Denot → Fml
+lends_nothing S T map result = Lends (the_row T S) unit map result (λ _. map.now)
 
 -- what the map is once what `extend_unique` shows is let go: at `Ok` all items are in, and at `Err` those before the one that was not put in; as many new keys
 -- as were spare are taken before one finds no room

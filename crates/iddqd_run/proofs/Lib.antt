@@ -1,6 +1,7 @@
 mod AscendLemmas
 pub mod Cuts
 mod EndLemmas
+pub mod ExtendLemmas
 pub mod NameLemmas
 pub mod NameOrderLemmas
 pub mod ReplyLemmas

@@ -1,22 +1,24 @@
 -- The law of same replies: what an unrefused command answers and leaves is told by the items alone, and by no order of theirs.
 --     sought, plain_reply, plain_items      the item that a command looks for, and with it the reply and the items then
 --     step_plain      an unrefused step has this reply, and these items in some order
---     step_same, run_same      one step, and a run, from the same items
+--     step_same, step_alike, run_same      one step, and a run, from the same items
 use Rattle.std.proofs.Common.{true, ◌≡◌, ℕ, Bool, cond, not, List, [], ◌∷◌, length, Option, Some, None, IsPermutation, refl, sym, ap, ap₂, ◌∙◌, subst}
 use Rattle.std.proofs.lemmas.List.Elements.{All-head, All-tail}
 use Rattle.std.proofs.lemmas.List.Sorted.{IsPermutation-refl, IsPermutation-sym, IsPermutation-trans, IsPermutation-cons, IsPermutation-insert, IsPermutation-map, length_permutation}
 use Rattle.std.specs.Cmp.{IsEquivalence}
+use Rattle.std.specs.Prelude.{⊤}
 use Rattle.std.specs.List.{All, IsDistinct}
 use Rattle.iddqd.specs.Contents.{AddsItem, NoTwoAkin, find_item, without, replaced}
 use Rattle.iddqd.specs.Visiting.{VisitsKeepKeys}
 use Rattle.iddqd_run.specs.SameReplies.{IsOrderless, IsUnrefused, HoldSameItems, RunUnrefused, SameReplies}
 use Rattle.iddqd_run.specs.Step.{MapState, SpareRule, Answers}
 use Rattle.iddqd_run.specs.declared.commands.Command.{Command}
-use Rattle.iddqd_run.specs.declared.commands.Command.TheVariants.{InsertUnique, InsertOverwrite, Get, Remove, Visit, RetainMut, Clear, Reserve, Shrink, Len}
+use Rattle.iddqd_run.specs.declared.commands.Command.TheVariants.{InsertUnique, InsertOverwrite, Get, Remove, Visit, RetainMut, Clear, Reserve, Shrink, Len, ExtendUnique}
 use Rattle.iddqd_run.specs.declared.commands.Reply.{Reply}
 use Rattle.iddqd_run.specs.declared.commands.Reply.TheVariants.{Inserted, Duplicate, Replaced, Found, Removed, Absent, Visited, Done, Length, Refused}
 use Rattle.iddqd.proofs.KeepsLemmas.{differ_filter, differ_insert}
 use Rattle.iddqd.proofs.OrderLemmas.{Tells, differ_moved, find_moved, find_tells}
+use Rattle.iddqd_run.proofs.ExtendLemmas.{extended_ends, extended_same}
 use Rattle.iddqd_run.proofs.SameItemsLemmas.{filter_permutation, differ_replaced}
 
 module _ {T K V : Type 0} (key : T → K) (eq : K → K → Bool) (visits : V → T → V × T × Bool) where
@@ -31,6 +33,7 @@ module _ {T K V : Type 0} (key : T → K) (eq : K → K → Bool) (visits : V �
   sought (Reserve n) items = None
   sought Shrink items = None
   sought Len items = None
+  sought (ExtendUnique xs) items = None
 
   abbrev plain_reply : Command T K V → Option T → ℕ → Reply T
   plain_reply (InsertUnique x) None count = Inserted
@@ -48,6 +51,7 @@ module _ {T K V : Type 0} (key : T → K) (eq : K → K → Bool) (visits : V �
   plain_reply (Reserve n) found count = Done
   plain_reply Shrink found count = Done
   plain_reply Len found count = Length count
+  plain_reply (ExtendUnique xs) found count = Done
 
   abbrev plain_items : Command T K V → Option T → List T → List T
   plain_items (InsertUnique x) None items = x ∷ items
@@ -64,6 +68,12 @@ module _ {T K V : Type 0} (key : T → K) (eq : K → K → Bool) (visits : V �
   plain_items (Reserve n) found items = items
   plain_items Shrink found items = items
   plain_items Len found items = items
+  plain_items (ExtendUnique xs) found items = items
+
+  -- at most one item plays a part in the reply
+  abbrev IsSingle : Command T K V → Type 0
+  IsSingle (ExtendUnique xs) = ⊥
+  IsSingle _ = ⊤
 
   record IsPlain (command : Command T K V) (old : List T) (reply : Reply T) (new : List T) : Type 0 where
     replied : reply ≡ plain_reply command (sought command old) (length old)
@@ -130,17 +140,18 @@ module _ {T K V : Type 0} (key : T → K) (eq : K → K → Bool) (visits : V �
     len_plain (Length n) a = record { replied = ap Length a.0; held = now old.items new a.1 }
     len_plain reply a = absurd a
 
-    step_plain : (command : Command T K V) (reply : Reply T) → IsOrderless command → Answers key eq visits limit command old reply new → IsUnrefused reply → IsPlain command old.items reply new
-    step_plain (InsertUnique x) reply o a u = unique_plain x reply a u
-    step_plain (InsertOverwrite x) reply o a u = overwrite_plain x reply a u
-    step_plain (Get k) reply o a u = get_plain k reply a u
-    step_plain (Remove k) reply o a u = remove_plain k reply a
-    step_plain (Visit k v) reply o a u = visit_plain k v reply a
-    step_plain (RetainMut v) reply o a u = absurd o
-    step_plain Clear reply o a u = clear_plain reply a
-    step_plain (Reserve n) reply o a u = reserve_plain n reply a u
-    step_plain Shrink reply o a u = shrink_plain reply a u
-    step_plain Len reply o a u = len_plain reply a
+    step_plain : (command : Command T K V) (reply : Reply T) → IsSingle command → IsOrderless command → Answers key eq visits limit command old reply new → IsUnrefused reply → IsPlain command old.items reply new
+    step_plain (InsertUnique x) reply i o a u = unique_plain x reply a u
+    step_plain (InsertOverwrite x) reply i o a u = overwrite_plain x reply a u
+    step_plain (Get k) reply i o a u = get_plain k reply a u
+    step_plain (Remove k) reply i o a u = remove_plain k reply a
+    step_plain (Visit k v) reply i o a u = visit_plain k v reply a
+    step_plain (RetainMut v) reply i o a u = absurd o
+    step_plain Clear reply i o a u = clear_plain reply a
+    step_plain (Reserve n) reply i o a u = reserve_plain n reply a u
+    step_plain Shrink reply i o a u = shrink_plain reply a u
+    step_plain Len reply i o a u = len_plain reply a
+    step_plain (ExtendUnique xs) reply i o a u = absurd i
 
 module _ {T K V : Type 0} (key : T → K) (eq : K → K → Bool) (visits : V → T → V × T × Bool) (equivalence : IsEquivalence eq) (keeps : VisitsKeepKeys key eq visits) where
   sought_same : (command : Command T K V) (xs ys : List T) → HoldSameItems key eq xs ys → sought key eq visits command xs ≡ sought key eq visits command ys
@@ -154,6 +165,7 @@ module _ {T K V : Type 0} (key : T → K) (eq : K → K → Bool) (visits : V �
   sought_same (Reserve n) xs ys h = refl
   sought_same Shrink xs ys h = refl
   sought_same Len xs ys h = refl
+  sought_same (ExtendUnique zs) xs ys h = refl
 
   -- the query is equivalent to the keys that the visited item's own is equal to
   own_test : (k : K) (v : V) (x : T) (xs : List T) → find_item key (eq k) xs ≡ Some x → eq k ≡ eq (key (visits v x).1)
@@ -180,6 +192,7 @@ module _ {T K V : Type 0} (key : T → K) (eq : K → K → Bool) (visits : V �
   items_same Shrink found xs ys e h = h
   items_same Clear found xs ys e h = record { same = IsPermutation-refl []; differ = tt }
   items_same Len found xs ys e h = h
+  items_same (ExtendUnique zs) found xs ys e h = h
 
   step_same : (command : Command T K V) (xs ys : List T) (reply1 reply2 : Reply T) (new1 new2 : List T) → HoldSameItems key eq xs ys → IsPlain key eq visits command xs reply1 new1 → IsPlain key eq visits command ys reply2 new2 → (reply1 ≡ reply2) × HoldSameItems key eq new1 new2
   step_same command xs ys reply1 reply2 new1 new2 h p q =
@@ -194,6 +207,24 @@ module _ {T K V : Type 0} (key : T → K) (eq : K → K → Bool) (visits : V �
         },
       )
 
+  module _ (limit1 limit2 : ℕ) (old1 old2 : MapState T) (new1 new2 : List T) (h : HoldSameItems key eq old1.items old2.items) (r s : Reply T) where
+    alike_plain : (command : Command T K V) → IsSingle key eq visits command → IsOrderless command → Answers key eq visits limit1 command old1 r new1 → IsUnrefused r → Answers key eq visits limit2 command old2 s new2 → IsUnrefused s → (r ≡ s) × HoldSameItems key eq new1 new2
+    alike_plain command i o a u b v = step_same command old1.items old2.items r s new1 new2 h (step_plain key eq visits limit1 old1 new1 command r i o a u) (step_plain key eq visits limit2 old2 new2 command s i o b v)
+
+    step_alike : (command : Command T K V) → IsOrderless command → Answers key eq visits limit1 command old1 r new1 → IsUnrefused r → Answers key eq visits limit2 command old2 s new2 → IsUnrefused s → (r ≡ s) × HoldSameItems key eq new1 new2
+    step_alike (InsertUnique x) o a u b v = alike_plain (InsertUnique x) tt o a u b v
+    step_alike (InsertOverwrite x) o a u b v = alike_plain (InsertOverwrite x) tt o a u b v
+    step_alike (Get k) o a u b v = alike_plain (Get k) tt o a u b v
+    step_alike (Remove k) o a u b v = alike_plain (Remove k) tt o a u b v
+    step_alike (Visit k w) o a u b v = alike_plain (Visit k w) tt o a u b v
+    step_alike (RetainMut w) o a u b v = absurd o
+    step_alike Clear o a u b v = alike_plain Clear tt o a u b v
+    step_alike (Reserve n) o a u b v = alike_plain (Reserve n) tt o a u b v
+    step_alike Shrink o a u b v = alike_plain Shrink tt o a u b v
+    step_alike Len o a u b v = alike_plain Len tt o a u b v
+    step_alike (ExtendUnique xs) o a u b v =
+        extended_same key equivalence xs.items old1.items old2.items r s new1 new2 h (extended_ends key equivalence visits limit1 xs old1 new1 r a u) (extended_ends key equivalence visits limit2 xs old2 new2 s b v)
+
   module _ (limit1 limit2 : ℕ) (rule1 rule2 : SpareRule) where
     run_same : (commands : List (Command T K V)) (replies1 replies2 : List (Reply T)) (old1 old2 new1 new2 : MapState T) → All IsOrderless commands → HoldSameItems key eq old1.items old2.items → RunUnrefused key eq visits limit1 rule1 old1 commands replies1 new1 → RunUnrefused key eq visits limit2 rule2 old2 commands replies2 new2 → (replies1 ≡ replies2) × HoldSameItems key eq new1.items new2.items
     run_same [] [] [] old1 old2 new1 new2 o h a b = (refl, subst (λ s. HoldSameItems key eq s.items new2.items) (sym a.0) (subst (λ s. HoldSameItems key eq old1.items s.items) (sym b.0) h))
@@ -202,9 +233,7 @@ module _ {T K V : Type 0} (key : T → K) (eq : K → K → Bool) (visits : V �
     run_same (c ∷ cs) [] replies2 old1 old2 new1 new2 o h a b = absurd a.0
     run_same (c ∷ cs) (r ∷ rs) [] old1 old2 new1 new2 o h a b = absurd b.0
     run_same (c ∷ cs) (r ∷ rs) (s ∷ ss) old1 old2 new1 new2 o h ((middle1, one1, rest1), u1) ((middle2, one2, rest2), u2) =
-        let p = step_plain key eq visits limit1 old1 middle1.items c r (All-head IsOrderless c cs o) one1.answers (All-head IsUnrefused r rs u1) in
-        let q = step_plain key eq visits limit2 old2 middle2.items c s (All-head IsOrderless c cs o) one2.answers (All-head IsUnrefused s ss u2) in
-        let first = step_same c old1.items old2.items r s middle1.items middle2.items h p q in
+        let first = step_alike limit1 limit2 old1 old2 middle1.items middle2.items h r s c (All-head IsOrderless c cs o) one1.answers (All-head IsUnrefused r rs u1) one2.answers (All-head IsUnrefused s ss u2) in
         let rest = run_same cs rs ss middle1 middle2 new1 new2 (All-tail IsOrderless c cs o) first.1 (rest1, All-tail IsUnrefused r rs u1) (rest2, All-tail IsUnrefused s ss u2) in
         (ap₂ (λ t ts. t ∷ ts) first.0 rest.0, rest.1)
 

@@ -9,12 +9,14 @@ use Rattle.iddqd_run.specs.Step.{MapState, SpareRule, Run}
 use Rattle.iddqd_run.specs.declared.commands.Command.{Command}
 use Rattle.iddqd_run.specs.declared.commands.Command.TheVariants.{RetainMut}
 use Rattle.iddqd_run.specs.declared.commands.Reply.{Reply}
-use Rattle.iddqd_run.specs.declared.commands.Reply.TheVariants.{Duplicate, Refused}
+use Rattle.iddqd_run.specs.declared.commands.Reply.TheVariants.{Duplicate, Refused, Conflict, Stopped}
 
 -- neither room for an item nor memory for a clone was refused
 abbrev pub IsUnrefused : {T : Type 0} → Reply T → Type 0
 IsUnrefused (Refused back kind) = ⊥
 IsUnrefused (Duplicate back existing) = IsSome existing
+IsUnrefused (Stopped back kind after) = ⊥
+IsUnrefused (Conflict back existing after) = IsSome existing
 IsUnrefused _ = ⊤
 
 -- the order in which the items lie plays no part: a visitor that goes over them all may answer by it

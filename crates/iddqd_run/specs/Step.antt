@@ -4,16 +4,20 @@
 --     room_left, LeavesRoom      how much room a command leaves at least to a map that keeps a spare
 --     MakesRoom, RefusesRoom      room is made, or refused
 --     VisitsItem, RetainsVisited      an item is visited; all are, in some order, and some stay
+--     likely_new      for how many items room is made before they are put in
+--     TakesAll, StopsAt      items are put in one after the other; so many are, and the next one is not
+--     MeetsAkin, FindsFull      why it is not
 --     Answers      what a command is answered, and the items then
 --     Step, Run      one command and its reply; a list of commands and their replies
-use Rattle.std.specs.Prelude.{◌≡◌, ℕ, ◌+◌, ◌<◌, ◌≤◌, max, Bool, List, [], ◌∷◌, length, Option, Some, None, IfSome}
+use Rattle.std.specs.Prelude.{◌≡◌, ℕ, ◌+◌, ◌/◌, ◌<◌, ◌≤◌, ◌==◌, if◌then◌else◌, max, Bool, List, [], ◌∷◌, length, take, slice_get, Option, Some, None, IfSome}
+use Rattle.iddqd.specs.Collecting.{AddsAll, IsFirstConflict}
 use Rattle.iddqd.specs.Contents.{find_item, IsAbsent, replaced, SameInAnyOrder, without, OverwritesItem}
 use Rattle.iddqd.specs.Visiting.{kept_by, visitor_after}
 use Rattle.iddqd.specs.Refusal.{FindsNoRoom, RefusalKind, memory_refused, reservation_kind}
 use Rattle.iddqd_run.specs.declared.commands.Command.{Command}
-use Rattle.iddqd_run.specs.declared.commands.Command.TheVariants.{InsertUnique, InsertOverwrite, Get, Remove, Visit, RetainMut, Clear, Reserve, Shrink, Len}
+use Rattle.iddqd_run.specs.declared.commands.Command.TheVariants.{InsertUnique, InsertOverwrite, Get, Remove, Visit, RetainMut, Clear, Reserve, Shrink, Len, ExtendUnique}
 use Rattle.iddqd_run.specs.declared.commands.Reply.{Reply}
-use Rattle.iddqd_run.specs.declared.commands.Reply.TheVariants.{Inserted, Duplicate, Replaced, Found, Removed, Absent, Visited, Kept, Done, Length, Refused}
+use Rattle.iddqd_run.specs.declared.commands.Reply.TheVariants.{Inserted, Duplicate, Replaced, Found, Removed, Absent, Visited, Kept, Done, Length, Refused, Extended, Conflict, Stopped}
 
 pub record MapState (T : Type 0) : Type 0 where
   pub items : List T
@@ -66,10 +70,39 @@ pub record MakesRoom {T : Type 0} (rule : SpareRule) (limit n : ℕ) (old new : 
 abbrev pub RefusesRoom : {T : Type 0} → (limit n : ℕ) → MapState T → RefusalKind → Type 0
 RefusesRoom limit n old kind = (kind ≡ reservation_kind limit (length old.items + n)) × (old.spare < n)
 
+-- for how many items room is made where so many are there and so many are to come: for all of them in a map without items, and for half of them, rounded up, in another
+abbrev pub likely_new : (there coming : ℕ) → ℕ
+likely_new there coming = if there == 0 then coming else (coming + 1) / 2
+
 module _ {T K : Type 0} (key : T → K) (eq : K → K → Bool) (limit : ℕ) where
   -- x comes back for want of room; at a spare above 0 this never comes
   abbrev pub RefusesItem : T → MapState T → Option T → RefusalKind → Type 0
   RefusesItem x old back kind = (back ≡ Some x) × FindsNoRoom key eq limit old.items x kind × (old.spare ≡ 0)
+
+  -- the limit has room for as many of the items as are likely new
+  abbrev pub FitsLikely : (xs old : List T) → Type 0
+  FitsLikely xs old = length old + likely_new (length old) (length xs) ≤ limit
+
+  -- the items are put in beside the old ones, one after the other, and the limit has room for each (`extend_unique`, ours)
+  pub record TakesAll (xs old new : List T) : Type 0 where
+    pub added : AddsAll key eq xs old new
+    pub room : 0 < length xs → length new ≤ limit
+
+  -- so many of the items, the first ones, are put in, and x comes next
+  pub record StopsAt (xs : List T) (x : T) (after : ℕ) (old new : List T) : Type 0 where
+    pub next : slice_get xs after ≡ Some x
+    pub taken : TakesAll (take after xs) old new
+
+  -- x is the first of the items that is akin to one that is there by then, an old one or one that is put in before it
+  pub record MeetsAkin (xs : List T) (x there : T) (after : ℕ) (old new : List T) : Type 0 where
+    pub stops : StopsAt xs x after old new
+    pub first : IsFirstConflict key eq old (take after xs) x there
+
+  -- x is the first of the items that finds no room, and is akin to none that is there; before it at least as many are put in as were spare
+  pub record FindsFull (xs : List T) (x : T) (kind : RefusalKind) (after : ℕ) (old : MapState T) (new : List T) : Type 0 where
+    pub stops : StopsAt xs x after old.items new
+    pub refused : FindsNoRoom key eq limit new x kind
+    pub spare_first : old.spare ≤ after
 
 module _ {T K V : Type 0} (key : T → K) (visits : V → T → V × T × Bool) where
   -- the item whose key passes the test is visited, and stays as the visit made it, whatever the answer (`visit`, ours)
@@ -110,6 +143,11 @@ module _ {T K V : Type 0} (key : T → K) (eq : K → K → Bool) (visits : V �
   Answers Shrink old Done new = SameInAnyOrder old.items new
   Answers Shrink old (Refused back kind) new = (back ≡ None) × (kind ≡ memory_refused) × SameInAnyOrder old.items new
   Answers Len old (Length n) new = (n ≡ length old.items) × (new ≡ old.items)
+  -- all of the items are put in; or the first ones, up to one that is akin to one there, or that finds no room; or none, where room for as many as are likely new is refused
+  Answers (ExtendUnique xs) old (Extended n) new = (n ≡ length xs.items) × FitsLikely key eq limit xs.items old.items × TakesAll key eq limit xs.items old.items new
+  Answers (ExtendUnique xs) old (Conflict x existing after) new = (y : T) × FitsLikely key eq limit xs.items old.items × MeetsAkin key eq limit xs.items x y after old.items new × IfSome existing (λ e. e ≡ y)
+  Answers (ExtendUnique xs) old (Stopped (Some x) kind after) new = FitsLikely key eq limit xs.items old.items × FindsFull key eq limit xs.items x kind after old new
+  Answers (ExtendUnique xs) old (Stopped None kind after) new = RefusesRoom limit (likely_new (length old.items) (length xs.items)) old kind × (after ≡ 0) × (new ≡ old.items)
   Answers _ _ _ _ = ⊥
 
   -- one command: the reply and the items then, and the room that is left

@@ -24,6 +24,8 @@ pub enum Command<T, K, V> {
     Shrink,
     /// `len`.
     Len,
+    /// `extend_unique`.
+    ExtendUnique(Vec<T>),
 }
 
 /// What one command is answered (ours).
@@ -57,6 +59,22 @@ pub enum Reply<T> {
     Refused {
         item: Option<T>,
         error: TryReserveError,
+    },
+    /// All of the items are in, so many.
+    Extended(usize),
+    /// So many of the items are in, the first ones, and an item of the next one's key is there: a clone of that one,
+    /// `None` only where memory for the clone was refused.
+    Conflict {
+        new: T,
+        existing: Option<T>,
+        after: usize,
+    },
+    /// So many of the items are in, the first ones, and there was no room for the next one, which comes back; or none is
+    /// in, and room for as many as were likely new was refused.
+    Stopped {
+        item: Option<T>,
+        error: TryReserveError,
+        after: usize,
     },
 }
 

@@ -1,17 +1,18 @@
 //! What generic code asks of a map of either kind.
 ghost use Rattle.std.specs.Prelude.{◌≡◌, ℕ, [], length, Some, None, IfOk, IfErr, IfNone, IfSome, OnErr, OnOk, option_copied};
-ghost use Rattle.std.specs.Borrow.{sem};
+ghost use Rattle.std.specs.Borrow.{Lends, sem, unit};
 ghost use Rattle.iddqd.specs.Contents.{NoTwoAkin, OverwritesItem, find_item, without};
 ghost use Rattle.iddqd.specs.Refusal.{OnRefused, RefusesInsertion, memory_refused};
-ghost use Rattle.iddqd_run.specs.KeyedMap.{ShrinksMap, StaysKeyed, ends_inserted};
+ghost use Rattle.iddqd_run.specs.KeyedMap.{ShrinksMap, StaysKeyed, ends_extended, ends_inserted};
 ghost use Rattle.iddqd.specs.Visiting.{VisitsKeepKeys};
 ghost use Rattle.iddqd_run.specs.Step.{MapState, SpareRule, FitsRoom, MakesRoom, RefusesItem, RefusesRoom, RetainsVisited, VisitsItem};
 
+mod extend;
 mod hash;
 mod ord;
 
 use iddqd::Visit;
-use iddqd::errors::{InsertError, Refused, TryReserveError};
+use iddqd::errors::{ExtendUniqueError, InsertError, Refused, TryReserveError};
 
 /// A map whose keys live in its items, for callers that take any (ours). Contracts see its items and its spare, the most
 /// items that it ever holds, and whether it is keyed: each call leaves it keyed, under the same limit and, but for a shrink, with the room that
@@ -124,6 +125,33 @@ pub trait KeyedMap {
     fn len(&self) -> usize
         ensures len { result ≡ length (state self.now).items }
         ensures room { FitsRoom rule (limit self.now) (state self.now) };
+
+    /// The item of a key equal to that of this item, or `None`.
+    fn akin(&self, item: &Self::Item) -> Option<&Self::Item>
+        requires keyed { keyed self.now }
+        ensures found { option_copied result ≡ find_item key (Self.Key.eq (key item.now)) (state self.now).items };
+
+    /// Lends nothing: what a call answers that lends an item where it refuses.
+    fn lend_nothing(&mut self) -> &mut ()
+        ensures* lends { sem 𝓛 (Lends Self.row unit self.entry result (λ _. self.old)) };
+
+    /// Inserts the items one after the other, each where none of an equal key is there. Room is made
+    /// before: for as many as there are items where the map is empty, and else for half of them, rounded up; where that is
+    /// refused, the error has no item and the items are as they were. Else the first item of which one of an equal key is
+    /// there by then, from before or put in by this call, comes back beside that one, which is lent; or the first that
+    /// finds no room comes back, and as many were put in then as were spare. Those before it stay, and the others are
+    /// dropped. A duplicate needs no memory, and is searched for twice.
+    final fn extend_unique(
+        &mut self,
+        items: Vec<Self::Item>,
+    ) -> Result<&mut (), ExtendUniqueError<'_, Self::Item>>
+    where
+        Self::Item: Drop,
+        requires keyed { keyed self.old }
+        ensures* after { sem 𝓛 (ends_extended Self.row state limit rule keyed key Self.Key.eq self.entry result items.items) }
+    {
+        extend::extend_unique(self, items)
+    }
 
     // No two items of a keyed map are akin.
     ghost differ: { (m : Self) → keyed m → NoTwoAkin key Self.Key.eq (state m).items };

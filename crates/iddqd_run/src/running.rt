@@ -5,13 +5,13 @@ ghost use Rattle.iddqd.specs.Errors.{listed};
 ghost use Rattle.iddqd.specs.Refusal.{IsLent};
 ghost use Rattle.iddqd.specs.Visiting.{VisitsKeepKeys};
 ghost use Rattle.iddqd_run.specs.KeyedMap.{StaysKeyed};
-ghost use Rattle.iddqd_run.specs.declared.commands.Command.TheVariants.{InsertUnique, InsertOverwrite, Get, Visit, RetainMut, Reserve, Shrink};
+ghost use Rattle.iddqd_run.specs.declared.commands.Command.TheVariants.{InsertUnique, InsertOverwrite, Get, Visit, RetainMut, Reserve, Shrink, ExtendUnique};
 ghost use Rattle.iddqd_run.specs.Step.{Answers, FitsRoom, Step, Run};
 
 use crate::commands::{Command, Reply, RunStop};
 use crate::keyed_map::KeyedMap;
 use iddqd::Visit;
-use iddqd::errors::{Few, InsertError, TryReserveError};
+use iddqd::errors::{ExtendUniqueError, Few, InsertError, TryReserveError};
 use std::alloc::Global;
 
 /// Runs the commands in order on a map of either kind: one reply for each (ours). It takes one vector
@@ -79,6 +79,7 @@ where
         Command::Reserve(additional) => reserve::<M, V>(map, additional),
         Command::Shrink => shrink::<M, V>(map),
         Command::Len => Reply::Length(map.len()),
+        Command::ExtendUnique(items) => extend_unique::<M, V>(map, items),
     }
 }
 
@@ -208,6 +209,37 @@ where
         Err(_) => Reply::Refused {
             item: None,
             error: TryReserveError::alloc_error(),
+        },
+    }
+}
+
+// `ExtendUnique`.
+fn extend_unique<M: KeyedMap, V: Visit<M::Item>>(map: &mut M, items: Vec<M::Item>) -> Reply<M::Item>
+where
+    M::Item: Clone,
+    requires keyed { M.keyed map.old }
+    requires clones { ClonesAreEqual M.Item.is_clone }
+    ensures answers { Answers M.key M.Key.eq V.visits (M.limit map.old) (ExtendUnique items) (M.state map.old) result (M.state map.new).items }
+    ensures stays { StaysKeyed M.state M.limit M.rule M.keyed map.old map.new }
+{
+    let before = map.len();
+    let count = items.len();
+    match map.extend_unique(items) {
+        Ok(_) => Reply::Extended(count),
+        Err(ExtendUniqueError::Duplicate(duplicate)) => {
+            let (new, shown) = duplicate.into_parts();
+            let existing = first_clone(&shown);
+            let after = map.len() - before;
+            Reply::Conflict {
+                new,
+                existing,
+                after,
+            }
+        }
+        Err(ExtendUniqueError::Refused(refused)) => Reply::Stopped {
+            item: refused.item,
+            error: refused.error,
+            after: map.len() - before,
         },
     }
 }

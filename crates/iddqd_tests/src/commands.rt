@@ -2,7 +2,8 @@
 ghost use Rattle.iddqd.specs.Contents.{ClonesAreEqual};
 
 use crate::insertions::{BAR, FOO, OTHER_FOO, wide_item};
-use iddqd::{IdHashMap, IdOrdMap};
+use iddqd::errors::TryReserveError;
+use iddqd::{DefaultHashBuilder, IdHashMap, IdOrdMap};
 use iddqd_run::{Command, KeyedMap, Reply};
 use iddqd_testing::items::{Named, Wide};
 use iddqd_testing::tried::Tried;
@@ -139,5 +140,79 @@ fn reserve_and_shrink_by_commands(rt: HostRuntime) -> Result<(), Fail> {
     assert!(rt; answers_with(alloc, ordered, room_commands(alloc)?, &expected));
     let hashed = Tried::new(IdHashMap::new(alloc));
     assert!(rt; answers_with(alloc, hashed, room_commands(alloc)?, &expected));
+    Ok(())
+}
+
+fn named(name: [u8; 3], value: u32) -> Named {
+    Named { name, value }
+}
+
+fn extending_commands(alloc: Global) -> Result<Vec<Command<Named, [u8; 3], Untouched>>, Fail> {
+    Ok(Vec::from_array(
+        alloc,
+        [
+            Command::ExtendUnique(Vec::from_array(alloc, [FOO, BAR])?),
+            Command::ExtendUnique(Vec::from_array(alloc, [named(*b"baz", 1), OTHER_FOO])?),
+            Command::ExtendUnique(Vec::new(alloc)),
+            Command::Len,
+        ],
+    )?)
+}
+
+#[test]
+fn extend_unique_by_commands(rt: HostRuntime) -> Result<(), Fail> {
+    let alloc = rt.alloc();
+    let expected = [
+        Reply::Extended(2),
+        Reply::Conflict {
+            new: OTHER_FOO,
+            existing: Some(FOO),
+            after: 1,
+        },
+        Reply::Extended(0),
+        Reply::Length(3),
+    ];
+    let ordered = Tried::new(IdOrdMap::new(alloc));
+    assert!(rt; answers_with(alloc, ordered, extending_commands(alloc)?, &expected));
+    let hashed = Tried::new(IdHashMap::new(alloc));
+    assert!(rt; answers_with(alloc, hashed, extending_commands(alloc)?, &expected));
+    Ok(())
+}
+
+fn full_commands(alloc: Global) -> Result<Vec<Command<Named, [u8; 3], Untouched>>, Fail> {
+    let (a, b, c) = (named(*b"a  ", 1), named(*b"b  ", 2), named(*b"c  ", 3));
+    Ok(Vec::from_array(
+        alloc,
+        [
+            Command::ExtendUnique(Vec::from_array(alloc, [a, b, c])?),
+            Command::InsertUnique(a),
+            Command::ExtendUnique(Vec::from_array(alloc, [b, c])?),
+            Command::Len,
+        ],
+    )?)
+}
+
+#[test]
+fn extend_unique_commands(rt: HostRuntime) -> Result<(), Fail> {
+    let alloc = rt.alloc();
+    let error = TryReserveError::capacity_overflow();
+    let expected = [
+        Reply::Stopped {
+            item: None,
+            error,
+            after: 0,
+        },
+        Reply::Inserted,
+        Reply::Stopped {
+            item: Some(named(*b"c  ", 3)),
+            error,
+            after: 1,
+        },
+        Reply::Length(2),
+    ];
+    let ordered = Tried::new(IdOrdMap::with_limit(alloc, 2));
+    assert!(rt; answers_with(alloc, ordered, full_commands(alloc)?, &expected));
+    let hashed = Tried::new(IdHashMap::with_limit(alloc, 2, DefaultHashBuilder::new()));
+    assert!(rt; answers_with(alloc, hashed, full_commands(alloc)?, &expected));
     Ok(())
 }

@@ -12,7 +12,7 @@ use iddqd_core::{DuplicateItem, Few, IdHashItem, InsertError, Refused, Steps};
 use std::hash::BuildHasher;
 
 impl<T: IdHashItem, S: BuildHasher> IdHashMap<T, S> {
-    ghost use Rattle.iddqd.specs.HashMap.{HashInserts, HashKeeps, KeepsSpare, ends_hash_inserted};
+    ghost use Rattle.iddqd.specs.HashMap.{HashInserts, HashKeeps, KeepsSpare, ends_hash_inserted, lends_nothing};
 
     /// Inserts the item where none of an equal key is there. A duplicate needs no memory and lends the item that is there;
     /// then the map is as it was. A full map and refused memory hand the item back, and then the items are as they were
@@ -62,6 +62,15 @@ impl<T: IdHashItem, S: BuildHasher> IdHashMap<T, S> {
                 Ok(None)
             }
         }
+    }
+
+    /// Lends nothing: what a call answers that lends an item where it refuses, as `insert_unique` does, for such calls of
+    /// crates above.
+    #[doc(hidden)]
+    pub fn lend_nothing(&mut self) -> &mut ()
+        ensures* lends { sem 𝓛 (lends_nothing S.row T.row self.entry result) }
+    {
+        &mut self.done
     }
 
     // Puts in an item whose key no other has, and answers its slot.

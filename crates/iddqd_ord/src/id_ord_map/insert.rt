@@ -11,7 +11,7 @@ use super::paired::{exchange, put_in, reserve_one};
 use iddqd_core::{DuplicateItem, Few, IdOrdItem, InsertError, Place, Refused, Steps};
 
 impl<T: IdOrdItem> IdOrdMap<T> {
-    ghost use Rattle.iddqd_ord.specs.OrdMap.{OrdInserts, OrdKeeps, ends_ord_inserted};
+    ghost use Rattle.iddqd_ord.specs.OrdMap.{OrdInserts, OrdKeeps, ends_ord_inserted, lends_nothing};
 
     /// Inserts the item where none of an equal key is there. A duplicate needs no memory and lends the item that is
     /// there; then the map is as it was. A full map and refused memory hand the item back, and then the items are as they
@@ -73,6 +73,15 @@ impl<T: IdOrdItem> IdOrdMap<T> {
                 Ok(None)
             }
         }
+    }
+
+    /// Lends nothing: what a call answers that lends an item where it refuses, as `insert_unique` does, for such calls of
+    /// crates above.
+    #[doc(hidden)]
+    pub fn lend_nothing(&mut self) -> &mut ()
+        ensures* lends { sem 𝓛 (lends_nothing T.row self.entry result) }
+    {
+        &mut self.done
     }
 
     // Puts the item in at the place where its key belongs, and answers its slot.

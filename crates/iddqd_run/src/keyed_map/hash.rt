@@ -74,4 +74,12 @@ impl<T: IdHashItem, S: BuildHasher> KeyedMap for IdHashMap<T, S> {
     fn len(&self) -> usize {
         self.len()
     }
+
+    fn akin(&self, item: &T) -> Option<&T> {
+        self.get(item.key())
+    }
+
+    fn lend_nothing(&mut self) -> &mut () {
+        self.lend_nothing()
+    }
 }

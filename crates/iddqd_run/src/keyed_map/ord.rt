@@ -73,4 +73,12 @@ impl<T: IdOrdItem> KeyedMap for IdOrdMap<T> {
     fn len(&self) -> usize {
         self.len()
     }
+
+    fn akin(&self, item: &T) -> Option<&T> {
+        self.get(item.key())
+    }
+
+    fn lend_nothing(&mut self) -> &mut () {
+        self.lend_nothing()
+    }
 }
