@@ -6,6 +6,7 @@ pub mod Paired
 pub mod Walked
 pub mod SlotOrder
 pub mod WritingWalk
+pub use Rattle.iddqd_core.specs.Adding
 pub use Rattle.iddqd_core.specs.Collecting
 pub use Rattle.iddqd_core.specs.Contents
 pub use Rattle.iddqd_core.specs.Digits

@@ -3,6 +3,7 @@ pub mod Guard
 pub mod OrdMap
 pub mod Paired
 pub mod WritingWalk
+pub use Rattle.iddqd_core.specs.Adding
 pub use Rattle.iddqd_core.specs.Collecting
 pub use Rattle.iddqd_core.specs.Contents
 pub use Rattle.iddqd_core.specs.Errors

@@ -2,7 +2,7 @@
 use crate::maps::{fill, holds};
 use iddqd::{IdHashMap, IdOrdMap};
 use iddqd_run::KeyedMap;
-use iddqd_testing::bulk::Bulk;
+use iddqd_testing::bulk::{Added, Adding, Bulk};
 use iddqd_testing::heap::{arm, is_met};
 use iddqd_testing::items::Numbered;
 use iddqd_testing::tried::{AskedForRoom, Tried};
@@ -138,6 +138,48 @@ fn hash_extend(rt: HostRuntime) -> Result<(), Fail> {
     println!(rt;
         "{}",
         extension(rt.alloc(), Tried::new(IdHashMap::new(rt.alloc())))?
+    )?;
+    Ok(())
+}
+
+// The word for the numbers 5 to 24 added to a map of five numbers.
+fn addition<M: KeyedMap<Item = Numbered, Key = u32> + Drop>(
+    alloc: Global,
+    mut map: Tried<M>,
+) -> Result<&'static str, Fail>
+where
+    Tried<M>: Adding<Numbered>,
+{
+    fill(&mut map, 5)?;
+    let items = numbers(alloc, 5, 25)?;
+    arm(alloc);
+    let added = map.add_each(items);
+    let is_met = is_met(alloc);
+    match added {
+        Added::All if !is_met && holds(&map, 25, None) => Ok("added"),
+        Added::Stopped(item, error) if is_met && !error.is_capacity_overflow() => match item {
+            None if holds(&map, 5, None) => Ok("none_added"),
+            Some(item) if holds(&map, item.number, None) => Ok("added_back"),
+            _ => Err(Fail::from("the map does not hold the items before the refused one")),
+        },
+        _ => Err(Fail::from("an item is gone, or was refused for nothing")),
+    }
+}
+
+#[test]
+fn extend_unique(rt: HostRuntime) -> Result<(), Fail> {
+    println!(rt;
+        "{}",
+        addition(rt.alloc(), Tried::new(IdOrdMap::new(rt.alloc())))?
+    )?;
+    Ok(())
+}
+
+#[test]
+fn hash_extend_unique(rt: HostRuntime) -> Result<(), Fail> {
+    println!(rt;
+        "{}",
+        addition(rt.alloc(), Tried::new(IdHashMap::new(rt.alloc())))?
     )?;
     Ok(())
 }

@@ -1,4 +1,5 @@
--- What `extend_unique` leaves and shows where not each item was put in (ours).
+-- What `extend_unique` leaves and shows (ours).
+--     AddsGiven      all items were put in
 --     ShowsFirstConflict      what it shows of the items that came
 --     StopsAdding      what it shows, and what is in the map then
 --     HaltsAdding, HaltsAt      the same while the item that is there is told by its slot alone, and one step of it
@@ -18,6 +19,12 @@ use Rattle.iddqd_store.specs.declared.halts.Halt.TheVariants.{Akin, NoRoom}
 
 -- gives tells which items came before one
 module _ {T K : Type 0} (key : T → K) (eq : K → K → Bool) where
+  -- all items that came are in
+  pub record AddsGiven (gives : List T → Type 0) (old new : List T) : Type 0 where
+    pub items : List T
+    pub came : gives items
+    pub adds : AddsAll key eq items old new
+
   -- the first conflict is shown: its item as new, and the one that is there alone as its duplicate
   abbrev pub ShowsFirstConflict : (gives : List T → T → Type 0) (old : List T) → ExtendUniqueError T → Type 0
   ShowsFirstConflict gives old (Duplicate d) = (before : List T) × (there : T) × gives before (new_item_of d) × IsFirstConflict key eq old before (new_item_of d) there × IsLent (duplicates_of d) there

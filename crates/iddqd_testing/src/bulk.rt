@@ -1,12 +1,21 @@
 //! What a row asks of the bulk calls of a map of either kind, and iterators that lie.
 ghost use Rattle.std.specs.Iterator.{IsFiniteIterable};
+ghost use Rattle.iddqd.specs.Contents.{Ascends};
 
 use crate::items::Named;
 use crate::tried::Tried;
-use iddqd::errors::{ExtendError, FromIterError, TryReserveError};
-use iddqd::{IdHashItem, IdHashMap, IdOrdItem, IdOrdMap};
+use iddqd::errors::{ExtendError, ExtendUniqueError, FromIterError, TryReserveError};
+use iddqd::{IdHashItem, IdHashMap, IdOrdItem, IdOrdMap, Lookups};
 use std::alloc::Global;
 use std::hash::BuildHasher;
+
+/// What adding many items left: all of them, the first conflict's new item and the one that is there, or a refusal.
+#[derive(Clone, Copy, Debug, PartialEq, Eq)]
+pub enum Added<T> {
+    All,
+    Conflict(T, Option<T>),
+    Stopped(Option<T>, TryReserveError),
+}
 
 /// A map of either kind, by its calls on many items.
 pub trait Bulk<T>: Sized {
@@ -83,16 +92,80 @@ impl<T: IdHashItem, S: BuildHasher + Default + Drop> Bulk<T> for Tried<IdHashMap
     }
 }
 
-/// An iterator that announces more items than there can be, has none, and counts how often it is asked.
+/// A map of either kind, by `extend_unique`.
+pub trait Adding<T>: Sized {
+    /// `extend_unique`, with what is lent copied.
+    fn add_each<U: IntoIterator<Item = T>>(&mut self, items: U) -> Added<T>
+        requires ends { IsFiniteIterable U.into_iter_gives U.IntoIter.can_next U.IntoIter.remaining items };
+}
+
+impl<T: IdOrdItem + Copy + Drop> Adding<T> for Tried<IdOrdMap<T>> {
+    fn add_each<U: IntoIterator<Item = T>>(&mut self, items: U) -> Added<T> {
+        add_in_order(&mut self.map, items)
+    }
+}
+
+impl<T: IdHashItem + Copy + Drop> Adding<T> for Tried<IdHashMap<T>> {
+    fn add_each<U: IntoIterator<Item = T>>(&mut self, items: U) -> Added<T> {
+        add_by_hash(&mut self.map, items)
+    }
+}
+
+fn add_in_order<T: IdOrdItem + Copy + Drop, U: IntoIterator<Item = T>>(
+    map: &mut IdOrdMap<T>,
+    items: U,
+) -> Added<T>
+    requires keyed { Ascends T.key T.Key.cmp map.old.items }
+    requires ends { IsFiniteIterable U.into_iter_gives U.IntoIter.can_next U.IntoIter.remaining items }
+    ensures keyed { Ascends T.key T.Key.cmp map.new.items }
+{
+    match map.extend_unique(items) {
+        Ok(()) => Added::All,
+        Err(ExtendUniqueError::Duplicate(conflict)) => {
+            let there = conflict.duplicates().get(0).map(|x| **x);
+            Added::Conflict(*conflict.new_item(), there)
+        }
+        Err(ExtendUniqueError::Refused(stopped)) => Added::Stopped(stopped.item, stopped.error),
+    }
+}
+
+fn add_by_hash<T: IdHashItem + Copy + Drop, S: BuildHasher, U: IntoIterator<Item = T>>(
+    map: &mut IdHashMap<T, S>,
+    items: U,
+) -> Added<T>
+    requires keyed { ⟦<IdHashMap<T, S> as Lookups>⟧.keyed map.old }
+    requires ends { IsFiniteIterable U.into_iter_gives U.IntoIter.can_next U.IntoIter.remaining items }
+    ensures keyed { ⟦<IdHashMap<T, S> as Lookups>⟧.keyed map.new }
+{
+    match map.extend_unique(items) {
+        Ok(()) => Added::All,
+        Err(ExtendUniqueError::Duplicate(conflict)) => {
+            let there = conflict.duplicates().get(0).map(|x| **x);
+            Added::Conflict(*conflict.new_item(), there)
+        }
+        Err(ExtendUniqueError::Refused(stopped)) => Added::Stopped(stopped.item, stopped.error),
+    }
+}
+
+/// An iterator that announces items, has none, and counts how often it is asked.
 #[derive(Drop)]
 pub struct Liar {
+    announced: usize,
     asked: u32,
 }
 
 impl Liar {
-    /// One that was not asked yet.
+    /// One that announces more items than there can be, and was not asked yet.
     pub fn new() -> Liar {
-        Liar { asked: 0 }
+        Liar::announcing(usize::MAX)
+    }
+
+    /// One that announces so many items, and was not asked yet.
+    pub fn announcing(announced: usize) -> Liar {
+        Liar {
+            announced,
+            asked: 0,
+        }
     }
 
     /// How often it was asked.
@@ -114,7 +187,33 @@ impl Iterator for Liar {
     }
 
     fn size_hint(&self) -> (usize, Option<usize>) {
-        (usize::MAX, None)
+        (self.announced, None)
+    }
+}
+
+/// An iterator over a vector's items, from the last one on, that announces none.
+#[derive(Drop)]
+pub struct Unannounced {
+    items: Vec<Named>,
+}
+
+impl Unannounced {
+    /// One over these items.
+    pub fn new(items: Vec<Named>) -> Unannounced {
+        Unannounced { items }
+    }
+}
+
+impl Iterator for Unannounced {
+    type Item = Named;
+
+    ghost use Rattle.std.specs.Prelude.{length};
+    ghost use Rattle.std.specs.Iterator.{at_most};
+
+    ghost remaining = { λ u. at_most (length u.items.items) };
+
+    fn next(&mut self) -> Option<Named> {
+        self.items.pop()
     }
 }
 

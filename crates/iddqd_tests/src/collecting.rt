@@ -1,9 +1,9 @@
 //! Rows of calls on many items.
 use crate::insertions::{BAR, FOO, OTHER_FOO, wide_item};
-use iddqd::errors::FromIterError;
-use iddqd::{IdHashMap, IdOrdMap};
+use iddqd::errors::{FromIterError, TryReserveError};
+use iddqd::{DefaultHashBuilder, IdHashMap, IdOrdMap};
 use iddqd_run::KeyedMap;
-use iddqd_testing::bulk::{Bulk, Liar};
+use iddqd_testing::bulk::{Added, Adding, Bulk, Liar, Unannounced};
 use iddqd_testing::items::{Named, Wide};
 use iddqd_testing::tried::Tried;
 use std::alloc::{AllocError, Global};
@@ -171,4 +171,163 @@ where
 fn lying_hints(rt: HostRuntime) {
     lied_to(&rt, Tried::new(IdOrdMap::new(rt.alloc())));
     lied_to(&rt, Tried::new(IdHashMap::new(rt.alloc())));
+}
+
+fn stops_at_present<M: KeyedMap<Item = Named, Key = [u8; 3]> + Drop>(
+    rt: &impl Abort,
+    alloc: Global,
+    mut map: Tried<M>,
+) -> Result<(), AllocError>
+where
+    Tried<M>: Adding<Named>,
+{
+    assert!(rt; map.is_put(FOO));
+    let items = Vec::from_array(alloc, [BAR, OTHER_FOO, named(*b"baz", 1)])?;
+    assert_eq!(rt; map.add_each(items), Added::Conflict(OTHER_FOO, Some(FOO)));
+    assert!(rt; has_both(&map, FOO, BAR));
+    Ok(())
+}
+
+#[test]
+fn extend_unique_stops(rt: HostRuntime) -> Result<(), Fail> {
+    let alloc = rt.alloc();
+    stops_at_present(&rt, alloc, Tried::new(IdOrdMap::new(alloc)))?;
+    stops_at_present(&rt, alloc, Tried::new(IdHashMap::new(alloc)))?;
+    Ok(())
+}
+
+fn stops_at_own<M: KeyedMap<Item = Named, Key = [u8; 3]> + Drop>(
+    rt: &impl Abort,
+    alloc: Global,
+    mut map: Tried<M>,
+) -> Result<(), AllocError>
+where
+    Tried<M>: Adding<Named>,
+{
+    let (first, second, third) = (named(*b"  a", 1), named(*b"  b", 2), named(*b"  a", 3));
+    let items = Vec::from_array(alloc, [first, second, third])?;
+    assert_eq!(rt; map.add_each(items), Added::Conflict(third, Some(first)));
+    assert!(rt; has_both(&map, first, second));
+    Ok(())
+}
+
+#[test]
+fn extend_unique_repeats(rt: HostRuntime) -> Result<(), Fail> {
+    let alloc = rt.alloc();
+    stops_at_own(&rt, alloc, Tried::new(IdOrdMap::new(alloc)))?;
+    stops_at_own(&rt, alloc, Tried::new(IdHashMap::new(alloc)))?;
+    Ok(())
+}
+
+// What a map that has foo answers to items that are not announced; the last one comes first.
+fn unannounced<M: KeyedMap<Item = Named, Key = [u8; 3]> + Drop>(
+    map: &mut Tried<M>,
+    items: Vec<Named>,
+) -> Option<Added<Named>>
+where
+    Tried<M>: Adding<Named>,
+{
+    if map.is_put(FOO) {
+        Some(map.add_each(Unannounced::new(items)))
+    } else {
+        None
+    }
+}
+
+fn conflicts_when_full<M: KeyedMap<Item = Named, Key = [u8; 3]> + Drop>(
+    rt: &impl Abort,
+    alloc: Global,
+    mut map: Tried<M>,
+) -> Result<(), AllocError>
+where
+    Tried<M>: Adding<Named>,
+{
+    let foo = named(*b"foo", 9);
+    let items = Vec::from_array(alloc, [named(*b"baz", 7), foo, BAR])?;
+    let expected = Some(Added::Conflict(foo, Some(FOO)));
+    assert_eq!(rt; unannounced(&mut map, items), expected);
+    assert!(rt; has_both(&map, FOO, BAR));
+    Ok(())
+}
+
+fn refuses_when_full<M: KeyedMap<Item = Named, Key = [u8; 3]> + Drop>(
+    rt: &impl Abort,
+    alloc: Global,
+    mut map: Tried<M>,
+) -> Result<(), AllocError>
+where
+    Tried<M>: Adding<Named>,
+{
+    let baz = named(*b"baz", 7);
+    let items = Vec::from_array(alloc, [baz, BAR])?;
+    let expected = Some(Added::Stopped(Some(baz), TryReserveError::capacity_overflow()));
+    assert_eq!(rt; unannounced(&mut map, items), expected);
+    assert!(rt; has_both(&map, FOO, BAR));
+    Ok(())
+}
+
+#[test]
+fn extend_unique_at_the_limit(rt: HostRuntime) -> Result<(), Fail> {
+    let alloc = rt.alloc();
+    let hasher = DefaultHashBuilder::new();
+    conflicts_when_full(&rt, alloc, Tried::new(IdOrdMap::with_limit(alloc, 2)))?;
+    conflicts_when_full(
+        &rt,
+        alloc,
+        Tried::new(IdHashMap::with_limit(alloc, 2, hasher)),
+    )?;
+    refuses_when_full(&rt, alloc, Tried::new(IdOrdMap::with_limit(alloc, 2)))?;
+    refuses_when_full(
+        &rt,
+        alloc,
+        Tried::new(IdHashMap::with_limit(alloc, 2, hasher)),
+    )?;
+    Ok(())
+}
+
+fn refuses_announced<M: KeyedMap<Item = Named, Key = [u8; 3]> + Drop>(
+    rt: &impl Abort,
+    mut map: Tried<M>,
+)
+where
+    Tried<M>: Adding<Named>,
+{
+    assert!(rt; map.is_put(FOO));
+    let mut liar = Liar::announcing(5);
+    let full = TryReserveError::capacity_overflow();
+    assert_eq!(rt; map.add_each(&mut liar), Added::Stopped(None, full));
+    assert_eq!(rt; liar.asked(), 0);
+    assert_eq!(rt; map.len(), 1);
+}
+
+#[test]
+fn extend_unique_hint(rt: HostRuntime) {
+    let hasher = DefaultHashBuilder::new();
+    refuses_announced(&rt, Tried::new(IdOrdMap::with_limit(rt.alloc(), 2)));
+    refuses_announced(
+        &rt,
+        Tried::new(IdHashMap::with_limit(rt.alloc(), 2, hasher)),
+    );
+}
+
+fn adds_nothing<M: KeyedMap<Item = Named, Key = [u8; 3]> + Drop>(
+    rt: &impl Abort,
+    alloc: Global,
+    mut map: Tried<M>,
+)
+where
+    Tried<M>: Adding<Named>,
+{
+    assert_eq!(rt; map.add_each(Vec::new(alloc)), Added::All);
+    assert_eq!(rt; map.len(), 0);
+    assert!(rt; map.is_put(FOO) && map.is_put(BAR));
+    assert_eq!(rt; map.add_each(Vec::new(alloc)), Added::All);
+    assert!(rt; has_both(&map, FOO, BAR));
+}
+
+#[test]
+fn extend_unique_of_nothing(rt: HostRuntime) {
+    let alloc = rt.alloc();
+    adds_nothing(&rt, alloc, Tried::new(IdOrdMap::new(alloc)));
+    adds_nothing(&rt, alloc, Tried::new(IdHashMap::new(alloc)));
 }
