@@ -148,9 +148,9 @@ where
             return Err(Fail::from("the contents are not the list's"));
         }
     }
-    // as many as were refused to the calls
-    if u32::from(is_met(alloc)) != refusals {
-        return Err(Fail::from("a refusal is not told, or none was met"));
+    // a shrink that keeps its memory need not tell
+    if refusals > u32::from(is_met(alloc)) {
+        return Err(Fail::from("a refusal is told, and none was met"));
     }
     Ok(refusals)
 }
