@@ -1,0 +1,316 @@
+//! Calls of either map, one function a call: whether the map answers as the plain list.
+use crate::draws::Draws;
+use crate::plain::{Plain, is_same};
+use iddqd_run::KeyedMap;
+use iddqd_testing::caseless::{Caseless, Coarse, spelled};
+use iddqd_testing::entered::Entered;
+use iddqd_testing::probed::Probed;
+use iddqd_testing::respelled::Respelled;
+use iddqd_testing::tried::{AskedForRoom, Tried};
+use iddqd_testing::walked::Walked;
+use std::alloc::AllocError;
+
+pub fn insert<M: KeyedMap<Item = Coarse, Key = Caseless> + Drop>(
+    map: &mut Tried<M>,
+    plain: &mut Plain,
+    draws: &mut Draws,
+) -> Result<bool, AllocError> {
+    let item = draws.item();
+    plain.inserts(item, map.insert(item))
+}
+
+pub fn overwrite<M: KeyedMap<Item = Coarse, Key = Caseless> + Drop>(
+    map: &mut Tried<M>,
+    plain: &mut Plain,
+    draws: &mut Draws,
+) -> Result<bool, AllocError> {
+    let item = draws.item();
+    let old = plain.find(&item.name);
+    match map.overwrite(item) {
+        Ok(answer) => {
+            let fits = old.is_some() || !plain.is_full();
+            plain.overwrite(item)?;
+            Ok(fits && is_same(answer, old))
+        }
+        Err(refused) => Ok(
+            old.is_none()
+                && is_same(Some(refused.item), Some(item))
+                && plain.refuses(refused.error),
+        ),
+    }
+}
+
+pub fn remove<M: KeyedMap<Item = Coarse, Key = Caseless> + Drop>(
+    map: &mut Tried<M>,
+    plain: &mut Plain,
+    draws: &mut Draws,
+) -> bool {
+    let name = draws.name();
+    is_same(map.remove(&name), plain.take(&name))
+}
+
+pub fn remove_by_entry<M: KeyedMap<Item = Coarse, Key = Caseless> + Drop>(
+    map: &mut Tried<M>,
+    plain: &mut Plain,
+    draws: &mut Draws,
+) -> bool
+where
+    Tried<M>: Probed,
+{
+    let name = draws.name();
+    is_same(map.remove_by_entry(&name), plain.take(&name))
+}
+
+// A lookup, whose comparisons are counted too, among so many items at most.
+pub fn find<M: KeyedMap<Item = Coarse, Key = Caseless> + Drop>(
+    map: &Tried<M>,
+    plain: &Plain,
+    name: &Caseless,
+) -> bool
+where
+    Tried<M>: Probed,
+{
+    let item = plain.find(name);
+    let (counted, steps) = map.get_counted(name);
+    is_same(map.get(name).copied(), item)
+        && is_same(counted, item)
+        && map.contains(name) == item.is_some()
+        && steps as usize <= plain.len().saturating_add(4)
+}
+
+pub fn write<M: KeyedMap<Item = Coarse, Key = Caseless> + Drop>(
+    map: &mut Tried<M>,
+    plain: &mut Plain,
+    draws: &mut Draws,
+) -> bool
+where
+    Tried<M>: Entered + Probed,
+{
+    let (name, value) = (draws.name(), draws.below(1000));
+    let old = plain.find(&name);
+    plain.write(&name, value);
+    if draws.coin() {
+        return map.write(name.0, value) == old.is_some();
+    }
+    match map.write_by_reborrow(&name, value) {
+        Some((read, shown)) => {
+            is_same(Some(read), old) && is_same(Some(shown), plain.find(&name))
+        }
+        None => old.is_none(),
+    }
+}
+
+pub fn respell<M: KeyedMap<Item = Coarse, Key = Caseless> + Drop>(
+    map: &mut Tried<M>,
+    plain: &mut Plain,
+    draws: &mut Draws,
+) -> bool
+where
+    Tried<M>: Respelled,
+{
+    let item = draws.item();
+    let is_there = plain.find(&item.name).is_some();
+    plain.replace(item);
+    match draws.below(3) {
+        0 => map.respell_by_guard(&item.name, item) == is_there,
+        1 => map.respell_by_entry(&item.name, item) == is_there,
+        _ => {
+            map.respell_by_visitor(item);
+            true
+        }
+    }
+}
+
+pub fn retain<M: KeyedMap<Item = Coarse, Key = Caseless> + Drop>(
+    map: &mut Tried<M>,
+    plain: &mut Plain,
+    draws: &mut Draws,
+) -> bool
+where
+    Tried<M>: Walked<Coarse>,
+{
+    let (part, rest) = (draws.below(8).saturating_add(3), draws.below(3));
+    let before = plain.len();
+    plain
+        .items
+        .retain(|item| item.value.checked_rem(part) != Some(rest));
+    let gone = before.saturating_sub(plain.len());
+    plain.vacant = plain.vacant.saturating_add(gone.min(4_294_967_295) as u32);
+    map.retain(|item| item.value.checked_rem(part) != Some(rest));
+    true
+}
+
+pub fn insert_by_entry<M: KeyedMap<Item = Coarse, Key = Caseless> + Drop>(
+    map: &mut Tried<M>,
+    plain: &mut Plain,
+    draws: &mut Draws,
+) -> Result<bool, AllocError>
+where
+    Tried<M>: Entered,
+{
+    let item = draws.item();
+    let fits = plain.find(&item.name).is_none() && !plain.is_full();
+    if draws.coin() {
+        let inserted = map.insert_vacant(item.name.0, item);
+        if fits {
+            plain.put(item)?;
+        }
+        return Ok(is_same(inserted, fits.then_some(item)));
+    }
+    let gone = map.insert_and_remove(item);
+    if fits {
+        // its slot is vacant then
+        plain.vacant = plain.vacant.max(1);
+    }
+    Ok(is_same(gone, fits.then_some(item)))
+}
+
+pub fn replace_by_entry<M: KeyedMap<Item = Coarse, Key = Caseless> + Drop>(
+    map: &mut Tried<M>,
+    plain: &mut Plain,
+    draws: &mut Draws,
+) -> bool
+where
+    Tried<M>: Entered,
+{
+    let item = draws.item();
+    let old = plain.find(&item.name);
+    plain.replace(item);
+    is_same(map.insert_occupied(item), old)
+}
+
+// The item that `or_insert` and its like show: the one there, or the new one, where there is room.
+pub fn shown(plain: &mut Plain, item: Coarse) -> Result<Option<Coarse>, AllocError> {
+    let old = plain.find(&item.name);
+    if old.is_none() && !plain.is_full() {
+        plain.put(item)?;
+        return Ok(Some(item));
+    }
+    Ok(old)
+}
+
+pub fn find_or_make<M: KeyedMap<Item = Coarse, Key = Caseless> + Drop>(
+    map: &mut Tried<M>,
+    plain: &mut Plain,
+    draws: &mut Draws,
+) -> Result<bool, AllocError>
+where
+    Tried<M>: Entered,
+{
+    let item = draws.item();
+    let was_there = plain.find(&item.name).is_some();
+    let expected = shown(plain, item)?;
+    let mut asked = 0;
+    let answer = map.find_or_make(item, &mut asked);
+    // refused, the closure was asked, and its item dropped
+    Ok(is_same(answer, expected) && (asked == 0) == was_there)
+}
+
+pub fn double_or_insert<M: KeyedMap<Item = Coarse, Key = Caseless> + Drop>(
+    map: &mut Tried<M>,
+    plain: &mut Plain,
+    draws: &mut Draws,
+) -> Result<bool, AllocError>
+where
+    Tried<M>: Entered,
+{
+    let item = draws.item();
+    if let Some(old) = plain.find(&item.name) {
+        plain.write(&item.name, old.value.wrapping_mul(2));
+    }
+    let expected = shown(plain, item)?;
+    Ok(is_same(map.double_or_insert(item), expected))
+}
+
+pub fn insert_and_write<M: KeyedMap<Item = Coarse, Key = Caseless> + Drop>(
+    map: &mut Tried<M>,
+    plain: &mut Plain,
+    draws: &mut Draws,
+) -> Result<bool, AllocError>
+where
+    Tried<M>: Entered,
+{
+    let (item, value) = (draws.item(), draws.below(1000));
+    let is_in = shown(plain, item)?.is_some();
+    plain.write(&item.name, value);
+    Ok(map.insert_and_write(item, value) == is_in)
+}
+
+pub fn reserve<M: KeyedMap<Item = Coarse, Key = Caseless> + Drop>(
+    map: &mut Tried<M>,
+    plain: &Plain,
+    draws: &mut Draws,
+) -> bool
+where
+    Tried<M>: AskedForRoom + Probed,
+{
+    let additional = draws.below(40) as usize;
+    let fits = plain.len().saturating_add(additional) <= plain.limit as usize;
+    let answer = if draws.coin() {
+        map.reserve(additional)
+    } else {
+        map.try_reserve(additional)
+    };
+    match answer {
+        Ok(()) => {
+            fits && map.capacity() >= plain.len().saturating_add(additional)
+                && map.spare().unwrap_or(additional) >= additional
+        }
+        Err(error) => !fits && error.is_capacity_overflow(),
+    }
+}
+
+pub fn shrink<M: KeyedMap<Item = Coarse, Key = Caseless> + Drop>(
+    map: &mut Tried<M>,
+    plain: &mut Plain,
+    draws: &mut Draws,
+) -> bool
+where
+    Tried<M>: AskedForRoom,
+{
+    let before = map.capacity();
+    plain.vacant = 0;
+    if draws.coin() {
+        return map.shrink_to_fit().is_ok() && map.capacity() <= before;
+    }
+    let min = draws.below(60) as usize;
+    map.shrink_to(min).is_ok() && map.capacity() <= before && map.capacity() >= min.min(before)
+}
+
+pub fn clear<M: KeyedMap<Item = Coarse, Key = Caseless> + Drop>(
+    map: &mut Tried<M>,
+    plain: &mut Plain,
+) -> bool {
+    map.clear();
+    plain.items.clear();
+    plain.vacant = 0;
+    map.len() == 0
+}
+
+// Whether the map holds just what the list does, by what it finds and by its walk, and tells the numbers of the list.
+pub fn holds_the_same<M: KeyedMap<Item = Coarse, Key = Caseless> + Drop>(
+    map: &Tried<M>,
+    plain: &Plain,
+    walked: &[Coarse],
+) -> bool
+where
+    Tried<M>: Probed + AskedForRoom,
+{
+    for item in walked {
+        if !is_same(plain.find(&item.name), Some(*item)) {
+            return false;
+        }
+    }
+    for item in plain.items.iter() {
+        if map.get(&item.name).map(spelled) != Some(spelled(item)) {
+            return false;
+        }
+    }
+    let count = plain.len();
+    walked.len() == count
+        && map.len() == count
+        && map.capacity() >= count
+        && map.limit() == plain.limit
+        && map.vacant() == plain.vacant
+        && map.is_valid()
+}

@@ -1,0 +1,179 @@
+//! Calls on many items, and copies of a map: whether they answer as the plain list.
+use crate::calls::holds_the_same;
+use crate::draws::Draws;
+use crate::plain::{Plain, is_same};
+use iddqd::errors::FromIterError;
+use iddqd_run::KeyedMap;
+use iddqd_testing::bulk::Bulk;
+use iddqd_testing::caseless::{Caseless, Coarse};
+use iddqd_testing::probed::{Copied, Probed};
+use iddqd_testing::tried::{AskedForRoom, Tried};
+use std::alloc::{AllocError, Global};
+
+// Some items, of which some have equal names.
+fn drawn(alloc: Global, draws: &mut Draws) -> Result<Vec<Coarse>, AllocError> {
+    let count = draws.below(12);
+    let mut items = Vec::with_capacity(alloc, count as usize)?;
+    for _ in 0..count {
+        items.push(draws.item())?;
+    }
+    Ok(items)
+}
+
+// Overwrites the items into the list up to the first that finds it full, which it answers.
+fn overwrite_all(plain: &mut Plain, items: &[Coarse]) -> Result<Option<Coarse>, AllocError> {
+    for item in items {
+        if plain.is_full() && plain.find(&item.name).is_none() {
+            return Ok(Some(*item));
+        }
+        plain.overwrite(*item)?;
+    }
+    Ok(None)
+}
+
+pub fn extend<M: KeyedMap<Item = Coarse, Key = Caseless> + Drop>(
+    alloc: Global,
+    map: &mut Tried<M>,
+    plain: &mut Plain,
+    draws: &mut Draws,
+) -> Result<bool, AllocError>
+where
+    Tried<M>: Probed,
+{
+    let items = drawn(alloc, draws)?;
+    let announced = if plain.len() == 0 {
+        items.len()
+    } else {
+        items.len().div_ceil(2)
+    };
+    let is_reserved = plain.len().saturating_add(announced) <= plain.limit as usize;
+    let stopped = if is_reserved {
+        overwrite_all(plain, items.as_slice())?
+    } else {
+        None
+    };
+    match map.take_all(items) {
+        Ok(()) => Ok(is_reserved && stopped.is_none()),
+        Err(refused) => {
+            let fits = !is_reserved || stopped.is_some();
+            Ok(fits && is_same(refused.item, stopped) && refused.error.is_capacity_overflow())
+        }
+    }
+}
+
+// The first item whose name came before, and the one that it came with.
+fn first_repeat(
+    plain: &mut Plain,
+    items: &[Coarse],
+) -> Result<Option<(Coarse, Coarse)>, AllocError> {
+    for item in items {
+        if let Some(earlier) = plain.find(&item.name) {
+            return Ok(Some((*item, earlier)));
+        }
+        plain.put(*item)?;
+    }
+    Ok(None)
+}
+
+// A map of its own that is made of many items.
+pub fn collect<M: KeyedMap<Item = Coarse, Key = Caseless> + Drop>(
+    alloc: Global,
+    draws: &mut Draws,
+) -> Result<bool, AllocError>
+where
+    Tried<M>: Bulk<Coarse> + Probed + AskedForRoom,
+{
+    let items = drawn(alloc, draws)?;
+    let mut plain = Plain::new(alloc, 4_294_967_295);
+    let _ = overwrite_all(&mut plain, items.as_slice())?;
+    let Ok(map) = Tried::<M>::collected(alloc, items) else {
+        return Ok(false);
+    };
+    let walked = map.walked(alloc)?;
+    Ok(holds_the_same(&map, &plain, walked.as_slice()))
+}
+
+// The same of different items, or the first repeat.
+pub fn collect_unique<M: KeyedMap<Item = Coarse, Key = Caseless> + Drop>(
+    alloc: Global,
+    draws: &mut Draws,
+) -> Result<bool, AllocError>
+where
+    Tried<M>: Bulk<Coarse> + Probed + AskedForRoom,
+{
+    let items = drawn(alloc, draws)?;
+    let mut plain = Plain::new(alloc, 4_294_967_295);
+    let repeat = first_repeat(&mut plain, items.as_slice())?;
+    match (Tried::<M>::collected_unique(alloc, items), repeat) {
+        (Ok(map), None) => {
+            let walked = map.walked(alloc)?;
+            Ok(holds_the_same(&map, &plain, walked.as_slice()))
+        }
+        (Err(FromIterError::Duplicate(both)), Some((new, earlier))) => {
+            let is_new = is_same(Some(*both.new_item()), Some(new));
+            let is_earlier = is_same(both.duplicates().get(0).copied(), Some(earlier));
+            Ok(is_new && is_earlier && both.duplicates().len() == 1)
+        }
+        _ => Ok(false),
+    }
+}
+
+// A clone holds the same, equals the map as long as it is not written, and lets its items out.
+pub fn copy<M: KeyedMap<Item = Coarse, Key = Caseless> + Drop>(
+    alloc: Global,
+    map: &Tried<M>,
+    plain: &Plain,
+    draws: &mut Draws,
+) -> Result<bool, AllocError>
+where
+    Tried<M>: Copied + Probed + AskedForRoom,
+{
+    let Ok(mut copy) = map.copied() else {
+        return Ok(false);
+    };
+    if !map.equals(&copy) || !copy.equals(map) {
+        return Ok(false);
+    }
+    let (name, value) = (draws.name(), draws.below(1000));
+    let old = plain.find(&name);
+    let _ = copy.write_by_reborrow(&name, value);
+    let is_changed = matches!(old, Some(item) if item.value != value);
+    if map.equals(&copy) == is_changed {
+        return Ok(false);
+    }
+    if let Some(item) = old {
+        let _ = copy.write_by_reborrow(&name, item.value);
+    }
+    let walked = copy.walked_out(alloc)?;
+    Ok(holds_the_same(map, plain, walked.as_slice()))
+}
+
+// An entry of a clone reads the item there, and shows what it wrote.
+pub fn write_copy<M: KeyedMap<Item = Coarse, Key = Caseless> + Drop>(
+    map: &Tried<M>,
+    plain: &Plain,
+    draws: &mut Draws,
+) -> bool
+where
+    Tried<M>: Copied + Probed,
+{
+    let Ok(copy) = map.copied() else {
+        return false;
+    };
+    let (name, value) = (draws.name(), draws.below(1000));
+    let old = plain.find(&name);
+    match (copy.write_by_entry(&name, value), old) {
+        (Some((read, shown)), Some(item)) => {
+            is_same(Some(read), old)
+                && is_same(
+                    Some(shown),
+                    Some(Coarse {
+                        name: item.name,
+                        value,
+                    }),
+                )
+        }
+        (None, None) => true,
+        _ => false,
+    }
+}

@@ -1,0 +1,90 @@
+//! Calls of an ordered map alone.
+use crate::calls;
+use crate::draws::Draws;
+use crate::plain::{Plain, is_same};
+use iddqd::IdOrdMap;
+use iddqd_testing::caseless::Coarse;
+use iddqd_testing::tried::Tried;
+use std::alloc::AllocError;
+
+// The greatest count of comparisons among so many items: four, and two more for each binary digit of the count.
+fn bound(count: usize) -> u32 {
+    let digits = 64_u32.saturating_sub((count as u64).leading_zeros());
+    digits.saturating_mul(2).saturating_add(4)
+}
+
+// The ends are those of the list.
+pub fn ends(map: &Tried<IdOrdMap<Coarse>>, plain: &Plain) -> bool {
+    is_same(map.first(), plain.first()) && is_same(map.last(), plain.last())
+}
+
+pub fn pop(map: &mut Tried<IdOrdMap<Coarse>>, plain: &mut Plain, draws: &mut Draws) -> bool {
+    let is_first = draws.coin();
+    let by_entry = draws.coin();
+    let end = if is_first {
+        plain.first()
+    } else {
+        plain.last()
+    };
+    if let Some(item) = end {
+        let _ = plain.take(&item.name);
+    }
+    let gone = match (is_first, by_entry) {
+        (true, false) => map.pop_first(),
+        (false, false) => map.pop_last(),
+        (true, true) => map.remove_first(),
+        (false, true) => map.remove_last(),
+    };
+    is_same(gone, end)
+}
+
+pub fn insert_counted(
+    map: &mut Tried<IdOrdMap<Coarse>>,
+    plain: &mut Plain,
+    draws: &mut Draws,
+) -> Result<bool, AllocError> {
+    let item = draws.item();
+    let most = bound(plain.len());
+    let (answer, steps) = map.insert_counted(item);
+    Ok(plain.inserts(item, answer)? && steps <= most)
+}
+
+pub fn remove_counted(
+    map: &mut Tried<IdOrdMap<Coarse>>,
+    plain: &mut Plain,
+    draws: &mut Draws,
+) -> bool {
+    let name = draws.name();
+    let most = bound(plain.len());
+    let (gone, steps) = map.remove_counted(&name);
+    is_same(gone, plain.take(&name)) && steps <= most
+}
+
+pub fn show_or_insert(
+    map: &mut Tried<IdOrdMap<Coarse>>,
+    plain: &mut Plain,
+    draws: &mut Draws,
+) -> Result<bool, AllocError> {
+    let item = draws.item();
+    let expected = calls::shown(plain, item)?;
+    let answer = if draws.coin() {
+        map.show_or_insert(item)
+    } else {
+        map.show_or_make(item)
+    };
+    Ok(is_same(answer, expected))
+}
+
+// The names ascend.
+pub fn ascends(walked: &[Coarse]) -> bool {
+    let mut last: Option<Coarse> = None;
+    for item in walked {
+        if let Some(before) = last {
+            if before.name >= item.name {
+                return false;
+            }
+        }
+        last = Some(*item);
+    }
+    true
+}

@@ -1,0 +1,287 @@
+//! The runs: lists of calls from fixed seeds. After each call the whole contents and the numbers are compared too, and `validate`.
+use crate::draws::Draws;
+use crate::plain::Plain;
+use crate::{calls, many, ordered};
+use iddqd::{IdHashMap, IdOrdMap};
+use iddqd_run::KeyedMap;
+use iddqd_testing::caseless::{Caseless, Coarse};
+use iddqd_testing::entered::Entered;
+use iddqd_testing::hashers::ZeroHasher;
+use iddqd_testing::probed::{Copied, Probed};
+use iddqd_testing::respelled::Respelled;
+use iddqd_testing::tried::{AskedForRoom, Tried};
+use iddqd_testing::walked::Walked;
+use std::alloc::{AllocError, Global};
+use std::collections::hash_map::RandomState;
+use std::hash::BuildHasherDefault;
+use std::process::Abort;
+use std::test::Fail;
+
+const MAX_ITEMS: u32 = 4_294_967_295;
+
+/// What is called.
+#[derive(Clone, Copy, Debug)]
+pub enum Call {
+    Insert,
+    Overwrite,
+    Remove,
+    RemoveByEntry,
+    Find,
+    Write,
+    Respell,
+    Retain,
+    InsertByEntry,
+    ReplaceByEntry,
+    FindOrMake,
+    DoubleOrInsert,
+    InsertAndWrite,
+    Reserve,
+    Shrink,
+    Clear,
+    Extend,
+    Copy,
+    WriteCopy,
+}
+
+// By weights that leave the map some two thirds full of all names.
+fn drawn_call(draws: &mut Draws) -> Call {
+    match draws.below(200) {
+        0..=44 => Call::Insert,
+        45..=64 => Call::Overwrite,
+        65..=84 => Call::Remove,
+        85..=94 => Call::RemoveByEntry,
+        95..=109 => Call::Find,
+        110..=124 => Call::Write,
+        125..=134 => Call::Respell,
+        135 => Call::Retain,
+        136..=145 => Call::InsertByEntry,
+        146..=153 => Call::ReplaceByEntry,
+        154..=161 => Call::FindOrMake,
+        162..=169 => Call::DoubleOrInsert,
+        170..=177 => Call::InsertAndWrite,
+        178..=183 => Call::Reserve,
+        184..=186 => Call::Shrink,
+        187..=194 => Call::Extend,
+        195..=196 => Call::Copy,
+        197..=198 => Call::WriteCopy,
+        _ => {
+            if draws.below(8) == 0 {
+                Call::Clear
+            } else {
+                Call::Find
+            }
+        }
+    }
+}
+
+// Makes the call. Whether it is answered as by the list.
+fn is_answered<M: KeyedMap<Item = Coarse, Key = Caseless> + Drop>(
+    alloc: Global,
+    map: &mut Tried<M>,
+    plain: &mut Plain,
+    draws: &mut Draws,
+    call: Call,
+) -> Result<bool, AllocError>
+where
+    Tried<M>: Probed + Copied + Entered + Respelled + AskedForRoom + Walked<Coarse>,
+{
+    match call {
+        Call::Insert => calls::insert(map, plain, draws),
+        Call::Overwrite => calls::overwrite(map, plain, draws),
+        Call::Remove => Ok(calls::remove(map, plain, draws)),
+        Call::RemoveByEntry => Ok(calls::remove_by_entry(map, plain, draws)),
+        Call::Find => Ok(calls::find(map, plain, &draws.name())),
+        Call::Write => Ok(calls::write(map, plain, draws)),
+        Call::Respell => Ok(calls::respell(map, plain, draws)),
+        Call::Retain => Ok(calls::retain(map, plain, draws)),
+        Call::InsertByEntry => calls::insert_by_entry(map, plain, draws),
+        Call::ReplaceByEntry => Ok(calls::replace_by_entry(map, plain, draws)),
+        Call::FindOrMake => calls::find_or_make(map, plain, draws),
+        Call::DoubleOrInsert => calls::double_or_insert(map, plain, draws),
+        Call::InsertAndWrite => calls::insert_and_write(map, plain, draws),
+        Call::Reserve => Ok(calls::reserve(map, plain, draws)),
+        Call::Shrink => Ok(calls::shrink(map, plain, draws)),
+        Call::Clear => Ok(calls::clear(map, plain)),
+        Call::Extend => many::extend(alloc, map, plain, draws),
+        Call::Copy => many::copy(alloc, map, plain, draws),
+        Call::WriteCopy => Ok(many::write_copy(map, plain, draws)),
+    }
+}
+
+// What a run is made of.
+#[derive(Clone, Copy, Debug)]
+struct Run {
+    seed: u64,
+    calls: u32,
+    letters: u32,
+    limit: u32,
+}
+
+// Runs the calls on a hash map.
+fn run_hashed<M: KeyedMap<Item = Coarse, Key = Caseless> + Drop>(
+    rt: &impl Abort,
+    alloc: Global,
+    run: Run,
+    map: Tried<M>,
+) -> Result<(), AllocError>
+where
+    Tried<M>: Probed + Copied + Entered + Respelled + AskedForRoom + Walked<Coarse>,
+{
+    let (mut map, mut plain) = (map, Plain::new(alloc, run.limit));
+    let mut draws = Draws::new(run.seed, run.letters);
+    for number in 0..run.calls {
+        let call = drawn_call(&mut draws);
+        let answered = is_answered(alloc, &mut map, &mut plain, &mut draws, call)?;
+        assert!(rt;
+            answered,
+            "{run:?}: call {number}, {call:?}, is answered otherwise"
+        );
+        let walked = map.walked(alloc)?;
+        let held = calls::holds_the_same(&map, &plain, walked.as_slice());
+        assert!(rt;
+            held,
+            "{run:?}: after call {number}, {call:?}, the contents differ"
+        );
+    }
+    Ok(())
+}
+
+// Makes a call of an ordered map alone.
+fn is_answered_in_order(
+    map: &mut Tried<IdOrdMap<Coarse>>,
+    plain: &mut Plain,
+    draws: &mut Draws,
+) -> Result<bool, AllocError> {
+    match draws.below(8) {
+        0..=1 => Ok(ordered::pop(map, plain, draws)),
+        2..=4 => ordered::insert_counted(map, plain, draws),
+        5 => Ok(ordered::remove_counted(map, plain, draws)),
+        _ => ordered::show_or_insert(map, plain, draws),
+    }
+}
+
+// Runs the calls on an ordered map.
+fn run_ordered(rt: &impl Abort, alloc: Global, run: Run) -> Result<(), AllocError> {
+    let mut map = Tried::new(IdOrdMap::with_limit(alloc, run.limit));
+    let mut plain = Plain::new(alloc, run.limit);
+    let mut draws = Draws::new(run.seed, run.letters);
+    for number in 0..run.calls {
+        let call = drawn_call(&mut draws);
+        let answered = if draws.below(4) == 0 {
+            is_answered_in_order(&mut map, &mut plain, &mut draws)?
+        } else {
+            is_answered(alloc, &mut map, &mut plain, &mut draws, call)?
+        };
+        assert!(rt;
+            answered,
+            "{run:?}: call {number}, {call:?}, is answered otherwise"
+        );
+        let walked = map.walked(alloc)?;
+        let held = calls::holds_the_same(&map, &plain, walked.as_slice());
+        let in_order = ordered::ascends(walked.as_slice()) && ordered::ends(&map, &plain);
+        assert!(rt;
+            held && in_order,
+            "{run:?}: after call {number}, {call:?}, the contents differ"
+        );
+    }
+    Ok(())
+}
+
+// Runs of one kind, that differ in their seeds.
+fn of_seed(seed: u64, calls: u32, letters: u32, limit: u32) -> Run {
+    Run {
+        seed,
+        calls,
+        letters,
+        limit,
+    }
+}
+
+#[test]
+fn ordered_calls(rt: HostRuntime) -> Result<(), Fail> {
+    for seed in [11, 12, 13] {
+        run_ordered(&rt, rt.alloc(), of_seed(seed, 10_000, 3, MAX_ITEMS))?;
+    }
+    Ok(())
+}
+
+#[test]
+fn ordered_calls_of_many_names(rt: HostRuntime) -> Result<(), Fail> {
+    for seed in [21, 22] {
+        run_ordered(&rt, rt.alloc(), of_seed(seed, 20_000, 7, MAX_ITEMS))?;
+    }
+    Ok(())
+}
+
+#[test]
+fn ordered_calls_at_the_limit(rt: HostRuntime) -> Result<(), Fail> {
+    for seed in [31, 32] {
+        run_ordered(&rt, rt.alloc(), of_seed(seed, 10_000, 3, 14))?;
+    }
+    Ok(())
+}
+
+#[test]
+fn hash_calls(rt: HostRuntime) -> Result<(), Fail> {
+    for seed in [41, 42] {
+        let map = Tried::new(IdHashMap::new(rt.alloc()));
+        run_hashed(&rt, rt.alloc(), of_seed(seed, 20_000, 7, MAX_ITEMS), map)?;
+    }
+    Ok(())
+}
+
+#[test]
+fn hash_calls_at_the_limit(rt: HostRuntime) -> Result<(), Fail> {
+    for seed in [51, 52] {
+        let hasher = iddqd::DefaultHashBuilder::new();
+        let map = Tried::new(IdHashMap::with_limit(rt.alloc(), 14, hasher));
+        run_hashed(&rt, rt.alloc(), of_seed(seed, 10_000, 3, 14), map)?;
+    }
+    Ok(())
+}
+
+#[test]
+fn calls_of_equal_hashes(rt: HostRuntime) -> Result<(), Fail> {
+    for seed in [61, 62, 63] {
+        let hasher: BuildHasherDefault<ZeroHasher> = BuildHasherDefault::new();
+        let map = Tried::new(IdHashMap::with_hasher(rt.alloc(), hasher));
+        run_hashed(&rt, rt.alloc(), of_seed(seed, 10_000, 3, MAX_ITEMS), map)?;
+    }
+    Ok(())
+}
+
+#[test]
+fn calls_of_random_hashes(rt: HostRuntime) -> Result<(), Fail> {
+    for seed in [71, 72] {
+        let map = Tried::new(IdHashMap::with_hasher(rt.alloc(), RandomState::new(&rt)?));
+        run_hashed(&rt, rt.alloc(), of_seed(seed, 10_000, 7, MAX_ITEMS), map)?;
+    }
+    Ok(())
+}
+
+// Maps that are made of many items, each compared with its list.
+fn make_many<M: KeyedMap<Item = Coarse, Key = Caseless> + Drop>(
+    rt: &impl Abort,
+    alloc: Global,
+    seed: u64,
+) -> Result<(), AllocError>
+where
+    Tried<M>: Probed + AskedForRoom + iddqd_testing::bulk::Bulk<Coarse>,
+{
+    let mut draws = Draws::new(seed, 3);
+    for number in 0..2_000 {
+        let collected = many::collect::<M>(alloc, &mut draws)?;
+        assert!(rt; collected, "seed {seed}: from_iter, map {number}");
+        let unique = many::collect_unique::<M>(alloc, &mut draws)?;
+        assert!(rt; unique, "seed {seed}: from_iter_unique, map {number}");
+    }
+    Ok(())
+}
+
+#[test]
+fn maps_of_many_items(rt: HostRuntime) -> Result<(), Fail> {
+    make_many::<IdOrdMap<Coarse>>(&rt, rt.alloc(), 81)?;
+    make_many::<IdHashMap<Coarse>>(&rt, rt.alloc(), 82)?;
+    make_many::<IdHashMap<Coarse, BuildHasherDefault<ZeroHasher>>>(&rt, rt.alloc(), 83)?;
+    Ok(())
+}
