@@ -75,6 +75,8 @@ pub(crate) enum LineReply<'a> {
     Found(u64),
     Removed(u64),
     Named { name: &'a str, value: u64 },
+    AddedAll(usize),
+    DuplicateAfter { name: &'a str, value: u64, count: usize },
     Absent,
     Within,
     Set(u64),
@@ -111,6 +113,10 @@ impl Display for LineReply<'_> {
             LineReply::Found(value) => write!(f, "{value}"),
             LineReply::Removed(value) => write!(f, "removed {value}"),
             LineReply::Named { name, value } => write!(f, "{name} {value}"),
+            LineReply::AddedAll(count) => write!(f, "added {count}"),
+            LineReply::DuplicateAfter { name, value, count } => {
+                write!(f, "duplicate {name} {value} after {count}")
+            }
             LineReply::Absent => write!(f, "none"),
             LineReply::Within => write!(f, "within"),
             LineReply::Set(value) => write!(f, "set {value}"),
