@@ -2,9 +2,10 @@
 --     after_pairs      pairs before others, which may be none
 --     all_answered      all are in
 --     conflict_told, full_told      the first ones are in, and the next one's name is there, or it finds no room
---     no_room_told, not_made_told      none is in
+--     no_room_told      none is in
+--     bad_told, making_told      the fields do not follow the form, or an entry could not be made
 --     all_sent, conflict_sent, refused_sent      the same, of what a map of entries tells
-use Rattle.std.proofs.Common.{rules, ◌≡◌, ℕ, suc, ◌+◌, ◌<◌, ◌≤◌, Bool, true, false, cond, eqb, List, [], ◌∷◌, ◌++◌, length, take, drop, Option, Some, None, Bor, IsPermutation, refl, sym, ap, ap₂, ◌∙◌, subst, arith, append-nil, append_assoc, eq-eqb}
+use Rattle.std.proofs.Common.{rules, ◌≡◌, ℕ, suc, ◌+◌, ◌<◌, ◌≤◌, Bool, true, false, cond, eqb, is_some, List, [], ◌∷◌, ◌++◌, length, take, drop, Option, Some, None, Bor, IsPermutation, refl, sym, ap, ap₂, ◌∙◌, subst, arith, append-nil, append_assoc, eq-eqb}
 use Rattle.std.specs.Global.{Global}
 use Rattle.std.specs.Prelude.{IfNone, IfSome, ◌-◌, String, nat_lt, string_bytes, codes, decimal}
 use Rattle.std.specs.String.{string_eq, string_eq_equiv}
@@ -13,6 +14,7 @@ use Rattle.std.proofs.Math.Seq.{drop-append_seam, take-append_seam, take-length}
 use Rattle.std.proofs.lemmas.Bool.{eqb-true}
 use Rattle.std.proofs.lemmas.List.{drop_all, length-append, length-map, length-take-le, map-append}
 use Rattle.std.proofs.lemmas.Option.{slice_get_within}
+use Rattle.std.proofs.lemmas.List.Splits.{length-slice_split}
 use Rattle.std.proofs.lemmas.List.Sorted.{IsPermutation-append_left, IsPermutation-sym, IsPermutation-to_front, IsPermutation-trans}
 use Rattle.iddqd.specs.Contents.{find_item, placed}
 use Rattle.iddqd.specs.Errors.{duplicates_of, new_item_of}
@@ -23,12 +25,12 @@ use Rattle.iddqd_run.specs.Answer as answer
 use Rattle.iddqd_run.specs.Answer.{added_text, all_placed, entry_named, how_many_added, how_many_fit, is_full, lacks_room, name_cmp, name_of}
 use Rattle.iddqd.specs.declared.errors.ExtendUniqueError.TheVariants.{Duplicate, Refused}
 use Rattle.iddqd_run.specs.KeyedMap.{StopsExtension}
-use Rattle.iddqd_run.specs.Lines.{AddAll}
+use Rattle.iddqd_run.specs.Lines.{AddAll, is_name, onto_pairs, paired_request, pairs_of, value_of, words_of}
 use Rattle.iddqd_run.specs.Shown.{AnswersPlainly, AnswersRequest, LeavesRefused, ShowsEntries, entries_of, entry_of, no_room_reply, no_space_reply, shown}
 use Rattle.iddqd_run.specs.Step.{FindsFull, FitsLikely, MapState, RefusesRoom, StopsAt, TakesAll, likely_new}
 use Rattle.iddqd_run.specs.declared.arguments.Kind.{Kind}
 use Rattle.iddqd_run.specs.declared.entries.Entry.{Entry}
-use Rattle.iddqd_run.specs.declared.entries.LineReply.TheVariants.{AddedAll, DuplicateAfter, RefusedCapacity, RefusedMemory}
+use Rattle.iddqd_run.specs.declared.entries.LineReply.TheVariants.{AddedAll, Bad, DuplicateAfter, RefusedCapacity, RefusedMemory}
 use Rattle.iddqd_run.specs.declared.entries.LineReply.{LineReply}
 use Rattle.iddqd_run.proofs.ExtendLemmas.{absent_before, as_many, counted, cut_at}
 use Rattle.iddqd_run.proofs.ShownLemmas.{absent_shown, asks_room, by_name, has_room, length_shown, moved_shown, placed_shown, there_shown}
@@ -97,8 +99,8 @@ module _ (kind : Kind) where
 
   -- the first ones are in, and x comes next
   module _ (front rest : List Entry) (x : Entry) (items new : List Entry) (takes : TakesAll by_name string_eq max_items front items new) (entries : List answer.Entry) (shows : ShowsEntries items entries) (fits : length items + likely_new (length items) (length (front ++ x ∷ rest)) ≤ max_items) where
-    abbrev pairs : List answer.Entry
-    pairs = entries_of (front ++ x ∷ rest)
+    abbrev given : List answer.Entry
+    given = entries_of (front ++ x ∷ rest)
 
     abbrev end : List answer.Entry
     end = all_placed (entries_of front) entries
@@ -106,46 +108,46 @@ module _ (kind : Kind) where
     thr : IsThrough front items new entries
     thr = through front items new takes entries shows
 
-    room : lacks_room pairs entries ≡ false
+    room : lacks_room given entries ≡ false
     room = likely_room (front ++ x ∷ rest) items entries shows fits
 
-    split : pairs ≡ entries_of front ++ entry_of x ∷ entries_of rest
+    split : given ≡ entries_of front ++ entry_of x ∷ entries_of rest
     split = map-append entry_of front (x ∷ rest)
 
     long : length (entries_of front) ≡ length front
     long = length-map front entry_of
 
-    fit : how_many_fit pairs entries ≡ length front + how_many_fit (entry_of x ∷ entries_of rest) end
+    fit : how_many_fit given entries ≡ length front + how_many_fit (entry_of x ∷ entries_of rest) end
     fit = ap (λ es. how_many_fit es entries) split ∙ thr.fits (entry_of x ∷ entries_of rest)
 
-    taken : take (length front) pairs ≡ entries_of front
-    taken = ap (λ n. take n pairs) (sym long) ∙ ap (take (length (entries_of front))) split ∙ take-append_seam (entries_of front) (entry_of x ∷ entries_of rest)
+    taken : take (length front) given ≡ entries_of front
+    taken = ap (λ n. take n given) (sym long) ∙ ap (take (length (entries_of front))) split ∙ take-append_seam (entries_of front) (entry_of x ∷ entries_of rest)
 
-    dropped : drop (length front) pairs ≡ entry_of x ∷ entries_of rest
-    dropped = ap (λ n. drop n pairs) (sym long) ∙ ap (drop (length (entries_of front))) split ∙ drop-append_seam (entries_of front) (entry_of x ∷ entries_of rest)
+    dropped : drop (length front) given ≡ entry_of x ∷ entries_of rest
+    dropped = ap (λ n. drop n given) (sym long) ∙ ap (drop (length (entries_of front))) split ∙ drop-append_seam (entries_of front) (entry_of x ∷ entries_of rest)
 
-    stuck_plainly : (reply : List ℕ) → how_many_fit (entry_of x ∷ entries_of rest) end ≡ 0 → reply ≡ added_text (length front) (entry_of x ∷ entries_of rest) end → AnswersPlainly kind (AddAll pairs) entries reply new
+    stuck_plainly : (reply : List ℕ) → how_many_fit (entry_of x ∷ entries_of rest) end ≡ 0 → reply ≡ added_text (length front) (entry_of x ∷ entries_of rest) end → AnswersPlainly kind (AddAll given) entries reply new
     stuck_plainly reply stuck is =
-        let count : how_many_fit pairs entries ≡ length front = omega (arith, fit, stuck) in
-        let told : (n : ℕ) → List ℕ = λ n. added_text n (drop n pairs) (all_placed (take n pairs) entries) in
+        let count : how_many_fit given entries ≡ length front = omega (arith, fit, stuck) in
+        let told : (n : ℕ) → List ℕ = λ n. added_text n (drop n given) (all_placed (take n given) entries) in
         record {
-          text = is ∙ sym (ap (λ b. cond b (codes "refused capacity") (told (how_many_fit pairs entries))) room ∙ ap told count ∙ ap₂ (λ ds ts. added_text (length front) ds (all_placed ts entries)) dropped taken);
-          after = subst (λ es. ShowsEntries new (all_placed es entries)) (sym (ap (λ b. take (cond b 0 (how_many_fit pairs entries)) pairs) room ∙ ap (λ n. take n pairs) count ∙ taken)) thr.shows;
+          text = is ∙ sym (ap (λ b. cond b (codes "refused capacity") (told (how_many_fit given entries))) room ∙ ap told count ∙ ap₂ (λ ds ts. added_text (length front) ds (all_placed ts entries)) dropped taken);
+          after = subst (λ es. ShowsEntries new (all_placed es entries)) (sym (ap (λ b. take (cond b 0 (how_many_fit given entries)) given) room ∙ ap (λ n. take n given) count ∙ taken)) thr.shows;
         }
 
-    refused_here : LeavesRefused kind (AddAll pairs) entries new
+    refused_here : LeavesRefused kind (AddAll given) entries new
     refused_here = record {
       left = end;
       by_request = (
         length front,
         (let all = ap length split ∙ length-append (entries_of front) (entry_of x ∷ entries_of rest) in omega (arith, all, long)),
-        (let added : how_many_added pairs entries ≡ how_many_fit pairs entries = ap (λ b. cond b 0 (how_many_fit pairs entries)) room in omega (arith, added, fit)),
+        (let added : how_many_added given entries ≡ how_many_fit given entries = ap (λ b. cond b 0 (how_many_fit given entries)) room in omega (arith, added, fit)),
         sym (ap (λ es. all_placed es entries) taken),
       );
       after = thr.shows;
     }
 
-    conflict_here : (y : Entry) → find_item by_name (string_eq x.name) new ≡ Some y → (told : Bor (List ℕ)) (value count : ℕ) → told.now ≡ string_bytes x.name → value ≡ y.value → count ≡ length front → AnswersPlainly kind (AddAll pairs) entries (shown (DuplicateAfter told value count)) new
+    conflict_here : (y : Entry) → find_item by_name (string_eq x.name) new ≡ Some y → (told : Bor (List ℕ)) (value count : ℕ) → told.now ≡ string_bytes x.name → value ≡ y.value → count ≡ length front → AnswersPlainly kind (AddAll given) entries (shown (DuplicateAfter told value count)) new
     conflict_here y found told value count e f h =
         let there : entry_named (string_bytes x.name) end ≡ Some (entry_of y) = there_shown (string_bytes x.name) new end thr.shows y found in
         let on_old : answer.Entry → List ℕ = λ old. codes "duplicate " ++ string_bytes x.name ++ codes " " ++ decimal old.1 ++ codes " after " ++ decimal (length front) in
@@ -155,7 +157,7 @@ module _ (kind : Kind) where
         ∙ ap (λ n. codes "duplicate " ++ string_bytes x.name ++ codes " " ++ decimal y.value ++ codes " after " ++ decimal n) h
         ∙ sym (ap (λ o. option_map_or on_old o (codes "refused capacity")) there))
 
-    full_here : find_item by_name (string_eq x.name) new ≡ None → length new ≡ max_items → AnswersPlainly kind (AddAll pairs) entries (shown RefusedCapacity) new
+    full_here : find_item by_name (string_eq x.name) new ≡ None → length new ≡ max_items → AnswersPlainly kind (AddAll given) entries (shown RefusedCapacity) new
     full_here absent full =
         let none : entry_named (string_bytes x.name) end ≡ None = absent_shown (string_bytes x.name) new end thr.shows absent in
         let at_limit : is_full end ≡ true = eq-eqb (length end) max_items (length_shown new end thr.shows ∙ full) in
@@ -219,7 +221,7 @@ module _ (kind : Kind) where
       }
 
   -- an entry could not be made
-  pub not_made_told : (pairs : List answer.Entry) (items : List Entry) → 0 < length pairs → AnswersRequest kind (AddAll pairs) items RefusedMemory items
+  not_made_told : (pairs : List answer.Entry) (items : List Entry) → 0 < length pairs → AnswersRequest kind (AddAll pairs) items RefusedMemory items
   not_made_told pairs items many = λ entries shows. record { left = entries; by_request = (0, many, omega arith, refl); after = shows }
 
   -- the same, of what a map of entries tells
@@ -245,3 +247,31 @@ module _ (kind : Kind) where
         by : (item : Option Entry) → IfSome item (λ x. FitsLikely by_name string_eq max_items xs old.items × (after : ℕ) × FindsFull by_name string_eq max_items xs x e.error after old new) → IfNone item (RefusesRoom max_items (likely_new (length old.items) (length xs)) old e.error × (new ≡ old.items)) → AnswersRequest kind (AddAll (entries_of xs)) old.items reply new
         by (Some x) some none = full_told xs old.items x some.1 new some.0 some.2.stops e.error some.2.refused reply (full new)
         by None some none = no_room_told xs old new e.error none.0 none.1 reply (space (length old.items + likely_new (length old.items) (length xs)))
+
+-- fields that follow the form are one pair at least
+some_pair : (fields : List ℕ) (pairs : List answer.Entry) → pairs_of (words_of fields) ≡ Some pairs → 0 < length pairs
+some_pair fields pairs e = by (words_of fields) refl e
+  where
+    more : (b : Bool) (name : List ℕ) (value : Option ℕ) (behind : Option (List answer.Entry)) → cond b (onto_pairs name value behind) None ≡ Some pairs → 0 < length pairs
+    more false name value behind e = cc
+    more true name None behind e = cc
+    more true name (Some value) None e = cc
+    more true name (Some value) (Some rest) e = (let same : (name, value) ∷ rest ≡ pairs = cc in let long = ap length same in omega (arith, long))
+
+    by : (ws : List (List ℕ)) → words_of fields ≡ ws → pairs_of ws ≡ Some pairs → 0 < length pairs
+    by [] f e = absurd (omega (arith, length-slice_split (λ b. eqb b 32) fields, ap length f))
+    by (name ∷ []) f e = cc
+    by (name ∷ value ∷ ws) f e = more (is_name name) name (value_of value) (pairs_of ws) e
+
+module _ (kind : Kind) (items : List Entry) where
+  -- fields that do not follow the form
+  pub bad_told : (pairs : Option (List answer.Entry)) → None ≡ pairs → AnswersRequest kind (paired_request pairs) items Bad items
+  bad_told pairs e = subst (λ ps. AnswersRequest kind (paired_request ps) items Bad items) e (λ entries shows. record { text = refl; after = shows })
+
+  -- an entry of fields could not be made
+  pub making_told : (fields : List ℕ) (reply : LineReply) → reply ≡ cond (is_some (pairs_of (words_of fields))) RefusedMemory Bad → AnswersRequest kind (paired_request (pairs_of (words_of fields))) items reply items
+  making_told fields reply is = subst (λ r. AnswersRequest kind (paired_request (pairs_of (words_of fields))) items r items) (sym is) (by (pairs_of (words_of fields)) refl)
+    where
+      by : (pairs : Option (List answer.Entry)) → pairs_of (words_of fields) ≡ pairs → AnswersRequest kind (paired_request pairs) items (cond (is_some pairs) RefusedMemory Bad) items
+      by None e = bad_told None refl
+      by (Some pairs) e = not_made_told kind pairs items (some_pair fields pairs e)

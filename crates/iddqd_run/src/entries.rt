@@ -69,18 +69,31 @@ impl Keeps<Entry> for Above {
 #[derive(Clone, Copy)]
 pub(crate) enum LineReply<'a> {
     Added,
-    Duplicate { name: &'a str, value: u64 },
+    Duplicate {
+        name: &'a str,
+        value: u64,
+    },
     New,
     Replaced(u64),
     Found(u64),
     Removed(u64),
-    Named { name: &'a str, value: u64 },
+    Named {
+        name: &'a str,
+        value: u64,
+    },
     AddedAll(usize),
-    DuplicateAfter { name: &'a str, value: u64, count: usize },
+    DuplicateAfter {
+        name: &'a str,
+        value: u64,
+        count: usize,
+    },
     Absent,
     Within,
     Set(u64),
-    Kept { kept: usize, dropped: usize },
+    Kept {
+        kept: usize,
+        dropped: usize,
+    },
     Length(usize),
     Done,
     Unsupported,

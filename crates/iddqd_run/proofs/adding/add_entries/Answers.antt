@@ -1,4 +1,4 @@
-use Rattle.std.proofs.Common.{rules, ◌≡◌, ◌∙◌, length, refl, sym, ap, subst, string_bytes, IfOk}
+use Rattle.std.proofs.Common.{rules, ◌≡◌, ◌∙◌, length, sym, ap, subst, string_bytes, IfOk}
 use Rattle.std.specs.Result.{IsOk}
 use Rattle.std.specs.String.{string_eq_equiv}
 use Rattle.iddqd.specs.Refusal.{IsLent}
