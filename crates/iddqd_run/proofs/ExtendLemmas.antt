@@ -48,7 +48,7 @@ stays_on state limit_of rule IsKeyed old middle new one other = record {
 
 module _ {T : Type 0} where
   -- a list is cut before the place of x
-  cut_at : (xs : List T) (n m : ℕ) (x : T) → slice_get xs n ≡ Some x → n < m → (rest : List T) × (take m xs ≡ take n xs ++ x ∷ rest)
+  pub cut_at : (xs : List T) (n m : ℕ) (x : T) → slice_get xs n ≡ Some x → n < m → (rest : List T) × (take m xs ≡ take n xs ++ x ∷ rest)
   cut_at [] n m x e lt = cc
   cut_at (y ∷ xs) zero zero x e lt = absurd (omega (arith, lt))
   cut_at (y ∷ xs) zero (suc m) x e lt = (take m xs, (let same : y ≡ x = cc in ap (λ z. z ∷ take m xs) same))
@@ -129,7 +129,7 @@ module _ {T K : Type 0} (key : T → K) {eq : K → K → Bool} (equivalence : I
 
     -- what `run` answers of an extension that stops: how many were put in is told by how many there are
     module _ (xs : List T) (old : MapState T) (new : List T) (before now : ℕ) (b : before ≡ length old.items) (n : now ≡ length new) where
-      counted : (x : T) (after : ℕ) → StopsAt key eq limit xs x after old.items new → (before ≤ now) × (now - before ≡ after)
+      pub counted : (x : T) (after : ℕ) → StopsAt key eq limit xs x after old.items new → (before ≤ now) × (now - before ≡ after)
       counted x after stops =
           let long = as_many_before xs old.items new x after stops.next stops.taken.added in
           (omega (arith, b, n, long), omega (arith, b, n, long))

@@ -1,3 +1,4 @@
+pub mod AddAllLemmas
 mod AscendLemmas
 pub mod Cuts
 mod EndLemmas

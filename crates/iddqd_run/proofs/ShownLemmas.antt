@@ -24,7 +24,7 @@ use Rattle.iddqd.proofs.OrderLemmas.{Tells, find_tells}
 use Rattle.iddqd_run.proofs.SameItemsLemmas.{filter_permutation}
 use Rattle.iddqd_run.proofs.NameOrderLemmas.{AreInOrder, found_in_order, placed_in_order, replaced_in_order, without_in_order}
 
-abbrev by_name : Entry → String Global
+abbrev pub by_name : Entry → String Global
 by_name entry = entry.name
 
 abbrev InOrder : List answer.Entry → List answer.Entry → Type 0
@@ -54,10 +54,10 @@ module _ (name : List ℕ) (items : List Entry) (entries : List answer.Entry) (s
       sym (found_in_order name_of nat_list_eq_equiv nat_list_cmp_total texts_ties (bytes_eq name) (nat_list_eq_equiv.congr name) (entries_of items) entries (order items entries shows))
       ∙ find_item-map entry_of name_of (bytes_eq name) items
 
-  absent_shown : found ≡ None → entry_named name entries ≡ None
+  pub absent_shown : found ≡ None → entry_named name entries ≡ None
   absent_shown e = found_shown ∙ ap (option_map entry_of) e
 
-  there_shown : (y : Entry) → found ≡ Some y → entry_named name entries ≡ Some (entry_of y)
+  pub there_shown : (y : Entry) → found ≡ Some y → entry_named name entries ≡ Some (entry_of y)
   there_shown y e = found_shown ∙ ap (option_map entry_of) e
 
   without_shown : (new : List Entry) → new ≡ without by_name (λ k. bytes_eq name (string_bytes k)) items → ShowsEntries new (without name_of (bytes_eq name) entries)
@@ -102,7 +102,7 @@ module _ (kind : Kind) where
 
   -- what `shrink` leaves: the entries of the same items in whatever order
   module _ (items new : List Entry) (same : SameInAnyOrder items new) where
-    moved_shown : (entries : List answer.Entry) → ShowsEntries items entries → ShowsEntries new entries
+    pub moved_shown : (entries : List answer.Entry) → ShowsEntries items entries → ShowsEntries new entries
     moved_shown entries shows = record {
       same = IsPermutation-trans (entries_of new) (entries_of items) entries (IsPermutation-sym (entries_of items) (entries_of new) (IsPermutation-map entry_of items new same)) shows.same;
       ascending = shows.ascending;
@@ -179,16 +179,16 @@ module _ (kind : Kind) (x : Entry) (items : List Entry) (name : List ℕ) (same 
     none_named : entry_named name entries ≡ None
     none_named = subst (λ n. entry_named n entries ≡ None) same (absent_shown (string_bytes x.name) items entries shows absent)
 
-    asks_room : {A : Type 0} (on_old : answer.Entry → A) (full made : A) (b : Bool) → is_full entries ≡ b → option_map_or on_old (entry_named name entries) (cond (is_full entries) full made) ≡ cond b full made
+    pub asks_room : {A : Type 0} (on_old : answer.Entry → A) (full made : A) (b : Bool) → is_full entries ≡ b → option_map_or on_old (entry_named name entries) (cond (is_full entries) full made) ≡ cond b full made
     asks_room on_old full made b e = rw none_named (rw e refl)
 
-    has_room : length items < max_items → is_full entries ≡ false
+    pub has_room : length items < max_items → is_full entries ≡ false
     has_room few = ne_eqb (length entries) max_items (λ e. omega (arith, few, e, length_shown items entries shows))
 
     has_no_room : length items ≡ max_items → is_full entries ≡ true
     has_no_room full = eq-eqb (length entries) max_items (length_shown items entries shows ∙ full)
 
-    placed_shown : AddsItem x items new → ShowsEntries new (placed name_of name_cmp (name, x.value) entries)
+    pub placed_shown : AddsItem x items new → ShowsEntries new (placed name_of name_cmp (name, x.value) entries)
     placed_shown adds =
         let adds_entry : AddsItem (entry_of x) (entries_of items) (entries_of new) = record {
           place = adds.place;

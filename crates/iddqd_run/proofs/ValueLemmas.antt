@@ -2,8 +2,9 @@
 --     Spells word n      the word is the text of a number of 64 bits
 --     no_value, value_read      where a word has no value, and which one it has
 --     valued_words, unnamed_words      what follows a name in a line, or a word that is none
+--     paired_words, unpaired_words      a line of the word of many pairs, and one of another word
 use Rattle.std.proofs.Common.{◌≡◌, ◌≢◌, ℕ, ◌<◌, ◌^◌, Bool, true, false, cond, ◌&&◌, eqb, List, [], ◌∷◌, length, get_or, Option, Some, None, Result, Ok, Err, sym, refl, ap, ◌∙◌, subst, arith, rules, ⊎_elim, ◌⊎◌, inl, inr}
-use Rattle.std.specs.Prelude.{nat_lt, decimal, bytes_eq}
+use Rattle.std.specs.Prelude.{nat_lt, codes, decimal, bytes_eq}
 use Rattle.std.specs.List.{join_with_byte}
 use Rattle.std.proofs.lemmas.List.Splits.{length-slice_split, join_with_byte-slice_split}
 use Rattle.std.specs.Result.{result_ok, OkIff}
@@ -14,7 +15,7 @@ use Rattle.std.proofs.lemmas.Str.Parse.{IsNumeralModel, numerals_by_value, tells
 use Rattle.std.proofs.lemmas.Fmt.{decimal_nonempty, decimal_digit, first_decimal, digits_decimal, digits_value-decimal, decimal-digits_value, IsAscii-decimal}
 use Rattle.std.proofs.lemmas.Slice.Eq.{bytes_eq-Decides}
 use Rattle.std.proofs.Math.Nat.{eq-zero-or-pos}
-use Rattle.iddqd_run.specs.Lines.{is_name, value_of, words_of, HasOneForm, request_of_words, valued_request, Bad}
+use Rattle.iddqd_run.specs.Lines.{is_name, value_of, words_of, HasOneForm, fields_request, paired_request, pairs_of, request_of_words, valued_request, Bad}
 use Rattle.iddqd_run.proofs.Cuts.{words-whole}
 
 numerals : IsNumeralModel (AllDigits 10) (digits_value 10)
@@ -85,20 +86,31 @@ spelled_whole word n s = subst (λ w. words_of w ≡ w ∷ []) (sym s.text)
     (words-whole (decimal n) (λ k h e. let range = digit_at (decimal n) k (digits_decimal numerals n s.fits) h in omega (arith, range.0, range.1, e)))
 
 -- what follows a name is the value, if it is one, and else no value
-pub valued_words : (word name rest : List ℕ) → is_name name ≡ true → request_of_words (word ∷ name ∷ words_of rest) ≡ valued_request word name (value_of rest)
+pub valued_words : (word name rest : List ℕ) → is_name name ≡ true → fields_request word (name ∷ words_of rest) ≡ valued_request word name (value_of rest)
 valued_words word name rest named = by (words_of rest) refl
   where
-    by : (ws : List (List ℕ)) → words_of rest ≡ ws → request_of_words (word ∷ name ∷ ws) ≡ valued_request word name (value_of rest)
+    by : (ws : List (List ℕ)) → words_of rest ≡ ws → fields_request word (name ∷ ws) ≡ valued_request word name (value_of rest)
     by [] e = absurd (omega (arith, length-slice_split (λ b. eqb b 32) rest, ap length e))
     by (value ∷ []) e =
         let whole : value ≡ rest = sym (ap (join_with_byte 32) e) ∙ join_with_byte-slice_split 32 rest in
         rw named (ap (λ w. valued_request word name (value_of w)) whole)
     by (value ∷ more ∷ ws) e = ap (valued_request word name) (no_value rest (λ n s. let one : rest ∷ [] ≡ value ∷ more ∷ ws = sym (spelled_whole rest n s) ∙ e in cc))
 
-pub unnamed_words : (word name rest : List ℕ) → is_name name ≡ false → request_of_words (word ∷ name ∷ words_of rest) ≡ Bad
+pub unnamed_words : (word name rest : List ℕ) → is_name name ≡ false → fields_request word (name ∷ words_of rest) ≡ Bad
 unnamed_words word name rest none = by (words_of rest) refl
   where
-    by : (ws : List (List ℕ)) → words_of rest ≡ ws → request_of_words (word ∷ name ∷ ws) ≡ Bad
+    by : (ws : List (List ℕ)) → words_of rest ≡ ws → fields_request word (name ∷ ws) ≡ Bad
     by [] e = absurd (omega (arith, length-slice_split (λ b. eqb b 32) rest, ap length e))
     by (value ∷ []) e = rw none refl
     by (value ∷ more ∷ ws) e = refl
+
+-- a line of the word of many pairs, and one of another word
+pub paired_words : (word rest : List ℕ) → bytes_eq word (codes "addall") ≡ true → request_of_words (word ∷ words_of rest) ≡ paired_request (pairs_of (words_of rest))
+paired_words word rest many = by (words_of rest) refl
+  where
+    by : (ws : List (List ℕ)) → words_of rest ≡ ws → request_of_words (word ∷ ws) ≡ paired_request (pairs_of ws)
+    by [] e = absurd (omega (arith, length-slice_split (λ b. eqb b 32) rest, ap length e))
+    by (field ∷ fields) e = rw many refl
+
+pub unpaired_words : (word field : List ℕ) (fields : List (List ℕ)) → bytes_eq word (codes "addall") ≡ false → request_of_words (word ∷ field ∷ fields) ≡ fields_request word (field ∷ fields)
+unpaired_words word field fields other = rw other refl

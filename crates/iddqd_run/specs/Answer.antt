@@ -2,14 +2,15 @@
 --     line_reply, entries_after      the reply to a request, and the entries then
 --     answer_text kind input      the answer to a whole text, over a map of the kind, which decides only whether there are ends: a hash map has none
 --     AnswersWithRefusals kind input refusals text      the same, with so many lines refused for want of memory
-use Rattle.std.specs.Prelude.{◌≡◌, ℕ, Bool, List, [], ◌∷◌, ◌++◌, length, Option, Some, None, ◌+◌, ◌-◌, ◌≤◌, drop, take, flat_map, slice_get, decimal, codes, bytes_eq, ◌==◌, if◌then◌else◌, ◌⊎◌, suc, filter, nat_lt}
+use Rattle.std.specs.Prelude.{◌≡◌, ℕ, Bool, List, [], ◌∷◌, ◌++◌, length, Option, Some, None, ◌+◌, ◌-◌, ◌<◌, ◌≤◌, drop, take, flat_map, slice_get, decimal, codes, bytes_eq, ◌==◌, if◌then◌else◌, ◌⊎◌, suc, filter, nat_lt}
 use Rattle.std.specs.declared.cmp.Ordering.{Ordering}
 use Rattle.std.specs.Ordering.{nat_cmp}
 use Rattle.std.specs.Option.{option_map_or}
 use Rattle.std.specs.Cmp.Lexicographic.{slice_cmp}
 use Rattle.iddqd.specs.Contents.{find_item, without, replaced, placed}
-use Rattle.iddqd_run.specs.Lines.{Request, Add, Put, Get, Del, Cost, Len, ListAll, First, Last, PopFirst, PopLast, Bad, lines_of, request_of, Set, Keep, Reserve, Shrink}
+use Rattle.iddqd_run.specs.Lines.{Request, Add, Put, Get, Del, Cost, Len, ListAll, First, Last, PopFirst, PopLast, Bad, lines_of, request_of, Set, Keep, Reserve, Shrink, AddAll}
 use Rattle.iddqd.specs.Holding.{max_items}
+use Rattle.iddqd_run.specs.Step.{likely_new}
 use Rattle.iddqd_run.specs.declared.arguments.Kind.{Kind}
 use Rattle.iddqd_run.specs.declared.arguments.Kind.TheVariants.{Hash, Ord}
 
@@ -32,6 +33,29 @@ is_full entries = length entries == max_items
 -- the entries of a greater value
 abbrev pub greater : ℕ → List Entry → List Entry
 greater value entries = filter (λ entry. nat_lt value entry.1) entries
+
+-- the entries with each pair at its place, one after the other
+abbrev pub all_placed : List Entry → List Entry → List Entry
+all_placed [] entries = entries
+all_placed (pair ∷ pairs) entries = all_placed pairs (placed name_of name_cmp pair entries)
+
+-- how many of the pairs are put in, one after the other, up to one whose name is there by then, or a full map
+abbrev pub how_many_fit : List Entry → List Entry → ℕ
+how_many_fit [] entries = 0
+how_many_fit (pair ∷ pairs) entries = option_map_or (λ _. 0) (entry_named (name_of pair) entries) (if is_full entries then 0 else suc (how_many_fit pairs (placed name_of name_cmp pair entries)))
+
+-- a map never has room for as many of the pairs as are likely new: for all in a map without entries, and for half of them, rounded up, in another
+abbrev pub lacks_room : List Entry → List Entry → Bool
+lacks_room pairs entries = nat_lt max_items (length entries + likely_new (length entries) (length pairs))
+
+-- how many of the pairs `addall` puts in
+abbrev pub how_many_added : List Entry → List Entry → ℕ
+how_many_added pairs entries = if lacks_room pairs entries then 0 else how_many_fit pairs entries
+
+-- what is told once so many pairs are in: that these were all, or that the next one's name is there, or else that the map is full
+abbrev pub added_text : ℕ → List Entry → List Entry → List ℕ
+added_text count [] entries = codes "added " ++ decimal count
+added_text count (pair ∷ pairs) entries = option_map_or (λ old. codes "duplicate " ++ name_of pair ++ codes " " ++ decimal old.1 ++ codes " after " ++ decimal count) (entry_named (name_of pair) entries) (codes "refused capacity")
 
 -- each entry, after a space
 abbrev pub list_text : List Entry → List ℕ
@@ -62,6 +86,7 @@ module _ (kind : Kind) where
   line_reply (Keep value) entries = let kept = length (greater value entries) in codes "kept " ++ decimal kept ++ codes " dropped " ++ decimal (length entries - kept)
   line_reply (Reserve value) entries = if nat_lt max_items (length entries + value) then codes "refused capacity" else codes "ok"
   line_reply Shrink entries = codes "ok"
+  line_reply (AddAll pairs) entries = if lacks_room pairs entries then codes "refused capacity" else (let count = how_many_fit pairs entries in added_text count (drop count pairs) (all_placed (take count pairs) entries))
   line_reply Len entries = decimal (length entries)
   line_reply ListAll entries = codes "list " ++ decimal (length entries) ++ list_text entries
   line_reply First entries = by_ends kind (codes "unsupported") (end_text (slice_get entries 0))
@@ -81,6 +106,7 @@ module _ (kind : Kind) where
   entries_after (Keep value) entries = greater value entries
   entries_after (Reserve value) entries = entries
   entries_after Shrink entries = entries
+  entries_after (AddAll pairs) entries = all_placed (take (how_many_added pairs entries) pairs) entries
   entries_after Len entries = entries
   entries_after ListAll entries = entries
   entries_after First entries = entries
@@ -98,12 +124,13 @@ module _ (kind : Kind) where
   answer_text input = replies (lines_of input) []
 
   -- what a line leaves that is refused memory, where it takes any: what was there, of a line that makes one item, of one that sorts, and of one that makes room
-  -- or gives it back; a reservation past the limit is never refused memory
+  -- or gives it back; a reservation past the limit is never refused memory; some of the first pairs, of one that adds many
   abbrev pub RefusedLeaves : Request → (old new : List Entry) → Type 0
   RefusedLeaves (Add name value) old new = new ≡ old
   RefusedLeaves (Put name value) old new = new ≡ old
   RefusedLeaves (Reserve value) old new = (length old + value ≤ max_items) × (new ≡ old)
   RefusedLeaves Shrink old new = new ≡ old
+  RefusedLeaves (AddAll pairs) old new = (count : ℕ) × (count < length pairs) × (count ≤ how_many_added pairs old) × (new ≡ all_placed (take count pairs) old)
   RefusedLeaves ListAll old new = (kind ≡ Hash) × (new ≡ old)
   RefusedLeaves _ old new = ⊥
 

@@ -40,6 +40,7 @@ pub data Request : Type 0 where
   Keep : ℕ → Request
   Reserve : ℕ → Request
   Shrink : Request
+  AddAll : List (List ℕ × ℕ) → Request
   Len : Request
   ListAll : Request
   First : Request
@@ -81,12 +82,34 @@ field_request word field =
     if bytes_eq word (codes "keep") then kept_request (value_of field) else (if bytes_eq word (codes "reserve") then reserved_request (value_of field) else
     (if is_name field then named_request word field else Bad))
 
+-- a request by its word and the fields, of which there is one at least
+abbrev pub fields_request : List ℕ → List (List ℕ) → Request
+fields_request word [] = Bad
+fields_request word (field ∷ []) = field_request word field
+fields_request word (name ∷ value ∷ []) = if is_name name then valued_request word name (value_of value) else Bad
+fields_request word (name ∷ value ∷ more ∷ words) = Bad
+
+-- a pair before others; none where its word is no value
+abbrev pub onto_pairs : List ℕ → Option ℕ → Option (List (List ℕ × ℕ)) → Option (List (List ℕ × ℕ))
+onto_pairs name None pairs = None
+onto_pairs name (Some value) None = None
+onto_pairs name (Some value) (Some pairs) = Some ((name, value) ∷ pairs)
+
+-- the pairs of a name and a value that words are, in order; none where a word is left alone, or is not what it should be
+abbrev pub pairs_of : List (List ℕ) → Option (List (List ℕ × ℕ))
+pairs_of [] = Some []
+pairs_of (name ∷ []) = None
+pairs_of (name ∷ value ∷ words) = if is_name name then onto_pairs name (value_of value) (pairs_of words) else None
+
+-- a request by pairs: `addall`
+abbrev pub paired_request : Option (List (List ℕ × ℕ)) → Request
+paired_request None = Bad
+paired_request (Some pairs) = AddAll pairs
+
 abbrev pub request_of_words : List (List ℕ) → Request
 request_of_words [] = Bad
 request_of_words (word ∷ []) = bare_request word
-request_of_words (word ∷ field ∷ []) = field_request word field
-request_of_words (word ∷ name ∷ value ∷ []) = if is_name name then valued_request word name (value_of value) else Bad
-request_of_words (word ∷ name ∷ value ∷ more ∷ words) = Bad
+request_of_words (word ∷ field ∷ fields) = if bytes_eq word (codes "addall") then paired_request (pairs_of (field ∷ fields)) else fields_request word (field ∷ fields)
 
 abbrev pub request_of : List ℕ → Request
 request_of line = request_of_words (words_of line)

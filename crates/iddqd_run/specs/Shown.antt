@@ -11,7 +11,7 @@ use Rattle.iddqd_run.specs.declared.arguments.Kind.{Kind}
 use Rattle.iddqd_run.specs.declared.arguments.Kind.TheVariants.{Ord}
 use Rattle.iddqd_run.specs.declared.entries.Entry.{Entry}
 use Rattle.iddqd_run.specs.declared.entries.LineReply.{LineReply}
-use Rattle.iddqd_run.specs.declared.entries.LineReply.TheVariants.{Added, Duplicate, New, Replaced, Found, Removed, Named, Absent, Within, Length, Unsupported, Bad, RefusedCapacity, RefusedMemory, Set, Kept, Done}
+use Rattle.iddqd_run.specs.declared.entries.LineReply.TheVariants.{Added, Duplicate, New, Replaced, Found, Removed, Named, Absent, Within, Length, Unsupported, Bad, RefusedCapacity, RefusedMemory, Set, Kept, Done, AddedAll, DuplicateAfter}
 
 abbrev pub entry_of : Entry → answer.Entry
 entry_of entry = (string_bytes entry.name, entry.value)
@@ -32,6 +32,8 @@ shown (Replaced value) = codes "replaced " ++ decimal value
 shown (Found value) = decimal value
 shown (Removed value) = codes "removed " ++ decimal value
 shown (Named name value) = name.now ++ codes " " ++ decimal value
+shown (AddedAll count) = codes "added " ++ decimal count
+shown (DuplicateAfter name value count) = codes "duplicate " ++ name.now ++ codes " " ++ decimal value ++ codes " after " ++ decimal count
 shown Absent = codes "none"
 shown Within = codes "within"
 shown (Set value) = codes "set " ++ decimal value

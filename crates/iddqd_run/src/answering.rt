@@ -7,7 +7,7 @@ ghost use Rattle.iddqd_run.specs.Shown.{IsTable, WritesReply};
 use crate::entries::{Entry, LineReply, write_reply};
 use crate::lines::{Line, first_line, parse};
 use crate::table::Table;
-use crate::{ends, requests};
+use crate::{adding, ends, requests};
 use iddqd::Steps;
 use std::alloc::{AllocError, Global};
 
@@ -33,7 +33,7 @@ pub(crate) fn answer<M: Table<Item = Entry, Key = String> + Drop>(
 }
 
 // Writes the reply to one line, and answers how many refusals for want of memory it tells. Beside the text only the making of
-// an entry takes memory, the list of a map that keeps no order, and what makes room or gives it back.
+// entries takes memory, the list of a map that keeps no order, and what makes room or gives it back.
 fn answer_line<M: Table<Item = Entry, Key = String>>(
     alloc: Global,
     map: &mut M,
@@ -54,6 +54,7 @@ fn answer_line<M: Table<Item = Entry, Key = String>>(
         Line::Keep { value } => write_reply(text, requests::keep(map, value)),
         Line::Reserve { value } => write_reply(text, requests::reserve(map, value)),
         Line::Shrink => write_reply(text, requests::shrink(map)),
+        Line::AddAll { fields } => adding::add_all(alloc, map, fields, text),
         Line::Len => write_reply(text, requests::len(map)),
         Line::ListAll => ends::list(alloc, map, text),
         Line::First => write_reply(text, ends::first(map)),

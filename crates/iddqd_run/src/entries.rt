@@ -69,16 +69,31 @@ impl Keeps<Entry> for Above {
 #[derive(Clone, Copy)]
 pub(crate) enum LineReply<'a> {
     Added,
-    Duplicate { name: &'a str, value: u64 },
+    Duplicate {
+        name: &'a str,
+        value: u64,
+    },
     New,
     Replaced(u64),
     Found(u64),
     Removed(u64),
-    Named { name: &'a str, value: u64 },
+    Named {
+        name: &'a str,
+        value: u64,
+    },
+    AddedAll(usize),
+    DuplicateAfter {
+        name: &'a str,
+        value: u64,
+        count: usize,
+    },
     Absent,
     Within,
     Set(u64),
-    Kept { kept: usize, dropped: usize },
+    Kept {
+        kept: usize,
+        dropped: usize,
+    },
     Length(usize),
     Done,
     Unsupported,
@@ -111,6 +126,10 @@ impl Display for LineReply<'_> {
             LineReply::Found(value) => write!(f, "{value}"),
             LineReply::Removed(value) => write!(f, "removed {value}"),
             LineReply::Named { name, value } => write!(f, "{name} {value}"),
+            LineReply::AddedAll(count) => write!(f, "added {count}"),
+            LineReply::DuplicateAfter { name, value, count } => {
+                write!(f, "duplicate {name} {value} after {count}")
+            }
             LineReply::Absent => write!(f, "none"),
             LineReply::Within => write!(f, "within"),
             LineReply::Set(value) => write!(f, "set {value}"),

@@ -1,6 +1,7 @@
 //! Maps whose keys live in their items, run by commands and by lines of text.
 #![tactic(auto)]
 
+mod adding;
 mod answering;
 mod arguments;
 mod commands;

@@ -1,8 +1,8 @@
 //! The lines of a text, and what a line asks for.
-ghost use Rattle.std.specs.Prelude.{◌≡◌, ◌∷◌, ◌<◌, ◌↔◌, [], length, MatchOption, IsTrue, true, false};
+ghost use Rattle.std.specs.Prelude.{◌≡◌, ◌∷◌, ◌<◌, ◌≤◌, ◌↔◌, [], length, MatchOption, IfSome, IsTrue, Some, None, true, false};
 ghost use Rattle.std.specs.List.{list_all};
-ghost use Rattle.iddqd_run.specs.Lines.{lines_of, words_of, is_name, is_name_byte, value_of, HasOneForm, request_of, bare_request, named_request, valued_request, field_request, kept_request, reserved_request};
-ghost use Rattle.iddqd_run.specs.Asked.{asked};
+ghost use Rattle.iddqd_run.specs.Lines.{lines_of, words_of, is_name, is_name_byte, value_of, HasOneForm, request_of, bare_request, named_request, valued_request, field_request, kept_request, reserved_request, onto_pairs, pairs_of};
+ghost use Rattle.iddqd_run.specs.Asked.{asked, length_behind, pairs_behind};
 
 /// What a line asks for.
 #[derive(Clone, Copy)]
@@ -16,6 +16,8 @@ pub(crate) enum Line<'a> {
     Keep { value: u64 },
     Reserve { value: u64 },
     Shrink,
+    /// The pairs stand in these fields, if they follow the form.
+    AddAll { fields: &'a [u8] },
     Len,
     ListAll,
     First,
@@ -24,6 +26,14 @@ pub(crate) enum Line<'a> {
     PopLast,
     /// It follows no form.
     Bad,
+}
+
+/// A name, its value, and what follows them after a space.
+#[derive(Clone, Copy)]
+pub(crate) struct Pair<'a> {
+    pub(crate) name: &'a str,
+    pub(crate) value: u64,
+    pub(crate) rest: Option<&'a [u8]>,
 }
 
 /// The first line of a text that isn't empty, and the text after it.
@@ -48,6 +58,9 @@ pub(crate) fn parse(line: &[u8]) -> Line<'_>
     let Some(fields) = fields else {
         return by_word(word);
     };
+    if word == b"addall".as_slice() {
+        return Line::AddAll { fields };
+    }
     let (field, value) = first_word(fields);
     let Some(value) = value else {
         return by_field(word, field);
@@ -56,6 +69,18 @@ pub(crate) fn parse(line: &[u8]) -> Line<'_>
         None => Line::Bad,
         Some(name) => by_name_and_value(word, name, value),
     }
+}
+
+/// The pair that the fields begin with, or `None` where they do not begin with one.
+pub(crate) fn first_pair(fields: &[u8]) -> Option<Pair<'_>>
+    ensures pairs { MatchOption result (pairs_of (words_of fields.now) ≡ None) (λ pair. pairs_of (words_of fields.now) ≡ onto_pairs pair.name.now (Some pair.value) (pairs_behind pair.rest)) }
+    ensures shorter { IfSome result (λ pair. length_behind pair.rest ≤ length fields.now) }
+{
+    let (name, value) = first_word(fields);
+    let (value, rest) = first_word(value?);
+    let name = name_in(name)?;
+    let value = value_in(value)?;
+    Some(Pair { name, value, rest })
 }
 
 // What a line of a word and one field asks for.
@@ -76,7 +101,8 @@ fn by_field<'a>(word: &[u8], field: &'a [u8]) -> Line<'a>
 
 // The first word, and what follows the space after it.
 fn first_word(text: &[u8]) -> (&[u8], Option<&[u8]>)
-    ensures { MatchOption result.1 (words_of text.now ≡ result.0.now ∷ []) (λ rest. words_of text.now ≡ result.0.now ∷ words_of rest.now) }
+    ensures words { MatchOption result.1 (words_of text.now ≡ result.0.now ∷ []) (λ rest. words_of text.now ≡ result.0.now ∷ words_of rest.now) }
+    ensures shorter { IfSome result.1 (λ rest. length rest.now < length text.now) }
 {
     for (i, byte) in text.iter().enumerate() {
         if *byte == b' ' {

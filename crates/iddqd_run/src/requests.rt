@@ -193,8 +193,8 @@ pub(crate) fn shrink<'a, M: Table<Item = Entry, Key = String>>(map: &mut M) -> L
     }
 }
 
-// The reply where there was no room: for a new entry, or for so many in all.
-fn no_room<'a>(error: TryReserveError) -> LineReply<'a>
+/// The reply where there was no room: for a new entry, or for so many in all.
+pub(crate) fn no_room<'a>(error: TryReserveError) -> LineReply<'a>
     ensures entry { (items : List Entry) → error ≡ refusal_kind MAX_ITEMS items → result ≡ no_room_reply items }
     ensures space { (wanted : ℕ) → error ≡ reservation_kind MAX_ITEMS wanted → result ≡ no_space_reply wanted }
 {
@@ -205,8 +205,8 @@ fn no_room<'a>(error: TryReserveError) -> LineReply<'a>
     }
 }
 
-// The value of the one entry that is lent.
-fn value_of(shown: &Few<&Entry>) -> u64
+/// The value of the one entry that is lent.
+pub(crate) fn value_of(shown: &Few<&Entry>) -> u64
     ensures { (entry : _) → IsLent (listed shown.now) entry → result ≡ entry.value }
 {
     match shown {

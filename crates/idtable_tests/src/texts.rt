@@ -1,6 +1,7 @@
 //! Lines of text and their replies, through `serve`.
 use iddqd_run::{Fault, Kind, Stop, after_name, exit_status, fault_text, kind_of, serve};
 use std::alloc::{AllocError, Global};
+use std::fmt::Write;
 use std::test::Fail;
 
 fn answer(alloc: Global, kind: Kind, input: &[u8]) -> Result<(u64, Vec<u8>), Fault> {
@@ -63,7 +64,7 @@ fn answers_texts(rt: HostRuntime) -> Result<(), Fail> {
             b"bad\nbad\nbad\nbad\nbad\nbad\n",
         ),
         // unknown words
-        (b"lists\naddall a 1\n", b"bad\nbad\n"),
+        (b"lists\nadds a 1\n", b"bad\nbad\n"),
     ] {
         assert!(rt; are_answered(rt.alloc(), input, text)?);
     }
@@ -133,6 +134,38 @@ fn table_for_both_kinds(rt: HostRuntime) -> Result<(), Fail> {
 fn reserve_and_shrink(rt: HostRuntime) -> Result<(), Fail> {
     let input = b"reserve 3\nadd a 1\nshrink\nlen\nreserve\nshrink 0\n";
     assert!(rt; are_answered(rt.alloc(), input, b"ok\nadded\nok\n1\nbad\nbad\n")?);
+    Ok(())
+}
+
+#[test]
+fn add_all_lines(rt: HostRuntime) -> Result<(), Fail> {
+    let input =
+        b"addall a 1 b 2\naddall c 3 a 9 d 4\nlist\naddall a\naddall\naddall d 1 d 2\naddall e 5 f 06\nlen\n";
+    let text =
+        b"added 2\nduplicate a 1 after 1\nlist 3 a=1 b=2 c=3\nbad\nbad\nduplicate d 1 after 1\nbad\n4\n";
+    assert!(rt; are_answered(rt.alloc(), input, text)?);
+    Ok(())
+}
+
+// Two spaces, one at the end, none after the word, and a name that is none.
+#[test]
+fn add_all_of_other_forms(rt: HostRuntime) -> Result<(), Fail> {
+    let input = b"addall  a 1\naddall a 1 \naddalla 1\naddall a 1 B 2\naddall 1 2\nlen\n";
+    assert!(rt; are_answered(rt.alloc(), input, b"bad\nbad\nbad\nbad\nadded 1\n1\n")?);
+    Ok(())
+}
+
+// A line of a megabyte.
+#[test]
+fn add_all_of_many(rt: HostRuntime) -> Result<(), Fail> {
+    let alloc = rt.alloc();
+    let mut input = String::from_str(alloc, "addall")?;
+    for number in 0..50_000u32 {
+        write!(input, " megabytek{number} {number}")?;
+    }
+    input.push_str("\nget megabytek49999\naddall a 0 megabytek7 1\nlen\n")?;
+    let text = b"added 50000\n49999\nduplicate megabytek7 7 after 1\n50001\n";
+    assert!(rt; are_answered(alloc, input.as_bytes(), text)?);
     Ok(())
 }
 

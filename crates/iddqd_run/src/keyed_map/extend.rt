@@ -73,6 +73,8 @@ where
 
 // Inserts the item, and lends nothing.
 fn insert_one<M: KeyedMap>(map: &mut M, item: M::Item) -> Result<(), NotTaken<M::Item>>
+where
+    M::Item: Drop,
     requires keyed { M.keyed map.old }
     ensures inserted { OnOk result (InsertsItem M.state M.limit M.rule M.keyed M.key M.Key.eq item map.old map.new) }
     ensures kept { OnErr result (KeepsMap M.state M.limit M.rule M.keyed map.old map.new) }
@@ -80,10 +82,7 @@ fn insert_one<M: KeyedMap>(map: &mut M, item: M::Item) -> Result<(), NotTaken<M:
 {
     match map.insert_unique(item) {
         Ok(()) => Ok(()),
-        Err(InsertError::Duplicate(duplicate)) => {
-            let (item, _) = duplicate.into_parts();
-            Err(NotTaken::Akin(item))
-        }
+        Err(InsertError::Duplicate(duplicate)) => Err(NotTaken::Akin(duplicate.into_parts().0)),
         Err(InsertError::Refused(refused)) => Err(NotTaken::Refused(refused)),
     }
 }
