@@ -6,7 +6,9 @@ use iddqd::{IdHashItem, IdOrdItem, Visit};
 /// A key and a value.
 #[derive(Clone, Copy, Drop)]
 pub struct Pair {
+    /// What it is found by.
     pub key: u32,
+    /// What is written.
     pub value: u32,
 }
 
@@ -33,7 +35,9 @@ impl IdHashItem for Pair {
 /// A name and its value: an item that owns memory.
 #[derive(Drop)]
 pub struct Named {
+    /// What it is found by.
     pub name: String,
+    /// What is written.
     pub value: u32,
 }
 
@@ -57,6 +61,7 @@ pub fn write_value(pair: &mut Pair, value: u32)
 /// Writes a value.
 #[derive(Drop)]
 pub struct SetsValue {
+    /// What each item's value is then.
     pub value: u32,
 }
 

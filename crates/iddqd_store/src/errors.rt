@@ -67,8 +67,11 @@ impl TryReserveError {
 /// One, two or three values, without memory of their own (ours: the crate has a vector). Seen as a list.
 #[derive(Clone, Copy, Debug, Drop)]
 pub enum Few<D> {
+    /// One value.
     One(D),
+    /// Two, in order.
     Two(D, D),
+    /// Three, in order.
     Three(D, D, D),
 }
 

@@ -5,7 +5,9 @@ ghost use Rattle.iddqd_store.specs.Validation.{HasNeedlessSlots};
 /// Whether slots may be vacant (the crate's `ValidateCompact`).
 #[derive(Clone, Copy, Debug, PartialEq, Eq)]
 pub enum ValidateCompact {
+    /// None may be.
     Compact,
+    /// They may.
     NonCompact,
 }
 
