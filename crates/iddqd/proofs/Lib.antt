@@ -3,7 +3,6 @@ mod EntryLemmas
 mod CollectLemmas
 mod CompactLemmas
 pub mod FoundLemmas
-pub mod GivenLemmas
 pub mod GuardLemmas
 pub mod HashCountLemmas
 pub mod LentLemmas

@@ -1,24 +1,11 @@
 //! Adding many items to a hash map.
-ghost use Rattle.std.specs.Prelude.{List, IfSome, IsTrue, nat_eq};
+ghost use Rattle.std.specs.Prelude.{List, IfSome, nat_eq};
 ghost use Rattle.iddqd.specs.Collecting.{AddsAll, IsFirstConflict};
 
 use crate::items::Pair;
 use iddqd::errors::ExtendUniqueError;
 use iddqd::{IdHashMap, Lookups};
 use std::hash::BuildHasher;
-
-/// Adds pairs up to the first whose key is there, and tells whether all are in.
-#[tactic(auto, using(iddqd::proofs::GivenLemmas::vec_added))]
-pub fn add_all<S: BuildHasher>(map: &mut IdHashMap<Pair, S>, pairs: Vec<Pair>) -> bool
-    requires keyed { ⟦<IdHashMap<Pair, S> as Lookups>⟧.keyed map.old }
-    ensures added { IsTrue result → AddsAll (λ p. p.key) nat_eq pairs.items map.old.items map.new.items }
-    ensures keyed { ⟦<IdHashMap<Pair, S> as Lookups>⟧.keyed map.new }
-{
-    match map.extend_unique(pairs) {
-        Ok(()) => true,
-        Err(_) => false,
-    }
-}
 
 /// Adds pairs up to the first whose key is there, and shows that one and the one that is there.
 pub fn add_and_show<S: BuildHasher>(

@@ -1,5 +1,5 @@
 //! Adding many items to an ordered map.
-ghost use Rattle.std.specs.Prelude.{List, IfSome, IsTrue, nat_eq};
+ghost use Rattle.std.specs.Prelude.{List, IfSome, nat_eq};
 ghost use Rattle.std.specs.Ordering.{nat_cmp};
 ghost use Rattle.iddqd.specs.Collecting.{AddsAll, IsFirstConflict};
 ghost use Rattle.iddqd.specs.Contents.{Ascends};
@@ -7,19 +7,6 @@ ghost use Rattle.iddqd.specs.Contents.{Ascends};
 use crate::items::Pair;
 use iddqd::IdOrdMap;
 use iddqd::errors::ExtendUniqueError;
-
-/// Adds pairs up to the first whose key is there, and tells whether all are in.
-#[tactic(auto, using(iddqd::proofs::GivenLemmas::vec_added))]
-pub fn add_all(map: &mut IdOrdMap<Pair>, pairs: Vec<Pair>) -> bool
-    requires keyed { Ascends (λ p. p.key) nat_cmp map.old.items }
-    ensures added { IsTrue result → AddsAll (λ p. p.key) nat_eq pairs.items map.old.items map.new.items }
-    ensures keyed { Ascends (λ p. p.key) nat_cmp map.new.items }
-{
-    match map.extend_unique(pairs) {
-        Ok(()) => true,
-        Err(_) => false,
-    }
-}
 
 /// Adds pairs up to the first whose key is there, and shows that one and the one that is there.
 pub fn add_and_show(map: &mut IdOrdMap<Pair>, pairs: Vec<Pair>) -> Option<(Pair, Pair)>

@@ -4,7 +4,6 @@ pub mod CloneLemmas
 pub mod CollectingLemmas
 pub mod ContentsLemmas
 pub mod DistinctLemmas
-pub mod GivenLemmas
 pub mod KeepsLemmas
 pub mod MappedLemmas
 pub mod OrderLemmas
