@@ -123,3 +123,28 @@ fn hash_list(rt: HostRuntime) -> Result<(), Fail> {
     println!(rt; "{row}")?;
     Ok(())
 }
+
+// The row that a line of three pairs and the count after it are answered by: memory for the pairs or for their room was
+// refused, or memory for one of them when others were in.
+fn row_of_added(alloc: Global, kind: Kind) -> Result<&'static str, Fail> {
+    let (text, outcome, is_met) = served(alloc, kind, b"addall a 1 b 2 c 3\nlen\n")?;
+    match (outcome, text.as_slice()) {
+        (Ok(0), b"added 3\n3\n") if !is_met => Ok("added"),
+        (Ok(1), b"refused memory\n0\n") if is_met => Ok("none_added"),
+        (Ok(1), b"refused memory\n1\n" | b"refused memory\n2\n") if is_met => Ok("some_added"),
+        (Err(Fault::Memory), b"") if is_met => Ok("no_memory"),
+        _ => Err(Fail::from("the answer is no row")),
+    }
+}
+
+#[test]
+fn added_pairs(rt: HostRuntime) -> Result<(), Fail> {
+    println!(rt; "{}", row_of_added(rt.alloc(), Kind::Ord)?)?;
+    Ok(())
+}
+
+#[test]
+fn hash_added_pairs(rt: HostRuntime) -> Result<(), Fail> {
+    println!(rt; "{}", row_of_added(rt.alloc(), Kind::Hash)?)?;
+    Ok(())
+}
