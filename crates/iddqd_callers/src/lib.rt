@@ -6,6 +6,7 @@ pub mod hash_entries;
 pub mod hash_guards;
 pub mod hash_walks;
 pub mod items;
+pub mod lookups;
 pub mod ord_adding;
 pub mod ord_entries;
 pub mod ord_guards;

@@ -75,6 +75,64 @@ where
     Err(Fail::from("the map is not as it was, or an item was refused for nothing"))
 }
 
+// Which insertion is tried that shows its item.
+#[derive(Clone, Copy)]
+enum Shows {
+    InsertRef,
+    OrInsertRef,
+    OrInsertWithRef,
+}
+
+// Whether the new item went in, and is the one that is shown.
+fn show(map: &mut Tried<IdOrdMap<Coarse>>, call: Shows, item: Coarse) -> bool {
+    let shown = match call {
+        Shows::InsertRef => map.show_inserted(item),
+        Shows::OrInsertRef => map.show_or_insert(item),
+        Shows::OrInsertWithRef => map.show_or_make(item),
+    };
+    shown.as_ref().map(spelled) == Some(spelled(&item))
+}
+
+// The same of an insertion that shows its item, into an ordered map of four names.
+fn shown_insertion(alloc: Global, call: Shows) -> Result<&'static str, Fail> {
+    let mut map = Tried::new(IdOrdMap::new(alloc));
+    let names = NAMES.get(..4).ok_or("too many names")?;
+    for name in names {
+        if !map.is_put(item_of(*name, 5)) {
+            return Err(Fail::from("an item is not in"));
+        }
+    }
+    let new = item_of(*b"new", 6);
+    arm(alloc);
+    let is_shown = show(&mut map, call, new);
+    let is_met = is_met(alloc);
+    if is_shown && !is_met {
+        return Ok("inserted");
+    }
+    if !is_shown && is_met && holds(&map, names) && show(&mut map, call, new) {
+        return Ok("entry_refused");
+    }
+    Err(Fail::from("the map is not as it was, or an item was refused for nothing"))
+}
+
+#[test]
+fn insert_ref(rt: HostRuntime) -> Result<(), Fail> {
+    println!(rt; "{}", shown_insertion(rt.alloc(), Shows::InsertRef)?)?;
+    Ok(())
+}
+
+#[test]
+fn or_insert_ref(rt: HostRuntime) -> Result<(), Fail> {
+    println!(rt; "{}", shown_insertion(rt.alloc(), Shows::OrInsertRef)?)?;
+    Ok(())
+}
+
+#[test]
+fn or_insert_with_ref(rt: HostRuntime) -> Result<(), Fail> {
+    println!(rt; "{}", shown_insertion(rt.alloc(), Shows::OrInsertWithRef)?)?;
+    Ok(())
+}
+
 #[test]
 fn vacant_insert(rt: HostRuntime) -> Result<(), Fail> {
     let map = Tried::new(IdOrdMap::new(rt.alloc()));

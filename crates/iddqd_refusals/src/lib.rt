@@ -15,6 +15,8 @@ mod growth;
 #[cfg(test)]
 mod lines;
 #[cfg(test)]
+mod made;
+#[cfg(test)]
 mod maps;
 #[cfg(test)]
 mod reservations;

@@ -92,7 +92,7 @@ fn hash_shrink_to_fit(rt: HostRuntime) -> Result<(), Fail> {
 }
 
 // The numbers from the one up to the other, each with the value 5.
-fn numbers(alloc: Global, from: u32, to: u32) -> Result<Vec<Numbered>, AllocError> {
+pub(crate) fn numbers(alloc: Global, from: u32, to: u32) -> Result<Vec<Numbered>, AllocError> {
     let mut items = Vec::new(alloc);
     for number in from..to {
         items.push(Numbered { number, value: 5 })?;

@@ -179,7 +179,7 @@ impl Iterator for Liar {
 
     ghost use Rattle.std.specs.Iterator.{at_most};
 
-    ghost remaining = { λ _. at_most 18446744073709551615 };
+    ghost remaining = { λ liar. at_most liar.announced };
 
     fn next(&mut self) -> Option<Named> {
         self.asked = self.asked.saturating_add(1);

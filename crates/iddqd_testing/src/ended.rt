@@ -4,6 +4,7 @@ ghost use Rattle.iddqd.specs.Contents.{Ascends};
 use crate::caseless::{Caseless, Coarse};
 use crate::tried::{Inserted, Tried};
 use iddqd::errors::InsertError;
+use iddqd::id_ord_map::Entry;
 use iddqd::{IdOrdItem, IdOrdMap, Steps};
 
 impl Tried<IdOrdMap<Coarse>> {
@@ -58,6 +59,11 @@ impl Tried<IdOrdMap<Coarse>> {
         (inserted, steps.count())
     }
 
+    /// `insert_ref` where no item of the name is there: the item that is shown.
+    pub fn show_inserted(&mut self, item: Coarse) -> Option<Coarse> {
+        show_inserted(&mut self.map, item)
+    }
+
     /// `or_insert_ref`: the item that is shown.
     pub fn show_or_insert(&mut self, item: Coarse) -> Option<Coarse> {
         show_or_insert(&mut self.map, item)
@@ -66,6 +72,19 @@ impl Tried<IdOrdMap<Coarse>> {
     /// `or_insert_with_ref`: the item that is shown.
     pub fn show_or_make(&mut self, item: Coarse) -> Option<Coarse> {
         show_or_make(&mut self.map, item)
+    }
+}
+
+fn show_inserted(map: &mut IdOrdMap<Coarse>, item: Coarse) -> Option<Coarse>
+    requires keyed { Ascends ⟦<Coarse as IdOrdItem>⟧.key ⟦<Caseless as Ord>⟧.cmp map.old.items }
+    ensures keyed { Ascends ⟦<Coarse as IdOrdItem>⟧.key ⟦<Caseless as Ord>⟧.cmp map.new.items }
+{
+    match map.entry(&item.name) {
+        Entry::Vacant(entry) => match entry.insert_ref(item) {
+            Ok(shown) => Some(*shown),
+            Err(_) => None,
+        },
+        Entry::Occupied(_) => None,
     }
 }
 

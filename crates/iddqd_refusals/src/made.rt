@@ -1,0 +1,100 @@
+//! Maps that are made, of either kind, with a request refused: then nothing is.
+use crate::maps::holds;
+use crate::rooms::numbers;
+use iddqd::errors::{FromIterError, TryReserveError};
+use iddqd::{IdHashMap, IdOrdMap};
+use iddqd_run::KeyedMap;
+use iddqd_testing::bulk::Bulk;
+use iddqd_testing::heap::{arm, is_met};
+use iddqd_testing::items::Numbered;
+use iddqd_testing::tried::Tried;
+use std::alloc::Global;
+use std::test::Fail;
+
+// The word for what was made.
+fn word<M: Drop>(made: Result<M, TryReserveError>, is_met: bool) -> Result<&'static str, Fail> {
+    match made {
+        Ok(_) if !is_met => Ok("made"),
+        Err(error) if is_met && !error.is_capacity_overflow() => Ok("nothing_made"),
+        _ => Err(Fail::from("a map was refused for nothing, or a refusal is not told")),
+    }
+}
+
+#[test]
+fn with_capacity(rt: HostRuntime) -> Result<(), Fail> {
+    arm(rt.alloc());
+    let made = IdOrdMap::<Numbered>::with_capacity(rt.alloc(), 20);
+    println!(rt; "{}", word(made, is_met(rt.alloc()))?)?;
+    Ok(())
+}
+
+#[test]
+fn hash_with_capacity(rt: HostRuntime) -> Result<(), Fail> {
+    arm(rt.alloc());
+    let made = IdHashMap::<Numbered>::with_capacity(rt.alloc(), 20);
+    println!(rt; "{}", word(made, is_met(rt.alloc()))?)?;
+    Ok(())
+}
+
+// The word for a map of twenty numbers, all of whose keys differ.
+fn collection<M: KeyedMap<Item = Numbered, Key = u32> + Drop>(
+    alloc: Global,
+    is_unique: bool,
+) -> Result<&'static str, Fail>
+where
+    Tried<M>: Bulk<Numbered>,
+{
+    let items = numbers(alloc, 0, 20)?;
+    arm(alloc);
+    let made = if is_unique {
+        collected_unique::<M>(alloc, items)?
+    } else {
+        Tried::<M>::collected(alloc, items)
+    };
+    let is_met = is_met(alloc);
+    if let Ok(map) = &made {
+        if !holds(map, 20, None) {
+            return Err(Fail::from("an item is not in"));
+        }
+    }
+    word(made, is_met)
+}
+
+// `from_iter_unique`, where no key repeats.
+fn collected_unique<M: KeyedMap<Item = Numbered, Key = u32> + Drop>(
+    alloc: Global,
+    items: Vec<Numbered>,
+) -> Result<Result<Tried<M>, TryReserveError>, Fail>
+where
+    Tried<M>: Bulk<Numbered>,
+{
+    match Tried::<M>::collected_unique(alloc, items) {
+        Ok(map) => Ok(Ok(map)),
+        Err(FromIterError::Refused(error)) => Ok(Err(error)),
+        Err(FromIterError::Duplicate(_)) => Err(Fail::from("a key repeats")),
+    }
+}
+
+#[test]
+fn from_iter(rt: HostRuntime) -> Result<(), Fail> {
+    println!(rt; "{}", collection::<IdOrdMap<Numbered>>(rt.alloc(), false)?)?;
+    Ok(())
+}
+
+#[test]
+fn hash_from_iter(rt: HostRuntime) -> Result<(), Fail> {
+    println!(rt; "{}", collection::<IdHashMap<Numbered>>(rt.alloc(), false)?)?;
+    Ok(())
+}
+
+#[test]
+fn from_iter_unique(rt: HostRuntime) -> Result<(), Fail> {
+    println!(rt; "{}", collection::<IdOrdMap<Numbered>>(rt.alloc(), true)?)?;
+    Ok(())
+}
+
+#[test]
+fn hash_from_iter_unique(rt: HostRuntime) -> Result<(), Fail> {
+    println!(rt; "{}", collection::<IdHashMap<Numbered>>(rt.alloc(), true)?)?;
+    Ok(())
+}
