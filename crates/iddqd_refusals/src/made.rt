@@ -36,65 +36,66 @@ fn hash_with_capacity(rt: HostRuntime) -> Result<(), Fail> {
     Ok(())
 }
 
-// The word for a map of twenty numbers, all of whose keys differ.
+const IS_WRONG: &str = "an item is not in, a map was refused for nothing, or a refusal is not told";
+
+// The word for a map of twenty numbers.
 fn collection<M: KeyedMap<Item = Numbered, Key = u32> + Drop>(
     alloc: Global,
-    is_unique: bool,
 ) -> Result<&'static str, Fail>
 where
     Tried<M>: Bulk<Numbered>,
 {
     let items = numbers(alloc, 0, 20)?;
     arm(alloc);
-    let made = if is_unique {
-        collected_unique::<M>(alloc, items)?
-    } else {
-        Tried::<M>::collected(alloc, items)
-    };
+    let made = Tried::<M>::collected(alloc, items);
     let is_met = is_met(alloc);
-    if let Ok(map) = &made {
-        if !holds(map, 20, None) {
-            return Err(Fail::from("an item is not in"));
-        }
+    match made {
+        Ok(map) if !is_met && holds(&map, 20, None) => Ok("made"),
+        Err(error) if is_met && !error.is_capacity_overflow() => Ok("nothing_made"),
+        _ => Err(Fail::from(IS_WRONG)),
     }
-    word(made, is_met)
 }
 
-// `from_iter_unique`, where no key repeats.
-fn collected_unique<M: KeyedMap<Item = Numbered, Key = u32> + Drop>(
+// The same, where no number may repeat.
+fn unique_collection<M: KeyedMap<Item = Numbered, Key = u32> + Drop>(
     alloc: Global,
-    items: Vec<Numbered>,
-) -> Result<Result<Tried<M>, TryReserveError>, Fail>
+) -> Result<&'static str, Fail>
 where
     Tried<M>: Bulk<Numbered>,
 {
-    match Tried::<M>::collected_unique(alloc, items) {
-        Ok(map) => Ok(Ok(map)),
-        Err(FromIterError::Refused(error)) => Ok(Err(error)),
-        Err(FromIterError::Duplicate(_)) => Err(Fail::from("a key repeats")),
+    let items = numbers(alloc, 0, 20)?;
+    arm(alloc);
+    let made = Tried::<M>::collected_unique(alloc, items);
+    let is_met = is_met(alloc);
+    match made {
+        Ok(map) if !is_met && holds(&map, 20, None) => Ok("made"),
+        Err(FromIterError::Refused(error)) if is_met && !error.is_capacity_overflow() => {
+            Ok("nothing_made")
+        }
+        _ => Err(Fail::from(IS_WRONG)),
     }
 }
 
 #[test]
 fn from_iter(rt: HostRuntime) -> Result<(), Fail> {
-    println!(rt; "{}", collection::<IdOrdMap<Numbered>>(rt.alloc(), false)?)?;
+    println!(rt; "{}", collection::<IdOrdMap<Numbered>>(rt.alloc())?)?;
     Ok(())
 }
 
 #[test]
 fn hash_from_iter(rt: HostRuntime) -> Result<(), Fail> {
-    println!(rt; "{}", collection::<IdHashMap<Numbered>>(rt.alloc(), false)?)?;
+    println!(rt; "{}", collection::<IdHashMap<Numbered>>(rt.alloc())?)?;
     Ok(())
 }
 
 #[test]
 fn from_iter_unique(rt: HostRuntime) -> Result<(), Fail> {
-    println!(rt; "{}", collection::<IdOrdMap<Numbered>>(rt.alloc(), true)?)?;
+    println!(rt; "{}", unique_collection::<IdOrdMap<Numbered>>(rt.alloc())?)?;
     Ok(())
 }
 
 #[test]
 fn hash_from_iter_unique(rt: HostRuntime) -> Result<(), Fail> {
-    println!(rt; "{}", collection::<IdHashMap<Numbered>>(rt.alloc(), true)?)?;
+    println!(rt; "{}", unique_collection::<IdHashMap<Numbered>>(rt.alloc())?)?;
     Ok(())
 }
