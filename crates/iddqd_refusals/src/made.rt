@@ -69,10 +69,19 @@ where
     let is_met = is_met(alloc);
     match made {
         Ok(map) if !is_met && holds(&map, 20, None) => Ok("made"),
-        Err(FromIterError::Refused(error)) if is_met && !error.is_capacity_overflow() => {
-            Ok("nothing_made")
-        }
-        _ => Err(Fail::from(IS_WRONG)),
+        Ok(_) => Err(Fail::from(IS_WRONG)),
+        Err(stopped) => match error_of(stopped) {
+            Some(error) if is_met && !error.is_capacity_overflow() => Ok("nothing_made"),
+            _ => Err(Fail::from(IS_WRONG)),
+        },
+    }
+}
+
+// Why there was no room, if that is why.
+fn error_of(stopped: FromIterError<Numbered>) -> Option<TryReserveError> {
+    match stopped {
+        FromIterError::Duplicate(_) => None,
+        FromIterError::Refused(error) => Some(error),
     }
 }
 
