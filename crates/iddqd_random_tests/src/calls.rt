@@ -10,7 +10,7 @@ use iddqd_testing::tried::{AskedForRoom, Tried};
 use iddqd_testing::walked::Walked;
 use std::alloc::AllocError;
 
-pub fn insert<M: KeyedMap<Item = Coarse, Key = Caseless> + Drop>(
+pub(crate) fn insert<M: KeyedMap<Item = Coarse, Key = Caseless> + Drop>(
     map: &mut Tried<M>,
     plain: &mut Plain,
     draws: &mut Draws,
@@ -19,7 +19,7 @@ pub fn insert<M: KeyedMap<Item = Coarse, Key = Caseless> + Drop>(
     plain.inserts(item, map.insert(item))
 }
 
-pub fn overwrite<M: KeyedMap<Item = Coarse, Key = Caseless> + Drop>(
+pub(crate) fn overwrite<M: KeyedMap<Item = Coarse, Key = Caseless> + Drop>(
     map: &mut Tried<M>,
     plain: &mut Plain,
     draws: &mut Draws,
@@ -40,7 +40,7 @@ pub fn overwrite<M: KeyedMap<Item = Coarse, Key = Caseless> + Drop>(
     }
 }
 
-pub fn remove<M: KeyedMap<Item = Coarse, Key = Caseless> + Drop>(
+pub(crate) fn remove<M: KeyedMap<Item = Coarse, Key = Caseless> + Drop>(
     map: &mut Tried<M>,
     plain: &mut Plain,
     draws: &mut Draws,
@@ -49,7 +49,7 @@ pub fn remove<M: KeyedMap<Item = Coarse, Key = Caseless> + Drop>(
     is_same(map.remove(&name), plain.take(&name))
 }
 
-pub fn remove_by_entry<M: KeyedMap<Item = Coarse, Key = Caseless> + Drop>(
+pub(crate) fn remove_by_entry<M: KeyedMap<Item = Coarse, Key = Caseless> + Drop>(
     map: &mut Tried<M>,
     plain: &mut Plain,
     draws: &mut Draws,
@@ -62,7 +62,7 @@ where
 }
 
 // A lookup, whose comparisons are counted too, among so many items at most.
-pub fn find<M: KeyedMap<Item = Coarse, Key = Caseless> + Drop>(
+pub(crate) fn find<M: KeyedMap<Item = Coarse, Key = Caseless> + Drop>(
     map: &Tried<M>,
     plain: &Plain,
     name: &Caseless,
@@ -78,7 +78,7 @@ where
         && steps as usize <= plain.len().saturating_add(4)
 }
 
-pub fn write<M: KeyedMap<Item = Coarse, Key = Caseless> + Drop>(
+pub(crate) fn write<M: KeyedMap<Item = Coarse, Key = Caseless> + Drop>(
     map: &mut Tried<M>,
     plain: &mut Plain,
     draws: &mut Draws,
@@ -100,7 +100,7 @@ where
     }
 }
 
-pub fn respell<M: KeyedMap<Item = Coarse, Key = Caseless> + Drop>(
+pub(crate) fn respell<M: KeyedMap<Item = Coarse, Key = Caseless> + Drop>(
     map: &mut Tried<M>,
     plain: &mut Plain,
     draws: &mut Draws,
@@ -121,7 +121,7 @@ where
     }
 }
 
-pub fn retain<M: KeyedMap<Item = Coarse, Key = Caseless> + Drop>(
+pub(crate) fn retain<M: KeyedMap<Item = Coarse, Key = Caseless> + Drop>(
     map: &mut Tried<M>,
     plain: &mut Plain,
     draws: &mut Draws,
@@ -140,7 +140,7 @@ where
     true
 }
 
-pub fn insert_by_entry<M: KeyedMap<Item = Coarse, Key = Caseless> + Drop>(
+pub(crate) fn insert_by_entry<M: KeyedMap<Item = Coarse, Key = Caseless> + Drop>(
     map: &mut Tried<M>,
     plain: &mut Plain,
     draws: &mut Draws,
@@ -165,7 +165,7 @@ where
     Ok(is_same(gone, fits.then_some(item)))
 }
 
-pub fn replace_by_entry<M: KeyedMap<Item = Coarse, Key = Caseless> + Drop>(
+pub(crate) fn replace_by_entry<M: KeyedMap<Item = Coarse, Key = Caseless> + Drop>(
     map: &mut Tried<M>,
     plain: &mut Plain,
     draws: &mut Draws,
@@ -180,7 +180,7 @@ where
 }
 
 // The item that `or_insert` and its like show: the one there, or the new one, where there is room.
-pub fn shown(plain: &mut Plain, item: Coarse) -> Result<Option<Coarse>, AllocError> {
+pub(crate) fn shown(plain: &mut Plain, item: Coarse) -> Result<Option<Coarse>, AllocError> {
     let old = plain.find(&item.name);
     if old.is_none() && !plain.is_full() {
         plain.put(item)?;
@@ -189,7 +189,7 @@ pub fn shown(plain: &mut Plain, item: Coarse) -> Result<Option<Coarse>, AllocErr
     Ok(old)
 }
 
-pub fn find_or_make<M: KeyedMap<Item = Coarse, Key = Caseless> + Drop>(
+pub(crate) fn find_or_make<M: KeyedMap<Item = Coarse, Key = Caseless> + Drop>(
     map: &mut Tried<M>,
     plain: &mut Plain,
     draws: &mut Draws,
@@ -206,7 +206,7 @@ where
     Ok(is_same(answer, expected) && (asked == 0) == was_there)
 }
 
-pub fn double_or_insert<M: KeyedMap<Item = Coarse, Key = Caseless> + Drop>(
+pub(crate) fn double_or_insert<M: KeyedMap<Item = Coarse, Key = Caseless> + Drop>(
     map: &mut Tried<M>,
     plain: &mut Plain,
     draws: &mut Draws,
@@ -222,7 +222,7 @@ where
     Ok(is_same(map.double_or_insert(item), expected))
 }
 
-pub fn insert_and_write<M: KeyedMap<Item = Coarse, Key = Caseless> + Drop>(
+pub(crate) fn insert_and_write<M: KeyedMap<Item = Coarse, Key = Caseless> + Drop>(
     map: &mut Tried<M>,
     plain: &mut Plain,
     draws: &mut Draws,
@@ -236,7 +236,7 @@ where
     Ok(map.insert_and_write(item, value) == is_in)
 }
 
-pub fn reserve<M: KeyedMap<Item = Coarse, Key = Caseless> + Drop>(
+pub(crate) fn reserve<M: KeyedMap<Item = Coarse, Key = Caseless> + Drop>(
     map: &mut Tried<M>,
     plain: &Plain,
     draws: &mut Draws,
@@ -260,7 +260,7 @@ where
     }
 }
 
-pub fn shrink<M: KeyedMap<Item = Coarse, Key = Caseless> + Drop>(
+pub(crate) fn shrink<M: KeyedMap<Item = Coarse, Key = Caseless> + Drop>(
     map: &mut Tried<M>,
     plain: &mut Plain,
     draws: &mut Draws,
@@ -277,7 +277,7 @@ where
     map.shrink_to(min).is_ok() && map.capacity() <= before && map.capacity() >= min.min(before)
 }
 
-pub fn clear<M: KeyedMap<Item = Coarse, Key = Caseless> + Drop>(
+pub(crate) fn clear<M: KeyedMap<Item = Coarse, Key = Caseless> + Drop>(
     map: &mut Tried<M>,
     plain: &mut Plain,
 ) -> bool {
@@ -288,7 +288,7 @@ pub fn clear<M: KeyedMap<Item = Coarse, Key = Caseless> + Drop>(
 }
 
 // Whether the map holds just what the list does, by what it finds and by its walk, and tells the numbers of the list.
-pub fn holds_the_same<M: KeyedMap<Item = Coarse, Key = Caseless> + Drop>(
+pub(crate) fn holds_the_same<M: KeyedMap<Item = Coarse, Key = Caseless> + Drop>(
     map: &Tried<M>,
     plain: &Plain,
     walked: &[Coarse],

@@ -3,14 +3,14 @@ use iddqd_testing::caseless::{Caseless, Coarse};
 
 /// A generator by shifts (Marsaglia's of 64 bits).
 #[derive(Clone, Copy)]
-pub struct Draws {
+pub(crate) struct Draws {
     state: u64,
     letters: u32,
 }
 
 impl Draws {
     /// From the seed, for names of so many different letters.
-    pub fn new(seed: u64, letters: u32) -> Draws {
+    pub(crate) fn new(seed: u64, letters: u32) -> Draws {
         Draws {
             state: seed.wrapping_mul(2).wrapping_add(1),
             letters,
@@ -18,7 +18,7 @@ impl Draws {
     }
 
     /// The next number.
-    pub fn next(&mut self) -> u32 {
+    pub(crate) fn next(&mut self) -> u32 {
         self.state ^= self.state.wrapping_shl(13);
         self.state ^= self.state.wrapping_shr(7);
         self.state ^= self.state.wrapping_shl(17);
@@ -26,22 +26,22 @@ impl Draws {
     }
 
     /// A number below the bound, or 0 where that is 0.
-    pub fn below(&mut self, bound: u32) -> u32 {
+    pub(crate) fn below(&mut self, bound: u32) -> u32 {
         self.next().checked_rem(bound).unwrap_or(0)
     }
 
     /// Either of two.
-    pub fn coin(&mut self) -> bool {
+    pub(crate) fn coin(&mut self) -> bool {
         self.below(2) == 0
     }
 
     /// A name, each letter in either case.
-    pub fn name(&mut self) -> Caseless {
+    pub(crate) fn name(&mut self) -> Caseless {
         Caseless([self.letter(), self.letter(), self.letter()])
     }
 
     /// An item of such a name.
-    pub fn item(&mut self) -> Coarse {
+    pub(crate) fn item(&mut self) -> Coarse {
         Coarse {
             name: self.name(),
             value: self.below(1000),

@@ -31,7 +31,7 @@ fn overwrite_all(plain: &mut Plain, items: &[Coarse]) -> Result<Option<Coarse>, 
     Ok(None)
 }
 
-pub fn extend<M: KeyedMap<Item = Coarse, Key = Caseless> + Drop>(
+pub(crate) fn extend<M: KeyedMap<Item = Coarse, Key = Caseless> + Drop>(
     alloc: Global,
     map: &mut Tried<M>,
     plain: &mut Plain,
@@ -76,7 +76,7 @@ fn first_repeat(
 }
 
 // A map of its own that is made of many items.
-pub fn collect<M: KeyedMap<Item = Coarse, Key = Caseless> + Drop>(
+pub(crate) fn collect<M: KeyedMap<Item = Coarse, Key = Caseless> + Drop>(
     alloc: Global,
     draws: &mut Draws,
 ) -> Result<bool, AllocError>
@@ -94,7 +94,7 @@ where
 }
 
 // The same of different items, or the first repeat.
-pub fn collect_unique<M: KeyedMap<Item = Coarse, Key = Caseless> + Drop>(
+pub(crate) fn collect_unique<M: KeyedMap<Item = Coarse, Key = Caseless> + Drop>(
     alloc: Global,
     draws: &mut Draws,
 ) -> Result<bool, AllocError>
@@ -119,7 +119,7 @@ where
 }
 
 // A clone holds the same, equals the map as long as it is not written, and lets its items out.
-pub fn copy<M: KeyedMap<Item = Coarse, Key = Caseless> + Drop>(
+pub(crate) fn copy<M: KeyedMap<Item = Coarse, Key = Caseless> + Drop>(
     alloc: Global,
     map: &Tried<M>,
     plain: &Plain,
@@ -149,7 +149,7 @@ where
 }
 
 // An entry of a clone reads the item there, and shows what it wrote.
-pub fn write_copy<M: KeyedMap<Item = Coarse, Key = Caseless> + Drop>(
+pub(crate) fn write_copy<M: KeyedMap<Item = Coarse, Key = Caseless> + Drop>(
     map: &Tried<M>,
     plain: &Plain,
     draws: &mut Draws,

@@ -14,11 +14,11 @@ fn bound(count: usize) -> u32 {
 }
 
 // The ends are those of the list.
-pub fn ends(map: &Tried<IdOrdMap<Coarse>>, plain: &Plain) -> bool {
+pub(crate) fn ends(map: &Tried<IdOrdMap<Coarse>>, plain: &Plain) -> bool {
     is_same(map.first(), plain.first()) && is_same(map.last(), plain.last())
 }
 
-pub fn pop(map: &mut Tried<IdOrdMap<Coarse>>, plain: &mut Plain, draws: &mut Draws) -> bool {
+pub(crate) fn pop(map: &mut Tried<IdOrdMap<Coarse>>, plain: &mut Plain, draws: &mut Draws) -> bool {
     let is_first = draws.coin();
     let by_entry = draws.coin();
     let end = if is_first {
@@ -38,7 +38,7 @@ pub fn pop(map: &mut Tried<IdOrdMap<Coarse>>, plain: &mut Plain, draws: &mut Dra
     is_same(gone, end)
 }
 
-pub fn insert_counted(
+pub(crate) fn insert_counted(
     map: &mut Tried<IdOrdMap<Coarse>>,
     plain: &mut Plain,
     draws: &mut Draws,
@@ -49,7 +49,7 @@ pub fn insert_counted(
     Ok(plain.inserts(item, answer)? && steps <= most)
 }
 
-pub fn remove_counted(
+pub(crate) fn remove_counted(
     map: &mut Tried<IdOrdMap<Coarse>>,
     plain: &mut Plain,
     draws: &mut Draws,
@@ -60,7 +60,7 @@ pub fn remove_counted(
     is_same(gone, plain.take(&name)) && steps <= most
 }
 
-pub fn show_or_insert(
+pub(crate) fn show_or_insert(
     map: &mut Tried<IdOrdMap<Coarse>>,
     plain: &mut Plain,
     draws: &mut Draws,
@@ -76,7 +76,7 @@ pub fn show_or_insert(
 }
 
 // The names ascend.
-pub fn ascends(walked: &[Coarse]) -> bool {
+pub(crate) fn ascends(walked: &[Coarse]) -> bool {
     let mut last: Option<Coarse> = None;
     for item in walked {
         if let Some(before) = last {

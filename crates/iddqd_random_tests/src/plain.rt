@@ -6,21 +6,21 @@ use std::alloc::{AllocError, Global};
 
 /// What a map is held against.
 #[derive(Drop)]
-pub struct Plain {
+pub(crate) struct Plain {
     /// In no order.
-    pub items: Vec<Coarse>,
-    pub vacant: u32,
-    pub limit: u32,
+    pub(crate) items: Vec<Coarse>,
+    pub(crate) vacant: u32,
+    pub(crate) limit: u32,
 }
 
 /// Whether both are the same item, by its spelling too, or neither is one.
-pub fn is_same(one: Option<Coarse>, other: Option<Coarse>) -> bool {
+pub(crate) fn is_same(one: Option<Coarse>, other: Option<Coarse>) -> bool {
     one.as_ref().map(spelled) == other.as_ref().map(spelled)
 }
 
 impl Plain {
     /// Without items.
-    pub fn new(alloc: Global, limit: u32) -> Plain {
+    pub(crate) fn new(alloc: Global, limit: u32) -> Plain {
         Plain {
             items: Vec::new(alloc),
             vacant: 0,
@@ -29,7 +29,7 @@ impl Plain {
     }
 
     /// The same, with room for so many items.
-    pub fn with_room(alloc: Global, limit: u32, count: usize) -> Result<Plain, AllocError> {
+    pub(crate) fn with_room(alloc: Global, limit: u32, count: usize) -> Result<Plain, AllocError> {
         Ok(Plain {
             items: Vec::with_capacity(alloc, count)?,
             vacant: 0,
@@ -37,21 +37,21 @@ impl Plain {
         })
     }
 
-    pub fn len(&self) -> usize {
+    pub(crate) fn len(&self) -> usize {
         self.items.len()
     }
 
-    pub fn is_full(&self) -> bool {
+    pub(crate) fn is_full(&self) -> bool {
         self.items.len() >= self.limit as usize
     }
 
     /// The item of the name.
-    pub fn find(&self, name: &Caseless) -> Option<Coarse> {
+    pub(crate) fn find(&self, name: &Caseless) -> Option<Coarse> {
         self.items.iter().find(|item| item.name == *name).copied()
     }
 
     /// The item of the least name.
-    pub fn first(&self) -> Option<Coarse> {
+    pub(crate) fn first(&self) -> Option<Coarse> {
         let mut first: Option<Coarse> = None;
         for item in self.items.iter() {
             match first {
@@ -63,7 +63,7 @@ impl Plain {
     }
 
     /// The item of the greatest name.
-    pub fn last(&self) -> Option<Coarse> {
+    pub(crate) fn last(&self) -> Option<Coarse> {
         let mut last: Option<Coarse> = None;
         for item in self.items.iter() {
             match last {
@@ -75,7 +75,7 @@ impl Plain {
     }
 
     /// Takes out the item of the name.
-    pub fn take(&mut self, name: &Caseless) -> Option<Coarse> {
+    pub(crate) fn take(&mut self, name: &Caseless) -> Option<Coarse> {
         let found = self.find(name)?;
         self.items.retain(|item| item.name != *name);
         self.vacant = self.vacant.saturating_add(1);
@@ -83,14 +83,14 @@ impl Plain {
     }
 
     /// Puts in an item whose name no other has.
-    pub fn put(&mut self, item: Coarse) -> Result<(), AllocError> {
+    pub(crate) fn put(&mut self, item: Coarse) -> Result<(), AllocError> {
         self.items.push(item)?;
         self.vacant = self.vacant.saturating_sub(1);
         Ok(())
     }
 
     /// Puts the item in the place of the one of its name.
-    pub fn replace(&mut self, new: Coarse) {
+    pub(crate) fn replace(&mut self, new: Coarse) {
         for item in self.items.iter_mut() {
             if item.name == new.name {
                 *item = new;
@@ -99,7 +99,7 @@ impl Plain {
     }
 
     /// Writes the value of the name.
-    pub fn write(&mut self, name: &Caseless, value: u32) {
+    pub(crate) fn write(&mut self, name: &Caseless, value: u32) {
         for item in self.items.iter_mut() {
             if item.name == *name {
                 item.value = value;
@@ -108,7 +108,11 @@ impl Plain {
     }
 
     /// Whether an insertion of the item is answered so, which is then made here too.
-    pub fn inserts(&mut self, item: Coarse, answer: Inserted<Coarse>) -> Result<bool, AllocError> {
+    pub(crate) fn inserts(
+        &mut self,
+        item: Coarse,
+        answer: Inserted<Coarse>,
+    ) -> Result<bool, AllocError> {
         match (self.find(&item.name), answer) {
             (None, Inserted::Done) if !self.is_full() => {
                 self.put(item)?;
@@ -125,12 +129,12 @@ impl Plain {
     }
 
     /// Whether a new item may be refused so, with memory at hand.
-    pub fn refuses(&self, error: TryReserveError) -> bool {
+    pub(crate) fn refuses(&self, error: TryReserveError) -> bool {
         self.is_full() && error.is_capacity_overflow()
     }
 
     /// Overwrites the item into the list.
-    pub fn overwrite(&mut self, item: Coarse) -> Result<(), AllocError> {
+    pub(crate) fn overwrite(&mut self, item: Coarse) -> Result<(), AllocError> {
         if self.find(&item.name).is_some() {
             self.replace(item);
             return Ok(());

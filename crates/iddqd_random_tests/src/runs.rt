@@ -21,7 +21,7 @@ const MAX_ITEMS: u32 = 4_294_967_295;
 
 /// What is called.
 #[derive(Clone, Copy, Debug)]
-pub enum Call {
+pub(crate) enum Call {
     Insert,
     Overwrite,
     Remove,
