@@ -36,9 +36,21 @@ fn hash_with_capacity(rt: HostRuntime) -> Result<(), Fail> {
     Ok(())
 }
 
-const IS_WRONG: &str = "an item is not in, a map was refused for nothing, or a refusal is not told";
-
 // The word for a map of twenty numbers.
+fn word_of_twenty<M: KeyedMap<Item = Numbered, Key = u32> + Drop>(
+    made: Result<Tried<M>, Option<TryReserveError>>,
+    is_met: bool,
+) -> Result<&'static str, Fail> {
+    match made {
+        Ok(map) if !is_met && holds(&map, 20, None) => Ok("made"),
+        Err(Some(error)) if is_met && !error.is_capacity_overflow() => Ok("nothing_made"),
+        _ => Err(Fail::from(
+            "an item is not in, a map was refused for nothing, or a refusal is not told",
+        )),
+    }
+}
+
+// Collects twenty numbers.
 fn collection<M: KeyedMap<Item = Numbered, Key = u32> + Drop>(
     alloc: Global,
 ) -> Result<&'static str, Fail>
@@ -48,12 +60,7 @@ where
     let items = numbers(alloc, 0, 20)?;
     arm(alloc);
     let made = Tried::<M>::collected(alloc, items);
-    let is_met = is_met(alloc);
-    match made {
-        Ok(map) if !is_met && holds(&map, 20, None) => Ok("made"),
-        Err(error) if is_met && !error.is_capacity_overflow() => Ok("nothing_made"),
-        _ => Err(Fail::from(IS_WRONG)),
-    }
+    word_of_twenty(made.map_err(|error| Some(error)), is_met(alloc))
 }
 
 // The same, where no number may repeat.
@@ -66,15 +73,7 @@ where
     let items = numbers(alloc, 0, 20)?;
     arm(alloc);
     let made = Tried::<M>::collected_unique(alloc, items);
-    let is_met = is_met(alloc);
-    match made {
-        Ok(map) if !is_met && holds(&map, 20, None) => Ok("made"),
-        Ok(_) => Err(Fail::from(IS_WRONG)),
-        Err(stopped) => match error_of(stopped) {
-            Some(error) if is_met && !error.is_capacity_overflow() => Ok("nothing_made"),
-            _ => Err(Fail::from(IS_WRONG)),
-        },
-    }
+    word_of_twenty(made.map_err(|stopped| error_of(stopped)), is_met(alloc))
 }
 
 // Why there was no room, if that is why.

@@ -3,8 +3,8 @@ use Rattle.std.proofs.Common.{Bool, true, false, ◌≡◌, sym, refl, nat_eq, m
 use Rattle.std.specs.Char.{to_ascii_lowercase}
 use Rattle.std.specs.Cmp.Lexicographic.{pointwise, on_texts_equal}
 use Rattle.std.specs.Ordering.{on}
-use Rattle.iddqd_testing.specs.declared.caseless.Caseless.{Caseless}
-use Rattle.iddqd_testing.specs.declared.caseless.Coarse.{Coarse}
+use Rattle.iddqd_coarse.specs.declared.caseless.Caseless.{Caseless}
+use Rattle.iddqd_coarse.specs.declared.caseless.Coarse.{Coarse}
 use Rattle.iddqd_testing.specs.Respelled.{respelled}
 
 abbrev same_name : Caseless → Caseless → Bool

@@ -1,4 +1,3 @@
-pub mod Folded
 pub mod Changed
 pub mod FewBits
 pub mod Respelled

@@ -2,7 +2,7 @@
 use Rattle.std.specs.Prelude.{nat_eq, map, if◌then◌else◌}
 use Rattle.std.specs.Char.{to_ascii_lowercase}
 use Rattle.std.specs.Cmp.Lexicographic.{pointwise}
-use Rattle.iddqd_testing.specs.declared.caseless.Coarse.{Coarse}
+use Rattle.iddqd_coarse.specs.declared.caseless.Coarse.{Coarse}
 
 -- the new item, where its name is the same but for case
 abbrev pub respelled : Coarse → Coarse → Coarse

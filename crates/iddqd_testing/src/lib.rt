@@ -2,7 +2,6 @@
 #![tactic(auto)]
 
 pub mod bulk;
-pub mod caseless;
 mod copied;
 pub mod counted;
 pub mod counting;
@@ -19,3 +18,5 @@ pub mod respelled;
 pub mod tried;
 pub mod visitors;
 pub mod walked;
+
+pub use iddqd_coarse::caseless;

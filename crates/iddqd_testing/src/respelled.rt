@@ -1,10 +1,8 @@
 //! Items written whole in the place of others of an equal key, which is spelled in another way.
-ghost use Rattle.std.specs.Prelude.{IfSome, IsTrue};
-ghost use Rattle.iddqd.specs.Contents.{Ascends, find_item};
-
 use crate::caseless::{Caseless, Coarse};
 use crate::tried::Tried;
-use iddqd::{IdHashMap, IdOrdItem, IdOrdMap, Lookups, Visit, id_hash_map, id_ord_map};
+use iddqd::{IdHashMap, IdOrdMap, Visit, id_hash_map, id_ord_map};
+use iddqd_coarse::writes::{hash_put, put};
 use std::hash::BuildHasher;
 
 /// Puts its item in the place of each whose key is equal, and keeps all.
@@ -80,29 +78,5 @@ impl<S: BuildHasher> Respelled for Tried<IdHashMap<Coarse, S>> {
     #[tactic(auto, using(crate::proofs::RespelledLemmas::respelled_keeps_key))]
     fn respell_by_visitor(&mut self, item: Coarse) {
         self.map.retain_mut(&mut Respells(item));
-    }
-}
-
-// Writes an item of an equal key in the place of the one found.
-fn put(map: &mut IdOrdMap<Coarse>, asked: &Caseless, item: Coarse)
-    requires keyed { Ascends ⟦<Coarse as IdOrdItem>⟧.key ⟦<Caseless as Ord>⟧.cmp map.old.items }
-    requires akin { IfSome (find_item ⟦<Coarse as IdOrdItem>⟧.key (⟦<Caseless as PartialEq>⟧.eq asked.now) map.old.items) (λ x. IsTrue (⟦<Caseless as PartialEq>⟧.eq x.name item.name)) }
-    ensures keyed { Ascends ⟦<Coarse as IdOrdItem>⟧.key ⟦<Caseless as Ord>⟧.cmp map.new.items }
-{
-    if let Some(mut found) = map.get_mut(asked) {
-        *found = item;
-        found.finish();
-    }
-}
-
-// The same of a hash map.
-fn hash_put<S: BuildHasher>(map: &mut IdHashMap<Coarse, S>, asked: &Caseless, item: Coarse)
-    requires keyed { ⟦<IdHashMap<Coarse, S> as Lookups>⟧.keyed map.old }
-    requires akin { IfSome (find_item ⟦<Coarse as IdOrdItem>⟧.key (⟦<Caseless as PartialEq>⟧.eq asked.now) map.old.items) (λ x. IsTrue (⟦<Caseless as PartialEq>⟧.eq x.name item.name)) }
-    ensures keyed { ⟦<IdHashMap<Coarse, S> as Lookups>⟧.keyed map.new }
-{
-    if let Some(mut found) = map.get_mut(asked) {
-        *found = item;
-        found.finish();
     }
 }

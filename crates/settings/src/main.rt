@@ -10,11 +10,8 @@ ghost use Rattle.settings.specs.declared.Setting.{Setting};
 
 use iddqd::errors::{ExtendUniqueError, TryReserveError};
 use iddqd::{IdOrdItem, IdOrdMap};
-use std::alloc::Global;
 use std::io;
-use std::io::Write;
 use std::marker::Model;
-use std::process::ExitCode;
 
 #[derive(Clone, Copy, Debug, Drop)]
 struct Setting {
@@ -47,14 +44,12 @@ impl Model for Settings {
 /// Adds settings up to the first whose name is there, and answers that one beside the one there. Its contract took no line of
 /// proof.
 fn add(
-    all: &mut IdOrdMap<Setting>,
+    all: &mut Settings,
     line: Vec<Setting>,
 ) -> Result<Option<(Setting, Setting)>, TryReserveError>
-    requires keyed { Ascends (λ s. s.name) nat_cmp all.old.items }
-    ensures known { IfOk result (λ known. IfSome known (λ both. (before : List Setting) × IsFirstConflict (λ s. s.name) nat_eq all.old.items before both.0 both.1 × AddsAll (λ s. s.name) nat_eq before all.old.items all.new.items)) }
-    ensures keyed { Ascends (λ s. s.name) nat_cmp all.new.items }
+    ensures known { IfOk result (λ known. IfSome known (λ both. (before : List Setting) × IsFirstConflict (λ s. s.name) nat_eq all.old before both.0 both.1 × AddsAll (λ s. s.name) nat_eq before all.old all.new)) }
 {
-    match all.extend_unique(line) {
+    match all.0.extend_unique(line) {
         Ok(()) => Ok(None),
         Err(ExtendUniqueError::Duplicate(both)) => {
             let there = **both.duplicates().get(0).unwrap();
@@ -64,7 +59,8 @@ fn add(
     }
 }
 
-fn run(alloc: Global, all: &mut Settings, out: &mut impl Write) -> io::Result<()> {
+fn main(rt: HostRuntime) -> io::Result<()> {
+    let mut all = Settings(IdOrdMap::new(rt.alloc()));
     let lines = [
         [('p', 80), ('s', 5)],
         [('r', 3), ('r', 4)],
@@ -72,18 +68,12 @@ fn run(alloc: Global, all: &mut Settings, out: &mut impl Write) -> io::Result<()
     ];
     for line in lines {
         let line = line.map(|(name, value)| Setting { name, value });
-        if let Err(repeat) = IdOrdMap::from_iter_unique(alloc, Vec::from_array(alloc, line)?) {
-            writeln!(out, "{repeat:?}")?;
+        let items = Vec::from_array(rt.alloc(), line)?;
+        if let Err(repeat) = IdOrdMap::from_iter_unique(rt.alloc(), items) {
+            println!(rt; "{repeat:?}")?;
             continue;
         }
-        let known = add(&mut all.0, Vec::from_array(alloc, line)?);
-        writeln!(out, "{known:?}")?;
+        println!(rt; "{:?}", add(&mut all, Vec::from_array(rt.alloc(), line)?))?;
     }
-    writeln!(out, "there are {}", all.0.len())
-}
-
-fn main(rt: HostRuntime) -> ExitCode {
-    let mut all = Settings(IdOrdMap::new(rt.alloc()));
-    let outcome = run(rt.alloc(), &mut all, &mut rt.stdout());
-    ExitCode::from(u8::from(outcome.is_err()))
+    println!(rt; "there are {}", all.0.len())
 }

@@ -6,7 +6,7 @@ ghost use Rattle.std.specs.Cmp.{partial_equiv_from_equiv};
 ghost use Rattle.std.specs.Cmp.Lexicographic.{bytes_decides, slice_cmp, pointwise, on_texts, on_texts_equal, texts_ties};
 ghost use Rattle.std.specs.Hash as fed;
 ghost use Rattle.std.specs.Ordering.{nat_cmp, on, as_partial_cmp};
-ghost use Rattle.iddqd_testing.specs.Folded.{folded_po};
+ghost use Rattle.iddqd_coarse.specs.Folded.{folded_po};
 
 use iddqd::{IdHashItem, IdOrdItem};
 use std::cmp::Ordering;
