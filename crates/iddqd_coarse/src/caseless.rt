@@ -73,7 +73,9 @@ impl Hash for Caseless {
 /// An item of such a name.
 #[derive(Clone, Copy, Debug, PartialEq, Eq)]
 pub struct Coarse {
+    /// What it is found by.
     pub name: Caseless,
+    /// What stands beside it.
     pub value: u32,
 }
 
