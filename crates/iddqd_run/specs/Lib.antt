@@ -1,6 +1,5 @@
 pub mod Answer
 pub mod Asked
-pub mod Failing
 pub mod KeyedMap
 pub mod Lines
 pub mod SameReplies

@@ -7,7 +7,6 @@ mod arguments;
 mod commands;
 mod ends;
 mod entries;
-mod failing;
 mod keyed_map;
 pub mod laws;
 mod lines;
@@ -19,9 +18,9 @@ mod table;
 
 pub use arguments::{Kind, after_name, kind_of};
 pub use commands::{Command, Reply, RunStop};
-pub use failing::{FailingReader, FailingWriter};
 pub use iddqd::errors::{DuplicateItem, Few, InsertError, Refused, TryReserveError};
 pub use iddqd::{IdHashItem, IdHashMap, IdOrdItem, IdOrdMap, MAX_ITEMS};
+pub use iddqd_streams::{FailingReader, FailingWriter};
 pub use keyed_map::KeyedMap;
 pub use running::run;
 pub use serving::{Fault, fault_text, serve};

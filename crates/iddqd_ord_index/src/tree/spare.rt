@@ -79,13 +79,6 @@ impl Spare {
         self.wanted = wanted;
     }
 
-    #[cfg(test)]
-    pub(crate) fn len(&self) -> usize
-        ensures { result ≡ self.now.count }
-    {
-        self.nodes.len()
-    }
-
     // Takes one out.
     pub(crate) fn take(&mut self) -> Box<Node>
         requires { 0 < self.old.count }

@@ -17,7 +17,7 @@ pub struct FailingReader {
 }
 
 impl Model for FailingReader {
-    ghost use Rattle.iddqd_run.specs.Failing.{Reading};
+    ghost use Rattle.iddqd_streams.specs.Failing.{Reading};
     ghost use Rattle.std.specs.Prelude.{drop, length, ◌≤◌};
 
     ghost Value = { Reading };
@@ -70,7 +70,7 @@ pub struct FailingWriter {
 }
 
 impl Model for FailingWriter {
-    ghost use Rattle.iddqd_run.specs.Failing.{Writing};
+    ghost use Rattle.iddqd_streams.specs.Failing.{Writing};
 
     ghost Value = { Writing };
 
