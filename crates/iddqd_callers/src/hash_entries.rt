@@ -1,5 +1,5 @@
 //! Entries of a hash map.
-ghost use Rattle.std.specs.Prelude.{◌≡◌, ◌==◌, IfNone, IfSome, IsTrue, OnSome, Some, false};
+ghost use Rattle.std.specs.Prelude.{◌≡◌, ◌==◌, IfNone, IfSome, IsTrue, OnSome, Some, false, is_some};
 ghost use Rattle.iddqd.specs.Contents.{AddsItem, find_item, replaced, without};
 
 use crate::items::{Pair, SetsValue};
@@ -104,7 +104,8 @@ pub fn show_or_add<S: BuildHasher>(
 /// Lets an entry go.
 pub fn looks<S: BuildHasher>(map: &mut IdHashMap<Pair, S>, key: u32) -> bool
     requires keyed { ⟦<IdHashMap<Pair, S> as Lookups>⟧.keyed map.old }
-    ensures { map.new ≡ map.old }
+    ensures told { result ≡ is_some (find_item (λ p. p.key) (λ k. key == k) map.old.items) }
+    ensures unchanged { map.new ≡ map.old }
 {
     match map.entry(&key) {
         Entry::Occupied(_) => true,

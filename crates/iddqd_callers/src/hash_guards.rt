@@ -1,5 +1,5 @@
 //! Writing through the guard of a hash map.
-ghost use Rattle.std.specs.Prelude.{◌≡◌, ◌==◌, IfSome, IfNone, IsTrue, OnSome, Some, option_map};
+ghost use Rattle.std.specs.Prelude.{◌≡◌, ◌==◌, IfSome, IfNone, IsTrue, is_some, option_map};
 ghost use Rattle.iddqd.specs.Contents.{find_item, replaced};
 ghost use Rattle.iddqd.specs.Hashing.{HashesAs};
 
@@ -10,6 +10,7 @@ use std::hash::{BuildHasher, Hash};
 /// Writes the value of the key, and tells whether it is there.
 pub fn set_value<S: BuildHasher>(map: &mut IdHashMap<Pair, S>, key: u32, value: u32) -> bool
     requires keyed { ⟦<IdHashMap<Pair, S> as Lookups>⟧.keyed map.old }
+    ensures told { result ≡ is_some (find_item (λ p. p.key) (λ k. key == k) map.old.items) }
     ensures written { IfSome (find_item (λ p. p.key) (λ k. key == k) map.old.items) (λ x. map.new.items ≡ replaced (λ p. p.key) (λ k. key == k) (record x { value = value }) map.old.items) }
     ensures absent { IfNone (find_item (λ p. p.key) (λ k. key == k) map.old.items) (map.new ≡ map.old) }
     ensures keyed { ⟦<IdHashMap<Pair, S> as Lookups>⟧.keyed map.new }
@@ -95,7 +96,7 @@ pub fn set_by_reborrow<S: BuildHasher>(
     value: u32,
 ) -> Option<u32>
     requires keyed { ⟦<IdHashMap<Pair, S> as Lookups>⟧.keyed map.old }
-    ensures read { OnSome result (result ≡ Some value) }
+    ensures read { result ≡ option_map (λ _. value) (find_item (λ p. p.key) (λ k. key == k) map.old.items) }
     ensures written { IfSome (find_item (λ p. p.key) (λ k. key == k) map.old.items) (λ x. map.new.items ≡ replaced (λ p. p.key) (λ k. key == k) (record x { value = value }) map.old.items) }
 {
     match map.get_mut(&key) {
@@ -129,6 +130,7 @@ pub fn put_and_ask<T: IdHashItem + Drop, S: BuildHasher, Q: Hash + Equivalent<T:
     requires keyed { ⟦<IdHashMap<T, S> as Lookups>⟧.keyed map.old }
     requires hashes { HashesAs (Q.equivalent query.now) (Q.hash_input query.now) T.Key.hash_input }
     requires akin { IfSome (find_item T.key (Q.equivalent query.now) map.old.items) (λ x. IsTrue (T.Key.eq (T.key x) (T.key item))) }
+    ensures told { result ≡ is_some (find_item T.key (Q.equivalent query.now) map.new.items) }
     ensures keyed { ⟦<IdHashMap<T, S> as Lookups>⟧.keyed map.new }
 {
     put(map, query, item);

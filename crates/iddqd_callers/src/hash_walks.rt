@@ -1,5 +1,6 @@
 //! Walks that write and that retain, over a hash map.
-ghost use Rattle.std.specs.Prelude.{◌≡◌, map, filter, nat_lt};
+ghost use Rattle.std.specs.Prelude.{◌≡◌, ◌==◌, map, filter, is_some, nat_lt};
+ghost use Rattle.iddqd.specs.Contents.{find_item};
 ghost use Rattle.iddqd_callers.specs.Zeroed.{zeroed, changed_to};
 
 use crate::items::Pair;
@@ -33,6 +34,7 @@ pub fn zero_first<S: BuildHasher>(all: &mut IdHashMap<Pair, S>)
 /// Sets each value to zero, and then asks the map, which is keyed still.
 pub fn zero_and_ask<S: BuildHasher>(all: &mut IdHashMap<Pair, S>) -> bool
     requires keyed { ⟦<IdHashMap<Pair, S> as Lookups>⟧.keyed all.old }
+    ensures told { result ≡ is_some (find_item (λ p. p.key) (λ k. 4 == k) all.new.items) }
     ensures keyed { ⟦<IdHashMap<Pair, S> as Lookups>⟧.keyed all.new }
 {
     zero_all(all);

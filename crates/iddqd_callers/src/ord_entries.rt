@@ -1,5 +1,5 @@
 //! Entries of an ordered map.
-ghost use Rattle.std.specs.Prelude.{◌≡◌, ◌==◌, IfNone, IfSome, IsTrue, OnSome, Some, false, slice_get, slice_set};
+ghost use Rattle.std.specs.Prelude.{◌≡◌, ◌==◌, IfNone, IfSome, IsTrue, OnSome, Some, false, is_some, slice_get, slice_set};
 ghost use Rattle.std.specs.Ordering.{nat_cmp};
 ghost use Rattle.iddqd.specs.Contents.{AddsItem, Ascends, find_item, replaced, without};
 
@@ -99,7 +99,8 @@ pub fn set_first(map: &mut IdOrdMap<Pair>, value: u32)
 /// Lets an entry go.
 pub fn looks(map: &mut IdOrdMap<Pair>, key: u32) -> bool
     requires keyed { Ascends (λ p. p.key) nat_cmp map.old.items }
-    ensures { map.new ≡ map.old }
+    ensures told { result ≡ is_some (find_item (λ p. p.key) (λ k. key == k) map.old.items) }
+    ensures unchanged { map.new ≡ map.old }
 {
     match map.entry(&key) {
         Entry::Occupied(_) => true,

@@ -1,6 +1,8 @@
 //! Writing through the guard of an ordered map.
-ghost use Rattle.std.specs.Prelude.{◌≡◌, ◌==◌, IfSome, IfNone, IsTrue, OnSome, Some, option_map};
+ghost use Rattle.std.specs.Prelude.{◌≡◌, ◌==◌, IfSome, IfNone, IsTrue, is_some, option_map};
 ghost use Rattle.std.specs.Ordering.{nat_cmp};
+ghost use Rattle.std.specs.Str.{bytes_eq};
+ghost use Rattle.std.specs.String.{string_bytes};
 ghost use Rattle.iddqd.specs.Contents.{Ascends, find_item, replaced};
 
 use crate::items::{Named, Pair, write_value};
@@ -9,6 +11,7 @@ use iddqd::{Comparable, IdOrdItem, IdOrdMap, Text};
 /// Writes the value of the key, and tells whether it is there.
 pub fn set_value(map: &mut IdOrdMap<Pair>, key: u32, value: u32) -> bool
     requires keyed { Ascends (λ p. p.key) nat_cmp map.old.items }
+    ensures told { result ≡ is_some (find_item (λ p. p.key) (λ k. key == k) map.old.items) }
     ensures written { IfSome (find_item (λ p. p.key) (λ k. key == k) map.old.items) (λ x. map.new.items ≡ replaced (λ p. p.key) (λ k. key == k) (record x { value = value }) map.old.items) }
     ensures absent { IfNone (find_item (λ p. p.key) (λ k. key == k) map.old.items) (map.new ≡ map.old) }
     ensures keyed { Ascends (λ p. p.key) nat_cmp map.new.items }
@@ -81,7 +84,7 @@ pub fn set_plainly(map: &mut IdOrdMap<Pair>, key: u32, value: u32)
 #[tactic(auto, using(iddqd::proofs::GuardLemmas::read_back))]
 pub fn set_by_reborrow(map: &mut IdOrdMap<Pair>, key: u32, value: u32) -> Option<u32>
     requires keyed { Ascends (λ p. p.key) nat_cmp map.old.items }
-    ensures read { OnSome result (result ≡ Some value) }
+    ensures read { result ≡ option_map (λ _. value) (find_item (λ p. p.key) (λ k. key == k) map.old.items) }
     ensures written { IfSome (find_item (λ p. p.key) (λ k. key == k) map.old.items) (λ x. map.new.items ≡ replaced (λ p. p.key) (λ k. key == k) (record x { value = value }) map.old.items) }
 {
     match map.get_mut(&key) {
@@ -114,6 +117,7 @@ pub fn put_and_ask<T: IdOrdItem + Drop, Q: Comparable<T::Key>>(
 ) -> bool
     requires keyed { Ascends T.key T.Key.cmp map.old.items }
     requires akin { IfSome (find_item T.key (Q.equivalent query.now) map.old.items) (λ x. IsTrue (T.Key.eq (T.key x) (T.key item))) }
+    ensures told { result ≡ is_some (find_item T.key (Q.equivalent query.now) map.new.items) }
     ensures keyed { Ascends T.key T.Key.cmp map.new.items }
 {
     put(map, query, item);
@@ -124,6 +128,7 @@ pub fn put_and_ask<T: IdOrdItem + Drop, Q: Comparable<T::Key>>(
 #[tactic(auto, using(iddqd::proofs::GuardLemmas::same_key_kept))]
 pub fn set_and_ask(map: &mut IdOrdMap<Named>, name: &str, value: u32) -> bool
     requires keyed { Ascends ⟦<Named as IdOrdItem>⟧.key ⟦<String as Ord>⟧.cmp map.old.items }
+    ensures told { result ≡ is_some (find_item ⟦<Named as IdOrdItem>⟧.key (λ k. bytes_eq name.now (string_bytes k)) map.new.items) }
     ensures keyed { Ascends ⟦<Named as IdOrdItem>⟧.key ⟦<String as Ord>⟧.cmp map.new.items }
 {
     if let Some(mut found) = map.get_mut(&Text(name)) {

@@ -1,7 +1,7 @@
 //! Walks that write and that retain, over an ordered map.
-ghost use Rattle.std.specs.Prelude.{◌≡◌, map, filter, nat_lt};
+ghost use Rattle.std.specs.Prelude.{◌≡◌, ◌==◌, map, filter, is_some, nat_lt};
 ghost use Rattle.std.specs.Ordering.{nat_cmp};
-ghost use Rattle.iddqd.specs.Contents.{Ascends};
+ghost use Rattle.iddqd.specs.Contents.{Ascends, find_item};
 ghost use Rattle.iddqd_callers.specs.Zeroed.{zeroed, changed_to};
 
 use crate::items::Pair;
@@ -35,6 +35,7 @@ pub fn zero_first(all: &mut IdOrdMap<Pair>)
 #[tactic(auto, using(crate::proofs::ZeroedLemmas::ascends_zeroed))]
 pub fn zero_and_ask(all: &mut IdOrdMap<Pair>) -> bool
     requires keyed { Ascends (λ p. p.key) nat_cmp all.old.items }
+    ensures told { result ≡ is_some (find_item (λ p. p.key) (λ k. 4 == k) all.new.items) }
     ensures keyed { Ascends (λ p. p.key) nat_cmp all.new.items }
 {
     zero_all(all);

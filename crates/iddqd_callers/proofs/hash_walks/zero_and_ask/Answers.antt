@@ -10,4 +10,4 @@ contains_key-requires-clause-keyed g c =
 
 pub returns : goal.returns
 returns g c =
-    record { keyed = rw c.zero_all.ensures (keyed_zeroed nat_eq u32 (hash_under g.S.BuildHasher g.S.Hasher.Hasher) c.args.all.now c.requires.keyed) }
+    record { told = c.contains_key.ensures; keyed = rw c.zero_all.ensures (keyed_zeroed nat_eq u32 (hash_under g.S.BuildHasher g.S.Hasher.Hasher) c.args.all.now c.requires.keyed) }
