@@ -7,3 +7,4 @@ pub mod Served
 pub mod Shown
 pub mod Step
 pub mod Words
+pub use Rattle.iddqd_streams.specs.Failing
