@@ -2,8 +2,6 @@
 #![tactic(auto)]
 
 #[cfg(test)]
-mod adding;
-#[cfg(test)]
 mod calls;
 #[cfg(test)]
 mod draws;
@@ -17,5 +15,3 @@ mod plain;
 mod refused;
 #[cfg(test)]
 mod runs;
-#[cfg(test)]
-mod writing;
