@@ -245,7 +245,7 @@ where
     Tried<M>: AskedForRoom + Probed,
 {
     let additional = draws.below(40) as usize;
-    let fits = plain.len().saturating_add(additional) <= plain.limit as usize;
+    let fits = plain.has_room(additional);
     let answer = if draws.coin() {
         map.reserve(additional)
     } else {

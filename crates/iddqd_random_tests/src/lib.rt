@@ -2,6 +2,8 @@
 #![tactic(auto)]
 
 #[cfg(test)]
+mod adding;
+#[cfg(test)]
 mod calls;
 #[cfg(test)]
 mod draws;
@@ -15,3 +17,5 @@ mod plain;
 mod refused;
 #[cfg(test)]
 mod runs;
+#[cfg(test)]
+mod writing;

@@ -11,13 +11,22 @@ use iddqd_testing::tried::{AskedForRoom, Tried};
 use std::alloc::{AllocError, Global};
 
 // Some items, of which some have equal names.
-fn drawn(alloc: Global, draws: &mut Draws) -> Result<Vec<Coarse>, AllocError> {
+pub(crate) fn drawn(alloc: Global, draws: &mut Draws) -> Result<Vec<Coarse>, AllocError> {
     let count = draws.below(12);
     let mut items = Vec::with_capacity(alloc, count as usize)?;
     for _ in 0..count {
         items.push(draws.item())?;
     }
     Ok(items)
+}
+
+// How many of the items a map takes for new, before it takes any.
+pub(crate) fn announced(plain: &Plain, items: &[Coarse]) -> usize {
+    if plain.len() == 0 {
+        items.len()
+    } else {
+        items.len().div_ceil(2)
+    }
 }
 
 // Overwrites the items into the list up to the first that finds it full, which it answers.
@@ -41,12 +50,7 @@ where
     Tried<M>: Probed,
 {
     let items = drawn(alloc, draws)?;
-    let announced = if plain.len() == 0 {
-        items.len()
-    } else {
-        items.len().div_ceil(2)
-    };
-    let is_reserved = plain.len().saturating_add(announced) <= plain.limit as usize;
+    let is_reserved = plain.has_room(announced(plain, items.as_slice()));
     let stopped = if is_reserved {
         overwrite_all(plain, items.as_slice())?
     } else {

@@ -75,6 +75,21 @@ pub(crate) fn show_or_insert(
     Ok(is_same(answer, expected))
 }
 
+pub(crate) fn show_inserted(
+    map: &mut Tried<IdOrdMap<Coarse>>,
+    plain: &mut Plain,
+    draws: &mut Draws,
+) -> Result<bool, AllocError> {
+    let item = draws.item();
+    let is_new = plain.find(&item.name).is_none();
+    let expected = if is_new {
+        calls::shown(plain, item)?
+    } else {
+        None
+    };
+    Ok(is_same(map.show_inserted(item), expected))
+}
+
 // The names ascend.
 pub(crate) fn ascends(walked: &[Coarse]) -> bool {
     let mut last: Option<Coarse> = None;

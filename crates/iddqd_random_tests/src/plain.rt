@@ -45,6 +45,11 @@ impl Plain {
         self.items.len() >= self.limit as usize
     }
 
+    /// Whether so many more items fit.
+    pub(crate) fn has_room(&self, additional: usize) -> bool {
+        self.len().saturating_add(additional) <= self.limit as usize
+    }
+
     /// The item of the name.
     pub(crate) fn find(&self, name: &Caseless) -> Option<Coarse> {
         self.items.iter().find(|item| item.name == *name).copied()

@@ -1,6 +1,8 @@
 //! The runs: lists of calls from fixed seeds. After each call the whole contents and the numbers are compared too, and `validate`.
+use crate::adding::{TakesNew, extend_unique};
 use crate::draws::Draws;
 use crate::plain::Plain;
+use crate::writing::{Written, write_first};
 use crate::{calls, many, ordered};
 use iddqd::{IdHashMap, IdOrdMap};
 use iddqd_run::KeyedMap;
@@ -39,8 +41,10 @@ pub(crate) enum Call {
     Shrink,
     Clear,
     Extend,
+    ExtendUnique,
     Copy,
     WriteCopy,
+    WriteFirst,
 }
 
 // By weights that leave the map some two thirds full of all names.
@@ -59,11 +63,13 @@ fn drawn_call(draws: &mut Draws) -> Call {
         154..=161 => Call::FindOrMake,
         162..=169 => Call::DoubleOrInsert,
         170..=177 => Call::InsertAndWrite,
-        178..=183 => Call::Reserve,
-        184..=186 => Call::Shrink,
-        187..=194 => Call::Extend,
+        178..=182 => Call::Reserve,
+        183..=185 => Call::Shrink,
+        186..=190 => Call::Extend,
+        191..=194 => Call::ExtendUnique,
         195..=196 => Call::Copy,
-        197..=198 => Call::WriteCopy,
+        197 => Call::WriteCopy,
+        198 => Call::WriteFirst,
         _ => {
             if draws.below(8) == 0 {
                 Call::Clear
@@ -84,6 +90,7 @@ fn is_answered<M: KeyedMap<Item = Coarse, Key = Caseless> + Drop>(
 ) -> Result<bool, AllocError>
 where
     Tried<M>: Probed + Copied + Entered + Respelled + AskedForRoom + Walked<Coarse>,
+    Tried<M>: TakesNew + Written,
 {
     match call {
         Call::Insert => calls::insert(map, plain, draws),
@@ -103,8 +110,10 @@ where
         Call::Shrink => Ok(calls::shrink(map, plain, draws)),
         Call::Clear => Ok(calls::clear(map, plain)),
         Call::Extend => many::extend(alloc, map, plain, draws),
+        Call::ExtendUnique => extend_unique(alloc, map, plain, draws),
         Call::Copy => many::copy(alloc, map, plain, draws),
         Call::WriteCopy => Ok(many::write_copy(map, plain, draws)),
+        Call::WriteFirst => write_first(alloc, map, draws),
     }
 }
 
@@ -126,6 +135,7 @@ fn run_hashed<M: KeyedMap<Item = Coarse, Key = Caseless> + Drop>(
 ) -> Result<(), AllocError>
 where
     Tried<M>: Probed + Copied + Entered + Respelled + AskedForRoom + Walked<Coarse>,
+    Tried<M>: TakesNew + Written,
 {
     let (mut map, mut plain) = (map, Plain::new(alloc, run.limit));
     let mut draws = Draws::new(run.seed, run.letters);
@@ -156,7 +166,8 @@ fn is_answered_in_order(
         0..=1 => Ok(ordered::pop(map, plain, draws)),
         2..=4 => ordered::insert_counted(map, plain, draws),
         5 => Ok(ordered::remove_counted(map, plain, draws)),
-        _ => ordered::show_or_insert(map, plain, draws),
+        6 => ordered::show_or_insert(map, plain, draws),
+        _ => ordered::show_inserted(map, plain, draws),
     }
 }
 

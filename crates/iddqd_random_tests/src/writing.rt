@@ -1,0 +1,73 @@
+//! Copies of a map that a walk writes: whether it writes the first items alone.
+use crate::draws::Draws;
+use crate::plain::is_same;
+use iddqd::{IdHashMap, IdOrdMap};
+use iddqd_run::KeyedMap;
+use iddqd_testing::caseless::{Caseless, Coarse};
+use iddqd_testing::probed::{Copied, Probed};
+use iddqd_testing::tried::Tried;
+use iddqd_testing::walked::Walked;
+use std::alloc::{AllocError, Global};
+use std::hash::BuildHasher;
+
+/// A map of either kind that a walk writes.
+pub(crate) trait Written: Sized {
+    /// The items of the map once `iter_mut` has raised so many of them, and how many it had left then.
+    fn raised(self, alloc: Global, most: usize) -> Result<(Vec<Coarse>, usize), AllocError>;
+}
+
+impl Written for Tried<IdOrdMap<Coarse>> {
+    fn raised(self, alloc: Global, most: usize) -> Result<(Vec<Coarse>, usize), AllocError> {
+        let (map, left) = self.written(most, raise);
+        let mut items = Vec::with_capacity(alloc, map.len())?;
+        for item in map {
+            items.push(item)?;
+        }
+        Ok((items, left))
+    }
+}
+
+impl<S: BuildHasher + Drop> Written for Tried<IdHashMap<Coarse, S>> {
+    fn raised(self, alloc: Global, most: usize) -> Result<(Vec<Coarse>, usize), AllocError> {
+        let (map, left) = self.written(most, raise);
+        let mut items = Vec::with_capacity(alloc, map.len())?;
+        for item in map {
+            items.push(item)?;
+        }
+        Ok((items, left))
+    }
+}
+
+fn raise(item: &mut Coarse) {
+    item.value = item.value.wrapping_add(1);
+}
+
+pub(crate) fn write_first<M: KeyedMap<Item = Coarse, Key = Caseless> + Drop>(
+    alloc: Global,
+    map: &Tried<M>,
+    draws: &mut Draws,
+) -> Result<bool, AllocError>
+where
+    Tried<M>: Copied + Probed + Written,
+{
+    let Ok(copy) = map.copied() else {
+        return Ok(false);
+    };
+    let most = draws.below(40) as usize;
+    let mut expected = map.walked(alloc)?;
+    for item in expected.iter_mut().take(most) {
+        raise(item);
+    }
+    let (written, left) = copy.raised(alloc, most)?;
+    let is_left = left == expected.len().saturating_sub(most);
+    Ok(is_left && are_same(written.as_slice(), expected.as_slice()))
+}
+
+fn are_same(items: &[Coarse], others: &[Coarse]) -> bool {
+    for (item, other) in items.iter().zip(others.iter()) {
+        if !is_same(Some(*item), Some(*other)) {
+            return false;
+        }
+    }
+    items.len() == others.len()
+}
