@@ -124,7 +124,7 @@ fn exchange(rt: &impl Abort, mint: &mut Mint, there: &mut [bool], step: u32) {
     for n in 0..10_000u32 {
         let year = n * step % 10_000;
         let slot = mint.take(hash_of(year), year);
-        assert_eq!(rt; slot.is_some(), there[year as usize]);
+        assert!(rt; slot.is_some() == there[year as usize]);
         if slot.is_none() {
             mint.put(rt, hash_of(year), year);
         }
@@ -139,7 +139,7 @@ fn exchange(rt: &impl Abort, mint: &mut Mint, there: &mut [bool], step: u32) {
 fn same(rt: &impl Abort, mint: &Mint, there: &[bool]) {
     assert!(rt; there.len() == 10_000);
     for year in 0..10_000u32 {
-        assert_eq!(rt; mint.has(hash_of(year), year), there[year as usize]);
+        assert!(rt; mint.has(hash_of(year), year) == there[year as usize]);
     }
 }
 
@@ -151,7 +151,7 @@ fn thousands(rt: HostRuntime) -> Result<(), Fail> {
     for step in [1, 7, 9, 3] {
         exchange(&rt, &mut mint, there.as_mut_slice(), step);
     }
-    assert_eq!(rt; mint.index.len(), 0);
+    assert!(rt; mint.index.len() == 0);
     assert!(rt; mint.index.spare() >= 10_000);
     Ok(())
 }
@@ -161,14 +161,14 @@ fn thousands(rt: HostRuntime) -> Result<(), Fail> {
 fn pairs_of_one_hash(rt: HostRuntime) {
     let mut mint = Mint::new(rt.alloc());
     for year in 0..100 {
-        assert_eq!(rt; mint.put(&rt, 5, year), year);
+        assert!(rt; mint.put(&rt, 5, year) == year);
     }
     for year in 0..100 {
         assert!(rt; mint.finds(5, year, Some(year), 100));
         assert!(rt; mint.finds(6, year, None, 0));
     }
     for year in 0..100 {
-        assert_eq!(rt; mint.take(5, 99 - year), Some(99 - year));
+        assert!(rt; mint.take(5, 99 - year) == Some(99 - year));
     }
     assert!(rt; mint.finds(5, 50, None, 0));
 }
@@ -182,16 +182,16 @@ fn pairs(rt: HostRuntime) {
     assert!(rt; mint.finds(7, 1830, Some(2), 2));
     assert!(rt; mint.finds(7, 1810, Some(0), 2));
     assert!(rt; mint.finds(7, 1820, None, 2));
-    assert_eq!(rt; mint.recoin(&rt, 7, 1810), Some(3));
+    assert!(rt; mint.recoin(&rt, 7, 1810) == Some(3));
     assert!(rt; mint.finds(7, 1810, Some(3), 2));
-    assert_eq!(rt; mint.take(7, 1830), Some(2));
+    assert!(rt; mint.take(7, 1830) == Some(2));
     assert!(rt; mint.finds(7, 1830, None, 1));
 }
 
 #[test]
 fn room(rt: HostRuntime) -> Result<(), Fail> {
     let mut mint = Mint::new(rt.alloc());
-    assert_eq!(rt; mint.index.spare(), 0);
+    assert!(rt; mint.index.spare() == 0);
     for year in 0..100 {
         mint.put(&rt, hash_of(year), year);
     }
@@ -199,8 +199,8 @@ fn room(rt: HostRuntime) -> Result<(), Fail> {
     for year in 0..90 {
         mint.take(hash_of(year), year);
     }
-    assert_eq!(rt; mint.index.len(), 10);
-    assert_eq!(rt; mint.room(), room);
+    assert!(rt; mint.index.len() == 10);
+    assert!(rt; mint.room() == room);
     assert!(rt; mint.shrink(30));
     assert!(rt; mint.room() >= 30 && mint.room() < room);
     mint.copy()?;

@@ -22,10 +22,10 @@ where
     let Ok(Some(old)) = map.overwrite(item_of(*b"FOO", 2)) else {
         return Err(Fail::from("no item was replaced"));
     };
-    assert_eq!(rt; spelled(&old), (*b"Foo", 1));
+    assert!(rt; spelled(&old) == (*b"Foo", 1));
     let stored = map.get(&Caseless(*b"foo")).map(spelled);
-    assert_eq!(rt; stored, Some((*b"FOO", 2)));
-    assert_eq!(rt; map.len(), 1);
+    assert!(rt; stored == Some((*b"FOO", 2)));
+    assert!(rt; map.len() == 1);
     Ok(())
 }
 

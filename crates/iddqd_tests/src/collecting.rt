@@ -41,10 +41,7 @@ where
     let (first, second) = (wide_item(1, 'a', 'x'), wide_item(2, 'b', 'y'));
     let third = wide_item(1, 'c', 'z');
     let items = Vec::from_array(alloc, [first, second, third])?;
-    assert_eq!(rt;
-        first_repeat::<M, Wide>(alloc, items),
-        Some((third, 1, Some(first)))
-    );
+    assert!(rt; first_repeat::<M, Wide>(alloc, items) == Some((third, 1, Some(first))));
     Ok(())
 }
 
@@ -57,13 +54,10 @@ where
 {
     let foos = [1, 2, 3].map(|value| named(*b"foo", value));
     let repeat = first_repeat::<M, Named>(alloc, Vec::from_array(alloc, foos)?);
-    assert_eq!(rt; repeat, Some((foos[1], 1, Some(foos[0]))));
+    assert!(rt; repeat == Some((foos[1], 1, Some(foos[0]))));
     let two = Vec::from_array(alloc, [FOO, named(*b"bar", 99)])?;
-    assert_eq!(rt; len_of::<M>(Tried::collected_unique(alloc, two)), Some(2));
-    assert_eq!(rt;
-        len_of::<M>(Tried::collected_unique(alloc, Vec::new(alloc))),
-        Some(0)
-    );
+    assert!(rt; len_of::<M>(Tried::collected_unique(alloc, two)) == Some(2));
+    assert!(rt; len_of::<M>(Tried::collected_unique(alloc, Vec::new(alloc))) == Some(0));
     Ok(())
 }
 
@@ -98,9 +92,9 @@ where
     let last = wide_item(1, 'c', 'z');
     let items = [wide_item(1, 'a', 'x'), wide_item(2, 'b', 'y'), last];
     assert!(rt; map.extend(Vec::from_array(alloc, items)?).is_ok());
-    assert_eq!(rt; map.len(), 2);
-    assert_eq!(rt; map.get(&1).copied(), Some(last));
-    assert_eq!(rt; map.get(&2).copied(), Some(items[1]));
+    assert!(rt; map.len() == 2);
+    assert!(rt; map.get(&1).copied() == Some(last));
+    assert!(rt; map.get(&2).copied() == Some(items[1]));
     Ok(())
 }
 
@@ -161,7 +155,7 @@ where
     Tried<M>: Bulk<Named>,
 {
     assert!(rt; is_not_taken_in(&mut map));
-    assert_eq!(rt; map.len(), 0);
+    assert!(rt; map.len() == 0);
     assert!(rt; map.is_put(FOO) && map.is_put(BAR));
     assert!(rt; is_not_taken_in(&mut map));
     assert!(rt; has_both(&map, FOO, BAR));
@@ -183,7 +177,7 @@ where
 {
     assert!(rt; map.is_put(FOO));
     let items = Vec::from_array(alloc, [BAR, OTHER_FOO, named(*b"baz", 1)])?;
-    assert_eq!(rt; map.add_each(items), Added::Conflict(OTHER_FOO, Some(FOO)));
+    assert!(rt; map.add_each(items) == Added::Conflict(OTHER_FOO, Some(FOO)));
     assert!(rt; has_both(&map, FOO, BAR));
     Ok(())
 }
@@ -206,7 +200,7 @@ where
 {
     let (first, second, third) = (named(*b"  a", 1), named(*b"  b", 2), named(*b"  a", 3));
     let items = Vec::from_array(alloc, [first, second, third])?;
-    assert_eq!(rt; map.add_each(items), Added::Conflict(third, Some(first)));
+    assert!(rt; map.add_each(items) == Added::Conflict(third, Some(first)));
     assert!(rt; has_both(&map, first, second));
     Ok(())
 }
@@ -245,7 +239,7 @@ where
     let foo = named(*b"foo", 9);
     let items = Vec::from_array(alloc, [named(*b"baz", 7), foo, BAR])?;
     let expected = Some(Added::Conflict(foo, Some(FOO)));
-    assert_eq!(rt; unannounced(&mut map, items), expected);
+    assert!(rt; unannounced(&mut map, items) == expected);
     assert!(rt; has_both(&map, FOO, BAR));
     Ok(())
 }
@@ -261,7 +255,7 @@ where
     let baz = named(*b"baz", 7);
     let items = Vec::from_array(alloc, [baz, BAR])?;
     let expected = Some(Added::Stopped(Some(baz), TryReserveError::capacity_overflow()));
-    assert_eq!(rt; unannounced(&mut map, items), expected);
+    assert!(rt; unannounced(&mut map, items) == expected);
     assert!(rt; has_both(&map, FOO, BAR));
     Ok(())
 }
@@ -295,9 +289,9 @@ where
     assert!(rt; map.is_put(FOO));
     let mut liar = Liar::announcing(5);
     let full = TryReserveError::capacity_overflow();
-    assert_eq!(rt; map.add_each(&mut liar), Added::Stopped(None, full));
-    assert_eq!(rt; liar.asked(), 0);
-    assert_eq!(rt; map.len(), 1);
+    assert!(rt; map.add_each(&mut liar) == Added::Stopped(None, full));
+    assert!(rt; liar.asked() == 0);
+    assert!(rt; map.len() == 1);
 }
 
 #[test]
@@ -318,10 +312,10 @@ fn adds_nothing<M: KeyedMap<Item = Named, Key = [u8; 3]> + Drop>(
 where
     Tried<M>: Adding<Named>,
 {
-    assert_eq!(rt; map.add_each(Vec::new(alloc)), Added::All);
-    assert_eq!(rt; map.len(), 0);
+    assert!(rt; map.add_each(Vec::new(alloc)) == Added::All);
+    assert!(rt; map.len() == 0);
     assert!(rt; map.is_put(FOO) && map.is_put(BAR));
-    assert_eq!(rt; map.add_each(Vec::new(alloc)), Added::All);
+    assert!(rt; map.add_each(Vec::new(alloc)) == Added::All);
     assert!(rt; has_both(&map, FOO, BAR));
 }
 

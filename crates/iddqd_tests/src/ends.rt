@@ -59,23 +59,23 @@ fn pop<T: IdOrdItem>(map: &mut IdOrdMap<T>, first: bool) -> Option<T>
 #[test]
 fn ends(rt: HostRuntime) -> Result<(), Fail> {
     let mut map = filled(IdOrdMap::new(rt.alloc()))?;
-    assert_eq!(rt; map.first().copied(), Some(one(*b"alice  ", 42)));
-    assert_eq!(rt; map.last().copied(), Some(one(*b"charlie", 30)));
-    assert_eq!(rt; pop(&mut map, true), Some(one(*b"alice  ", 42)));
-    assert_eq!(rt; map.len(), 2);
-    assert_eq!(rt; pop(&mut map, true), Some(one(*b"bob    ", 99)));
-    assert_eq!(rt; pop(&mut map, true), Some(one(*b"charlie", 30)));
-    assert_eq!(rt; pop(&mut map, true), None);
+    assert!(rt; map.first().copied() == Some(one(*b"alice  ", 42)));
+    assert!(rt; map.last().copied() == Some(one(*b"charlie", 30)));
+    assert!(rt; pop(&mut map, true) == Some(one(*b"alice  ", 42)));
+    assert!(rt; map.len() == 2);
+    assert!(rt; pop(&mut map, true) == Some(one(*b"bob    ", 99)));
+    assert!(rt; pop(&mut map, true) == Some(one(*b"charlie", 30)));
+    assert!(rt; pop(&mut map, true) == None);
     Ok(())
 }
 
 #[test]
 fn ends_from_behind(rt: HostRuntime) -> Result<(), Fail> {
     let mut map = filled(IdOrdMap::new(rt.alloc()))?;
-    assert_eq!(rt; pop(&mut map, false), Some(one(*b"charlie", 30)));
-    assert_eq!(rt; pop(&mut map, false), Some(one(*b"bob    ", 99)));
-    assert_eq!(rt; pop(&mut map, false), Some(one(*b"alice  ", 42)));
-    assert_eq!(rt; pop(&mut map, false), None);
+    assert!(rt; pop(&mut map, false) == Some(one(*b"charlie", 30)));
+    assert!(rt; pop(&mut map, false) == Some(one(*b"bob    ", 99)));
+    assert!(rt; pop(&mut map, false) == Some(one(*b"alice  ", 42)));
+    assert!(rt; pop(&mut map, false) == None);
     Ok(())
 }
 
@@ -100,7 +100,7 @@ fn write_first(map: &mut IdOrdMap<Person>, value: u32) -> bool
 fn ends_by_entries(rt: HostRuntime) -> Result<(), Fail> {
     let mut map = filled(IdOrdMap::new(rt.alloc()))?;
     assert!(rt; write_first(&mut map, 100));
-    assert_eq!(rt; map.get(b"alice  ").copied(), Some(one(*b"alice  ", 100)));
+    assert!(rt; map.get(b"alice  ").copied() == Some(one(*b"alice  ", 100)));
     Ok(())
 }
 

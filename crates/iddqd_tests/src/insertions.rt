@@ -43,14 +43,11 @@ fn foo_twice<M: KeyedMap<Item = Named, Key = [u8; 3]>>(rt: &impl Abort, mut map:
 where
     M: Drop,
 {
-    assert_eq!(rt; map.insert(FOO), Inserted::Done);
-    assert_eq!(rt; map.insert(BAR), Inserted::Done);
-    assert_eq!(rt;
-        map.insert(OTHER_FOO),
-        Inserted::Duplicate(OTHER_FOO, Some(FOO))
-    );
-    assert_eq!(rt; map.len(), 2);
-    assert_eq!(rt; map.get(b"foo").copied(), Some(FOO));
+    assert!(rt; map.insert(FOO) == Inserted::Done);
+    assert!(rt; map.insert(BAR) == Inserted::Done);
+    assert!(rt; map.insert(OTHER_FOO) == Inserted::Duplicate(OTHER_FOO, Some(FOO)));
+    assert!(rt; map.len() == 2);
+    assert!(rt; map.get(b"foo").copied() == Some(FOO));
 }
 
 #[test]
@@ -81,7 +78,7 @@ where
         Inserted::Done,
         Inserted::Duplicate(second_five, Some(fourth)),
     ];
-    assert_eq!(rt; answers, expected);
+    assert!(rt; answers == expected);
 }
 
 #[test]
@@ -94,14 +91,13 @@ fn one_and_two<M: KeyedMap<Item = Numbered, Key = u32>>(rt: &impl Abort, mut map
 where
     M: Drop,
 {
-    assert_eq!(rt; map.insert(numbered(1, 10)), Inserted::Done);
-    assert_eq!(rt; map.insert(numbered(2, 20)), Inserted::Done);
-    assert_eq!(rt; map.get(&1).copied(), Some(numbered(1, 10)));
-    assert_eq!(rt; map.get(&2).copied(), Some(numbered(2, 20)));
-    assert_eq!(rt; map.get(&3).copied(), None);
-    assert_eq!(rt;
-        map.insert(numbered(1, 99)),
-        Inserted::Duplicate(numbered(1, 99), Some(numbered(1, 10)))
+    assert!(rt; map.insert(numbered(1, 10)) == Inserted::Done);
+    assert!(rt; map.insert(numbered(2, 20)) == Inserted::Done);
+    assert!(rt; map.get(&1).copied() == Some(numbered(1, 10)));
+    assert!(rt; map.get(&2).copied() == Some(numbered(2, 20)));
+    assert!(rt; map.get(&3).copied() == None);
+    assert!(rt;
+        map.insert(numbered(1, 99)) == Inserted::Duplicate(numbered(1, 99), Some(numbered(1, 10)))
     );
 }
 
@@ -116,8 +112,8 @@ fn get_and_double(rt: HostRuntime) {
         |item: &mut Named| item.value = item.value.wrapping_mul(2),
     );
     let mut walk = map.iter();
-    assert_eq!(rt; walk.next().map(|item| item.value), Some(198));
-    assert_eq!(rt; walk.next().map(|item| item.value), Some(84));
+    assert!(rt; walk.next().map(|item| item.value) == Some(198));
+    assert!(rt; walk.next().map(|item| item.value) == Some(84));
 }
 
 // A removed item is not found, and the others are.

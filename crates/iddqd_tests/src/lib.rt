@@ -16,18 +16,10 @@ mod entries;
 #[cfg(test)]
 mod errors;
 #[cfg(test)]
-mod hints;
-#[cfg(test)]
-mod hostile;
-#[cfg(test)]
 mod insertions;
 #[cfg(test)]
 mod limits;
 #[cfg(test)]
-mod many;
-#[cfg(test)]
 mod queries;
 #[cfg(test)]
 mod visits;
-#[cfg(test)]
-mod walks;

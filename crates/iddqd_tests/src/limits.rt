@@ -31,13 +31,13 @@ where
         Inserted::Duplicate(OTHER_FOO, Some(FOO)),
         Inserted::Refused(BAZ, full),
     ];
-    assert_eq!(rt; answers, expected);
+    assert!(rt; answers == expected);
     assert!(rt; matches!(map.overwrite(OTHER_FOO), Ok(Some(old)) if old == FOO));
-    assert_eq!(rt; map.remove(b"bar"), Some(BAR));
+    assert!(rt; map.remove(b"bar") == Some(BAR));
     assert!(rt; !map.is_compact());
-    assert_eq!(rt; map.insert(BAZ), Inserted::Done);
+    assert!(rt; map.insert(BAZ) == Inserted::Done);
     assert!(rt; map.is_compact());
-    assert_eq!(rt; map.reserve(1), Err(full));
+    assert!(rt; map.reserve(1) == Err(full));
 }
 
 fn full_at_none<M: KeyedMap<Item = Named, Key = [u8; 3]>>(rt: &impl Abort, mut map: Tried<M>)
@@ -46,8 +46,8 @@ where
     Tried<M>: AskedForRoom,
 {
     let full = TryReserveError::capacity_overflow();
-    assert_eq!(rt; map.reserve(0), Ok(()));
-    assert_eq!(rt; map.insert(FOO), Inserted::Refused(FOO, full));
+    assert!(rt; map.reserve(0) == Ok(()));
+    assert!(rt; map.insert(FOO) == Inserted::Refused(FOO, full));
 }
 
 #[test]
@@ -66,10 +66,10 @@ fn limit_four(rt: HostRuntime) {
     let map = IdHashMap::with_limit(rt.alloc(), 4, DefaultHashBuilder::new());
     let mut map = Tried::new(map);
     assert!(rt; map.is_put(FOO) && map.is_put(BAR) && map.is_put(BAZ));
-    assert_eq!(rt; map.reserve(1), Ok(()));
-    assert_eq!(rt; map.room(), 1);
-    assert_eq!(rt; map.reserve(2), Err(full));
-    assert_eq!(rt; map.room(), 1);
+    assert!(rt; map.reserve(1) == Ok(()));
+    assert!(rt; map.room() == 1);
+    assert!(rt; map.reserve(2) == Err(full));
+    assert!(rt; map.room() == 1);
     let past: Result<IdHashMap<Named>, TryReserveError> = IdHashMap::with_capacity(
         rt.alloc(),
         4_294_967_296,
@@ -78,7 +78,7 @@ fn limit_four(rt: HostRuntime) {
         Ok(_) => None,
         Err(error) => Some(error),
     };
-    assert_eq!(rt; error, Some(full));
+    assert!(rt; error == Some(full));
 }
 
 // With memory at hand a map is made with the room that is asked for.
@@ -108,11 +108,11 @@ where
     assert!(rt; map.is_put(FOO) && map.is_put(BAR));
     let capacity = map.capacity();
     assert!(rt; capacity >= 100);
-    assert_eq!(rt; map.shrink_to(usize::MAX), Ok(()));
+    assert!(rt; map.shrink_to(usize::MAX) == Ok(()));
     assert!(rt; map.capacity() == capacity && map.vacant() == 0 && has_both(&map));
-    assert_eq!(rt; map.shrink_to(10), Ok(()));
+    assert!(rt; map.shrink_to(10) == Ok(()));
     assert!(rt; map.capacity() >= 10 && map.room() >= room_of_ten && has_both(&map));
-    assert_eq!(rt; map.shrink_to(0), Ok(()));
+    assert!(rt; map.shrink_to(0) == Ok(()));
     assert!(rt; map.capacity() >= 2 && has_both(&map));
 }
 

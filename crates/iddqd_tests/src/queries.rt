@@ -30,7 +30,7 @@ where
     let name = "foo".to_string(alloc)?;
     assert!(rt; matches!(map.get(&name), Some(item) if item.value == 42));
     assert!(rt; matches!(map.take_out("foo"), Some(item) if item.value == 42));
-    assert_eq!(rt; map.len(), 0);
+    assert!(rt; map.len() == 0);
     Ok(())
 }
 
@@ -60,8 +60,8 @@ where
     };
     assert!(rt; map.is_put(first));
     assert!(rt; map.is_put(released(*b"artifact2", 2)));
-    assert_eq!(rt; map.get(&first.release).copied(), Some(first));
-    assert_eq!(rt; map.get(&other).copied(), None);
+    assert!(rt; map.get(&first.release).copied() == Some(first));
+    assert!(rt; map.get(&other).copied() == None);
 }
 
 #[test]

@@ -43,9 +43,9 @@ where
     let mut map = of_three(rt, map);
     let mut visitor = Change::KeepOdd(0);
     map.retain_mut(&mut visitor);
-    assert_eq!(rt; map.len(), 2);
-    assert_eq!(rt; map.get(&1).copied(), Some(numbered(1, 11)));
-    assert_eq!(rt; map.get(&3).copied(), Some(numbered(3, 31)));
+    assert!(rt; map.len() == 2);
+    assert!(rt; map.get(&1).copied() == Some(numbered(1, 11)));
+    assert!(rt; map.get(&3).copied() == Some(numbered(3, 31)));
     visitor
 }
 
@@ -72,10 +72,7 @@ where
 #[test]
 fn visitor(rt: HostRuntime) -> Result<(), Fail> {
     let alloc = rt.alloc();
-    assert_eq!(rt;
-        odd_of_three(&rt, Tried::new(IdOrdMap::new(alloc))),
-        Change::KeepOdd(123)
-    );
+    assert!(rt; odd_of_three(&rt, Tried::new(IdOrdMap::new(alloc))) == Change::KeepOdd(123));
     let _ = odd_of_three(&rt, Tried::new(IdHashMap::new(alloc)));
     visited_by_command(&rt, alloc, Tried::new(IdOrdMap::new(alloc)))?;
     visited_by_command(&rt, alloc, Tried::new(IdHashMap::new(alloc)))
@@ -97,10 +94,10 @@ where
         let _ = asked.push(item.name);
         item.value > 30
     });
-    assert_eq!(rt; map.len(), 2);
-    assert_eq!(rt; map.get(b"foo").copied(), Some(FOO));
-    assert_eq!(rt; map.get(b"baz").copied(), Some(BAZ));
-    assert_eq!(rt; map.get(b"bar").copied(), None);
+    assert!(rt; map.len() == 2);
+    assert!(rt; map.get(b"foo").copied() == Some(FOO));
+    assert!(rt; map.get(b"baz").copied() == Some(BAZ));
+    assert!(rt; map.get(b"bar").copied() == None);
     Ok(asked)
 }
 
@@ -110,7 +107,7 @@ fn retain_by_value(rt: HostRuntime) -> Result<(), Fail> {
     let asked = kept_by_value(&rt, alloc, Tried::new(IdOrdMap::new(alloc)))?;
     assert!(rt; asked.as_slice() == [*b"bar", *b"baz", *b"foo"].as_slice());
     let asked = kept_by_value(&rt, alloc, Tried::new(IdHashMap::new(alloc)))?;
-    assert_eq!(rt; asked.len(), 3);
+    assert!(rt; asked.len() == 3);
     Ok(())
 }
 
@@ -142,26 +139,26 @@ fn double(item: &mut Named) {
 fn writing_walk(rt: HostRuntime) {
     let ordered = of_foo_and_bar(&rt, Tried::new(IdOrdMap::new(rt.alloc())));
     let (map, left) = ordered.written(3, double);
-    assert_eq!(rt; left, 0);
-    assert_eq!(rt; value_in!(map, b"foo"), Some(84));
-    assert_eq!(rt; value_in!(map, b"bar"), Some(40));
+    assert!(rt; left == 0);
+    assert!(rt; value_in!(map, b"foo") == Some(84));
+    assert!(rt; value_in!(map, b"bar") == Some(40));
     let hashed = of_foo_and_bar(&rt, Tried::new(IdHashMap::new(rt.alloc())));
     let (map, left) = hashed.written(3, double);
-    assert_eq!(rt; left, 0);
-    assert_eq!(rt; value_in!(map, b"foo"), Some(84));
-    assert_eq!(rt; value_in!(map, b"bar"), Some(40));
+    assert!(rt; left == 0);
+    assert!(rt; value_in!(map, b"foo") == Some(84));
+    assert!(rt; value_in!(map, b"bar") == Some(40));
 }
 
 #[test]
 fn writing_walk_of_one_item(rt: HostRuntime) {
     let ordered = of_foo_and_bar(&rt, Tried::new(IdOrdMap::new(rt.alloc())));
     let (map, left) = ordered.written(1, double);
-    assert_eq!(rt; left, 1);
-    assert_eq!(rt; value_in!(map, b"foo"), Some(42));
-    assert_eq!(rt; value_in!(map, b"bar"), Some(40));
+    assert!(rt; left == 1);
+    assert!(rt; value_in!(map, b"foo") == Some(42));
+    assert!(rt; value_in!(map, b"bar") == Some(40));
     let hashed = of_foo_and_bar(&rt, Tried::new(IdHashMap::new(rt.alloc())));
     let (map, left) = hashed.written(1, double);
-    assert_eq!(rt; left, 1);
+    assert!(rt; left == 1);
     let values = (value_in!(map, b"foo"), value_in!(map, b"bar"));
     assert!(rt; values == (Some(84), Some(20)) || values == (Some(42), Some(40)));
 }
@@ -192,10 +189,10 @@ where
     }
     map.retain(|item| item.number % 2 == 1 && item.number % 3 != 0);
     assert!(rt; are_left(&map));
-    assert_eq!(rt; map.vacant(), 16);
-    assert_eq!(rt; map.reserve(10), Ok(()));
+    assert!(rt; map.vacant() == 16);
+    assert!(rt; map.reserve(10) == Ok(()));
     assert!(rt; map.is_sound() && !map.is_compact());
-    assert_eq!(rt; map.shrink_to_fit(), Ok(()));
+    assert!(rt; map.shrink_to_fit() == Ok(()));
     assert!(rt; map.is_compact() && are_left(&map));
 }
 

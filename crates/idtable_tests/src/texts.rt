@@ -85,14 +85,14 @@ fn bad_lines(rt: HostRuntime) -> Result<(), Fail> {
         (["hash", "ord"].as_slice(), None),
         (["ord", "ord"].as_slice(), None),
     ] {
-        assert_eq!(rt; kind_of_words(alloc, words)?, kind);
+        assert!(rt; kind_of_words(alloc, words)? == kind);
     }
-    assert_eq!(rt; exit_status(&Ok(3)), 0);
-    assert_eq!(rt; exit_status(&Err(Stop::Fault(Fault::Write))), 1);
-    assert_eq!(rt; exit_status(&Err(Stop::Usage)), 2);
-    assert_eq!(rt; fault_text(&Fault::Read), "read failed");
-    assert_eq!(rt; fault_text(&Fault::Write), "write failed");
-    assert_eq!(rt; fault_text(&Fault::Memory), "no memory");
+    assert!(rt; exit_status(&Ok(3)) == 0);
+    assert!(rt; exit_status(&Err(Stop::Fault(Fault::Write))) == 1);
+    assert!(rt; exit_status(&Err(Stop::Usage)) == 2);
+    assert!(rt; fault_text(&Fault::Read) == "read failed");
+    assert!(rt; fault_text(&Fault::Write) == "write failed");
+    assert!(rt; fault_text(&Fault::Memory) == "no memory");
     Ok(())
 }
 

@@ -35,8 +35,8 @@ fn reading_walk(rt: HostRuntime) -> Result<(), Fail> {
     assert!(rt; walk.len() == 1 && walk.next().is_some());
     assert!(rt; walk.len() == 0 && walk.next().is_none() && walk.next().is_none());
     let mut walk = map.into_iter();
-    assert_eq!(rt; walk.next(), Some(named(*b"bar", 20)));
-    assert_eq!(rt; walk.len(), 2);
+    assert!(rt; walk.next() == Some(named(*b"bar", 20)));
+    assert!(rt; walk.len() == 2);
     Ok(())
 }
 
@@ -50,7 +50,7 @@ fn hash_reading_walk(rt: HostRuntime) -> Result<(), Fail> {
     assert!(rt; walk.len() == 0 && walk.next().is_none() && walk.next().is_none());
     let mut walk = map.into_iter();
     assert!(rt; walk.next().is_some());
-    assert_eq!(rt; walk.len(), 2);
+    assert!(rt; walk.len() == 2);
     Ok(())
 }
 
@@ -58,12 +58,12 @@ fn hash_reading_walk(rt: HostRuntime) -> Result<(), Fail> {
 fn walks_of_empty_maps(rt: HostRuntime) -> Result<(), Fail> {
     let ordered: IdOrdMap<Named> = IdOrdMap::new(rt.alloc());
     let mut walk = ordered.iter();
-    assert_eq!(rt; walk.len(), 0);
+    assert!(rt; walk.len() == 0);
     assert!(rt; walk.next().is_none() && walk.next().is_none());
     assert!(rt; ordered == IdOrdMap::new(rt.alloc()));
     let hashed: IdHashMap<Named> = IdHashMap::new(rt.alloc());
     let mut walk = hashed.iter();
-    assert_eq!(rt; walk.len(), 0);
+    assert!(rt; walk.len() == 0);
     assert!(rt; walk.next().is_none() && walk.next().is_none());
     assert!(rt; hashed.eq(&IdHashMap::new(rt.alloc())));
     Ok(())

@@ -30,12 +30,9 @@ fn is_respelled<M: KeyedMap<Item = Coarse, Key = Caseless> + Drop>(
         Inserted::Duplicate(_, existing) => existing,
         Inserted::Done | Inserted::Refused(_, _) => None,
     };
-    assert_eq!(rt; existing.as_ref().map(spelled), Some((*b"fOO", 7)));
-    assert_eq!(rt;
-        map.get(&Caseless(*b"BAR")).map(spelled),
-        Some((*b"bar", 1))
-    );
-    assert_eq!(rt; map.len(), 2);
+    assert!(rt; existing.as_ref().map(spelled) == Some((*b"fOO", 7)));
+    assert!(rt; map.get(&Caseless(*b"BAR")).map(spelled) == Some((*b"bar", 1)));
+    assert!(rt; map.len() == 2);
     map
 }
 
@@ -152,17 +149,17 @@ fn of_one<M: KeyedMap<Item = Numbered, Key = u32> + Drop>(
 #[test]
 fn reborrow(rt: HostRuntime) {
     let map = of_one(&rt, Tried::new(IdOrdMap::new(rt.alloc())));
-    assert_eq!(rt; map.write_by_reborrow(1, 5), Some((5, 5)));
+    assert!(rt; map.write_by_reborrow(1, 5) == Some((5, 5)));
     let map = of_one(&rt, Tried::new(IdHashMap::new(rt.alloc())));
-    assert_eq!(rt; map.write_by_reborrow(1, 5), Some((5, 5)));
+    assert!(rt; map.write_by_reborrow(1, 5) == Some((5, 5)));
 }
 
 #[test]
 fn guard_spent_unwritten(rt: HostRuntime) {
     let map = of_one(&rt, Tried::new(IdOrdMap::new(rt.alloc())));
-    assert_eq!(rt; map.spend_unwritten(1), Some(true));
+    assert!(rt; map.spend_unwritten(1) == Some(true));
     let map = of_one(&rt, Tried::new(IdHashMap::new(rt.alloc())));
-    assert_eq!(rt; map.spend_unwritten(1), Some(true));
+    assert!(rt; map.spend_unwritten(1) == Some(true));
 }
 
 #[test]
@@ -207,6 +204,6 @@ fn writing_walk_stopped(rt: HostRuntime) {
         assert!(rt; map.is_put(numbered(number, number)));
     }
     let (map, left) = map.written(10, raise);
-    assert_eq!(rt; left, 20);
+    assert!(rt; left == 20);
     assert!(rt; is_raised_to_ten(&map));
 }

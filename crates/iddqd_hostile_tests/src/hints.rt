@@ -30,10 +30,10 @@ where
         numbered(3, 4),
     ];
     let stopped = stopped_at(map.extend(Hinted::new(&items, 0)));
-    assert_eq!(rt; stopped, (Some(numbered(3, 4)), true));
-    assert_eq!(rt; map.len(), 2);
-    assert_eq!(rt; map.get(&1).copied(), Some(numbered(1, 3)));
-    assert_eq!(rt; map.get(&2).copied(), Some(numbered(2, 2)));
+    assert!(rt; stopped == (Some(numbered(3, 4)), true));
+    assert!(rt; map.len() == 2);
+    assert!(rt; map.get(&1).copied() == Some(numbered(1, 3)));
+    assert!(rt; map.get(&2).copied() == Some(numbered(2, 2)));
 }
 
 #[test]
@@ -59,15 +59,12 @@ fn hint_at_two<M: KeyedMap<Item = Numbered, Key = u32> + Drop>(rt: &impl Abort, 
 where
     Tried<M>: Bulk<Numbered>,
 {
-    assert_eq!(rt; announced(&mut map, 3), (None, true));
-    assert_eq!(rt; map.len(), 0);
+    assert!(rt; announced(&mut map, 3) == (None, true));
+    assert!(rt; map.len() == 0);
     assert!(rt; map.is_put(numbered(1, 1)));
-    assert_eq!(rt; announced(&mut map, 3), (None, true));
-    assert_eq!(rt; announced(&mut map, 2), (None, false));
-    assert_eq!(rt;
-        (map.len(), map.get(&1).copied()),
-        (1, Some(numbered(1, 1)))
-    );
+    assert!(rt; announced(&mut map, 3) == (None, true));
+    assert!(rt; announced(&mut map, 2) == (None, false));
+    assert!(rt; (map.len(), map.get(&1).copied()) == (1, Some(numbered(1, 1))));
 }
 
 #[test]
@@ -83,8 +80,8 @@ where
     Tried<M>: Bulk<Numbered>,
 {
     let one = [numbered(1, 1)];
-    assert_eq!(rt; stopped_at(map.extend(Hinted::new(&one, 5))), (None, false));
-    assert_eq!(rt; map.len(), 1);
+    assert!(rt; stopped_at(map.extend(Hinted::new(&one, 5))) == (None, false));
+    assert!(rt; map.len() == 1);
 }
 
 fn many_come<M: KeyedMap<Item = Numbered, Key = u32> + Drop>(rt: &impl Abort, mut map: Tried<M>)
@@ -95,11 +92,8 @@ where
     for (at, item) in hundred.iter_mut().enumerate() {
         item.number = at as u32;
     }
-    assert_eq!(rt;
-        stopped_at(map.extend(Hinted::new(&hundred, 0))),
-        (None, false)
-    );
-    assert_eq!(rt; map.len(), 100);
+    assert!(rt; stopped_at(map.extend(Hinted::new(&hundred, 0))) == (None, false));
+    assert!(rt; map.len() == 100);
 }
 
 // The error of an announcement that passes what a map ever holds.
@@ -124,10 +118,10 @@ fn few_or_many_items(rt: HostRuntime) {
         alloc,
         Hinted::new(&[], 4_294_967_296),
     );
-    assert_eq!(rt; refused_whole(ordered), full);
+    assert!(rt; refused_whole(ordered) == full);
     let hashed = Tried::<IdHashMap<Numbered>>::collected_unique(
         alloc,
         Hinted::new(&[], 4_294_967_296),
     );
-    assert_eq!(rt; refused_whole(hashed), full);
+    assert!(rt; refused_whole(hashed) == full);
 }

@@ -80,17 +80,14 @@ fn constant_hasher(rt: HostRuntime) -> Result<(), Fail> {
     let (front, rest) = parted(items.as_slice(), 50);
     assert!(rt; all_go_in(&mut map, items.as_slice()));
     assert!(rt; all_are_found(&map, items.as_slice()));
-    assert_eq!(rt; map.get(&101).copied(), None);
+    assert!(rt; map.get(&101).copied() == None);
     let again = Numbered {
         number: 50,
         value: 0,
     };
-    assert_eq!(rt;
-        map.insert(again),
-        Inserted::Duplicate(again, Some(numbered(50)))
-    );
-    assert_eq!(rt; map.remove(&50), Some(numbered(50)));
-    assert_eq!(rt; map.get(&50).copied(), None);
+    assert!(rt; map.insert(again) == Inserted::Duplicate(again, Some(numbered(50))));
+    assert!(rt; map.remove(&50) == Some(numbered(50)));
+    assert!(rt; map.get(&50).copied() == None);
     assert!(rt; all_are_found(&map, parted(front, 49).0) && all_are_found(&map, rest));
     Ok(())
 }
@@ -118,14 +115,14 @@ where
     M: Drop,
 {
     assert!(rt; all_go_in(&mut map, in_order(alloc, 10_007, 7)?.as_slice()));
-    assert_eq!(rt; map.len(), 10_006);
+    assert!(rt; map.len() == 10_006);
     let items = in_order(alloc, 10_007, 11)?;
     let (front, rest) = parted(items.as_slice(), 5_000);
     assert!(rt; all_come_out(&mut map, front));
-    assert_eq!(rt; map.len(), 5_006);
+    assert!(rt; map.len() == 5_006);
     assert!(rt; all_are_found(&map, rest));
     assert!(rt; all_come_out(&mut map, rest));
-    assert_eq!(rt; map.len(), 0);
+    assert!(rt; map.len() == 0);
     Ok(())
 }
 
@@ -143,10 +140,7 @@ fn random_hasher(rt: HostRuntime) -> Result<(), Fail> {
     let mut map = Tried::new(IdHashMap::with_hasher(alloc, RandomState::new(&rt)?));
     let items = in_order(alloc, 13, 2)?;
     assert!(rt; all_go_in(&mut map, items.as_slice()));
-    assert_eq!(rt;
-        map.insert(numbered(7)),
-        Inserted::Duplicate(numbered(7), Some(numbered(7)))
-    );
+    assert!(rt; map.insert(numbered(7)) == Inserted::Duplicate(numbered(7), Some(numbered(7))));
     assert!(rt; all_are_found(&map, items.as_slice()));
     assert!(rt; all_come_out(&mut map, items.as_slice()));
     Ok(())
@@ -157,7 +151,7 @@ macro_rules! count_nothing {
     ($rt:ident, $map:ident) => {{
         assert!($rt; $map.is_empty());
         assert!($rt; $map.capacity() == 0 && $map.vacant() == 0);
-        assert_eq!($rt; $map.limit(), 4_294_967_295);
+        assert!($rt; $map.limit() == 4_294_967_295);
         assert!($rt; !$map.contains_key(&1));
     }};
 }
@@ -168,15 +162,15 @@ fn numbers_of_an_empty_map(rt: HostRuntime) {
     count_nothing!(rt, ordered);
     let hashed: IdHashMap<Numbered> = IdHashMap::new(rt.alloc());
     count_nothing!(rt, hashed);
-    assert_eq!(rt; hashed.spare(), 0);
+    assert!(rt; hashed.spare() == 0);
 }
 
 // The numbers after one of two items has left.
 macro_rules! count_the_one_left {
     ($rt:ident, $map:ident) => {{
         assert!($rt; is_put(&mut $map, numbered(1)) && is_put(&mut $map, numbered(2)));
-        assert_eq!($rt; $map.remove(&1), Some(numbered(1)));
-        assert_eq!($rt; $map.vacant(), 1);
+        assert!($rt; $map.remove(&1) == Some(numbered(1)));
+        assert!($rt; $map.vacant() == 1);
         assert!($rt; $map.capacity() >= 2 && $map.contains_key(&2));
     }};
 }
