@@ -8,6 +8,7 @@ use iddqd_testing::caseless::{Caseless, Coarse, spelled};
 use iddqd_testing::heap::{arm, is_met};
 use iddqd_testing::tried::{AskedForRoom, Inserted, Tried};
 use std::alloc::{AllocError, Global};
+use std::process::Abort;
 use std::test::Fail;
 
 /// How a call went.
@@ -71,21 +72,8 @@ fn remove<M: KeyedMap<Item = Coarse, Key = Caseless> + Drop>(
     judged(is_same(map.remove(name), plain.take(name)))
 }
 
-// A reservation, or a shrink.
-fn change_room<M: KeyedMap<Item = Coarse, Key = Caseless> + Drop>(
-    map: &mut Tried<M>,
-    plain: &mut Plain,
-    number: u32,
-) -> Outcome
-where
-    Tried<M>: AskedForRoom,
-{
-    let answer = if number % 2 == 0 {
-        map.reserve(number as usize)
-    } else {
-        plain.vacant = 0;
-        map.shrink_to(number as usize)
-    };
+// What a reservation or a shrink told.
+fn told(answer: Result<(), TryReserveError>) -> Outcome {
     match answer {
         Ok(()) => Outcome::AsTheList,
         Err(error) if error.is_capacity_overflow() => Outcome::Otherwise,
@@ -109,24 +97,50 @@ where
     map.len() == plain.len() && map.vacant() == plain.vacant && map.is_sound()
 }
 
+/// What is called.
+#[derive(Clone, Copy, Debug)]
+enum Call {
+    Insert,
+    Overwrite,
+    Remove,
+    Reserve,
+    Shrink,
+}
+
+fn drawn_call(draws: &mut Draws) -> Call {
+    match draws.below(32) {
+        0..=13 => Call::Insert,
+        14..=21 => Call::Overwrite,
+        22..=29 => Call::Remove,
+        30 => Call::Reserve,
+        _ => Call::Shrink,
+    }
+}
+
 fn made<M: KeyedMap<Item = Coarse, Key = Caseless> + Drop>(
     map: &mut Tried<M>,
     plain: &mut Plain,
     draws: &mut Draws,
+    call: Call,
 ) -> Result<Outcome, AllocError>
 where
     Tried<M>: AskedForRoom,
 {
-    match draws.below(16) {
-        0..=6 => insert(map, plain, draws.item()),
-        7..=10 => overwrite(map, plain, draws.item()),
-        11..=14 => Ok(remove(map, plain, &draws.name())),
-        _ => Ok(change_room(map, plain, draws.below(64))),
+    match call {
+        Call::Insert => insert(map, plain, draws.item()),
+        Call::Overwrite => overwrite(map, plain, draws.item()),
+        Call::Remove => Ok(remove(map, plain, &draws.name())),
+        Call::Reserve => Ok(told(map.reserve(draws.below(64) as usize))),
+        Call::Shrink => {
+            plain.vacant = 0;
+            Ok(told(map.shrink_to(draws.below(64) as usize)))
+        }
     }
 }
 
 // How many of the calls were refused. The list has its room from the beginning.
 fn refusals<M: KeyedMap<Item = Coarse, Key = Caseless> + Drop>(
+    rt: &impl Abort,
     alloc: Global,
     map: &mut Tried<M>,
     seed: u64,
@@ -138,14 +152,16 @@ where
     let mut draws = Draws::new(seed, 5);
     let mut refusals = 0_u32;
     arm(alloc);
-    for _ in 0..400 {
-        match made(map, &mut plain, &mut draws)? {
-            Outcome::AsTheList => {}
-            Outcome::Refused => refusals = refusals.saturating_add(1),
-            Outcome::Otherwise => return Err(Fail::from("an answer is not the list's")),
-        }
-        if !finds_all(map, &plain) {
-            return Err(Fail::from("the contents are not the list's"));
+    for number in 0..400 {
+        let call = drawn_call(&mut draws);
+        let outcome = made(map, &mut plain, &mut draws, call)?;
+        let held = finds_all(map, &plain);
+        assert!(rt;
+            outcome != Outcome::Otherwise && held,
+            "seed {seed}: call {number}, {call:?}, is answered otherwise, or the contents differ"
+        );
+        if outcome == Outcome::Refused {
+            refusals = refusals.saturating_add(1);
         }
     }
     // a shrink that keeps its memory need not tell
@@ -166,14 +182,18 @@ fn row(refusals: u32) -> &'static str {
 
 #[test]
 fn ordered_calls(rt: HostRuntime) -> Result<(), Fail> {
+    let seed = 91;
+    println!(rt; "seed {seed}")?;
     let mut map = Tried::new(IdOrdMap::new(rt.alloc()));
-    println!(rt; "{}", row(refusals(rt.alloc(), &mut map, 91)?))?;
+    println!(rt; "{}", row(refusals(&rt, rt.alloc(), &mut map, seed)?))?;
     Ok(())
 }
 
 #[test]
 fn hash_calls(rt: HostRuntime) -> Result<(), Fail> {
+    let seed = 92;
+    println!(rt; "seed {seed}")?;
     let mut map = Tried::new(IdHashMap::new(rt.alloc()));
-    println!(rt; "{}", row(refusals(rt.alloc(), &mut map, 92)?))?;
+    println!(rt; "{}", row(refusals(&rt, rt.alloc(), &mut map, seed)?))?;
     Ok(())
 }

@@ -156,18 +156,45 @@ where
     Ok(())
 }
 
-// Makes a call of an ordered map alone.
+/// What is called of an ordered map.
+#[derive(Clone, Copy, Debug)]
+enum OrderedCall {
+    Pop,
+    InsertCounted,
+    RemoveCounted,
+    ShowOrInsert,
+    ShowInserted,
+    OfEither(Call),
+}
+
+// A fourth of the calls are an ordered map's alone.
+fn drawn_ordered_call(draws: &mut Draws) -> OrderedCall {
+    if draws.below(4) != 0 {
+        return OrderedCall::OfEither(drawn_call(draws));
+    }
+    match draws.below(8) {
+        0..=1 => OrderedCall::Pop,
+        2..=4 => OrderedCall::InsertCounted,
+        5 => OrderedCall::RemoveCounted,
+        6 => OrderedCall::ShowOrInsert,
+        _ => OrderedCall::ShowInserted,
+    }
+}
+
 fn is_answered_in_order(
+    alloc: Global,
     map: &mut Tried<IdOrdMap<Coarse>>,
     plain: &mut Plain,
     draws: &mut Draws,
+    call: OrderedCall,
 ) -> Result<bool, AllocError> {
-    match draws.below(8) {
-        0..=1 => Ok(ordered::pop(map, plain, draws)),
-        2..=4 => ordered::insert_counted(map, plain, draws),
-        5 => Ok(ordered::remove_counted(map, plain, draws)),
-        6 => ordered::show_or_insert(map, plain, draws),
-        _ => ordered::show_inserted(map, plain, draws),
+    match call {
+        OrderedCall::Pop => Ok(ordered::pop(map, plain, draws)),
+        OrderedCall::InsertCounted => ordered::insert_counted(map, plain, draws),
+        OrderedCall::RemoveCounted => Ok(ordered::remove_counted(map, plain, draws)),
+        OrderedCall::ShowOrInsert => ordered::show_or_insert(map, plain, draws),
+        OrderedCall::ShowInserted => ordered::show_inserted(map, plain, draws),
+        OrderedCall::OfEither(call) => is_answered(alloc, map, plain, draws, call),
     }
 }
 
@@ -177,12 +204,8 @@ fn run_ordered(rt: &impl Abort, alloc: Global, run: Run) -> Result<(), AllocErro
     let mut plain = Plain::new(alloc, run.limit);
     let mut draws = Draws::new(run.seed, run.letters);
     for number in 0..run.calls {
-        let call = drawn_call(&mut draws);
-        let answered = if draws.below(4) == 0 {
-            is_answered_in_order(&mut map, &mut plain, &mut draws)?
-        } else {
-            is_answered(alloc, &mut map, &mut plain, &mut draws, call)?
-        };
+        let call = drawn_ordered_call(&mut draws);
+        let answered = is_answered_in_order(alloc, &mut map, &mut plain, &mut draws, call)?;
         assert!(rt;
             answered,
             "{run:?}: call {number}, {call:?}, is answered otherwise"
@@ -211,7 +234,9 @@ fn of_seed(seed: u64, calls: u32, letters: u32, limit: u32) -> Run {
 #[test]
 fn ordered_calls(rt: HostRuntime) -> Result<(), Fail> {
     for seed in [11, 12, 13] {
-        run_ordered(&rt, rt.alloc(), of_seed(seed, 10_000, 3, MAX_ITEMS))?;
+        let run = of_seed(seed, 10_000, 3, MAX_ITEMS);
+        println!(rt; "{run:?}")?;
+        run_ordered(&rt, rt.alloc(), run)?;
     }
     Ok(())
 }
@@ -219,7 +244,9 @@ fn ordered_calls(rt: HostRuntime) -> Result<(), Fail> {
 #[test]
 fn ordered_calls_of_many_names(rt: HostRuntime) -> Result<(), Fail> {
     for seed in [21, 22] {
-        run_ordered(&rt, rt.alloc(), of_seed(seed, 20_000, 7, MAX_ITEMS))?;
+        let run = of_seed(seed, 20_000, 7, MAX_ITEMS);
+        println!(rt; "{run:?}")?;
+        run_ordered(&rt, rt.alloc(), run)?;
     }
     Ok(())
 }
@@ -227,7 +254,9 @@ fn ordered_calls_of_many_names(rt: HostRuntime) -> Result<(), Fail> {
 #[test]
 fn ordered_calls_at_the_limit(rt: HostRuntime) -> Result<(), Fail> {
     for seed in [31, 32] {
-        run_ordered(&rt, rt.alloc(), of_seed(seed, 10_000, 3, 14))?;
+        let run = of_seed(seed, 10_000, 3, 14);
+        println!(rt; "{run:?}")?;
+        run_ordered(&rt, rt.alloc(), run)?;
     }
     Ok(())
 }
@@ -235,8 +264,10 @@ fn ordered_calls_at_the_limit(rt: HostRuntime) -> Result<(), Fail> {
 #[test]
 fn hash_calls(rt: HostRuntime) -> Result<(), Fail> {
     for seed in [41, 42] {
+        let run = of_seed(seed, 20_000, 7, MAX_ITEMS);
+        println!(rt; "{run:?}")?;
         let map = Tried::new(IdHashMap::new(rt.alloc()));
-        run_hashed(&rt, rt.alloc(), of_seed(seed, 20_000, 7, MAX_ITEMS), map)?;
+        run_hashed(&rt, rt.alloc(), run, map)?;
     }
     Ok(())
 }
@@ -244,9 +275,11 @@ fn hash_calls(rt: HostRuntime) -> Result<(), Fail> {
 #[test]
 fn hash_calls_at_the_limit(rt: HostRuntime) -> Result<(), Fail> {
     for seed in [51, 52] {
+        let run = of_seed(seed, 10_000, 3, 14);
+        println!(rt; "{run:?}")?;
         let hasher = iddqd::DefaultHashBuilder::new();
         let map = Tried::new(IdHashMap::with_limit(rt.alloc(), 14, hasher));
-        run_hashed(&rt, rt.alloc(), of_seed(seed, 10_000, 3, 14), map)?;
+        run_hashed(&rt, rt.alloc(), run, map)?;
     }
     Ok(())
 }
@@ -254,9 +287,11 @@ fn hash_calls_at_the_limit(rt: HostRuntime) -> Result<(), Fail> {
 #[test]
 fn calls_of_equal_hashes(rt: HostRuntime) -> Result<(), Fail> {
     for seed in [61, 62, 63] {
+        let run = of_seed(seed, 10_000, 3, MAX_ITEMS);
+        println!(rt; "{run:?}")?;
         let hasher: BuildHasherDefault<ZeroHasher> = BuildHasherDefault::new();
         let map = Tried::new(IdHashMap::with_hasher(rt.alloc(), hasher));
-        run_hashed(&rt, rt.alloc(), of_seed(seed, 10_000, 3, MAX_ITEMS), map)?;
+        run_hashed(&rt, rt.alloc(), run, map)?;
     }
     Ok(())
 }
@@ -264,8 +299,10 @@ fn calls_of_equal_hashes(rt: HostRuntime) -> Result<(), Fail> {
 #[test]
 fn calls_of_random_hashes(rt: HostRuntime) -> Result<(), Fail> {
     for seed in [71, 72] {
+        let run = of_seed(seed, 10_000, 7, MAX_ITEMS);
+        println!(rt; "{run:?}")?;
         let map = Tried::new(IdHashMap::with_hasher(rt.alloc(), RandomState::new(&rt)?));
-        run_hashed(&rt, rt.alloc(), of_seed(seed, 10_000, 7, MAX_ITEMS), map)?;
+        run_hashed(&rt, rt.alloc(), run, map)?;
     }
     Ok(())
 }
@@ -291,6 +328,7 @@ where
 
 #[test]
 fn maps_of_many_items(rt: HostRuntime) -> Result<(), Fail> {
+    println!(rt; "seeds 81, 82, 83")?;
     make_many::<IdOrdMap<Coarse>>(&rt, rt.alloc(), 81)?;
     make_many::<IdHashMap<Coarse>>(&rt, rt.alloc(), 82)?;
     make_many::<IdHashMap<Coarse, BuildHasherDefault<ZeroHasher>>>(&rt, rt.alloc(), 83)?;
