@@ -1,4 +1,4 @@
-//! The maps' rows of hostile shapes: lying hints, hashers that tell little, many items, keys that change under a guard, walks left early.
+//! The maps' rows of hostile shapes (hints that lie, hashers that tell little, many items, keys spelled anew), of walks, equality and numbers.
 #![tactic(auto)]
 
 #[cfg(test)]

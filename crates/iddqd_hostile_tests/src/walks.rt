@@ -1,4 +1,4 @@
-//! Rows of reading walks, equality and clones.
+//! Rows of reading walks and equality.
 ghost use Rattle.std.specs.Prelude.{IfOk, nat_eq};
 ghost use Rattle.std.specs.Cmp.{on_equiv, on_per, nat_eq_equiv, partial_equiv_from_equiv};
 
