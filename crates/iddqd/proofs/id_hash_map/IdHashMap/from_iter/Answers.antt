@@ -1,0 +1,38 @@
+use Rattle.std.proofs.Common.{rules}
+use Rattle.iddqd.proofs.id_hash_map.IdHashMap.from_iter.Goals as goal
+
+pub returns-in-Ok-clause-items : goal.returns-in-Ok-clause-items
+returns-in-Ok-clause-items g c = search rules
+
+pub returns-in-Ok-clause-vacant : goal.returns-in-Ok-clause-vacant
+returns-in-Ok-clause-vacant g c = search rules
+
+pub returns-in-Ok-clause-limit : goal.returns-in-Ok-clause-limit
+returns-in-Ok-clause-limit g c = search rules
+
+pub returns-in-Ok-clause-spare : goal.returns-in-Ok-clause-spare
+returns-in-Ok-clause-spare g c = search rules
+
+pub returns-in-Ok-clause-hasher : goal.returns-in-Ok-clause-hasher
+returns-in-Ok-clause-hasher g c = search rules
+
+pub returns-in-Ok-clause-keyed : goal.returns-in-Ok-clause-keyed
+returns-in-Ok-clause-keyed g c = search rules
+
+pub returns-in-Err-clause-items : goal.returns-in-Err-clause-items
+returns-in-Err-clause-items g c = search rules
+
+pub returns-in-Err-clause-vacant : goal.returns-in-Err-clause-vacant
+returns-in-Err-clause-vacant g c = search rules
+
+pub returns-in-Err-clause-limit : goal.returns-in-Err-clause-limit
+returns-in-Err-clause-limit g c = search rules
+
+pub returns-in-Err-clause-spare : goal.returns-in-Err-clause-spare
+returns-in-Err-clause-spare g c = search rules
+
+pub returns-in-Err-clause-hasher : goal.returns-in-Err-clause-hasher
+returns-in-Err-clause-hasher g c = search rules
+
+pub returns-in-Err-clause-keyed : goal.returns-in-Err-clause-keyed
+returns-in-Err-clause-keyed g c = search rules

@@ -1,0 +1,9 @@
+use Rattle.std.proofs.Common.{arith, rules}
+use Rattle.std.proofs.lemmas.Grind.{common_steps}
+use Rattle.iddqd_ord.proofs.id_ord_map.IdOrdMap.last_entry.Goals as goal
+
+pub returns-then-is_empty : goal.returns-then-is_empty
+returns-then-is_empty g c = search rules
+
+pub returns : goal.returns
+returns g c = grind (arith, common_steps)

@@ -1,0 +1,5 @@
+use Rattle.std.proofs.Common.{rules}
+use Rattle.iddqd_ord_index.proofs.ord_index.OrdIndex.place.Goals as goal
+
+pub returns : goal.returns
+returns c = search rules

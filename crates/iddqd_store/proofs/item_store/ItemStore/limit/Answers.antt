@@ -1,0 +1,5 @@
+use Rattle.std.proofs.Common.{rules}
+use Rattle.iddqd_store.proofs.item_store.ItemStore.limit.Goals as goal
+
+pub returns : goal.returns
+returns g c = search rules

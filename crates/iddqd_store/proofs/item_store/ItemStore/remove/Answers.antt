@@ -1,0 +1,18 @@
+use Rattle.std.proofs.Common.{arith, rules}
+use Rattle.std.proofs.lemmas.Grind.{common_steps}
+use Rattle.iddqd_store.proofs.item_store.ItemStore.remove.Goals as goal
+
+pub invariant_of-self : goal.invariant_of-self
+invariant_of-self g c = grind (arith, common_steps)
+
+pub returns-clause-item : goal.returns-clause-item
+returns-clause-item g c = search rules
+
+pub returns-clause-store : goal.returns-clause-store
+returns-clause-store g c = grind (arith, common_steps)
+
+pub returns-clause-len : goal.returns-clause-len
+returns-clause-len g c = grind (arith, common_steps)
+
+pub returns-clause-vacant : goal.returns-clause-vacant
+returns-clause-vacant g c = grind (arith, common_steps)

@@ -1,0 +1,8 @@
+use Rattle.std.proofs.Common.{rules}
+use Rattle.iddqd_store.proofs.steps.Steps.add_one.Goals as goal
+
+pub returns-clause-step : goal.returns-clause-step
+returns-clause-step c = search rules
+
+pub returns-clause-counts_on : goal.returns-clause-counts_on
+returns-clause-counts_on c = search rules

@@ -1,0 +1,5 @@
+use Rattle.std.proofs.Common.{rules}
+use Rattle.iddqd_store.proofs.steps.Steps.new.Goals as goal
+
+pub returns : goal.returns
+returns c = search rules
