@@ -93,9 +93,9 @@ fn removals_in_mixed_order(rt: HostRuntime) {
     for factor in [1, 1008, 7] {
         let mut map = filled(rt.alloc(), factor);
         assert!(rt; are_taken(&mut map, 1, 505));
-        assert_eq!(rt; ascending(&map), Some(504));
+        assert!(rt; ascending(&map) == Some(504));
         assert!(rt; are_taken(&mut map, 505, 1009));
-        assert_eq!(rt; ascending(&map), Some(0));
+        assert!(rt; ascending(&map) == Some(0));
     }
 }
 
@@ -109,5 +109,5 @@ fn removals_in_order(rt: HostRuntime) {
         assert!(rt; map.take_plainly(&number));
         assert!(rt; walks(&map, number.wrapping_add(1), 13));
     }
-    assert_eq!(rt; map.len(), 0);
+    assert!(rt; map.len() == 0);
 }

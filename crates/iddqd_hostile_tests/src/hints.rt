@@ -1,7 +1,7 @@
 //! Rows of iterators whose hints lie, and of maps that are full.
 use iddqd::errors::{ExtendError, FromIterError, TryReserveError};
 use iddqd::{DefaultHashBuilder, IdHashMap, IdOrdMap};
-use iddqd_run::KeyedMap;
+use iddqd_commands::KeyedMap;
 use iddqd_testing::bulk::{Bulk, Hinted};
 use iddqd_testing::items::Numbered;
 use iddqd_testing::tried::Tried;

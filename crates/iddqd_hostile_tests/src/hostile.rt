@@ -1,6 +1,6 @@
 //! Rows of writes that spell a key anew, of guards lent once more, of equal hashes, and of walks that end early.
 use iddqd::{IdHashMap, IdOrdMap};
-use iddqd_run::KeyedMap;
+use iddqd_commands::KeyedMap;
 use iddqd_testing::caseless::{Caseless, Coarse, item_of, spelled};
 use iddqd_testing::counted::Hashed;
 use iddqd_testing::hashers::ZeroHasher;

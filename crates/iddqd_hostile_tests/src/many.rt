@@ -1,6 +1,6 @@
 //! Maps of many items, hash maps over other hashers, and the numbers of a map.
 use iddqd::{IdHashMap, IdOrdMap};
-use iddqd_run::KeyedMap;
+use iddqd_commands::KeyedMap;
 use iddqd_testing::hashers::{FewBits, Varying, ZeroHasher};
 use iddqd_testing::items::Numbered;
 use iddqd_testing::tried::{Inserted, Tried, is_put};

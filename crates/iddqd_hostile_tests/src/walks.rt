@@ -3,7 +3,7 @@ ghost use Rattle.std.specs.Prelude.{IfOk, nat_eq};
 ghost use Rattle.std.specs.Cmp.{on_equiv, on_per, nat_eq_equiv, partial_equiv_from_equiv};
 
 use iddqd::{IdHashItem, IdHashMap, IdOrdItem, IdOrdMap};
-use iddqd_run::KeyedMap;
+use iddqd_commands::KeyedMap;
 use iddqd_testing::items::Named;
 use iddqd_testing::tried::is_put;
 use std::test::Fail;

@@ -3,7 +3,7 @@ use crate::draws::Draws;
 use crate::many::{announced, drawn};
 use crate::plain::{Plain, is_same};
 use iddqd::{IdHashMap, IdOrdMap};
-use iddqd_run::{Command, KeyedMap, Reply};
+use iddqd_commands::{Command, KeyedMap, Reply};
 use iddqd_testing::bulk::{Added, Adding};
 use iddqd_testing::caseless::{Caseless, Coarse};
 use iddqd_testing::hashers::ZeroHasher;

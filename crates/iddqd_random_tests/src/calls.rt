@@ -1,7 +1,7 @@
 //! Calls of either map, one function a call: whether the map answers as the plain list.
 use crate::draws::Draws;
 use crate::plain::{Plain, is_same};
-use iddqd_run::KeyedMap;
+use iddqd_commands::KeyedMap;
 use iddqd_testing::caseless::{Caseless, Coarse, spelled};
 use iddqd_testing::entered::Entered;
 use iddqd_testing::probed::Probed;

@@ -3,7 +3,7 @@ use crate::calls::holds_the_same;
 use crate::draws::Draws;
 use crate::plain::{Plain, is_same};
 use iddqd::errors::FromIterError;
-use iddqd_run::KeyedMap;
+use iddqd_commands::KeyedMap;
 use iddqd_testing::bulk::Bulk;
 use iddqd_testing::caseless::{Caseless, Coarse};
 use iddqd_testing::probed::{Copied, Probed};

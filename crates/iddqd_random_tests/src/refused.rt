@@ -3,7 +3,7 @@ use crate::draws::Draws;
 use crate::plain::{Plain, is_same};
 use iddqd::errors::TryReserveError;
 use iddqd::{IdHashMap, IdOrdMap};
-use iddqd_run::KeyedMap;
+use iddqd_commands::KeyedMap;
 use iddqd_testing::caseless::{Caseless, Coarse, spelled};
 use iddqd_testing::heap::{arm, is_met};
 use iddqd_testing::tried::{AskedForRoom, Inserted, Tried};

@@ -5,7 +5,7 @@ use crate::plain::Plain;
 use crate::writing::{Written, write_first};
 use crate::{calls, many, ordered};
 use iddqd::{IdHashMap, IdOrdMap};
-use iddqd_run::KeyedMap;
+use iddqd_commands::KeyedMap;
 use iddqd_testing::caseless::{Caseless, Coarse};
 use iddqd_testing::entered::Entered;
 use iddqd_testing::hashers::ZeroHasher;

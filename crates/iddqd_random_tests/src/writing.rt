@@ -2,7 +2,7 @@
 use crate::draws::Draws;
 use crate::plain::is_same;
 use iddqd::{IdHashMap, IdOrdMap};
-use iddqd_run::KeyedMap;
+use iddqd_commands::KeyedMap;
 use iddqd_testing::caseless::{Caseless, Coarse};
 use iddqd_testing::probed::{Copied, Probed};
 use iddqd_testing::tried::Tried;

@@ -3,7 +3,7 @@ ghost use Rattle.std.specs.Prelude.{IfOk};
 
 use iddqd::errors::TryReserveError;
 use iddqd::{IdHashMap, IdOrdMap};
-use iddqd_run::KeyedMap;
+use iddqd_commands::KeyedMap;
 use iddqd_testing::heap::{arm, is_met};
 use iddqd_testing::items::Numbered;
 use iddqd_testing::tried::is_put;

@@ -1,6 +1,6 @@
 //! `run` with a request refused: the commands come back, or the replies are one of the rows that a refusal allows.
 use iddqd::{IdHashMap, IdOrdMap};
-use iddqd_run::{Command, KeyedMap, Reply};
+use iddqd_commands::{Command, KeyedMap, Reply};
 use iddqd_testing::heap::{arm, is_met};
 use iddqd_testing::kept::{Kept, make_kept};
 use iddqd_testing::tried::Tried;

@@ -23,21 +23,21 @@ fn into_owned(rt: HostRuntime) -> Result<(), Fail> {
         Err(lent) => {
             println!(rt; "handed_back")?;
             assert!(rt; is_met);
-            assert_eq!(rt; *lent.new_item().value, 4);
+            assert!(rt; *lent.new_item().value == 4);
             let Few::Three(a, b, c) = lent.duplicates() else {
                 return Err(Fail::from("other items"));
             };
-            assert_eq!(rt; (*a.value, *b.value, *c.value), (1, 2, 3));
+            assert!(rt; (*a.value, *b.value, *c.value) == (1, 2, 3));
             let Ok(owned) = lent.into_owned() else {
                 return Err(Fail::from("no memory for a number"));
             };
             owned
         }
     };
-    assert_eq!(rt; *owned.new_item().value, 4);
+    assert!(rt; *owned.new_item().value == 4);
     let Few::Three(a, b, c) = owned.duplicates() else {
         return Err(Fail::from("other items"));
     };
-    assert_eq!(rt; (*a.value, *b.value, *c.value), (1, 2, 3));
+    assert!(rt; (*a.value, *b.value, *c.value) == (1, 2, 3));
     Ok(())
 }

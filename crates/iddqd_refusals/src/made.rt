@@ -3,7 +3,7 @@ use crate::maps::holds;
 use crate::rooms::numbers;
 use iddqd::errors::{FromIterError, TryReserveError};
 use iddqd::{IdHashMap, IdOrdMap};
-use iddqd_run::KeyedMap;
+use iddqd_commands::KeyedMap;
 use iddqd_testing::bulk::Bulk;
 use iddqd_testing::heap::{arm, is_met};
 use iddqd_testing::items::Numbered;

@@ -2,7 +2,7 @@
 use crate::maps::{fill, holds};
 use iddqd::errors::ExtendError;
 use iddqd::{IdHashMap, IdOrdMap};
-use iddqd_run::KeyedMap;
+use iddqd_commands::KeyedMap;
 use iddqd_testing::bulk::{Added, Adding, Bulk};
 use iddqd_testing::heap::{arm, is_met};
 use iddqd_testing::items::Numbered;

@@ -24,15 +24,15 @@ use Rattle.iddqd.proofs.OrderLemmas.{differ_moved, find_moved}
 use Rattle.iddqd_run.specs.Answer as answer
 use Rattle.iddqd_run.specs.Answer.{added_text, all_placed, entry_named, how_many_added, how_many_fit, is_full, lacks_room, name_cmp, name_of}
 use Rattle.iddqd.specs.declared.errors.ExtendUniqueError.TheVariants.{Duplicate, Refused}
-use Rattle.iddqd_run.specs.KeyedMap.{StopsExtension}
+use Rattle.iddqd_commands.specs.KeyedMap.{StopsExtension}
 use Rattle.iddqd_run.specs.Lines.{AddAll, is_name, onto_pairs, paired_request, pairs_of, value_of, words_of}
 use Rattle.iddqd_run.specs.Shown.{AnswersPlainly, AnswersRequest, LeavesRefused, ShowsEntries, entries_of, entry_of, no_room_reply, no_space_reply, shown}
-use Rattle.iddqd_run.specs.Step.{FindsFull, FitsLikely, MapState, RefusesRoom, StopsAt, TakesAll, likely_new}
+use Rattle.iddqd_commands.specs.Step.{FindsFull, FitsLikely, MapState, RefusesRoom, StopsAt, TakesAll, likely_new}
 use Rattle.iddqd_run.specs.declared.arguments.Kind.{Kind}
 use Rattle.iddqd_run.specs.declared.entries.Entry.{Entry}
 use Rattle.iddqd_run.specs.declared.entries.LineReply.TheVariants.{AddedAll, Bad, DuplicateAfter, RefusedCapacity, RefusedMemory}
 use Rattle.iddqd_run.specs.declared.entries.LineReply.{LineReply}
-use Rattle.iddqd_run.proofs.ExtendLemmas.{absent_before, as_many, counted, cut_at}
+use Rattle.iddqd_commands.proofs.ExtendLemmas.{absent_before, as_many, counted, cut_at}
 use Rattle.iddqd_run.proofs.ShownLemmas.{absent_shown, asks_room, by_name, has_room, length_shown, moved_shown, placed_shown, there_shown}
 
 abbrev pub after_pairs : List (List ℕ × ℕ) → Option (List (List ℕ × ℕ)) → Option (List (List ℕ × ℕ))

@@ -1,10 +1,10 @@
 pub mod Answer
 pub mod Asked
-pub mod KeyedMap
 pub mod Lines
-pub mod SameReplies
 pub mod Served
 pub mod Shown
-pub mod Step
 pub mod Words
 pub use Rattle.iddqd_streams.specs.Failing
+pub use Rattle.iddqd_commands.specs.KeyedMap
+pub use Rattle.iddqd_commands.specs.SameReplies
+pub use Rattle.iddqd_commands.specs.Step

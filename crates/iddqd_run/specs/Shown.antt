@@ -6,7 +6,7 @@ use Rattle.iddqd_run.specs.Answer as answer
 use Rattle.iddqd.specs.Contents.{Ascends, SameInAnyOrder}
 use Rattle.iddqd.specs.Holding.{max_items}
 use Rattle.iddqd_run.specs.Lines.{Request}
-use Rattle.iddqd_run.specs.Step.{MapState}
+use Rattle.iddqd_commands.specs.Step.{MapState}
 use Rattle.iddqd_run.specs.declared.arguments.Kind.{Kind}
 use Rattle.iddqd_run.specs.declared.arguments.Kind.TheVariants.{Ord}
 use Rattle.iddqd_run.specs.declared.entries.Entry.{Entry}

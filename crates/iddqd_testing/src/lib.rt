@@ -10,7 +10,6 @@ pub mod entered;
 pub mod hashers;
 pub mod heap;
 pub mod items;
-pub mod kept;
 pub mod lent;
 pub mod parts;
 pub mod probed;
@@ -19,4 +18,4 @@ pub mod tried;
 pub mod visitors;
 pub mod walked;
 
-pub use iddqd_coarse::caseless;
+pub use iddqd_coarse::{caseless, kept};

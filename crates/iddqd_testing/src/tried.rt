@@ -6,7 +6,7 @@ use crate::visitors::Untouched;
 use iddqd::errors::{InsertError, Refused, TryReserveError};
 use iddqd::internal::ValidateCompact;
 use iddqd::{IdHashItem, IdHashMap, IdOrdItem, IdOrdMap, Text, Visit};
-use iddqd_run::{Command, KeyedMap, Reply, RunStop, run};
+use iddqd_commands::{Command, KeyedMap, Reply, RunStop, run};
 use std::alloc::Global;
 use std::hash::BuildHasher;
 use std::marker::Model;

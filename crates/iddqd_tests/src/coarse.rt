@@ -1,6 +1,6 @@
 //! Rows of keys that are equal without regard to case.
 use iddqd::{IdHashMap, IdOrdMap};
-use iddqd_run::{Command, KeyedMap, Reply};
+use iddqd_commands::{Command, KeyedMap, Reply};
 use iddqd_testing::caseless::{Caseless, Coarse, item_of, spelled};
 use iddqd_testing::tried::Tried;
 use iddqd_testing::visitors::Untouched;

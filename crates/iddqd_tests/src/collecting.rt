@@ -2,7 +2,7 @@
 use crate::insertions::{BAR, FOO, OTHER_FOO, wide_item};
 use iddqd::errors::{FromIterError, TryReserveError};
 use iddqd::{DefaultHashBuilder, IdHashMap, IdOrdMap};
-use iddqd_run::KeyedMap;
+use iddqd_commands::KeyedMap;
 use iddqd_testing::bulk::{Added, Adding, Bulk, Liar, Unannounced};
 use iddqd_testing::items::{Named, Wide};
 use iddqd_testing::tried::Tried;

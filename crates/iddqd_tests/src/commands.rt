@@ -4,7 +4,7 @@ ghost use Rattle.iddqd.specs.Contents.{ClonesAreEqual};
 use crate::insertions::{BAR, FOO, OTHER_FOO, wide_item};
 use iddqd::errors::TryReserveError;
 use iddqd::{DefaultHashBuilder, IdHashMap, IdOrdMap};
-use iddqd_run::{Command, KeyedMap, Reply};
+use iddqd_commands::{Command, KeyedMap, Reply};
 use iddqd_testing::items::{Named, Wide};
 use iddqd_testing::tried::Tried;
 use iddqd_testing::visitors::Untouched;

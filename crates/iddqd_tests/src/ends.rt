@@ -5,7 +5,7 @@ ghost use Rattle.std.specs.Ordering.{nat_cmp};
 ghost use Rattle.iddqd.specs.Contents.{Ascends};
 
 use iddqd::{IdOrdItem, IdOrdMap};
-use iddqd_run::KeyedMap;
+use iddqd_commands::KeyedMap;
 use iddqd_testing::tried::is_put;
 use std::test::Fail;
 

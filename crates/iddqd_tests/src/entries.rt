@@ -1,6 +1,6 @@
 //! Rows of entries.
 use iddqd::{IdHashMap, IdOrdMap};
-use iddqd_run::KeyedMap;
+use iddqd_commands::KeyedMap;
 use iddqd_testing::caseless::{Caseless, Coarse, item_of, spelled};
 use iddqd_testing::entered::Entered;
 use iddqd_testing::tried::Tried;

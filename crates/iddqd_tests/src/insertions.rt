@@ -1,6 +1,6 @@
 //! Rows of insertions, of each kind of map from one text.
 use iddqd::{IdHashMap, IdOrdMap};
-use iddqd_run::KeyedMap;
+use iddqd_commands::KeyedMap;
 use iddqd_testing::items::{Named, Numbered, Wide};
 use iddqd_testing::tried::{Inserted, Tried};
 use iddqd_testing::walked::Walked;

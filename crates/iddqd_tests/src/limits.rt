@@ -2,7 +2,7 @@
 use crate::insertions::{BAR, FOO, OTHER_FOO};
 use iddqd::errors::TryReserveError;
 use iddqd::{DefaultHashBuilder, IdHashMap, IdOrdMap};
-use iddqd_run::KeyedMap;
+use iddqd_commands::KeyedMap;
 use iddqd_testing::items::Named;
 use iddqd_testing::tried::{AskedForRoom, Inserted, Tried};
 use std::process::Abort;

@@ -1,6 +1,6 @@
 //! Rows of lookups by texts, by keys of two fields, and among items that are boxed or lent.
 use iddqd::{IdHashItem, IdHashMap, IdOrdItem, IdOrdMap};
-use iddqd_run::KeyedMap;
+use iddqd_commands::KeyedMap;
 use iddqd_testing::items::{Artifact, Release, Titled};
 use iddqd_testing::tried::{AskedByText, Tried};
 use std::alloc::{AllocError, Global};

@@ -5,7 +5,7 @@ ghost use Rattle.iddqd_testing.specs.Changed.{changed};
 
 use crate::insertions::{BAR, FOO};
 use iddqd::{IdHashMap, IdOrdMap};
-use iddqd_run::{Command, KeyedMap, Reply};
+use iddqd_commands::{Command, KeyedMap, Reply};
 use iddqd_testing::items::{Named, Numbered};
 use iddqd_testing::tried::{AskedForRoom, Tried};
 use iddqd_testing::visitors::Change;

@@ -6,7 +6,7 @@ use Rattle.iddqd_run.specs.Lines.{AddAll}
 use Rattle.iddqd_run.specs.Shown.{WritesReply, entries_of}
 use Rattle.iddqd_run.specs.declared.entries.LineReply.TheVariants.{AddedAll, DuplicateAfter}
 use Rattle.iddqd_run.proofs.AddAllLemmas.{all_sent, conflict_sent, refused_sent}
-use Rattle.iddqd_run.proofs.ExtendLemmas.{conflict_more}
+use Rattle.iddqd_commands.proofs.ExtendLemmas.{conflict_more}
 use Rattle.iddqd_run.proofs.ReplyLemmas.{written}
 use Rattle.iddqd_run.proofs.adding.add_entries.Goals as goal
 

@@ -1,0 +1,4 @@
+pub mod ExtendLemmas
+pub mod SameItemsLemmas
+pub mod SameRepliesLemmas
+pub mod StepLemmas

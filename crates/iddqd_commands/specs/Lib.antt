@@ -1,0 +1,3 @@
+pub mod KeyedMap
+pub mod SameReplies
+pub mod Step
