@@ -1,4 +1,4 @@
-use Rattle.std.proofs.Common.{subst}
+use Rattle.std.proofs.Common.{subst, rules}
 use Rattle.iddqd.specs.HashMap.{SpareFits}
 use Rattle.iddqd.proofs.MapLemmas.{spare_fits}
 use Rattle.iddqd.proofs.id_hash_map.IdHashMap.get_counted.Goals as goal
@@ -7,3 +7,12 @@ pub returns-clause-spare : goal.returns-clause-spare
 returns-clause-spare g c =
     let m = c.self.inside in
     subst SpareFits c.self.view_is (spare_fits m.hasher m.store m.index c.self.invariant)
+
+pub returns-clause-found : goal.returns-clause-found
+returns-clause-found g c = search rules
+
+pub returns-clause-steps : goal.returns-clause-steps
+returns-clause-steps g c = search rules
+
+pub returns-clause-counts_on : goal.returns-clause-counts_on
+returns-clause-counts_on g c = search rules

@@ -1,6 +1,16 @@
+use Rattle.std.proofs.Common.{rules}
 use Rattle.iddqd.proofs.PairedLemmas.{paired_grown}
 use Rattle.iddqd.proofs.id_hash_map.paired.reserve_one.Goals as goal
 
 pub returns-clause-paired : goal.returns-clause-paired
 returns-clause-paired g c =
     paired_grown c.args.store.now c.try_reserve.new.self c.args.index.now.pairs c.try_reserve-2.new.self.pairs c.requires.paired c.try_reserve.ensures.rest c.try_reserve.ensures.capacity c.try_reserve-2.ensures.pairs
+
+pub returns-then-len-limit-clause-kind : goal.returns-then-len-limit-clause-kind
+returns-then-len-limit-clause-kind g c = search rules
+
+pub returns-in_err-try_reserve-clause-kind : goal.returns-in_err-try_reserve-clause-kind
+returns-in_err-try_reserve-clause-kind g c = search rules
+
+pub returns-clause-kind : goal.returns-clause-kind
+returns-clause-kind g c = search rules

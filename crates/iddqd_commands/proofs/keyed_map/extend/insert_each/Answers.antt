@@ -1,4 +1,4 @@
-use Rattle.std.proofs.Common.{◌≡◌, [], ◌∷◌, ◌++◌, refl, sym, ap, subst, ◌∙◌, append_assoc}
+use Rattle.std.proofs.Common.{◌≡◌, [], ◌∷◌, ◌++◌, refl, sym, ap, subst, ◌∙◌, append_assoc, rules}
 use Rattle.std.proofs.lemmas.Result.{err_from_is_err_and}
 use Rattle.iddqd.specs.Contents.{OverwritesItem}
 use Rattle.std.specs.Prelude.{None}
@@ -44,3 +44,15 @@ returns-in_err-insert_one-clause-refused g c =
     let told = c.in_err-insert_one.ensures in
     let refused = subst (λ n. RefusesOne g.M.KeyedMap.key g.M.Key.PartialEq.eq n (g.M.KeyedMap.state middle) c.in-Some.item c.in_err-insert_one.field-0.0) kept.stays.limit told.refused in
     rw back.1 (refuses_among g.M.KeyedMap.key g.met.M.Key.Eq.laws (g.M.KeyedMap.limit old) g.M.KeyedMap.rule c.loop-item.yielded c.next.new.self.rest.items c.args.items.items c.in-Some.item is (g.M.KeyedMap.state old) (g.M.KeyedMap.state middle) (g.M.KeyedMap.state c.insert_one.new.map).items told.kept.items kept.taken kept.stays.room _ (rw back.2 refused))
+
+pub returns-in_err-insert_one-clause-taken : goal.returns-in_err-insert_one-clause-taken
+returns-in_err-insert_one-clause-taken g c = search rules
+
+pub returns-in_err-insert_one-clause-stays : goal.returns-in_err-insert_one-clause-stays
+returns-in_err-insert_one-clause-stays g c = search rules
+
+pub returns-clause-refused : goal.returns-clause-refused
+returns-clause-refused g c = search rules
+
+pub returns-clause-stays : goal.returns-clause-stays
+returns-clause-stays g c = search rules

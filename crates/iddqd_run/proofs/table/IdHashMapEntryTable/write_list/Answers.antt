@@ -1,4 +1,4 @@
-use Rattle.std.proofs.Common.{◌++◌, ◌∙◌, ap, length, string_bytes, sym}
+use Rattle.std.proofs.Common.{◌++◌, ◌∙◌, ap, length, string_bytes, sym, rules}
 use Rattle.std.specs.Prelude.{codes, decimal}
 use Rattle.std.proofs.lemmas.List.{length-map}
 use Rattle.iddqd_run.specs.Answer.{list_text}
@@ -14,3 +14,18 @@ returns-in-Ok-write_sorted-clause-listed c =
     (c.in-Ok-write_sorted.ensures
     ∙ ap (λ lent. before ++ (codes "list " ++ decimal (length lent) ++ list_text (entries_of (all_lent lent)))) c.as_slice.ensures.value
     ∙ ap (λ n. before ++ (codes "list " ++ decimal n ++ list_text (entries_of (all_lent sorted)))) (sym (length-map sorted _)))
+
+pub returns-in_default-clause-listed : goal.returns-in_default-clause-listed
+returns-in_default-clause-listed c = search rules
+
+pub returns-in_default-clause-refused : goal.returns-in_default-clause-refused
+returns-in_default-clause-refused c = search rules
+
+pub returns-in-Ok-write_sorted-clause-refused : goal.returns-in-Ok-write_sorted-clause-refused
+returns-in-Ok-write_sorted-clause-refused c = search rules
+
+pub returns-clause-listed : goal.returns-clause-listed
+returns-clause-listed c = search rules
+
+pub returns-clause-refused : goal.returns-clause-refused
+returns-clause-refused c = search rules

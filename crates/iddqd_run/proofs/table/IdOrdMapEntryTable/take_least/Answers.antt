@@ -1,6 +1,21 @@
-use Rattle.std.proofs.Common.{refl}
+use Rattle.std.proofs.Common.{refl, rules}
 use Rattle.iddqd_run.proofs.AscendLemmas.{by_name_of}
 use Rattle.iddqd_run.proofs.table.IdOrdMapEntryTable.take_least.Goals as goal
 
 pub returns-clause-ordered : goal.returns-clause-ordered
 returns-clause-ordered c = (refl, by_name_of c.args.self.now.items c.requires.keyed)
+
+pub returns-clause-taken : goal.returns-clause-taken
+returns-clause-taken c = search rules
+
+pub returns-clause-left : goal.returns-clause-left
+returns-clause-left c = search rules
+
+pub returns-clause-stays : goal.returns-clause-stays
+returns-clause-stays c = search rules
+
+pub returns-clause-endless : goal.returns-clause-endless
+returns-clause-endless c = search rules
+
+pub returns-clause-unchanged : goal.returns-clause-unchanged
+returns-clause-unchanged c = search rules

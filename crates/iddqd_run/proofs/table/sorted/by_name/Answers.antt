@@ -19,3 +19,9 @@ returns-clause-ascending c =
     by_name_sorted c.sort_unstable_by.new.self.items
     (c.sort_unstable_by.ensures.sorted (λ one other. is_lt (string_cmp one.now.name other.now.name)) (ranks_by string_cmp_total (λ one. one.now.name)) (answers_always _ _ _ (λ f a r h k. search rules)))
     (differ_moved (λ entry. entry.name) string_eq_equiv c.args.map.now.items (all_lent c.sort_unstable_by.new.self.items) (returns-clause-same c) c.requires.differ)
+
+pub returns-in_err-sorted-clause-same : goal.returns-in_err-sorted-clause-same
+returns-in_err-sorted-clause-same c = search rules
+
+pub returns-in_err-sorted-clause-ascending : goal.returns-in_err-sorted-clause-ascending
+returns-in_err-sorted-clause-ascending c = search rules

@@ -1,4 +1,4 @@
-use Rattle.std.proofs.Common.{◌≡◌, ◌∙◌, None, ap, is_some, refl, subst, sym, true≢false}
+use Rattle.std.proofs.Common.{◌≡◌, ◌∙◌, None, ap, is_some, refl, subst, sym, true≢false, rules}
 use Rattle.iddqd_core.specs.Hashing.{hash_under}
 use Rattle.iddqd.specs.HashItems.{Keyed}
 use Rattle.iddqd.proofs.LentLemmas.{keyed_akin_written, keyed_written}
@@ -27,3 +27,9 @@ returns-in-Occupied g c =
         no_spare = tt;
       },
     )
+
+pub invariant_of-self : goal.invariant_of-self
+invariant_of-self g c = search rules
+
+pub returns-in-Vacant : goal.returns-in-Vacant
+returns-in-Vacant g c = search rules

@@ -1,4 +1,4 @@
-use Rattle.std.proofs.Common.{◌≡◌, ◌∙◌, None, ap, is_some, refl, subst, sym, true≢false}
+use Rattle.std.proofs.Common.{◌≡◌, ◌∙◌, None, ap, is_some, refl, subst, sym, true≢false, rules}
 use Rattle.iddqd_core.specs.Contents.{Ascends}
 use Rattle.iddqd_core.proofs.WrittenLemmas.{akin_key_kept, same_key_kept}
 use Rattle.iddqd_ord.specs.Entry.{entry_item, entry_map, entry_name, entry_with}
@@ -25,3 +25,9 @@ returns-in-Occupied g c =
         refused = tt;
       },
     )
+
+pub invariant_of-self : goal.invariant_of-self
+invariant_of-self g c = search rules
+
+pub returns-in-Vacant : goal.returns-in-Vacant
+returns-in-Vacant g c = search rules

@@ -1,0 +1,5 @@
+use Rattle.std.proofs.Common.{rules}
+use Rattle.iddqd_run.proofs.entries.AboveKeepsEntry.keeps.Goals as goal
+
+pub returns : goal.returns
+returns c = search rules
