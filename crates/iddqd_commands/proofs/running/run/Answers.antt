@@ -50,3 +50,9 @@ returns-clause-keyed g c = search rules
 
 pub returns-clause-limit : goal.returns-clause-limit
 returns-clause-limit g c = search rules
+
+pub loop-command-init : goal.loop-command-init
+loop-command-init g c = search rules
+
+pub loop-command-smaller : goal.loop-command-smaller
+loop-command-smaller g c = search rules

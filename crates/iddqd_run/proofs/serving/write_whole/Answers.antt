@@ -39,3 +39,9 @@ returns-clause-whole g c = search rules
 
 pub returns-clause-fault : goal.returns-clause-fault
 returns-clause-fault g c = search rules
+
+pub loop-init : goal.loop-init
+loop-init g c = search rules
+
+pub loop-smaller : goal.loop-smaller
+loop-smaller g c = search rules

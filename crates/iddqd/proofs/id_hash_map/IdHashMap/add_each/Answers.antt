@@ -47,3 +47,6 @@ returns-in_err-add-clause-halted g c =
     let stopped = c.in_err-add.ensures in
     let gives = GivesThen g.U.IntoIterator.into_iter_gives g.U.IntoIter.Iterator.next_gives c.args.iter in
     rw back.1 (halts_adding g.T.IdHashItem.key g.met.T.Key.Eq.laws gives (held old) (held c.loop-item.self) (held c.add.new.self) c.loop-item.yielded inv.2 inv.3.fills.limit stopped.kept.keeps c.in-Some.item (search rules) _ (rw back.2 stopped.halted))
+
+pub loop-item-smaller : goal.loop-item-smaller
+loop-item-smaller g c = search rules

@@ -1,4 +1,4 @@
-use Rattle.std.proofs.Common.{subst, ap, arith, ◌∙◌}
+use Rattle.std.proofs.Common.{subst, ap, arith, ◌∙◌, rules}
 use Rattle.std.proofs.iter.Next.{on}
 use Rattle.iddqd_core.specs.Contents.{OverwritesItem}
 use Rattle.iddqd_core.proofs.CollectingLemmas.{fills_on, overwrites_last, overwritten}
@@ -29,3 +29,6 @@ loop-item-preserved g c =
       overwritten_hasher key eq (Keyed key eq g.T.Key.Hash.hash_input (hash_under g.S.BuildHasher g.S.Hasher.Hasher)) x between new back told.replaced told.inserted ∙ inv.5,
       told.keyed,
     )
+
+pub loop-item-init : goal.loop-item-init
+loop-item-init g c = search rules

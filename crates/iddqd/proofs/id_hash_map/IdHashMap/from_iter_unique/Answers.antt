@@ -1,4 +1,5 @@
 use Rattle.std.proofs.Common.{rules, ◌∙◌, arith}
+use Rattle.std.proofs.lemmas.Grind.{common_steps}
 use Rattle.std.proofs.iter.Next.{on}
 use Rattle.std.proofs.lemmas.Result.{err_from_is_err_and}
 use Rattle.iddqd_core.specs.Collecting.{GivesThen}
@@ -35,3 +36,6 @@ returns-clause-items g c =
     let key = g.T.IdHashItem.key in
     let inv = c.loop-item.invariant in
     (c.loop-item.yielded, search rules, collected_differ key g.met.T.Key.Eq.laws c.loop-item.yielded c.loop-item.map.items inv.2 inv.7.differ, inv.2)
+
+pub loop-item-init : goal.loop-item-init
+loop-item-init g c = grind (arith, common_steps)

@@ -112,3 +112,6 @@ loop-slot-smaller g c =
           )
       | else-not-visit_slot w ↦ rw (w.self-is, slots) (omega (arith, within, below_next m.slots at slot found.there found.rises))
     ]
+
+pub overflow_add-next : goal.overflow_add-next
+overflow_add-next g c = search rules

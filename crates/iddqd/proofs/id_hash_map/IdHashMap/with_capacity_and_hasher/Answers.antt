@@ -96,3 +96,6 @@ returns-clause-refused g c = search rules
 
 pub returns-clause-keyed : goal.returns-clause-keyed
 returns-clause-keyed g c = search rules
+
+pub overflow_cast-t-10 : goal.overflow_cast-t-10
+overflow_cast-t-10 g c = search rules

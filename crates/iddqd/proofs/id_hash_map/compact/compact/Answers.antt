@@ -1,4 +1,4 @@
-use Rattle.std.proofs.Common.{◌∙◌, refl, sym, subst}
+use Rattle.std.proofs.Common.{◌∙◌, refl, sym, subst, rules}
 use Rattle.std.proofs.lemmas.List.Sorted.{IsPermutation-refl, IsPermutation-trans}
 use Rattle.iddqd_core.specs.Contents.{SameInAnyOrder}
 use Rattle.iddqd_core.specs.Hashing.{hash_under}
@@ -38,3 +38,6 @@ loop-store-preserved g c =
       capacity = moved.capacity ∙ inv.capacity;
       limit = moved.limit ∙ inv.limit;
     }
+
+pub loop-store-smaller : goal.loop-store-smaller
+loop-store-smaller g c = search rules

@@ -1,4 +1,4 @@
-use Rattle.std.proofs.Common.{ℕ, ◌≡◌, ◌-◌, ◌∙◌, Some, sym, ap, subst, option_copied}
+use Rattle.std.proofs.Common.{ℕ, ◌≡◌, ◌-◌, ◌∙◌, Some, sym, ap, subst, option_copied, rules}
 use Rattle.std.proofs.lemmas.List.Sorted.{IsPermutation-refl}
 use Rattle.std.specs.List.{Contains}
 use Rattle.iddqd_core.specs.Contents.{SameInAnyOrder}
@@ -58,3 +58,6 @@ returns-in_default-clause-items g c =
     let old = c.args.store.now in
     let new = c.last_into_hole.new.self in
     subst (λ xs. SameInAnyOrder (items_in old) xs) (sym (same_items new.slots old.slots c.in_default.ensures.none_moves)) (IsPermutation-refl (items_in old))
+
+pub overflow_sub-last : goal.overflow_sub-last
+overflow_sub-last g c = search rules

@@ -14,3 +14,6 @@ returns-in_err-try_reserve-clause-kind g c = search rules
 
 pub returns-clause-kind : goal.returns-clause-kind
 returns-clause-kind g c = search rules
+
+pub overflow_cast-limit : goal.overflow_cast-limit
+overflow_cast-limit g c = search rules

@@ -56,3 +56,6 @@ returns-clause-refused g c = search rules
 
 pub returns-clause-stays : goal.returns-clause-stays
 returns-clause-stays g c = search rules
+
+pub loop-item-smaller : goal.loop-item-smaller
+loop-item-smaller g c = search rules

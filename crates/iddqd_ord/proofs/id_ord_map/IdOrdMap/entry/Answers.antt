@@ -1,4 +1,5 @@
-use Rattle.std.proofs.Common.{◌∙◌, sym, ap}
+use Rattle.std.proofs.Common.{◌∙◌, sym, ap, arith}
+use Rattle.std.proofs.lemmas.Grind.{common_steps}
 use Rattle.iddqd_core.specs.SlotItems.{item_of_slot}
 use Rattle.iddqd_core.proofs.OrderLemmas.{found_answers}
 use Rattle.iddqd_core.proofs.QueryLemmas.{OrderedQuery, place_there, find_nowhere, replaced_nowhere, replaced_there, without_nowhere, without_there}
@@ -58,3 +59,6 @@ returns-in-Err-clause-others g c =
     let key = g.T.IdOrdItem.key in
     let p = rw (ap (λ m. m.items) c.self.view_is) at c.in-Err.ensures.place in
     without_nowhere key (query g c.args.query.now) c.args.self.now.items c.requires.keyed c.in-Err.field-0 p.1 p.2
+
+pub slot_at-slot-requires : goal.slot_at-slot-requires
+slot_at-slot-requires g c = grind (arith, common_steps)

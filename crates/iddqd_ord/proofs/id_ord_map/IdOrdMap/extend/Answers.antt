@@ -1,4 +1,4 @@
-use Rattle.std.proofs.Common.{subst}
+use Rattle.std.proofs.Common.{subst, rules}
 use Rattle.std.proofs.iter.Next.{on}
 use Rattle.iddqd_core.specs.Contents.{OverwritesItem}
 use Rattle.iddqd_core.proofs.CollectingLemmas.{fills_on, overwrites_last, overwritten}
@@ -24,3 +24,6 @@ loop-item-preserved g c =
       fills_on old between new inv.3 put.1,
       told.keyed,
     )
+
+pub loop-item-init : goal.loop-item-init
+loop-item-init g c = search rules

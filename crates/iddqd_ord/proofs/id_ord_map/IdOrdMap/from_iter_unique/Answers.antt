@@ -1,4 +1,5 @@
 use Rattle.std.proofs.Common.{rules, ◌∙◌, arith}
+use Rattle.std.proofs.lemmas.Grind.{common_steps}
 use Rattle.std.proofs.iter.Next.{on}
 use Rattle.std.proofs.lemmas.Result.{err_from_is_err_and}
 use Rattle.iddqd_core.specs.Collecting.{GivesThen}
@@ -37,3 +38,6 @@ returns-clause-items g c =
     let items = c.loop-item.map.items in
     let differ = differ_from_ascends key g.T.Key.Ord.cmp g.met.T.Key.Ord.matches_eq items inv.5 in
     (c.loop-item.yielded, search rules, collected_differ key g.met.T.Key.Eq.laws c.loop-item.yielded items inv.2 differ, inv.2)
+
+pub loop-item-init : goal.loop-item-init
+loop-item-init g c = grind (arith, common_steps)

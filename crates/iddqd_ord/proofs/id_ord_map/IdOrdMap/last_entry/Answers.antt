@@ -7,3 +7,9 @@ returns-then-is_empty g c = search rules
 
 pub returns : goal.returns
 returns g c = grind (arith, common_steps)
+
+pub overflow_sub-len : goal.overflow_sub-len
+overflow_sub-len g c = grind (arith, common_steps)
+
+pub slot_at-slot-requires : goal.slot_at-slot-requires
+slot_at-slot-requires g c = grind (arith, common_steps)

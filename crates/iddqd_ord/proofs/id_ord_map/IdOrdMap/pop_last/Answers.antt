@@ -1,4 +1,5 @@
-use Rattle.std.proofs.Common.{◌∙◌, sym, ap, subst}
+use Rattle.std.proofs.Common.{◌∙◌, sym, ap, subst, arith}
+use Rattle.std.proofs.lemmas.Grind.{common_steps}
 use Rattle.std.specs.List.{remove}
 use Rattle.iddqd_core.specs.Contents.{Ascends}
 use Rattle.iddqd_core.proofs.KeepsLemmas.{ascends_remove}
@@ -10,3 +11,9 @@ returns-clause-keyed g c =
     let cmp = g.T.Key.Ord.cmp in
     let left = c.take_out.ensures.items ∙ ap (λ v. remove v.items c.place-last.result) c.self.view_is in
     subst (Ascends key cmp) (sym left) (ascends_remove key cmp c.args.self.now.items c.place-last.result c.requires.keyed)
+
+pub overflow_sub-len : goal.overflow_sub-len
+overflow_sub-len g c = grind (arith, common_steps)
+
+pub take_out-requires-clause-in_list : goal.take_out-requires-clause-in_list
+take_out-requires-clause-in_list g c = grind (arith, common_steps)

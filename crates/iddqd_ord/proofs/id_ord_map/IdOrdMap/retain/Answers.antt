@@ -1,4 +1,5 @@
 use Rattle.std.proofs.Common.{◌≡◌, ◌∙◌, sym, subst, arith, Some, slice_get, of_calls, length, ap}
+use Rattle.std.proofs.lemmas.Grind.{common_steps}
 use Rattle.std.specs.Fn.{CalledAt}
 use Rattle.std.proofs.lemmas.Fn.{called_at}
 use Rattle.std.proofs.lemmas.List.Edits.{length-remove}
@@ -40,3 +41,6 @@ pub returns-clause-filtered : goal.returns-clause-filtered
 returns-clause-filtered g c =
     let at = c.loop-at in
     asked_end (CalledAt g.F.FnMut) c.args.keep c.args.self.now.items at.keep at.self.items at.at (omega (arith, c.loop-at-test.false, c.len.ensures.len)) at.invariant.asked
+
+pub loop-at-smaller : goal.loop-at-smaller
+loop-at-smaller g c = grind (arith, common_steps)

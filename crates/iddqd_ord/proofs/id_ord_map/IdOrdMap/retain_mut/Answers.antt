@@ -1,4 +1,5 @@
-use Rattle.std.proofs.Common.{◌≡◌, ◌∙◌, ◌++◌, ◌+◌, sym, arith, length, ap, drop, take, true, false}
+use Rattle.std.proofs.Common.{◌≡◌, ◌∙◌, ◌++◌, ◌+◌, sym, arith, length, ap, drop, take, true, false, rules}
+use Rattle.std.proofs.lemmas.Grind.{common_steps}
 use Rattle.std.proofs.lemmas.List.{length-set}
 use Rattle.std.proofs.lemmas.List.Edits.{length-remove}
 use Rattle.std.specs.List.{remove}
@@ -45,3 +46,15 @@ loop-at-preserved g c =
       limit = c.take_at.ensures.limit ∙ ap (λ m. m.limit) c.visit_at.ensures.visited.4 ∙ at.invariant.limit;
       keyed = c.take_at.ensures.keyed;
     }
+
+pub loop-at-init : goal.loop-at-init
+loop-at-init g c = search rules
+
+pub overflow_add-at : goal.overflow_add-at
+overflow_add-at g c = search rules
+
+pub loop-at-smaller-then-visit_at : goal.loop-at-smaller-then-visit_at
+loop-at-smaller-then-visit_at g c = search rules
+
+pub loop-at-smaller : goal.loop-at-smaller
+loop-at-smaller g c = grind (arith, common_steps)

@@ -1,4 +1,5 @@
 use Rattle.std.proofs.Common.{insert, arith}
+use Rattle.std.proofs.lemmas.Grind.{common_steps}
 use Rattle.std.proofs.lemmas.List.Edits.{length-insert}
 use Rattle.iddqd_ord_index.specs.Cells.{held}
 use Rattle.iddqd_ord_index.proofs.PackedLemmas.{put_in, packed_is, held_is}
@@ -13,3 +14,6 @@ returns-clause-packed g c =
 pub returns-clause-items : goal.returns-clause-items
 returns-clause-items g c =
     held_is _ _ (put_in _ _ (held c.args.cells.now) c.args.i c.args.item c.requires.packed.cells c.requires.room c.requires.in_bounds c.last_to.ensures)
+
+pub last_to-requires : goal.last_to-requires
+last_to-requires g c = grind (arith, common_steps)

@@ -1,4 +1,5 @@
 use Rattle.std.proofs.Common.{take, drop, arith, length-take, length-drop}
+use Rattle.std.proofs.lemmas.Grind.{common_steps}
 use Rattle.iddqd_ord_index.specs.Cells.{held}
 use Rattle.iddqd_ord_index.proofs.PackedLemmas.{moved_lower, moved_upper, packed_is, held_is}
 use Rattle.iddqd_ord_index.proofs.tree.cells.move_tail.Goals as goal
@@ -22,3 +23,6 @@ returns-clause-upper_packed g c =
 pub returns-clause-upper_items : goal.returns-clause-upper_items
 returns-clause-upper_items g c =
     held_is _ _ (moved_upper c.args.cells.now c.args.upper.now _ c.args.at c.requires.packed c.requires.upper_packed c.requires.upper_empty c.requires.in_bounds c.swap_with_slice.ensures.other_after)
+
+pub swap_with_slice-requires : goal.swap_with_slice-requires
+swap_with_slice-requires g c = grind (arith, common_steps)

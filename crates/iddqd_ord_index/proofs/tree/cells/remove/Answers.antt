@@ -1,4 +1,5 @@
 use Rattle.std.proofs.Common.{remove, arith, ◌∙◌, sym}
+use Rattle.std.proofs.lemmas.Grind.{common_steps}
 use Rattle.std.proofs.lemmas.List.Edits.{length-remove}
 use Rattle.iddqd_ord_index.specs.Cells.{held}
 use Rattle.iddqd_ord_index.proofs.PackedLemmas.{removed, packed_is, held_is, held_cell}
@@ -17,3 +18,6 @@ returns-clause-packed g c =
 pub returns-clause-items : goal.returns-clause-items
 returns-clause-items g c =
     held_is _ _ (removed c.args.cells.now _ _ c.args.i c.requires.packed c.requires.in_bounds c.take-item.ensures.after c.to_last.ensures)
+
+pub to_last-requires : goal.to_last-requires
+to_last-requires g c = grind (arith, common_steps)

@@ -1,4 +1,5 @@
-use Rattle.std.proofs.Common.{◌≡◌, ◌<◌, length, set, Some, refl, sym, ap, ◌∙◌, arith}
+use Rattle.std.proofs.Common.{◌≡◌, ◌<◌, length, set, Some, refl, sym, ap, ◌∙◌, arith, rules}
+use Rattle.std.proofs.lemmas.Grind.{common_steps}
 use Rattle.std.proofs.lemmas.List.{with_items_is, length-map, length-set}
 use Rattle.iddqd_store.specs.Slots.{item_of, items_of}
 use Rattle.iddqd_store.proofs.SlotLemmas.{full_is, none_vacant, some_vacant, IsSound-push, IsSound-fill, first_is_vacant, vacant_no_item, vacant_within, count-filled, vacant-filled, vacant-pushed, Updates-set}
@@ -56,3 +57,18 @@ returns g c =
       capacity = refl;
       limit = refl;
     })
+
+pub overflow_add-self : goal.overflow_add-self
+overflow_add-self g c = search rules
+
+pub overflow_cast-next : goal.overflow_cast-next
+overflow_cast-next g c = search rules
+
+pub returns-then-slot-clause-was_vacant : goal.returns-then-slot-clause-was_vacant
+returns-then-slot-clause-was_vacant g c = grind (arith, common_steps)
+
+pub returns-then-slot-clause-updates : goal.returns-then-slot-clause-updates
+returns-then-slot-clause-updates g c = grind (arith, common_steps)
+
+pub returns-then-slot-clause-next : goal.returns-then-slot-clause-next
+returns-then-slot-clause-next g c = grind (arith, common_steps)

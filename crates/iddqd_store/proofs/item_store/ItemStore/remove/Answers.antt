@@ -16,3 +16,9 @@ returns-clause-len g c = grind (arith, common_steps)
 
 pub returns-clause-vacant : goal.returns-clause-vacant
 returns-clause-vacant g c = grind (arith, common_steps)
+
+pub vacate-item-requires-clause-number : goal.vacate-item-requires-clause-number
+vacate-item-requires-clause-number g c = grind (arith, common_steps)
+
+pub overflow_sub-self : goal.overflow_sub-self
+overflow_sub-self g c = grind (arith, common_steps)

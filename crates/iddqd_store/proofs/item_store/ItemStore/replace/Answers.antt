@@ -1,4 +1,5 @@
-use Rattle.std.proofs.Common.{refl}
+use Rattle.std.proofs.Common.{refl, arith}
+use Rattle.std.proofs.lemmas.Grind.{common_steps}
 use Rattle.std.proofs.lemmas.List.{map-set}
 use Rattle.iddqd_store.proofs.SlotLemmas.{IsSound-replace, count-replaced, vacant-replaced}
 use Rattle.iddqd_store.proofs.item_store.ItemStore.replace.Goals as goal
@@ -20,3 +21,9 @@ pub returns-clause-vacant : goal.returns-clause-vacant
 returns-clause-vacant g c =
     let occupied = rw (← c.self.view_is) at c.requires in
     rw (← c.self.view_is, c.replace.ensures.after) (vacant-replaced c.self.inside.slots.items c.args.slot c.args.item occupied)
+
+pub index_mut-requires : goal.index_mut-requires
+index_mut-requires g c = grind (arith, common_steps)
+
+pub unreachable-requires : goal.unreachable-requires
+unreachable-requires g c = grind (arith, common_steps)

@@ -28,3 +28,9 @@ returns-clause-rest g c = search rules
 
 pub returns-clause-capacity : goal.returns-clause-capacity
 returns-clause-capacity g c = search rules
+
+pub overflow_sub-self-inside : goal.overflow_sub-self-inside
+overflow_sub-self-inside g c = grind (arith, common_steps)
+
+pub overflow_sub-capacity : goal.overflow_sub-capacity
+overflow_sub-capacity g c = grind (arith, common_steps)

@@ -1,4 +1,5 @@
-use Rattle.std.proofs.Common.{sym, ◌∙◌, set}
+use Rattle.std.proofs.Common.{sym, ◌∙◌, set, arith}
+use Rattle.std.proofs.lemmas.Grind.{common_steps}
 use Rattle.std.proofs.lemmas.List.{map-set}
 use Rattle.iddqd_store.specs.declared.item_store.chain.Slot.TheVariants.{Occupied}
 use Rattle.iddqd_store.specs.Slots.{item_of, links_at}
@@ -25,3 +26,6 @@ returns-clause-chained g c =
     let is = first_links es first _ c.in-Vacant.links c.requires.chained c.requires.some (sym c.replace.ensures.value ∙ c.in-Vacant.is) in
     let within = vacant_within es first (first_is_vacant es first c.requires.chained c.requires.some) in
     first_filled (links_at es) (links_at (set es first c.replace.new.dest)) (links_at c.set_previous.new.slots) first _ c.requires.chained is (rw c.replace.ensures.after (links-filled es first c.args.item within)) c.set_previous.ensures.links c.set_previous.ensures.others
+
+pub unreachable-requires : goal.unreachable-requires
+unreachable-requires g c = grind (arith, common_steps)

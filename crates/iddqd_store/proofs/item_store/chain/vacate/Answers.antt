@@ -1,4 +1,5 @@
 use Rattle.std.proofs.Common.{◌∙◌, set, arith}
+use Rattle.std.proofs.lemmas.Grind.{common_steps}
 use Rattle.std.proofs.lemmas.List.{map-set}
 use Rattle.iddqd_store.specs.declared.item_store.chain.Slot.TheVariants.{Vacant}
 use Rattle.iddqd_store.specs.Slots.{no_slot, item_of, links_at}
@@ -25,3 +26,6 @@ returns-clause-chained g c =
     (rw c.replace.ensures.after (links_at-set_same es at (Vacant (record { previous = no_slot; next = first })) (item_within es at occupied)))
     (rw c.replace.ensures.after (IsChained-along (links_at es) _ first (links-vacated es at _ (item_no_links es at occupied)) c.requires.chained))
     (λ e. omega arith) c.set_previous.ensures.links c.set_previous.ensures.others
+
+pub unreachable-requires : goal.unreachable-requires
+unreachable-requires g c = grind (arith, common_steps)

@@ -63,3 +63,9 @@ returns-else-self-len g c =
         found = search rules;
       },
     )
+
+pub overflow_add-self : goal.overflow_add-self
+overflow_add-self g c = search rules
+
+pub overflow_add-self-then-self-len : goal.overflow_add-self-then-self-len
+overflow_add-self-then-self-len g c = search rules

@@ -21,3 +21,6 @@ returns-clause-absent g c = search rules
 
 pub returns-clause-unchanged : goal.returns-clause-unchanged
 returns-clause-unchanged g c = search rules
+
+pub get_mut-requires-clause-keyed : goal.get_mut-requires-clause-keyed
+get_mut-requires-clause-keyed g c = search rules

@@ -1,4 +1,5 @@
-use Rattle.std.proofs.Common.{◌≡◌, map, length, take, drop, [], ap, ◌∙◌}
+use Rattle.std.proofs.Common.{◌≡◌, map, length, take, drop, [], ap, ◌∙◌, arith}
+use Rattle.std.proofs.lemmas.Grind.{common_steps}
 use Rattle.std.proofs.lemmas.List.{take-map, drop-map, take_rest}
 use Rattle.iddqd_ord_index.specs.Nodes.{below}
 use Rattle.iddqd_ord_index.proofs.BelowLemmas.{branches_are, below_take, below_drop}
@@ -21,3 +22,9 @@ returns-clause-upper_branches c =
     let moved : c.try_extend_from_slice.new.self.items ≡ drop c.args.i c.args.self.now.counts.items = c.in-Ok.ensures.ok ∙ (rw (none, c.as_slice.ensures.value) (take_rest c.args.self.now.counts.items c.args.i)) in
     branches_are _ _ c.move_tail.ensures.upper_packed (below_drop c.args.self.now.nodes c.move_tail.new.upper c.args.i c.move_tail.ensures.upper_items)
     (moved ∙ (ap (λ l. drop c.args.i l) c.requires.branches.counted ∙ drop-map (λ t. length t.slots) c.args.i (below c.args.self.now)))
+
+pub move_tail-requires-clause-upper_empty : goal.move_tail-requires-clause-upper_empty
+move_tail-requires-clause-upper_empty c = grind (arith, common_steps)
+
+pub move_tail-requires-clause-in_bounds : goal.move_tail-requires-clause-in_bounds
+move_tail-requires-clause-in_bounds c = grind (arith, common_steps)

@@ -1,4 +1,5 @@
-use Rattle.std.proofs.Common.{length, ap, sym, ◌∙◌}
+use Rattle.std.proofs.Common.{length, ap, sym, ◌∙◌, arith}
+use Rattle.std.proofs.lemmas.Grind.{common_steps}
 use Rattle.std.specs.List.{remove}
 use Rattle.iddqd_ord_index.specs.Nodes.{below}
 use Rattle.iddqd_ord_index.specs.Shape.{unused}
@@ -20,3 +21,9 @@ returns-clause-count c =
     c.remove.ensures.value
     ∙ (count_at c.args.self.now c.requires.branches c.args.i c.remove.result c.requires.in_bounds
     ∙ sym (ap (λ t. length t.slots) (box_at c.args.self.now.nodes c.args.i c.remove-node.result unused c.requires.in_bounds c.remove-node.ensures.value)))
+
+pub remove-node-requires-clause-in_bounds : goal.remove-node-requires-clause-in_bounds
+remove-node-requires-clause-in_bounds c = grind (arith, common_steps)
+
+pub remove-requires : goal.remove-requires
+remove-requires c = grind (arith, common_steps)

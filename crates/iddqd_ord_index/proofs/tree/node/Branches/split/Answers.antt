@@ -1,4 +1,4 @@
-use Rattle.std.proofs.Common.{◌≡◌, ◌+◌, ◌-◌, arith}
+use Rattle.std.proofs.Common.{◌≡◌, ◌+◌, ◌-◌, arith, rules}
 use Rattle.iddqd_ord_index.specs.Nodes.{below}
 use Rattle.iddqd_ord_index.proofs.CutLemmas.{cut_left, cut_right}
 use Rattle.iddqd_ord_index.proofs.tree.node.Branches.split.Goals as goal
@@ -13,3 +13,9 @@ returns-else-i-le5-clause-below c =
     let e = cut_right (below c.args.self.now) 6 (c.args.i + 1) c.args.node.value (omega (arith, c.requires.full)) (omega (arith, c.if-i-le5.false)) in
     let k : c.args.i + 1 - 6 ≡ c.args.i - 5 = omega arith in
     rw (c.insert-else-i-le5.ensures.below, c.move_tail.ensures.below, c.move_tail.ensures.upper_below) (rw k at e)
+
+pub overflow_add-i : goal.overflow_add-i
+overflow_add-i c = search rules
+
+pub overflow_sub-i : goal.overflow_sub-i
+overflow_sub-i c = search rules

@@ -1,4 +1,5 @@
 use Rattle.std.proofs.Common.{◌≡◌, ◌+◌, ◌-◌, Some, None, ℕ, List, Box, Global, length, set, get_or, subst, ap, sym, ◌∙◌, arith}
+use Rattle.std.proofs.lemmas.Grind.{common_steps}
 use Rattle.std.specs.Box.{with_value}
 use Rattle.std.specs.List.{insert}
 use Rattle.std.proofs.lemmas.List.Edits.{length-insert}
@@ -165,3 +166,27 @@ returns-clause-height t c =
 
 pub returns-clause-dense : goal.returns-clause-dense
 returns-clause-dense t c = dense_of (below c.add_branch.new.branches) c.add_branch.new.slots.items c.add_branch.ensures.forked
+
+pub count-count-requires-clause-in_bounds : goal.count-count-requires-clause-in_bounds
+count-count-requires-clause-in_bounds t c = grind (arith, common_steps)
+
+pub take-node-requires-clause-in_bounds : goal.take-node-requires-clause-in_bounds
+take-node-requires-clause-in_bounds t c = grind (arith, common_steps)
+
+pub put-requires-clause-cell : goal.put-requires-clause-cell
+put-requires-clause-cell t c = grind (arith, common_steps)
+
+pub put-requires-clause-counts : goal.put-requires-clause-counts
+put-requires-clause-counts t c = grind (arith, common_steps)
+
+pub put-requires-2-clause-cell : goal.put-requires-2-clause-cell
+put-requires-2-clause-cell t c = grind (arith, common_steps)
+
+pub put-requires-2-clause-counts : goal.put-requires-2-clause-counts
+put-requires-2-clause-counts t c = grind (arith, common_steps)
+
+pub add_branch-requires-clause-in_bounds : goal.add_branch-requires-clause-in_bounds
+add_branch-requires-clause-in_bounds t c = grind (arith, common_steps)
+
+pub add_branch-requires-clause-enough : goal.add_branch-requires-clause-enough
+add_branch-requires-clause-enough t c = grind (arith, common_steps)

@@ -1,4 +1,5 @@
 use Rattle.std.proofs.Common.{◌≡◌, ◌+◌, ◌-◌, ◌<◌, ◌≤◌, Some, None, ℕ, List, Box, Global, length, set, get_or, subst, ap, sym, ◌∙◌, arith, min}
+use Rattle.std.proofs.lemmas.Grind.{common_steps}
 use Rattle.std.specs.Box.{with_value}
 use Rattle.std.specs.List.{remove}
 use Rattle.std.proofs.lemmas.List.{get_or-set_same}
@@ -172,3 +173,18 @@ returns-clause-gives_back t c = λ falls.
     let below_it = c.remove-taken.ensures.gives_back fell in
     let more = one_more_back c.remove-taken.new.spare c.mend.new.spare (c.args.spare.now.count + c.deref_mut.result.now.height - 1) (c.mend.ensures.gives_back merged) (omega (arith, below_it, c.remove-taken.ensures.spare.0)) in
     omega (arith, more, b.height, ap (λ x. x.height) v, ap (λ x. x.height) c.self.view_is, c.remove-taken.ensures.spare.0, b.dense.low)
+
+pub count-len-requires-clause-in_bounds : goal.count-len-requires-clause-in_bounds
+count-len-requires-clause-in_bounds t c = grind (arith, common_steps)
+
+pub take-node-requires-clause-in_bounds : goal.take-node-requires-clause-in_bounds
+take-node-requires-clause-in_bounds t c = grind (arith, common_steps)
+
+pub put-requires-clause-cell : goal.put-requires-clause-cell
+put-requires-clause-cell t c = grind (arith, common_steps)
+
+pub put-requires-clause-counts : goal.put-requires-clause-counts
+put-requires-clause-counts t c = grind (arith, common_steps)
+
+pub replace_own-slot-requires-clause-within : goal.replace_own-slot-requires-clause-within
+replace_own-slot-requires-clause-within t c = grind (arith, common_steps)

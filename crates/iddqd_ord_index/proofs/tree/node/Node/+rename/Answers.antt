@@ -1,4 +1,5 @@
 use Rattle.std.proofs.Common.{◌≡◌, ◌+◌, ◌<◌, ℕ, Some, List, length, get_or, set, subst, ap, sym, ◌∙◌, arith, length-set}
+use Rattle.std.proofs.lemmas.Grind.{common_steps}
 use Rattle.std.proofs.lemmas.List.{map-set}
 use Rattle.std.specs.Box.{with_value}
 use Rattle.iddqd_ord_index.specs.Nodes.{below, AreBranches}
@@ -90,3 +91,18 @@ returns-clause-height t c = let m = made t c in m.1.height ∙ ap (λ t. t.heigh
 
 pub returns-clause-dense : goal.returns-clause-dense
 returns-clause-dense t c = let m = made t c in dense_of (below c.put.new.self) c.self.inside.slots.items m.1.forked
+
+pub count-count-requires-clause-in_bounds : goal.count-count-requires-clause-in_bounds
+count-count-requires-clause-in_bounds t c = grind (arith, common_steps)
+
+pub take-node-requires-clause-in_bounds : goal.take-node-requires-clause-in_bounds
+take-node-requires-clause-in_bounds t c = grind (arith, common_steps)
+
+pub rename-requires : goal.rename-requires
+rename-requires t c = grind (arith, common_steps)
+
+pub put-requires-clause-cell : goal.put-requires-clause-cell
+put-requires-clause-cell t c = grind (arith, common_steps)
+
+pub put-requires-clause-counts : goal.put-requires-clause-counts
+put-requires-clause-counts t c = grind (arith, common_steps)

@@ -1,4 +1,5 @@
-use Rattle.std.proofs.Common.{◌≡◌, ◌<◌, length, get_or, ap, sym, ◌∙◌, arith}
+use Rattle.std.proofs.Common.{◌≡◌, ◌<◌, length, get_or, ap, sym, ◌∙◌, arith, rules}
+use Rattle.std.proofs.lemmas.Grind.{common_steps}
 use Rattle.iddqd_ord_index.specs.Nodes.{below}
 use Rattle.iddqd_ord_index.specs.Shape.{lists, weave, unused}
 use Rattle.iddqd_ord_index.proofs.AimLemmas.{starts_is, own_read, branch_read, branch_is, rest_within, aim_in}
@@ -42,3 +43,12 @@ down-smaller c =
     let ts = below c.node.inside.branches in
     let b = branch_is ts c.node.inside.slots.items c.node.invariant.forked c.aim-i.result.0 (aim_in ts c.node.inside.slots.items c.down.place c.aim-i.result.0 c.aim-i.result.1 c.node.invariant.forked c.aim-i.ensures) in
     omega (arith, b.height, ap (λ t. t.height) c.get-node.ensures, ap (λ t. t.height) c.node.view_is)
+
+pub count-requires-clause-in_bounds : goal.count-requires-clause-in_bounds
+count-requires-clause-in_bounds c = grind (arith, common_steps)
+
+pub get-node-requires-clause-in_bounds : goal.get-node-requires-clause-in_bounds
+get-node-requires-clause-in_bounds c = grind (arith, common_steps)
+
+pub overflow_cast-result : goal.overflow_cast-result
+overflow_cast-result c = search rules

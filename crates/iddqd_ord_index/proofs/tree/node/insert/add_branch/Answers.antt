@@ -1,4 +1,4 @@
-use Rattle.std.proofs.Common.{◌+◌, ap, ◌∙◌, arith}
+use Rattle.std.proofs.Common.{◌+◌, ap, ◌∙◌, arith, rules}
 use Rattle.std.specs.List.{insert}
 use Rattle.iddqd_ord_index.specs.Nodes.{below}
 use Rattle.iddqd_ord_index.specs.Shape.{lists, weave}
@@ -13,3 +13,6 @@ returns-then-len-lt11-clause-adds c =
       slots = ap (λ l. weave l c.insert.new.self.items) l ∙ ap (λ ss. weave (insert (lists ts) (c.args.i + 1) c.args.upper.value.slots) ss) c.insert.ensures.items;
       wider = omega (arith, c.insert.ensures.len);
     }
+
+pub overflow_add-i : goal.overflow_add-i
+overflow_add-i c = search rules

@@ -1,4 +1,5 @@
-use Rattle.std.proofs.Common.{◌≡◌, ℕ, ◌+◌, ◌∷◌, ◌++◌, length, get_or, ap, sym, ◌∙◌, subst, arith, length-append}
+use Rattle.std.proofs.Common.{◌≡◌, ℕ, ◌+◌, ◌∷◌, ◌++◌, length, get_or, ap, sym, ◌∙◌, subst, arith, length-append, rules}
+use Rattle.std.proofs.lemmas.Grind.{common_steps}
 use Rattle.std.proofs.lemmas.List.{get_or_default}
 use Rattle.std.specs.List.{insert}
 use Rattle.iddqd_ord_index.specs.Nodes.{below}
@@ -70,3 +71,15 @@ returns-in-None-clause-levels c = let m = one c in m.height
 
 pub returns-in-None-clause-slots : goal.returns-in-None-clause-slots
 returns-in-None-clause-slots c = let m = one c in m.list
+
+pub insert-requires-in-Some-clause-in_bounds : goal.insert-requires-in-Some-clause-in_bounds
+insert-requires-in-Some-clause-in_bounds c = grind (arith, common_steps)
+
+pub insert-requires-in-Some-clause-room : goal.insert-requires-in-Some-clause-room
+insert-requires-in-Some-clause-room c = grind (arith, common_steps)
+
+pub overflow_add-total : goal.overflow_add-total
+overflow_add-total c = search rules
+
+pub insert-requires-in-None-clause-count : goal.insert-requires-in-None-clause-count
+insert-requires-in-None-clause-count c = grind (arith, common_steps)

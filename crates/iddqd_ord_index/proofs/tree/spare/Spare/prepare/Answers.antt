@@ -33,3 +33,6 @@ returns-clause-ok c = search rules
 
 pub returns-clause-err : goal.returns-clause-err
 returns-clause-err c = search rules
+
+pub overflow_add-wanted : goal.overflow_add-wanted
+overflow_add-wanted c = search rules

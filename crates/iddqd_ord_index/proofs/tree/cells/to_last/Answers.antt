@@ -1,0 +1,5 @@
+use Rattle.std.proofs.Common.{rules}
+use Rattle.iddqd_ord_index.proofs.tree.cells.to_last.Goals as goal
+
+pub rotate_left-requires : goal.rotate_left-requires
+rotate_left-requires g c = search rules

@@ -1,0 +1,12 @@
+use Rattle.std.proofs.Common.{arith}
+use Rattle.std.proofs.lemmas.Grind.{common_steps}
+use Rattle.iddqd_ord_index.proofs.tree.node.Branches.append.Goals as goal
+
+pub append-requires-clause-len : goal.append-requires-clause-len
+append-requires-clause-len c = grind (arith, common_steps)
+
+pub append-requires-clause-more : goal.append-requires-clause-more
+append-requires-clause-more c = grind (arith, common_steps)
+
+pub unreachable-requires : goal.unreachable-requires
+unreachable-requires c = grind (arith, common_steps)
