@@ -17,28 +17,28 @@ fn foo(alloc: Global) -> Result<Titled, AllocError> {
 
 fn query_by_text<M: KeyedMap<Item = Titled, Key = String>>(
     rt: &impl Abort,
-    alloc: Global,
+    name: &String,
+    item: Titled,
     mut map: Tried<M>,
-) -> Result<(), AllocError>
+)
 where
     M: Drop,
     Tried<M>: AskedByText<Item = Titled>,
 {
-    assert!(rt; map.is_put(foo(alloc)?));
-    assert!(rt; matches!(map.find("foo"), Some(item) if item.value == 42));
+    assert!(rt; map.is_put(item));
+    assert!(rt; map.find("foo").map(|item| item.value) == Some(42));
     assert!(rt; !map.contains("fo"));
-    let name = "foo".to_string(alloc)?;
-    assert!(rt; matches!(map.get(&name), Some(item) if item.value == 42));
-    assert!(rt; matches!(map.take_out("foo"), Some(item) if item.value == 42));
+    assert!(rt; map.get(name).map(|item| item.value) == Some(42));
+    assert!(rt; map.take_out("foo").map(|item| item.value) == Some(42));
     assert!(rt; map.len() == 0);
-    Ok(())
 }
 
 #[test]
 fn text_queries(rt: HostRuntime) -> Result<(), Fail> {
     let alloc = rt.alloc();
-    query_by_text(&rt, alloc, Tried::new(IdOrdMap::new(alloc)))?;
-    query_by_text(&rt, alloc, Tried::new(IdHashMap::new(alloc)))?;
+    let name = "foo".to_string(alloc)?;
+    query_by_text(&rt, &name, foo(alloc)?, Tried::new(IdOrdMap::new(alloc)));
+    query_by_text(&rt, &name, foo(alloc)?, Tried::new(IdHashMap::new(alloc)));
     Ok(())
 }
 

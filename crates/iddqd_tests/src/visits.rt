@@ -135,32 +135,38 @@ fn double(item: &mut Named) {
     item.value = item.value.wrapping_mul(2);
 }
 
+// The values of foo and bar, and how many items the walk had left, once it has doubled so many.
+fn doubled_in_order(
+    rt: &impl Abort,
+    alloc: Global,
+    most: usize,
+) -> (Option<u32>, Option<u32>, usize) {
+    let map = of_foo_and_bar(rt, Tried::new(IdOrdMap::new(alloc)));
+    let (map, left) = map.written(most, double);
+    (value_in!(map, b"foo"), value_in!(map, b"bar"), left)
+}
+
+fn doubled_by_hash(
+    rt: &impl Abort,
+    alloc: Global,
+    most: usize,
+) -> (Option<u32>, Option<u32>, usize) {
+    let map = of_foo_and_bar(rt, Tried::new(IdHashMap::new(alloc)));
+    let (map, left) = map.written(most, double);
+    (value_in!(map, b"foo"), value_in!(map, b"bar"), left)
+}
+
 #[test]
 fn writing_walk(rt: HostRuntime) {
-    let ordered = of_foo_and_bar(&rt, Tried::new(IdOrdMap::new(rt.alloc())));
-    let (map, left) = ordered.written(3, double);
-    assert!(rt; left == 0);
-    assert!(rt; value_in!(map, b"foo") == Some(84));
-    assert!(rt; value_in!(map, b"bar") == Some(40));
-    let hashed = of_foo_and_bar(&rt, Tried::new(IdHashMap::new(rt.alloc())));
-    let (map, left) = hashed.written(3, double);
-    assert!(rt; left == 0);
-    assert!(rt; value_in!(map, b"foo") == Some(84));
-    assert!(rt; value_in!(map, b"bar") == Some(40));
+    assert!(rt; doubled_in_order(&rt, rt.alloc(), 3) == (Some(84), Some(40), 0));
+    assert!(rt; doubled_by_hash(&rt, rt.alloc(), 3) == (Some(84), Some(40), 0));
 }
 
 #[test]
 fn writing_walk_of_one_item(rt: HostRuntime) {
-    let ordered = of_foo_and_bar(&rt, Tried::new(IdOrdMap::new(rt.alloc())));
-    let (map, left) = ordered.written(1, double);
-    assert!(rt; left == 1);
-    assert!(rt; value_in!(map, b"foo") == Some(42));
-    assert!(rt; value_in!(map, b"bar") == Some(40));
-    let hashed = of_foo_and_bar(&rt, Tried::new(IdHashMap::new(rt.alloc())));
-    let (map, left) = hashed.written(1, double);
-    assert!(rt; left == 1);
-    let values = (value_in!(map, b"foo"), value_in!(map, b"bar"));
-    assert!(rt; values == (Some(84), Some(20)) || values == (Some(42), Some(40)));
+    assert!(rt; doubled_in_order(&rt, rt.alloc(), 1) == (Some(42), Some(40), 1));
+    let told = doubled_by_hash(&rt, rt.alloc(), 1);
+    assert!(rt; told == (Some(84), Some(20), 1) || told == (Some(42), Some(40), 1));
 }
 
 const IDS: [u32; 25] = [

@@ -44,6 +44,7 @@ impl<T> IdOrdMap<T> {
     pub(super) fn slot_at(&self, place: Place) -> u32
         requires { place < length self.now.items }
         ensures item { item_of_slot self.now.slots self.now.items result ≡ slice_get self.now.items place }
+        ensures there { IsSome (item_of_slot self.now.slots self.now.items result) }
         ensures written { (w : T) → written_to_slot self.now.slots self.now.items result w ≡ slice_set self.now.items place w }
         ensures others { without_slot self.now.slots self.now.items result ≡ remove self.now.items place }
         ensures placed { slice_get self.now.slots place ≡ Some result }

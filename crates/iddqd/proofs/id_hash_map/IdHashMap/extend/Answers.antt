@@ -32,3 +32,6 @@ loop-item-preserved g c =
 
 pub loop-item-init : goal.loop-item-init
 loop-item-init g c = search rules
+
+pub returns-in-Err-insert_overwrite-clause-not_begun : goal.returns-in-Err-insert_overwrite-clause-not_begun
+returns-in-Err-insert_overwrite-clause-not_begun g c = search rules

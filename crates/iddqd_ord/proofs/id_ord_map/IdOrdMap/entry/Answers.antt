@@ -1,5 +1,4 @@
-use Rattle.std.proofs.Common.{◌∙◌, sym, ap, arith}
-use Rattle.std.proofs.lemmas.Grind.{common_steps}
+use Rattle.std.proofs.Common.{◌∙◌, sym, ap}
 use Rattle.iddqd_core.specs.SlotItems.{item_of_slot}
 use Rattle.iddqd_core.proofs.OrderLemmas.{found_answers}
 use Rattle.iddqd_core.proofs.QueryLemmas.{OrderedQuery, place_there, find_nowhere, replaced_nowhere, replaced_there, without_nowhere, without_there}
@@ -60,5 +59,5 @@ returns-in-Err-clause-others g c =
     let p = rw (ap (λ m. m.items) c.self.view_is) at c.in-Err.ensures.place in
     without_nowhere key (query g c.args.query.now) c.args.self.now.items c.requires.keyed c.in-Err.field-0 p.1 p.2
 
-pub slot_at-slot-requires : goal.slot_at-slot-requires
-slot_at-slot-requires g c = grind (arith, common_steps)
+pub invariant_of-result : goal.invariant_of-result
+invariant_of-result g c = record { there = c.slot_at-slot.ensures.there; placed = c.slot_at-slot.ensures.placed }

@@ -1,4 +1,4 @@
-use Rattle.std.proofs.Common.{◌∙◌, sym, ap, arith, length, slice_get, set}
+use Rattle.std.proofs.Common.{◌∙◌, ◌<◌, ◌∷◌, [], List, IsSome, ℕ, le_of_suc-le-suc, not-suc-le-zero, refl, subst, suc, sym, zero, ap, arith, length, slice_get, set}
 use Rattle.std.specs.List.{remove}
 use Rattle.iddqd_core.specs.Listed.{listed_items}
 use Rattle.iddqd_core.specs.SlotItems.{item_of_slot, without_slot, written_to_slot}
@@ -12,6 +12,11 @@ slot_at-requires g c =
     let m = c.self.inside in
     omega (arith, c.requires, (have_slots m.store m.index.slots c.self.invariant).as_many, ap (λ v. length v.items) c.self.view_is)
 
+within : {X : Type 0} (xs : List X) (i : ℕ) → i < length xs → IsSome (slice_get xs i)
+within [] i lt = absurd (not-suc-le-zero lt)
+within (x ∷ xs) zero lt = refl
+within (x ∷ xs) (suc i) lt = within xs i (le_of_suc-le-suc lt)
+
 read : (g : Over) (c : goal.After-slot_at g) → PlaceRead c.self.inside.index.slots (listed_items c.self.inside.store c.self.inside.index.slots) c.args.place c.slot_at.result
 read g c =
     let m = c.self.inside in
@@ -20,6 +25,9 @@ read g c =
 pub returns-clause-item : goal.returns-clause-item
 returns-clause-item g c =
     ap (λ v. item_of_slot v.slots v.items c.slot_at.result) (sym c.self.view_is) ∙ (read g c).item ∙ ap (λ v. slice_get v.items c.args.place) c.self.view_is
+
+pub returns-clause-there : goal.returns-clause-there
+returns-clause-there g c = subst IsSome (sym (returns-clause-item g c)) (within c.args.self.now.items c.args.place c.requires)
 
 pub returns-clause-written : goal.returns-clause-written
 returns-clause-written g c w =
