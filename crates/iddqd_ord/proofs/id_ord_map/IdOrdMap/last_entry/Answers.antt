@@ -10,3 +10,9 @@ invariant_of-result g c = record { there = c.slot_at-slot.ensures.there; placed 
 
 pub returns : goal.returns
 returns g c = grind (arith, common_steps)
+
+pub overflow_sub-len : goal.overflow_sub-len
+overflow_sub-len g c = grind (arith, common_steps)
+
+pub slot_at-slot-requires : goal.slot_at-slot-requires
+slot_at-slot-requires g c = grind (arith, common_steps)

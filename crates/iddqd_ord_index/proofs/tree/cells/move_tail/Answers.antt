@@ -26,3 +26,12 @@ returns-clause-upper_items g c =
 
 pub swap_with_slice-requires : goal.swap_with_slice-requires
 swap_with_slice-requires g c = grind (arith, common_steps)
+
+pub offset_bounds-cells-at : goal.offset_bounds-cells-at
+offset_bounds-cells-at g c = grind (arith, common_steps)
+
+pub slice_bounds-swap_with_slice-count : goal.slice_bounds-swap_with_slice-count
+slice_bounds-swap_with_slice-count g c = grind (arith, common_steps)
+
+pub slice_bounds-swap_with_slice-start : goal.slice_bounds-swap_with_slice-start
+slice_bounds-swap_with_slice-start g c = grind (arith, common_steps)

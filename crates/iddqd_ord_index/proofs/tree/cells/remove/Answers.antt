@@ -21,3 +21,12 @@ returns-clause-items g c =
 
 pub to_last-requires : goal.to_last-requires
 to_last-requires g c = grind (arith, common_steps)
+
+pub offset_bounds-cells-i : goal.offset_bounds-cells-i
+offset_bounds-cells-i g c = grind (arith, common_steps)
+
+pub bounds-cells-i : goal.bounds-cells-i
+bounds-cells-i g c = grind (arith, common_steps)
+
+pub returns-clause-value : goal.returns-clause-value
+returns-clause-value g c = grind (arith, common_steps)

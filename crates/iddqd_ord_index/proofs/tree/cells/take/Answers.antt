@@ -1,4 +1,5 @@
-use Rattle.std.proofs.Common.{sym, ◌∙◌, rules}
+use Rattle.std.proofs.Common.{sym, ◌∙◌, rules, arith}
+use Rattle.std.proofs.lemmas.Grind.{common_steps}
 use Rattle.iddqd_ord_index.proofs.PackedLemmas.{held_cell}
 use Rattle.iddqd_ord_index.proofs.tree.cells.take.Goals as goal
 
@@ -8,3 +9,12 @@ unreachable-requires g c =
 
 pub take-requires : goal.take-requires
 take-requires g c = search rules
+
+pub offset_bounds-cells-i : goal.offset_bounds-cells-i
+offset_bounds-cells-i g c = grind (arith, common_steps)
+
+pub bounds-cells-i : goal.bounds-cells-i
+bounds-cells-i g c = grind (arith, common_steps)
+
+pub returns-clause-value : goal.returns-clause-value
+returns-clause-value g c = grind (arith, common_steps)

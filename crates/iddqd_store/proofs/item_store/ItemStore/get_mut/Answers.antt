@@ -1,4 +1,5 @@
-use Rattle.std.proofs.Common.{None, refl, sym, ap, ◌∙◌}
+use Rattle.std.proofs.Common.{None, refl, sym, ap, ◌∙◌, arith}
+use Rattle.std.proofs.lemmas.Grind.{common_steps}
 use Rattle.std.proofs.lemmas.List.{map-set, get_or-map}
 use Rattle.iddqd_store.specs.Slots.{item_of}
 use Rattle.iddqd_store.proofs.SlotLemmas.{item_within, IsSound-replace}
@@ -16,3 +17,9 @@ returns g c =
       (refl, λ w. rw (← c.self.view_is, map-set)),
       record { writes_back = tt; item = rw (← c.self.view_is) (read ∙ ap item_of (sym c.index_mut.ensures.value) ∙ c.item_mut.ensures.item) },
     )
+
+pub index_mut-requires : goal.index_mut-requires
+index_mut-requires g c = grind (arith, common_steps)
+
+pub item_mut-requires : goal.item_mut-requires
+item_mut-requires g c = grind (arith, common_steps)

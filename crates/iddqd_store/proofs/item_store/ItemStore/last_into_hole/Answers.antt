@@ -1,4 +1,5 @@
 use Rattle.std.proofs.Common.{◌<◌, subst, ◌∙◌, arith}
+use Rattle.std.proofs.lemmas.Grind.{common_steps}
 use Rattle.std.proofs.lemmas.List.{length-map}
 use Rattle.iddqd_store.specs.Slots.{item_of, items_of, links_at, IsChained}
 use Rattle.iddqd_store.proofs.SlotLemmas.{full_at_none, both_counts, ends_occupied, fewer_vacant, MovesLast-along}
@@ -35,3 +36,9 @@ returns-clause-fewer g c =
     let same = c.cut_vacant-self-inside-2.ensures.items.count ∙ c.move_last-self-inside.ensures.count ∙ c.cut_vacant-self-inside.ensures.items.count in
     let shorter : ws.len < es.len = omega (arith, c.cut_vacant-self-inside-2.ensures.shorter, c.move_last-self-inside.ensures.shorter, c.cut_vacant-self-inside.ensures.shorter) in
     rw (← c.self.view_is) (fewer_vacant es.items ws.items same (omega (arith, shorter, es.ok.0, ws.ok.0)))
+
+pub overflow_sub-last : goal.overflow_sub-last
+overflow_sub-last g c = grind (arith, common_steps)
+
+pub move_last-self-inside-requires-clause-last : goal.move_last-self-inside-requires-clause-last
+move_last-self-inside-requires-clause-last g c = grind (arith, common_steps)

@@ -29,3 +29,9 @@ returns-clause-chained g c =
 
 pub unreachable-requires : goal.unreachable-requires
 unreachable-requires g c = grind (arith, common_steps)
+
+pub offset_bounds-slots-first : goal.offset_bounds-slots-first
+offset_bounds-slots-first g c = grind (arith, common_steps)
+
+pub bounds-slots-first : goal.bounds-slots-first
+bounds-slots-first g c = grind (arith, common_steps)

@@ -1,3 +1,5 @@
+use Rattle.std.proofs.Common.{arith}
+use Rattle.std.proofs.lemmas.Grind.{common_steps}
 use Rattle.iddqd_store.proofs.SlotLemmas.{links_at-previous, links_at-set_other, items_of-links, vacant_within}
 use Rattle.iddqd_store.proofs.item_store.chain.set_previous.Goals as goal
 
@@ -11,3 +13,18 @@ returns-in-Vacant-clause-links g c = λ some p n.
 
 pub returns-in-Vacant-clause-others : goal.returns-in-Vacant-clause-others
 returns-in-Vacant-clause-others g c = λ s far. links_at-set_other _ _ _ s (far c.if-at-eq-NO_SLOT.false)
+
+pub offset_bounds-slots-at : goal.offset_bounds-slots-at
+offset_bounds-slots-at g c = grind (arith, common_steps)
+
+pub bounds-slots-at : goal.bounds-slots-at
+bounds-slots-at g c = grind (arith, common_steps)
+
+pub returns-in_default-clause-items : goal.returns-in_default-clause-items
+returns-in_default-clause-items g c = grind (arith, common_steps)
+
+pub returns-in_default-clause-links : goal.returns-in_default-clause-links
+returns-in_default-clause-links g c = grind (arith, common_steps)
+
+pub returns-in_default-clause-others : goal.returns-in_default-clause-others
+returns-in_default-clause-others g c = grind (arith, common_steps)

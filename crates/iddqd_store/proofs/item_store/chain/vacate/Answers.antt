@@ -29,3 +29,12 @@ returns-clause-chained g c =
 
 pub unreachable-requires : goal.unreachable-requires
 unreachable-requires g c = grind (arith, common_steps)
+
+pub offset_bounds-slots-at : goal.offset_bounds-slots-at
+offset_bounds-slots-at g c = grind (arith, common_steps)
+
+pub bounds-slots-at : goal.bounds-slots-at
+bounds-slots-at g c = grind (arith, common_steps)
+
+pub returns-clause-item : goal.returns-clause-item
+returns-clause-item g c = grind (arith, common_steps)

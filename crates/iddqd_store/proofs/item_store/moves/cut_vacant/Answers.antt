@@ -1,4 +1,5 @@
 use Rattle.std.proofs.Common.{◌≡◌, ◌-◌, suc, length, take, IsSome, ◌∙◌, sym, ap, subst, arith}
+use Rattle.std.proofs.lemmas.Grind.{common_steps}
 use Rattle.std.proofs.lemmas.List.{with_items_is}
 use Rattle.iddqd_store.specs.Slots.{items_of, links_at, without, IsChained, SameSlots}
 use Rattle.iddqd_store.proofs.ChainLemmas.{IsChained-along}
@@ -24,3 +25,12 @@ loop-slots-preserved g c =
       shorter = omega (arith, kept.shorter);
       capacity = c.pop.ensures.capacity ∙ kept.capacity;
     }
+
+pub unlink-first-requires-clause-vacant : goal.unlink-first-requires-clause-vacant
+unlink-first-requires-clause-vacant g c = grind (arith, common_steps)
+
+pub unreachable-requires : goal.unreachable-requires
+unreachable-requires g c = grind (arith, common_steps)
+
+pub returns-in_default-clause-ends : goal.returns-in_default-clause-ends
+returns-in_default-clause-ends g c = grind (arith, common_steps)

@@ -1,4 +1,5 @@
 use Rattle.std.proofs.Common.{length, ap, arith}
+use Rattle.std.proofs.lemmas.Grind.{common_steps}
 use Rattle.iddqd_ord_index.specs.Nodes.{below}
 use Rattle.iddqd_ord_index.proofs.BelowLemmas.{counts_at, starts_more, starts_less, length-counts, length-lists}
 use Rattle.iddqd_ord_index.proofs.tree.node.Branches.aim.Goals as goal
@@ -18,3 +19,12 @@ returns-else-rest-counts c =
     let bs = c.args.self.now in
     let e = counts_at bs c.requires.branches c.as_slice-counts.result.now c.as_slice-counts.ensures.value c.loop-i.i c.loop-i.invariant.within in
     record { branch = omega (arith, length-lists (below bs), c.loop-i.invariant.within); within = omega arith; sum = c.loop-i.invariant.sum }
+
+pub loop-i-init : goal.loop-i-init
+loop-i-init c = grind (arith, common_steps)
+
+pub overflow_add-i : goal.overflow_add-i
+overflow_add-i c = grind (arith, common_steps)
+
+pub returns-after-loop-i : goal.returns-after-loop-i
+returns-after-loop-i c = grind (arith, common_steps)

@@ -10,3 +10,9 @@ append-requires-clause-more c = grind (arith, common_steps)
 
 pub unreachable-requires : goal.unreachable-requires
 unreachable-requires c = grind (arith, common_steps)
+
+pub returns-clause-branches : goal.returns-clause-branches
+returns-clause-branches c = grind (arith, common_steps)
+
+pub returns-clause-below : goal.returns-clause-below
+returns-clause-below c = grind (arith, common_steps)

@@ -190,3 +190,9 @@ add_branch-requires-clause-in_bounds t c = grind (arith, common_steps)
 
 pub add_branch-requires-clause-enough : goal.add_branch-requires-clause-enough
 add_branch-requires-clause-enough t c = grind (arith, common_steps)
+
+pub returns-in_default-clause-left : goal.returns-in_default-clause-left
+returns-in_default-clause-left t c = grind (arith, common_steps)
+
+pub returns-clause-left : goal.returns-clause-left
+returns-clause-left t c = grind (arith, common_steps)

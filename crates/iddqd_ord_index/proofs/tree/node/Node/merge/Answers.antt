@@ -1,4 +1,5 @@
-use Rattle.std.proofs.Common.{◌∷◌, ◌++◌, ap, sym, ◌∙◌, refl, append_assoc, []}
+use Rattle.std.proofs.Common.{◌∷◌, ◌++◌, ap, sym, ◌∙◌, refl, append_assoc, [], arith}
+use Rattle.std.proofs.lemmas.Grind.{common_steps}
 use Rattle.iddqd_ord_index.specs.Nodes.{below}
 use Rattle.iddqd_ord_index.specs.Shape.{lists, weave, levels}
 use Rattle.iddqd_ord_index.proofs.PairLemmas.{IsJoined, merged}
@@ -19,3 +20,6 @@ returns-clause-slots c =
 
 pub returns-clause-dense : goal.returns-clause-dense
 returns-clause-dense c = let i = made c in i.dense
+
+pub invariant_of-self : goal.invariant_of-self
+invariant_of-self c = grind (arith, common_steps)

@@ -70,3 +70,9 @@ get-node-requires-clause-in_bounds c = grind (arith, common_steps)
 
 pub overflow_cast-result : goal.overflow_cast-result
 overflow_cast-result c = search rules
+
+pub offset_bounds-as_slice-i : goal.offset_bounds-as_slice-i
+offset_bounds-as_slice-i c = grind (arith, common_steps)
+
+pub returns-clause-run : goal.returns-clause-run
+returns-clause-run c = grind (arith, common_steps)

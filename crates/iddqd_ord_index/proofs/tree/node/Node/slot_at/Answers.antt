@@ -52,3 +52,6 @@ get-node-requires-clause-in_bounds c = grind (arith, common_steps)
 
 pub overflow_cast-result : goal.overflow_cast-result
 overflow_cast-result c = search rules
+
+pub offset_bounds-as_slice-i : goal.offset_bounds-as_slice-i
+offset_bounds-as_slice-i c = grind (arith, common_steps)

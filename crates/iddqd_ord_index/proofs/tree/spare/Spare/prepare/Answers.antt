@@ -1,4 +1,5 @@
-use Rattle.std.proofs.Common.{rules}
+use Rattle.std.proofs.Common.{rules, arith}
+use Rattle.std.proofs.lemmas.Grind.{common_steps}
 use Rattle.iddqd_ord_index.proofs.tree.spare.Spare.prepare.Goals as goal
 
 pub returns-in_err-make_room-clause-kept : goal.returns-in_err-make_room-clause-kept
@@ -36,3 +37,6 @@ returns-clause-err c = search rules
 
 pub overflow_add-wanted : goal.overflow_add-wanted
 overflow_add-wanted c = search rules
+
+pub fill-preserved : goal.fill-preserved
+fill-preserved c = grind (arith, common_steps)
