@@ -177,7 +177,14 @@ impl<T: Clone> Few<&T> {
 impl<T: Debug, D: Debug> Display for DuplicateItem<T, D> {
     fn fmt<W: Write>(&self, f: &mut Formatter<W>) -> fmt::Result {
         write!(f, "new item: {:?} conflicts with existing: ", self.new)?;
-        match &self.duplicates {
+        self.duplicates.fmt_listed(f)
+    }
+}
+
+impl<D: Debug> Few<D> {
+    // Writes the values as a list shows them.
+    fn fmt_listed<W: Write>(&self, f: &mut Formatter<W>) -> fmt::Result {
+        match self {
             Few::One(a) => write!(f, "[{a:?}]"),
             Few::Two(a, b) => write!(f, "[{a:?}, {b:?}]"),
             Few::Three(a, b, c) => write!(f, "[{a:?}, {b:?}, {c:?}]"),
