@@ -2,13 +2,13 @@
 ghost use Rattle.std.specs.Prelude.{List, IfSome, nat_eq};
 ghost use Rattle.iddqd.specs.Collecting.{AddsAll, IsFirstConflict};
 
-use crate::items::Pair;
 use iddqd::errors::ExtendUniqueError;
 use iddqd::{IdHashMap, Lookups};
+use iddqd_writers::items::Pair;
 use std::hash::BuildHasher;
 
 /// Adds pairs up to the first whose key is there, and shows that one and the one that is there.
-pub fn add_and_show<S: BuildHasher>(
+fn add_and_show<S: BuildHasher>(
     map: &mut IdHashMap<Pair, S>,
     pairs: Vec<Pair>,
 ) -> Option<(Pair, Pair)>

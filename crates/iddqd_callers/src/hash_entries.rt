@@ -2,13 +2,13 @@
 ghost use Rattle.std.specs.Prelude.{◌≡◌, ◌==◌, IfNone, IfSome, IsTrue, OnSome, Some, false, is_some};
 ghost use Rattle.iddqd.specs.Contents.{AddsItem, find_item, replaced, without};
 
-use crate::items::{Pair, SetsValue};
 use iddqd::id_hash_map::Entry;
 use iddqd::{IdHashMap, Lookups};
+use iddqd_writers::items::{Pair, SetsValue};
 use std::hash::BuildHasher;
 
 /// Adds the key with a value, and then writes another value.
-pub fn add_and_write<S: BuildHasher>(
+fn add_and_write<S: BuildHasher>(
     map: &mut IdHashMap<Pair, S>,
     key: u32,
     first: u32,
@@ -32,7 +32,7 @@ pub fn add_and_write<S: BuildHasher>(
 }
 
 /// Puts another pair in the stead of the one of this key, which it answers.
-pub fn replace<S: BuildHasher>(map: &mut IdHashMap<Pair, S>, key: u32, value: u32) -> Option<Pair>
+fn replace<S: BuildHasher>(map: &mut IdHashMap<Pair, S>, key: u32, value: u32) -> Option<Pair>
     requires keyed { ⟦<IdHashMap<Pair, S> as Lookups>⟧.keyed map.old }
     ensures found { result ≡ find_item (λ p. p.key) (λ k. key == k) map.old.items }
     ensures replaced { IfSome (find_item (λ p. p.key) (λ k. key == k) map.old.items) (λ x. map.new.items ≡ replaced (λ p. p.key) (λ k. key == k) (record { key = key; value = value }) map.old.items) }
@@ -46,7 +46,7 @@ pub fn replace<S: BuildHasher>(map: &mut IdHashMap<Pair, S>, key: u32, value: u3
 }
 
 /// Takes out the pair of this key.
-pub fn take<S: BuildHasher>(map: &mut IdHashMap<Pair, S>, key: u32) -> Option<Pair>
+fn take<S: BuildHasher>(map: &mut IdHashMap<Pair, S>, key: u32) -> Option<Pair>
     requires keyed { ⟦<IdHashMap<Pair, S> as Lookups>⟧.keyed map.old }
     ensures found { result ≡ find_item (λ p. p.key) (λ k. key == k) map.old.items }
     ensures left { map.new.items ≡ without (λ p. p.key) (λ k. key == k) map.old.items }
@@ -59,12 +59,7 @@ pub fn take<S: BuildHasher>(map: &mut IdHashMap<Pair, S>, key: u32) -> Option<Pa
 }
 
 /// Writes the value of the key, or adds the key with another one.
-pub fn set_or_add<S: BuildHasher>(
-    map: &mut IdHashMap<Pair, S>,
-    key: u32,
-    set: u32,
-    add: u32,
-) -> bool
+fn set_or_add<S: BuildHasher>(map: &mut IdHashMap<Pair, S>, key: u32, set: u32, add: u32) -> bool
     requires keyed { ⟦<IdHashMap<Pair, S> as Lookups>⟧.keyed map.old }
     ensures set { IfSome (find_item (λ p. p.key) (λ k. key == k) map.old.items) (λ x. map.new.items ≡ replaced (λ p. p.key) (λ k. key == k) (record x { value = set }) map.old.items) }
     ensures added { IfNone (find_item (λ p. p.key) (λ k. key == k) map.old.items) (IsTrue result → AddsItem (record { key = key; value = add }) map.old.items map.new.items) }
@@ -82,11 +77,7 @@ pub fn set_or_add<S: BuildHasher>(
 }
 
 /// Shows the value of the key, or adds the key with this one.
-pub fn show_or_add<S: BuildHasher>(
-    map: &mut IdHashMap<Pair, S>,
-    key: u32,
-    value: u32,
-) -> Option<u32>
+fn show_or_add<S: BuildHasher>(map: &mut IdHashMap<Pair, S>, key: u32, value: u32) -> Option<u32>
     requires keyed { ⟦<IdHashMap<Pair, S> as Lookups>⟧.keyed map.old }
     ensures found { IfSome (find_item (λ p. p.key) (λ k. key == k) map.old.items) (λ x. (result ≡ Some x.value) × (map.new ≡ map.old)) }
     ensures added { IfNone (find_item (λ p. p.key) (λ k. key == k) map.old.items) (OnSome result (AddsItem (record { key = key; value = value }) map.old.items map.new.items)) }
@@ -98,17 +89,5 @@ pub fn show_or_add<S: BuildHasher>(
             Some(shown.value)
         }
         Err(_) => None,
-    }
-}
-
-/// Lets an entry go.
-pub fn looks<S: BuildHasher>(map: &mut IdHashMap<Pair, S>, key: u32) -> bool
-    requires keyed { ⟦<IdHashMap<Pair, S> as Lookups>⟧.keyed map.old }
-    ensures told { result ≡ is_some (find_item (λ p. p.key) (λ k. key == k) map.old.items) }
-    ensures unchanged { map.new ≡ map.old }
-{
-    match map.entry(&key) {
-        Entry::Occupied(_) => true,
-        Entry::Vacant(_) => false,
     }
 }

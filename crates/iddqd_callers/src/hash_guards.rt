@@ -3,30 +3,12 @@ ghost use Rattle.std.specs.Prelude.{◌≡◌, ◌==◌, IfSome, IfNone, IsTrue,
 ghost use Rattle.iddqd.specs.Contents.{find_item, replaced};
 ghost use Rattle.iddqd.specs.Hashing.{HashesAs};
 
-use crate::items::{Pair, write_value};
 use iddqd::{Equivalent, IdHashItem, IdHashMap, Lookups};
+use iddqd_writers::items::{Pair, write_value};
 use std::hash::{BuildHasher, Hash};
 
-/// Writes the value of the key, and tells whether it is there.
-pub fn set_value<S: BuildHasher>(map: &mut IdHashMap<Pair, S>, key: u32, value: u32) -> bool
-    requires keyed { ⟦<IdHashMap<Pair, S> as Lookups>⟧.keyed map.old }
-    ensures told { result ≡ is_some (find_item (λ p. p.key) (λ k. key == k) map.old.items) }
-    ensures written { IfSome (find_item (λ p. p.key) (λ k. key == k) map.old.items) (λ x. map.new.items ≡ replaced (λ p. p.key) (λ k. key == k) (record x { value = value }) map.old.items) }
-    ensures absent { IfNone (find_item (λ p. p.key) (λ k. key == k) map.old.items) (map.new ≡ map.old) }
-    ensures keyed { ⟦<IdHashMap<Pair, S> as Lookups>⟧.keyed map.new }
-{
-    match map.get_mut(&key) {
-        Some(mut found) => {
-            found.value = value;
-            found.finish();
-            true
-        }
-        None => false,
-    }
-}
-
 /// Writes a whole item in the place of the one found; one of an equal key, however it is spelled, leaves the map keyed.
-pub fn put<T: IdHashItem + Drop, S: BuildHasher, Q: Hash + Equivalent<T::Key>>(
+fn put<T: IdHashItem + Drop, S: BuildHasher, Q: Hash + Equivalent<T::Key>>(
     map: &mut IdHashMap<T, S>,
     query: &Q,
     item: T,
@@ -45,7 +27,7 @@ pub fn put<T: IdHashItem + Drop, S: BuildHasher, Q: Hash + Equivalent<T::Key>>(
 
 /// Writes twice.
 #[tactic(auto, using(iddqd::proofs::GuardLemmas::read_back, iddqd::proofs::GuardLemmas::written_twice))]
-pub fn set_twice<S: BuildHasher>(map: &mut IdHashMap<Pair, S>, key: u32, first: u32, then: u32)
+fn set_twice<S: BuildHasher>(map: &mut IdHashMap<Pair, S>, key: u32, first: u32, then: u32)
     requires keyed { ⟦<IdHashMap<Pair, S> as Lookups>⟧.keyed map.old }
     ensures written { IfSome (find_item (λ p. p.key) (λ k. key == k) map.old.items) (λ x. map.new.items ≡ replaced (λ p. p.key) (λ k. key == k) (record x { value = then }) map.old.items) }
 {
@@ -58,11 +40,7 @@ pub fn set_twice<S: BuildHasher>(map: &mut IdHashMap<Pair, S>, key: u32, first: 
 
 /// Writes, spends the guard, and reads what was written.
 #[tactic(auto, using(iddqd::proofs::GuardLemmas::read_back))]
-pub fn set_and_read<S: BuildHasher>(
-    map: &mut IdHashMap<Pair, S>,
-    key: u32,
-    value: u32,
-) -> Option<u32>
+fn set_and_read<S: BuildHasher>(map: &mut IdHashMap<Pair, S>, key: u32, value: u32) -> Option<u32>
     requires keyed { ⟦<IdHashMap<Pair, S> as Lookups>⟧.keyed map.old }
     ensures value { result ≡ option_map (λ _. value) (find_item (λ p. p.key) (λ k. key == k) map.old.items) }
     ensures written { IfSome (find_item (λ p. p.key) (λ k. key == k) map.old.items) (λ x. map.new.items ≡ replaced (λ p. p.key) (λ k. key == k) (record x { value = value }) map.old.items) }
@@ -78,7 +56,7 @@ pub fn set_and_read<S: BuildHasher>(
 }
 
 /// Writes by a plain reference at the end.
-pub fn set_plainly<S: BuildHasher>(map: &mut IdHashMap<Pair, S>, key: u32, value: u32)
+fn set_plainly<S: BuildHasher>(map: &mut IdHashMap<Pair, S>, key: u32, value: u32)
     requires keyed { ⟦<IdHashMap<Pair, S> as Lookups>⟧.keyed map.old }
     ensures written { IfSome (find_item (λ p. p.key) (λ k. key == k) map.old.items) (λ x. map.new.items ≡ replaced (λ p. p.key) (λ k. key == k) (record x { value = value }) map.old.items) }
 {
@@ -90,7 +68,7 @@ pub fn set_plainly<S: BuildHasher>(map: &mut IdHashMap<Pair, S>, key: u32, value
 
 /// Writes by the guard lent once more, and reads by the guard itself.
 #[tactic(auto, using(iddqd::proofs::GuardLemmas::read_back))]
-pub fn set_by_reborrow<S: BuildHasher>(
+fn set_by_reborrow<S: BuildHasher>(
     map: &mut IdHashMap<Pair, S>,
     key: u32,
     value: u32,
@@ -111,7 +89,7 @@ pub fn set_by_reborrow<S: BuildHasher>(
 }
 
 /// Writes by a function that takes the item.
-pub fn set_by_function<S: BuildHasher>(map: &mut IdHashMap<Pair, S>, key: u32, value: u32)
+fn set_by_function<S: BuildHasher>(map: &mut IdHashMap<Pair, S>, key: u32, value: u32)
     requires keyed { ⟦<IdHashMap<Pair, S> as Lookups>⟧.keyed map.old }
     ensures written { IfSome (find_item (λ p. p.key) (λ k. key == k) map.old.items) (λ x. map.new.items ≡ replaced (λ p. p.key) (λ k. key == k) (record x { value = value }) map.old.items) }
 {
@@ -122,7 +100,7 @@ pub fn set_by_function<S: BuildHasher>(map: &mut IdHashMap<Pair, S>, key: u32, v
 }
 
 /// Puts an item of an equal key in the place of the one found, and then asks the map, which is keyed still.
-pub fn put_and_ask<T: IdHashItem + Drop, S: BuildHasher, Q: Hash + Equivalent<T::Key>>(
+fn put_and_ask<T: IdHashItem + Drop, S: BuildHasher, Q: Hash + Equivalent<T::Key>>(
     map: &mut IdHashMap<T, S>,
     query: &Q,
     item: T,

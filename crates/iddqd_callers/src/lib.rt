@@ -1,14 +1,13 @@
-//! What callers of the maps learn of what they wrote: each function here proves its contract from the maps' alone.
+//! What callers of the maps learn of what they did: each function here proves its contract from the maps' alone. Nobody calls them.
 #![tactic(auto)]
 
-pub mod hash_adding;
-pub mod hash_entries;
-pub mod hash_guards;
-pub mod hash_walks;
-pub mod items;
-pub mod lookups;
-pub mod ord_adding;
-pub mod ord_entries;
-pub mod ord_guards;
-pub mod ord_walks;
-pub mod sums;
+mod hash_adding;
+mod hash_entries;
+mod hash_guards;
+mod hash_walks;
+mod lookups;
+mod ord_adding;
+mod ord_entries;
+mod ord_guards;
+mod ord_walks;
+mod sums;

@@ -4,12 +4,12 @@ ghost use Rattle.std.specs.Ordering.{nat_cmp};
 ghost use Rattle.iddqd.specs.Collecting.{AddsAll, IsFirstConflict};
 ghost use Rattle.iddqd.specs.Contents.{Ascends};
 
-use crate::items::Pair;
 use iddqd::IdOrdMap;
 use iddqd::errors::ExtendUniqueError;
+use iddqd_writers::items::Pair;
 
 /// Adds pairs up to the first whose key is there, and shows that one and the one that is there.
-pub fn add_and_show(map: &mut IdOrdMap<Pair>, pairs: Vec<Pair>) -> Option<(Pair, Pair)>
+fn add_and_show(map: &mut IdOrdMap<Pair>, pairs: Vec<Pair>) -> Option<(Pair, Pair)>
     requires keyed { Ascends (λ p. p.key) nat_cmp map.old.items }
     ensures conflict { IfSome result (λ shown. (before : List Pair) × IsFirstConflict (λ p. p.key) nat_eq map.old.items before shown.0 shown.1 × AddsAll (λ p. p.key) nat_eq before map.old.items map.new.items) }
     ensures keyed { Ascends (λ p. p.key) nat_cmp map.new.items }

@@ -3,13 +3,13 @@ ghost use Rattle.std.specs.Prelude.{◌≡◌, ◌==◌, IfNone, IfSome, IsTrue,
 ghost use Rattle.std.specs.Ordering.{nat_cmp};
 ghost use Rattle.iddqd.specs.Contents.{AddsItem, Ascends, find_item, replaced, without};
 
-use crate::items::{Pair, SetsValue};
 use iddqd::IdOrdMap;
 use iddqd::id_ord_map::Entry;
+use iddqd_writers::items::{Pair, SetsValue};
 
 /// Adds the key with a value, and then writes another value.
 #[tactic(auto, using(iddqd::proofs::GuardLemmas::same_key_kept))]
-pub fn add_and_write(map: &mut IdOrdMap<Pair>, key: u32, first: u32, then: u32) -> bool
+fn add_and_write(map: &mut IdOrdMap<Pair>, key: u32, first: u32, then: u32) -> bool
     requires keyed { Ascends (λ p. p.key) nat_cmp map.old.items }
     ensures added { IsTrue result → AddsItem (record { key = key; value = then }) map.old.items map.new.items }
     ensures kept { result ≡ false → map.new.items ≡ map.old.items }
@@ -29,7 +29,7 @@ pub fn add_and_write(map: &mut IdOrdMap<Pair>, key: u32, first: u32, then: u32) 
 }
 
 /// Puts another pair in the stead of the one of this key, which it answers.
-pub fn replace(map: &mut IdOrdMap<Pair>, key: u32, value: u32) -> Option<Pair>
+fn replace(map: &mut IdOrdMap<Pair>, key: u32, value: u32) -> Option<Pair>
     requires keyed { Ascends (λ p. p.key) nat_cmp map.old.items }
     ensures found { result ≡ find_item (λ p. p.key) (λ k. key == k) map.old.items }
     ensures replaced { IfSome (find_item (λ p. p.key) (λ k. key == k) map.old.items) (λ x. map.new.items ≡ replaced (λ p. p.key) (λ k. key == k) (record { key = key; value = value }) map.old.items) }
@@ -43,7 +43,7 @@ pub fn replace(map: &mut IdOrdMap<Pair>, key: u32, value: u32) -> Option<Pair>
 }
 
 /// Takes out the pair of this key.
-pub fn take(map: &mut IdOrdMap<Pair>, key: u32) -> Option<Pair>
+fn take(map: &mut IdOrdMap<Pair>, key: u32) -> Option<Pair>
     requires keyed { Ascends (λ p. p.key) nat_cmp map.old.items }
     ensures found { result ≡ find_item (λ p. p.key) (λ k. key == k) map.old.items }
     ensures left { map.new.items ≡ without (λ p. p.key) (λ k. key == k) map.old.items }
@@ -56,7 +56,7 @@ pub fn take(map: &mut IdOrdMap<Pair>, key: u32) -> Option<Pair>
 }
 
 /// Writes the value of the key, or adds the key with another one.
-pub fn set_or_add(map: &mut IdOrdMap<Pair>, key: u32, set: u32, add: u32) -> bool
+fn set_or_add(map: &mut IdOrdMap<Pair>, key: u32, set: u32, add: u32) -> bool
     requires keyed { Ascends (λ p. p.key) nat_cmp map.old.items }
     ensures set { IfSome (find_item (λ p. p.key) (λ k. key == k) map.old.items) (λ x. map.new.items ≡ replaced (λ p. p.key) (λ k. key == k) (record x { value = set }) map.old.items) }
     ensures added { IfNone (find_item (λ p. p.key) (λ k. key == k) map.old.items) (IsTrue result → AddsItem (record { key = key; value = add }) map.old.items map.new.items) }
@@ -74,7 +74,7 @@ pub fn set_or_add(map: &mut IdOrdMap<Pair>, key: u32, set: u32, add: u32) -> boo
 }
 
 /// Shows the value of the key, or adds the key with this one.
-pub fn show_or_add(map: &mut IdOrdMap<Pair>, key: u32, value: u32) -> Option<u32>
+fn show_or_add(map: &mut IdOrdMap<Pair>, key: u32, value: u32) -> Option<u32>
     requires keyed { Ascends (λ p. p.key) nat_cmp map.old.items }
     ensures found { IfSome (find_item (λ p. p.key) (λ k. key == k) map.old.items) (λ x. (result ≡ Some x.value) × (map.new ≡ map.old)) }
     ensures added { IfNone (find_item (λ p. p.key) (λ k. key == k) map.old.items) (OnSome result (AddsItem (record { key = key; value = value }) map.old.items map.new.items)) }
@@ -87,23 +87,11 @@ pub fn show_or_add(map: &mut IdOrdMap<Pair>, key: u32, value: u32) -> Option<u32
 }
 
 /// Writes the first pair's value.
-pub fn set_first(map: &mut IdOrdMap<Pair>, value: u32)
+fn set_first(map: &mut IdOrdMap<Pair>, value: u32)
     requires keyed { Ascends (λ p. p.key) nat_cmp map.old.items }
     ensures { IfSome (slice_get map.old.items 0) (λ x. map.new.items ≡ slice_set map.old.items 0 (record x { value = value })) }
 {
     if let Some(mut entry) = map.first_entry() {
         entry.get_mut().value = value;
-    }
-}
-
-/// Lets an entry go.
-pub fn looks(map: &mut IdOrdMap<Pair>, key: u32) -> bool
-    requires keyed { Ascends (λ p. p.key) nat_cmp map.old.items }
-    ensures told { result ≡ is_some (find_item (λ p. p.key) (λ k. key == k) map.old.items) }
-    ensures unchanged { map.new ≡ map.old }
-{
-    match map.entry(&key) {
-        Entry::Occupied(_) => true,
-        Entry::Vacant(_) => false,
     }
 }

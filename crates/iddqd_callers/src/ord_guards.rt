@@ -5,29 +5,11 @@ ghost use Rattle.std.specs.Str.{bytes_eq};
 ghost use Rattle.std.specs.String.{string_bytes};
 ghost use Rattle.iddqd.specs.Contents.{Ascends, find_item, replaced};
 
-use crate::items::{Named, Pair, write_value};
 use iddqd::{Comparable, IdOrdItem, IdOrdMap, Text};
-
-/// Writes the value of the key, and tells whether it is there.
-pub fn set_value(map: &mut IdOrdMap<Pair>, key: u32, value: u32) -> bool
-    requires keyed { Ascends (λ p. p.key) nat_cmp map.old.items }
-    ensures told { result ≡ is_some (find_item (λ p. p.key) (λ k. key == k) map.old.items) }
-    ensures written { IfSome (find_item (λ p. p.key) (λ k. key == k) map.old.items) (λ x. map.new.items ≡ replaced (λ p. p.key) (λ k. key == k) (record x { value = value }) map.old.items) }
-    ensures absent { IfNone (find_item (λ p. p.key) (λ k. key == k) map.old.items) (map.new ≡ map.old) }
-    ensures keyed { Ascends (λ p. p.key) nat_cmp map.new.items }
-{
-    match map.get_mut(&key) {
-        Some(mut found) => {
-            found.value = value;
-            found.finish();
-            true
-        }
-        None => false,
-    }
-}
+use iddqd_writers::items::{Named, Pair, write_value};
 
 /// Writes a whole item in the place of the one found; one of an equal key, however it is spelled, leaves the map keyed.
-pub fn put<T: IdOrdItem + Drop, Q: Comparable<T::Key>>(map: &mut IdOrdMap<T>, query: &Q, item: T)
+fn put<T: IdOrdItem + Drop, Q: Comparable<T::Key>>(map: &mut IdOrdMap<T>, query: &Q, item: T)
     requires keyed { Ascends T.key T.Key.cmp map.old.items }
     ensures written { IfSome (find_item T.key (Q.equivalent query.now) map.old.items) (λ x. map.new.items ≡ replaced T.key (Q.equivalent query.now) item map.old.items) }
     ensures absent { IfNone (find_item T.key (Q.equivalent query.now) map.old.items) (map.new ≡ map.old) }
@@ -41,7 +23,7 @@ pub fn put<T: IdOrdItem + Drop, Q: Comparable<T::Key>>(map: &mut IdOrdMap<T>, qu
 
 /// Writes twice.
 #[tactic(auto, using(iddqd::proofs::GuardLemmas::read_back, iddqd::proofs::GuardLemmas::written_twice))]
-pub fn set_twice(map: &mut IdOrdMap<Pair>, key: u32, first: u32, then: u32)
+fn set_twice(map: &mut IdOrdMap<Pair>, key: u32, first: u32, then: u32)
     requires keyed { Ascends (λ p. p.key) nat_cmp map.old.items }
     ensures written { IfSome (find_item (λ p. p.key) (λ k. key == k) map.old.items) (λ x. map.new.items ≡ replaced (λ p. p.key) (λ k. key == k) (record x { value = then }) map.old.items) }
 {
@@ -54,7 +36,7 @@ pub fn set_twice(map: &mut IdOrdMap<Pair>, key: u32, first: u32, then: u32)
 
 /// Writes, spends the guard, and reads what was written.
 #[tactic(auto, using(iddqd::proofs::GuardLemmas::read_back))]
-pub fn set_and_read(map: &mut IdOrdMap<Pair>, key: u32, value: u32) -> Option<u32>
+fn set_and_read(map: &mut IdOrdMap<Pair>, key: u32, value: u32) -> Option<u32>
     requires keyed { Ascends (λ p. p.key) nat_cmp map.old.items }
     ensures value { result ≡ option_map (λ _. value) (find_item (λ p. p.key) (λ k. key == k) map.old.items) }
     ensures written { IfSome (find_item (λ p. p.key) (λ k. key == k) map.old.items) (λ x. map.new.items ≡ replaced (λ p. p.key) (λ k. key == k) (record x { value = value }) map.old.items) }
@@ -70,7 +52,7 @@ pub fn set_and_read(map: &mut IdOrdMap<Pair>, key: u32, value: u32) -> Option<u3
 }
 
 /// Writes by a plain reference at the end.
-pub fn set_plainly(map: &mut IdOrdMap<Pair>, key: u32, value: u32)
+fn set_plainly(map: &mut IdOrdMap<Pair>, key: u32, value: u32)
     requires keyed { Ascends (λ p. p.key) nat_cmp map.old.items }
     ensures written { IfSome (find_item (λ p. p.key) (λ k. key == k) map.old.items) (λ x. map.new.items ≡ replaced (λ p. p.key) (λ k. key == k) (record x { value = value }) map.old.items) }
 {
@@ -82,7 +64,7 @@ pub fn set_plainly(map: &mut IdOrdMap<Pair>, key: u32, value: u32)
 
 /// Writes by the guard lent once more, and reads by the guard itself.
 #[tactic(auto, using(iddqd::proofs::GuardLemmas::read_back))]
-pub fn set_by_reborrow(map: &mut IdOrdMap<Pair>, key: u32, value: u32) -> Option<u32>
+fn set_by_reborrow(map: &mut IdOrdMap<Pair>, key: u32, value: u32) -> Option<u32>
     requires keyed { Ascends (λ p. p.key) nat_cmp map.old.items }
     ensures read { result ≡ option_map (λ _. value) (find_item (λ p. p.key) (λ k. key == k) map.old.items) }
     ensures written { IfSome (find_item (λ p. p.key) (λ k. key == k) map.old.items) (λ x. map.new.items ≡ replaced (λ p. p.key) (λ k. key == k) (record x { value = value }) map.old.items) }
@@ -99,7 +81,7 @@ pub fn set_by_reborrow(map: &mut IdOrdMap<Pair>, key: u32, value: u32) -> Option
 }
 
 /// Writes by a function that takes the item.
-pub fn set_by_function(map: &mut IdOrdMap<Pair>, key: u32, value: u32)
+fn set_by_function(map: &mut IdOrdMap<Pair>, key: u32, value: u32)
     requires keyed { Ascends (λ p. p.key) nat_cmp map.old.items }
     ensures written { IfSome (find_item (λ p. p.key) (λ k. key == k) map.old.items) (λ x. map.new.items ≡ replaced (λ p. p.key) (λ k. key == k) (record x { value = value }) map.old.items) }
 {
@@ -110,7 +92,7 @@ pub fn set_by_function(map: &mut IdOrdMap<Pair>, key: u32, value: u32)
 }
 
 /// Puts an item of an equal key in the place of the one found, and then asks the map, which is keyed still.
-pub fn put_and_ask<T: IdOrdItem + Drop, Q: Comparable<T::Key>>(
+fn put_and_ask<T: IdOrdItem + Drop, Q: Comparable<T::Key>>(
     map: &mut IdOrdMap<T>,
     query: &Q,
     item: T,
@@ -126,7 +108,7 @@ pub fn put_and_ask<T: IdOrdItem + Drop, Q: Comparable<T::Key>>(
 
 /// Writes the value of the name, and then asks the map, which is keyed still.
 #[tactic(auto, using(iddqd::proofs::GuardLemmas::same_key_kept))]
-pub fn set_and_ask(map: &mut IdOrdMap<Named>, name: &str, value: u32) -> bool
+fn set_and_ask(map: &mut IdOrdMap<Named>, name: &str, value: u32) -> bool
     requires keyed { Ascends ⟦<Named as IdOrdItem>⟧.key ⟦<String as Ord>⟧.cmp map.old.items }
     ensures told { result ≡ is_some (find_item ⟦<Named as IdOrdItem>⟧.key (λ k. bytes_eq name.now (string_bytes k)) map.new.items) }
     ensures keyed { Ascends ⟦<Named as IdOrdItem>⟧.key ⟦<String as Ord>⟧.cmp map.new.items }

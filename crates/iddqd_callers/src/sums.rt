@@ -1,11 +1,11 @@
 //! Reading walks over both maps: a caller's loop is a loop over the plain list of the items.
 ghost use Rattle.std.specs.Prelude.{◌≡◌, ◌≤◌, sum_by};
 
-use crate::items::Pair;
 use iddqd::{IdHashMap, IdOrdMap};
+use iddqd_writers::items::Pair;
 
 /// The sum of the values, along the ordered map.
-pub fn sum_in_order(all: &IdOrdMap<Pair>) -> u64
+fn sum_in_order(all: &IdOrdMap<Pair>) -> u64
     requires fits { sum_by (λ pair. pair.value) all.now.items ≤ u64.MAX }
     ensures { result ≡ sum_by (λ pair. pair.value) all.now.items }
 {
@@ -17,7 +17,7 @@ pub fn sum_in_order(all: &IdOrdMap<Pair>) -> u64
 }
 
 /// The sum of the values of the hash map.
-pub fn sum(all: &IdHashMap<Pair>) -> u64
+fn sum(all: &IdHashMap<Pair>) -> u64
     requires fits { sum_by (λ pair. pair.value) all.now.items ≤ u64.MAX }
     ensures { result ≡ sum_by (λ pair. pair.value) all.now.items }
 {
@@ -29,7 +29,7 @@ pub fn sum(all: &IdHashMap<Pair>) -> u64
 }
 
 /// The sum of the values, of a map that is used up.
-pub fn sum_of_gone(all: IdOrdMap<Pair>) -> u64
+fn sum_of_gone(all: IdOrdMap<Pair>) -> u64
     requires fits { sum_by (λ pair. pair.value) all.items ≤ u64.MAX }
     ensures { result ≡ sum_by (λ pair. pair.value) all.items }
 {

@@ -1,7 +1,7 @@
 -- A list of which the first items are changed, one step further, and to the end.
 use Rattle.std.proofs.Common.{Bool, ◌≡◌, ℕ, zero, suc, ◌+◌, ◌≤◌, List, [], ◌∷◌, map, length, slice_get, slice_set, unwrap_or, Some, refl, sym, ap, ◌∙◌, subst, arith, add-one}
-use Rattle.iddqd_callers.specs.Zeroed.{changed_to, zeroed}
-use Rattle.iddqd_callers.specs.declared.items.Pair.{Pair}
+use Rattle.iddqd_writers.specs.Zeroed.{changed_to, zeroed}
+use Rattle.iddqd_writers.specs.declared.items.Pair.{Pair}
 use Rattle.std.specs.Hash.{HashWrites}
 use Rattle.std.specs.List.{IsDistinct}
 use Rattle.iddqd.specs.HashItems.{HashItems, Keyed}

@@ -1,7 +1,7 @@
 -- A list of which the first items are changed.
 use Rattle.std.specs.Prelude.{ℕ, List, [], ◌∷◌}
 use Rattle.std.proofs.Common.{zero, suc}
-use Rattle.iddqd_callers.specs.declared.items.Pair.{Pair}
+use Rattle.iddqd_writers.specs.declared.items.Pair.{Pair}
 
 abbrev pub zeroed : Pair → Pair
 zeroed p = record p { value = 0 }

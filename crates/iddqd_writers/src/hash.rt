@@ -1,11 +1,42 @@
-//! Walks that write and that retain, over a hash map.
-ghost use Rattle.std.specs.Prelude.{◌≡◌, ◌==◌, map, filter, is_some, nat_lt};
-ghost use Rattle.iddqd.specs.Contents.{find_item};
-ghost use Rattle.iddqd_callers.specs.Zeroed.{zeroed, changed_to};
+//! A guard, an entry and walks of a hash map.
+ghost use Rattle.std.specs.Prelude.{◌≡◌, ◌==◌, IfNone, IfSome, is_some, map};
+ghost use Rattle.iddqd.specs.Contents.{find_item, replaced};
+ghost use Rattle.iddqd_writers.specs.Zeroed.{zeroed};
 
 use crate::items::Pair;
+use iddqd::id_hash_map::Entry;
 use iddqd::{IdHashMap, Lookups};
 use std::hash::BuildHasher;
+
+/// Writes the value of the key, and tells whether it is there.
+pub fn set_value<S: BuildHasher>(map: &mut IdHashMap<Pair, S>, key: u32, value: u32) -> bool
+    requires keyed { ⟦<IdHashMap<Pair, S> as Lookups>⟧.keyed map.old }
+    ensures told { result ≡ is_some (find_item (λ p. p.key) (λ k. key == k) map.old.items) }
+    ensures written { IfSome (find_item (λ p. p.key) (λ k. key == k) map.old.items) (λ x. map.new.items ≡ replaced (λ p. p.key) (λ k. key == k) (record x { value = value }) map.old.items) }
+    ensures absent { IfNone (find_item (λ p. p.key) (λ k. key == k) map.old.items) (map.new ≡ map.old) }
+    ensures keyed { ⟦<IdHashMap<Pair, S> as Lookups>⟧.keyed map.new }
+{
+    match map.get_mut(&key) {
+        Some(mut found) => {
+            found.value = value;
+            found.finish();
+            true
+        }
+        None => false,
+    }
+}
+
+/// Lets an entry go.
+pub fn looks<S: BuildHasher>(map: &mut IdHashMap<Pair, S>, key: u32) -> bool
+    requires keyed { ⟦<IdHashMap<Pair, S> as Lookups>⟧.keyed map.old }
+    ensures told { result ≡ is_some (find_item (λ p. p.key) (λ k. key == k) map.old.items) }
+    ensures unchanged { map.new ≡ map.old }
+{
+    match map.entry(&key) {
+        Entry::Occupied(_) => true,
+        Entry::Vacant(_) => false,
+    }
+}
 
 /// Sets each value to zero.
 #[tactic(auto, using(crate::proofs::ZeroedLemmas::changed_none, crate::proofs::ZeroedLemmas::length_changed, crate::proofs::ZeroedLemmas::changed_step, crate::proofs::ZeroedLemmas::changed_all))]
@@ -17,35 +48,4 @@ pub fn zero_all<S: BuildHasher>(all: &mut IdHashMap<Pair, S>)
     while let Some(pair) = walk.next() {
         pair.value = 0;
     }
-}
-
-/// Sets the first value to zero, and ends the walk there.
-#[tactic(auto, using(crate::proofs::ZeroedLemmas::changed_none, crate::proofs::ZeroedLemmas::changed_first))]
-pub fn zero_first<S: BuildHasher>(all: &mut IdHashMap<Pair, S>)
-    requires keyed { ⟦<IdHashMap<Pair, S> as Lookups>⟧.keyed all.old }
-    ensures { all.new ≡ record all.old { items = changed_to zeroed all.old.items 1 } }
-{
-    let mut walk = all.iter_mut();
-    if let Some(pair) = walk.next() {
-        pair.value = 0;
-    }
-}
-
-/// Sets each value to zero, and then asks the map, which is keyed still.
-pub fn zero_and_ask<S: BuildHasher>(all: &mut IdHashMap<Pair, S>) -> bool
-    requires keyed { ⟦<IdHashMap<Pair, S> as Lookups>⟧.keyed all.old }
-    ensures told { result ≡ is_some (find_item (λ p. p.key) (λ k. 4 == k) all.new.items) }
-    ensures keyed { ⟦<IdHashMap<Pair, S> as Lookups>⟧.keyed all.new }
-{
-    zero_all(all);
-    all.contains_key(&4)
-}
-
-/// Keeps the items of greater value.
-pub fn keep_greater<S: BuildHasher>(all: &mut IdHashMap<Pair, S>, least: u32)
-    requires keyed { ⟦<IdHashMap<Pair, S> as Lookups>⟧.keyed all.old }
-    ensures kept { all.new.items ≡ filter (λ p. nat_lt least p.value) all.old.items }
-    ensures keyed { ⟦<IdHashMap<Pair, S> as Lookups>⟧.keyed all.new }
-{
-    all.retain(|p| least < p.value);
 }

@@ -1,11 +1,42 @@
-//! Walks that write and that retain, over an ordered map.
-ghost use Rattle.std.specs.Prelude.{◌≡◌, ◌==◌, map, filter, is_some, nat_lt};
+//! A guard, an entry and walks of an ordered map.
+ghost use Rattle.std.specs.Prelude.{◌≡◌, ◌==◌, IfNone, IfSome, is_some, map};
 ghost use Rattle.std.specs.Ordering.{nat_cmp};
-ghost use Rattle.iddqd.specs.Contents.{Ascends, find_item};
-ghost use Rattle.iddqd_callers.specs.Zeroed.{zeroed, changed_to};
+ghost use Rattle.iddqd.specs.Contents.{Ascends, find_item, replaced};
+ghost use Rattle.iddqd_writers.specs.Zeroed.{zeroed};
 
 use crate::items::Pair;
 use iddqd::IdOrdMap;
+use iddqd::id_ord_map::Entry;
+
+/// Writes the value of the key, and tells whether it is there.
+pub fn set_value(map: &mut IdOrdMap<Pair>, key: u32, value: u32) -> bool
+    requires keyed { Ascends (λ p. p.key) nat_cmp map.old.items }
+    ensures told { result ≡ is_some (find_item (λ p. p.key) (λ k. key == k) map.old.items) }
+    ensures written { IfSome (find_item (λ p. p.key) (λ k. key == k) map.old.items) (λ x. map.new.items ≡ replaced (λ p. p.key) (λ k. key == k) (record x { value = value }) map.old.items) }
+    ensures absent { IfNone (find_item (λ p. p.key) (λ k. key == k) map.old.items) (map.new ≡ map.old) }
+    ensures keyed { Ascends (λ p. p.key) nat_cmp map.new.items }
+{
+    match map.get_mut(&key) {
+        Some(mut found) => {
+            found.value = value;
+            found.finish();
+            true
+        }
+        None => false,
+    }
+}
+
+/// Lets an entry go.
+pub fn looks(map: &mut IdOrdMap<Pair>, key: u32) -> bool
+    requires keyed { Ascends (λ p. p.key) nat_cmp map.old.items }
+    ensures told { result ≡ is_some (find_item (λ p. p.key) (λ k. key == k) map.old.items) }
+    ensures unchanged { map.new ≡ map.old }
+{
+    match map.entry(&key) {
+        Entry::Occupied(_) => true,
+        Entry::Vacant(_) => false,
+    }
+}
 
 /// Sets each value to zero.
 #[tactic(auto, using(crate::proofs::ZeroedLemmas::changed_none, crate::proofs::ZeroedLemmas::length_changed, crate::proofs::ZeroedLemmas::changed_step, crate::proofs::ZeroedLemmas::changed_all))]
@@ -17,36 +48,4 @@ pub fn zero_all(all: &mut IdOrdMap<Pair>)
     while let Some(pair) = walk.next() {
         pair.value = 0;
     }
-}
-
-/// Sets the first value to zero, and ends the walk there.
-#[tactic(auto, using(crate::proofs::ZeroedLemmas::changed_none, crate::proofs::ZeroedLemmas::changed_first))]
-pub fn zero_first(all: &mut IdOrdMap<Pair>)
-    requires keyed { Ascends (λ p. p.key) nat_cmp all.old.items }
-    ensures { all.new ≡ record all.old { items = changed_to zeroed all.old.items 1 } }
-{
-    let mut walk = all.iter_mut();
-    if let Some(pair) = walk.next() {
-        pair.value = 0;
-    }
-}
-
-/// Sets each value to zero, and then asks the map, which is keyed still.
-#[tactic(auto, using(crate::proofs::ZeroedLemmas::ascends_zeroed))]
-pub fn zero_and_ask(all: &mut IdOrdMap<Pair>) -> bool
-    requires keyed { Ascends (λ p. p.key) nat_cmp all.old.items }
-    ensures told { result ≡ is_some (find_item (λ p. p.key) (λ k. 4 == k) all.new.items) }
-    ensures keyed { Ascends (λ p. p.key) nat_cmp all.new.items }
-{
-    zero_all(all);
-    all.contains_key(&4)
-}
-
-/// Keeps the items of greater value.
-pub fn keep_greater(all: &mut IdOrdMap<Pair>, least: u32)
-    requires keyed { Ascends (λ p. p.key) nat_cmp all.old.items }
-    ensures kept { all.new.items ≡ filter (λ p. nat_lt least p.value) all.old.items }
-    ensures keyed { Ascends (λ p. p.key) nat_cmp all.new.items }
-{
-    all.retain(|p| least < p.value);
 }

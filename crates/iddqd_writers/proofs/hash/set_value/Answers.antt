@@ -1,5 +1,5 @@
 use Rattle.std.proofs.Common.{rules, refl}
-use Rattle.iddqd_callers.proofs.hash_guards.set_value.Goals as goal
+use Rattle.iddqd_writers.proofs.hash.set_value.Goals as goal
 
 pub returns-in-Some-clause-keyed : goal.returns-in-Some-clause-keyed
 returns-in-Some-clause-keyed g c =

@@ -1,7 +1,7 @@
 use Rattle.std.proofs.Common.{ap, rules, ◌≡◌, Some, slice_get}
-use Rattle.iddqd_callers.proofs.ZeroedLemmas.{changed_step}
-use Rattle.iddqd_callers.specs.Zeroed.{zeroed, changed_to}
-use Rattle.iddqd_callers.proofs.hash_walks.zero_all.Goals as goal
+use Rattle.iddqd_writers.proofs.ZeroedLemmas.{changed_step}
+use Rattle.iddqd_writers.specs.Zeroed.{zeroed, changed_to}
+use Rattle.iddqd_writers.proofs.hash.zero_all.Goals as goal
 
 pub loop-pair-preserved : goal.loop-pair-preserved
 loop-pair-preserved g c =

@@ -1,6 +1,6 @@
 use Rattle.std.proofs.Common.{◌≡◌, ◌-◌, length}
-use Rattle.iddqd_callers.specs.Zeroed.{zeroed, changed_to}
-use Rattle.iddqd_callers.proofs.hash_walks.zero_all.Given as goal
+use Rattle.iddqd_writers.specs.Zeroed.{zeroed, changed_to}
+use Rattle.iddqd_writers.proofs.hash.zero_all.Given as goal
 
 abbrev pub invariant-loop-pair : goal.invariant-loop-pair
 invariant-loop-pair g l =

@@ -1,7 +1,7 @@
 use Rattle.std.proofs.Common.{nat_eq}
 use Rattle.std.specs.Hash.{u32}
 use Rattle.iddqd.specs.Hashing.{hash_under}
-use Rattle.iddqd_callers.proofs.ZeroedLemmas.{keyed_zeroed}
+use Rattle.iddqd_writers.proofs.ZeroedLemmas.{keyed_zeroed}
 use Rattle.iddqd_callers.proofs.hash_walks.zero_and_ask.Goals as goal
 
 pub contains_key-requires-clause-keyed : goal.contains_key-requires-clause-keyed
