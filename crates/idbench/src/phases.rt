@@ -164,32 +164,62 @@ fn walked<S: Subject>(clock: &impl Clock, map: &S) -> io::Result<(u64, u64, u64)
     Ok((walk, clone, sum.wrapping_add(copied as u64)))
 }
 
-/// Times each phase over a new map.
-pub(crate) fn timed<S: Subject>(
+// The nanoseconds of the insertions, and how many went in.
+fn put_in<S: Subject>(
+    clock: &impl Clock,
+    map: &mut S,
+    loads: Vec<S::Load>,
+) -> io::Result<(u64, u64)> {
+    let start = Instant::now(clock)?;
+    let count = put_all(map, loads);
+    Ok((nanos_since(clock, start)?, count))
+}
+
+// The nanoseconds of the exchanges, and the sum of the values that are taken out.
+fn churned<S: Subject>(
+    clock: &impl Clock,
+    map: &mut S,
+    keys: &[S::Key],
+    loads: Vec<S::Load>,
+) -> io::Result<(u64, u64)> {
+    let start = Instant::now(clock)?;
+    let found = churn(map, keys, loads);
+    Ok((nanos_since(clock, start)?, found))
+}
+
+// The nanoseconds of the removals, and the sum of the values that are taken out.
+fn taken<S: Subject>(clock: &impl Clock, map: &mut S, keys: &[S::Key]) -> io::Result<(u64, u64)> {
+    let start = Instant::now(clock)?;
+    let found = take_all(map, keys);
+    Ok((nanos_since(clock, start)?, found))
+}
+
+// Times each phase over the map, which has no items. The first of the keys are there once all are in, and the others are not.
+fn timed_over<S: Subject>(
     clock: &impl Clock,
     alloc: Global,
     plan: &Plan,
+    map: &mut S,
+    (present, absent): (&[S::Key], &[S::Key]),
 ) -> io::Result<Times> {
-    let present: Vec<S::Key> = plan.keys(alloc, 0)?;
-    let absent: Vec<S::Key> = plan.keys(alloc, plan.size)?;
-    let more = plan.loads::<S>(alloc, plan.size)?;
-    let (reserved, reserved_count) = put_reserved::<S>(clock, alloc, plan.loads::<S>(alloc, 0)?)?;
-    let mut map = S::empty(alloc);
     let loads = plan.loads::<S>(alloc, 0)?;
-    let start = Instant::now(clock)?;
-    let count = put_all(&mut map, loads);
-    let insertion = nanos_since(clock, start)?;
-    let (lookup, found) = looked_up(clock, &map, present.as_slice())?;
-    let (absent_lookup, missed) = looked_up(clock, &map, absent.as_slice())?;
-    let (walk, clone, seen) = walked(clock, &map)?;
-    let start = Instant::now(clock)?;
-    let churned = churn(&mut map, present.as_slice(), more);
-    let churn = nanos_since(clock, start)?;
-    let start = Instant::now(clock)?;
-    let taken = take_all(&mut map, absent.as_slice());
-    let removal = nanos_since(clock, start)?;
+    let (reserved, reserved_count) = put_reserved::<S>(clock, alloc, loads)?;
+    let (insertion, count) = put_in(clock, map, plan.loads::<S>(alloc, 0)?)?;
+    let (lookup, found) = looked_up(clock, map, present)?;
+    let (absent_lookup, missed) = looked_up(clock, map, absent)?;
+    let (walk, clone, seen) = walked(clock, map)?;
+    let (churn, exchanged) = churned(clock, map, present, plan.loads::<S>(alloc, plan.size)?)?;
+    let (removal, removed) = taken(clock, map, absent)?;
     let mut sum = 0u64;
-    for part in [reserved_count, count, found, missed, seen, churned, taken] {
+    for part in [
+        reserved_count,
+        count,
+        found,
+        missed,
+        seen,
+        exchanged,
+        removed,
+    ] {
         sum = sum.wrapping_add(part);
     }
     Ok(Times {
@@ -205,4 +235,16 @@ pub(crate) fn timed<S: Subject>(
         ],
         found: sum,
     })
+}
+
+/// Times each phase over a new map.
+pub(crate) fn timed<S: Subject>(
+    clock: &impl Clock,
+    alloc: Global,
+    plan: &Plan,
+) -> io::Result<Times> {
+    let present: Vec<S::Key> = plan.keys(alloc, 0)?;
+    let absent: Vec<S::Key> = plan.keys(alloc, plan.size)?;
+    let keys = (present.as_slice(), absent.as_slice());
+    timed_over(clock, alloc, plan, &mut S::empty(alloc), keys)
 }

@@ -13,7 +13,7 @@ use std::cmp::Ordering;
 use std::hash::{Hash, Hasher};
 
 /// A name that is equal to each of the same letters, in whatever case.
-#[derive(Clone, Copy, Debug)]
+#[derive(Clone, Copy)]
 pub struct Caseless(pub [u8; 3]);
 
 fn folded(name: &Caseless) -> [u8; 3]
@@ -71,7 +71,7 @@ impl Hash for Caseless {
 }
 
 /// An item of such a name.
-#[derive(Clone, Copy, Debug, PartialEq, Eq)]
+#[derive(Clone, Copy, PartialEq, Eq)]
 pub struct Coarse {
     /// What it is found by.
     pub name: Caseless,

@@ -1,8 +1,9 @@
 //! The hash index, over a store of coins.
 ghost use Rattle.std.specs.Prelude.{◌≡◌};
 
+use crate::checks::check;
 use iddqd_hash_index::HashIndex;
-use iddqd_store::{IdHashItem, ItemStore, Steps};
+use iddqd_store::{IdHashItem, ItemStore, Steps, TryReserveError};
 use std::alloc::Global;
 use std::marker::Model;
 use std::process::Abort;
@@ -106,7 +107,7 @@ impl Mint {
     }
 
     // Puts a copy in the place of the index.
-    fn copy(&mut self) -> Result<(), Fail> {
+    fn copy(&mut self) -> Result<(), TryReserveError> {
         self.index = self.index.try_clone()?;
         Ok(())
     }
@@ -119,12 +120,12 @@ fn hash_of(year: u32) -> u64 {
 
 // Each year, in steps, comes where it is not there and goes where it is; now and then every year is looked for.
 fn exchange(rt: &impl Abort, mint: &mut Mint, there: &mut [bool], step: u32) {
-    assert!(rt; there.len() == 10_000);
-    assert!(rt; step < 10_000);
+    check(rt, there.len() == 10_000);
+    check(rt, step < 10_000);
     for n in 0..10_000u32 {
         let year = n * step % 10_000;
         let slot = mint.take(hash_of(year), year);
-        assert!(rt; slot.is_some() == there[year as usize]);
+        check(rt, slot.is_some() == there[year as usize]);
         if slot.is_none() {
             mint.put(rt, hash_of(year), year);
         }
@@ -137,9 +138,9 @@ fn exchange(rt: &impl Abort, mint: &mut Mint, there: &mut [bool], step: u32) {
 
 // The years that are found are those that are there.
 fn same(rt: &impl Abort, mint: &Mint, there: &[bool]) {
-    assert!(rt; there.len() == 10_000);
+    check(rt, there.len() == 10_000);
     for year in 0..10_000u32 {
-        assert!(rt; mint.has(hash_of(year), year) == there[year as usize]);
+        check(rt, mint.has(hash_of(year), year) == there[year as usize]);
     }
 }
 
@@ -151,8 +152,8 @@ fn thousands(rt: HostRuntime) -> Result<(), Fail> {
     for step in [1, 7, 9, 3] {
         exchange(&rt, &mut mint, there.as_mut_slice(), step);
     }
-    assert!(rt; mint.index.len() == 0);
-    assert!(rt; mint.index.spare() >= 10_000);
+    check(&rt, mint.index.len() == 0);
+    check(&rt, mint.index.spare() >= 10_000);
     Ok(())
 }
 
@@ -161,16 +162,16 @@ fn thousands(rt: HostRuntime) -> Result<(), Fail> {
 fn pairs_of_one_hash(rt: HostRuntime) {
     let mut mint = Mint::new(rt.alloc());
     for year in 0..100 {
-        assert!(rt; mint.put(&rt, 5, year) == year);
+        check(&rt, mint.put(&rt, 5, year) == year);
     }
     for year in 0..100 {
-        assert!(rt; mint.finds(5, year, Some(year), 100));
-        assert!(rt; mint.finds(6, year, None, 0));
+        check(&rt, mint.finds(5, year, Some(year), 100));
+        check(&rt, mint.finds(6, year, None, 0));
     }
     for year in 0..100 {
-        assert!(rt; mint.take(5, 99 - year) == Some(99 - year));
+        check(&rt, mint.take(5, 99 - year) == Some(99 - year));
     }
-    assert!(rt; mint.finds(5, 50, None, 0));
+    check(&rt, mint.finds(5, 50, None, 0));
 }
 
 #[test]
@@ -179,35 +180,44 @@ fn pairs(rt: HostRuntime) {
     for (hash, year) in [(7, 1810), (8, 1820), (7, 1830)] {
         mint.put(&rt, hash, year);
     }
-    assert!(rt; mint.finds(7, 1830, Some(2), 2));
-    assert!(rt; mint.finds(7, 1810, Some(0), 2));
-    assert!(rt; mint.finds(7, 1820, None, 2));
-    assert!(rt; mint.recoin(&rt, 7, 1810) == Some(3));
-    assert!(rt; mint.finds(7, 1810, Some(3), 2));
-    assert!(rt; mint.take(7, 1830) == Some(2));
-    assert!(rt; mint.finds(7, 1830, None, 1));
+    check(&rt, mint.finds(7, 1830, Some(2), 2));
+    check(&rt, mint.finds(7, 1810, Some(0), 2));
+    check(&rt, mint.finds(7, 1820, None, 2));
+    check(&rt, mint.recoin(&rt, 7, 1810) == Some(3));
+    check(&rt, mint.finds(7, 1810, Some(3), 2));
+    check(&rt, mint.take(7, 1830) == Some(2));
+    check(&rt, mint.finds(7, 1830, None, 1));
 }
 
-#[test]
-fn room(rt: HostRuntime) -> Result<(), Fail> {
-    let mut mint = Mint::new(rt.alloc());
-    assert!(rt; mint.index.spare() == 0);
+// A hundred years go in, and ninety leave: the room stays, until half of it is given back.
+fn keeps_room(rt: &impl Abort, mint: &mut Mint) {
     for year in 0..100 {
-        mint.put(&rt, hash_of(year), year);
+        mint.put(rt, hash_of(year), year);
     }
     let room = mint.room();
     for year in 0..90 {
         mint.take(hash_of(year), year);
     }
-    assert!(rt; mint.index.len() == 10);
-    assert!(rt; mint.room() == room);
-    assert!(rt; mint.shrink(30));
-    assert!(rt; mint.room() >= 30 && mint.room() < room);
-    mint.copy()?;
-    assert!(rt; mint.finds(hash_of(95), 95, Some(95), 1));
+    check(rt, mint.index.len() == 10);
+    check(rt, mint.room() == room);
+    check(rt, mint.shrink(30));
+    check(rt, mint.room() >= 30 && mint.room() < room);
+}
+
+// A copy finds what the index finds, and nothing once it is cleared.
+fn copies_and_clears(rt: &impl Abort, mint: &mut Mint) {
+    check(rt, mint.copy().is_ok());
+    check(rt, mint.finds(hash_of(95), 95, Some(95), 1));
     mint.clear();
-    assert!(rt; mint.index.spare() >= 10);
-    assert!(rt; mint.finds(hash_of(95), 95, None, 0));
-    assert!(rt; mint.shrink(0));
-    Ok(())
+    check(rt, mint.index.spare() >= 10);
+    check(rt, mint.finds(hash_of(95), 95, None, 0));
+    check(rt, mint.shrink(0));
+}
+
+#[test]
+fn room(rt: HostRuntime) {
+    let mut mint = Mint::new(rt.alloc());
+    check(&rt, mint.index.spare() == 0);
+    keeps_room(&rt, &mut mint);
+    copies_and_clears(&rt, &mut mint);
 }

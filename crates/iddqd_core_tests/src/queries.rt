@@ -1,4 +1,5 @@
 //! Keys of what is held, counts of comparisons, and texts for keys.
+use crate::checks::check;
 use iddqd_store::{Comparable, Equivalent, IdHashItem, IdOrdItem, Steps, Text};
 use std::cmp::Ordering;
 use std::hash::{BuildHasher, BuildHasherDefault, FoldHasher, Hash};
@@ -42,14 +43,14 @@ fn ord_key<T: IdOrdItem<Key = u32>>(item: &T) -> u32 {
 #[test]
 fn keys_of_what_is_held(rt: HostRuntime) -> Result<(), Fail> {
     let coin = Coin { year: 1806 };
-    assert!(rt; hash_key(&&coin) == 1806);
-    assert!(rt; ord_key(&&coin) == 1806);
+    check(&rt, hash_key(&&coin) == 1806);
+    check(&rt, ord_key(&&coin) == 1806);
     let boxed = Box::new(rt.alloc(), Coin { year: 1807 })?;
-    assert!(rt; hash_key(&boxed) == 1807);
-    assert!(rt; ord_key(&boxed) == 1807);
+    check(&rt, hash_key(&boxed) == 1807);
+    check(&rt, ord_key(&boxed) == 1807);
     let shared = Rc::new(rt.alloc(), Coin { year: 1808 })?;
-    assert!(rt; hash_key(&shared) == 1808);
-    assert!(rt; ord_key(&shared) == 1808);
+    check(&rt, hash_key(&shared) == 1808);
+    check(&rt, ord_key(&shared) == 1808);
     Ok(())
 }
 
@@ -57,11 +58,11 @@ fn keys_of_what_is_held(rt: HostRuntime) -> Result<(), Fail> {
 #[test]
 fn counts(rt: HostRuntime) {
     let mut steps = Steps::new();
-    assert!(rt; steps.compare(&1u32, &2) == Ordering::Less);
-    assert!(rt; steps.compare(&2u32, &2) == Ordering::Equal);
-    assert!(rt; steps.equal(&2u32, &2));
-    assert!(rt; !steps.equal(&2u32, &3));
-    assert!(rt; steps.count() == 4);
+    check(&rt, steps.compare(&1u32, &2) == Ordering::Less);
+    check(&rt, steps.compare(&2u32, &2) == Ordering::Equal);
+    check(&rt, steps.equal(&2u32, &2));
+    check(&rt, !steps.equal(&2u32, &3));
+    check(&rt, steps.count() == 4);
 }
 
 fn stands_for<Q: Comparable<String>>(query: &Q, key: &String) -> (bool, Ordering) {
@@ -77,11 +78,14 @@ fn stands_as_its_string(rt: HostRuntime) -> Result<(), Fail> {
         ("fo", false, Ordering::Less),
         ("fop", false, Ordering::Greater),
     ] {
-        assert!(rt; stands_for(&Text(text), &key) == (equal, order));
-        assert!(rt; stands_for(&text.to_string(rt.alloc())?, &key) == (equal, order));
+        check(&rt, stands_for(&Text(text), &key) == (equal, order));
+        check(
+            &rt,
+            stands_for(&text.to_string(rt.alloc())?, &key) == (equal, order),
+        );
     }
     let hasher: BuildHasherDefault<FoldHasher> = BuildHasherDefault::new();
-    assert!(rt; hasher.hash_one(Text("foo")) == hasher.hash_one(&key));
-    assert!(rt; hasher.hash_one(Text("fop")) != hasher.hash_one(&key));
+    check(&rt, hasher.hash_one(Text("foo")) == hasher.hash_one(&key));
+    check(&rt, hasher.hash_one(Text("fop")) != hasher.hash_one(&key));
     Ok(())
 }

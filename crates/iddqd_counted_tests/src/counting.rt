@@ -1,4 +1,5 @@
 //! A key that counts its own comparisons shows the number that `Steps` shows, so no comparison goes past it.
+use crate::checks::check;
 use iddqd::{IdHashItem, IdOrdItem, Steps};
 use iddqd_testing::counted::{Hashed, Ordered, Outcome};
 use iddqd_testing::counting::{CountingKey, Tallied};
@@ -90,7 +91,7 @@ fn ordered_numbers(alloc: Global, count: u32, compared: &Cell<u32>) -> Result<bo
 fn ordered_steps_are_comparisons(rt: HostRuntime) -> Result<(), Fail> {
     let compared = Cell::new(0);
     for count in [0, 1, 12, 100] {
-        assert!(rt; ordered_numbers(rt.alloc(), count, &compared)?);
+        check(&rt, ordered_numbers(rt.alloc(), count, &compared)?);
     }
     Ok(())
 }
@@ -144,8 +145,8 @@ fn hashed_steps_are_comparisons(rt: HostRuntime) -> Result<(), Fail> {
     let compared = Cell::new(0);
     let zero: BuildHasherDefault<ZeroHasher> = BuildHasherDefault::new();
     let plain: BuildHasherDefault<FoldHasher> = BuildHasherDefault::new();
-    assert!(rt; hashed_numbers(rt.alloc(), zero, 30, &compared)?);
-    assert!(rt; hashed_numbers(rt.alloc(), plain, 100, &compared)?);
+    check(&rt, hashed_numbers(rt.alloc(), zero, 30, &compared)?);
+    check(&rt, hashed_numbers(rt.alloc(), plain, 100, &compared)?);
     Ok(())
 }
 
@@ -213,7 +214,7 @@ fn plain_calls_keep_the_bound(rt: HostRuntime) -> Result<(), Fail> {
     let compared = Cell::new(0);
     for (count, bound) in [(0, 4), (1, 6), (11, 12), (12, 12), (1000, 24)] {
         let most = most_of_numbers(rt.alloc(), count, &compared)?.ok_or("a call went wrong")?;
-        assert!(rt; most <= bound);
+        check(&rt, most <= bound);
     }
     Ok(())
 }
@@ -255,6 +256,6 @@ fn past_steps_of_numbers(alloc: Global, compared: &Cell<u32>) -> Result<bool, Al
 #[test]
 fn compares_past_steps(rt: HostRuntime) -> Result<(), Fail> {
     let compared = Cell::new(0);
-    assert!(rt; past_steps_of_numbers(rt.alloc(), &compared)?);
+    check(&rt, past_steps_of_numbers(rt.alloc(), &compared)?);
     Ok(())
 }

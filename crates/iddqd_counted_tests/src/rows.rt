@@ -1,4 +1,5 @@
 //! The most comparisons of a call, by how many items there are.
+use crate::checks::check;
 use iddqd_testing::counted::{Hashed, Ordered};
 use iddqd_testing::hashers::ZeroHasher;
 use iddqd_testing::items::Numbered;
@@ -37,7 +38,7 @@ fn most_steps(alloc: Global, count: u32) -> Option<u32> {
 fn table_of_counts(rt: HostRuntime) -> Result<(), Fail> {
     for (count, bound) in [(0, 4), (1, 6), (11, 12), (12, 12), (1000, 24)] {
         let most = most_steps(rt.alloc(), count).ok_or("a call went wrong")?;
-        assert!(rt; most <= bound);
+        check(&rt, most <= bound);
     }
     Ok(())
 }
@@ -47,7 +48,7 @@ fn table_of_counts(rt: HostRuntime) -> Result<(), Fail> {
 fn growth_refused(rt: HostRuntime) -> Result<(), Fail> {
     for (count, bound) in [(0, 4), (1000, 24)] {
         let most = most_steps(rt.alloc(), count).ok_or("a call went wrong")?;
-        assert!(rt; most <= bound);
+        check(&rt, most <= bound);
     }
     Ok(())
 }
@@ -57,11 +58,11 @@ fn equal_hashes(rt: HostRuntime) {
     let hasher: BuildHasherDefault<ZeroHasher> = BuildHasherDefault::new();
     let mut map = Hashed::new(rt.alloc(), hasher);
     for number in 0..100 {
-        assert!(rt; map.put_plainly(numbered(number)));
+        check(&rt, map.put_plainly(numbered(number)));
     }
     for number in 0..100 {
-        assert!(rt; map.find(&number).is_done);
+        check(&rt, map.find(&number).is_done);
     }
     let absent = map.find(&100);
-    assert!(rt; !absent.is_done && absent.steps <= 100);
+    check(&rt, !absent.is_done && absent.steps <= 100);
 }

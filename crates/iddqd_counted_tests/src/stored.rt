@@ -1,4 +1,5 @@
 //! A hash map keeps the hash of each key, and grows by it.
+use crate::checks::check;
 use iddqd::{IdHashItem, IdHashMap};
 use iddqd_testing::counting::{Fed, HashedKey};
 use iddqd_testing::tried::{AskedForRoom, Tried};
@@ -43,5 +44,8 @@ fn stored_hashes(rt: HostRuntime) {
         },
     });
     let keep = |item: &Fed<'_>| item.key.number % 2 == 1 && item.key.number % 3 != 0;
-    assert!(rt; makes_room_unhashed(rt.alloc(), items.as_slice(), keep, &hashed));
+    check(
+        &rt,
+        makes_room_unhashed(rt.alloc(), items.as_slice(), keep, &hashed),
+    );
 }

@@ -1,4 +1,5 @@
 //! Ordered maps of many items, in and out in several orders.
+use crate::checks::check;
 use iddqd_testing::counted::Ordered;
 use iddqd_testing::items::Numbered;
 use std::alloc::Global;
@@ -71,8 +72,8 @@ fn are_found(map: &Ordered<Numbered>, most: u32) -> bool {
 fn three_orders(rt: HostRuntime) {
     for factor in [1, 1008, 7] {
         let map = filled(rt.alloc(), factor);
-        assert!(rt; walks(&map, 1, 1009));
-        assert!(rt; are_found(&map, 24));
+        check(&rt, walks(&map, 1, 1009));
+        check(&rt, are_found(&map, 24));
     }
 }
 
@@ -92,10 +93,10 @@ fn are_taken(map: &mut Ordered<Numbered>, first: u32, end: u32) -> bool {
 fn removals_in_mixed_order(rt: HostRuntime) {
     for factor in [1, 1008, 7] {
         let mut map = filled(rt.alloc(), factor);
-        assert!(rt; are_taken(&mut map, 1, 505));
-        assert!(rt; ascending(&map) == Some(504));
-        assert!(rt; are_taken(&mut map, 505, 1009));
-        assert!(rt; ascending(&map) == Some(0));
+        check(&rt, are_taken(&mut map, 1, 505));
+        check(&rt, ascending(&map) == Some(504));
+        check(&rt, are_taken(&mut map, 505, 1009));
+        check(&rt, ascending(&map) == Some(0));
     }
 }
 
@@ -103,11 +104,11 @@ fn removals_in_mixed_order(rt: HostRuntime) {
 fn removals_in_order(rt: HostRuntime) {
     let mut map = Ordered::new(rt.alloc());
     for number in 1..13 {
-        assert!(rt; map.put_plainly(numbered(number)));
+        check(&rt, map.put_plainly(numbered(number)));
     }
     for number in 1..13u32 {
-        assert!(rt; map.take_plainly(&number));
-        assert!(rt; walks(&map, number.wrapping_add(1), 13));
+        check(&rt, map.take_plainly(&number));
+        check(&rt, walks(&map, number.wrapping_add(1), 13));
     }
-    assert!(rt; map.len() == 0);
+    check(&rt, map.len() == 0);
 }

@@ -1,4 +1,5 @@
 //! Rows of iterators whose hints lie, and of maps that are full.
+use crate::checks::check;
 use iddqd::errors::{ExtendError, FromIterError, TryReserveError};
 use iddqd::{DefaultHashBuilder, IdHashMap, IdOrdMap};
 use iddqd_commands::KeyedMap;
@@ -30,10 +31,10 @@ where
         numbered(3, 4),
     ];
     let stopped = stopped_at(map.extend(Hinted::new(&items, 0)));
-    assert!(rt; stopped == (Some(numbered(3, 4)), true));
-    assert!(rt; map.len() == 2);
-    assert!(rt; map.get(&1).copied() == Some(numbered(1, 3)));
-    assert!(rt; map.get(&2).copied() == Some(numbered(2, 2)));
+    check(rt, stopped == (Some(numbered(3, 4)), true));
+    check(rt, map.len() == 2);
+    check(rt, map.get(&1).copied() == Some(numbered(1, 3)));
+    check(rt, map.get(&2).copied() == Some(numbered(2, 2)));
 }
 
 #[test]
@@ -59,12 +60,15 @@ fn hint_at_two<M: KeyedMap<Item = Numbered, Key = u32> + Drop>(rt: &impl Abort, 
 where
     Tried<M>: Bulk<Numbered>,
 {
-    assert!(rt; announced(&mut map, 3) == (None, true));
-    assert!(rt; map.len() == 0);
-    assert!(rt; map.is_put(numbered(1, 1)));
-    assert!(rt; announced(&mut map, 3) == (None, true));
-    assert!(rt; announced(&mut map, 2) == (None, false));
-    assert!(rt; (map.len(), map.get(&1).copied()) == (1, Some(numbered(1, 1))));
+    check(rt, announced(&mut map, 3) == (None, true));
+    check(rt, map.len() == 0);
+    check(rt, map.is_put(numbered(1, 1)));
+    check(rt, announced(&mut map, 3) == (None, true));
+    check(rt, announced(&mut map, 2) == (None, false));
+    check(
+        rt,
+        (map.len(), map.get(&1).copied()) == (1, Some(numbered(1, 1))),
+    );
 }
 
 #[test]
@@ -80,8 +84,11 @@ where
     Tried<M>: Bulk<Numbered>,
 {
     let one = [numbered(1, 1)];
-    assert!(rt; stopped_at(map.extend(Hinted::new(&one, 5))) == (None, false));
-    assert!(rt; map.len() == 1);
+    check(
+        rt,
+        stopped_at(map.extend(Hinted::new(&one, 5))) == (None, false),
+    );
+    check(rt, map.len() == 1);
 }
 
 fn many_come<M: KeyedMap<Item = Numbered, Key = u32> + Drop>(rt: &impl Abort, mut map: Tried<M>)
@@ -92,8 +99,11 @@ where
     for (at, item) in hundred.iter_mut().enumerate() {
         item.number = at as u32;
     }
-    assert!(rt; stopped_at(map.extend(Hinted::new(&hundred, 0))) == (None, false));
-    assert!(rt; map.len() == 100);
+    check(
+        rt,
+        stopped_at(map.extend(Hinted::new(&hundred, 0))) == (None, false),
+    );
+    check(rt, map.len() == 100);
 }
 
 // The error of an announcement that passes what a map ever holds.
@@ -118,10 +128,10 @@ fn few_or_many_items(rt: HostRuntime) {
         alloc,
         Hinted::new(&[], 4_294_967_296),
     );
-    assert!(rt; refused_whole(ordered) == full);
+    check(&rt, refused_whole(ordered) == full);
     let hashed = Tried::<IdHashMap<Numbered>>::collected_unique(
         alloc,
         Hinted::new(&[], 4_294_967_296),
     );
-    assert!(rt; refused_whole(hashed) == full);
+    check(&rt, refused_whole(hashed) == full);
 }

@@ -1,4 +1,5 @@
 //! Rows of writes that spell a key anew, of guards lent once more, of equal hashes, and of walks that end early.
+use crate::checks::check;
 use iddqd::{IdHashMap, IdOrdMap};
 use iddqd_commands::KeyedMap;
 use iddqd_testing::caseless::{Caseless, Coarse, item_of, spelled};
@@ -17,7 +18,10 @@ fn of_bar_and_foo<M: KeyedMap<Item = Coarse, Key = Caseless> + Drop>(
     rt: &impl Abort,
     mut map: Tried<M>,
 ) -> Tried<M> {
-    assert!(rt; map.is_put(item_of(*b"bar", 1)) && map.is_put(item_of(*b"Foo", 2)));
+    check(
+        rt,
+        map.is_put(item_of(*b"bar", 1)) && map.is_put(item_of(*b"Foo", 2)),
+    );
     map
 }
 
@@ -30,9 +34,12 @@ fn is_respelled<M: KeyedMap<Item = Coarse, Key = Caseless> + Drop>(
         Inserted::Duplicate(_, existing) => existing,
         Inserted::Done | Inserted::Refused(_, _) => None,
     };
-    assert!(rt; existing.as_ref().map(spelled) == Some((*b"fOO", 7)));
-    assert!(rt; map.get(&Caseless(*b"BAR")).map(spelled) == Some((*b"bar", 1)));
-    assert!(rt; map.len() == 2);
+    check(rt, existing.as_ref().map(spelled) == Some((*b"fOO", 7)));
+    check(
+        rt,
+        map.get(&Caseless(*b"BAR")).map(spelled) == Some((*b"bar", 1)),
+    );
+    check(rt, map.len() == 2);
     map
 }
 
@@ -49,7 +56,7 @@ where
     Tried<M>: Respelled,
 {
     let mut map = of_bar_and_foo(rt, map);
-    assert!(rt; map.respell_by_guard(&Caseless(*b"FOO"), RESPELLED));
+    check(rt, map.respell_by_guard(&Caseless(*b"FOO"), RESPELLED));
     is_respelled(rt, map)
 }
 
@@ -61,7 +68,7 @@ where
     Tried<M>: Respelled,
 {
     let mut map = of_bar_and_foo(rt, map);
-    assert!(rt; map.respell_by_entry(&Caseless(*b"FOO"), RESPELLED));
+    check(rt, map.respell_by_entry(&Caseless(*b"FOO"), RESPELLED));
     is_respelled(rt, map)
 }
 
@@ -94,21 +101,21 @@ fn is_in_order(map: &IdOrdMap<Coarse>) -> bool {
 #[test]
 fn coarse_writes(rt: HostRuntime) {
     let map = by_guard(&rt, Tried::new(IdOrdMap::new(rt.alloc())));
-    assert!(rt; is_in_order(map.map()));
+    check(&rt, is_in_order(map.map()));
     let _ = by_guard(&rt, Tried::new(IdHashMap::new(rt.alloc())));
 }
 
 #[test]
 fn coarse_writes_by_entry(rt: HostRuntime) {
     let map = by_entry(&rt, Tried::new(IdOrdMap::new(rt.alloc())));
-    assert!(rt; is_in_order(map.map()));
+    check(&rt, is_in_order(map.map()));
     let _ = by_entry(&rt, Tried::new(IdHashMap::new(rt.alloc())));
 }
 
 #[test]
 fn coarse_writes_by_visitor(rt: HostRuntime) {
     let map = by_visitor(&rt, Tried::new(IdOrdMap::new(rt.alloc())));
-    assert!(rt; is_in_order(map.map()));
+    check(&rt, is_in_order(map.map()));
     let _ = by_visitor(&rt, Tried::new(IdHashMap::new(rt.alloc())));
 }
 
@@ -116,7 +123,7 @@ fn coarse_writes_by_visitor(rt: HostRuntime) {
 fn coarse_writes_by_walk(rt: HostRuntime) {
     let map = of_bar_and_foo(&rt, Tried::new(IdOrdMap::new(rt.alloc())));
     let (map, _) = map.written(2, respell);
-    assert!(rt; is_in_order(&map));
+    check(&rt, is_in_order(&map));
 }
 
 // Whether the walk shows bar 1 and fOO 7, in whatever order.
@@ -131,7 +138,7 @@ fn has_both(map: &IdHashMap<Coarse>) -> bool {
 fn hash_coarse_writes_by_walk(rt: HostRuntime) {
     let map = of_bar_and_foo(&rt, Tried::new(IdHashMap::new(rt.alloc())));
     let (map, _) = map.written(2, respell);
-    assert!(rt; has_both(&map));
+    check(&rt, has_both(&map));
 }
 
 fn numbered(number: u32, value: u32) -> Numbered {
@@ -142,24 +149,24 @@ fn of_one<M: KeyedMap<Item = Numbered, Key = u32> + Drop>(
     rt: &impl Abort,
     mut map: Tried<M>,
 ) -> Tried<M> {
-    assert!(rt; map.is_put(numbered(1, 4)) && map.is_put(numbered(2, 8)));
+    check(rt, map.is_put(numbered(1, 4)) && map.is_put(numbered(2, 8)));
     map
 }
 
 #[test]
 fn reborrow(rt: HostRuntime) {
     let map = of_one(&rt, Tried::new(IdOrdMap::new(rt.alloc())));
-    assert!(rt; map.write_by_reborrow(1, 5) == Some((5, 5)));
+    check(&rt, map.write_by_reborrow(1, 5) == Some((5, 5)));
     let map = of_one(&rt, Tried::new(IdHashMap::new(rt.alloc())));
-    assert!(rt; map.write_by_reborrow(1, 5) == Some((5, 5)));
+    check(&rt, map.write_by_reborrow(1, 5) == Some((5, 5)));
 }
 
 #[test]
 fn guard_spent_unwritten(rt: HostRuntime) {
     let map = of_one(&rt, Tried::new(IdOrdMap::new(rt.alloc())));
-    assert!(rt; map.spend_unwritten(1) == Some(true));
+    check(&rt, map.spend_unwritten(1) == Some(true));
     let map = of_one(&rt, Tried::new(IdHashMap::new(rt.alloc())));
-    assert!(rt; map.spend_unwritten(1) == Some(true));
+    check(&rt, map.spend_unwritten(1) == Some(true));
 }
 
 #[test]
@@ -167,18 +174,18 @@ fn equal_hashes_shrunk(rt: HostRuntime) {
     let hasher: BuildHasherDefault<ZeroHasher> = BuildHasherDefault::new();
     let mut map = Hashed::new(rt.alloc(), hasher);
     for number in 0..100 {
-        assert!(rt; map.put_plainly(numbered(number, number)));
+        check(&rt, map.put_plainly(numbered(number, number)));
     }
     for half in 0..50 {
-        assert!(rt; map.take_plainly(&(2 * half)));
+        check(&rt, map.take_plainly(&(2 * half)));
     }
-    assert!(rt; map.is_shrunk());
+    check(&rt, map.is_shrunk());
     for half in 0..50 {
-        assert!(rt; map.put_plainly(numbered(2 * half, half)));
+        check(&rt, map.put_plainly(numbered(2 * half, half)));
     }
     for number in 0..100 {
         let found = map.find(&number);
-        assert!(rt; found.is_done && found.steps <= 100);
+        check(&rt, found.is_done && found.steps <= 100);
     }
 }
 
@@ -201,9 +208,9 @@ fn raise(item: &mut Numbered) {
 fn writing_walk_stopped(rt: HostRuntime) {
     let mut map = Tried::new(IdOrdMap::new(rt.alloc()));
     for number in 1..=30 {
-        assert!(rt; map.is_put(numbered(number, number)));
+        check(&rt, map.is_put(numbered(number, number)));
     }
     let (map, left) = map.written(10, raise);
-    assert!(rt; left == 20);
-    assert!(rt; is_raised_to_ten(&map));
+    check(&rt, left == 20);
+    check(&rt, is_raised_to_ten(&map));
 }

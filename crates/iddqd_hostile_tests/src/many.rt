@@ -1,4 +1,5 @@
 //! Maps of many items, hash maps over other hashers, and the numbers of a map.
+use crate::checks::check;
 use iddqd::{IdHashMap, IdOrdMap};
 use iddqd_commands::KeyedMap;
 use iddqd_testing::hashers::{FewBits, Varying, ZeroHasher};
@@ -71,24 +72,45 @@ fn all_come_out<M: KeyedMap<Item = Numbered, Key = u32>>(
     true
 }
 
-#[test]
-fn constant_hasher(rt: HostRuntime) -> Result<(), Fail> {
-    let alloc = rt.alloc();
-    let hasher: BuildHasherDefault<ZeroHasher> = BuildHasherDefault::new();
-    let mut map = Tried::new(IdHashMap::with_hasher(alloc, hasher));
-    let items = in_order(alloc, 101, 1)?;
-    let (front, rest) = parted(items.as_slice(), 50);
-    assert!(rt; all_go_in(&mut map, items.as_slice()));
-    assert!(rt; all_are_found(&map, items.as_slice()));
-    assert!(rt; map.get(&101).copied() == None);
+// The numbers from 1 to 100 go in, 50 cannot go in twice, and it comes out.
+fn hundred<M: KeyedMap<Item = Numbered, Key = u32>>(
+    rt: &impl Abort,
+    items: &[Numbered],
+    mut map: Tried<M>,
+)
+where
+    M: Drop,
+{
+    let (front, rest) = parted(items, 50);
+    check(rt, all_go_in(&mut map, items));
+    check(rt, all_are_found(&map, items));
+    check(rt, map.get(&101).copied() == None);
     let again = Numbered {
         number: 50,
         value: 0,
     };
-    assert!(rt; map.insert(again) == Inserted::Duplicate(again, Some(numbered(50))));
-    assert!(rt; map.remove(&50) == Some(numbered(50)));
-    assert!(rt; map.get(&50).copied() == None);
-    assert!(rt; all_are_found(&map, parted(front, 49).0) && all_are_found(&map, rest));
+    check(
+        rt,
+        map.insert(again) == Inserted::Duplicate(again, Some(numbered(50))),
+    );
+    check(rt, map.remove(&50) == Some(numbered(50)));
+    check(rt, map.get(&50).copied() == None);
+    check(
+        rt,
+        all_are_found(&map, parted(front, 49).0) && all_are_found(&map, rest),
+    );
+}
+
+#[test]
+fn constant_hasher(rt: HostRuntime) -> Result<(), Fail> {
+    let alloc = rt.alloc();
+    let items = in_order(alloc, 101, 1)?;
+    let hasher: BuildHasherDefault<ZeroHasher> = BuildHasherDefault::new();
+    hundred(
+        &rt,
+        items.as_slice(),
+        Tried::new(IdHashMap::with_hasher(alloc, hasher)),
+    );
     Ok(())
 }
 
@@ -99,8 +121,8 @@ fn hashers_of_few_bits(rt: HostRuntime) -> Result<(), Fail> {
     let items = in_order(alloc, 100_003, 7)?;
     for varying in [Varying::High, Varying::Low, Varying::Multiples] {
         let mut map = Tried::new(IdHashMap::with_hasher(alloc, FewBits::new(varying)));
-        assert!(rt; all_go_in(&mut map, items.as_slice()));
-        assert!(rt; all_are_found(&map, items.as_slice()));
+        check(&rt, all_go_in(&mut map, items.as_slice()));
+        check(&rt, all_are_found(&map, items.as_slice()));
     }
     Ok(())
 }
@@ -108,51 +130,57 @@ fn hashers_of_few_bits(rt: HostRuntime) -> Result<(), Fail> {
 // Ten thousand keys go in, in one order, and come out in another.
 fn ten_thousand<M: KeyedMap<Item = Numbered, Key = u32>>(
     rt: &impl Abort,
-    alloc: Global,
+    coming: &[Numbered],
+    going: &[Numbered],
     mut map: Tried<M>,
-) -> Result<(), AllocError>
+)
 where
     M: Drop,
 {
-    assert!(rt; all_go_in(&mut map, in_order(alloc, 10_007, 7)?.as_slice()));
-    assert!(rt; map.len() == 10_006);
-    let items = in_order(alloc, 10_007, 11)?;
-    let (front, rest) = parted(items.as_slice(), 5_000);
-    assert!(rt; all_come_out(&mut map, front));
-    assert!(rt; map.len() == 5_006);
-    assert!(rt; all_are_found(&map, rest));
-    assert!(rt; all_come_out(&mut map, rest));
-    assert!(rt; map.len() == 0);
-    Ok(())
+    check(rt, all_go_in(&mut map, coming));
+    check(rt, map.len() == 10_006);
+    let (front, rest) = parted(going, 5_000);
+    check(rt, all_come_out(&mut map, front));
+    check(rt, map.len() == 5_006);
+    check(rt, all_are_found(&map, rest));
+    check(rt, all_come_out(&mut map, rest));
+    check(rt, map.len() == 0);
 }
 
 #[test]
 fn ten_thousand_keys(rt: HostRuntime) -> Result<(), Fail> {
     let alloc = rt.alloc();
-    ten_thousand(&rt, alloc, Tried::new(IdOrdMap::new(alloc)))?;
-    ten_thousand(&rt, alloc, Tried::new(IdHashMap::new(alloc)))?;
+    let coming = in_order(alloc, 10_007, 7)?;
+    let going = in_order(alloc, 10_007, 11)?;
+    let (coming, going) = (coming.as_slice(), going.as_slice());
+    ten_thousand(&rt, coming, going, Tried::new(IdOrdMap::new(alloc)));
+    ten_thousand(&rt, coming, going, Tried::new(IdHashMap::new(alloc)));
     Ok(())
 }
 
 #[test]
 fn random_hasher(rt: HostRuntime) -> Result<(), Fail> {
     let alloc = rt.alloc();
-    let mut map = Tried::new(IdHashMap::with_hasher(alloc, RandomState::new(&rt)?));
     let items = in_order(alloc, 13, 2)?;
-    assert!(rt; all_go_in(&mut map, items.as_slice()));
-    assert!(rt; map.insert(numbered(7)) == Inserted::Duplicate(numbered(7), Some(numbered(7))));
-    assert!(rt; all_are_found(&map, items.as_slice()));
-    assert!(rt; all_come_out(&mut map, items.as_slice()));
+    let hasher = RandomState::new(&rt)?;
+    let mut map = Tried::new(IdHashMap::with_hasher(alloc, hasher));
+    check(&rt, all_go_in(&mut map, items.as_slice()));
+    check(
+        &rt,
+        map.insert(numbered(7)) == Inserted::Duplicate(numbered(7), Some(numbered(7))),
+    );
+    check(&rt, all_are_found(&map, items.as_slice()));
+    check(&rt, all_come_out(&mut map, items.as_slice()));
     Ok(())
 }
 
 // The numbers of a map without items.
 macro_rules! count_nothing {
     ($rt:ident, $map:ident) => {{
-        assert!($rt; $map.is_empty());
-        assert!($rt; $map.capacity() == 0 && $map.vacant() == 0);
-        assert!($rt; $map.limit() == 4_294_967_295);
-        assert!($rt; !$map.contains_key(&1));
+        check(&$rt, $map.is_empty());
+        check(&$rt, $map.capacity() == 0 && $map.vacant() == 0);
+        check(&$rt, $map.limit() == 4_294_967_295);
+        check(&$rt, !$map.contains_key(&1));
     }};
 }
 
@@ -162,16 +190,16 @@ fn numbers_of_an_empty_map(rt: HostRuntime) {
     count_nothing!(rt, ordered);
     let hashed: IdHashMap<Numbered> = IdHashMap::new(rt.alloc());
     count_nothing!(rt, hashed);
-    assert!(rt; hashed.spare() == 0);
+    check(&rt, hashed.spare() == 0);
 }
 
 // The numbers after one of two items has left.
 macro_rules! count_the_one_left {
     ($rt:ident, $map:ident) => {{
-        assert!($rt; is_put(&mut $map, numbered(1)) && is_put(&mut $map, numbered(2)));
-        assert!($rt; $map.remove(&1) == Some(numbered(1)));
-        assert!($rt; $map.vacant() == 1);
-        assert!($rt; $map.capacity() >= 2 && $map.contains_key(&2));
+        check(&$rt, is_put(&mut $map, numbered(1)) && is_put(&mut $map, numbered(2)));
+        check(&$rt, $map.remove(&1) == Some(numbered(1)));
+        check(&$rt, $map.vacant() == 1);
+        check(&$rt, $map.capacity() >= 2 && $map.contains_key(&2));
     }};
 }
 
@@ -181,5 +209,5 @@ fn numbers_after_a_removal(rt: HostRuntime) {
     count_the_one_left!(rt, ordered);
     let mut hashed = IdHashMap::new(rt.alloc());
     count_the_one_left!(rt, hashed);
-    assert!(rt; hashed.spare() >= 1);
+    check(&rt, hashed.spare() >= 1);
 }

@@ -2,6 +2,7 @@
 ghost use Rattle.std.specs.Prelude.{IfOk, nat_eq};
 ghost use Rattle.std.specs.Cmp.{on_equiv, on_per, nat_eq_equiv, partial_equiv_from_equiv};
 
+use crate::checks::check;
 use iddqd::{IdHashItem, IdHashMap, IdOrdItem, IdOrdMap};
 use iddqd_commands::KeyedMap;
 use iddqd_testing::items::Named;
@@ -30,13 +31,16 @@ fn filled<M: KeyedMap<Item = Named> + Drop>(mut map: M) -> Result<M, Fail>
 fn reading_walk(rt: HostRuntime) -> Result<(), Fail> {
     let map = filled(IdOrdMap::new(rt.alloc()))?;
     let mut walk = map.iter();
-    assert!(rt; walk.len() == 3 && walk.next().is_some());
-    assert!(rt; walk.len() == 2 && walk.next().is_some());
-    assert!(rt; walk.len() == 1 && walk.next().is_some());
-    assert!(rt; walk.len() == 0 && walk.next().is_none() && walk.next().is_none());
+    check(&rt, walk.len() == 3 && walk.next().is_some());
+    check(&rt, walk.len() == 2 && walk.next().is_some());
+    check(&rt, walk.len() == 1 && walk.next().is_some());
+    check(
+        &rt,
+        walk.len() == 0 && walk.next().is_none() && walk.next().is_none(),
+    );
     let mut walk = map.into_iter();
-    assert!(rt; walk.next() == Some(named(*b"bar", 20)));
-    assert!(rt; walk.len() == 2);
+    check(&rt, walk.next() == Some(named(*b"bar", 20)));
+    check(&rt, walk.len() == 2);
     Ok(())
 }
 
@@ -44,13 +48,16 @@ fn reading_walk(rt: HostRuntime) -> Result<(), Fail> {
 fn hash_reading_walk(rt: HostRuntime) -> Result<(), Fail> {
     let map = filled(IdHashMap::new(rt.alloc()))?;
     let mut walk = map.iter();
-    assert!(rt; walk.len() == 3 && walk.next().is_some());
-    assert!(rt; walk.len() == 2 && walk.next().is_some());
-    assert!(rt; walk.len() == 1 && walk.next().is_some());
-    assert!(rt; walk.len() == 0 && walk.next().is_none() && walk.next().is_none());
+    check(&rt, walk.len() == 3 && walk.next().is_some());
+    check(&rt, walk.len() == 2 && walk.next().is_some());
+    check(&rt, walk.len() == 1 && walk.next().is_some());
+    check(
+        &rt,
+        walk.len() == 0 && walk.next().is_none() && walk.next().is_none(),
+    );
     let mut walk = map.into_iter();
-    assert!(rt; walk.next().is_some());
-    assert!(rt; walk.len() == 2);
+    check(&rt, walk.next().is_some());
+    check(&rt, walk.len() == 2);
     Ok(())
 }
 
@@ -58,14 +65,14 @@ fn hash_reading_walk(rt: HostRuntime) -> Result<(), Fail> {
 fn walks_of_empty_maps(rt: HostRuntime) -> Result<(), Fail> {
     let ordered: IdOrdMap<Named> = IdOrdMap::new(rt.alloc());
     let mut walk = ordered.iter();
-    assert!(rt; walk.len() == 0);
-    assert!(rt; walk.next().is_none() && walk.next().is_none());
-    assert!(rt; ordered == IdOrdMap::new(rt.alloc()));
+    check(&rt, walk.len() == 0);
+    check(&rt, walk.next().is_none() && walk.next().is_none());
+    check(&rt, ordered == IdOrdMap::new(rt.alloc()));
     let hashed: IdHashMap<Named> = IdHashMap::new(rt.alloc());
     let mut walk = hashed.iter();
-    assert!(rt; walk.len() == 0);
-    assert!(rt; walk.next().is_none() && walk.next().is_none());
-    assert!(rt; hashed.eq(&IdHashMap::new(rt.alloc())));
+    check(&rt, walk.len() == 0);
+    check(&rt, walk.next().is_none() && walk.next().is_none());
+    check(&rt, hashed.eq(&IdHashMap::new(rt.alloc())));
     Ok(())
 }
 
@@ -111,13 +118,13 @@ fn equality_ignores_key(rt: HostRuntime) -> Result<(), Fail> {
     let alloc = rt.alloc();
     let mut one = IdOrdMap::new(alloc);
     let mut other = IdOrdMap::new(alloc);
-    assert!(rt; is_put(&mut one, Valued { key: 1, value: 7 }));
-    assert!(rt; is_put(&mut other, Valued { key: 2, value: 7 }));
-    assert!(rt; one == other);
+    check(&rt, is_put(&mut one, Valued { key: 1, value: 7 }));
+    check(&rt, is_put(&mut other, Valued { key: 2, value: 7 }));
+    check(&rt, one == other);
     let mut one = IdHashMap::new(alloc);
     let mut other = IdHashMap::new(alloc);
-    assert!(rt; is_put(&mut one, Valued { key: 1, value: 7 }));
-    assert!(rt; is_put(&mut other, Valued { key: 2, value: 7 }));
-    assert!(rt; !one.eq(&other));
+    check(&rt, is_put(&mut one, Valued { key: 1, value: 7 }));
+    check(&rt, is_put(&mut other, Valued { key: 2, value: 7 }));
+    check(&rt, !one.eq(&other));
     Ok(())
 }

@@ -231,11 +231,16 @@ fn of_seed(seed: u64, calls: u32, letters: u32, limit: u32) -> Run {
     }
 }
 
+// The run, once it is printed what it is made of.
+fn announced(rt: &impl Print, run: Run) -> Result<Run, Fail> {
+    println!(rt; "{run:?}")?;
+    Ok(run)
+}
+
 #[test]
 fn ordered_calls(rt: HostRuntime) -> Result<(), Fail> {
     for seed in [11, 12, 13] {
-        let run = of_seed(seed, 10_000, 3, MAX_ITEMS);
-        println!(rt; "{run:?}")?;
+        let run = announced(&rt, of_seed(seed, 10_000, 3, MAX_ITEMS))?;
         run_ordered(&rt, rt.alloc(), run)?;
     }
     Ok(())
@@ -244,8 +249,7 @@ fn ordered_calls(rt: HostRuntime) -> Result<(), Fail> {
 #[test]
 fn ordered_calls_of_many_names(rt: HostRuntime) -> Result<(), Fail> {
     for seed in [21, 22] {
-        let run = of_seed(seed, 20_000, 7, MAX_ITEMS);
-        println!(rt; "{run:?}")?;
+        let run = announced(&rt, of_seed(seed, 20_000, 7, MAX_ITEMS))?;
         run_ordered(&rt, rt.alloc(), run)?;
     }
     Ok(())
@@ -254,8 +258,7 @@ fn ordered_calls_of_many_names(rt: HostRuntime) -> Result<(), Fail> {
 #[test]
 fn ordered_calls_at_the_limit(rt: HostRuntime) -> Result<(), Fail> {
     for seed in [31, 32] {
-        let run = of_seed(seed, 10_000, 3, 14);
-        println!(rt; "{run:?}")?;
+        let run = announced(&rt, of_seed(seed, 10_000, 3, 14))?;
         run_ordered(&rt, rt.alloc(), run)?;
     }
     Ok(())
@@ -264,8 +267,7 @@ fn ordered_calls_at_the_limit(rt: HostRuntime) -> Result<(), Fail> {
 #[test]
 fn hash_calls(rt: HostRuntime) -> Result<(), Fail> {
     for seed in [41, 42] {
-        let run = of_seed(seed, 20_000, 7, MAX_ITEMS);
-        println!(rt; "{run:?}")?;
+        let run = announced(&rt, of_seed(seed, 20_000, 7, MAX_ITEMS))?;
         let map = Tried::new(IdHashMap::new(rt.alloc()));
         run_hashed(&rt, rt.alloc(), run, map)?;
     }
@@ -275,8 +277,7 @@ fn hash_calls(rt: HostRuntime) -> Result<(), Fail> {
 #[test]
 fn hash_calls_at_the_limit(rt: HostRuntime) -> Result<(), Fail> {
     for seed in [51, 52] {
-        let run = of_seed(seed, 10_000, 3, 14);
-        println!(rt; "{run:?}")?;
+        let run = announced(&rt, of_seed(seed, 10_000, 3, 14))?;
         let hasher = iddqd::DefaultHashBuilder::new();
         let map = Tried::new(IdHashMap::with_limit(rt.alloc(), 14, hasher));
         run_hashed(&rt, rt.alloc(), run, map)?;
@@ -287,8 +288,7 @@ fn hash_calls_at_the_limit(rt: HostRuntime) -> Result<(), Fail> {
 #[test]
 fn calls_of_equal_hashes(rt: HostRuntime) -> Result<(), Fail> {
     for seed in [61, 62, 63] {
-        let run = of_seed(seed, 10_000, 3, MAX_ITEMS);
-        println!(rt; "{run:?}")?;
+        let run = announced(&rt, of_seed(seed, 10_000, 3, MAX_ITEMS))?;
         let hasher: BuildHasherDefault<ZeroHasher> = BuildHasherDefault::new();
         let map = Tried::new(IdHashMap::with_hasher(rt.alloc(), hasher));
         run_hashed(&rt, rt.alloc(), run, map)?;
@@ -299,8 +299,7 @@ fn calls_of_equal_hashes(rt: HostRuntime) -> Result<(), Fail> {
 #[test]
 fn calls_of_random_hashes(rt: HostRuntime) -> Result<(), Fail> {
     for seed in [71, 72] {
-        let run = of_seed(seed, 10_000, 7, MAX_ITEMS);
-        println!(rt; "{run:?}")?;
+        let run = announced(&rt, of_seed(seed, 10_000, 7, MAX_ITEMS))?;
         let map = Tried::new(IdHashMap::with_hasher(rt.alloc(), RandomState::new(&rt)?));
         run_hashed(&rt, rt.alloc(), run, map)?;
     }

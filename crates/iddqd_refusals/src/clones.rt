@@ -1,6 +1,7 @@
 //! Clones with a request refused: nothing is made, and the map is as it was.
 ghost use Rattle.std.specs.Prelude.{IfOk};
 
+use crate::words::tell;
 use iddqd::errors::TryReserveError;
 use iddqd::{IdHashMap, IdOrdMap};
 use iddqd_commands::KeyedMap;
@@ -67,8 +68,7 @@ fn clone(rt: HostRuntime) -> Result<(), Fail> {
         Ok(copy) => Ok(copy == map),
         Err(error) => Err(error),
     };
-    println!(rt; "{}", row_of_clone(is_equal, is_met)?)?;
-    Ok(())
+    tell(&rt, row_of_clone(is_equal, is_met))
 }
 
 #[test]
@@ -81,6 +81,5 @@ fn hash_clone(rt: HostRuntime) -> Result<(), Fail> {
         Ok(copy) => Ok(map.eq(&copy)),
         Err(error) => Err(error),
     };
-    println!(rt; "{}", row_of_clone(is_equal, is_met)?)?;
-    Ok(())
+    tell(&rt, row_of_clone(is_equal, is_met))
 }

@@ -1,4 +1,5 @@
 //! `run` with a request refused: the commands come back, or the replies are one of the rows that a refusal allows.
+use crate::words::tell;
 use iddqd::{IdHashMap, IdOrdMap};
 use iddqd_commands::{Command, KeyedMap, Reply};
 use iddqd_testing::heap::{arm, is_met};
@@ -21,7 +22,7 @@ fn commands(alloc: Global) -> Result<Vec<Command<Kept, u32, Untouched>>, AllocEr
 }
 
 /// What a reply says, its items by their values; where memory was refused, the item that came back.
-#[derive(Clone, Copy, Debug, PartialEq, Eq)]
+#[derive(Clone, Copy, PartialEq, Eq)]
 enum Said {
     Inserted,
     Duplicate(u32, Option<u32>),
@@ -140,13 +141,11 @@ where
 #[test]
 fn run_of_commands(rt: HostRuntime) -> Result<(), Fail> {
     let map = Tried::new(IdOrdMap::new(rt.alloc()));
-    println!(rt; "{}", swept_run(rt.alloc(), map)?)?;
-    Ok(())
+    tell(&rt, swept_run(rt.alloc(), map))
 }
 
 #[test]
 fn hash_run_of_commands(rt: HostRuntime) -> Result<(), Fail> {
     let map = Tried::new(IdHashMap::new(rt.alloc()));
-    println!(rt; "{}", swept_run(rt.alloc(), map)?)?;
-    Ok(())
+    tell(&rt, swept_run(rt.alloc(), map))
 }

@@ -1,4 +1,5 @@
 //! Insertions by an entry that are refused, on both maps.
+use crate::words::tell;
 use iddqd::{IdHashMap, IdOrdMap};
 use iddqd_commands::KeyedMap;
 use iddqd_testing::caseless::{Caseless, Coarse, item_of, spelled};
@@ -117,74 +118,63 @@ fn shown_insertion(alloc: Global, call: Shows) -> Result<&'static str, Fail> {
 
 #[test]
 fn insert_ref(rt: HostRuntime) -> Result<(), Fail> {
-    println!(rt; "{}", shown_insertion(rt.alloc(), Shows::InsertRef)?)?;
-    Ok(())
+    tell(&rt, shown_insertion(rt.alloc(), Shows::InsertRef))
 }
 
 #[test]
 fn or_insert_ref(rt: HostRuntime) -> Result<(), Fail> {
-    println!(rt; "{}", shown_insertion(rt.alloc(), Shows::OrInsertRef)?)?;
-    Ok(())
+    tell(&rt, shown_insertion(rt.alloc(), Shows::OrInsertRef))
 }
 
 #[test]
 fn or_insert_with_ref(rt: HostRuntime) -> Result<(), Fail> {
-    println!(rt; "{}", shown_insertion(rt.alloc(), Shows::OrInsertWithRef)?)?;
-    Ok(())
+    tell(&rt, shown_insertion(rt.alloc(), Shows::OrInsertWithRef))
 }
 
 #[test]
 fn vacant_insert(rt: HostRuntime) -> Result<(), Fail> {
     let map = Tried::new(IdOrdMap::new(rt.alloc()));
-    println!(rt; "{}", insertion(rt.alloc(), map, Call::Insert, 4)?)?;
-    Ok(())
+    tell(&rt, insertion(rt.alloc(), map, Call::Insert, 4))
 }
 
 #[test]
 fn hash_vacant_insert(rt: HostRuntime) -> Result<(), Fail> {
     let map = Tried::new(IdHashMap::new(rt.alloc()));
-    println!(rt; "{}", insertion(rt.alloc(), map, Call::Insert, 9)?)?;
-    Ok(())
+    tell(&rt, insertion(rt.alloc(), map, Call::Insert, 9))
 }
 
 #[test]
 fn insert_entry(rt: HostRuntime) -> Result<(), Fail> {
     let map = Tried::new(IdOrdMap::new(rt.alloc()));
-    println!(rt; "{}", insertion(rt.alloc(), map, Call::InsertEntry, 4)?)?;
-    Ok(())
+    tell(&rt, insertion(rt.alloc(), map, Call::InsertEntry, 4))
 }
 
 #[test]
 fn hash_insert_entry(rt: HostRuntime) -> Result<(), Fail> {
     let map = Tried::new(IdHashMap::new(rt.alloc()));
-    println!(rt; "{}", insertion(rt.alloc(), map, Call::InsertEntry, 9)?)?;
-    Ok(())
+    tell(&rt, insertion(rt.alloc(), map, Call::InsertEntry, 9))
 }
 
 #[test]
 fn or_insert(rt: HostRuntime) -> Result<(), Fail> {
     let map = Tried::new(IdOrdMap::new(rt.alloc()));
-    println!(rt; "{}", insertion(rt.alloc(), map, Call::OrInsert, 4)?)?;
-    Ok(())
+    tell(&rt, insertion(rt.alloc(), map, Call::OrInsert, 4))
 }
 
 #[test]
 fn hash_or_insert(rt: HostRuntime) -> Result<(), Fail> {
     let map = Tried::new(IdHashMap::new(rt.alloc()));
-    println!(rt; "{}", insertion(rt.alloc(), map, Call::OrInsert, 9)?)?;
-    Ok(())
+    tell(&rt, insertion(rt.alloc(), map, Call::OrInsert, 9))
 }
 
 #[test]
 fn or_insert_with(rt: HostRuntime) -> Result<(), Fail> {
     let map = Tried::new(IdOrdMap::new(rt.alloc()));
-    println!(rt; "{}", insertion(rt.alloc(), map, Call::OrInsertWith, 4)?)?;
-    Ok(())
+    tell(&rt, insertion(rt.alloc(), map, Call::OrInsertWith, 4))
 }
 
 #[test]
 fn hash_or_insert_with(rt: HostRuntime) -> Result<(), Fail> {
     let map = Tried::new(IdHashMap::new(rt.alloc()));
-    println!(rt; "{}", insertion(rt.alloc(), map, Call::OrInsertWith, 9)?)?;
-    Ok(())
+    tell(&rt, insertion(rt.alloc(), map, Call::OrInsertWith, 9))
 }

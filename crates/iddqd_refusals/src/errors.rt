@@ -1,4 +1,5 @@
 //! `into_owned` with a request refused: it hands itself back, and then succeeds.
+use crate::checks::check;
 use iddqd::errors::{DuplicateItem, Few};
 use iddqd_testing::heap::{arm, is_met};
 use iddqd_testing::kept::make_kept;
@@ -17,27 +18,27 @@ fn into_owned(rt: HostRuntime) -> Result<(), Fail> {
     let is_met = is_met(alloc);
     let owned = match outcome {
         Ok(owned) => {
-            assert!(rt; !is_met);
+            check(&rt, !is_met);
             owned
         }
         Err(lent) => {
             println!(rt; "handed_back")?;
-            assert!(rt; is_met);
-            assert!(rt; *lent.new_item().value == 4);
+            check(&rt, is_met);
+            check(&rt, *lent.new_item().value == 4);
             let Few::Three(a, b, c) = lent.duplicates() else {
                 return Err(Fail::from("other items"));
             };
-            assert!(rt; (*a.value, *b.value, *c.value) == (1, 2, 3));
+            check(&rt, (*a.value, *b.value, *c.value) == (1, 2, 3));
             let Ok(owned) = lent.into_owned() else {
                 return Err(Fail::from("no memory for a number"));
             };
             owned
         }
     };
-    assert!(rt; *owned.new_item().value == 4);
+    check(&rt, *owned.new_item().value == 4);
     let Few::Three(a, b, c) = owned.duplicates() else {
         return Err(Fail::from("other items"));
     };
-    assert!(rt; (*a.value, *b.value, *c.value) == (1, 2, 3));
+    check(&rt, (*a.value, *b.value, *c.value) == (1, 2, 3));
     Ok(())
 }

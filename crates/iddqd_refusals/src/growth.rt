@@ -1,4 +1,5 @@
 //! The ordered map as it grows, with each request of each insertion refused in its turn.
+use crate::checks::check;
 use iddqd::IdOrdMap;
 use iddqd_testing::heap::{arm, is_met};
 use iddqd_testing::items::Numbered;
@@ -42,8 +43,8 @@ fn growth_refused(rt: HostRuntime) -> Result<(), Fail> {
     for number in 1..13 {
         is_refused = grow(&mut map, number)? || is_refused;
     }
-    assert!(rt; is_met(rt.alloc()) == is_refused);
-    assert!(rt; walks(&map, 13));
+    check(&rt, is_met(rt.alloc()) == is_refused);
+    check(&rt, walks(&map, 13));
     println!(rt; "{}", if is_refused { "key_back" } else { "all_in" })?;
     Ok(())
 }

@@ -3,6 +3,8 @@
 #![tactic(auto)]
 
 #[cfg(test)]
+mod checks;
+#[cfg(test)]
 mod clones;
 #[cfg(test)]
 mod commands;
@@ -22,3 +24,5 @@ mod maps;
 mod reservations;
 #[cfg(test)]
 mod rooms;
+#[cfg(test)]
+mod words;

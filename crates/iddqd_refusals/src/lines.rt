@@ -1,4 +1,5 @@
 //! `serve` with a request refused: nothing is written, or the lines whose item was refused say so.
+use crate::words::tell;
 use iddqd_run::{Fault, Kind, serve};
 use iddqd_testing::heap::{arm, is_met};
 use std::alloc::Global;
@@ -56,22 +57,19 @@ fn row_of_lines(alloc: Global, kind: Kind) -> Result<&'static str, Fail> {
 // Memory for the item of `add bob 2` is refused: the row of this name comes in some run, as `tools/sweeps` wants it.
 #[test]
 fn first_item_refused(rt: HostRuntime) -> Result<(), Fail> {
-    println!(rt; "{}", row_of_lines(rt.alloc(), Kind::Ord)?)?;
-    Ok(())
+    tell(&rt, row_of_lines(rt.alloc(), Kind::Ord))
 }
 
 // The same of `add bob 9`.
 #[test]
 fn second_item_refused(rt: HostRuntime) -> Result<(), Fail> {
-    println!(rt; "{}", row_of_lines(rt.alloc(), Kind::Ord)?)?;
-    Ok(())
+    tell(&rt, row_of_lines(rt.alloc(), Kind::Ord))
 }
 
 // The same five lines over a hash map.
 #[test]
 fn hash_lines(rt: HostRuntime) -> Result<(), Fail> {
-    println!(rt; "{}", row_of_lines(rt.alloc(), Kind::Hash)?)?;
-    Ok(())
+    tell(&rt, row_of_lines(rt.alloc(), Kind::Hash))
 }
 
 // How many lines of the text say that memory was refused.
@@ -99,14 +97,12 @@ fn row_of_served(alloc: Global, kind: Kind) -> Result<&'static str, Fail> {
 
 #[test]
 fn served_lines(rt: HostRuntime) -> Result<(), Fail> {
-    println!(rt; "{}", row_of_served(rt.alloc(), Kind::Ord)?)?;
-    Ok(())
+    tell(&rt, row_of_served(rt.alloc(), Kind::Ord))
 }
 
 #[test]
 fn hash_served_lines(rt: HostRuntime) -> Result<(), Fail> {
-    println!(rt; "{}", row_of_served(rt.alloc(), Kind::Hash)?)?;
-    Ok(())
+    tell(&rt, row_of_served(rt.alloc(), Kind::Hash))
 }
 
 // Memory to put the entries of a hash map in order is refused in some run, and the line that asks for the list says so.
@@ -139,12 +135,10 @@ fn row_of_added(alloc: Global, kind: Kind) -> Result<&'static str, Fail> {
 
 #[test]
 fn added_pairs(rt: HostRuntime) -> Result<(), Fail> {
-    println!(rt; "{}", row_of_added(rt.alloc(), Kind::Ord)?)?;
-    Ok(())
+    tell(&rt, row_of_added(rt.alloc(), Kind::Ord))
 }
 
 #[test]
 fn hash_added_pairs(rt: HostRuntime) -> Result<(), Fail> {
-    println!(rt; "{}", row_of_added(rt.alloc(), Kind::Hash)?)?;
-    Ok(())
+    tell(&rt, row_of_added(rt.alloc(), Kind::Hash))
 }

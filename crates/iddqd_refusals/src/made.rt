@@ -1,6 +1,7 @@
 //! Maps that are made, of either kind, with a request refused: then nothing is.
 use crate::maps::holds;
 use crate::rooms::numbers;
+use crate::words::tell;
 use iddqd::errors::{FromIterError, TryReserveError};
 use iddqd::{IdHashMap, IdOrdMap};
 use iddqd_commands::KeyedMap;
@@ -24,16 +25,14 @@ fn word<M: Drop>(made: Result<M, TryReserveError>, is_met: bool) -> Result<&'sta
 fn with_capacity(rt: HostRuntime) -> Result<(), Fail> {
     arm(rt.alloc());
     let made = IdOrdMap::<Numbered>::with_capacity(rt.alloc(), 20);
-    println!(rt; "{}", word(made, is_met(rt.alloc()))?)?;
-    Ok(())
+    tell(&rt, word(made, is_met(rt.alloc())))
 }
 
 #[test]
 fn hash_with_capacity(rt: HostRuntime) -> Result<(), Fail> {
     arm(rt.alloc());
     let made = IdHashMap::<Numbered>::with_capacity(rt.alloc(), 20);
-    println!(rt; "{}", word(made, is_met(rt.alloc()))?)?;
-    Ok(())
+    tell(&rt, word(made, is_met(rt.alloc())))
 }
 
 // The word for a map of twenty numbers.
@@ -86,24 +85,20 @@ fn error_of(stopped: FromIterError<Numbered>) -> Option<TryReserveError> {
 
 #[test]
 fn from_iter(rt: HostRuntime) -> Result<(), Fail> {
-    println!(rt; "{}", collection::<IdOrdMap<Numbered>>(rt.alloc())?)?;
-    Ok(())
+    tell(&rt, collection::<IdOrdMap<Numbered>>(rt.alloc()))
 }
 
 #[test]
 fn hash_from_iter(rt: HostRuntime) -> Result<(), Fail> {
-    println!(rt; "{}", collection::<IdHashMap<Numbered>>(rt.alloc())?)?;
-    Ok(())
+    tell(&rt, collection::<IdHashMap<Numbered>>(rt.alloc()))
 }
 
 #[test]
 fn from_iter_unique(rt: HostRuntime) -> Result<(), Fail> {
-    println!(rt; "{}", unique_collection::<IdOrdMap<Numbered>>(rt.alloc())?)?;
-    Ok(())
+    tell(&rt, unique_collection::<IdOrdMap<Numbered>>(rt.alloc()))
 }
 
 #[test]
 fn hash_from_iter_unique(rt: HostRuntime) -> Result<(), Fail> {
-    println!(rt; "{}", unique_collection::<IdHashMap<Numbered>>(rt.alloc())?)?;
-    Ok(())
+    tell(&rt, unique_collection::<IdHashMap<Numbered>>(rt.alloc()))
 }

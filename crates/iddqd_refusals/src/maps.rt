@@ -1,4 +1,6 @@
 //! Insertions that are refused, and lookups that need no memory, on both maps.
+use crate::checks::check;
+use crate::words::tell;
 use iddqd::{IdHashMap, IdOrdMap};
 use iddqd_commands::KeyedMap;
 use iddqd_testing::heap::{arm, is_met};
@@ -111,44 +113,38 @@ where
 #[test]
 fn insert_unique(rt: HostRuntime) -> Result<(), Fail> {
     let map = Tried::new(IdOrdMap::new(rt.alloc()));
-    println!(rt; "{}", insertion(rt.alloc(), map, Call::Unique, 4)?)?;
-    Ok(())
+    tell(&rt, insertion(rt.alloc(), map, Call::Unique, 4))
 }
 
 // The 78th of ascending numbers gives the tree its third level, and no unused node is left.
 #[test]
 fn prepare_of_three_levels(rt: HostRuntime) -> Result<(), Fail> {
     let map = Tried::new(IdOrdMap::new(rt.alloc()));
-    println!(rt; "{}", insertion(rt.alloc(), map, Call::Unique, 78)?)?;
-    Ok(())
+    tell(&rt, insertion(rt.alloc(), map, Call::Unique, 78))
 }
 
 #[test]
 fn insert_overwrite(rt: HostRuntime) -> Result<(), Fail> {
     let map = Tried::new(IdOrdMap::new(rt.alloc()));
-    println!(rt; "{}", insertion(rt.alloc(), map, Call::Overwrite, 4)?)?;
-    Ok(())
+    tell(&rt, insertion(rt.alloc(), map, Call::Overwrite, 4))
 }
 
 #[test]
 fn hash_insert_unique(rt: HostRuntime) -> Result<(), Fail> {
     let map = Tried::new(IdHashMap::new(rt.alloc()));
-    println!(rt; "{}", insertion(rt.alloc(), map, Call::Unique, 8)?)?;
-    Ok(())
+    tell(&rt, insertion(rt.alloc(), map, Call::Unique, 8))
 }
 
 #[test]
 fn hash_insert_unique_into_full_index(rt: HostRuntime) -> Result<(), Fail> {
     let map = Tried::new(IdHashMap::new(rt.alloc()));
-    println!(rt; "{}", insertion(rt.alloc(), map, Call::Unique, 9)?)?;
-    Ok(())
+    tell(&rt, insertion(rt.alloc(), map, Call::Unique, 9))
 }
 
 #[test]
 fn hash_insert_overwrite(rt: HostRuntime) -> Result<(), Fail> {
     let map = Tried::new(IdHashMap::new(rt.alloc()));
-    println!(rt; "{}", insertion(rt.alloc(), map, Call::Overwrite, 9)?)?;
-    Ok(())
+    tell(&rt, insertion(rt.alloc(), map, Call::Overwrite, 9))
 }
 
 // Fills the map with so many numbers, puts each in again by both insertions, and clears the map: whether that went well, and met a request.
@@ -176,21 +172,21 @@ where
 #[test]
 fn akin_insertions_without_memory(rt: HostRuntime) -> Result<(), Fail> {
     let map = Tried::new(IdOrdMap::new(rt.alloc()));
-    assert!(rt; akin_insertions(rt.alloc(), map, 8)? == (true, false));
+    check(&rt, akin_insertions(rt.alloc(), map, 8)? == (true, false));
     Ok(())
 }
 
 #[test]
 fn hash_akin_insertions_without_memory(rt: HostRuntime) -> Result<(), Fail> {
     let map = Tried::new(IdHashMap::new(rt.alloc()));
-    assert!(rt; akin_insertions(rt.alloc(), map, 8)? == (true, false));
+    check(&rt, akin_insertions(rt.alloc(), map, 8)? == (true, false));
     Ok(())
 }
 
 #[test]
 fn hash_akin_insertions_into_full_index(rt: HostRuntime) -> Result<(), Fail> {
     let map = Tried::new(IdHashMap::new(rt.alloc()));
-    assert!(rt; akin_insertions(rt.alloc(), map, 9)? == (true, false));
+    check(&rt, akin_insertions(rt.alloc(), map, 9)? == (true, false));
     Ok(())
 }
 
@@ -214,13 +210,13 @@ where
 #[test]
 fn lookups_without_memory(rt: HostRuntime) -> Result<(), Fail> {
     let map = Tried::new(IdOrdMap::new(rt.alloc()));
-    assert!(rt; lookups(rt.alloc(), map)? == (true, false));
+    check(&rt, lookups(rt.alloc(), map)? == (true, false));
     Ok(())
 }
 
 #[test]
 fn hash_lookups_without_memory(rt: HostRuntime) -> Result<(), Fail> {
     let map = Tried::new(IdHashMap::new(rt.alloc()));
-    assert!(rt; lookups(rt.alloc(), map)? == (true, false));
+    check(&rt, lookups(rt.alloc(), map)? == (true, false));
     Ok(())
 }

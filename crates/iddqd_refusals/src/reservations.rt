@@ -1,4 +1,6 @@
 //! What was reserved is there where memory is refused.
+use crate::checks::check;
+use crate::words::tell;
 use iddqd::{DefaultHashBuilder, IdHashMap};
 use iddqd_testing::heap::{arm, is_met};
 use iddqd_testing::items::Numbered;
@@ -58,15 +60,15 @@ fn reservation(
 #[test]
 fn reservation_holds(rt: HostRuntime) -> Result<(), Fail> {
     let mut map = IdHashMap::new(rt.alloc());
-    map.reserve(3)?;
-    println!(rt; "{}", reservation(rt.alloc(), Tried::new(map))?)?;
-    Ok(())
+    let is_reserved = map.reserve(3).is_ok();
+    check(&rt, is_reserved);
+    tell(&rt, reservation(rt.alloc(), Tried::new(map)))
 }
 
 #[test]
 fn tried_reservation_holds(rt: HostRuntime) -> Result<(), Fail> {
     let mut map = IdHashMap::new(rt.alloc());
-    map.try_reserve(3)?;
-    println!(rt; "{}", reservation(rt.alloc(), Tried::new(map))?)?;
-    Ok(())
+    let is_reserved = map.try_reserve(3).is_ok();
+    check(&rt, is_reserved);
+    tell(&rt, reservation(rt.alloc(), Tried::new(map)))
 }

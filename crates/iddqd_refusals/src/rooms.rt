@@ -1,5 +1,6 @@
 //! Reservations, shrinking and calls on many items that are refused, on both maps.
 use crate::maps::{fill, holds};
+use crate::words::tell;
 use iddqd::errors::ExtendError;
 use iddqd::{IdHashMap, IdOrdMap};
 use iddqd_commands::KeyedMap;
@@ -35,20 +36,18 @@ where
 
 #[test]
 fn reserve(rt: HostRuntime) -> Result<(), Fail> {
-    println!(rt;
-        "{}",
-        reservation(rt.alloc(), Tried::new(IdOrdMap::new(rt.alloc())))?
-    )?;
-    Ok(())
+    tell(
+        &rt,
+        reservation(rt.alloc(), Tried::new(IdOrdMap::new(rt.alloc()))),
+    )
 }
 
 #[test]
 fn hash_reserve(rt: HostRuntime) -> Result<(), Fail> {
-    println!(rt;
-        "{}",
-        reservation(rt.alloc(), Tried::new(IdHashMap::new(rt.alloc())))?
-    )?;
-    Ok(())
+    tell(
+        &rt,
+        reservation(rt.alloc(), Tried::new(IdHashMap::new(rt.alloc()))),
+    )
 }
 
 // The word for a shrink of a map of ten numbers that had forty.
@@ -76,20 +75,18 @@ where
 
 #[test]
 fn shrink_to_fit(rt: HostRuntime) -> Result<(), Fail> {
-    println!(rt;
-        "{}",
-        shrink(rt.alloc(), Tried::new(IdOrdMap::new(rt.alloc())))?
-    )?;
-    Ok(())
+    tell(
+        &rt,
+        shrink(rt.alloc(), Tried::new(IdOrdMap::new(rt.alloc()))),
+    )
 }
 
 #[test]
 fn hash_shrink_to_fit(rt: HostRuntime) -> Result<(), Fail> {
-    println!(rt;
-        "{}",
-        shrink(rt.alloc(), Tried::new(IdHashMap::new(rt.alloc())))?
-    )?;
-    Ok(())
+    tell(
+        &rt,
+        shrink(rt.alloc(), Tried::new(IdHashMap::new(rt.alloc()))),
+    )
 }
 
 // The numbers from the one up to the other, each with the value 5.
@@ -127,20 +124,18 @@ where
 
 #[test]
 fn extend(rt: HostRuntime) -> Result<(), Fail> {
-    println!(rt;
-        "{}",
-        extension(rt.alloc(), Tried::new(IdOrdMap::new(rt.alloc())))?
-    )?;
-    Ok(())
+    tell(
+        &rt,
+        extension(rt.alloc(), Tried::new(IdOrdMap::new(rt.alloc()))),
+    )
 }
 
 #[test]
 fn hash_extend(rt: HostRuntime) -> Result<(), Fail> {
-    println!(rt;
-        "{}",
-        extension(rt.alloc(), Tried::new(IdHashMap::new(rt.alloc())))?
-    )?;
-    Ok(())
+    tell(
+        &rt,
+        extension(rt.alloc(), Tried::new(IdHashMap::new(rt.alloc()))),
+    )
 }
 
 // The word for the numbers 5 to 24 added to a map of five numbers.
@@ -177,18 +172,16 @@ fn stop_of(added: Added<Numbered>) -> Option<ExtendError<Numbered>> {
 
 #[test]
 fn extend_unique(rt: HostRuntime) -> Result<(), Fail> {
-    println!(rt;
-        "{}",
-        addition(rt.alloc(), Tried::new(IdOrdMap::new(rt.alloc())))?
-    )?;
-    Ok(())
+    tell(
+        &rt,
+        addition(rt.alloc(), Tried::new(IdOrdMap::new(rt.alloc()))),
+    )
 }
 
 #[test]
 fn hash_extend_unique(rt: HostRuntime) -> Result<(), Fail> {
-    println!(rt;
-        "{}",
-        addition(rt.alloc(), Tried::new(IdHashMap::new(rt.alloc())))?
-    )?;
-    Ok(())
+    tell(
+        &rt,
+        addition(rt.alloc(), Tried::new(IdHashMap::new(rt.alloc()))),
+    )
 }

@@ -10,7 +10,7 @@ use std::alloc::Global;
 use std::hash::BuildHasher;
 
 /// What adding many items left: all of them, the first conflict's new item and the one that is there, or a refusal.
-#[derive(Clone, Copy, Debug, PartialEq, Eq)]
+#[derive(Clone, Copy, PartialEq, Eq)]
 pub enum Added<T> {
     All,
     Conflict(T, Option<T>),

@@ -11,7 +11,7 @@ use std::hash::BuildHasher;
 use std::marker::Model;
 
 /// Whether a call found, put in or took out an item, and how many steps it took.
-#[derive(Clone, Copy, Debug, PartialEq, Eq)]
+#[derive(Clone, Copy, PartialEq, Eq)]
 pub struct Outcome {
     pub is_done: bool,
     pub steps: u32,

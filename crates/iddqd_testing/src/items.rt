@@ -2,7 +2,7 @@
 use iddqd::{IdHashItem, IdOrdItem};
 
 /// A name of three letters and a value.
-#[derive(Clone, Copy, Debug, PartialEq, Eq)]
+#[derive(Clone, Copy, PartialEq, Eq)]
 pub struct Named {
     pub name: [u8; 3],
     pub value: u32,
@@ -29,7 +29,7 @@ impl IdHashItem for Named {
 }
 
 /// A number and its value.
-#[derive(Clone, Copy, Debug, PartialEq, Eq)]
+#[derive(Clone, Copy, PartialEq, Eq)]
 pub struct Numbered {
     pub number: u32,
     pub value: u32,
@@ -56,7 +56,7 @@ impl IdHashItem for Numbered {
 }
 
 /// A number, which is the key, and three fields beside it.
-#[derive(Clone, Copy, Debug, PartialEq, Eq)]
+#[derive(Clone, Copy, PartialEq, Eq)]
 pub struct Wide {
     pub number: u8,
     pub letter: char,
@@ -112,14 +112,14 @@ impl IdHashItem for Titled {
 }
 
 /// A key of two fields.
-#[derive(Clone, Copy, Debug, PartialEq, Eq, PartialOrd, Ord, Hash)]
+#[derive(Clone, Copy, PartialEq, Eq, PartialOrd, Ord, Hash)]
 pub struct Release {
     pub name: [u8; 9],
     pub version: u32,
 }
 
 /// What was released.
-#[derive(Clone, Copy, Debug, PartialEq, Eq)]
+#[derive(Clone, Copy, PartialEq, Eq)]
 pub struct Artifact {
     pub release: Release,
     pub data: u32,

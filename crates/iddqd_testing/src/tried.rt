@@ -12,7 +12,7 @@ use std::hash::BuildHasher;
 use std::marker::Model;
 
 /// What an insertion left: nothing in its way, the new item and the one that is there, or a refusal.
-#[derive(Clone, Copy, Debug, PartialEq, Eq)]
+#[derive(Clone, Copy, PartialEq, Eq)]
 pub enum Inserted<T> {
     Done,
     Duplicate(T, Option<T>),

@@ -5,7 +5,7 @@ use crate::items::Numbered;
 use iddqd::Visit;
 
 /// Leaves each item as it is, and keeps it.
-#[derive(Clone, Copy, Debug, PartialEq, Eq)]
+#[derive(Clone, Copy, PartialEq, Eq)]
 pub struct Untouched;
 
 impl<T> Visit<T> for Untouched {
@@ -17,7 +17,7 @@ impl<T> Visit<T> for Untouched {
 }
 
 /// What is done with a numbered item: one more for its value, and odd numbers stay; or 0 for its value, and none stays.
-#[derive(Clone, Copy, Debug, PartialEq, Eq)]
+#[derive(Clone, Copy, PartialEq, Eq)]
 pub enum Change {
     /// With the digits of the numbers that were seen.
     KeepOdd(u32),

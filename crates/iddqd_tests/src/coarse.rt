@@ -1,4 +1,5 @@
 //! Rows of keys that are equal without regard to case.
+use crate::checks::check;
 use iddqd::{IdHashMap, IdOrdMap};
 use iddqd_commands::{Command, KeyedMap, Reply};
 use iddqd_testing::caseless::{Caseless, Coarse, item_of, spelled};
@@ -8,31 +9,35 @@ use std::alloc::Global;
 use std::process::Abort;
 use std::test::Fail;
 
-fn overwrites<M: KeyedMap<Item = Coarse, Key = Caseless>>(
-    rt: &impl Abort,
-    mut map: Tried<M>,
-) -> Result<(), Fail>
+// What the item replaced, if it was put.
+fn replaced_by<M: KeyedMap<Item = Coarse>>(
+    map: &mut Tried<M>,
+    item: Coarse,
+) -> Option<Option<([u8; 3], u32)>> {
+    let old = map.overwrite(item).ok()?;
+    Some(old.as_ref().map(spelled))
+}
+
+fn overwrites<M: KeyedMap<Item = Coarse, Key = Caseless>>(rt: &impl Abort, mut map: Tried<M>)
 where
     M: Drop,
 {
-    let Ok(first) = map.overwrite(item_of(*b"Foo", 1)) else {
-        return Err(Fail::from("no memory for an item"));
-    };
-    assert!(rt; first.is_none());
-    let Ok(Some(old)) = map.overwrite(item_of(*b"FOO", 2)) else {
-        return Err(Fail::from("no item was replaced"));
-    };
-    assert!(rt; spelled(&old) == (*b"Foo", 1));
-    let stored = map.get(&Caseless(*b"foo")).map(spelled);
-    assert!(rt; stored == Some((*b"FOO", 2)));
-    assert!(rt; map.len() == 1);
-    Ok(())
+    check(rt, replaced_by(&mut map, item_of(*b"Foo", 1)) == Some(None));
+    check(
+        rt,
+        replaced_by(&mut map, item_of(*b"FOO", 2)) == Some(Some((*b"Foo", 1))),
+    );
+    check(
+        rt,
+        map.get(&Caseless(*b"foo")).map(spelled) == Some((*b"FOO", 2)),
+    );
+    check(rt, map.len() == 1);
 }
 
 #[test]
-fn coarse_overwrite(rt: HostRuntime) -> Result<(), Fail> {
-    overwrites(&rt, Tried::new(IdOrdMap::new(rt.alloc())))?;
-    overwrites(&rt, Tried::new(IdHashMap::new(rt.alloc())))
+fn coarse_overwrite(rt: HostRuntime) {
+    overwrites(&rt, Tried::new(IdOrdMap::new(rt.alloc())));
+    overwrites(&rt, Tried::new(IdHashMap::new(rt.alloc())));
 }
 
 fn coarse_commands(alloc: Global) -> Result<Vec<Command<Coarse, Caseless, Untouched>>, Fail> {
@@ -86,7 +91,7 @@ where
 #[test]
 fn coarse_overwrite_by_commands(rt: HostRuntime) -> Result<(), Fail> {
     let alloc = rt.alloc();
-    assert!(rt; is_run_so(alloc, Tried::new(IdOrdMap::new(alloc)))?);
-    assert!(rt; is_run_so(alloc, Tried::new(IdHashMap::new(alloc)))?);
+    check(&rt, is_run_so(alloc, Tried::new(IdOrdMap::new(alloc)))?);
+    check(&rt, is_run_so(alloc, Tried::new(IdHashMap::new(alloc)))?);
     Ok(())
 }

@@ -1,4 +1,5 @@
 //! Rows of calls on many items.
+use crate::checks::check;
 use crate::insertions::{BAR, FOO, OTHER_FOO, wide_item};
 use iddqd::errors::{FromIterError, TryReserveError};
 use iddqd::{DefaultHashBuilder, IdHashMap, IdOrdMap};
@@ -41,7 +42,8 @@ where
     let (first, second) = (wide_item(1, 'a', 'x'), wide_item(2, 'b', 'y'));
     let third = wide_item(1, 'c', 'z');
     let items = Vec::from_array(alloc, [first, second, third])?;
-    assert!(rt; first_repeat::<M, Wide>(alloc, items) == Some((third, 1, Some(first))));
+    let repeat = first_repeat::<M, Wide>(alloc, items);
+    check(rt, repeat == Some((third, 1, Some(first))));
     Ok(())
 }
 
@@ -54,10 +56,26 @@ where
 {
     let foos = [1, 2, 3].map(|value| named(*b"foo", value));
     let repeat = first_repeat::<M, Named>(alloc, Vec::from_array(alloc, foos)?);
-    assert!(rt; repeat == Some((foos[1], 1, Some(foos[0]))));
+    check(rt, repeat == Some((foos[1], 1, Some(foos[0]))));
+    Ok(())
+}
+
+fn collect_what_differs<M: KeyedMap<Item = Named> + Drop>(
+    rt: &impl Abort,
+    alloc: Global,
+) -> Result<(), AllocError>
+where
+    Tried<M>: Bulk<Named>,
+{
     let two = Vec::from_array(alloc, [FOO, named(*b"bar", 99)])?;
-    assert!(rt; len_of::<M>(Tried::collected_unique(alloc, two)) == Some(2));
-    assert!(rt; len_of::<M>(Tried::collected_unique(alloc, Vec::new(alloc))) == Some(0));
+    check(
+        rt,
+        len_of::<M>(Tried::collected_unique(alloc, two)) == Some(2),
+    );
+    check(
+        rt,
+        len_of::<M>(Tried::collected_unique(alloc, Vec::new(alloc))) == Some(0),
+    );
     Ok(())
 }
 
@@ -78,24 +96,35 @@ fn collect_unique(rt: HostRuntime) -> Result<(), Fail> {
     collect_by_number::<IdHashMap<Wide>>(&rt, alloc)?;
     collect_by_name::<IdOrdMap<Named>>(&rt, alloc)?;
     collect_by_name::<IdHashMap<Named>>(&rt, alloc)?;
+    collect_what_differs::<IdOrdMap<Named>>(&rt, alloc)?;
+    collect_what_differs::<IdHashMap<Named>>(&rt, alloc)?;
     Ok(())
+}
+
+// Items of two numbers; the last one has the number of the first.
+fn of_two_numbers(alloc: Global) -> Result<Vec<Wide>, AllocError> {
+    Ok(Vec::from_array(
+        alloc,
+        [
+            wide_item(1, 'a', 'x'),
+            wide_item(2, 'b', 'y'),
+            wide_item(1, 'c', 'z'),
+        ],
+    )?)
 }
 
 fn overwritten_by_number<M: KeyedMap<Item = Wide, Key = u8> + Drop>(
     rt: &impl Abort,
-    alloc: Global,
+    items: Vec<Wide>,
     mut map: Tried<M>,
-) -> Result<(), AllocError>
+)
 where
     Tried<M>: Bulk<Wide>,
 {
-    let last = wide_item(1, 'c', 'z');
-    let items = [wide_item(1, 'a', 'x'), wide_item(2, 'b', 'y'), last];
-    assert!(rt; map.extend(Vec::from_array(alloc, items)?).is_ok());
-    assert!(rt; map.len() == 2);
-    assert!(rt; map.get(&1).copied() == Some(last));
-    assert!(rt; map.get(&2).copied() == Some(items[1]));
-    Ok(())
+    check(rt, map.extend(items).is_ok());
+    check(rt, map.len() == 2);
+    check(rt, map.get(&1).copied() == Some(wide_item(1, 'c', 'z')));
+    check(rt, map.get(&2).copied() == Some(wide_item(2, 'b', 'y')));
 }
 
 // Whether there are two items, and these two.
@@ -109,31 +138,52 @@ fn has_both<M: KeyedMap<Item = Named, Key = [u8; 3]>>(
 
 fn overwritten_by_name<M: KeyedMap<Item = Named, Key = [u8; 3]> + Drop>(
     rt: &impl Abort,
-    alloc: Global,
+    items: Vec<Named>,
     mut map: Tried<M>,
-) -> Result<(), Fail>
+)
 where
     Tried<M>: Bulk<Named>,
 {
-    assert!(rt; map.is_put(FOO));
-    assert!(rt;
-        map.extend(Vec::from_array(alloc, [OTHER_FOO, BAR])?)
-            .is_ok()
-    );
-    assert!(rt; has_both(&map, OTHER_FOO, BAR));
+    check(rt, map.is_put(FOO));
+    check(rt, map.extend(items).is_ok());
+    check(rt, has_both(&map, OTHER_FOO, BAR));
+}
+
+fn collected_by_name<M: KeyedMap<Item = Named, Key = [u8; 3]> + Drop>(
+    rt: &impl Abort,
+    alloc: Global,
+) -> Result<(), AllocError>
+where
+    Tried<M>: Bulk<Named>,
+{
     let items = Vec::from_array(alloc, [FOO, BAR, OTHER_FOO])?;
-    let collected: Tried<M> = Tried::collected(alloc, items).map_err(|_| "refused")?;
-    assert!(rt; has_both(&collected, OTHER_FOO, BAR));
+    let collected: Option<Tried<M>> = Tried::collected(alloc, items).ok();
+    check(
+        rt,
+        matches!(&collected, Some(map) if has_both(map, OTHER_FOO, BAR)),
+    );
     Ok(())
 }
 
 #[test]
 fn extend_overwrites(rt: HostRuntime) -> Result<(), Fail> {
     let alloc = rt.alloc();
-    overwritten_by_number(&rt, alloc, Tried::new(IdOrdMap::new(alloc)))?;
-    overwritten_by_number(&rt, alloc, Tried::new(IdHashMap::new(alloc)))?;
-    overwritten_by_name(&rt, alloc, Tried::new(IdOrdMap::new(alloc)))?;
-    overwritten_by_name(&rt, alloc, Tried::new(IdHashMap::new(alloc)))?;
+    overwritten_by_number(
+        &rt,
+        of_two_numbers(alloc)?,
+        Tried::new(IdOrdMap::new(alloc)),
+    );
+    overwritten_by_number(
+        &rt,
+        of_two_numbers(alloc)?,
+        Tried::new(IdHashMap::new(alloc)),
+    );
+    let items = Vec::from_array(alloc, [OTHER_FOO, BAR])?;
+    overwritten_by_name(&rt, items, Tried::new(IdOrdMap::new(alloc)));
+    let items = Vec::from_array(alloc, [OTHER_FOO, BAR])?;
+    overwritten_by_name(&rt, items, Tried::new(IdHashMap::new(alloc)));
+    collected_by_name::<IdOrdMap<Named>>(&rt, alloc)?;
+    collected_by_name::<IdHashMap<Named>>(&rt, alloc)?;
     Ok(())
 }
 
@@ -154,11 +204,11 @@ fn lied_to<M: KeyedMap<Item = Named, Key = [u8; 3]> + Drop>(rt: &impl Abort, mut
 where
     Tried<M>: Bulk<Named>,
 {
-    assert!(rt; is_not_taken_in(&mut map));
-    assert!(rt; map.len() == 0);
-    assert!(rt; map.is_put(FOO) && map.is_put(BAR));
-    assert!(rt; is_not_taken_in(&mut map));
-    assert!(rt; has_both(&map, FOO, BAR));
+    check(rt, is_not_taken_in(&mut map));
+    check(rt, map.len() == 0);
+    check(rt, map.is_put(FOO) && map.is_put(BAR));
+    check(rt, is_not_taken_in(&mut map));
+    check(rt, has_both(&map, FOO, BAR));
 }
 
 #[test]
@@ -169,47 +219,58 @@ fn lying_hints(rt: HostRuntime) {
 
 fn stops_at_present<M: KeyedMap<Item = Named, Key = [u8; 3]> + Drop>(
     rt: &impl Abort,
-    alloc: Global,
+    items: Vec<Named>,
     mut map: Tried<M>,
-) -> Result<(), AllocError>
+)
 where
     Tried<M>: Adding<Named>,
 {
-    assert!(rt; map.is_put(FOO));
-    let items = Vec::from_array(alloc, [BAR, OTHER_FOO, named(*b"baz", 1)])?;
-    assert!(rt; map.add_each(items) == Added::Conflict(OTHER_FOO, Some(FOO)));
-    assert!(rt; has_both(&map, FOO, BAR));
-    Ok(())
+    check(rt, map.is_put(FOO));
+    check(
+        rt,
+        map.add_each(items) == Added::Conflict(OTHER_FOO, Some(FOO)),
+    );
+    check(rt, has_both(&map, FOO, BAR));
 }
 
 #[test]
 fn extend_unique_stops(rt: HostRuntime) -> Result<(), Fail> {
     let alloc = rt.alloc();
-    stops_at_present(&rt, alloc, Tried::new(IdOrdMap::new(alloc)))?;
-    stops_at_present(&rt, alloc, Tried::new(IdHashMap::new(alloc)))?;
+    let items = Vec::from_array(alloc, [BAR, OTHER_FOO, named(*b"baz", 1)])?;
+    stops_at_present(&rt, items, Tried::new(IdOrdMap::new(alloc)));
+    let items = Vec::from_array(alloc, [BAR, OTHER_FOO, named(*b"baz", 1)])?;
+    stops_at_present(&rt, items, Tried::new(IdHashMap::new(alloc)));
     Ok(())
+}
+
+// Three items; the third has the first one's name.
+fn of_two_names() -> [Named; 3] {
+    [named(*b"  a", 1), named(*b"  b", 2), named(*b"  a", 3)]
 }
 
 fn stops_at_own<M: KeyedMap<Item = Named, Key = [u8; 3]> + Drop>(
     rt: &impl Abort,
-    alloc: Global,
+    items: Vec<Named>,
     mut map: Tried<M>,
-) -> Result<(), AllocError>
+)
 where
     Tried<M>: Adding<Named>,
 {
-    let (first, second, third) = (named(*b"  a", 1), named(*b"  b", 2), named(*b"  a", 3));
-    let items = Vec::from_array(alloc, [first, second, third])?;
-    assert!(rt; map.add_each(items) == Added::Conflict(third, Some(first)));
-    assert!(rt; has_both(&map, first, second));
-    Ok(())
+    let [first, second, third] = of_two_names();
+    check(
+        rt,
+        map.add_each(items) == Added::Conflict(third, Some(first)),
+    );
+    check(rt, has_both(&map, first, second));
 }
 
 #[test]
 fn extend_unique_repeats(rt: HostRuntime) -> Result<(), Fail> {
     let alloc = rt.alloc();
-    stops_at_own(&rt, alloc, Tried::new(IdOrdMap::new(alloc)))?;
-    stops_at_own(&rt, alloc, Tried::new(IdHashMap::new(alloc)))?;
+    let items = Vec::from_array(alloc, of_two_names())?;
+    stops_at_own(&rt, items, Tried::new(IdOrdMap::new(alloc)));
+    let items = Vec::from_array(alloc, of_two_names())?;
+    stops_at_own(&rt, items, Tried::new(IdHashMap::new(alloc)));
     Ok(())
 }
 
@@ -230,52 +291,52 @@ where
 
 fn conflicts_when_full<M: KeyedMap<Item = Named, Key = [u8; 3]> + Drop>(
     rt: &impl Abort,
-    alloc: Global,
+    items: Vec<Named>,
     mut map: Tried<M>,
-) -> Result<(), AllocError>
+)
 where
     Tried<M>: Adding<Named>,
 {
-    let foo = named(*b"foo", 9);
-    let items = Vec::from_array(alloc, [named(*b"baz", 7), foo, BAR])?;
-    let expected = Some(Added::Conflict(foo, Some(FOO)));
-    assert!(rt; unannounced(&mut map, items) == expected);
-    assert!(rt; has_both(&map, FOO, BAR));
-    Ok(())
+    let expected = Added::Conflict(named(*b"foo", 9), Some(FOO));
+    check(rt, unannounced(&mut map, items) == Some(expected));
+    check(rt, has_both(&map, FOO, BAR));
 }
 
 fn refuses_when_full<M: KeyedMap<Item = Named, Key = [u8; 3]> + Drop>(
     rt: &impl Abort,
-    alloc: Global,
+    items: Vec<Named>,
     mut map: Tried<M>,
-) -> Result<(), AllocError>
+)
 where
     Tried<M>: Adding<Named>,
 {
-    let baz = named(*b"baz", 7);
-    let items = Vec::from_array(alloc, [baz, BAR])?;
-    let expected = Some(Added::Stopped(Some(baz), TryReserveError::capacity_overflow()));
-    assert!(rt; unannounced(&mut map, items) == expected);
-    assert!(rt; has_both(&map, FOO, BAR));
-    Ok(())
+    let full = TryReserveError::capacity_overflow();
+    let expected = Added::Stopped(Some(named(*b"baz", 7)), full);
+    check(rt, unannounced(&mut map, items) == Some(expected));
+    check(rt, has_both(&map, FOO, BAR));
 }
 
 #[test]
 fn extend_unique_at_the_limit(rt: HostRuntime) -> Result<(), Fail> {
     let alloc = rt.alloc();
     let hasher = DefaultHashBuilder::new();
-    conflicts_when_full(&rt, alloc, Tried::new(IdOrdMap::with_limit(alloc, 2)))?;
+    let repeats = [named(*b"baz", 7), named(*b"foo", 9), BAR];
+    let items = Vec::from_array(alloc, repeats)?;
+    conflicts_when_full(&rt, items, Tried::new(IdOrdMap::with_limit(alloc, 2)));
+    let items = Vec::from_array(alloc, repeats)?;
     conflicts_when_full(
         &rt,
-        alloc,
+        items,
         Tried::new(IdHashMap::with_limit(alloc, 2, hasher)),
-    )?;
-    refuses_when_full(&rt, alloc, Tried::new(IdOrdMap::with_limit(alloc, 2)))?;
+    );
+    let items = Vec::from_array(alloc, [named(*b"baz", 7), BAR])?;
+    refuses_when_full(&rt, items, Tried::new(IdOrdMap::with_limit(alloc, 2)));
+    let items = Vec::from_array(alloc, [named(*b"baz", 7), BAR])?;
     refuses_when_full(
         &rt,
-        alloc,
+        items,
         Tried::new(IdHashMap::with_limit(alloc, 2, hasher)),
-    )?;
+    );
     Ok(())
 }
 
@@ -286,12 +347,12 @@ fn refuses_announced<M: KeyedMap<Item = Named, Key = [u8; 3]> + Drop>(
 where
     Tried<M>: Adding<Named>,
 {
-    assert!(rt; map.is_put(FOO));
+    check(rt, map.is_put(FOO));
     let mut liar = Liar::announcing(5);
     let full = TryReserveError::capacity_overflow();
-    assert!(rt; map.add_each(&mut liar) == Added::Stopped(None, full));
-    assert!(rt; liar.asked() == 0);
-    assert!(rt; map.len() == 1);
+    check(rt, map.add_each(&mut liar) == Added::Stopped(None, full));
+    check(rt, liar.asked() == 0);
+    check(rt, map.len() == 1);
 }
 
 #[test]
@@ -312,11 +373,11 @@ fn adds_nothing<M: KeyedMap<Item = Named, Key = [u8; 3]> + Drop>(
 where
     Tried<M>: Adding<Named>,
 {
-    assert!(rt; map.add_each(Vec::new(alloc)) == Added::All);
-    assert!(rt; map.len() == 0);
-    assert!(rt; map.is_put(FOO) && map.is_put(BAR));
-    assert!(rt; map.add_each(Vec::new(alloc)) == Added::All);
-    assert!(rt; has_both(&map, FOO, BAR));
+    check(rt, map.add_each(Vec::new(alloc)) == Added::All);
+    check(rt, map.len() == 0);
+    check(rt, map.is_put(FOO) && map.is_put(BAR));
+    check(rt, map.add_each(Vec::new(alloc)) == Added::All);
+    check(rt, has_both(&map, FOO, BAR));
 }
 
 #[test]

@@ -1,6 +1,7 @@
 //! The rows of insertions as commands, through `run`, on a map of each kind.
 ghost use Rattle.iddqd.specs.Contents.{ClonesAreEqual};
 
+use crate::checks::check;
 use crate::insertions::{BAR, FOO, OTHER_FOO, wide_item};
 use iddqd::errors::TryReserveError;
 use iddqd::{DefaultHashBuilder, IdHashMap, IdOrdMap};
@@ -8,14 +9,13 @@ use iddqd_commands::{Command, KeyedMap, Reply};
 use iddqd_testing::items::{Named, Wide};
 use iddqd_testing::tried::Tried;
 use iddqd_testing::visitors::Untouched;
-use std::alloc::Global;
-use std::test::Fail;
+use std::alloc::{AllocError, Global};
 
-/// Whether the map gives these replies to the commands.
+/// Whether there was memory for the commands, and the map gives these replies to them.
 fn answers_with<M: KeyedMap>(
     alloc: Global,
     mut map: Tried<M>,
-    commands: Vec<Command<M::Item, M::Key, Untouched>>,
+    commands: Result<Vec<Command<M::Item, M::Key, Untouched>>, AllocError>,
     expected: &[Reply<M::Item>],
 ) -> bool
 where
@@ -24,13 +24,16 @@ where
     M::Key: Drop,
     requires clones { ClonesAreEqual M.Item.is_clone }
 {
+    let Ok(commands) = commands else {
+        return false;
+    };
     match map.run(alloc, commands) {
         Ok(replies) => replies.as_slice() == expected,
         Err(_) => false,
     }
 }
 
-fn named_commands(alloc: Global) -> Result<Vec<Command<Named, [u8; 3], Untouched>>, Fail> {
+fn named_commands(alloc: Global) -> Result<Vec<Command<Named, [u8; 3], Untouched>>, AllocError> {
     Ok(Vec::from_array(
         alloc,
         [
@@ -69,17 +72,22 @@ fn named_replies() -> [Reply<Named>; 11] {
 }
 
 #[test]
-fn insert_unique_by_commands(rt: HostRuntime) -> Result<(), Fail> {
+fn insert_unique_by_commands(rt: HostRuntime) {
     let alloc = rt.alloc();
     let expected = named_replies();
     let ordered = Tried::new(IdOrdMap::new(alloc));
-    assert!(rt; answers_with(alloc, ordered, named_commands(alloc)?, &expected));
+    check(
+        &rt,
+        answers_with(alloc, ordered, named_commands(alloc), &expected),
+    );
     let hashed = Tried::new(IdHashMap::new(alloc));
-    assert!(rt; answers_with(alloc, hashed, named_commands(alloc)?, &expected));
-    Ok(())
+    check(
+        &rt,
+        answers_with(alloc, hashed, named_commands(alloc), &expected),
+    );
 }
 
-fn wide_commands(alloc: Global) -> Result<Vec<Command<Wide, u8, Untouched>>, Fail> {
+fn wide_commands(alloc: Global) -> Result<Vec<Command<Wide, u8, Untouched>>, AllocError> {
     Ok(Vec::from_array(
         alloc,
         [
@@ -118,36 +126,48 @@ fn wide_replies() -> [Reply<Wide>; 7] {
 }
 
 #[test]
-fn duplicate_chain_by_commands(rt: HostRuntime) -> Result<(), Fail> {
+fn duplicate_chain_by_commands(rt: HostRuntime) {
     let alloc = rt.alloc();
     let expected = wide_replies();
     let ordered = Tried::new(IdOrdMap::new(alloc));
-    assert!(rt; answers_with(alloc, ordered, wide_commands(alloc)?, &expected));
+    check(
+        &rt,
+        answers_with(alloc, ordered, wide_commands(alloc), &expected),
+    );
     let hashed = Tried::new(IdHashMap::new(alloc));
-    assert!(rt; answers_with(alloc, hashed, wide_commands(alloc)?, &expected));
-    Ok(())
+    check(
+        &rt,
+        answers_with(alloc, hashed, wide_commands(alloc), &expected),
+    );
 }
 
-fn room_commands(alloc: Global) -> Result<Vec<Command<Named, [u8; 3], Untouched>>, Fail> {
+fn room_commands(alloc: Global) -> Result<Vec<Command<Named, [u8; 3], Untouched>>, AllocError> {
     Ok(Vec::from_array(alloc, [Command::Reserve(3), Command::Shrink])?)
 }
 
 #[test]
-fn reserve_and_shrink_by_commands(rt: HostRuntime) -> Result<(), Fail> {
+fn reserve_and_shrink_by_commands(rt: HostRuntime) {
     let alloc = rt.alloc();
     let expected = [Reply::Done, Reply::Done];
     let ordered = Tried::new(IdOrdMap::new(alloc));
-    assert!(rt; answers_with(alloc, ordered, room_commands(alloc)?, &expected));
+    check(
+        &rt,
+        answers_with(alloc, ordered, room_commands(alloc), &expected),
+    );
     let hashed = Tried::new(IdHashMap::new(alloc));
-    assert!(rt; answers_with(alloc, hashed, room_commands(alloc)?, &expected));
-    Ok(())
+    check(
+        &rt,
+        answers_with(alloc, hashed, room_commands(alloc), &expected),
+    );
 }
 
 fn named(name: [u8; 3], value: u32) -> Named {
     Named { name, value }
 }
 
-fn extending_commands(alloc: Global) -> Result<Vec<Command<Named, [u8; 3], Untouched>>, Fail> {
+fn extending_commands(
+    alloc: Global,
+) -> Result<Vec<Command<Named, [u8; 3], Untouched>>, AllocError> {
     Ok(Vec::from_array(
         alloc,
         [
@@ -160,7 +180,7 @@ fn extending_commands(alloc: Global) -> Result<Vec<Command<Named, [u8; 3], Untou
 }
 
 #[test]
-fn extend_unique_by_commands(rt: HostRuntime) -> Result<(), Fail> {
+fn extend_unique_by_commands(rt: HostRuntime) {
     let alloc = rt.alloc();
     let expected = [
         Reply::Extended(2),
@@ -173,13 +193,18 @@ fn extend_unique_by_commands(rt: HostRuntime) -> Result<(), Fail> {
         Reply::Length(3),
     ];
     let ordered = Tried::new(IdOrdMap::new(alloc));
-    assert!(rt; answers_with(alloc, ordered, extending_commands(alloc)?, &expected));
+    check(
+        &rt,
+        answers_with(alloc, ordered, extending_commands(alloc), &expected),
+    );
     let hashed = Tried::new(IdHashMap::new(alloc));
-    assert!(rt; answers_with(alloc, hashed, extending_commands(alloc)?, &expected));
-    Ok(())
+    check(
+        &rt,
+        answers_with(alloc, hashed, extending_commands(alloc), &expected),
+    );
 }
 
-fn full_commands(alloc: Global) -> Result<Vec<Command<Named, [u8; 3], Untouched>>, Fail> {
+fn full_commands(alloc: Global) -> Result<Vec<Command<Named, [u8; 3], Untouched>>, AllocError> {
     let (a, b, c) = (named(*b"a  ", 1), named(*b"b  ", 2), named(*b"c  ", 3));
     Ok(Vec::from_array(
         alloc,
@@ -193,7 +218,7 @@ fn full_commands(alloc: Global) -> Result<Vec<Command<Named, [u8; 3], Untouched>
 }
 
 #[test]
-fn extend_unique_commands(rt: HostRuntime) -> Result<(), Fail> {
+fn extend_unique_commands(rt: HostRuntime) {
     let alloc = rt.alloc();
     let error = TryReserveError::capacity_overflow();
     let expected = [
@@ -211,8 +236,13 @@ fn extend_unique_commands(rt: HostRuntime) -> Result<(), Fail> {
         Reply::Length(2),
     ];
     let ordered = Tried::new(IdOrdMap::with_limit(alloc, 2));
-    assert!(rt; answers_with(alloc, ordered, full_commands(alloc)?, &expected));
+    check(
+        &rt,
+        answers_with(alloc, ordered, full_commands(alloc), &expected),
+    );
     let hashed = Tried::new(IdHashMap::with_limit(alloc, 2, DefaultHashBuilder::new()));
-    assert!(rt; answers_with(alloc, hashed, full_commands(alloc)?, &expected));
-    Ok(())
+    check(
+        &rt,
+        answers_with(alloc, hashed, full_commands(alloc), &expected),
+    );
 }

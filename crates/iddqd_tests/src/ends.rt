@@ -4,13 +4,14 @@ ghost use Rattle.std.specs.Cmp.Lexicographic.{slice_cmp};
 ghost use Rattle.std.specs.Ordering.{nat_cmp};
 ghost use Rattle.iddqd.specs.Contents.{Ascends};
 
+use crate::checks::check;
 use iddqd::{IdOrdItem, IdOrdMap};
 use iddqd_commands::KeyedMap;
 use iddqd_testing::tried::is_put;
 use std::test::Fail;
 
 /// A name of seven letters, and a value.
-#[derive(Clone, Copy, Debug, PartialEq, Eq)]
+#[derive(Clone, Copy, PartialEq, Eq)]
 pub struct Person {
     pub name: [u8; 7],
     pub value: u32,
@@ -59,23 +60,23 @@ fn pop<T: IdOrdItem>(map: &mut IdOrdMap<T>, first: bool) -> Option<T>
 #[test]
 fn ends(rt: HostRuntime) -> Result<(), Fail> {
     let mut map = filled(IdOrdMap::new(rt.alloc()))?;
-    assert!(rt; map.first().copied() == Some(one(*b"alice  ", 42)));
-    assert!(rt; map.last().copied() == Some(one(*b"charlie", 30)));
-    assert!(rt; pop(&mut map, true) == Some(one(*b"alice  ", 42)));
-    assert!(rt; map.len() == 2);
-    assert!(rt; pop(&mut map, true) == Some(one(*b"bob    ", 99)));
-    assert!(rt; pop(&mut map, true) == Some(one(*b"charlie", 30)));
-    assert!(rt; pop(&mut map, true) == None);
+    check(&rt, map.first().copied() == Some(one(*b"alice  ", 42)));
+    check(&rt, map.last().copied() == Some(one(*b"charlie", 30)));
+    check(&rt, pop(&mut map, true) == Some(one(*b"alice  ", 42)));
+    check(&rt, map.len() == 2);
+    check(&rt, pop(&mut map, true) == Some(one(*b"bob    ", 99)));
+    check(&rt, pop(&mut map, true) == Some(one(*b"charlie", 30)));
+    check(&rt, pop(&mut map, true) == None);
     Ok(())
 }
 
 #[test]
 fn ends_from_behind(rt: HostRuntime) -> Result<(), Fail> {
     let mut map = filled(IdOrdMap::new(rt.alloc()))?;
-    assert!(rt; pop(&mut map, false) == Some(one(*b"charlie", 30)));
-    assert!(rt; pop(&mut map, false) == Some(one(*b"bob    ", 99)));
-    assert!(rt; pop(&mut map, false) == Some(one(*b"alice  ", 42)));
-    assert!(rt; pop(&mut map, false) == None);
+    check(&rt, pop(&mut map, false) == Some(one(*b"charlie", 30)));
+    check(&rt, pop(&mut map, false) == Some(one(*b"bob    ", 99)));
+    check(&rt, pop(&mut map, false) == Some(one(*b"alice  ", 42)));
+    check(&rt, pop(&mut map, false) == None);
     Ok(())
 }
 
@@ -99,17 +100,23 @@ fn write_first(map: &mut IdOrdMap<Person>, value: u32) -> bool
 #[test]
 fn ends_by_entries(rt: HostRuntime) -> Result<(), Fail> {
     let mut map = filled(IdOrdMap::new(rt.alloc()))?;
-    assert!(rt; write_first(&mut map, 100));
-    assert!(rt; map.get(b"alice  ").copied() == Some(one(*b"alice  ", 100)));
+    check(&rt, write_first(&mut map, 100));
+    check(
+        &rt,
+        map.get(b"alice  ").copied() == Some(one(*b"alice  ", 100)),
+    );
     Ok(())
 }
 
 #[test]
 fn ends_of_empty_map(rt: HostRuntime) -> Result<(), Fail> {
     let mut map: IdOrdMap<Person> = IdOrdMap::new(rt.alloc());
-    assert!(rt; map.first().is_none() && map.last().is_none());
-    assert!(rt; !write_first(&mut map, 100));
-    assert!(rt; pop(&mut map, true).is_none() && pop(&mut map, false).is_none());
-    assert!(rt; map.last_entry().is_none());
+    check(&rt, map.first().is_none() && map.last().is_none());
+    check(&rt, !write_first(&mut map, 100));
+    check(
+        &rt,
+        pop(&mut map, true).is_none() && pop(&mut map, false).is_none(),
+    );
+    check(&rt, map.last_entry().is_none());
     Ok(())
 }

@@ -1,4 +1,5 @@
 //! Rows of insertions, of each kind of map from one text.
+use crate::checks::check;
 use iddqd::{IdHashMap, IdOrdMap};
 use iddqd_commands::KeyedMap;
 use iddqd_testing::items::{Named, Numbered, Wide};
@@ -43,11 +44,14 @@ fn foo_twice<M: KeyedMap<Item = Named, Key = [u8; 3]>>(rt: &impl Abort, mut map:
 where
     M: Drop,
 {
-    assert!(rt; map.insert(FOO) == Inserted::Done);
-    assert!(rt; map.insert(BAR) == Inserted::Done);
-    assert!(rt; map.insert(OTHER_FOO) == Inserted::Duplicate(OTHER_FOO, Some(FOO)));
-    assert!(rt; map.len() == 2);
-    assert!(rt; map.get(b"foo").copied() == Some(FOO));
+    check(rt, map.insert(FOO) == Inserted::Done);
+    check(rt, map.insert(BAR) == Inserted::Done);
+    check(
+        rt,
+        map.insert(OTHER_FOO) == Inserted::Duplicate(OTHER_FOO, Some(FOO)),
+    );
+    check(rt, map.len() == 2);
+    check(rt, map.get(b"foo").copied() == Some(FOO));
 }
 
 #[test]
@@ -78,7 +82,7 @@ where
         Inserted::Done,
         Inserted::Duplicate(second_five, Some(fourth)),
     ];
-    assert!(rt; answers == expected);
+    check(rt, answers == expected);
 }
 
 #[test]
@@ -91,29 +95,37 @@ fn one_and_two<M: KeyedMap<Item = Numbered, Key = u32>>(rt: &impl Abort, mut map
 where
     M: Drop,
 {
-    assert!(rt; map.insert(numbered(1, 10)) == Inserted::Done);
-    assert!(rt; map.insert(numbered(2, 20)) == Inserted::Done);
-    assert!(rt; map.get(&1).copied() == Some(numbered(1, 10)));
-    assert!(rt; map.get(&2).copied() == Some(numbered(2, 20)));
-    assert!(rt; map.get(&3).copied() == None);
-    assert!(rt;
-        map.insert(numbered(1, 99)) == Inserted::Duplicate(numbered(1, 99), Some(numbered(1, 10)))
+    check(rt, map.insert(numbered(1, 10)) == Inserted::Done);
+    check(rt, map.insert(numbered(2, 20)) == Inserted::Done);
+    check(rt, map.get(&1).copied() == Some(numbered(1, 10)));
+    check(rt, map.get(&2).copied() == Some(numbered(2, 20)));
+    check(rt, map.get(&3).copied() == None);
+    check(
+        rt,
+        map.insert(numbered(1, 99)) == Inserted::Duplicate(numbered(1, 99), Some(numbered(1, 10))),
     );
+}
+
+pub(crate) fn double(item: &mut Named) {
+    item.value = item.value.wrapping_mul(2);
+}
+
+// The first two values in order, once a walk has doubled two.
+fn doubled(rt: &impl Abort, mut map: Tried<IdOrdMap<Named>>) -> [Option<u32>; 2] {
+    check(rt, map.is_put(FOO) && map.is_put(OLD_BAR));
+    let (map, _) = map.written(2, double);
+    let mut walk = map.iter();
+    [walk.next(), walk.next()].map(|item| item.map(|item| item.value))
 }
 
 #[test]
 fn get_and_double(rt: HostRuntime) {
     one_and_two(&rt, Tried::new(IdOrdMap::new(rt.alloc())));
     one_and_two(&rt, Tried::new(IdHashMap::new(rt.alloc())));
-    let mut ordered = Tried::new(IdOrdMap::new(rt.alloc()));
-    assert!(rt; ordered.is_put(FOO) && ordered.is_put(OLD_BAR));
-    let (map, _) = ordered.written(
-        2,
-        |item: &mut Named| item.value = item.value.wrapping_mul(2),
+    check(
+        &rt,
+        doubled(&rt, Tried::new(IdOrdMap::new(rt.alloc()))) == [Some(198), Some(84)],
     );
-    let mut walk = map.iter();
-    assert!(rt; walk.next().map(|item| item.value) == Some(198));
-    assert!(rt; walk.next().map(|item| item.value) == Some(84));
 }
 
 // A removed item is not found, and the others are.
@@ -121,16 +133,16 @@ fn coming_and_going<M: KeyedMap<Item = Named, Key = [u8; 3]>>(rt: &impl Abort, m
 where
     M: Drop,
 {
-    assert!(rt; map.insert(FOO) == Inserted::Done);
-    assert!(rt; map.insert(BAR) == Inserted::Done);
-    assert!(rt; map.remove(b"baz") == None);
-    assert!(rt; map.remove(b"foo") == Some(FOO));
-    assert!(rt; map.get(b"foo").copied() == None);
-    assert!(rt; map.get(b"bar").copied() == Some(BAR));
-    assert!(rt; map.insert(OTHER_FOO) == Inserted::Done);
+    check(rt, map.insert(FOO) == Inserted::Done);
+    check(rt, map.insert(BAR) == Inserted::Done);
+    check(rt, map.remove(b"baz") == None);
+    check(rt, map.remove(b"foo") == Some(FOO));
+    check(rt, map.get(b"foo").copied() == None);
+    check(rt, map.get(b"bar").copied() == Some(BAR));
+    check(rt, map.insert(OTHER_FOO) == Inserted::Done);
     map.clear();
-    assert!(rt; map.len() == 0);
-    assert!(rt; map.get(b"bar").copied() == None);
+    check(rt, map.len() == 0);
+    check(rt, map.get(b"bar").copied() == None);
 }
 
 #[test]

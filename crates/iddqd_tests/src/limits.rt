@@ -1,4 +1,5 @@
 //! Rows of limits and reservations.
+use crate::checks::check;
 use crate::insertions::{BAR, FOO, OTHER_FOO};
 use iddqd::errors::TryReserveError;
 use iddqd::{DefaultHashBuilder, IdHashMap, IdOrdMap};
@@ -31,13 +32,16 @@ where
         Inserted::Duplicate(OTHER_FOO, Some(FOO)),
         Inserted::Refused(BAZ, full),
     ];
-    assert!(rt; answers == expected);
-    assert!(rt; matches!(map.overwrite(OTHER_FOO), Ok(Some(old)) if old == FOO));
-    assert!(rt; map.remove(b"bar") == Some(BAR));
-    assert!(rt; !map.is_compact());
-    assert!(rt; map.insert(BAZ) == Inserted::Done);
-    assert!(rt; map.is_compact());
-    assert!(rt; map.reserve(1) == Err(full));
+    check(rt, answers == expected);
+    check(
+        rt,
+        matches!(map.overwrite(OTHER_FOO), Ok(Some(old)) if old == FOO),
+    );
+    check(rt, map.remove(b"bar") == Some(BAR));
+    check(rt, !map.is_compact());
+    check(rt, map.insert(BAZ) == Inserted::Done);
+    check(rt, map.is_compact());
+    check(rt, map.reserve(1) == Err(full));
 }
 
 fn full_at_none<M: KeyedMap<Item = Named, Key = [u8; 3]>>(rt: &impl Abort, mut map: Tried<M>)
@@ -46,8 +50,8 @@ where
     Tried<M>: AskedForRoom,
 {
     let full = TryReserveError::capacity_overflow();
-    assert!(rt; map.reserve(0) == Ok(()));
-    assert!(rt; map.insert(FOO) == Inserted::Refused(FOO, full));
+    check(rt, map.reserve(0) == Ok(()));
+    check(rt, map.insert(FOO) == Inserted::Refused(FOO, full));
 }
 
 #[test]
@@ -60,34 +64,37 @@ fn limit_two(rt: HostRuntime) {
     full_at_none(&rt, Tried::new(IdHashMap::with_limit(alloc, 0, hasher)));
 }
 
+// Of a limit of four, three are there.
+fn room_of_four(rt: &impl Abort, mut map: Tried<IdHashMap<Named>>) {
+    let full = TryReserveError::capacity_overflow();
+    check(rt, map.is_put(FOO) && map.is_put(BAR) && map.is_put(BAZ));
+    check(rt, map.reserve(1) == Ok(()));
+    check(rt, map.room() == 1);
+    check(rt, map.reserve(2) == Err(full));
+    check(rt, map.room() == 1);
+}
+
 #[test]
 fn limit_four(rt: HostRuntime) {
-    let full = TryReserveError::capacity_overflow();
     let map = IdHashMap::with_limit(rt.alloc(), 4, DefaultHashBuilder::new());
-    let mut map = Tried::new(map);
-    assert!(rt; map.is_put(FOO) && map.is_put(BAR) && map.is_put(BAZ));
-    assert!(rt; map.reserve(1) == Ok(()));
-    assert!(rt; map.room() == 1);
-    assert!(rt; map.reserve(2) == Err(full));
-    assert!(rt; map.room() == 1);
+    room_of_four(&rt, Tried::new(map));
     let past: Result<IdHashMap<Named>, TryReserveError> = IdHashMap::with_capacity(
         rt.alloc(),
         4_294_967_296,
     );
-    let error = match past {
-        Ok(_) => None,
-        Err(error) => Some(error),
-    };
-    assert!(rt; error == Some(full));
+    check(
+        &rt,
+        past.err() == Some(TryReserveError::capacity_overflow()),
+    );
 }
 
 // With memory at hand a map is made with the room that is asked for.
 #[test]
 fn made_with_room(rt: HostRuntime) -> Result<(), Fail> {
     let ordered: IdOrdMap<Named> = IdOrdMap::with_capacity(rt.alloc(), 100)?;
-    assert!(rt; ordered.capacity() >= 100);
+    check(&rt, ordered.capacity() >= 100);
     let hashed: IdHashMap<Named> = IdHashMap::with_capacity(rt.alloc(), 100)?;
-    assert!(rt; hashed.spare() >= 100);
+    check(&rt, hashed.spare() >= 100);
     Ok(())
 }
 
@@ -105,15 +112,21 @@ fn shrunk<M: KeyedMap<Item = Named, Key = [u8; 3]> + Drop>(
 where
     Tried<M>: AskedForRoom,
 {
-    assert!(rt; map.is_put(FOO) && map.is_put(BAR));
+    check(rt, map.is_put(FOO) && map.is_put(BAR));
     let capacity = map.capacity();
-    assert!(rt; capacity >= 100);
-    assert!(rt; map.shrink_to(usize::MAX) == Ok(()));
-    assert!(rt; map.capacity() == capacity && map.vacant() == 0 && has_both(&map));
-    assert!(rt; map.shrink_to(10) == Ok(()));
-    assert!(rt; map.capacity() >= 10 && map.room() >= room_of_ten && has_both(&map));
-    assert!(rt; map.shrink_to(0) == Ok(()));
-    assert!(rt; map.capacity() >= 2 && has_both(&map));
+    check(rt, capacity >= 100);
+    check(rt, map.shrink_to(usize::MAX) == Ok(()));
+    check(
+        rt,
+        map.capacity() == capacity && map.vacant() == 0 && has_both(&map),
+    );
+    check(rt, map.shrink_to(10) == Ok(()));
+    check(
+        rt,
+        map.capacity() >= 10 && map.room() >= room_of_ten && has_both(&map),
+    );
+    check(rt, map.shrink_to(0) == Ok(()));
+    check(rt, map.capacity() >= 2 && has_both(&map));
 }
 
 #[test]
@@ -130,9 +143,9 @@ fn of_nothing<M: KeyedMap<Item = Named, Key = [u8; 3]> + Drop>(rt: &impl Abort, 
 where
     Tried<M>: AskedForRoom,
 {
-    assert!(rt; map.get(b"foo").is_none());
-    assert!(rt; map.remove(b"foo").is_none());
-    assert!(rt; map.len() == 0 && map.is_compact());
+    check(rt, map.get(b"foo").is_none());
+    check(rt, map.remove(b"foo").is_none());
+    check(rt, map.len() == 0 && map.is_compact());
 }
 
 #[test]

@@ -1,5 +1,6 @@
 //! Rows of lookups by texts, by keys of two fields, and among items that are boxed or lent.
-use iddqd::{IdHashItem, IdHashMap, IdOrdItem, IdOrdMap};
+use crate::checks::check;
+use iddqd::{IdHashMap, IdOrdMap};
 use iddqd_commands::KeyedMap;
 use iddqd_testing::items::{Artifact, Release, Titled};
 use iddqd_testing::tried::{AskedByText, Tried};
@@ -25,12 +26,12 @@ where
     M: Drop,
     Tried<M>: AskedByText<Item = Titled>,
 {
-    assert!(rt; map.is_put(item));
-    assert!(rt; map.find("foo").map(|item| item.value) == Some(42));
-    assert!(rt; !map.contains("fo"));
-    assert!(rt; map.get(name).map(|item| item.value) == Some(42));
-    assert!(rt; map.take_out("foo").map(|item| item.value) == Some(42));
-    assert!(rt; map.len() == 0);
+    check(rt, map.is_put(item));
+    check(rt, map.find("foo").map(|item| item.value) == Some(42));
+    check(rt, !map.contains("fo"));
+    check(rt, map.get(name).map(|item| item.value) == Some(42));
+    check(rt, map.take_out("foo").map(|item| item.value) == Some(42));
+    check(rt, map.len() == 0);
 }
 
 #[test]
@@ -58,10 +59,10 @@ where
         name: *b"artifact1",
         version: 20,
     };
-    assert!(rt; map.is_put(first));
-    assert!(rt; map.is_put(released(*b"artifact2", 2)));
-    assert!(rt; map.get(&first.release).copied() == Some(first));
-    assert!(rt; map.get(&other).copied() == None);
+    check(rt, map.is_put(first));
+    check(rt, map.is_put(released(*b"artifact2", 2)));
+    check(rt, map.get(&first.release).copied() == Some(first));
+    check(rt, map.get(&other).copied() == None);
 }
 
 #[test]
@@ -70,33 +71,48 @@ fn key_of_two_fields(rt: HostRuntime) {
     query_by_release(&rt, Tried::new(IdHashMap::new(rt.alloc())));
 }
 
-// Whether an item of an ordered map goes in, and its name is found.
-fn is_found<T: IdOrdItem<Key = String>>(alloc: Global, item: T) -> bool
+// Whether the item goes in, and its name is found.
+fn is_found<M: KeyedMap + Drop>(item: M::Item, mut map: Tried<M>) -> bool
 where
-    T: Drop,
+    M::Item: Drop,
+    Tried<M>: AskedByText,
 {
-    let mut map = Tried::new(IdOrdMap::new(alloc));
-    map.is_put(item) && map.find("foo").is_some()
-}
-
-// The same of a hash map.
-fn is_hash_found<T: IdHashItem<Key = String>>(alloc: Global, item: T) -> bool
-where
-    T: Drop,
-{
-    let mut map = Tried::new(IdHashMap::new(alloc));
     map.is_put(item) && map.find("foo").is_some()
 }
 
 #[test]
 fn boxed_and_lent_items(rt: HostRuntime) -> Result<(), Fail> {
     let alloc = rt.alloc();
-    assert!(rt; is_found(alloc, Box::new(alloc, foo(alloc)?)?));
-    assert!(rt; is_hash_found(alloc, Box::new(alloc, foo(alloc)?)?));
-    assert!(rt; is_found(alloc, Rc::new(alloc, foo(alloc)?)?));
-    assert!(rt; is_hash_found(alloc, Rc::new(alloc, foo(alloc)?)?));
+    check(
+        &rt,
+        is_found(
+            Box::new(alloc, foo(alloc)?)?,
+            Tried::new(IdOrdMap::new(alloc)),
+        ),
+    );
+    check(
+        &rt,
+        is_found(
+            Box::new(alloc, foo(alloc)?)?,
+            Tried::new(IdHashMap::new(alloc)),
+        ),
+    );
+    check(
+        &rt,
+        is_found(
+            Rc::new(alloc, foo(alloc)?)?,
+            Tried::new(IdOrdMap::new(alloc)),
+        ),
+    );
+    check(
+        &rt,
+        is_found(
+            Rc::new(alloc, foo(alloc)?)?,
+            Tried::new(IdHashMap::new(alloc)),
+        ),
+    );
     let item = foo(alloc)?;
-    assert!(rt; is_found(alloc, &item));
-    assert!(rt; is_hash_found(alloc, &item));
+    check(&rt, is_found(&item, Tried::new(IdOrdMap::new(alloc))));
+    check(&rt, is_found(&item, Tried::new(IdHashMap::new(alloc))));
     Ok(())
 }

@@ -3,7 +3,8 @@ ghost use Rattle.std.specs.Prelude.{nat_eq};
 ghost use Rattle.iddqd.specs.Visiting.{VisitsKeepKeys};
 ghost use Rattle.iddqd_testing.specs.Changed.{changed};
 
-use crate::insertions::{BAR, FOO};
+use crate::checks::check;
+use crate::insertions::{BAR, FOO, double};
 use iddqd::{IdHashMap, IdOrdMap};
 use iddqd_commands::{Command, KeyedMap, Reply};
 use iddqd_testing::items::{Named, Numbered};
@@ -29,7 +30,7 @@ where
     M: Drop,
 {
     for number in [3, 1, 2] {
-        assert!(rt; map.is_put(numbered(number, 10 * number)));
+        check(rt, map.is_put(numbered(number, 10 * number)));
     }
     map
 }
@@ -43,9 +44,9 @@ where
     let mut map = of_three(rt, map);
     let mut visitor = Change::KeepOdd(0);
     map.retain_mut(&mut visitor);
-    assert!(rt; map.len() == 2);
-    assert!(rt; map.get(&1).copied() == Some(numbered(1, 11)));
-    assert!(rt; map.get(&3).copied() == Some(numbered(3, 31)));
+    check(rt, map.len() == 2);
+    check(rt, map.get(&1).copied() == Some(numbered(1, 11)));
+    check(rt, map.get(&3).copied() == Some(numbered(3, 31)));
     visitor
 }
 
@@ -65,14 +66,17 @@ where
         return Err(Fail::from("the commands came back"));
     };
     let expected = [Reply::Visited(false), Reply::Found(numbered(1, 0))];
-    assert!(rt; replies.as_slice() == expected.as_slice());
+    check(rt, replies.as_slice() == expected.as_slice());
     Ok(())
 }
 
 #[test]
 fn visitor(rt: HostRuntime) -> Result<(), Fail> {
     let alloc = rt.alloc();
-    assert!(rt; odd_of_three(&rt, Tried::new(IdOrdMap::new(alloc))) == Change::KeepOdd(123));
+    check(
+        &rt,
+        odd_of_three(&rt, Tried::new(IdOrdMap::new(alloc))) == Change::KeepOdd(123),
+    );
     let _ = odd_of_three(&rt, Tried::new(IdHashMap::new(alloc)));
     visited_by_command(&rt, alloc, Tried::new(IdOrdMap::new(alloc)))?;
     visited_by_command(&rt, alloc, Tried::new(IdHashMap::new(alloc)))
@@ -88,16 +92,16 @@ where
     M: Drop,
     Tried<M>: Walked<Named>,
 {
-    assert!(rt; map.is_put(FOO) && map.is_put(BAR) && map.is_put(BAZ));
+    check(rt, map.is_put(FOO) && map.is_put(BAR) && map.is_put(BAZ));
     let mut asked = Vec::with_capacity(alloc, 3)?;
     map.retain(|item| {
         let _ = asked.push(item.name);
         item.value > 30
     });
-    assert!(rt; map.len() == 2);
-    assert!(rt; map.get(b"foo").copied() == Some(FOO));
-    assert!(rt; map.get(b"baz").copied() == Some(BAZ));
-    assert!(rt; map.get(b"bar").copied() == None);
+    check(rt, map.len() == 2);
+    check(rt, map.get(b"foo").copied() == Some(FOO));
+    check(rt, map.get(b"baz").copied() == Some(BAZ));
+    check(rt, map.get(b"bar").copied() == None);
     Ok(asked)
 }
 
@@ -105,9 +109,12 @@ where
 fn retain_by_value(rt: HostRuntime) -> Result<(), Fail> {
     let alloc = rt.alloc();
     let asked = kept_by_value(&rt, alloc, Tried::new(IdOrdMap::new(alloc)))?;
-    assert!(rt; asked.as_slice() == [*b"bar", *b"baz", *b"foo"].as_slice());
+    check(
+        &rt,
+        asked.as_slice() == [*b"bar", *b"baz", *b"foo"].as_slice(),
+    );
     let asked = kept_by_value(&rt, alloc, Tried::new(IdHashMap::new(alloc)))?;
-    assert!(rt; asked.len() == 3);
+    check(&rt, asked.len() == 3);
     Ok(())
 }
 
@@ -127,12 +134,8 @@ fn of_foo_and_bar<M: KeyedMap<Item = Named, Key = [u8; 3]>>(
 where
     M: Drop,
 {
-    assert!(rt; map.is_put(FOO) && map.is_put(BAR));
+    check(rt, map.is_put(FOO) && map.is_put(BAR));
     map
-}
-
-fn double(item: &mut Named) {
-    item.value = item.value.wrapping_mul(2);
 }
 
 // The values of foo and bar, and how many items the walk had left, once it has doubled so many.
@@ -158,15 +161,27 @@ fn doubled_by_hash(
 
 #[test]
 fn writing_walk(rt: HostRuntime) {
-    assert!(rt; doubled_in_order(&rt, rt.alloc(), 3) == (Some(84), Some(40), 0));
-    assert!(rt; doubled_by_hash(&rt, rt.alloc(), 3) == (Some(84), Some(40), 0));
+    check(
+        &rt,
+        doubled_in_order(&rt, rt.alloc(), 3) == (Some(84), Some(40), 0),
+    );
+    check(
+        &rt,
+        doubled_by_hash(&rt, rt.alloc(), 3) == (Some(84), Some(40), 0),
+    );
 }
 
 #[test]
 fn writing_walk_of_one_item(rt: HostRuntime) {
-    assert!(rt; doubled_in_order(&rt, rt.alloc(), 1) == (Some(42), Some(40), 1));
+    check(
+        &rt,
+        doubled_in_order(&rt, rt.alloc(), 1) == (Some(42), Some(40), 1),
+    );
     let told = doubled_by_hash(&rt, rt.alloc(), 1);
-    assert!(rt; told == (Some(84), Some(20), 1) || told == (Some(42), Some(40), 1));
+    check(
+        &rt,
+        told == (Some(84), Some(20), 1) || told == (Some(42), Some(40), 1),
+    );
 }
 
 const IDS: [u32; 25] = [
@@ -191,15 +206,15 @@ where
     Tried<M>: Walked<Numbered> + AskedForRoom,
 {
     for id in IDS {
-        assert!(rt; map.is_put(numbered(id, id)));
+        check(rt, map.is_put(numbered(id, id)));
     }
     map.retain(|item| item.number % 2 == 1 && item.number % 3 != 0);
-    assert!(rt; are_left(&map));
-    assert!(rt; map.vacant() == 16);
-    assert!(rt; map.reserve(10) == Ok(()));
-    assert!(rt; map.is_sound() && !map.is_compact());
-    assert!(rt; map.shrink_to_fit() == Ok(()));
-    assert!(rt; map.is_compact() && are_left(&map));
+    check(rt, are_left(&map));
+    check(rt, map.vacant() == 16);
+    check(rt, map.reserve(10) == Ok(()));
+    check(rt, map.is_sound() && !map.is_compact());
+    check(rt, map.shrink_to_fit() == Ok(()));
+    check(rt, map.is_compact() && are_left(&map));
 }
 
 #[test]

@@ -1,4 +1,5 @@
 //! What `serve` asks of its reader and its writer, and what it does where one fails.
+use crate::checks::check;
 use iddqd_run::{FailingReader, FailingWriter, Fault, Kind, serve};
 use iddqd_testing::parts::{Failure, PartReader, PartWriter};
 use std::alloc::{AllocError, Global};
@@ -29,8 +30,8 @@ fn served_failing(
 fn failing_read(rt: HostRuntime) -> Result<(), Fail> {
     for kind in [Kind::Hash, Kind::Ord] {
         let (outcome, writer) = served_failing(rt.alloc(), kind, 1, 0)?;
-        assert!(rt; outcome == Err(Fault::Read));
-        assert!(rt; writer.taken().is_empty());
+        check(&rt, outcome == Err(Fault::Read));
+        check(&rt, writer.taken().is_empty());
     }
     Ok(())
 }
@@ -39,7 +40,7 @@ fn failing_read(rt: HostRuntime) -> Result<(), Fail> {
 fn failing_write(rt: HostRuntime) -> Result<(), Fail> {
     for kind in [Kind::Hash, Kind::Ord] {
         let (outcome, _) = served_failing(rt.alloc(), kind, 0, 1)?;
-        assert!(rt; outcome == Err(Fault::Write));
+        check(&rt, outcome == Err(Fault::Write));
     }
     Ok(())
 }
@@ -48,8 +49,8 @@ fn failing_write(rt: HostRuntime) -> Result<(), Fail> {
 fn no_failure(rt: HostRuntime) -> Result<(), Fail> {
     for kind in [Kind::Hash, Kind::Ord] {
         let (outcome, writer) = served_failing(rt.alloc(), kind, 0, 0)?;
-        assert!(rt; outcome == Ok(0));
-        assert!(rt; writer.taken() == ANSWER);
+        check(&rt, outcome == Ok(0));
+        check(&rt, writer.taken() == ANSWER);
     }
     Ok(())
 }
@@ -72,13 +73,16 @@ fn served(
 #[test]
 fn flushes_after_writing(rt: HostRuntime) {
     let (outcome, _, writer) = served(rt.alloc(), Failure::Never, Failure::Never);
-    assert!(rt; outcome == Ok(0));
-    assert!(rt; writer.taken() == ANSWER);
-    assert!(rt; writer.flushes() == (1, ANSWER.len()));
+    check(&rt, outcome == Ok(0));
+    check(&rt, writer.taken() == ANSWER);
+    check(&rt, writer.flushes() == (1, ANSWER.len()));
     let mut reader = LINES;
     let writer = PartWriter::new(Vec::new(rt.alloc()), PART, Failure::Never);
     let mut writer = writer.with_failing_flush();
-    assert!(rt; serve(rt.alloc(), Kind::Ord, &mut reader, &mut writer) == Err(Fault::Write));
+    check(
+        &rt,
+        serve(rt.alloc(), Kind::Ord, &mut reader, &mut writer) == Err(Fault::Write),
+    );
 }
 
 #[test]
@@ -86,14 +90,14 @@ fn stops_reading_at_an_error(rt: HostRuntime) {
     for at in [1, 2] {
         let failure = Failure::At(at, ErrorKind::Other);
         let (outcome, reader, writer) = served(rt.alloc(), failure, Failure::Never);
-        assert!(rt; outcome == Err(Fault::Read));
-        assert!(rt; reader.reads() == at);
-        assert!(rt; (writer.writes(), writer.flushes()) == (0, (0, 0)));
+        check(&rt, outcome == Err(Fault::Read));
+        check(&rt, reader.reads() == at);
+        check(&rt, (writer.writes(), writer.flushes()) == (0, (0, 0)));
         let failure = Failure::At(at, ErrorKind::Interrupted);
         let (outcome, reader, writer) = served(rt.alloc(), failure, Failure::Never);
-        assert!(rt; outcome == Ok(0));
-        assert!(rt; reader.reads() == 3);
-        assert!(rt; writer.taken() == ANSWER);
+        check(&rt, outcome == Ok(0));
+        check(&rt, reader.reads() == 3);
+        check(&rt, writer.taken() == ANSWER);
     }
 }
 
@@ -102,13 +106,13 @@ fn writes_nothing_more_after_a_failure(rt: HostRuntime) {
     for at in [1, 2, 4] {
         let failure = Failure::At(at, ErrorKind::Other);
         let (outcome, _, writer) = served(rt.alloc(), Failure::Never, failure);
-        assert!(rt; outcome == Err(Fault::Write));
-        assert!(rt; (writer.writes(), writer.flushes()) == (at, (0, 0)));
-        assert!(rt; writer.taken() == &ANSWER[..(at as usize - 1) * PART]);
+        check(&rt, outcome == Err(Fault::Write));
+        check(&rt, (writer.writes(), writer.flushes()) == (at, (0, 0)));
+        check(&rt, writer.taken() == &ANSWER[..(at as usize - 1) * PART]);
         let failure = Failure::At(at, ErrorKind::Interrupted);
         let (outcome, _, writer) = served(rt.alloc(), Failure::Never, failure);
-        assert!(rt; outcome == Ok(0));
-        assert!(rt; writer.taken() == ANSWER);
+        check(&rt, outcome == Ok(0));
+        check(&rt, writer.taken() == ANSWER);
     }
 }
 
@@ -118,8 +122,8 @@ fn serve_in_parts(rt: &impl Abort, alloc: Global, part: usize, failure: Failure)
         let mut reader = PartReader::new(LINES, part, failure);
         let mut writer = PartWriter::new(Vec::new(alloc), part, failure);
         let outcome = serve(alloc, kind, &mut reader, &mut writer);
-        assert!(rt; outcome == Ok(0));
-        assert!(rt; writer.taken() == ANSWER);
+        check(rt, outcome == Ok(0));
+        check(rt, writer.taken() == ANSWER);
     }
 }
 
@@ -136,7 +140,7 @@ fn writer_that_takes_no_byte(rt: HostRuntime) {
         let mut reader = LINES;
         let mut writer = PartWriter::new(Vec::new(rt.alloc()), 0, Failure::Never);
         let outcome = serve(rt.alloc(), kind, &mut reader, &mut writer);
-        assert!(rt; outcome == Err(Fault::Write));
-        assert!(rt; writer.taken().is_empty());
+        check(&rt, outcome == Err(Fault::Write));
+        check(&rt, writer.taken().is_empty());
     }
 }

@@ -1,4 +1,5 @@
 //! Lines of text and their replies, through `serve`.
+use crate::checks::check;
 use iddqd_run::{Fault, Kind, Stop, after_name, exit_status, fault_text, kind_of, serve};
 use std::alloc::{AllocError, Global};
 use std::fmt::Write;
@@ -66,7 +67,7 @@ fn answers_texts(rt: HostRuntime) -> Result<(), Fail> {
         // unknown words
         (b"lists\nadds a 1\n", b"bad\nbad\n"),
     ] {
-        assert!(rt; are_answered(rt.alloc(), input, text)?);
+        check(&rt, are_answered(rt.alloc(), input, text)?);
     }
     Ok(())
 }
@@ -76,7 +77,10 @@ fn bad_lines(rt: HostRuntime) -> Result<(), Fail> {
     let alloc = rt.alloc();
     let input =
         b"add Bob 2\nlen \nadd aaaaaaaaaaaaaaaaaaaaaaaaaaaaaaaaa 1\nadd aaaaaaaaaaaaaaaaaaaaaaaaaaaaaaaa 0\nlen\n";
-    assert!(rt; are_answered(alloc, input, b"bad\nbad\nbad\nadded\n1\n")?);
+    check(
+        &rt,
+        are_answered(alloc, input, b"bad\nbad\nbad\nadded\n1\n")?,
+    );
     for (words, kind) in [
         ([].as_slice(), Some(Kind::Ord)),
         (["ord"].as_slice(), Some(Kind::Ord)),
@@ -85,14 +89,14 @@ fn bad_lines(rt: HostRuntime) -> Result<(), Fail> {
         (["hash", "ord"].as_slice(), None),
         (["ord", "ord"].as_slice(), None),
     ] {
-        assert!(rt; kind_of_words(alloc, words)? == kind);
+        check(&rt, kind_of_words(alloc, words)? == kind);
     }
-    assert!(rt; exit_status(&Ok(3)) == 0);
-    assert!(rt; exit_status(&Err(Stop::Fault(Fault::Write))) == 1);
-    assert!(rt; exit_status(&Err(Stop::Usage)) == 2);
-    assert!(rt; fault_text(&Fault::Read) == "read failed");
-    assert!(rt; fault_text(&Fault::Write) == "write failed");
-    assert!(rt; fault_text(&Fault::Memory) == "no memory");
+    check(&rt, exit_status(&Ok(3)) == 0);
+    check(&rt, exit_status(&Err(Stop::Fault(Fault::Write))) == 1);
+    check(&rt, exit_status(&Err(Stop::Usage)) == 2);
+    check(&rt, fault_text(&Fault::Read) == "read failed");
+    check(&rt, fault_text(&Fault::Write) == "write failed");
+    check(&rt, fault_text(&Fault::Memory) == "no memory");
     Ok(())
 }
 
@@ -101,7 +105,7 @@ fn long_line(rt: HostRuntime) -> Result<(), Fail> {
     let alloc = rt.alloc();
     let mut input = vec![in alloc; b'a'; 1 << 20]?;
     input.extend_from_slice(b"\nlen\n")?;
-    assert!(rt; are_answered(alloc, input.as_slice(), b"bad\n0\n")?);
+    check(&rt, are_answered(alloc, input.as_slice(), b"bad\n0\n")?);
     Ok(())
 }
 
@@ -109,7 +113,7 @@ fn long_line(rt: HostRuntime) -> Result<(), Fail> {
 fn put_and_delete(rt: HostRuntime) -> Result<(), Fail> {
     let input = b"put a 1\nput a 2\ndel a\nput b 3\nlen\n";
     let text = b"new\nreplaced 1\nremoved 2\nnew\n1\n";
-    assert!(rt; are_answered(rt.alloc(), input, text)?);
+    check(&rt, are_answered(rt.alloc(), input, text)?);
     Ok(())
 }
 
@@ -117,7 +121,7 @@ fn put_and_delete(rt: HostRuntime) -> Result<(), Fail> {
 fn set_and_keep(rt: HostRuntime) -> Result<(), Fail> {
     let input = b"add a 5\nadd b 9\nset a 10\nkeep 9\nset b 1\nget a\nlen\n";
     let text = b"added\nadded\nset 5\nkept 1 dropped 1\nnone\n10\n1\n";
-    assert!(rt; are_answered(rt.alloc(), input, text)?);
+    check(&rt, are_answered(rt.alloc(), input, text)?);
     Ok(())
 }
 
@@ -126,14 +130,17 @@ fn table_for_both_kinds(rt: HostRuntime) -> Result<(), Fail> {
     let input = b"add bob 2\nadd al 1\nadd bob 9\nset al 7\nlist\nreserve 5000000000\ndel zed\n\n";
     let text =
         b"added\nadded\nduplicate bob 2\nset 1\nlist 2 al=7 bob=2\nrefused capacity\nnone\nbad\n";
-    assert!(rt; are_answered(rt.alloc(), input, text)?);
+    check(&rt, are_answered(rt.alloc(), input, text)?);
     Ok(())
 }
 
 #[test]
 fn reserve_and_shrink(rt: HostRuntime) -> Result<(), Fail> {
     let input = b"reserve 3\nadd a 1\nshrink\nlen\nreserve\nshrink 0\n";
-    assert!(rt; are_answered(rt.alloc(), input, b"ok\nadded\nok\n1\nbad\nbad\n")?);
+    check(
+        &rt,
+        are_answered(rt.alloc(), input, b"ok\nadded\nok\n1\nbad\nbad\n")?,
+    );
     Ok(())
 }
 
@@ -143,7 +150,7 @@ fn add_all_lines(rt: HostRuntime) -> Result<(), Fail> {
         b"addall a 1 b 2\naddall c 3 a 9 d 4\nlist\naddall a\naddall\naddall d 1 d 2\naddall e 5 f 06\nlen\n";
     let text =
         b"added 2\nduplicate a 1 after 1\nlist 3 a=1 b=2 c=3\nbad\nbad\nduplicate d 1 after 1\nbad\n4\n";
-    assert!(rt; are_answered(rt.alloc(), input, text)?);
+    check(&rt, are_answered(rt.alloc(), input, text)?);
     Ok(())
 }
 
@@ -151,7 +158,10 @@ fn add_all_lines(rt: HostRuntime) -> Result<(), Fail> {
 #[test]
 fn add_all_of_other_forms(rt: HostRuntime) -> Result<(), Fail> {
     let input = b"addall  a 1\naddall a 1 \naddalla 1\naddall a 1 B 2\naddall 1 2\nlen\n";
-    assert!(rt; are_answered(rt.alloc(), input, b"bad\nbad\nbad\nbad\nadded 1\n1\n")?);
+    check(
+        &rt,
+        are_answered(rt.alloc(), input, b"bad\nbad\nbad\nbad\nadded 1\n1\n")?,
+    );
     Ok(())
 }
 
@@ -165,7 +175,7 @@ fn add_all_of_many(rt: HostRuntime) -> Result<(), Fail> {
     }
     input.push_str("\nget megabytek49999\naddall a 0 megabytek7 1\nlen\n")?;
     let text = b"added 50000\n49999\nduplicate megabytek7 7 after 1\n50001\n";
-    assert!(rt; are_answered(alloc, input.as_bytes(), text)?);
+    check(&rt, are_answered(alloc, input.as_bytes(), text)?);
     Ok(())
 }
 
@@ -182,9 +192,9 @@ fn table_of_ends(rt: HostRuntime) -> Result<(), Fail> {
         b"first\nadd b 1\nadd a 18446744073709551615\nadd c 18446744073709551616\nput b 01\nput b 5\nfirst\nkeep 5\npoplast\npopfirst\nlist";
     let text =
         b"none\nadded\nadded\nbad\nbad\nreplaced 1\na 18446744073709551615\nkept 1 dropped 1\na 18446744073709551615\nnone\nlist 0\n";
-    assert!(rt; is_answered(alloc, Kind::Ord, input, text)?);
+    check(&rt, is_answered(alloc, Kind::Ord, input, text)?);
     let text =
         b"unsupported\nadded\nadded\nbad\nbad\nreplaced 1\nunsupported\nkept 1 dropped 1\nunsupported\nunsupported\nlist 1 a=18446744073709551615\n";
-    assert!(rt; is_answered(alloc, Kind::Hash, input, text)?);
+    check(&rt, is_answered(alloc, Kind::Hash, input, text)?);
     Ok(())
 }
