@@ -8,7 +8,7 @@ ghost use Rattle.iddqd_core.specs.SlotItems.{item_of_slot, without_slot, written
 
 use super::paired::{exchange, find_slot, put_in, reserve_one};
 use super::{IdHashMap, Lookups};
-use iddqd_core::{DuplicateItem, Few, IdHashItem, InsertError, Refused, Steps};
+use iddqd_core::{DuplicateItem, Few, IdHashItem, InsertError, Refused};
 use std::hash::BuildHasher;
 
 impl<T: IdHashItem, S: BuildHasher> IdHashMap<T, S> {
@@ -17,7 +17,7 @@ impl<T: IdHashItem, S: BuildHasher> IdHashMap<T, S> {
     /// Inserts the item where none of an equal key is there. A duplicate needs no memory and lends the item that is there;
     /// then the map is as it was. A full map and refused memory hand the item back, and then the items are as they were
     /// (ours: the crate panics or aborts for want of room). Where `spare` is above 0 a new key is never refused. It hashes
-    /// the key once and searches once, for a duplicate twice; a growth reads each pair of the index.
+    /// the key once and searches once; a growth reads each pair of the index.
     pub fn insert_unique(&mut self, item: T) -> Result<&mut (), InsertError<'_, T>>
         requires keyed { ⟦<IdHashMap<T, S> as Lookups>⟧.keyed self.old }
         ensures* after { sem 𝓛 (ends_hash_inserted S.row T.row ⟦<IdHashMap<T, S> as Lookups>⟧.keyed self.entry result item) }
@@ -26,10 +26,8 @@ impl<T: IdHashItem, S: BuildHasher> IdHashMap<T, S> {
         ensures no_spare { IfErr result (OnRefused (self.old.spare ≡ 0)) }
     {
         let hash = self.hasher.hash_one(item.key());
-        if find_slot(&self.store, &self.index, hash, item.key()).is_some() {
-            // Only the whole map can lend what outlives this call, so the item is looked for once more.
-            let akin = self.get_hashed(hash, item.key(), &mut Steps::new());
-            let existing = Few::One(akin.unwrap());
+        if let Some(slot) = find_slot(&self.store, &self.index, hash, item.key()) {
+            let existing = Few::One(self.item_in(slot));
             return Err(InsertError::Duplicate(DuplicateItem::internal_new(item, existing)));
         }
         match self.insert_new(hash, item) {
