@@ -25,7 +25,7 @@ use Rattle.iddqd.specs.Refusal.{FindsNoRoom, IsLent}
 use Rattle.iddqd.specs.declared.errors.ExtendUniqueError.TheVariants as unique_error
 use Rattle.iddqd_commands.specs.KeyedMap.{RefusesAmong, RefusesOne, StaysKeyed, StopsExtension}
 use Rattle.iddqd_commands.specs.SameReplies.{HoldSameItems, IsUnrefused}
-use Rattle.iddqd_commands.specs.Step.{Answers, FindsFull, FitsLikely, KeepsRoom, MapState, MeetsAkin, RefusesRoom, SpareRule, StopsAt, TakesAll, WithSpare, WithoutSpare, likely_new}
+use Rattle.iddqd_commands.specs.Step.{Answers, FindsFull, FitsLikely, Hashed, KeepsRoom, MapRule, MapState, MeetsAkin, Ordered, RefusesRoom, StopsAt, TakesAll, likely_new}
 use Rattle.iddqd_commands.specs.declared.commands.Command.TheVariants.{ExtendUnique}
 use Rattle.iddqd_commands.specs.declared.keyed_map.extend.NotTaken.{NotTaken}
 use Rattle.iddqd_commands.specs.declared.keyed_map.extend.NotTaken.TheVariants.{Akin, Refused}
@@ -35,16 +35,16 @@ use Rattle.iddqd_commands.specs.declared.commands.Reply.TheVariants.{Extended, C
 not_below : {a b : ℕ} → (a < b → ⊥) → b ≤ a
 not_below {a} {b} never = let more : b < suc a = lt_of_not-le never in omega (arith, more)
 
-pub stays_on : {M T : Type 0} (state : M → MapState T) (limit_of : M → ℕ) (rule : SpareRule) (IsKeyed : M → Type 0) (old middle new : M) → StaysKeyed state limit_of rule IsKeyed old middle → StaysKeyed state limit_of rule IsKeyed middle new → StaysKeyed state limit_of rule IsKeyed old new
+pub stays_on : {M T : Type 0} (state : M → MapState T) (limit_of : M → ℕ) (rule : MapRule) (IsKeyed : M → Type 0) (old middle new : M) → StaysKeyed state limit_of rule IsKeyed old middle → StaysKeyed state limit_of rule IsKeyed middle new → StaysKeyed state limit_of rule IsKeyed old new
 stays_on state limit_of rule IsKeyed old middle new one other = record {
   keyed = other.keyed;
   limit = other.limit ∙ one.limit;
   room = room_on rule (limit_of old) (limit_of middle) (state old) (state middle) (state new) one.limit one.room other.room;
 }
   where
-    room_on : {T : Type 0} (rule : SpareRule) (limit between : ℕ) (old middle new : MapState T) → between ≡ limit → KeepsRoom rule limit old middle → KeepsRoom rule between middle new → KeepsRoom rule limit old new
-    room_on WithoutSpare limit between old middle new e a b = (a.0, b.1)
-    room_on WithSpare limit between old middle new e a b = record { at_least = omega (arith, a.at_least, b.at_least); in_limit = omega (arith, b.in_limit, e) }
+    room_on : {T : Type 0} (rule : MapRule) (limit between : ℕ) (old middle new : MapState T) → between ≡ limit → KeepsRoom rule limit old middle → KeepsRoom rule between middle new → KeepsRoom rule limit old new
+    room_on Ordered limit between old middle new e a b = (a.0, b.1)
+    room_on Hashed limit between old middle new e a b = record { at_least = omega (arith, a.at_least, b.at_least); in_limit = omega (arith, b.in_limit, e) }
 
 module _ {T : Type 0} where
   -- a list is cut before the place of x
@@ -107,12 +107,12 @@ module _ {T K : Type 0} (key : T → K) {eq : K → K → Bool} (equivalence : I
         let stops = stops_here front rest xs old new x is takes in
         record { stops = stops; first = conflicts_first key equivalence (take (length front) xs) old new stops.taken.added x there found }
 
-    pub spare_first : (rule : SpareRule) (xs : List T) (old new : MapState T) → TakesAll key eq limit xs old.items new.items → KeepsRoom rule limit old new → new.spare ≡ 0 → old.spare ≤ length xs
-    spare_first WithoutSpare xs old new takes room none = omega (arith, room.0)
-    spare_first WithSpare xs old new takes room none = omega (arith, room.at_least, none, as_many xs old.items new.items takes.added)
+    pub spare_first : (rule : MapRule) (xs : List T) (old new : MapState T) → TakesAll key eq limit xs old.items new.items → KeepsRoom rule limit old new → new.spare ≡ 0 → old.spare ≤ length xs
+    spare_first Ordered xs old new takes room none = omega (arith, room.0)
+    spare_first Hashed xs old new takes room none = omega (arith, room.at_least, none, as_many xs old.items new.items takes.added)
 
     -- why the item after those that were put in was not
-    pub refuses_among : (rule : SpareRule) (front rest xs : List T) (x : T) → xs ≡ front ++ x ∷ rest → (old middle : MapState T) (new : List T) → new ≡ middle.items → TakesAll key eq limit front old.items middle.items → KeepsRoom rule limit old middle → (e : NotTaken T) → RefusesOne key eq limit middle x e → RefusesAmong key eq limit xs old new e
+    pub refuses_among : (rule : MapRule) (front rest xs : List T) (x : T) → xs ≡ front ++ x ∷ rest → (old middle : MapState T) (new : List T) → new ≡ middle.items → TakesAll key eq limit front old.items middle.items → KeepsRoom rule limit old middle → (e : NotTaken T) → RefusesOne key eq limit middle x e → RefusesAmong key eq limit xs old new e
     refuses_among rule front rest xs x is old middle new same takes room (Akin back) (itself, y, found) =
         let there : find_item key (eq (key x)) new ≡ Some y = ap (find_item key (eq (key x))) same ∙ found in
         let meets = meets_here front rest xs old.items new x y is (subst (TakesAll key eq limit front old.items) (sym same) takes) there in
@@ -150,11 +150,11 @@ module _ {T K : Type 0} (key : T → K) {eq : K → K → Bool} (equivalence : I
           by (Some x) some none = (counted x some.1 some.2.stops).0
           by None some none = omega (arith, b, n, ap length none.1)
 
-      pub refused_answered : {V : Type 0} (visits : V → T → V × T × Bool) (items : Vec T) → items.items ≡ xs → (item : Option T) (kind : _) → IfSome item (λ x. FitsLikely key eq limit xs old.items × (after : ℕ) × FindsFull key eq limit xs x kind after old new) → IfNone item (RefusesRoom limit (likely_new (length old.items) (length xs)) old kind × (new ≡ old.items)) → Answers key eq visits limit (ExtendUnique items) old (Stopped item kind (now - before)) new
-      refused_answered visits items is (Some x) kind some none =
+      pub refused_answered : {V : Type 0} (visits : V → T → V × T × Bool) (rule : MapRule) (items : Vec T) → items.items ≡ xs → (item : Option T) (kind : _) → IfSome item (λ x. FitsLikely key eq limit xs old.items × (after : ℕ) × FindsFull key eq limit xs x kind after old new) → IfNone item (RefusesRoom limit (likely_new (length old.items) (length xs)) old kind × (new ≡ old.items)) → Answers key eq visits limit rule (ExtendUnique items) old (Stopped item kind (now - before)) new
+      refused_answered visits rule items is (Some x) kind some none =
           let told = subst (λ m. FindsFull key eq limit xs x kind m old new) (sym (counted x some.1 some.2.stops).1) some.2 in
           (subst (λ zs. FitsLikely key eq limit zs old.items) (sym is) some.0, subst (λ zs. FindsFull key eq limit zs x kind (now - before) old new) (sym is) told)
-      refused_answered visits items is None kind some none =
+      refused_answered visits rule items is None kind some none =
           (subst (λ zs. RefusesRoom limit (likely_new (length old.items) (length zs)) old kind) (sym is) none.0, omega (arith, b, n, ap length none.1), none.1)
 
   -- one item is akin to one that is there where the items of another map, of the same items, are put in past it
@@ -170,8 +170,8 @@ module _ {T K : Type 0} (key : T → K) {eq : K → K → Bool} (equivalence : I
     pub added : AddsAll key eq (take after xs) old new
     pub told : ((after ≡ length xs) × (reply ≡ Extended after)) ⊎ ((x y : T) × (slice_get xs after ≡ Some x) × (find_item key (eq (key x)) (old ++ take after xs) ≡ Some y) × (reply ≡ Conflict x (Some y) after))
 
-  module _ {V : Type 0} (visits : V → T → V × T × Bool) (limit : ℕ) (xs : _) (old : MapState T) (new : List T) where
-    pub extended_ends : (reply : Reply T) → Answers key eq visits limit (ExtendUnique xs) old reply new → IsUnrefused reply → Ends xs.items old.items reply new
+  module _ {V : Type 0} (visits : V → T → V × T × Bool) (limit : ℕ) (rule : MapRule) (xs : _) (old : MapState T) (new : List T) where
+    pub extended_ends : (reply : Reply T) → Answers key eq visits limit rule (ExtendUnique xs) old reply new → IsUnrefused reply → Ends xs.items old.items reply new
     extended_ends (Extended n) a u = record {
       after = length xs.items;
       added = subst (λ zs. AddsAll key eq zs old.items new) (sym (take-length xs.items)) a.2.added;

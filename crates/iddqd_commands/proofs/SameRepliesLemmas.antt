@@ -11,7 +11,7 @@ use Rattle.std.specs.List.{All, IsDistinct}
 use Rattle.iddqd.specs.Contents.{AddsItem, NoTwoAkin, find_item, without, replaced}
 use Rattle.iddqd.specs.Visiting.{VisitsKeepKeys}
 use Rattle.iddqd_commands.specs.SameReplies.{IsOrderless, IsUnrefused, HoldSameItems, RunUnrefused, SameReplies}
-use Rattle.iddqd_commands.specs.Step.{MapState, SpareRule, Answers}
+use Rattle.iddqd_commands.specs.Step.{MapRule, MapState, Answers}
 use Rattle.iddqd_commands.specs.declared.commands.Command.{Command}
 use Rattle.iddqd_commands.specs.declared.commands.Command.TheVariants.{InsertUnique, InsertOverwrite, Get, Remove, Visit, RetainMut, Clear, Reserve, Shrink, Len, ExtendUnique}
 use Rattle.iddqd_commands.specs.declared.commands.Reply.{Reply}
@@ -91,56 +91,56 @@ module _ {T K V : Type 0} (key : T → K) (eq : K → K → Bool) (visits : V �
   put_in : (x : T) (old new : List T) → AddsItem x old new → IsPermutation (x ∷ old) new
   put_in x old new a = subst (λ l. IsPermutation (x ∷ old) l) (sym a.put) (IsPermutation-insert old a.place x)
 
-  module _ (limit : ℕ) (old : MapState T) (new : List T) where
-    unique_plain : (x : T) (reply : Reply T) → Answers key eq visits limit (InsertUnique x) old reply new → IsUnrefused reply → IsPlain (InsertUnique x) old.items reply new
+  module _ (limit : ℕ) (rule : MapRule) (old : MapState T) (new : List T) where
+    unique_plain : (x : T) (reply : Reply T) → Answers key eq visits limit rule (InsertUnique x) old reply new → IsUnrefused reply → IsPlain (InsertUnique x) old.items reply new
     unique_plain x Inserted a u = plain_where (InsertUnique x) old.items None Inserted new a.0 refl (put_in x old.items new a.2)
     unique_plain x (Duplicate back (Some e)) a u = plain_where (InsertUnique x) old.items (Some a.1) (Duplicate back (Some e)) new a.2 (ap₂ (λ b y. Duplicate b (Some y)) a.0 a.3) (now old.items new a.4)
     unique_plain x (Duplicate back None) a u = cc
     unique_plain x (Refused back kind) a u = absurd u
     unique_plain x reply a u = absurd a
 
-    overwrite_plain : (x : T) (reply : Reply T) → Answers key eq visits limit (InsertOverwrite x) old reply new → IsUnrefused reply → IsPlain (InsertOverwrite x) old.items reply new
+    overwrite_plain : (x : T) (reply : Reply T) → Answers key eq visits limit rule (InsertOverwrite x) old reply new → IsUnrefused reply → IsPlain (InsertOverwrite x) old.items reply new
     overwrite_plain x Inserted a u = plain_where (InsertOverwrite x) old.items None Inserted new a.0 refl (put_in x old.items new a.2)
     overwrite_plain x (Replaced y) a u = plain_where (InsertOverwrite x) old.items (Some y) (Replaced y) new a.0 refl (now (replaced key (eq (key x)) x old.items) new a.1)
     overwrite_plain x (Refused back kind) a u = absurd u
     overwrite_plain x reply a u = absurd a
 
-    get_plain : (k : K) (reply : Reply T) → Answers key eq visits limit (Get k) old reply new → IsUnrefused reply → IsPlain (Get k) old.items reply new
+    get_plain : (k : K) (reply : Reply T) → Answers key eq visits limit rule (Get k) old reply new → IsUnrefused reply → IsPlain (Get k) old.items reply new
     get_plain k (Found y) a u = plain_where (Get k) old.items (Some y) (Found y) new a.0 refl (now old.items new a.1)
     get_plain k Absent a u = plain_where (Get k) old.items None Absent new a.0 refl (now old.items new a.1)
     get_plain k (Refused back kind) a u = absurd u
     get_plain k reply a u = absurd a
 
-    remove_plain : (k : K) (reply : Reply T) → Answers key eq visits limit (Remove k) old reply new → IsPlain (Remove k) old.items reply new
+    remove_plain : (k : K) (reply : Reply T) → Answers key eq visits limit rule (Remove k) old reply new → IsPlain (Remove k) old.items reply new
     remove_plain k (Removed y) a = plain_where (Remove k) old.items (Some y) (Removed y) new a.0 refl (now (without key (eq k) old.items) new a.1)
     remove_plain k Absent a = plain_where (Remove k) old.items None Absent new a.0 refl (now old.items new a.1)
     remove_plain k reply a = absurd a
 
-    visit_plain : (k : K) (v : V) (reply : Reply T) → Answers key eq visits limit (Visit k v) old reply new → IsPlain (Visit k v) old.items reply new
+    visit_plain : (k : K) (v : V) (reply : Reply T) → Answers key eq visits limit rule (Visit k v) old reply new → IsPlain (Visit k v) old.items reply new
     visit_plain k v (Visited answer) (w, saw) =
         plain_where (Visit k v) old.items (Some saw.0) (Visited answer) new saw.2 (ap (λ p. Visited p.2) (sym saw.3)) (now (replaced key (eq k) (visits v saw.0).1 old.items) new (saw.4 ∙ ap (λ p. replaced key (eq k) p.1 old.items) (sym saw.3)))
     visit_plain k v Absent a = plain_where (Visit k v) old.items None Absent new a.0 refl (now old.items new a.1)
     visit_plain k v reply a = absurd a
 
-    clear_plain : (reply : Reply T) → Answers key eq visits limit Clear old reply new → IsPlain Clear old.items reply new
+    clear_plain : (reply : Reply T) → Answers key eq visits limit rule Clear old reply new → IsPlain Clear old.items reply new
     clear_plain Done a = record { replied = refl; held = now [] new a }
     clear_plain reply a = absurd a
 
-    reserve_plain : (n : ℕ) (reply : Reply T) → Answers key eq visits limit (Reserve n) old reply new → IsUnrefused reply → IsPlain (Reserve n) old.items reply new
+    reserve_plain : (n : ℕ) (reply : Reply T) → Answers key eq visits limit rule (Reserve n) old reply new → IsUnrefused reply → IsPlain (Reserve n) old.items reply new
     reserve_plain n Done a u = record { replied = refl; held = now old.items new a.1 }
     reserve_plain n (Refused back kind) a u = absurd u
     reserve_plain n reply a u = absurd a
 
-    shrink_plain : (reply : Reply T) → Answers key eq visits limit Shrink old reply new → IsUnrefused reply → IsPlain Shrink old.items reply new
+    shrink_plain : (reply : Reply T) → Answers key eq visits limit rule Shrink old reply new → IsUnrefused reply → IsPlain Shrink old.items reply new
     shrink_plain Done a u = record { replied = refl; held = a }
     shrink_plain (Refused back kind) a u = absurd u
     shrink_plain reply a u = absurd a
 
-    len_plain : (reply : Reply T) → Answers key eq visits limit Len old reply new → IsPlain Len old.items reply new
+    len_plain : (reply : Reply T) → Answers key eq visits limit rule Len old reply new → IsPlain Len old.items reply new
     len_plain (Length n) a = record { replied = ap Length a.0; held = now old.items new a.1 }
     len_plain reply a = absurd a
 
-    step_plain : (command : Command T K V) (reply : Reply T) → IsSingle command → IsOrderless command → Answers key eq visits limit command old reply new → IsUnrefused reply → IsPlain command old.items reply new
+    step_plain : (command : Command T K V) (reply : Reply T) → IsSingle command → IsOrderless command → Answers key eq visits limit rule command old reply new → IsUnrefused reply → IsPlain command old.items reply new
     step_plain (InsertUnique x) reply i o a u = unique_plain x reply a u
     step_plain (InsertOverwrite x) reply i o a u = overwrite_plain x reply a u
     step_plain (Get k) reply i o a u = get_plain k reply a u
@@ -207,11 +207,11 @@ module _ {T K V : Type 0} (key : T → K) (eq : K → K → Bool) (visits : V �
         },
       )
 
-  module _ (limit1 limit2 : ℕ) (old1 old2 : MapState T) (new1 new2 : List T) (h : HoldSameItems key eq old1.items old2.items) (r s : Reply T) where
-    alike_plain : (command : Command T K V) → IsSingle key eq visits command → IsOrderless command → Answers key eq visits limit1 command old1 r new1 → IsUnrefused r → Answers key eq visits limit2 command old2 s new2 → IsUnrefused s → (r ≡ s) × HoldSameItems key eq new1 new2
-    alike_plain command i o a u b v = step_same command old1.items old2.items r s new1 new2 h (step_plain key eq visits limit1 old1 new1 command r i o a u) (step_plain key eq visits limit2 old2 new2 command s i o b v)
+  module _ (limit1 limit2 : ℕ) (rule1 rule2 : MapRule) (old1 old2 : MapState T) (new1 new2 : List T) (h : HoldSameItems key eq old1.items old2.items) (r s : Reply T) where
+    alike_plain : (command : Command T K V) → IsSingle key eq visits command → IsOrderless command → Answers key eq visits limit1 rule1 command old1 r new1 → IsUnrefused r → Answers key eq visits limit2 rule2 command old2 s new2 → IsUnrefused s → (r ≡ s) × HoldSameItems key eq new1 new2
+    alike_plain command i o a u b v = step_same command old1.items old2.items r s new1 new2 h (step_plain key eq visits limit1 rule1 old1 new1 command r i o a u) (step_plain key eq visits limit2 rule2 old2 new2 command s i o b v)
 
-    step_alike : (command : Command T K V) → IsOrderless command → Answers key eq visits limit1 command old1 r new1 → IsUnrefused r → Answers key eq visits limit2 command old2 s new2 → IsUnrefused s → (r ≡ s) × HoldSameItems key eq new1 new2
+    step_alike : (command : Command T K V) → IsOrderless command → Answers key eq visits limit1 rule1 command old1 r new1 → IsUnrefused r → Answers key eq visits limit2 rule2 command old2 s new2 → IsUnrefused s → (r ≡ s) × HoldSameItems key eq new1 new2
     step_alike (InsertUnique x) o a u b v = alike_plain (InsertUnique x) tt o a u b v
     step_alike (InsertOverwrite x) o a u b v = alike_plain (InsertOverwrite x) tt o a u b v
     step_alike (Get k) o a u b v = alike_plain (Get k) tt o a u b v
@@ -223,9 +223,9 @@ module _ {T K V : Type 0} (key : T → K) (eq : K → K → Bool) (visits : V �
     step_alike Shrink o a u b v = alike_plain Shrink tt o a u b v
     step_alike Len o a u b v = alike_plain Len tt o a u b v
     step_alike (ExtendUnique xs) o a u b v =
-        extended_same key equivalence xs.items old1.items old2.items r s new1 new2 h (extended_ends key equivalence visits limit1 xs old1 new1 r a u) (extended_ends key equivalence visits limit2 xs old2 new2 s b v)
+        extended_same key equivalence xs.items old1.items old2.items r s new1 new2 h (extended_ends key equivalence visits limit1 rule1 xs old1 new1 r a u) (extended_ends key equivalence visits limit2 rule2 xs old2 new2 s b v)
 
-  module _ (limit1 limit2 : ℕ) (rule1 rule2 : SpareRule) where
+  module _ (limit1 limit2 : ℕ) (rule1 rule2 : MapRule) where
     run_same : (commands : List (Command T K V)) (replies1 replies2 : List (Reply T)) (old1 old2 new1 new2 : MapState T) → All IsOrderless commands → HoldSameItems key eq old1.items old2.items → RunUnrefused key eq visits limit1 rule1 old1 commands replies1 new1 → RunUnrefused key eq visits limit2 rule2 old2 commands replies2 new2 → (replies1 ≡ replies2) × HoldSameItems key eq new1.items new2.items
     run_same [] [] [] old1 old2 new1 new2 o h a b = (refl, subst (λ s. HoldSameItems key eq s.items new2.items) (sym a.0) (subst (λ s. HoldSameItems key eq old1.items s.items) (sym b.0) h))
     run_same [] [] (s ∷ ss) old1 old2 new1 new2 o h a b = absurd b.0
@@ -233,7 +233,7 @@ module _ {T K V : Type 0} (key : T → K) (eq : K → K → Bool) (visits : V �
     run_same (c ∷ cs) [] replies2 old1 old2 new1 new2 o h a b = absurd a.0
     run_same (c ∷ cs) (r ∷ rs) [] old1 old2 new1 new2 o h a b = absurd b.0
     run_same (c ∷ cs) (r ∷ rs) (s ∷ ss) old1 old2 new1 new2 o h ((middle1, one1, rest1), u1) ((middle2, one2, rest2), u2) =
-        let first = step_alike limit1 limit2 old1 old2 middle1.items middle2.items h r s c (All-head IsOrderless c cs o) one1.answers (All-head IsUnrefused r rs u1) one2.answers (All-head IsUnrefused s ss u2) in
+        let first = step_alike limit1 limit2 rule1 rule2 old1 old2 middle1.items middle2.items h r s c (All-head IsOrderless c cs o) one1.answers (All-head IsUnrefused r rs u1) one2.answers (All-head IsUnrefused s ss u2) in
         let rest = run_same cs rs ss middle1 middle2 new1 new2 (All-tail IsOrderless c cs o) first.1 (rest1, All-tail IsUnrefused r rs u1) (rest2, All-tail IsUnrefused s ss u2) in
         (ap₂ (λ t ts. t ∷ ts) first.0 rest.0, rest.1)
 

@@ -5,7 +5,7 @@ use Rattle.std.specs.Prelude.{◌≡◌, ℕ, Bool, List, IsSome, ⊤, All}
 use Rattle.std.specs.Cmp.{IsEquivalence}
 use Rattle.iddqd.specs.Contents.{NoTwoAkin, SameInAnyOrder}
 use Rattle.iddqd.specs.Visiting.{VisitsKeepKeys}
-use Rattle.iddqd_commands.specs.Step.{MapState, SpareRule, Run}
+use Rattle.iddqd_commands.specs.Step.{MapRule, MapState, Run}
 use Rattle.iddqd_commands.specs.declared.commands.Command.{Command}
 use Rattle.iddqd_commands.specs.declared.commands.Command.TheVariants.{RetainMut}
 use Rattle.iddqd_commands.specs.declared.commands.Reply.{Reply}
@@ -31,14 +31,14 @@ module _ {T K : Type 0} (key : T → K) (eq : K → K → Bool) where
     pub differ : NoTwoAkin key eq one
 
   -- one map's run, in which nothing was refused
-  abbrev pub RunUnrefused : {V : Type 0} (visits : V → T → V × T × Bool) → ℕ → SpareRule → MapState T → List (Command T K V) → List (Reply T) → MapState T → Type 0
+  abbrev pub RunUnrefused : {V : Type 0} (visits : V → T → V × T × Bool) → ℕ → MapRule → MapState T → List (Command T K V) → List (Reply T) → MapState T → Type 0
   RunUnrefused visits limit rule old commands replies new = Run key eq visits limit rule old commands replies new × All IsUnrefused replies
 
 -- two maps that hold the same items, of whatever limits and rules, give the same replies to the same commands, `RetainMut` not among them, and hold the same items then, where neither refused anything
 abbrev pub SameReplies : Type 0 → Type 0 → Type 0 → Type 0
 SameReplies T K V =
     (key : T → K) (eq : K → K → Bool) → IsEquivalence eq → (visits : V → T → V × T × Bool) → VisitsKeepKeys key eq visits
-    → (limit1 limit2 : ℕ) (rule1 rule2 : SpareRule) (old1 old2 new1 new2 : MapState T) (commands : List (Command T K V)) (replies1 replies2 : List (Reply T))
+    → (limit1 limit2 : ℕ) (rule1 rule2 : MapRule) (old1 old2 new1 new2 : MapState T) (commands : List (Command T K V)) (replies1 replies2 : List (Reply T))
     → All IsOrderless commands
     → HoldSameItems key eq old1.items old2.items
     → RunUnrefused key eq visits limit1 rule1 old1 commands replies1 new1

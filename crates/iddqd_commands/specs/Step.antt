@@ -1,9 +1,10 @@
 -- What a map answers to a command, and what it holds then (the crate's calls). No pair of a command and a reply occurs but those with a case of their own.
 --     MapState      the items of a map, and its spare: how many new items it takes without a refusal
---     SpareRule      whether a map keeps a spare
+--     MapRule      what the two kinds of map differ in: whether a map keeps a spare, and in which order it visits its items
 --     room_left, LeavesRoom      how much room a command leaves at least to a map that keeps a spare
 --     MakesRoom, RefusesRoom      room is made, or refused
---     VisitsItem, RetainsVisited      an item is visited; all are, in some order, and some stay
+--     IsVisitOrder      in which order the items of a map are visited
+--     VisitsItem, RetainsVisited      an item is visited; all are, in that order, and some stay
 --     likely_new      for how many items room is made before they are put in
 --     TakesAll, StopsAt      items are put in one after the other; so many are, and the next one is not
 --     MeetsAkin, FindsFull      why it is not
@@ -23,10 +24,10 @@ pub record MapState (T : Type 0) : Type 0 where
   pub items : List T
   pub spare : ℕ
 
--- a map that keeps no spare has 0 throughout; one that keeps a spare loses room by a shrink alone (`reserve`; the number is ours)
-pub data SpareRule : Type 0 where
-  WithoutSpare : SpareRule
-  WithSpare : SpareRule
+-- an ordered map visits its items in the order in which it has them, and its spare is 0 throughout; a hash map visits its items in any order, keeps a spare, and loses room by a shrink alone (`reserve`; the number is ours)
+pub data MapRule : Type 0 where
+  Ordered : MapRule
+  Hashed : MapRule
 
 -- a map with these items that keeps no spare
 abbrev pub spareless : {T : Type 0} → List T → MapState T
@@ -42,17 +43,17 @@ pub record HasRoom {T : Type 0} (limit least : ℕ) (m : MapState T) : Type 0 wh
   pub in_limit : room_of m ≤ limit
 
 -- after a call that may lower the room to so much, and no further
-abbrev pub LeavesRoom : {T : Type 0} → SpareRule → (limit least : ℕ) → (old new : MapState T) → Type 0
-LeavesRoom WithoutSpare limit least old new = (old.spare ≡ 0) × (new.spare ≡ 0)
-LeavesRoom WithSpare limit least old new = HasRoom limit least new
+abbrev pub LeavesRoom : {T : Type 0} → MapRule → (limit least : ℕ) → (old new : MapState T) → Type 0
+LeavesRoom Ordered limit least old new = (old.spare ≡ 0) × (new.spare ≡ 0)
+LeavesRoom Hashed limit least old new = HasRoom limit least new
 
 -- what a call that only reads tells of the room: it fits the limit
-abbrev pub FitsRoom : {T : Type 0} → SpareRule → (limit : ℕ) → MapState T → Type 0
-FitsRoom WithoutSpare limit m = m.spare ≡ 0
-FitsRoom WithSpare limit m = room_of m ≤ limit
+abbrev pub FitsRoom : {T : Type 0} → MapRule → (limit : ℕ) → MapState T → Type 0
+FitsRoom Ordered limit m = m.spare ≡ 0
+FitsRoom Hashed limit m = room_of m ≤ limit
 
 -- after a call that lowers no room
-abbrev pub KeepsRoom : {T : Type 0} → SpareRule → (limit : ℕ) → (old new : MapState T) → Type 0
+abbrev pub KeepsRoom : {T : Type 0} → MapRule → (limit : ℕ) → (old new : MapState T) → Type 0
 KeepsRoom rule limit old new = LeavesRoom rule limit (room_of old) old new
 
 -- how much room there is at least after a command: a reservation makes it, a shrink may give all of it back, and no other command lowers it
@@ -62,7 +63,7 @@ room_left Shrink _ old = 0
 room_left _ _ old = room_of old
 
 -- there is room for so many more items: the limit has it, and a map that keeps a spare has so much (`reserve`)
-pub record MakesRoom {T : Type 0} (rule : SpareRule) (limit n : ℕ) (old new : MapState T) : Type 0 where
+pub record MakesRoom {T : Type 0} (rule : MapRule) (limit n : ℕ) (old new : MapState T) : Type 0 where
   pub in_limit : length old.items + n ≤ limit
   pub room : LeavesRoom rule limit (length old.items + n) old new
 
@@ -104,16 +105,21 @@ module _ {T K : Type 0} (key : T → K) (eq : K → K → Bool) (limit : ℕ) wh
     pub refused : FindsNoRoom key eq limit new x kind
     pub spare_first : old.spare ≤ after
 
+-- the order in which a map with these items visits them
+abbrev pub IsVisitOrder : {T : Type 0} → MapRule → (items order : List T) → Type 0
+IsVisitOrder Ordered items order = order ≡ items
+IsVisitOrder Hashed items order = SameInAnyOrder items order
+
 module _ {T K V : Type 0} (key : T → K) (visits : V → T → V × T × Bool) where
   -- the item whose key passes the test is visited, and stays as the visit made it, whatever the answer (`visit`, ours)
   abbrev pub VisitsItem : (K → Bool) → (old_visitor new_visitor : V) → Bool → (old new : List T) → Type 0
   VisitsItem test v w answer old new = (x y : T) × (find_item key test old ≡ Some x) × (visits v x ≡ (w, y, answer)) × (new ≡ replaced key test y old)
 
-  -- in some order each item is visited, and those answered true stay (`retain_mut`, ours)
-  abbrev pub RetainsVisited : (old_visitor new_visitor : V) → (old new : List T) → Type 0
-  RetainsVisited v w old new = (order : List T) × SameInAnyOrder old order × (w ≡ visitor_after visits v order) × (new ≡ kept_by visits v order)
+  -- each item is visited once, in the order in which the map visits them, and those answered true stay (`retain_mut`, ours)
+  abbrev pub RetainsVisited : MapRule → (old_visitor new_visitor : V) → (old new : List T) → Type 0
+  RetainsVisited rule v w old new = (order : List T) × IsVisitOrder rule old order × (w ≡ visitor_after visits v order) × (new ≡ kept_by visits v order)
 
-module _ {T K V : Type 0} (key : T → K) (eq : K → K → Bool) (visits : V → T → V × T × Bool) (limit : ℕ) where
+module _ {T K V : Type 0} (key : T → K) (eq : K → K → Bool) (visits : V → T → V × T × Bool) (limit : ℕ) (rule : MapRule) where
   -- what each command is answered, and the items then; no other pair of a command and a reply occurs
   abbrev pub Answers : Command T K V → MapState T → Reply T → List T → Type 0
   -- the item is put in where its key is absent and the map is not full
@@ -134,7 +140,7 @@ module _ {T K V : Type 0} (key : T → K) (eq : K → K → Bool) (visits : V �
   -- the item stays as the visit made it
   Answers (Visit k v) old (Visited answer) new = (w : V) × VisitsItem key visits (eq k) v w answer old.items new
   Answers (Visit k v) old Absent new = IsAbsent key (eq k) old.items × (new ≡ old.items)
-  Answers (RetainMut v) old (Kept n) new = (w : V) × RetainsVisited key visits v w old.items new × (n ≡ length new)
+  Answers (RetainMut v) old (Kept n) new = (w : V) × RetainsVisited key visits rule v w old.items new × (n ≡ length new)
   Answers Clear old Done new = new ≡ []
   -- the items stay
   Answers (Reserve n) old Done new = (length old.items + n ≤ limit) × (new ≡ old.items)
@@ -151,13 +157,13 @@ module _ {T K V : Type 0} (key : T → K) (eq : K → K → Bool) (visits : V �
   Answers _ _ _ _ = ⊥
 
   -- one command: the reply and the items then, and the room that is left
-  pub record Step (rule : SpareRule) (old : MapState T) (command : Command T K V) (reply : Reply T) (new : MapState T) : Type 0 where
+  pub record Step (old : MapState T) (command : Command T K V) (reply : Reply T) (new : MapState T) : Type 0 where
     pub answers : Answers command old reply new.items
     pub room : LeavesRoom rule limit (room_left command reply old) old new
 
   -- a reply for each command, in order, each from where the one before ended
-  abbrev pub Run : SpareRule → MapState T → List (Command T K V) → List (Reply T) → MapState T → Type 0
-  Run rule old [] [] new = new ≡ old
-  Run rule old [] (reply ∷ replies) new = ⊥
-  Run rule old (command ∷ commands) [] new = ⊥
-  Run rule old (command ∷ commands) (reply ∷ replies) new = (middle : MapState T) × Step rule old command reply middle × Run rule middle commands replies new
+  abbrev pub Run : MapState T → List (Command T K V) → List (Reply T) → MapState T → Type 0
+  Run old [] [] new = new ≡ old
+  Run old [] (reply ∷ replies) new = ⊥
+  Run old (command ∷ commands) [] new = ⊥
+  Run old (command ∷ commands) (reply ∷ replies) new = (middle : MapState T) × Step old command reply middle × Run middle commands replies new

@@ -5,7 +5,7 @@ ghost use Rattle.iddqd.specs.Contents.{NoTwoAkin, OverwritesItem, find_item, wit
 ghost use Rattle.iddqd.specs.Refusal.{OnRefused, RefusesInsertion, memory_refused};
 ghost use Rattle.iddqd_commands.specs.KeyedMap.{ShrinksMap, StaysKeyed, ends_extended, ends_inserted};
 ghost use Rattle.iddqd.specs.Visiting.{VisitsKeepKeys};
-ghost use Rattle.iddqd_commands.specs.Step.{MapState, SpareRule, FitsRoom, MakesRoom, RefusesItem, RefusesRoom, RetainsVisited, VisitsItem};
+ghost use Rattle.iddqd_commands.specs.Step.{MapRule, MapState, FitsRoom, MakesRoom, RefusesItem, RefusesRoom, RetainsVisited, VisitsItem};
 
 mod extend;
 mod hash;
@@ -16,7 +16,8 @@ use iddqd::errors::{ExtendUniqueError, InsertError, Refused, TryReserveError};
 
 /// A map whose keys live in its items, for callers that take any (ours). Contracts see its items and its spare, the most
 /// items that it ever holds, and whether it is keyed: each call leaves it keyed, under the same limit and, but for a shrink, with the room that
-/// its rule promises. A call is answered as its command is (`run`), and costs what the map's own call of that name does.
+/// its rule promises. A call is answered as its command is (`run`), and but for `extend_unique` it costs what the map's own
+/// call of that name does.
 pub trait KeyedMap {
     /// What the map holds.
     type Item;
@@ -33,8 +34,8 @@ pub trait KeyedMap {
     // The most items that the map ever holds.
     ghost limit: { Self → ℕ };
 
-    // Whether the map keeps a spare.
-    ghost rule: { SpareRule };
+    // Whether the map keeps a spare, and in which order it visits its items.
+    ghost rule: { MapRule };
 
     // The items lie as the map's lookups expect them.
     ghost keyed: { Self → Type 0 };
@@ -94,7 +95,7 @@ pub trait KeyedMap {
         Self::Item: Drop,
         requires keyed { keyed self.old }
         requires keeps_keys { VisitsKeepKeys key Self.Key.eq V.visits }
-        ensures retained { RetainsVisited key V.visits visitor.old visitor.new (state self.old).items (state self.new).items }
+        ensures retained { RetainsVisited key V.visits rule visitor.old visitor.new (state self.old).items (state self.new).items }
         ensures stays { StaysKeyed state limit rule keyed self.old self.new };
 
     /// Drops every item. It takes no memory, and the room of the items is spare again where the map keeps a spare.
@@ -140,7 +141,7 @@ pub trait KeyedMap {
     /// refused, the error has no item and the items are as they were. Else the first item of which one of an equal key is
     /// there by then, from before or put in by this call, comes back beside that one, which is lent; or the first that
     /// finds no room comes back, and as many were put in then as were spare. Those before it stay, and the others are
-    /// dropped. A duplicate needs no memory, and is searched for twice.
+    /// dropped. A duplicate needs no memory, and is searched for once more than `insert_unique` does.
     final fn extend_unique(
         &mut self,
         items: Vec<Self::Item>,

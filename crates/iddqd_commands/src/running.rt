@@ -89,7 +89,7 @@ where
     M::Item: Clone,
     requires keyed { M.keyed map.old }
     requires clones { ClonesAreEqual M.Item.is_clone }
-    ensures answers { Answers M.key M.Key.eq V.visits (M.limit map.old) (InsertUnique item) (M.state map.old) result (M.state map.new).items }
+    ensures answers { Answers M.key M.Key.eq V.visits (M.limit map.old) M.rule (InsertUnique item) (M.state map.old) result (M.state map.new).items }
     ensures stays { StaysKeyed M.state M.limit M.rule M.keyed map.old map.new }
 {
     match map.insert_unique(item) {
@@ -111,7 +111,7 @@ fn insert_overwrite<M: KeyedMap, V: Visit<M::Item>>(map: &mut M, item: M::Item) 
 where
     M::Item: Drop,
     requires keyed { M.keyed map.old }
-    ensures answers { Answers M.key M.Key.eq V.visits (M.limit map.old) (InsertOverwrite item) (M.state map.old) result (M.state map.new).items }
+    ensures answers { Answers M.key M.Key.eq V.visits (M.limit map.old) M.rule (InsertOverwrite item) (M.state map.old) result (M.state map.new).items }
     ensures stays { StaysKeyed M.state M.limit M.rule M.keyed map.old map.new }
 {
     match map.insert_overwrite(item) {
@@ -143,7 +143,7 @@ where
     V: Drop,
     requires keyed { M.keyed map.old }
     requires keeps_keys { VisitsKeepKeys M.key M.Key.eq V.visits }
-    ensures answers { Answers M.key M.Key.eq V.visits (M.limit map.old) (Visit key.now visitor) (M.state map.old) result (M.state map.new).items }
+    ensures answers { Answers M.key M.Key.eq V.visits (M.limit map.old) M.rule (Visit key.now visitor) (M.state map.old) result (M.state map.new).items }
     ensures stays { StaysKeyed M.state M.limit M.rule M.keyed map.old map.new }
 {
     match map.visit(key, &mut visitor) {
@@ -159,7 +159,7 @@ where
     V: Drop,
     requires keyed { M.keyed map.old }
     requires keeps_keys { VisitsKeepKeys M.key M.Key.eq V.visits }
-    ensures answers { Answers M.key M.Key.eq V.visits (M.limit map.old) (RetainMut visitor) (M.state map.old) result (M.state map.new).items }
+    ensures answers { Answers M.key M.Key.eq V.visits (M.limit map.old) M.rule (RetainMut visitor) (M.state map.old) result (M.state map.new).items }
     ensures stays { StaysKeyed M.state M.limit M.rule M.keyed map.old map.new }
 {
     map.retain_mut(&mut visitor);
@@ -198,7 +198,7 @@ where
     M::Item: Clone,
     requires keyed { M.keyed map.now }
     requires clones { ClonesAreEqual M.Item.is_clone }
-    ensures answers { Answers M.key M.Key.eq V.visits (M.limit map.now) (Get key.now) (M.state map.now) result (M.state map.now).items }
+    ensures answers { Answers M.key M.Key.eq V.visits (M.limit map.now) M.rule (Get key.now) (M.state map.now) result (M.state map.now).items }
     ensures room { FitsRoom M.rule (M.limit map.now) (M.state map.now) }
 {
     let Some(item) = map.get(key) else {
@@ -219,7 +219,7 @@ where
     M::Item: Clone,
     requires keyed { M.keyed map.old }
     requires clones { ClonesAreEqual M.Item.is_clone }
-    ensures answers { Answers M.key M.Key.eq V.visits (M.limit map.old) (ExtendUnique items) (M.state map.old) result (M.state map.new).items }
+    ensures answers { Answers M.key M.Key.eq V.visits (M.limit map.old) M.rule (ExtendUnique items) (M.state map.old) result (M.state map.new).items }
     ensures stays { StaysKeyed M.state M.limit M.rule M.keyed map.old map.new }
 {
     let before = map.len();

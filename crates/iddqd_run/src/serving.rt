@@ -35,7 +35,9 @@ pub fn fault_text(fault: &Fault) -> &'static str
 /// Reads all input, answers each line from the entries so far, and then writes the whole text and flushes the writer (ours).
 /// `Ok` tells how many lines were refused for want of memory. After `Fault::Read` and `Fault::Memory` nothing was written, after
 /// `Fault::Write` a beginning of the text or all of it. A read or a write that is interrupted is made again. The kind of map
-/// changes no reply. The whole input and the whole text stand in memory at once.
+/// decides only whether it has ends, and whether `list` can be refused memory: over a hash map `first`, `last`, `popfirst` and
+/// `poplast` are answered `unsupported`, and `list` takes memory to put the entries in order. The whole input and the whole
+/// text stand in memory at once.
 pub fn serve<R: Read, W: Write>(
     alloc: Global,
     kind: Kind,

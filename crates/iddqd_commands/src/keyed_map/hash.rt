@@ -1,7 +1,7 @@
-//! The hash map, which keeps its spare.
+//! The hash map, which visits its items in any order and keeps its spare.
 ghost use Rattle.iddqd.specs.HashItems.{Keyed};
 ghost use Rattle.iddqd.specs.Hashing.{hash_under};
-ghost use Rattle.iddqd_commands.specs.Step.{WithSpare};
+ghost use Rattle.iddqd_commands.specs.Step.{Hashed};
 
 use super::KeyedMap;
 use iddqd::errors::{InsertError, Refused, TryReserveError};
@@ -20,7 +20,7 @@ impl<T: IdHashItem, S: BuildHasher> KeyedMap for IdHashMap<T, S> {
 
     ghost limit = { λ m. m.limit };
 
-    ghost rule = { WithSpare };
+    ghost rule = { Hashed };
 
     ghost keyed = { Keyed T.key T.Key.eq T.Key.hash_input (hash_under S.BuildHasher S.Hasher.Hasher) };
 

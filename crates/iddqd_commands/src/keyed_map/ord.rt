@@ -1,7 +1,7 @@
-//! The ordered map, which keeps no spare.
+//! The ordered map, which visits its items in order and keeps no spare.
 ghost use Rattle.iddqd.specs.Contents.{Ascends};
 ghost use Rattle.iddqd.specs.Query.{differ_from_ascends};
-ghost use Rattle.iddqd_commands.specs.Step.{WithoutSpare, spareless};
+ghost use Rattle.iddqd_commands.specs.Step.{Ordered, spareless};
 
 use super::KeyedMap;
 use iddqd::errors::{InsertError, Refused, TryReserveError};
@@ -19,7 +19,7 @@ impl<T: IdOrdItem> KeyedMap for IdOrdMap<T> {
 
     ghost limit = { λ m. m.limit };
 
-    ghost rule = { WithoutSpare };
+    ghost rule = { Ordered };
 
     ghost keyed = { λ m. Ascends T.key T.Key.cmp m.items };
 
