@@ -61,19 +61,39 @@ fn hash_reading_walk(rt: HostRuntime) -> Result<(), Fail> {
     Ok(())
 }
 
+// Whether a walk has nothing to give, again and again.
+fn has_none<I: ExactSizeIterator>(mut walk: I) -> bool
+where
+    I: Drop,
+    I::Item: Drop,
+{
+    walk.len() == 0 && walk.next().is_none() && walk.next().is_none() && walk.len() == 0
+}
+
+// Whether neither walk that leaves the map finds an item in it.
+fn lends_none_in_order(mut map: IdOrdMap<Named>) -> bool {
+    let mut walk = map.iter_mut();
+    let lends_none = walk.len() == 0 && walk.next().is_none() && walk.next().is_none();
+    lends_none && has_none(map.iter())
+}
+
+fn lends_none_by_hash(mut map: IdHashMap<Named>) -> bool {
+    let mut walk = map.iter_mut();
+    let lends_none = walk.len() == 0 && walk.next().is_none() && walk.next().is_none();
+    lends_none && has_none(map.iter())
+}
+
 #[test]
-fn walks_of_empty_maps(rt: HostRuntime) -> Result<(), Fail> {
-    let ordered: IdOrdMap<Named> = IdOrdMap::new(rt.alloc());
-    let mut walk = ordered.iter();
-    check(&rt, walk.len() == 0);
-    check(&rt, walk.next().is_none() && walk.next().is_none());
-    check(&rt, ordered == IdOrdMap::new(rt.alloc()));
-    let hashed: IdHashMap<Named> = IdHashMap::new(rt.alloc());
-    let mut walk = hashed.iter();
-    check(&rt, walk.len() == 0);
-    check(&rt, walk.next().is_none() && walk.next().is_none());
-    check(&rt, hashed.eq(&IdHashMap::new(rt.alloc())));
-    Ok(())
+fn walks_of_empty_maps(rt: HostRuntime) {
+    let alloc = rt.alloc();
+    check(&rt, lends_none_in_order(IdOrdMap::new(alloc)));
+    check(&rt, lends_none_by_hash(IdHashMap::new(alloc)));
+    let ordered: IdOrdMap<Named> = IdOrdMap::new(alloc);
+    check(&rt, ordered == IdOrdMap::new(alloc));
+    check(&rt, has_none(ordered.into_iter()));
+    let hashed: IdHashMap<Named> = IdHashMap::new(alloc);
+    check(&rt, hashed.eq(&IdHashMap::new(alloc)));
+    check(&rt, has_none(hashed.into_iter()));
 }
 
 /// Items whose equality ignores the key.

@@ -6,6 +6,7 @@ use crate::items::Named;
 use crate::tried::Tried;
 use iddqd::errors::{ExtendError, ExtendUniqueError, FromIterError, TryReserveError};
 use iddqd::{IdHashItem, IdHashMap, IdOrdItem, IdOrdMap, Lookups};
+use iddqd_commands::KeyedMap;
 use std::alloc::Global;
 use std::hash::BuildHasher;
 
@@ -189,6 +190,19 @@ impl Iterator for Liar {
     fn size_hint(&self) -> (usize, Option<usize>) {
         (self.announced, None)
     }
+}
+
+/// Whether the map refuses what a liar announces before it asks it.
+pub fn is_not_taken_in<M: KeyedMap<Item = Named>>(map: &mut Tried<M>) -> bool
+where
+    Tried<M>: Bulk<Named>,
+{
+    let mut liar = Liar::new();
+    let refused = match map.extend(&mut liar) {
+        Ok(()) => false,
+        Err(stopped) => stopped.item.is_none() && stopped.error.is_capacity_overflow(),
+    };
+    refused && liar.asked() == 0
 }
 
 /// An iterator over a vector's items, from the last one on, that announces none.

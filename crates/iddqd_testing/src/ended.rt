@@ -1,7 +1,8 @@
-//! What random lists of calls ask of an ordered map alone.
+//! What tests ask of an ordered map alone.
 ghost use Rattle.iddqd.specs.Contents.{Ascends};
 
 use crate::caseless::{Caseless, Coarse};
+use crate::entered::Put;
 use crate::tried::{Inserted, Tried};
 use iddqd::errors::InsertError;
 use iddqd::id_ord_map::Entry;
@@ -45,8 +46,40 @@ impl Tried<IdOrdMap<Coarse>> {
         (gone, steps.count())
     }
 
-    /// `insert_unique_counted`, and how many comparisons it took.
-    pub fn insert_counted(&mut self, item: Coarse) -> (Inserted<Coarse>, u32) {
+    /// `insert_ref` where no item of the name is there.
+    pub fn put_shown(&mut self, item: Coarse) -> Put {
+        put_shown(&mut self.map, item)
+    }
+
+    /// `or_insert_ref`.
+    pub fn show_or_put(&mut self, item: Coarse) -> Put {
+        show_or_put(&mut self.map, item)
+    }
+
+    /// `or_insert_with_ref`.
+    pub fn show_or_put_made(&mut self, item: Coarse) -> Put {
+        show_or_put_made(&mut self.map, item)
+    }
+
+    /// The item that `put_shown` shows.
+    pub fn show_inserted(&mut self, item: Coarse) -> Option<Coarse> {
+        self.put_shown(item).shown()
+    }
+
+    /// The item that `show_or_put` shows.
+    pub fn show_or_insert(&mut self, item: Coarse) -> Option<Coarse> {
+        self.show_or_put(item).shown()
+    }
+
+    /// The item that `show_or_put_made` shows.
+    pub fn show_or_make(&mut self, item: Coarse) -> Option<Coarse> {
+        self.show_or_put_made(item).shown()
+    }
+}
+
+impl<T: IdOrdItem + Copy> Tried<IdOrdMap<T>> {
+    /// `insert_unique_counted`, with what is lent copied, and how many comparisons it took.
+    pub fn insert_counted(&mut self, item: T) -> (Inserted<T>, u32) {
         let mut steps = Steps::new();
         let inserted = match self.map.insert_unique_counted(item, &mut steps) {
             Ok(()) => Inserted::Done,
@@ -58,52 +91,37 @@ impl Tried<IdOrdMap<Coarse>> {
         };
         (inserted, steps.count())
     }
-
-    /// `insert_ref` where no item of the name is there: the item that is shown.
-    pub fn show_inserted(&mut self, item: Coarse) -> Option<Coarse> {
-        show_inserted(&mut self.map, item)
-    }
-
-    /// `or_insert_ref`: the item that is shown.
-    pub fn show_or_insert(&mut self, item: Coarse) -> Option<Coarse> {
-        show_or_insert(&mut self.map, item)
-    }
-
-    /// `or_insert_with_ref`: the item that is shown.
-    pub fn show_or_make(&mut self, item: Coarse) -> Option<Coarse> {
-        show_or_make(&mut self.map, item)
-    }
 }
 
-fn show_inserted(map: &mut IdOrdMap<Coarse>, item: Coarse) -> Option<Coarse>
+fn put_shown(map: &mut IdOrdMap<Coarse>, item: Coarse) -> Put
     requires keyed { Ascends ⟦<Coarse as IdOrdItem>⟧.key ⟦<Caseless as Ord>⟧.cmp map.old.items }
     ensures keyed { Ascends ⟦<Coarse as IdOrdItem>⟧.key ⟦<Caseless as Ord>⟧.cmp map.new.items }
 {
     match map.entry(&item.name) {
         Entry::Vacant(entry) => match entry.insert_ref(item) {
-            Ok(shown) => Some(*shown),
-            Err(_) => None,
+            Ok(shown) => Put::Shown(*shown),
+            Err(refused) => Put::Refused(refused.item, refused.error),
         },
-        Entry::Occupied(_) => None,
+        Entry::Occupied(_) => Put::OtherKind,
     }
 }
 
-fn show_or_insert(map: &mut IdOrdMap<Coarse>, item: Coarse) -> Option<Coarse>
+fn show_or_put(map: &mut IdOrdMap<Coarse>, item: Coarse) -> Put
     requires keyed { Ascends ⟦<Coarse as IdOrdItem>⟧.key ⟦<Caseless as Ord>⟧.cmp map.old.items }
     ensures keyed { Ascends ⟦<Coarse as IdOrdItem>⟧.key ⟦<Caseless as Ord>⟧.cmp map.new.items }
 {
     match map.entry(&item.name).or_insert_ref(item) {
-        Ok(shown) => Some(*shown),
-        Err(_) => None,
+        Ok(shown) => Put::Shown(*shown),
+        Err(refused) => Put::Refused(refused.item, refused.error),
     }
 }
 
-fn show_or_make(map: &mut IdOrdMap<Coarse>, item: Coarse) -> Option<Coarse>
+fn show_or_put_made(map: &mut IdOrdMap<Coarse>, item: Coarse) -> Put
     requires keyed { Ascends ⟦<Coarse as IdOrdItem>⟧.key ⟦<Caseless as Ord>⟧.cmp map.old.items }
     ensures keyed { Ascends ⟦<Coarse as IdOrdItem>⟧.key ⟦<Caseless as Ord>⟧.cmp map.new.items }
 {
     match map.entry(&item.name).or_insert_with_ref(|| item) {
-        Ok(shown) => Some(*shown),
-        Err(_) => None,
+        Ok(shown) => Put::Shown(*shown),
+        Err(refused) => Put::Refused(refused.item, refused.error),
     }
 }

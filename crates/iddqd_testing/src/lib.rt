@@ -2,7 +2,7 @@
 #![tactic(auto)]
 
 pub mod bulk;
-mod copied;
+pub mod copied;
 pub mod counted;
 pub mod counting;
 pub mod ended;
@@ -11,6 +11,7 @@ pub mod hashers;
 pub mod heap;
 pub mod items;
 pub mod lent;
+pub mod nine;
 pub mod parts;
 pub mod probed;
 pub mod respelled;

@@ -262,6 +262,13 @@ impl<T: IdOrdItem> AskedForRoom for Tried<IdOrdMap<T>> {
     }
 }
 
+impl<T: IdHashItem, S: BuildHasher> Tried<IdHashMap<T, S>> {
+    /// `try_reserve`, which an ordered map lacks.
+    pub fn reserve_or_tell(&mut self, additional: usize) -> Result<(), TryReserveError> {
+        self.map.try_reserve(additional)
+    }
+}
+
 impl<T: IdHashItem, S: BuildHasher> AskedForRoom for Tried<IdHashMap<T, S>> {
     fn reserve(&mut self, additional: usize) -> Result<(), TryReserveError> {
         self.map.reserve(additional)

@@ -1,6 +1,7 @@
-//! What a row asks of the walks that write and that retain, of a map of either kind.
+//! What a row asks of the walks of a map of either kind.
 use crate::tried::Tried;
 use iddqd::{IdHashItem, IdHashMap, IdOrdItem, IdOrdMap};
+use std::alloc::{AllocError, Global};
 use std::hash::BuildHasher;
 
 /// A map of either kind, by its `retain` and `iter_mut`.
@@ -62,5 +63,42 @@ impl<T: IdHashItem, S: BuildHasher> Walked<T> for Tried<IdHashMap<T, S>> {
         }
         let left = walk.len();
         (map, left)
+    }
+}
+
+/// A map of either kind, by its `iter`.
+pub trait Listed<T> {
+    /// The items, in the order of the walk.
+    fn listed(&self, alloc: Global) -> Result<Vec<T>, AllocError>;
+
+    /// Whether the walk has these items, in this order.
+    fn lists(&self, items: &[T]) -> bool;
+}
+
+impl<T: IdOrdItem + Copy + PartialEq> Listed<T> for Tried<IdOrdMap<T>> {
+    fn listed(&self, alloc: Global) -> Result<Vec<T>, AllocError> {
+        let mut items = Vec::new(alloc);
+        for item in self.map.iter() {
+            items.push(*item)?;
+        }
+        Ok(items)
+    }
+
+    fn lists(&self, items: &[T]) -> bool {
+        self.map.iter().eq(items)
+    }
+}
+
+impl<T: IdHashItem + Copy + PartialEq, S: BuildHasher> Listed<T> for Tried<IdHashMap<T, S>> {
+    fn listed(&self, alloc: Global) -> Result<Vec<T>, AllocError> {
+        let mut items = Vec::new(alloc);
+        for item in self.map.iter() {
+            items.push(*item)?;
+        }
+        Ok(items)
+    }
+
+    fn lists(&self, items: &[T]) -> bool {
+        self.map.iter().eq(items)
     }
 }

@@ -1,52 +1,70 @@
 //! Rows of clones.
 use crate::checks::check;
+use crate::insertions::{BAR, FOO};
 use iddqd::{IdHashMap, IdOrdMap};
+use iddqd_commands::KeyedMap;
+use iddqd_testing::copied::Twin;
 use iddqd_testing::items::Named;
-use iddqd_testing::tried::is_put;
+use iddqd_testing::tried::Tried;
+use std::process::Abort;
 use std::test::Fail;
 
-fn named(name: [u8; 3], value: u32) -> Named {
-    Named { name, value }
+const BAZ: Named = Named {
+    name: *b"baz",
+    value: 1,
+};
+
+const WRITTEN_FOO: Named = Named {
+    name: *b"foo",
+    value: 7,
+};
+
+fn filled<M: KeyedMap<Item = Named, Key = [u8; 3]> + Drop>(
+    rt: &impl Abort,
+    mut map: Tried<M>,
+) -> Tried<M> {
+    check(rt, map.is_put(FOO) && map.is_put(BAR) && map.is_put(BAZ));
+    check(rt, map.remove(b"baz") == Some(BAZ));
+    map
+}
+
+// Writes into the clone, which its source does not show.
+fn written<M: KeyedMap<Item = Named, Key = [u8; 3]>>(
+    rt: &impl Abort,
+    map: &Tried<M>,
+    copy: &mut Tried<M>,
+)
+where
+    Tried<M>: Twin,
+{
+    check(rt, copy.is_like(map));
+    check(rt, copy.write(*b"foo", 7));
+    check(rt, copy.get(b"foo") == Some(&WRITTEN_FOO));
+    check(rt, map.get(b"foo") == Some(&FOO));
+    check(rt, !copy.is_like(map));
+}
+
+fn cloned<M: KeyedMap<Item = Named, Key = [u8; 3]> + Drop>(
+    rt: &impl Abort,
+    map: Tried<M>,
+) -> Result<(), Fail>
+where
+    Tried<M>: Twin,
+{
+    let map = filled(rt, map);
+    let Ok(mut copy) = map.twin() else {
+        return Err(Fail::from("no memory for a clone"));
+    };
+    written(rt, &map, &mut copy);
+    Ok(())
 }
 
 #[test]
 fn clone(rt: HostRuntime) -> Result<(), Fail> {
-    let mut map = IdOrdMap::new(rt.alloc());
-    check(
-        &rt,
-        is_put(&mut map, named(*b"foo", 42)) && is_put(&mut map, named(*b"bar", 20)),
-    );
-    check(
-        &rt,
-        is_put(&mut map, named(*b"baz", 1)) && map.remove(b"baz").is_some(),
-    );
-    let Ok(mut copy) = map.clone() else {
-        return Err(Fail::from("no memory for a clone"));
-    };
-    check(&rt, copy == map);
-    check(&rt, copy.insert_overwrite(named(*b"foo", 7)).is_ok());
-    check(&rt, map.get(b"foo").copied() == Some(named(*b"foo", 42)));
-    check(&rt, copy != map);
-    Ok(())
+    cloned(&rt, Tried::new(IdOrdMap::new(rt.alloc())))
 }
 
 #[test]
 fn hash_clone(rt: HostRuntime) -> Result<(), Fail> {
-    let mut map = IdHashMap::new(rt.alloc());
-    check(
-        &rt,
-        is_put(&mut map, named(*b"foo", 42)) && is_put(&mut map, named(*b"bar", 20)),
-    );
-    check(
-        &rt,
-        is_put(&mut map, named(*b"baz", 1)) && map.remove(b"baz").is_some(),
-    );
-    let Ok(mut copy) = map.clone() else {
-        return Err(Fail::from("no memory for a clone"));
-    };
-    check(&rt, map.eq(&copy));
-    check(&rt, copy.insert_overwrite(named(*b"foo", 7)).is_ok());
-    check(&rt, map.get(b"foo").copied() == Some(named(*b"foo", 42)));
-    check(&rt, !map.eq(&copy));
-    Ok(())
+    cloned(&rt, Tried::new(IdHashMap::new(rt.alloc())))
 }

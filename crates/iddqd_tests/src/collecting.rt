@@ -4,7 +4,7 @@ use crate::insertions::{BAR, FOO, OTHER_FOO, wide_item};
 use iddqd::errors::{FromIterError, TryReserveError};
 use iddqd::{DefaultHashBuilder, IdHashMap, IdOrdMap};
 use iddqd_commands::KeyedMap;
-use iddqd_testing::bulk::{Added, Adding, Bulk, Liar, Unannounced};
+use iddqd_testing::bulk::{Added, Adding, Bulk, Liar, Unannounced, is_not_taken_in};
 use iddqd_testing::items::{Named, Wide};
 use iddqd_testing::tried::Tried;
 use std::alloc::{AllocError, Global};
@@ -185,19 +185,6 @@ fn extend_overwrites(rt: HostRuntime) -> Result<(), Fail> {
     collected_by_name::<IdOrdMap<Named>>(&rt, alloc)?;
     collected_by_name::<IdHashMap<Named>>(&rt, alloc)?;
     Ok(())
-}
-
-// Whether the map refuses what the liar announces before it asks it.
-fn is_not_taken_in<M: KeyedMap<Item = Named, Key = [u8; 3]>>(map: &mut Tried<M>) -> bool
-where
-    Tried<M>: Bulk<Named>,
-{
-    let mut liar = Liar::new();
-    let refused = match map.extend(&mut liar) {
-        Ok(()) => false,
-        Err(stopped) => stopped.item.is_none() && stopped.error.is_capacity_overflow(),
-    };
-    refused && liar.asked() == 0
 }
 
 fn lied_to<M: KeyedMap<Item = Named, Key = [u8; 3]> + Drop>(rt: &impl Abort, mut map: Tried<M>)

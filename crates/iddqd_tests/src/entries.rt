@@ -67,10 +67,8 @@ where
         rt,
         map.get(&Caseless(*b"foo")).map(spelled) == Some((*b"FOO", 7)),
     );
-    check(
-        rt,
-        map.insert_vacant(*b"qux", item_of(*b"aaa", 3)).is_some(),
-    );
+    let new = map.insert_vacant(*b"qux", item_of(*b"aaa", 3));
+    check(rt, new.as_ref().map(spelled) == Some((*b"aaa", 3)));
     check(
         rt,
         map.get(&Caseless(*b"aaa")).map(spelled) == Some((*b"aaa", 3)),

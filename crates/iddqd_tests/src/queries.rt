@@ -71,13 +71,36 @@ fn key_of_two_fields(rt: HostRuntime) {
     query_by_release(&rt, Tried::new(IdHashMap::new(rt.alloc())));
 }
 
-// Whether the item goes in, and its name is found.
+// What holds an item, and shows its value.
+trait Holder {
+    fn shown(&self) -> u32;
+}
+
+impl Holder for Box<Titled> {
+    fn shown(&self) -> u32 {
+        self.value
+    }
+}
+
+impl Holder for Rc<Titled> {
+    fn shown(&self) -> u32 {
+        self.value
+    }
+}
+
+impl Holder for &Titled {
+    fn shown(&self) -> u32 {
+        self.value
+    }
+}
+
+// Whether the item goes in, and what is found by its name shows 42.
 fn is_found<M: KeyedMap + Drop>(item: M::Item, mut map: Tried<M>) -> bool
 where
-    M::Item: Drop,
-    Tried<M>: AskedByText,
+    M::Item: Holder + Drop,
+    Tried<M>: AskedByText<Item = M::Item>,
 {
-    map.is_put(item) && map.find("foo").is_some()
+    map.is_put(item) && map.find("foo").map(|item| item.shown()) == Some(42)
 }
 
 #[test]

@@ -8,6 +8,7 @@ use crate::insertions::{BAR, FOO, double};
 use iddqd::{IdHashMap, IdOrdMap};
 use iddqd_commands::{Command, KeyedMap, Reply};
 use iddqd_testing::items::{Named, Numbered};
+use iddqd_testing::nine::{are_left, retain_nine};
 use iddqd_testing::tried::{AskedForRoom, Tried};
 use iddqd_testing::visitors::Change;
 use iddqd_testing::walked::Walked;
@@ -184,32 +185,12 @@ fn writing_walk_of_one_item(rt: HostRuntime) {
     );
 }
 
-const IDS: [u32; 25] = [
-    0, 17, 1, 12, 5, 21, 8, 10, 18, 4, 16, 22, 9, 24, 23, 13, 7, 25, 26, 20, 31, 11, 14, 2, 6,
-];
-
-const LEFT: [u32; 9] = [1, 5, 7, 11, 13, 17, 23, 25, 31];
-
-// Whether the nine are there, and no others.
-fn are_left<M: KeyedMap<Item = Numbered, Key = u32>>(map: &Tried<M>) -> bool {
-    for id in LEFT {
-        if map.get(&id) != Some(&numbered(id, id)) {
-            return false;
-        }
-    }
-    map.len() == 9
-}
-
 fn nine_left<M: KeyedMap<Item = Numbered, Key = u32>>(rt: &impl Abort, mut map: Tried<M>)
 where
     M: Drop,
     Tried<M>: Walked<Numbered> + AskedForRoom,
 {
-    for id in IDS {
-        check(rt, map.is_put(numbered(id, id)));
-    }
-    map.retain(|item| item.number % 2 == 1 && item.number % 3 != 0);
-    check(rt, are_left(&map));
+    check(rt, retain_nine(&mut map) && are_left(&map));
     check(rt, map.vacant() == 16);
     check(rt, map.reserve(10) == Ok(()));
     check(rt, map.is_sound() && !map.is_compact());

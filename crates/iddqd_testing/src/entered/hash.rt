@@ -1,46 +1,43 @@
 //! The entries of a hash map, by calls that a row makes. Each leaves the map keyed.
-use super::DoublesAndDenies;
+use super::{DoublesAndDenies, Put};
 use crate::caseless::{Caseless, Coarse};
 use iddqd::id_hash_map::Entry;
 use iddqd::{IdHashMap, Lookups};
 use std::hash::BuildHasher;
 
-pub(super) fn insert_vacant<S: BuildHasher>(
+pub(super) fn put_vacant<S: BuildHasher>(
     map: &mut IdHashMap<Coarse, S>,
     asked: &Caseless,
     item: Coarse,
-) -> Option<Coarse>
+) -> Put
     requires keyed { ⟦<IdHashMap<Coarse, S> as Lookups>⟧.keyed map.old }
     ensures keyed { ⟦<IdHashMap<Coarse, S> as Lookups>⟧.keyed map.new }
 {
     if map.contains_key(&item.name) {
-        return None;
+        return Put::OtherKind;
     }
     match map.entry(asked) {
         Entry::Vacant(entry) => match entry.insert(item) {
             Ok(lent) => {
-                lent.finish();
-                Some(item)
+                let shown = lent.into_ref();
+                Put::Shown(*shown)
             }
-            Err(_) => None,
+            Err(refused) => Put::Refused(refused.item, refused.error),
         },
-        Entry::Occupied(_) => None,
+        Entry::Occupied(_) => Put::OtherKind,
     }
 }
 
-pub(super) fn insert_and_remove<S: BuildHasher>(
-    map: &mut IdHashMap<Coarse, S>,
-    item: Coarse,
-) -> Option<Coarse>
+pub(super) fn put_and_remove<S: BuildHasher>(map: &mut IdHashMap<Coarse, S>, item: Coarse) -> Put
     requires keyed { ⟦<IdHashMap<Coarse, S> as Lookups>⟧.keyed map.old }
     ensures keyed { ⟦<IdHashMap<Coarse, S> as Lookups>⟧.keyed map.new }
 {
     match map.entry(&item.name) {
         Entry::Vacant(entry) => match entry.insert_entry(item) {
-            Ok(entry) => Some(entry.remove()),
-            Err(_) => None,
+            Ok(entry) => Put::Shown(entry.remove()),
+            Err(refused) => Put::Refused(refused.item, refused.error),
         },
-        Entry::Occupied(_) => None,
+        Entry::Occupied(_) => Put::OtherKind,
     }
 }
 
@@ -77,10 +74,7 @@ pub(super) fn write<S: BuildHasher>(
     }
 }
 
-pub(super) fn double_or_insert<S: BuildHasher>(
-    map: &mut IdHashMap<Coarse, S>,
-    item: Coarse,
-) -> Option<Coarse>
+pub(super) fn double_or_put<S: BuildHasher>(map: &mut IdHashMap<Coarse, S>, item: Coarse) -> Put
     requires keyed { ⟦<IdHashMap<Coarse, S> as Lookups>⟧.keyed map.old }
     ensures keyed { ⟦<IdHashMap<Coarse, S> as Lookups>⟧.keyed map.new }
 {
@@ -88,9 +82,9 @@ pub(super) fn double_or_insert<S: BuildHasher>(
     match entry.or_insert(item) {
         Ok(lent) => {
             let shown = lent.into_ref();
-            Some(*shown)
+            Put::Shown(*shown)
         }
-        Err(_) => None,
+        Err(refused) => Put::Refused(refused.item, refused.error),
     }
 }
 
@@ -113,11 +107,11 @@ pub(super) fn insert_and_write<S: BuildHasher>(
     }
 }
 
-pub(super) fn find_or_make<S: BuildHasher>(
+pub(super) fn find_or_put<S: BuildHasher>(
     map: &mut IdHashMap<Coarse, S>,
     item: Coarse,
     asked: &mut u32,
-) -> Option<Coarse>
+) -> Put
     requires keyed { ⟦<IdHashMap<Coarse, S> as Lookups>⟧.keyed map.old }
     ensures keyed { ⟦<IdHashMap<Coarse, S> as Lookups>⟧.keyed map.new }
 {
@@ -128,8 +122,8 @@ pub(super) fn find_or_make<S: BuildHasher>(
     match map.entry(&item.name).or_insert_with(make) {
         Ok(lent) => {
             let shown = lent.into_ref();
-            Some(*shown)
+            Put::Shown(*shown)
         }
-        Err(_) => None,
+        Err(refused) => Put::Refused(refused.item, refused.error),
     }
 }

@@ -1,44 +1,40 @@
 //! The entries of an ordered map, by calls that a row makes. Each leaves the map keyed.
 ghost use Rattle.iddqd.specs.Contents.{Ascends};
 
-use super::DoublesAndDenies;
+use super::{DoublesAndDenies, Put};
 use crate::caseless::{Caseless, Coarse};
 use iddqd::id_ord_map::Entry;
 use iddqd::{IdOrdItem, IdOrdMap};
 
-pub(super) fn insert_vacant(
-    map: &mut IdOrdMap<Coarse>,
-    asked: &Caseless,
-    item: Coarse,
-) -> Option<Coarse>
+pub(super) fn put_vacant(map: &mut IdOrdMap<Coarse>, asked: &Caseless, item: Coarse) -> Put
     requires keyed { Ascends ⟦<Coarse as IdOrdItem>⟧.key ⟦<Caseless as Ord>⟧.cmp map.old.items }
     ensures keyed { Ascends ⟦<Coarse as IdOrdItem>⟧.key ⟦<Caseless as Ord>⟧.cmp map.new.items }
 {
     if map.contains_key(&item.name) {
-        return None;
+        return Put::OtherKind;
     }
     match map.entry(asked) {
         Entry::Vacant(entry) => match entry.insert(item) {
             Ok(lent) => {
-                lent.finish();
-                Some(item)
+                let shown = lent.into_ref();
+                Put::Shown(*shown)
             }
-            Err(_) => None,
+            Err(refused) => Put::Refused(refused.item, refused.error),
         },
-        Entry::Occupied(_) => None,
+        Entry::Occupied(_) => Put::OtherKind,
     }
 }
 
-pub(super) fn insert_and_remove(map: &mut IdOrdMap<Coarse>, item: Coarse) -> Option<Coarse>
+pub(super) fn put_and_remove(map: &mut IdOrdMap<Coarse>, item: Coarse) -> Put
     requires keyed { Ascends ⟦<Coarse as IdOrdItem>⟧.key ⟦<Caseless as Ord>⟧.cmp map.old.items }
     ensures keyed { Ascends ⟦<Coarse as IdOrdItem>⟧.key ⟦<Caseless as Ord>⟧.cmp map.new.items }
 {
     match map.entry(&item.name) {
         Entry::Vacant(entry) => match entry.insert_entry(item) {
-            Ok(entry) => Some(entry.remove()),
-            Err(_) => None,
+            Ok(entry) => Put::Shown(entry.remove()),
+            Err(refused) => Put::Refused(refused.item, refused.error),
         },
-        Entry::Occupied(_) => None,
+        Entry::Occupied(_) => Put::OtherKind,
     }
 }
 
@@ -68,7 +64,7 @@ pub(super) fn write(map: &mut IdOrdMap<Coarse>, asked: &Caseless, value: u32) ->
     }
 }
 
-pub(super) fn double_or_insert(map: &mut IdOrdMap<Coarse>, item: Coarse) -> Option<Coarse>
+pub(super) fn double_or_put(map: &mut IdOrdMap<Coarse>, item: Coarse) -> Put
     requires keyed { Ascends ⟦<Coarse as IdOrdItem>⟧.key ⟦<Caseless as Ord>⟧.cmp map.old.items }
     ensures keyed { Ascends ⟦<Coarse as IdOrdItem>⟧.key ⟦<Caseless as Ord>⟧.cmp map.new.items }
 {
@@ -76,9 +72,9 @@ pub(super) fn double_or_insert(map: &mut IdOrdMap<Coarse>, item: Coarse) -> Opti
     match entry.or_insert(item) {
         Ok(lent) => {
             let shown = lent.into_ref();
-            Some(*shown)
+            Put::Shown(*shown)
         }
-        Err(_) => None,
+        Err(refused) => Put::Refused(refused.item, refused.error),
     }
 }
 
@@ -97,11 +93,7 @@ pub(super) fn insert_and_write(map: &mut IdOrdMap<Coarse>, item: Coarse, value: 
     }
 }
 
-pub(super) fn find_or_make(
-    map: &mut IdOrdMap<Coarse>,
-    item: Coarse,
-    asked: &mut u32,
-) -> Option<Coarse>
+pub(super) fn find_or_put(map: &mut IdOrdMap<Coarse>, item: Coarse, asked: &mut u32) -> Put
     requires keyed { Ascends ⟦<Coarse as IdOrdItem>⟧.key ⟦<Caseless as Ord>⟧.cmp map.old.items }
     ensures keyed { Ascends ⟦<Coarse as IdOrdItem>⟧.key ⟦<Caseless as Ord>⟧.cmp map.new.items }
 {
@@ -112,8 +104,8 @@ pub(super) fn find_or_make(
     match map.entry(&item.name).or_insert_with(make) {
         Ok(lent) => {
             let shown = lent.into_ref();
-            Some(*shown)
+            Put::Shown(*shown)
         }
-        Err(_) => None,
+        Err(refused) => Put::Refused(refused.item, refused.error),
     }
 }
