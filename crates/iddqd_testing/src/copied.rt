@@ -1,10 +1,10 @@
 //! Copies of maps under test.
-ghost use Rattle.iddqd.specs.Contents.{Ascends, ClonesKeepKeys};
+ghost use Rattle.iddqd.specs.Contents.{ClonesKeepKeys};
 
 use crate::items::Named;
 use crate::tried::Tried;
 use iddqd::errors::TryReserveError;
-use iddqd::{IdHashItem, IdHashMap, IdOrdItem, IdOrdMap, Lookups};
+use iddqd::{IdHashItem, IdHashMap, IdOrdItem, IdOrdMap};
 
 impl<T: IdOrdItem + Clone> Tried<IdOrdMap<T>> {
     /// `clone`.
@@ -32,8 +32,9 @@ pub trait Twin: Sized {
     /// `==` or `eq`.
     fn is_like(&self, other: &Self) -> bool;
 
-    /// Writes the value through the guard that `get_mut` lends: whether the name is there.
-    fn write(&mut self, name: [u8; 3], value: u32) -> bool;
+    /// Writes the value into a clone, through the guard that `get_mut` lends: whether the two differ then, or `None` where the
+    /// name is not there, or where memory was refused.
+    fn differs_from_written_twin(&self, name: [u8; 3], value: u32) -> Option<bool>;
 }
 
 impl Twin for Tried<IdOrdMap<Named>> {
@@ -45,8 +46,12 @@ impl Twin for Tried<IdOrdMap<Named>> {
         self.map == other.map
     }
 
-    fn write(&mut self, name: [u8; 3], value: u32) -> bool {
-        write_in_order(&mut self.map, name, value)
+    fn differs_from_written_twin(&self, name: [u8; 3], value: u32) -> Option<bool> {
+        let mut twin = self.map.clone().ok()?;
+        let mut lent = twin.get_mut(&name)?;
+        lent.value = value;
+        lent.finish();
+        Some(twin != self.map)
     }
 }
 
@@ -59,37 +64,11 @@ impl Twin for Tried<IdHashMap<Named>> {
         self.map.eq(&other.map)
     }
 
-    fn write(&mut self, name: [u8; 3], value: u32) -> bool {
-        write_by_hash(&mut self.map, name, value)
-    }
-}
-
-#[tactic(auto, using(iddqd::proofs::GuardLemmas::same_key_kept))]
-fn write_in_order(map: &mut IdOrdMap<Named>, name: [u8; 3], value: u32) -> bool
-    requires keyed { Ascends ⟦<Named as IdOrdItem>⟧.key ⟦<[u8; 3] as Ord>⟧.cmp map.old.items }
-    ensures keyed { Ascends ⟦<Named as IdOrdItem>⟧.key ⟦<[u8; 3] as Ord>⟧.cmp map.new.items }
-{
-    match map.get_mut(&name) {
-        Some(mut lent) => {
-            lent.value = value;
-            lent.finish();
-            true
-        }
-        None => false,
-    }
-}
-
-#[tactic(auto, using(iddqd::proofs::GuardLemmas::same_key_kept))]
-fn write_by_hash(map: &mut IdHashMap<Named>, name: [u8; 3], value: u32) -> bool
-    requires keyed { ⟦<IdHashMap<Named> as Lookups>⟧.keyed map.old }
-    ensures keyed { ⟦<IdHashMap<Named> as Lookups>⟧.keyed map.new }
-{
-    match map.get_mut(&name) {
-        Some(mut lent) => {
-            lent.value = value;
-            lent.finish();
-            true
-        }
-        None => false,
+    fn differs_from_written_twin(&self, name: [u8; 3], value: u32) -> Option<bool> {
+        let mut twin = self.map.clone().ok()?;
+        let mut lent = twin.get_mut(&name)?;
+        lent.value = value;
+        lent.finish();
+        Some(!twin.eq(&self.map))
     }
 }

@@ -14,11 +14,6 @@ const BAZ: Named = Named {
     value: 1,
 };
 
-const WRITTEN_FOO: Named = Named {
-    name: *b"foo",
-    value: 7,
-};
-
 fn filled<M: KeyedMap<Item = Named, Key = [u8; 3]> + Drop>(
     rt: &impl Abort,
     mut map: Tried<M>,
@@ -28,22 +23,7 @@ fn filled<M: KeyedMap<Item = Named, Key = [u8; 3]> + Drop>(
     map
 }
 
-// Writes into the clone, which its source does not show.
-fn written<M: KeyedMap<Item = Named, Key = [u8; 3]>>(
-    rt: &impl Abort,
-    map: &Tried<M>,
-    copy: &mut Tried<M>,
-)
-where
-    Tried<M>: Twin,
-{
-    check(rt, copy.is_like(map));
-    check(rt, copy.write(*b"foo", 7));
-    check(rt, copy.get(b"foo") == Some(&WRITTEN_FOO));
-    check(rt, map.get(b"foo") == Some(&FOO));
-    check(rt, !copy.is_like(map));
-}
-
+// A clone is like its source, and what is written into one the source does not show.
 fn cloned<M: KeyedMap<Item = Named, Key = [u8; 3]> + Drop>(
     rt: &impl Abort,
     map: Tried<M>,
@@ -52,10 +32,12 @@ where
     Tried<M>: Twin,
 {
     let map = filled(rt, map);
-    let Ok(mut copy) = map.twin() else {
+    let Ok(twin) = map.twin() else {
         return Err(Fail::from("no memory for a clone"));
     };
-    written(rt, &map, &mut copy);
+    check(rt, twin.is_like(&map));
+    check(rt, map.differs_from_written_twin(*b"foo", 7) == Some(true));
+    check(rt, map.get(b"foo") == Some(&FOO));
     Ok(())
 }
 
