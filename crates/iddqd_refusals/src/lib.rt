@@ -15,8 +15,6 @@ mod errors;
 #[cfg(test)]
 mod growth;
 #[cfg(test)]
-mod hints;
-#[cfg(test)]
 mod lines;
 #[cfg(test)]
 mod made;
