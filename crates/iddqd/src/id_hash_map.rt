@@ -188,6 +188,7 @@ impl<T: IdHashItem, S: BuildHasher> IdHashMap<T, S> {
     where
         T: Drop,
         ensures items { self.new.items ≡ [] }
+        ensures slots { self.new.slots ≡ [] }
         ensures vacant { self.new.vacant ≡ 0 }
         ensures spare { KeepsSpare self.old self.new }
         ensures capacity { self.new.capacity ≡ self.old.capacity }

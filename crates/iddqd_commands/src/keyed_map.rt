@@ -15,9 +15,9 @@ use iddqd::Visit;
 use iddqd::errors::{ExtendUniqueError, InsertError, Refused, TryReserveError};
 
 /// A map whose keys live in its items, for callers that take any (ours). Contracts see its items and its spare, the most
-/// items that it ever holds, and whether it is keyed: each call leaves it keyed, under the same limit and, but for a shrink, with the room that
-/// its rule promises. A call is answered as its command is (`run`), and but for `extend_unique` it costs what the map's own
-/// call of that name does.
+/// items that it ever holds, and whether it is keyed: each call leaves it keyed, under the same limit and, but for a
+/// shrink, with the room that its rule promises. A call is answered as its command is (`run`), and but for `extend_unique`
+/// it costs what the map's own call does: that of the same name, or the one that its comment tells.
 pub trait KeyedMap {
     /// What the map holds.
     type Item;
@@ -77,7 +77,7 @@ pub trait KeyedMap {
         ensures unchanged { IfNone result (self.new ≡ self.old) }
         ensures stays { StaysKeyed state limit rule keyed self.old self.new };
 
-    /// Visits the item of an equal key, and answers what the visit did; the item stays as the visit made it, whatever
+    /// Visits the item of an equal key (`get_mut`), and answers what the visit did; the item stays as the visit made it, whatever
     /// that is. `None` where there is none, and then neither map nor visitor has changed. No visit may change a key. It
     /// takes no memory.
     fn visit<V: Visit<Self::Item>>(&mut self, query: &Self::Key, visitor: &mut V) -> Option<bool>
@@ -127,7 +127,7 @@ pub trait KeyedMap {
         ensures len { result ≡ length (state self.now).items }
         ensures room { FitsRoom rule (limit self.now) (state self.now) };
 
-    /// The item of a key equal to that of this item, or `None`.
+    /// The item of a key equal to that of this item, or `None` (`get`).
     fn akin(&self, item: &Self::Item) -> Option<&Self::Item>
         requires keyed { keyed self.now }
         ensures found { option_copied result ≡ find_item key (Self.Key.eq (key item.now)) (state self.now).items };

@@ -233,8 +233,9 @@ impl HashIndex {
     }
 
     /// Gives memory back, but for room for `min` pairs and for those that are there: some at least, where half the room is
-    /// enough for them. Refused or not, the pairs stay, and a refusal leaves the room that there was. Where it gives some
-    /// back, it reads every pair.
+    /// enough for them. It is refused only for want of memory, since it makes the smaller table beside the one there is.
+    /// Refused or not, the pairs stay, and a refusal leaves the room that there was. Where it gives some back, it reads every
+    /// pair.
     pub fn shrink(&mut self, min: usize) -> Result<(), TryReserveError>
         ensures pairs { SamePairs self.old.pairs self.new.pairs }
         ensures only_memory { IfErr result (λ e. e ≡ OutOfMemory) }

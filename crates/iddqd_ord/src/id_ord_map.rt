@@ -143,7 +143,7 @@ impl<T: IdOrdItem> IdOrdMap<T> {
         }
     }
 
-    /// Drops every item, and leaves no slot. The capacity stays.
+    /// Drops every item, and leaves no slot. The capacity stays. It takes no memory.
     pub fn clear(&mut self)
     where
         T: Drop,

@@ -9,8 +9,8 @@ use iddqd_core::ItemStore;
 use std::iter::FusedIterator;
 use std::marker::Model;
 
-/// The items of a map that is gone, in no order that a caller may rely on (the crate's `IntoIter`). Those that have not
-/// come are dropped with it.
+/// The items of a map that is gone, in no order that a caller may rely on (the crate's `IntoIter`). All steps
+/// together look at every slot once. Those that have not come are dropped with it.
 #[derive(Drop)]
 pub struct IntoIter<T> {
     // The items that are still to come.

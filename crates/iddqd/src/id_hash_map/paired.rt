@@ -108,6 +108,7 @@ pub(super) fn shrink_room<T>(
     ensures lowers { store.new.capacity ≤ store.old.capacity }
     ensures keeps_items { store_len store.old ≤ store.new.capacity }
     ensures keeps_min { least min store.old.capacity ≤ store.new.capacity }
+    ensures frees { store_len store.old ≡ 0 → min ≡ 0 → OnOk result (store.new.capacity ≡ 0) }
     ensures pairs { SamePairs index.old.pairs index.new.pairs }
     ensures spare { least min (spare_in store.old index.old + store_len store.old) ≤ spare_in store.new index.new + store_len store.new }
 {

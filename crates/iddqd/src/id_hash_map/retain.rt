@@ -17,8 +17,8 @@ impl<T: IdHashItem, S: BuildHasher> IdHashMap<T, S> {
     ghost use Rattle.iddqd.specs.HashMap.{KeepsSpare};
 
     /// Asks once about each item, in no order that a caller may rely on, and takes out each that is answered false (the
-    /// crate's `retain`, over a closure that only reads). It hashes the key of each item that goes, once, and compares
-    /// none. It takes no memory.
+    /// crate's `retain`, over a closure that only reads). It looks at every slot, hashes the key of each item that goes,
+    /// once, and compares none. It takes no memory.
     pub fn retain<F: FnMut(&T) -> bool>(&mut self, mut keep: F)
     where
         T: Drop,

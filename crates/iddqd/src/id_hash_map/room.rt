@@ -18,7 +18,7 @@ use std::hash::BuildHasher;
 impl<T: IdHashItem> IdHashMap<T> {
     /// As `with_capacity_and_hasher`, over the default hasher.
     pub fn with_capacity(alloc: Global, capacity: usize) -> Result<Self, TryReserveError>
-        ensures empty { IfOk result (λ m. (m.items ≡ []) × (m.vacant ≡ 0) × (m.limit ≡ MAX_ITEMS)) }
+        ensures empty { IfOk result (λ m. m ≡ record m { items = []; slots = []; hashes = []; vacant = 0; limit = MAX_ITEMS }) }
         ensures spare { IfOk result (λ m. capacity ≤ m.spare) }
         ensures within_limit { IfOk result SpareFits }
         ensures capacity { IfOk result (λ m. capacity ≤ m.capacity) }
@@ -40,7 +40,7 @@ impl<T: IdHashItem, S: BuildHasher> IdHashMap<T, S> {
     ) -> Result<Self, TryReserveError>
     where
         S: Drop,
-        ensures empty { IfOk result (λ m. (m.items ≡ []) × (m.vacant ≡ 0) × (m.limit ≡ MAX_ITEMS)) }
+        ensures empty { IfOk result (λ m. m ≡ record m { items = []; slots = []; hashes = []; vacant = 0; limit = MAX_ITEMS }) }
         ensures spare { IfOk result (λ m. capacity ≤ m.spare) }
         ensures within_limit { IfOk result SpareFits }
         ensures capacity { IfOk result (λ m. capacity ≤ m.capacity) }
@@ -85,12 +85,13 @@ impl<T: IdHashItem, S: BuildHasher> IdHashMap<T, S> {
         self.reserve(additional)
     }
 
-    /// As `shrink_to(0)`: gives back what memory the items do not need.
+    /// As `shrink_to(0)`: gives back what memory the items do not need, and without items all that the store has.
     pub fn shrink_to_fit(&mut self) -> Result<(), TryReserveError>
         requires keyed { ⟦<IdHashMap<T, S> as Lookups>⟧.keyed self.old }
         ensures items { SameInAnyOrder self.old.items self.new.items }
         ensures shrinks { Shrinks 0 (held self.old) (held self.new) }
         ensures only_memory { IfErr result (λ e. e ≡ memory_refused) }
+        ensures frees { length self.old.items ≡ 0 → OnOk result (self.new.capacity ≡ 0) }
         ensures within_limit { SpareFits self.new }
         ensures hasher { self.new.hasher ≡ self.old.hasher }
         ensures keyed { ⟦<IdHashMap<T, S> as Lookups>⟧.keyed self.new }
@@ -99,16 +100,17 @@ impl<T: IdHashItem, S: BuildHasher> IdHashMap<T, S> {
     }
 
     /// Closes up the slots, and gives memory back, in the store and in the index, but for room for `min` items and for those
-    /// that are there: the items and the spare are then at least `min`, or as many as before. Refused or not, the items
-    /// stay and no slot is vacant then (the crate says that it does nothing where `min` is above the capacity, and closes up
-    /// all the same). Each item that moves into a vacant slot has its key hashed once; an index that gives memory back
-    /// reads each of its pairs.
+    /// that are there: the items and the spare are then at least `min`, or as many as before. It is refused only for want of
+    /// memory: what is smaller is made beside what there is. Refused or not, the items stay and no slot is vacant then (the
+    /// crate says that it does nothing where `min` is above the capacity, and closes up all the same). Each item that moves
+    /// into a vacant slot has its key hashed once; an index that gives memory back reads each of its pairs.
     pub fn shrink_to(&mut self, min: usize) -> Result<(), TryReserveError>
         requires keyed { ⟦<IdHashMap<T, S> as Lookups>⟧.keyed self.old }
         ensures items { SameInAnyOrder self.old.items self.new.items }
         ensures shrinks { Shrinks min (held self.old) (held self.new) }
         ensures spare { least min (self.old.spare + length self.old.items) ≤ self.new.spare + length self.new.items }
         ensures only_memory { IfErr result (λ e. e ≡ memory_refused) }
+        ensures frees { length self.old.items ≡ 0 → min ≡ 0 → OnOk result (self.new.capacity ≡ 0) }
         ensures within_limit { SpareFits self.new }
         ensures hasher { self.new.hasher ≡ self.old.hasher }
         ensures keyed { ⟦<IdHashMap<T, S> as Lookups>⟧.keyed self.new }

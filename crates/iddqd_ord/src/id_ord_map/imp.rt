@@ -9,8 +9,8 @@ use super::paired::take_out;
 use iddqd_core::{Comparable, IdOrdItem, Place, Steps};
 
 impl<T: IdOrdItem> IdOrdMap<T> {
-    /// The item that the query finds, or `None`, by as many comparisons as `get_counted`. It goes down the index once and
-    /// touches the item found once.
+    /// The item that the query finds, or `None`, by as many comparisons as `get_counted`. It goes down the index once, and
+    /// fetches the item found once more to lend it.
     #[inline]
     pub fn get<Q: Comparable<T::Key>>(&self, query: &Q) -> Option<&T>
         requires keyed { Ascends T.key T.Key.cmp self.now.items }

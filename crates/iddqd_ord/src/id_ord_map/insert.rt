@@ -13,9 +13,9 @@ use iddqd_core::{DuplicateItem, Few, IdOrdItem, InsertError, Place, Refused, Ste
 impl<T: IdOrdItem> IdOrdMap<T> {
     ghost use Rattle.iddqd_ord.specs.OrdMap.{OrdInserts, OrdKeeps, ends_ord_inserted, lends_nothing};
 
-    /// Inserts the item where none of an equal key is there. A duplicate needs no memory and lends the item that is
-    /// there; then the map is as it was. A full map and refused memory hand the item back, and then the items are as they
-    /// were (ours: the crate panics or aborts for want of room).
+    /// Inserts the item where none of an equal key is there, by as many comparisons as `insert_unique_counted`. A duplicate
+    /// needs no memory and lends the item that is there; then the map is as it was. A full map and refused memory hand the
+    /// item back, and then the items are as they were (ours: the crate panics or aborts for want of room).
     #[inline]
     pub fn insert_unique(&mut self, item: T) -> Result<&mut (), InsertError<'_, T>>
         requires keyed { Ascends T.key T.Key.cmp self.old.items }
@@ -55,7 +55,8 @@ impl<T: IdOrdItem> IdOrdMap<T> {
 
     /// Puts the item in the stead of one of an equal key, which it answers: the whole item, its key's spelling too.
     /// That needs no memory and is never refused. Where there is none, it inserts the item as `insert_unique` does and
-    /// answers `None`; a full map and refused memory hand the item back, and then the items are as they were.
+    /// answers `None`; a full map and refused memory hand the item back, and then the items are as they were. It compares
+    /// as often as `insert_unique`.
     pub fn insert_overwrite(&mut self, item: T) -> Result<Option<T>, Refused<T>>
         requires keyed { Ascends T.key T.Key.cmp self.old.items }
         ensures found { IfOk result (λ found. found ≡ find_item T.key (T.Key.eq (T.key item)) self.old.items) }

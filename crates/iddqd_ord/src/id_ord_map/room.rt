@@ -41,7 +41,7 @@ impl<T: IdOrdItem> IdOrdMap<T> {
         reserve_slots(&mut self.store, &self.index, additional)
     }
 
-    /// As `shrink_to(0)`: gives back what memory the items do not need.
+    /// As `shrink_to(0)`: gives back what memory of the store the items do not need, and all of it without items.
     pub fn shrink_to_fit(&mut self) -> Result<(), TryReserveError>
         requires keyed { Ascends T.key T.Key.cmp self.old.items }
         ensures items { self.new.items ≡ self.old.items }
@@ -54,9 +54,11 @@ impl<T: IdOrdItem> IdOrdMap<T> {
         self.shrink_to(0)
     }
 
-    /// Closes up the slots, and gives memory back, but for room for `min` items and for those that are there. Refused or
-    /// not, the items stay and no slot is vacant then (the crate says that it does nothing where `min` is above the
-    /// capacity, and closes up all the same). Each item that moves into a vacant slot costs one search; no other is touched.
+    /// Closes up the slots, and gives memory back, in the store, but for room for `min` items and for those that are there;
+    /// the index keeps its nodes. It is refused only for want of memory, and only where the store has some to give back:
+    /// what is smaller is made beside what there is. Refused or not, the items stay and no slot is vacant then (the crate
+    /// says that it does nothing where `min` is above the capacity, and closes up all the same). Each item that moves into
+    /// a vacant slot costs one search; no other is touched.
     pub fn shrink_to(&mut self, min: usize) -> Result<(), TryReserveError>
         requires keyed { Ascends T.key T.Key.cmp self.old.items }
         ensures items { self.new.items ≡ self.old.items }

@@ -19,7 +19,8 @@ impl<'a, T, S> RefMut<'a, T, S> {
         } = self;
     }
 
-    /// The guard itself, lent once more (the crate answers a guard of its own). This guard is spent when that loan is over.
+    /// The guard itself, lent once more (the crate answers a guard of its own). When that loan is over, this guard has still
+    /// to be spent.
     #[inline]
     pub fn reborrow(&mut self) -> &mut RefMut<'a, T, S>
         ensures same { result.ghost_name ≡ self.entry.ghost_name }

@@ -43,6 +43,10 @@ returns-clause-spare g c =
     let view = c.self.view_is in
     omega (arith, c.shrink_room.ensures.spare, closed.spare, closed.capacity, closed.len, closed.limit, length-items m.store.slots, length-items c.shrink_room.new.store.slots, ap (λ v. v.spare) view, ap (λ v. length v.items) view)
 
+pub returns-clause-frees : goal.returns-clause-frees
+returns-clause-frees g c none =
+    c.shrink_room.ensures.frees (omega (arith, none, c.compact.ensures.len, length-items c.self.inside.store.slots, ap (λ v. length v.items) c.self.view_is))
+
 pub returns-clause-within_limit : goal.returns-clause-within_limit
 returns-clause-within_limit g c = spare_fits c.self.inside.hasher c.shrink_room.new.store c.shrink_room.new.index c.shrink_room.ensures.paired
 
