@@ -1,56 +1,27 @@
 //! Clones with a request refused: nothing is made, and the map is as it was.
-ghost use Rattle.std.specs.Prelude.{IfOk};
-
+use crate::maps::{fill, holds};
 use crate::words::tell;
 use iddqd::errors::TryReserveError;
 use iddqd::{IdHashMap, IdOrdMap};
 use iddqd_commands::KeyedMap;
 use iddqd_testing::heap::{arm, is_met};
 use iddqd_testing::items::Numbered;
-use iddqd_testing::tried::is_put;
+use iddqd_testing::tried::{AskedForRoom, Tried};
+use std::alloc::Global;
 use std::test::Fail;
 
-// The map with the numbers 0 to 3.
-fn filled<M: KeyedMap<Item = Numbered> + Drop>(mut map: M) -> Result<M, Fail>
-    requires { M.keyed map }
-    ensures { IfOk result M.keyed }
-{
-    let is_filled = is_put(
-        &mut map,
-        Numbered {
-            number: 0,
-            value: 5,
-        },
-    ) && is_put(
-        &mut map,
-        Numbered {
-            number: 1,
-            value: 5,
-        },
-    ) && is_put(
-        &mut map,
-        Numbered {
-            number: 2,
-            value: 5,
-        },
-    ) && is_put(
-        &mut map,
-        Numbered {
-            number: 3,
-            value: 5,
-        },
-    );
-    if !is_filled {
-        return Err(Fail::from("an item is not in"));
-    }
-    Ok(map)
-}
-
-// The word for what was seen: a clone that is equal, or none for want of memory.
-fn row_of_clone(
+// The word for what was seen: a clone that is equal, or none for want of memory. The map has its four numbers either way.
+fn row_of_clone<M: KeyedMap<Item = Numbered, Key = u32>>(
+    map: &Tried<M>,
     is_equal: Result<bool, TryReserveError>,
     is_met: bool,
-) -> Result<&'static str, Fail> {
+) -> Result<&'static str, Fail>
+where
+    Tried<M>: AskedForRoom,
+{
+    if !holds(map, 4, None) {
+        return Err(Fail::from("the map is not as it was"));
+    }
     match is_equal {
         Ok(true) if !is_met => Ok("cloned"),
         Err(error) if is_met && !error.is_capacity_overflow() => Ok("nothing_made"),
@@ -58,28 +29,38 @@ fn row_of_clone(
     }
 }
 
-#[test]
-fn clone(rt: HostRuntime) -> Result<(), Fail> {
-    let map = filled(IdOrdMap::new(rt.alloc()))?;
-    arm(rt.alloc());
-    let copy = map.clone();
-    let is_met = is_met(rt.alloc());
+fn clone_in_order(alloc: Global, mut map: Tried<IdOrdMap<Numbered>>) -> Result<&'static str, Fail> {
+    fill(&mut map, 4)?;
+    arm(alloc);
+    let copy = map.copied();
+    let is_met = is_met(alloc);
     let is_equal = match copy {
-        Ok(copy) => Ok(copy == map),
+        Ok(copy) => Ok(copy == *map.map()),
         Err(error) => Err(error),
     };
-    tell(&rt, row_of_clone(is_equal, is_met))
+    row_of_clone(&map, is_equal, is_met)
+}
+
+fn clone_by_hash(alloc: Global, mut map: Tried<IdHashMap<Numbered>>) -> Result<&'static str, Fail> {
+    fill(&mut map, 4)?;
+    arm(alloc);
+    let copy = map.copied();
+    let is_met = is_met(alloc);
+    let is_equal = match copy {
+        Ok(copy) => Ok(map.map().eq(&copy)),
+        Err(error) => Err(error),
+    };
+    row_of_clone(&map, is_equal, is_met)
+}
+
+#[test]
+fn clone(rt: HostRuntime) -> Result<(), Fail> {
+    let map = Tried::new(IdOrdMap::new(rt.alloc()));
+    tell(&rt, clone_in_order(rt.alloc(), map))
 }
 
 #[test]
 fn hash_clone(rt: HostRuntime) -> Result<(), Fail> {
-    let map = filled(IdHashMap::new(rt.alloc()))?;
-    arm(rt.alloc());
-    let copy = map.clone();
-    let is_met = is_met(rt.alloc());
-    let is_equal = match copy {
-        Ok(copy) => Ok(map.eq(&copy)),
-        Err(error) => Err(error),
-    };
-    tell(&rt, row_of_clone(is_equal, is_met))
+    let map = Tried::new(IdHashMap::new(rt.alloc()));
+    tell(&rt, clone_by_hash(rt.alloc(), map))
 }

@@ -3,9 +3,10 @@ use crate::words::tell;
 use iddqd::{IdHashMap, IdOrdMap};
 use iddqd_commands::KeyedMap;
 use iddqd_testing::caseless::{Caseless, Coarse, item_of, spelled};
-use iddqd_testing::entered::Entered;
+use iddqd_testing::entered::{Entered, Put};
 use iddqd_testing::heap::{arm, is_met};
-use iddqd_testing::tried::Tried;
+use iddqd_testing::tried::{AskedForRoom, Tried};
+use iddqd_testing::walked::Listed;
 use std::alloc::Global;
 use std::test::Fail;
 
@@ -22,29 +23,68 @@ const NAMES: [[u8; 3]; 9] = [
     *b"abc", *b"bcd", *b"cde", *b"def", *b"efg", *b"fgh", *b"ghi", *b"hij", *b"ijk",
 ];
 
-// Whether the new item went in, which a removal ends where the call is one.
-fn put<M>(map: &mut Tried<M>, call: Call, item: Coarse) -> bool
+// What the insertion of a new item answers; where the call is `insert_entry`, the item is taken out at once.
+fn put<M>(map: &mut Tried<M>, call: Call, item: Coarse) -> Put
 where
     M: KeyedMap<Item = Coarse, Key = Caseless>,
     Tried<M>: Entered,
 {
     let mut asked = 0;
     match call {
-        Call::Insert => map.insert_vacant(*b"xyz", item).is_some(),
-        Call::InsertEntry => map.insert_and_remove(item).is_some(),
-        Call::OrInsert => map.double_or_insert(item).is_some(),
-        Call::OrInsertWith => map.find_or_make(item, &mut asked).is_some(),
+        Call::Insert => map.put_vacant(*b"xyz", item),
+        Call::InsertEntry => map.put_and_remove(item),
+        Call::OrInsert => map.double_or_put(item),
+        Call::OrInsertWith => map.find_or_put(item, &mut asked),
     }
 }
 
-// Whether the map has the first names, each with the value 5, and so many items in all.
-fn holds<M: KeyedMap<Item = Coarse, Key = Caseless>>(map: &Tried<M>, names: &[[u8; 3]]) -> bool {
+// Whether the map is sound and has these names, each with the value 5, and no other.
+fn holds<M: KeyedMap<Item = Coarse, Key = Caseless>>(map: &Tried<M>, names: &[[u8; 3]]) -> bool
+where
+    Tried<M>: AskedForRoom,
+{
     for name in names {
         if map.get(&Caseless(*name)).map(spelled) != Some((*name, 5)) {
             return false;
         }
     }
-    map.len() == names.len()
+    map.len() == names.len() && map.is_sound()
+}
+
+// Puts in an item of each name.
+fn fill<M: KeyedMap<Item = Coarse, Key = Caseless>>(
+    map: &mut Tried<M>,
+    names: &[[u8; 3]],
+) -> Result<(), Fail> {
+    for name in names {
+        if !map.is_put(item_of(*name, 5)) {
+            return Err(Fail::from("an item is not in"));
+        }
+    }
+    Ok(())
+}
+
+const NEW: ([u8; 3], u32) = (*b"new", 6);
+
+fn new_item() -> Coarse {
+    let (name, value) = NEW;
+    item_of(name, value)
+}
+
+// Whether the new item is shown.
+fn is_shown(answer: &Put) -> bool {
+    match answer {
+        Put::Shown(item) => spelled(item) == NEW,
+        _ => false,
+    }
+}
+
+// Whether the new item came back for want of memory.
+fn is_back(answer: &Put) -> bool {
+    match answer {
+        Put::Refused(item, error) => spelled(item) == NEW && !error.is_capacity_overflow(),
+        _ => false,
+    }
 }
 
 // Fills the map with so many names, and then tries the insertion of a new one with a request refused: the word for what was seen.
@@ -55,25 +95,22 @@ fn insertion<M: KeyedMap<Item = Coarse, Key = Caseless> + Drop>(
     count: usize,
 ) -> Result<&'static str, Fail>
 where
-    Tried<M>: Entered,
+    Tried<M>: AskedForRoom + Entered + Listed<Coarse>,
 {
     let names = NAMES.get(..count).ok_or("too many names")?;
-    for name in names {
-        if !map.is_put(item_of(*name, 5)) {
-            return Err(Fail::from("an item is not in"));
-        }
-    }
-    let new = item_of(*b"new", 6);
+    fill(&mut map, names)?;
+    let walk = map.listed(alloc)?;
     arm(alloc);
-    let is_put = put(&mut map, call, new);
+    let answer = put(&mut map, call, new_item());
     let is_met = is_met(alloc);
-    if is_put && !is_met {
+    if is_shown(&answer) && !is_met {
         return Ok("inserted");
     }
-    if !is_put && is_met && holds(&map, names) && put(&mut map, call, new) {
+    let is_kept = is_back(&answer) && holds(&map, names) && map.lists(walk.as_slice());
+    if is_met && is_kept && is_shown(&put(&mut map, call, new_item())) {
         return Ok("entry_refused");
     }
-    Err(Fail::from("the map is not as it was, or an item was refused for nothing"))
+    Err(Fail::from("the map or the item is not as it was, or an item was refused for nothing"))
 }
 
 // Which insertion is tried that shows its item.
@@ -84,36 +121,32 @@ enum Shows {
     OrInsertWithRef,
 }
 
-// Whether the new item went in, and is the one that is shown.
-fn show(map: &mut Tried<IdOrdMap<Coarse>>, call: Shows, item: Coarse) -> bool {
-    let shown = match call {
-        Shows::InsertRef => map.show_inserted(item),
-        Shows::OrInsertRef => map.show_or_insert(item),
-        Shows::OrInsertWithRef => map.show_or_make(item),
-    };
-    shown.as_ref().map(spelled) == Some(spelled(&item))
+// What the insertion of a new item answers.
+fn show(map: &mut Tried<IdOrdMap<Coarse>>, call: Shows, item: Coarse) -> Put {
+    match call {
+        Shows::InsertRef => map.put_shown(item),
+        Shows::OrInsertRef => map.show_or_put(item),
+        Shows::OrInsertWithRef => map.show_or_put_made(item),
+    }
 }
 
 // The same of an insertion that shows its item, into an ordered map of four names.
 fn shown_insertion(alloc: Global, call: Shows) -> Result<&'static str, Fail> {
     let mut map = Tried::new(IdOrdMap::new(alloc));
     let names = NAMES.get(..4).ok_or("too many names")?;
-    for name in names {
-        if !map.is_put(item_of(*name, 5)) {
-            return Err(Fail::from("an item is not in"));
-        }
-    }
-    let new = item_of(*b"new", 6);
+    fill(&mut map, names)?;
+    let walk = map.listed(alloc)?;
     arm(alloc);
-    let is_shown = show(&mut map, call, new);
+    let answer = show(&mut map, call, new_item());
     let is_met = is_met(alloc);
-    if is_shown && !is_met {
+    if is_shown(&answer) && !is_met {
         return Ok("inserted");
     }
-    if !is_shown && is_met && holds(&map, names) && show(&mut map, call, new) {
+    let is_kept = is_back(&answer) && holds(&map, names) && map.lists(walk.as_slice());
+    if is_met && is_kept && is_shown(&show(&mut map, call, new_item())) {
         return Ok("entry_refused");
     }
-    Err(Fail::from("the map is not as it was, or an item was refused for nothing"))
+    Err(Fail::from("the map or the item is not as it was, or an item was refused for nothing"))
 }
 
 #[test]

@@ -3,7 +3,7 @@ use crate::checks::check;
 use iddqd::IdOrdMap;
 use iddqd_testing::heap::{arm, is_met};
 use iddqd_testing::items::Numbered;
-use iddqd_testing::tried::{Inserted, Tried};
+use iddqd_testing::tried::{AskedForRoom, Inserted, Tried};
 use std::test::Fail;
 
 // Whether the walk has the numbers from 1 to below another, in order.
@@ -25,8 +25,9 @@ fn grow(map: &mut Tried<IdOrdMap<Numbered>>, number: u32) -> Result<bool, Fail> 
     match map.insert(new) {
         Inserted::Done => Ok(false),
         Inserted::Refused(item, error) => {
-            let is_back = item == new && !error.is_capacity_overflow() && walks(map, number);
-            if is_back && map.insert(item) == Inserted::Done {
+            let is_back = item == new && !error.is_capacity_overflow();
+            let is_kept = walks(map, number) && map.is_sound();
+            if is_back && is_kept && map.insert(item) == Inserted::Done {
                 return Ok(true);
             }
             Err(Fail::from("the number or the walk is not as it was, or it is refused again"))

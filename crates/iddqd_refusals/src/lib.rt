@@ -15,6 +15,8 @@ mod errors;
 #[cfg(test)]
 mod growth;
 #[cfg(test)]
+mod hints;
+#[cfg(test)]
 mod lines;
 #[cfg(test)]
 mod made;

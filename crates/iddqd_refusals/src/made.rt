@@ -3,12 +3,12 @@ use crate::maps::holds;
 use crate::rooms::numbers;
 use crate::words::tell;
 use iddqd::errors::{FromIterError, TryReserveError};
-use iddqd::{IdHashMap, IdOrdMap};
+use iddqd::{DefaultHashBuilder, IdHashMap, IdOrdMap};
 use iddqd_commands::KeyedMap;
 use iddqd_testing::bulk::Bulk;
 use iddqd_testing::heap::{arm, is_met};
 use iddqd_testing::items::Numbered;
-use iddqd_testing::tried::Tried;
+use iddqd_testing::tried::{AskedForRoom, Tried};
 use std::alloc::Global;
 use std::test::Fail;
 
@@ -35,11 +35,22 @@ fn hash_with_capacity(rt: HostRuntime) -> Result<(), Fail> {
     tell(&rt, word(made, is_met(rt.alloc())))
 }
 
+#[test]
+fn with_capacity_and_hasher(rt: HostRuntime) -> Result<(), Fail> {
+    let hasher = DefaultHashBuilder::new();
+    arm(rt.alloc());
+    let made = IdHashMap::<Numbered>::with_capacity_and_hasher(rt.alloc(), 20, hasher);
+    tell(&rt, word(made, is_met(rt.alloc())))
+}
+
 // The word for a map of twenty numbers.
 fn word_of_twenty<M: KeyedMap<Item = Numbered, Key = u32> + Drop>(
     made: Result<Tried<M>, Option<TryReserveError>>,
     is_met: bool,
-) -> Result<&'static str, Fail> {
+) -> Result<&'static str, Fail>
+where
+    Tried<M>: AskedForRoom,
+{
     match made {
         Ok(map) if !is_met && holds(&map, 20, None) => Ok("made"),
         Err(Some(error)) if is_met && !error.is_capacity_overflow() => Ok("nothing_made"),
@@ -54,7 +65,7 @@ fn collection<M: KeyedMap<Item = Numbered, Key = u32> + Drop>(
     alloc: Global,
 ) -> Result<&'static str, Fail>
 where
-    Tried<M>: Bulk<Numbered>,
+    Tried<M>: AskedForRoom + Bulk<Numbered>,
 {
     let items = numbers(alloc, 0, 20)?;
     arm(alloc);
@@ -67,7 +78,7 @@ fn unique_collection<M: KeyedMap<Item = Numbered, Key = u32> + Drop>(
     alloc: Global,
 ) -> Result<&'static str, Fail>
 where
-    Tried<M>: Bulk<Numbered>,
+    Tried<M>: AskedForRoom + Bulk<Numbered>,
 {
     let items = numbers(alloc, 0, 20)?;
     arm(alloc);

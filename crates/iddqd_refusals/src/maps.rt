@@ -4,9 +4,10 @@ use crate::words::tell;
 use iddqd::{IdHashMap, IdOrdMap};
 use iddqd_commands::KeyedMap;
 use iddqd_testing::heap::{arm, is_met};
-use iddqd_testing::items::Numbered;
-use iddqd_testing::tried::{Inserted, Tried};
-use std::alloc::Global;
+use iddqd_testing::items::{Numbered, Titled};
+use iddqd_testing::tried::{AskedByText, AskedForRoom, Inserted, Tried};
+use iddqd_testing::walked::Listed;
+use std::alloc::{AllocError, Global};
 use std::test::Fail;
 
 fn numbered(number: u32, value: u32) -> Numbered {
@@ -26,12 +27,16 @@ pub(crate) fn fill<M: KeyedMap<Item = Numbered, Key = u32>>(
     Ok(())
 }
 
-// Whether the map holds the numbers below the count, each with the value 5, and no other but for 1000 where a value is given.
+// Whether the map is sound and holds the numbers below the count, each with the value 5, and no other but for 1000 where a value is
+// given.
 pub(crate) fn holds<M: KeyedMap<Item = Numbered, Key = u32>>(
     map: &Tried<M>,
     count: u32,
     new: Option<u32>,
-) -> bool {
+) -> bool
+where
+    Tried<M>: AskedForRoom,
+{
     for number in 0..count {
         if map.get(&number).copied() != Some(numbered(number, 5)) {
             return false;
@@ -39,14 +44,39 @@ pub(crate) fn holds<M: KeyedMap<Item = Numbered, Key = u32>>(
     }
     let found = map.get(&1000).map(|item| item.value);
     let len = count as usize + if new.is_some() { 1 } else { 0 };
-    found == new && map.len() == len
+    found == new && map.len() == len && map.is_sound()
 }
 
-// Which insertion is tried.
+// An insertion that is tried.
+trait Call<M: KeyedMap>: Copy {
+    fn put(self, map: &mut Tried<M>, item: Numbered) -> Inserted<Numbered>;
+}
+
 #[derive(Clone, Copy)]
-enum Call {
-    Unique,
-    Overwrite,
+struct ByUnique;
+
+impl<M: KeyedMap<Item = Numbered, Key = u32>> Call<M> for ByUnique {
+    fn put(self, map: &mut Tried<M>, item: Numbered) -> Inserted<Numbered> {
+        map.insert(item)
+    }
+}
+
+#[derive(Clone, Copy)]
+struct ByCounted;
+
+impl Call<IdOrdMap<Numbered>> for ByCounted {
+    fn put(self, map: &mut Tried<IdOrdMap<Numbered>>, item: Numbered) -> Inserted<Numbered> {
+        map.insert_counted(item).0
+    }
+}
+
+#[derive(Clone, Copy)]
+struct ByOverwrite;
+
+impl<M: KeyedMap<Item = Numbered, Key = u32>> Call<M> for ByOverwrite {
+    fn put(self, map: &mut Tried<M>, item: Numbered) -> Inserted<Numbered> {
+        overwrite(map, item)
+    }
 }
 
 fn overwrite<M: KeyedMap<Item = Numbered, Key = u32>>(
@@ -60,47 +90,45 @@ fn overwrite<M: KeyedMap<Item = Numbered, Key = u32>>(
     }
 }
 
-fn put<M: KeyedMap<Item = Numbered, Key = u32>>(
-    map: &mut Tried<M>,
-    call: Call,
-    item: Numbered,
-) -> Inserted<Numbered> {
-    match call {
-        Call::Unique => map.insert(item),
-        Call::Overwrite => overwrite(map, item),
-    }
-}
-
-// Whether an item that was refused goes in now, and nothing had changed before.
+// Whether nothing has changed, the walk neither, and an item that was refused goes in now.
 fn goes_in_again<M: KeyedMap<Item = Numbered, Key = u32>>(
     map: &mut Tried<M>,
-    call: Call,
+    call: impl Call<M>,
     item: Numbered,
     count: u32,
-) -> bool {
-    holds(map, count, None) && put(map, call, item) == Inserted::Done && holds(map, count, Some(6))
+    walk: &[Numbered],
+) -> bool
+where
+    Tried<M>: AskedForRoom + Listed<Numbered>,
+{
+    holds(map, count, None)
+        && map.lists(walk)
+        && call.put(map, item) == Inserted::Done
+        && holds(map, count, Some(6))
 }
 
 // Fills the map with so many numbers, and then tries the insertion of a new one with a request refused: the word for what was seen.
 fn insertion<M: KeyedMap<Item = Numbered, Key = u32>>(
     alloc: Global,
     mut map: Tried<M>,
-    call: Call,
+    call: impl Call<M>,
     count: u32,
 ) -> Result<&'static str, Fail>
 where
     M: Drop,
+    Tried<M>: AskedForRoom + Listed<Numbered>,
 {
     fill(&mut map, count)?;
+    let walk = map.listed(alloc)?;
     let new = numbered(1000, 6);
     arm(alloc);
-    let outcome = put(&mut map, call, new);
+    let outcome = call.put(&mut map, new);
     let is_met = is_met(alloc);
     match outcome {
         Inserted::Done if !is_met && holds(&map, count, Some(6)) => Ok("inserted"),
         Inserted::Refused(item, error) => {
             let is_memory = is_met && item == new && !error.is_capacity_overflow();
-            if is_memory && goes_in_again(&mut map, call, item, count) {
+            if is_memory && goes_in_again(&mut map, call, item, count, walk.as_slice()) {
                 return Ok("item_back");
             }
             Err(Fail::from("the map or the item is not as it was, or it refuses again"))
@@ -113,38 +141,44 @@ where
 #[test]
 fn insert_unique(rt: HostRuntime) -> Result<(), Fail> {
     let map = Tried::new(IdOrdMap::new(rt.alloc()));
-    tell(&rt, insertion(rt.alloc(), map, Call::Unique, 4))
+    tell(&rt, insertion(rt.alloc(), map, ByUnique, 4))
+}
+
+#[test]
+fn insert_unique_counted(rt: HostRuntime) -> Result<(), Fail> {
+    let map = Tried::new(IdOrdMap::new(rt.alloc()));
+    tell(&rt, insertion(rt.alloc(), map, ByCounted, 4))
 }
 
 // The 78th of ascending numbers gives the tree its third level, and no unused node is left.
 #[test]
 fn prepare_of_three_levels(rt: HostRuntime) -> Result<(), Fail> {
     let map = Tried::new(IdOrdMap::new(rt.alloc()));
-    tell(&rt, insertion(rt.alloc(), map, Call::Unique, 78))
+    tell(&rt, insertion(rt.alloc(), map, ByUnique, 78))
 }
 
 #[test]
 fn insert_overwrite(rt: HostRuntime) -> Result<(), Fail> {
     let map = Tried::new(IdOrdMap::new(rt.alloc()));
-    tell(&rt, insertion(rt.alloc(), map, Call::Overwrite, 4))
+    tell(&rt, insertion(rt.alloc(), map, ByOverwrite, 4))
 }
 
 #[test]
 fn hash_insert_unique(rt: HostRuntime) -> Result<(), Fail> {
     let map = Tried::new(IdHashMap::new(rt.alloc()));
-    tell(&rt, insertion(rt.alloc(), map, Call::Unique, 8))
+    tell(&rt, insertion(rt.alloc(), map, ByUnique, 8))
 }
 
 #[test]
 fn hash_insert_unique_into_full_index(rt: HostRuntime) -> Result<(), Fail> {
     let map = Tried::new(IdHashMap::new(rt.alloc()));
-    tell(&rt, insertion(rt.alloc(), map, Call::Unique, 9))
+    tell(&rt, insertion(rt.alloc(), map, ByUnique, 9))
 }
 
 #[test]
 fn hash_insert_overwrite(rt: HostRuntime) -> Result<(), Fail> {
     let map = Tried::new(IdHashMap::new(rt.alloc()));
-    tell(&rt, insertion(rt.alloc(), map, Call::Overwrite, 9))
+    tell(&rt, insertion(rt.alloc(), map, ByOverwrite, 9))
 }
 
 // Fills the map with so many numbers, puts each in again by both insertions, and clears the map: whether that went well, and met a request.
@@ -190,33 +224,84 @@ fn hash_akin_insertions_into_full_index(rt: HostRuntime) -> Result<(), Fail> {
     Ok(())
 }
 
-// Fills the map with a hundred numbers, and then finds and takes out each: whether that went well, and met a request.
-fn lookups<M: KeyedMap<Item = Numbered, Key = u32>>(
+// A hundred names of two letters.
+fn names(alloc: Global) -> Result<Vec<String>, AllocError> {
+    let mut names = Vec::new(alloc);
+    for first in ["a", "b", "c", "d", "e", "f", "g", "h", "i", "j"] {
+        for second in ["k", "l", "m", "n", "o", "p", "q", "r", "s", "t"] {
+            names.push(format!(in alloc; "{first}{second}")?)?;
+        }
+    }
+    Ok(names)
+}
+
+// Puts in an item of each name, its value the place of the name.
+fn fill_with_names<M: KeyedMap<Item = Titled>>(
+    map: &mut Tried<M>,
+    names: &[String],
+) -> Result<(), AllocError> {
+    for (value, name) in names.iter().enumerate() {
+        let item = Titled {
+            name: name.clone()?,
+            value: u32::try_from(value).unwrap_or(u32::MAX),
+        };
+        let _ = map.is_put(item);
+    }
+    Ok(())
+}
+
+// Whether each name is found, and its item taken out then.
+fn are_taken_out<M: KeyedMap<Item = Titled>>(map: &mut Tried<M>, names: &[String]) -> bool
+where
+    Tried<M>: AskedByText<Item = Titled>,
+{
+    for (value, name) in names.iter().enumerate() {
+        if map.find(name).map(|item| item.value as usize) != Some(value) {
+            return false;
+        }
+    }
+    for (value, name) in names.iter().enumerate() {
+        if map.take_out(name).map(|item| item.value as usize) != Some(value) {
+            return false;
+        }
+    }
+    map.len() == 0
+}
+
+// Fills the map with a hundred names, and then finds and takes out each: whether that went well, and met a request.
+fn lookups<M: KeyedMap<Item = Titled>>(
     alloc: Global,
+    names: &[String],
     mut map: Tried<M>,
-) -> Result<(bool, bool), Fail>
+) -> Result<(bool, bool), AllocError>
 where
     M: Drop,
+    Tried<M>: AskedByText<Item = Titled>,
 {
-    fill(&mut map, 100)?;
+    fill_with_names(&mut map, names)?;
     arm(alloc);
-    let mut is_well = holds(&map, 100, None);
-    for number in 0..100u32 {
-        is_well = is_well && map.remove(&number) == Some(numbered(number, 5));
-    }
-    Ok((is_well && map.len() == 0, is_met(alloc)))
+    let is_well = are_taken_out(&mut map, names);
+    Ok((is_well, is_met(alloc)))
 }
 
 #[test]
 fn lookups_without_memory(rt: HostRuntime) -> Result<(), Fail> {
+    let names = names(rt.alloc())?;
     let map = Tried::new(IdOrdMap::new(rt.alloc()));
-    check(&rt, lookups(rt.alloc(), map)? == (true, false));
+    check(
+        &rt,
+        lookups(rt.alloc(), names.as_slice(), map)? == (true, false),
+    );
     Ok(())
 }
 
 #[test]
 fn hash_lookups_without_memory(rt: HostRuntime) -> Result<(), Fail> {
+    let names = names(rt.alloc())?;
     let map = Tried::new(IdHashMap::new(rt.alloc()));
-    check(&rt, lookups(rt.alloc(), map)? == (true, false));
+    check(
+        &rt,
+        lookups(rt.alloc(), names.as_slice(), map)? == (true, false),
+    );
     Ok(())
 }

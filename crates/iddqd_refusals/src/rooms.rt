@@ -1,33 +1,64 @@
 //! Reservations, shrinking and calls on many items that are refused, on both maps.
 use crate::maps::{fill, holds};
 use crate::words::tell;
-use iddqd::errors::ExtendError;
+use iddqd::errors::{ExtendError, TryReserveError};
 use iddqd::{IdHashMap, IdOrdMap};
 use iddqd_commands::KeyedMap;
 use iddqd_testing::bulk::{Added, Adding, Bulk};
 use iddqd_testing::heap::{arm, is_met};
 use iddqd_testing::items::Numbered;
+use iddqd_testing::nine::{are_left, retain_nine};
 use iddqd_testing::tried::{AskedForRoom, Tried};
+use iddqd_testing::walked::{Listed, Walked};
 use std::alloc::{AllocError, Global};
 use std::test::Fail;
+
+// A reservation that is tried.
+trait Reserving<M: KeyedMap>: Copy {
+    fn reserve(self, map: &mut Tried<M>) -> Result<(), TryReserveError>;
+}
+
+#[derive(Clone, Copy)]
+struct ByReserve;
+
+impl<M: KeyedMap> Reserving<M> for ByReserve
+where
+    Tried<M>: AskedForRoom,
+{
+    fn reserve(self, map: &mut Tried<M>) -> Result<(), TryReserveError> {
+        map.reserve(1000)
+    }
+}
+
+#[derive(Clone, Copy)]
+struct ByTryReserve;
+
+impl Reserving<IdHashMap<Numbered>> for ByTryReserve {
+    fn reserve(self, map: &mut Tried<IdHashMap<Numbered>>) -> Result<(), TryReserveError> {
+        map.reserve_or_tell(1000)
+    }
+}
 
 // The word for a reservation on a map of four numbers.
 fn reservation<M: KeyedMap<Item = Numbered, Key = u32> + Drop>(
     alloc: Global,
     mut map: Tried<M>,
+    call: impl Reserving<M>,
 ) -> Result<&'static str, Fail>
 where
-    Tried<M>: AskedForRoom,
+    Tried<M>: AskedForRoom + Listed<Numbered>,
 {
     fill(&mut map, 4)?;
+    let walk = map.listed(alloc)?;
+    let room = map.room();
     arm(alloc);
-    let made = map.reserve(1000);
+    let made = call.reserve(&mut map);
     let is_met = is_met(alloc);
-    let is_kept = holds(&map, 4, None);
+    let is_kept = holds(&map, 4, None) && map.lists(walk.as_slice()) && map.room() >= room;
     match made {
         Ok(()) if is_kept && !is_met => Ok("made"),
         Err(error) if is_kept && is_met && !error.is_capacity_overflow() => {
-            let _ = map.reserve(1000)?;
+            let _ = call.reserve(&mut map)?;
             Ok("room_refused")
         }
         _ => Err(Fail::from("the map is not as it was, or room was refused for nothing")),
@@ -36,36 +67,49 @@ where
 
 #[test]
 fn reserve(rt: HostRuntime) -> Result<(), Fail> {
-    tell(
-        &rt,
-        reservation(rt.alloc(), Tried::new(IdOrdMap::new(rt.alloc()))),
-    )
+    let map = Tried::new(IdOrdMap::new(rt.alloc()));
+    tell(&rt, reservation(rt.alloc(), map, ByReserve))
 }
 
 #[test]
 fn hash_reserve(rt: HostRuntime) -> Result<(), Fail> {
-    tell(
-        &rt,
-        reservation(rt.alloc(), Tried::new(IdHashMap::new(rt.alloc()))),
-    )
+    let map = Tried::new(IdHashMap::new(rt.alloc()));
+    tell(&rt, reservation(rt.alloc(), map, ByReserve))
 }
 
-// The word for a shrink of a map of ten numbers that had forty.
-fn shrink<M: KeyedMap<Item = Numbered, Key = u32> + Drop>(
-    alloc: Global,
-    mut map: Tried<M>,
-) -> Result<&'static str, Fail>
+#[test]
+fn hash_try_reserve(rt: HostRuntime) -> Result<(), Fail> {
+    let map = Tried::new(IdHashMap::new(rt.alloc()));
+    tell(&rt, reservation(rt.alloc(), map, ByTryReserve))
+}
+
+// The least room that a shrink leaves; `None` asks for no more than the items need.
+fn shrink_by<M: KeyedMap>(map: &mut Tried<M>, min: Option<usize>) -> Result<(), TryReserveError>
 where
     Tried<M>: AskedForRoom,
 {
-    fill(&mut map, 40)?;
-    for number in 10..40 {
-        let _ = map.remove(&number);
+    match min {
+        None => map.shrink_to_fit(),
+        Some(min) => map.shrink_to(min),
+    }
+}
+
+// The word for a shrink of a map of nine numbers, with vacant slots among them.
+fn shrink<M: KeyedMap<Item = Numbered, Key = u32> + Drop>(
+    alloc: Global,
+    mut map: Tried<M>,
+    min: Option<usize>,
+) -> Result<&'static str, Fail>
+where
+    Tried<M>: AskedForRoom + Walked<Numbered>,
+{
+    if !retain_nine(&mut map) {
+        return Err(Fail::from("an item is not in"));
     }
     arm(alloc);
-    let shrunk = map.shrink_to_fit();
+    let shrunk = shrink_by(&mut map, min);
     let is_met = is_met(alloc);
-    let is_kept = holds(&map, 10, None) && map.vacant() == 0;
+    let is_kept = are_left(&map) && map.is_compact();
     match shrunk {
         Ok(()) if is_kept => Ok(if is_met { "shrunk_without" } else { "shrunk" }),
         Err(error) if is_kept && is_met && !error.is_capacity_overflow() => Ok("shrink_refused"),
@@ -75,18 +119,26 @@ where
 
 #[test]
 fn shrink_to_fit(rt: HostRuntime) -> Result<(), Fail> {
-    tell(
-        &rt,
-        shrink(rt.alloc(), Tried::new(IdOrdMap::new(rt.alloc()))),
-    )
+    let map = Tried::new(IdOrdMap::new(rt.alloc()));
+    tell(&rt, shrink(rt.alloc(), map, None))
 }
 
 #[test]
 fn hash_shrink_to_fit(rt: HostRuntime) -> Result<(), Fail> {
-    tell(
-        &rt,
-        shrink(rt.alloc(), Tried::new(IdHashMap::new(rt.alloc()))),
-    )
+    let map = Tried::new(IdHashMap::new(rt.alloc()));
+    tell(&rt, shrink(rt.alloc(), map, None))
+}
+
+#[test]
+fn shrink_to(rt: HostRuntime) -> Result<(), Fail> {
+    let map = Tried::new(IdOrdMap::new(rt.alloc()));
+    tell(&rt, shrink(rt.alloc(), map, Some(12)))
+}
+
+#[test]
+fn hash_shrink_to(rt: HostRuntime) -> Result<(), Fail> {
+    let map = Tried::new(IdHashMap::new(rt.alloc()));
+    tell(&rt, shrink(rt.alloc(), map, Some(12)))
 }
 
 // The numbers from the one up to the other, each with the value 5.
@@ -98,23 +150,23 @@ pub(crate) fn numbers(alloc: Global, from: u32, to: u32) -> Result<Vec<Numbered>
     Ok(items)
 }
 
-// The word for the numbers 4 to 39 put into a map of four numbers.
+// The word for the numbers 5 to 24 put into a map of five numbers.
 fn extension<M: KeyedMap<Item = Numbered, Key = u32> + Drop>(
     alloc: Global,
     mut map: Tried<M>,
 ) -> Result<&'static str, Fail>
 where
-    Tried<M>: Bulk<Numbered>,
+    Tried<M>: AskedForRoom + Bulk<Numbered>,
 {
-    fill(&mut map, 4)?;
-    let items = numbers(alloc, 4, 40)?;
+    fill(&mut map, 5)?;
+    let items = numbers(alloc, 5, 25)?;
     arm(alloc);
     let extended = map.extend(items);
     let is_met = is_met(alloc);
     match extended {
-        Ok(()) if !is_met && holds(&map, 40, None) => Ok("extended"),
+        Ok(()) if !is_met && holds(&map, 25, None) => Ok("extended"),
         Err(stopped) if is_met && !stopped.error.is_capacity_overflow() => match stopped.item {
-            None if holds(&map, 4, None) => Ok("none_taken"),
+            None if holds(&map, 5, None) => Ok("none_taken"),
             Some(item) if holds(&map, item.number, None) => Ok("item_back"),
             _ => Err(Fail::from("the map does not hold the items before the refused one")),
         },
@@ -144,7 +196,7 @@ fn addition<M: KeyedMap<Item = Numbered, Key = u32> + Drop>(
     mut map: Tried<M>,
 ) -> Result<&'static str, Fail>
 where
-    Tried<M>: Adding<Numbered>,
+    Tried<M>: Adding<Numbered> + AskedForRoom,
 {
     fill(&mut map, 5)?;
     let items = numbers(alloc, 5, 25)?;

@@ -1,10 +1,11 @@
 //! Copies of maps under test.
+ghost use Rattle.std.specs.Prelude.{IfOk};
 ghost use Rattle.iddqd.specs.Contents.{ClonesKeepKeys};
 
 use crate::items::Named;
 use crate::tried::Tried;
 use iddqd::errors::TryReserveError;
-use iddqd::{IdHashItem, IdHashMap, IdOrdItem, IdOrdMap};
+use iddqd::{IdHashItem, IdHashMap, IdOrdItem, IdOrdMap, Lookups};
 
 impl<T: IdOrdItem + Clone> Tried<IdOrdMap<T>> {
     /// `clone`.
@@ -19,6 +20,7 @@ impl<T: IdHashItem + Clone> Tried<IdHashMap<T>> {
     /// `clone`.
     pub fn copied(&self) -> Result<IdHashMap<T>, TryReserveError>
         requires keeps_keys { ClonesKeepKeys T.key T.Key.eq T.is_clone }
+        ensures keyed { IfOk result ⟦<IdHashMap<T> as Lookups>⟧.keyed }
     {
         self.map.clone()
     }

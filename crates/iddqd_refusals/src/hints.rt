@@ -1,0 +1,71 @@
+//! Iterators whose hints lie, with a request refused.
+use crate::words::tell;
+use iddqd::{IdHashMap, IdOrdMap};
+use iddqd_commands::KeyedMap;
+use iddqd_testing::bulk::{Bulk, is_not_taken_in};
+use iddqd_testing::heap::{arm, is_met};
+use iddqd_testing::items::Named;
+use iddqd_testing::tried::{AskedForRoom, Inserted, Tried};
+use std::alloc::Global;
+use std::test::Fail;
+
+const FOO: Named = Named {
+    name: *b"foo",
+    value: 42,
+};
+
+const BAR: Named = Named {
+    name: *b"bar",
+    value: 20,
+};
+
+// Puts in the item, again where it is refused: whether it was refused, or `None` where it is not in.
+fn put_at_last<M: KeyedMap<Item = Named>>(map: &mut Tried<M>, item: Named) -> Option<bool> {
+    match map.insert(item) {
+        Inserted::Done => Some(false),
+        Inserted::Refused(_, _) if map.insert(item) == Inserted::Done => Some(true),
+        _ => None,
+    }
+}
+
+// Whether the map is sound and has foo and bar.
+fn has_both<M: KeyedMap<Item = Named, Key = [u8; 3]>>(map: &Tried<M>) -> bool
+where
+    Tried<M>: AskedForRoom,
+{
+    let are_found = map.get(b"foo") == Some(&FOO) && map.get(b"bar") == Some(&BAR);
+    are_found && map.len() == 2 && map.is_sound()
+}
+
+// The word for a map that an iterator lies to before and after it has two items: a request that is refused is one of theirs.
+fn lied_to<M: KeyedMap<Item = Named, Key = [u8; 3]> + Drop>(
+    alloc: Global,
+    mut map: Tried<M>,
+) -> Result<&'static str, Fail>
+where
+    Tried<M>: AskedForRoom + Bulk<Named>,
+{
+    arm(alloc);
+    let is_empty_kept = is_not_taken_in(&mut map) && map.len() == 0;
+    let refused = (put_at_last(&mut map, FOO), put_at_last(&mut map, BAR));
+    let is_kept = is_empty_kept && is_not_taken_in(&mut map);
+    let is_met = is_met(alloc);
+    match refused {
+        (Some(false), Some(false)) if is_kept && !is_met && has_both(&map) => Ok("no_item_refused"),
+        (Some(true), Some(false)) | (Some(false), Some(true))
+            if is_kept && is_met && has_both(&map) => { Ok("hint_refused") }
+        _ => Err(Fail::from("a hint was believed, or the map is not as it was")),
+    }
+}
+
+#[test]
+fn lying_hints(rt: HostRuntime) -> Result<(), Fail> {
+    let map = Tried::new(IdOrdMap::new(rt.alloc()));
+    tell(&rt, lied_to(rt.alloc(), map))
+}
+
+#[test]
+fn hash_lying_hints(rt: HostRuntime) -> Result<(), Fail> {
+    let map = Tried::new(IdHashMap::new(rt.alloc()));
+    tell(&rt, lied_to(rt.alloc(), map))
+}
