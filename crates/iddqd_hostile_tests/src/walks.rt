@@ -62,21 +62,26 @@ fn hash_reading_walk(rt: HostRuntime) -> Result<(), Fail> {
     Ok(())
 }
 
+// Whether a walk says that nothing is to come, and gives nothing, again and again.
+fn gives_none<W: ExactSizeIterator>(walk: &mut W) -> bool
+where
+    W::Item: Drop,
+    requires asked_freely { (at : W) → W.can_next at }
+{
+    walk.len() == 0 && walk.next().is_none() && walk.next().is_none()
+}
+
 // Whether neither walk over a map without items shows one, again and again.
 fn gives_none_in_order(alloc: Global) -> bool {
     let map: IdOrdMap<Named> = IdOrdMap::new(alloc);
-    let mut walk = map.iter();
-    let shows_none = walk.len() == 0 && walk.next().is_none() && walk.next().is_none();
-    let mut walk = map.into_iter();
-    shows_none && walk.len() == 0 && walk.next().is_none() && walk.next().is_none()
+    let shows_none = gives_none(&mut map.iter());
+    shows_none && gives_none(&mut map.into_iter())
 }
 
 fn gives_none_by_hash(alloc: Global) -> bool {
     let map: IdHashMap<Named> = IdHashMap::new(alloc);
-    let mut walk = map.iter();
-    let shows_none = walk.len() == 0 && walk.next().is_none() && walk.next().is_none();
-    let mut walk = map.into_iter();
-    shows_none && walk.len() == 0 && walk.next().is_none() && walk.next().is_none()
+    let shows_none = gives_none(&mut map.iter());
+    shows_none && gives_none(&mut map.into_iter())
 }
 
 // Whether the writing walk over a map without items lends none.
