@@ -1,8 +1,8 @@
 //! A hash map keeps the hash of each key, and grows by it.
 use crate::checks::check;
-use iddqd::{IdHashItem, IdHashMap};
+use iddqd::IdHashItem;
 use iddqd_testing::counting::{Fed, HashedKey};
-use iddqd_testing::tried::{AskedForRoom, Tried};
+use iddqd_testing::tried::{AskedForRoom, by_hash};
 use iddqd_testing::walked::Walked;
 use std::alloc::Global;
 use std::cell::Cell;
@@ -20,7 +20,7 @@ fn makes_room_unhashed<T: IdHashItem + Copy, F: Fn(&T) -> bool>(
 ) -> bool
     requires { F.IsAlwaysCallable keep }
 {
-    let mut map = Tried::new(IdHashMap::new(alloc));
+    let mut map = by_hash(alloc);
     for item in items {
         if !map.is_put(*item) {
             return false;

@@ -5,7 +5,7 @@ use iddqd::{DefaultHashBuilder, IdHashMap, IdOrdMap};
 use iddqd_commands::KeyedMap;
 use iddqd_testing::bulk::{Bulk, Hinted};
 use iddqd_testing::items::Numbered;
-use iddqd_testing::tried::Tried;
+use iddqd_testing::tried::{Tried, by_hash, in_order};
 use std::process::Abort;
 
 fn numbered(number: u32, value: u32) -> Numbered {
@@ -119,10 +119,10 @@ fn refused_whole<M: KeyedMap<Item = Numbered> + Drop>(
 #[test]
 fn few_or_many_items(rt: HostRuntime) {
     let alloc = rt.alloc();
-    few_come(&rt, Tried::new(IdOrdMap::new(alloc)));
-    few_come(&rt, Tried::new(IdHashMap::new(alloc)));
-    many_come(&rt, Tried::new(IdOrdMap::new(alloc)));
-    many_come(&rt, Tried::new(IdHashMap::new(alloc)));
+    few_come(&rt, in_order(alloc));
+    few_come(&rt, by_hash(alloc));
+    many_come(&rt, in_order(alloc));
+    many_come(&rt, by_hash(alloc));
     let full = Some(TryReserveError::capacity_overflow());
     let ordered = Tried::<IdOrdMap<Numbered>>::collected_unique(
         alloc,

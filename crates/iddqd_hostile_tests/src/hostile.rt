@@ -8,7 +8,7 @@ use iddqd_testing::hashers::ZeroHasher;
 use iddqd_testing::items::Numbered;
 use iddqd_testing::lent::Lent;
 use iddqd_testing::respelled::Respelled;
-use iddqd_testing::tried::{Inserted, Tried};
+use iddqd_testing::tried::{Inserted, Tried, by_hash, in_order};
 use iddqd_testing::walked::Walked;
 use std::hash::BuildHasherDefault;
 use std::process::Abort;
@@ -100,28 +100,28 @@ fn is_in_order(map: &IdOrdMap<Coarse>) -> bool {
 
 #[test]
 fn coarse_writes(rt: HostRuntime) {
-    let map = by_guard(&rt, Tried::new(IdOrdMap::new(rt.alloc())));
+    let map = by_guard(&rt, in_order(rt.alloc()));
     check(&rt, is_in_order(map.map()));
-    let _ = by_guard(&rt, Tried::new(IdHashMap::new(rt.alloc())));
+    let _ = by_guard(&rt, by_hash(rt.alloc()));
 }
 
 #[test]
 fn coarse_writes_by_entry(rt: HostRuntime) {
-    let map = by_entry(&rt, Tried::new(IdOrdMap::new(rt.alloc())));
+    let map = by_entry(&rt, in_order(rt.alloc()));
     check(&rt, is_in_order(map.map()));
-    let _ = by_entry(&rt, Tried::new(IdHashMap::new(rt.alloc())));
+    let _ = by_entry(&rt, by_hash(rt.alloc()));
 }
 
 #[test]
 fn coarse_writes_by_visitor(rt: HostRuntime) {
-    let map = by_visitor(&rt, Tried::new(IdOrdMap::new(rt.alloc())));
+    let map = by_visitor(&rt, in_order(rt.alloc()));
     check(&rt, is_in_order(map.map()));
-    let _ = by_visitor(&rt, Tried::new(IdHashMap::new(rt.alloc())));
+    let _ = by_visitor(&rt, by_hash(rt.alloc()));
 }
 
 #[test]
 fn coarse_writes_by_walk(rt: HostRuntime) {
-    let map = of_bar_and_foo(&rt, Tried::new(IdOrdMap::new(rt.alloc())));
+    let map = of_bar_and_foo(&rt, in_order(rt.alloc()));
     let (map, _) = map.written(2, respell);
     check(&rt, is_in_order(&map));
 }
@@ -136,7 +136,7 @@ fn has_both(map: &IdHashMap<Coarse>) -> bool {
 
 #[test]
 fn hash_coarse_writes_by_walk(rt: HostRuntime) {
-    let map = of_bar_and_foo(&rt, Tried::new(IdHashMap::new(rt.alloc())));
+    let map = of_bar_and_foo(&rt, by_hash(rt.alloc()));
     let (map, _) = map.written(2, respell);
     check(&rt, has_both(&map));
 }
@@ -155,17 +155,17 @@ fn of_one<M: KeyedMap<Item = Numbered, Key = u32> + Drop>(
 
 #[test]
 fn reborrow(rt: HostRuntime) {
-    let map = of_one(&rt, Tried::new(IdOrdMap::new(rt.alloc())));
+    let map = of_one(&rt, in_order(rt.alloc()));
     check(&rt, map.write_by_reborrow(1, 5) == Some((5, 5)));
-    let map = of_one(&rt, Tried::new(IdHashMap::new(rt.alloc())));
+    let map = of_one(&rt, by_hash(rt.alloc()));
     check(&rt, map.write_by_reborrow(1, 5) == Some((5, 5)));
 }
 
 #[test]
 fn guard_spent_unwritten(rt: HostRuntime) {
-    let map = of_one(&rt, Tried::new(IdOrdMap::new(rt.alloc())));
+    let map = of_one(&rt, in_order(rt.alloc()));
     check(&rt, map.spend_unwritten(1) == Some(true));
-    let map = of_one(&rt, Tried::new(IdHashMap::new(rt.alloc())));
+    let map = of_one(&rt, by_hash(rt.alloc()));
     check(&rt, map.spend_unwritten(1) == Some(true));
 }
 
@@ -206,7 +206,7 @@ fn raise(item: &mut Numbered) {
 
 #[test]
 fn writing_walk_stopped(rt: HostRuntime) {
-    let mut map = Tried::new(IdOrdMap::new(rt.alloc()));
+    let mut map = in_order(rt.alloc());
     for number in 1..=30 {
         check(&rt, map.is_put(numbered(number, number)));
     }

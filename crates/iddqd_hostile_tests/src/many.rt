@@ -4,7 +4,7 @@ use iddqd::{IdHashMap, IdOrdMap};
 use iddqd_commands::KeyedMap;
 use iddqd_testing::hashers::{FewBits, Varying, ZeroHasher};
 use iddqd_testing::items::Numbered;
-use iddqd_testing::tried::{Inserted, Tried, is_put};
+use iddqd_testing::tried::{Inserted, Tried, by_hash, in_order, is_put};
 use std::alloc::{AllocError, Global};
 use std::collections::hash_map::RandomState;
 use std::hash::BuildHasherDefault;
@@ -19,7 +19,7 @@ fn numbered(number: u32) -> Numbered {
 }
 
 /// The items of all numbers below the prime, in an order that the factor gives.
-fn in_order(alloc: Global, prime: u32, factor: u32) -> Result<Vec<Numbered>, AllocError> {
+fn by_factor(alloc: Global, prime: u32, factor: u32) -> Result<Vec<Numbered>, AllocError> {
     let mut items = Vec::new(alloc);
     for place in 1..prime {
         let number = u64::from(place) * u64::from(factor) % u64::from(prime);
@@ -104,7 +104,7 @@ where
 #[test]
 fn constant_hasher(rt: HostRuntime) -> Result<(), Fail> {
     let alloc = rt.alloc();
-    let items = in_order(alloc, 101, 1)?;
+    let items = by_factor(alloc, 101, 1)?;
     let hasher: BuildHasherDefault<ZeroHasher> = BuildHasherDefault::new();
     hundred(
         &rt,
@@ -118,7 +118,7 @@ fn constant_hasher(rt: HostRuntime) -> Result<(), Fail> {
 #[test]
 fn hashers_of_few_bits(rt: HostRuntime) -> Result<(), Fail> {
     let alloc = rt.alloc();
-    let items = in_order(alloc, 100_003, 7)?;
+    let items = by_factor(alloc, 100_003, 7)?;
     for varying in [Varying::High, Varying::Low, Varying::Multiples] {
         let mut map = Tried::new(IdHashMap::with_hasher(alloc, FewBits::new(varying)));
         check(&rt, all_go_in(&mut map, items.as_slice()));
@@ -150,18 +150,18 @@ where
 #[test]
 fn ten_thousand_keys(rt: HostRuntime) -> Result<(), Fail> {
     let alloc = rt.alloc();
-    let coming = in_order(alloc, 10_007, 7)?;
-    let going = in_order(alloc, 10_007, 11)?;
+    let coming = by_factor(alloc, 10_007, 7)?;
+    let going = by_factor(alloc, 10_007, 11)?;
     let (coming, going) = (coming.as_slice(), going.as_slice());
-    ten_thousand(&rt, coming, going, Tried::new(IdOrdMap::new(alloc)));
-    ten_thousand(&rt, coming, going, Tried::new(IdHashMap::new(alloc)));
+    ten_thousand(&rt, coming, going, in_order(alloc));
+    ten_thousand(&rt, coming, going, by_hash(alloc));
     Ok(())
 }
 
 #[test]
 fn random_hasher(rt: HostRuntime) -> Result<(), Fail> {
     let alloc = rt.alloc();
-    let items = in_order(alloc, 13, 2)?;
+    let items = by_factor(alloc, 13, 2)?;
     let hasher = RandomState::new(&rt)?;
     let mut map = Tried::new(IdHashMap::with_hasher(alloc, hasher));
     check(&rt, all_go_in(&mut map, items.as_slice()));

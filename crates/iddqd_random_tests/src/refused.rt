@@ -2,11 +2,10 @@
 use crate::draws::Draws;
 use crate::plain::{Plain, is_same};
 use iddqd::errors::TryReserveError;
-use iddqd::{IdHashMap, IdOrdMap};
 use iddqd_commands::KeyedMap;
 use iddqd_testing::caseless::{Caseless, Coarse, spelled};
 use iddqd_testing::heap::{arm, is_met};
-use iddqd_testing::tried::{AskedForRoom, Inserted, Tried};
+use iddqd_testing::tried::{AskedForRoom, Inserted, Tried, by_hash, in_order};
 use std::alloc::{AllocError, Global};
 use std::process::Abort;
 use std::test::Fail;
@@ -184,7 +183,7 @@ fn row(refusals: u32) -> &'static str {
 fn ordered_calls(rt: HostRuntime) -> Result<(), Fail> {
     let seed = 91;
     println!(rt; "seed {seed}")?;
-    let mut map = Tried::new(IdOrdMap::new(rt.alloc()));
+    let mut map = in_order(rt.alloc());
     println!(rt; "{}", row(refusals(&rt, rt.alloc(), &mut map, seed)?))?;
     Ok(())
 }
@@ -193,7 +192,7 @@ fn ordered_calls(rt: HostRuntime) -> Result<(), Fail> {
 fn hash_calls(rt: HostRuntime) -> Result<(), Fail> {
     let seed = 92;
     println!(rt; "seed {seed}")?;
-    let mut map = Tried::new(IdHashMap::new(rt.alloc()));
+    let mut map = by_hash(rt.alloc());
     println!(rt; "{}", row(refusals(&rt, rt.alloc(), &mut map, seed)?))?;
     Ok(())
 }

@@ -11,7 +11,7 @@ use iddqd_testing::entered::Entered;
 use iddqd_testing::hashers::ZeroHasher;
 use iddqd_testing::probed::{Copied, Probed};
 use iddqd_testing::respelled::Respelled;
-use iddqd_testing::tried::{AskedForRoom, Tried};
+use iddqd_testing::tried::{AskedForRoom, Tried, by_hash};
 use iddqd_testing::walked::Walked;
 use std::alloc::{AllocError, Global};
 use std::collections::hash_map::RandomState;
@@ -268,7 +268,7 @@ fn ordered_calls_at_the_limit(rt: HostRuntime) -> Result<(), Fail> {
 fn hash_calls(rt: HostRuntime) -> Result<(), Fail> {
     for seed in [41, 42] {
         let run = announced(&rt, of_seed(seed, 20_000, 7, MAX_ITEMS))?;
-        let map = Tried::new(IdHashMap::new(rt.alloc()));
+        let map = by_hash(rt.alloc());
         run_hashed(&rt, rt.alloc(), run, map)?;
     }
     Ok(())

@@ -6,7 +6,7 @@ use iddqd::{IdHashMap, IdOrdMap};
 use iddqd_commands::KeyedMap;
 use iddqd_testing::heap::{arm, is_met};
 use iddqd_testing::items::Numbered;
-use iddqd_testing::tried::{AskedForRoom, Tried};
+use iddqd_testing::tried::{AskedForRoom, Tried, by_hash, in_order};
 use std::alloc::Global;
 use std::test::Fail;
 
@@ -55,12 +55,12 @@ fn clone_by_hash(alloc: Global, mut map: Tried<IdHashMap<Numbered>>) -> Result<&
 
 #[test]
 fn clone(rt: HostRuntime) -> Result<(), Fail> {
-    let map = Tried::new(IdOrdMap::new(rt.alloc()));
+    let map = in_order(rt.alloc());
     tell(&rt, clone_in_order(rt.alloc(), map))
 }
 
 #[test]
 fn hash_clone(rt: HostRuntime) -> Result<(), Fail> {
-    let map = Tried::new(IdHashMap::new(rt.alloc()));
+    let map = by_hash(rt.alloc());
     tell(&rt, clone_by_hash(rt.alloc(), map))
 }

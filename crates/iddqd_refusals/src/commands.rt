@@ -1,10 +1,9 @@
 //! `run` with a request refused: the commands come back, or the replies are one of the rows that a refusal allows.
 use crate::words::tell;
-use iddqd::{IdHashMap, IdOrdMap};
 use iddqd_commands::{Command, KeyedMap, Reply};
 use iddqd_testing::heap::{arm, is_met};
 use iddqd_testing::kept::{Kept, make_kept};
-use iddqd_testing::tried::Tried;
+use iddqd_testing::tried::{Tried, by_hash, in_order};
 use iddqd_testing::visitors::Untouched;
 use std::alloc::{AllocError, Global};
 use std::test::Fail;
@@ -140,12 +139,12 @@ where
 
 #[test]
 fn run_of_commands(rt: HostRuntime) -> Result<(), Fail> {
-    let map = Tried::new(IdOrdMap::new(rt.alloc()));
+    let map = in_order(rt.alloc());
     tell(&rt, swept_run(rt.alloc(), map))
 }
 
 #[test]
 fn hash_run_of_commands(rt: HostRuntime) -> Result<(), Fail> {
-    let map = Tried::new(IdHashMap::new(rt.alloc()));
+    let map = by_hash(rt.alloc());
     tell(&rt, swept_run(rt.alloc(), map))
 }

@@ -1,11 +1,11 @@
 //! Insertions by an entry that are refused, on both maps.
 use crate::words::tell;
-use iddqd::{IdHashMap, IdOrdMap};
+use iddqd::IdOrdMap;
 use iddqd_commands::KeyedMap;
 use iddqd_testing::caseless::{Caseless, Coarse, item_of, spelled};
 use iddqd_testing::entered::{Entered, Put};
 use iddqd_testing::heap::{arm, is_met};
-use iddqd_testing::tried::{AskedForRoom, Tried};
+use iddqd_testing::tried::{AskedForRoom, Tried, by_hash, in_order};
 use iddqd_testing::walked::Listed;
 use std::alloc::Global;
 use std::test::Fail;
@@ -132,7 +132,7 @@ fn show(map: &mut Tried<IdOrdMap<Coarse>>, call: Shows, item: Coarse) -> Put {
 
 // The same of an insertion that shows its item, into an ordered map of four names.
 fn shown_insertion(alloc: Global, call: Shows) -> Result<&'static str, Fail> {
-    let mut map = Tried::new(IdOrdMap::new(alloc));
+    let mut map = in_order(alloc);
     let names = NAMES.get(..4).ok_or("too many names")?;
     fill(&mut map, names)?;
     let walk = map.listed(alloc)?;
@@ -166,48 +166,48 @@ fn or_insert_with_ref(rt: HostRuntime) -> Result<(), Fail> {
 
 #[test]
 fn vacant_insert(rt: HostRuntime) -> Result<(), Fail> {
-    let map = Tried::new(IdOrdMap::new(rt.alloc()));
+    let map = in_order(rt.alloc());
     tell(&rt, insertion(rt.alloc(), map, Call::Insert, 4))
 }
 
 #[test]
 fn hash_vacant_insert(rt: HostRuntime) -> Result<(), Fail> {
-    let map = Tried::new(IdHashMap::new(rt.alloc()));
+    let map = by_hash(rt.alloc());
     tell(&rt, insertion(rt.alloc(), map, Call::Insert, 9))
 }
 
 #[test]
 fn insert_entry(rt: HostRuntime) -> Result<(), Fail> {
-    let map = Tried::new(IdOrdMap::new(rt.alloc()));
+    let map = in_order(rt.alloc());
     tell(&rt, insertion(rt.alloc(), map, Call::InsertEntry, 4))
 }
 
 #[test]
 fn hash_insert_entry(rt: HostRuntime) -> Result<(), Fail> {
-    let map = Tried::new(IdHashMap::new(rt.alloc()));
+    let map = by_hash(rt.alloc());
     tell(&rt, insertion(rt.alloc(), map, Call::InsertEntry, 9))
 }
 
 #[test]
 fn or_insert(rt: HostRuntime) -> Result<(), Fail> {
-    let map = Tried::new(IdOrdMap::new(rt.alloc()));
+    let map = in_order(rt.alloc());
     tell(&rt, insertion(rt.alloc(), map, Call::OrInsert, 4))
 }
 
 #[test]
 fn hash_or_insert(rt: HostRuntime) -> Result<(), Fail> {
-    let map = Tried::new(IdHashMap::new(rt.alloc()));
+    let map = by_hash(rt.alloc());
     tell(&rt, insertion(rt.alloc(), map, Call::OrInsert, 9))
 }
 
 #[test]
 fn or_insert_with(rt: HostRuntime) -> Result<(), Fail> {
-    let map = Tried::new(IdOrdMap::new(rt.alloc()));
+    let map = in_order(rt.alloc());
     tell(&rt, insertion(rt.alloc(), map, Call::OrInsertWith, 4))
 }
 
 #[test]
 fn hash_or_insert_with(rt: HostRuntime) -> Result<(), Fail> {
-    let map = Tried::new(IdHashMap::new(rt.alloc()));
+    let map = by_hash(rt.alloc());
     tell(&rt, insertion(rt.alloc(), map, Call::OrInsertWith, 9))
 }

@@ -3,7 +3,7 @@ use crate::checks::check;
 use iddqd::IdOrdMap;
 use iddqd_testing::heap::{arm, is_met};
 use iddqd_testing::items::Numbered;
-use iddqd_testing::tried::{AskedForRoom, Inserted, Tried};
+use iddqd_testing::tried::{AskedForRoom, Inserted, Tried, in_order};
 use std::test::Fail;
 
 // Whether the walk has the numbers from 1 to below another, in order.
@@ -38,7 +38,7 @@ fn grow(map: &mut Tried<IdOrdMap<Numbered>>, number: u32) -> Result<bool, Fail> 
 
 #[test]
 fn growth_refused(rt: HostRuntime) -> Result<(), Fail> {
-    let mut map = Tried::new(IdOrdMap::new(rt.alloc()));
+    let mut map = in_order(rt.alloc());
     let mut is_refused = false;
     arm(rt.alloc());
     for number in 1..13 {

@@ -1,11 +1,10 @@
 //! Iterators whose hints lie, with a request refused.
 use crate::words::tell;
-use iddqd::{IdHashMap, IdOrdMap};
 use iddqd_commands::KeyedMap;
 use iddqd_testing::bulk::{Bulk, is_not_taken_in};
 use iddqd_testing::heap::{arm, is_met};
 use iddqd_testing::items::Named;
-use iddqd_testing::tried::{AskedForRoom, Inserted, Tried};
+use iddqd_testing::tried::{AskedForRoom, Inserted, Tried, by_hash, in_order};
 use std::alloc::Global;
 use std::test::Fail;
 
@@ -60,12 +59,12 @@ where
 
 #[test]
 fn lying_hints(rt: HostRuntime) -> Result<(), Fail> {
-    let map = Tried::new(IdOrdMap::new(rt.alloc()));
+    let map = in_order(rt.alloc());
     tell(&rt, lied_to(rt.alloc(), map))
 }
 
 #[test]
 fn hash_lying_hints(rt: HostRuntime) -> Result<(), Fail> {
-    let map = Tried::new(IdHashMap::new(rt.alloc()));
+    let map = by_hash(rt.alloc());
     tell(&rt, lied_to(rt.alloc(), map))
 }

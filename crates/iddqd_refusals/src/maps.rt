@@ -1,11 +1,11 @@
 //! Insertions that are refused, and lookups that need no memory, on both maps.
 use crate::checks::check;
 use crate::words::tell;
-use iddqd::{IdHashMap, IdOrdMap};
+use iddqd::IdOrdMap;
 use iddqd_commands::KeyedMap;
 use iddqd_testing::heap::{arm, is_met};
 use iddqd_testing::items::{Numbered, Titled};
-use iddqd_testing::tried::{AskedByText, AskedForRoom, Inserted, Tried};
+use iddqd_testing::tried::{AskedByText, AskedForRoom, Inserted, Tried, by_hash, in_order};
 use iddqd_testing::walked::Listed;
 use std::alloc::{AllocError, Global};
 use std::test::Fail;
@@ -140,44 +140,44 @@ where
 // A store is full with 4 and with 8 items, the ordered index too; a hash index first with 9.
 #[test]
 fn insert_unique(rt: HostRuntime) -> Result<(), Fail> {
-    let map = Tried::new(IdOrdMap::new(rt.alloc()));
+    let map = in_order(rt.alloc());
     tell(&rt, insertion(rt.alloc(), map, ByUnique, 4))
 }
 
 #[test]
 fn insert_unique_counted(rt: HostRuntime) -> Result<(), Fail> {
-    let map = Tried::new(IdOrdMap::new(rt.alloc()));
+    let map = in_order(rt.alloc());
     tell(&rt, insertion(rt.alloc(), map, ByCounted, 4))
 }
 
 // The 78th of ascending numbers gives the tree its third level, and no unused node is left.
 #[test]
 fn prepare_of_three_levels(rt: HostRuntime) -> Result<(), Fail> {
-    let map = Tried::new(IdOrdMap::new(rt.alloc()));
+    let map = in_order(rt.alloc());
     tell(&rt, insertion(rt.alloc(), map, ByUnique, 78))
 }
 
 #[test]
 fn insert_overwrite(rt: HostRuntime) -> Result<(), Fail> {
-    let map = Tried::new(IdOrdMap::new(rt.alloc()));
+    let map = in_order(rt.alloc());
     tell(&rt, insertion(rt.alloc(), map, ByOverwrite, 4))
 }
 
 #[test]
 fn hash_insert_unique(rt: HostRuntime) -> Result<(), Fail> {
-    let map = Tried::new(IdHashMap::new(rt.alloc()));
+    let map = by_hash(rt.alloc());
     tell(&rt, insertion(rt.alloc(), map, ByUnique, 8))
 }
 
 #[test]
 fn hash_insert_unique_into_full_index(rt: HostRuntime) -> Result<(), Fail> {
-    let map = Tried::new(IdHashMap::new(rt.alloc()));
+    let map = by_hash(rt.alloc());
     tell(&rt, insertion(rt.alloc(), map, ByUnique, 9))
 }
 
 #[test]
 fn hash_insert_overwrite(rt: HostRuntime) -> Result<(), Fail> {
-    let map = Tried::new(IdHashMap::new(rt.alloc()));
+    let map = by_hash(rt.alloc());
     tell(&rt, insertion(rt.alloc(), map, ByOverwrite, 9))
 }
 
@@ -205,21 +205,21 @@ where
 
 #[test]
 fn akin_insertions_without_memory(rt: HostRuntime) -> Result<(), Fail> {
-    let map = Tried::new(IdOrdMap::new(rt.alloc()));
+    let map = in_order(rt.alloc());
     check(&rt, akin_insertions(rt.alloc(), map, 8)? == (true, false));
     Ok(())
 }
 
 #[test]
 fn hash_akin_insertions_without_memory(rt: HostRuntime) -> Result<(), Fail> {
-    let map = Tried::new(IdHashMap::new(rt.alloc()));
+    let map = by_hash(rt.alloc());
     check(&rt, akin_insertions(rt.alloc(), map, 8)? == (true, false));
     Ok(())
 }
 
 #[test]
 fn hash_akin_insertions_into_full_index(rt: HostRuntime) -> Result<(), Fail> {
-    let map = Tried::new(IdHashMap::new(rt.alloc()));
+    let map = by_hash(rt.alloc());
     check(&rt, akin_insertions(rt.alloc(), map, 9)? == (true, false));
     Ok(())
 }
@@ -287,7 +287,7 @@ where
 #[test]
 fn lookups_without_memory(rt: HostRuntime) -> Result<(), Fail> {
     let names = names(rt.alloc())?;
-    let map = Tried::new(IdOrdMap::new(rt.alloc()));
+    let map = in_order(rt.alloc());
     check(
         &rt,
         lookups(rt.alloc(), names.as_slice(), map)? == (true, false),
@@ -298,7 +298,7 @@ fn lookups_without_memory(rt: HostRuntime) -> Result<(), Fail> {
 #[test]
 fn hash_lookups_without_memory(rt: HostRuntime) -> Result<(), Fail> {
     let names = names(rt.alloc())?;
-    let map = Tried::new(IdHashMap::new(rt.alloc()));
+    let map = by_hash(rt.alloc());
     check(
         &rt,
         lookups(rt.alloc(), names.as_slice(), map)? == (true, false),

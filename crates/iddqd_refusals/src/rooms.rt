@@ -1,14 +1,14 @@
 //! Reservations, shrinking and calls on many items that are refused, on both maps.
 use crate::maps::{fill, holds};
 use crate::words::tell;
+use iddqd::IdHashMap;
 use iddqd::errors::{ExtendError, TryReserveError};
-use iddqd::{IdHashMap, IdOrdMap};
 use iddqd_commands::KeyedMap;
 use iddqd_testing::bulk::{Added, Adding, Bulk};
 use iddqd_testing::heap::{arm, is_met};
 use iddqd_testing::items::Numbered;
 use iddqd_testing::nine::{are_left, retain_nine};
-use iddqd_testing::tried::{AskedForRoom, Tried};
+use iddqd_testing::tried::{AskedForRoom, Tried, by_hash, in_order};
 use iddqd_testing::walked::{Listed, Walked};
 use std::alloc::{AllocError, Global};
 use std::test::Fail;
@@ -67,19 +67,19 @@ where
 
 #[test]
 fn reserve(rt: HostRuntime) -> Result<(), Fail> {
-    let map = Tried::new(IdOrdMap::new(rt.alloc()));
+    let map = in_order(rt.alloc());
     tell(&rt, reservation(rt.alloc(), map, ByReserve))
 }
 
 #[test]
 fn hash_reserve(rt: HostRuntime) -> Result<(), Fail> {
-    let map = Tried::new(IdHashMap::new(rt.alloc()));
+    let map = by_hash(rt.alloc());
     tell(&rt, reservation(rt.alloc(), map, ByReserve))
 }
 
 #[test]
 fn hash_try_reserve(rt: HostRuntime) -> Result<(), Fail> {
-    let map = Tried::new(IdHashMap::new(rt.alloc()));
+    let map = by_hash(rt.alloc());
     tell(&rt, reservation(rt.alloc(), map, ByTryReserve))
 }
 
@@ -119,25 +119,25 @@ where
 
 #[test]
 fn shrink_to_fit(rt: HostRuntime) -> Result<(), Fail> {
-    let map = Tried::new(IdOrdMap::new(rt.alloc()));
+    let map = in_order(rt.alloc());
     tell(&rt, shrink(rt.alloc(), map, None))
 }
 
 #[test]
 fn hash_shrink_to_fit(rt: HostRuntime) -> Result<(), Fail> {
-    let map = Tried::new(IdHashMap::new(rt.alloc()));
+    let map = by_hash(rt.alloc());
     tell(&rt, shrink(rt.alloc(), map, None))
 }
 
 #[test]
 fn shrink_to(rt: HostRuntime) -> Result<(), Fail> {
-    let map = Tried::new(IdOrdMap::new(rt.alloc()));
+    let map = in_order(rt.alloc());
     tell(&rt, shrink(rt.alloc(), map, Some(12)))
 }
 
 #[test]
 fn hash_shrink_to(rt: HostRuntime) -> Result<(), Fail> {
-    let map = Tried::new(IdHashMap::new(rt.alloc()));
+    let map = by_hash(rt.alloc());
     tell(&rt, shrink(rt.alloc(), map, Some(12)))
 }
 
@@ -176,18 +176,12 @@ where
 
 #[test]
 fn extend(rt: HostRuntime) -> Result<(), Fail> {
-    tell(
-        &rt,
-        extension(rt.alloc(), Tried::new(IdOrdMap::new(rt.alloc()))),
-    )
+    tell(&rt, extension(rt.alloc(), in_order(rt.alloc())))
 }
 
 #[test]
 fn hash_extend(rt: HostRuntime) -> Result<(), Fail> {
-    tell(
-        &rt,
-        extension(rt.alloc(), Tried::new(IdHashMap::new(rt.alloc()))),
-    )
+    tell(&rt, extension(rt.alloc(), by_hash(rt.alloc())))
 }
 
 // The word for the numbers 5 to 24 added to a map of five numbers.
@@ -203,9 +197,9 @@ where
     arm(alloc);
     let added = map.add_each(items);
     let is_met = is_met(alloc);
-    match stop_of(added) {
-        None if added == Added::All && !is_met && holds(&map, 25, None) => Ok("added"),
-        Some(stopped) if is_met && !stopped.error.is_capacity_overflow() => match stopped.item {
+    match added {
+        Added::All if !is_met && holds(&map, 25, None) => Ok("added"),
+        Added::Stopped(item, error) if is_met && !error.is_capacity_overflow() => match item {
             None if holds(&map, 5, None) => Ok("none_added"),
             Some(item) if holds(&map, item.number, None) => Ok("added_back"),
             _ => Err(Fail::from("the map does not hold the items before the refused one")),
@@ -214,26 +208,12 @@ where
     }
 }
 
-// What was refused, if anything was.
-fn stop_of(added: Added<Numbered>) -> Option<ExtendError<Numbered>> {
-    match added {
-        Added::Stopped(item, error) => Some(ExtendError { item, error }),
-        _ => None,
-    }
-}
-
 #[test]
 fn extend_unique(rt: HostRuntime) -> Result<(), Fail> {
-    tell(
-        &rt,
-        addition(rt.alloc(), Tried::new(IdOrdMap::new(rt.alloc()))),
-    )
+    tell(&rt, addition(rt.alloc(), in_order(rt.alloc())))
 }
 
 #[test]
 fn hash_extend_unique(rt: HostRuntime) -> Result<(), Fail> {
-    tell(
-        &rt,
-        addition(rt.alloc(), Tried::new(IdHashMap::new(rt.alloc()))),
-    )
+    tell(&rt, addition(rt.alloc(), by_hash(rt.alloc())))
 }

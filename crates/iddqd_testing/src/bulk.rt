@@ -3,7 +3,7 @@ ghost use Rattle.std.specs.Iterator.{IsFiniteIterable};
 ghost use Rattle.iddqd.specs.Contents.{Ascends};
 
 use crate::items::Named;
-use crate::tried::Tried;
+use crate::tried::{Tried, both};
 use iddqd::errors::{ExtendError, ExtendUniqueError, FromIterError, TryReserveError};
 use iddqd::{IdHashItem, IdHashMap, IdOrdItem, IdOrdMap, Lookups};
 use iddqd_commands::KeyedMap;
@@ -11,7 +11,7 @@ use std::alloc::Global;
 use std::hash::BuildHasher;
 
 /// What adding many items left: all of them, the first conflict's new item and the one that is there, or a refusal.
-#[derive(Clone, Copy, PartialEq, Eq)]
+#[derive(Drop, PartialEq, Eq)]
 pub enum Added<T> {
     All,
     Conflict(T, Option<T>),
@@ -123,8 +123,8 @@ fn add_in_order<T: IdOrdItem + Copy + Drop, U: IntoIterator<Item = T>>(
     match map.extend_unique(items) {
         Ok(()) => Added::All,
         Err(ExtendUniqueError::Duplicate(conflict)) => {
-            let there = conflict.duplicates().get(0).map(|x| **x);
-            Added::Conflict(*conflict.new_item(), there)
+            let (new, there) = both(&conflict);
+            Added::Conflict(new, there)
         }
         Err(ExtendUniqueError::Refused(stopped)) => Added::Stopped(stopped.item, stopped.error),
     }
@@ -141,8 +141,8 @@ fn add_by_hash<T: IdHashItem + Copy + Drop, S: BuildHasher, U: IntoIterator<Item
     match map.extend_unique(items) {
         Ok(()) => Added::All,
         Err(ExtendUniqueError::Duplicate(conflict)) => {
-            let there = conflict.duplicates().get(0).map(|x| **x);
-            Added::Conflict(*conflict.new_item(), there)
+            let (new, there) = both(&conflict);
+            Added::Conflict(new, there)
         }
         Err(ExtendUniqueError::Refused(stopped)) => Added::Stopped(stopped.item, stopped.error),
     }

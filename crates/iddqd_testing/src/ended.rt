@@ -3,7 +3,7 @@ ghost use Rattle.iddqd.specs.Contents.{Ascends};
 
 use crate::caseless::{Caseless, Coarse};
 use crate::entered::Put;
-use crate::tried::{Inserted, Tried};
+use crate::tried::{Inserted, Tried, both};
 use iddqd::errors::InsertError;
 use iddqd::id_ord_map::Entry;
 use iddqd::{IdOrdItem, IdOrdMap, Steps};
@@ -84,8 +84,8 @@ impl<T: IdOrdItem + Copy> Tried<IdOrdMap<T>> {
         let inserted = match self.map.insert_unique_counted(item, &mut steps) {
             Ok(()) => Inserted::Done,
             Err(InsertError::Duplicate(duplicate)) => {
-                let existing = duplicate.duplicates().get(0).map(|x| **x);
-                Inserted::Duplicate(*duplicate.new_item(), existing)
+                let (new, there) = both(&duplicate);
+                Inserted::Duplicate(new, there)
             }
             Err(InsertError::Refused(refused)) => Inserted::Refused(refused.item, refused.error),
         };

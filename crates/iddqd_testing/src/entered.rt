@@ -25,7 +25,7 @@ impl Visit<Coarse> for DoublesAndDenies {
 
 /// What an insertion by an entry answers: the item that it shows, the one that came back and why, or none where the entry is not
 /// of the kind that it needs.
-#[derive(Clone, Copy)]
+#[derive(Drop)]
 pub enum Put {
     Shown(Coarse),
     Refused(Coarse, TryReserveError),

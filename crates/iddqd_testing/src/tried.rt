@@ -3,7 +3,7 @@ ghost use Rattle.iddqd.specs.Contents.{ClonesAreEqual};
 ghost use Rattle.iddqd.specs.Visiting.{VisitsKeepKeys};
 
 use crate::visitors::Untouched;
-use iddqd::errors::{InsertError, Refused, TryReserveError};
+use iddqd::errors::{DuplicateItem, InsertError, Refused, TryReserveError};
 use iddqd::internal::ValidateCompact;
 use iddqd::{IdHashItem, IdHashMap, IdOrdItem, IdOrdMap, Text, Visit};
 use iddqd_commands::{Command, KeyedMap, Reply, RunStop, run};
@@ -12,11 +12,20 @@ use std::hash::BuildHasher;
 use std::marker::Model;
 
 /// What an insertion left: nothing in its way, the new item and the one that is there, or a refusal.
-#[derive(Clone, Copy, PartialEq, Eq)]
+#[derive(Drop, PartialEq, Eq)]
 pub enum Inserted<T> {
     Done,
     Duplicate(T, Option<T>),
     Refused(T, TryReserveError),
+}
+
+// The new item of a duplicate and the one that is there, copied.
+pub(crate) fn both<T: Copy>(duplicate: &DuplicateItem<T, &T>) -> (T, Option<T>) {
+    let there = match duplicate.duplicates().get(0) {
+        Some(there) => Some(**there),
+        None => None,
+    };
+    (*duplicate.new_item(), there)
 }
 
 /// A keyed map of either kind. Its calls are the map's, and say nothing of what they leave: a test shows that by what it
@@ -32,6 +41,16 @@ impl<M: KeyedMap> Model for Tried<M> {
     ghost view = { λ tried. tried.map };
 
     ghost invariant = { λ tried. M.keyed tried.map };
+}
+
+/// An empty ordered map, under test.
+pub fn in_order<T: IdOrdItem>(alloc: Global) -> Tried<IdOrdMap<T>> {
+    Tried::new(IdOrdMap::new(alloc))
+}
+
+/// An empty hash map, under test.
+pub fn by_hash<T: IdHashItem>(alloc: Global) -> Tried<IdHashMap<T>> {
+    Tried::new(IdHashMap::new(alloc))
 }
 
 impl<M: KeyedMap> Tried<M> {
@@ -55,8 +74,8 @@ impl<M: KeyedMap> Tried<M> {
         match self.map.insert_unique(item) {
             Ok(()) => Inserted::Done,
             Err(InsertError::Duplicate(duplicate)) => {
-                let existing = duplicate.duplicates().get(0).map(|x| **x);
-                Inserted::Duplicate(*duplicate.new_item(), existing)
+                let (new, there) = both(&duplicate);
+                Inserted::Duplicate(new, there)
             }
             Err(InsertError::Refused(refused)) => Inserted::Refused(refused.item, refused.error),
         }

@@ -1,11 +1,10 @@
 //! Rows of clones.
 use crate::checks::check;
 use crate::insertions::{BAR, FOO};
-use iddqd::{IdHashMap, IdOrdMap};
 use iddqd_commands::KeyedMap;
 use iddqd_testing::copied::Twin;
 use iddqd_testing::items::Named;
-use iddqd_testing::tried::Tried;
+use iddqd_testing::tried::{Tried, by_hash, in_order};
 use std::process::Abort;
 use std::test::Fail;
 
@@ -43,10 +42,10 @@ where
 
 #[test]
 fn clone(rt: HostRuntime) -> Result<(), Fail> {
-    cloned(&rt, Tried::new(IdOrdMap::new(rt.alloc())))
+    cloned(&rt, in_order(rt.alloc()))
 }
 
 #[test]
 fn hash_clone(rt: HostRuntime) -> Result<(), Fail> {
-    cloned(&rt, Tried::new(IdHashMap::new(rt.alloc())))
+    cloned(&rt, by_hash(rt.alloc()))
 }

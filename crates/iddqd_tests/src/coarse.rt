@@ -1,9 +1,8 @@
 //! Rows of keys that are equal without regard to case.
 use crate::checks::check;
-use iddqd::{IdHashMap, IdOrdMap};
 use iddqd_commands::{Command, KeyedMap, Reply};
 use iddqd_testing::caseless::{Caseless, Coarse, item_of, spelled};
-use iddqd_testing::tried::Tried;
+use iddqd_testing::tried::{Tried, by_hash, in_order};
 use iddqd_testing::visitors::Untouched;
 use std::alloc::Global;
 use std::process::Abort;
@@ -36,8 +35,8 @@ where
 
 #[test]
 fn coarse_overwrite(rt: HostRuntime) {
-    overwrites(&rt, Tried::new(IdOrdMap::new(rt.alloc())));
-    overwrites(&rt, Tried::new(IdHashMap::new(rt.alloc())));
+    overwrites(&rt, in_order(rt.alloc()));
+    overwrites(&rt, by_hash(rt.alloc()));
 }
 
 fn coarse_commands(alloc: Global) -> Result<Vec<Command<Coarse, Caseless, Untouched>>, Fail> {
@@ -91,7 +90,7 @@ where
 #[test]
 fn coarse_overwrite_by_commands(rt: HostRuntime) -> Result<(), Fail> {
     let alloc = rt.alloc();
-    check(&rt, is_run_so(alloc, Tried::new(IdOrdMap::new(alloc)))?);
-    check(&rt, is_run_so(alloc, Tried::new(IdHashMap::new(alloc)))?);
+    check(&rt, is_run_so(alloc, in_order(alloc))?);
+    check(&rt, is_run_so(alloc, by_hash(alloc))?);
     Ok(())
 }

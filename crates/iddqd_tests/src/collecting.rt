@@ -6,7 +6,7 @@ use iddqd::{DefaultHashBuilder, IdHashMap, IdOrdMap};
 use iddqd_commands::KeyedMap;
 use iddqd_testing::bulk::{Added, Adding, Bulk, Liar, Unannounced, is_not_taken_in};
 use iddqd_testing::items::{Named, Wide};
-use iddqd_testing::tried::Tried;
+use iddqd_testing::tried::{Tried, by_hash, in_order};
 use std::alloc::{AllocError, Global};
 use std::process::Abort;
 use std::test::Fail;
@@ -168,20 +168,12 @@ where
 #[test]
 fn extend_overwrites(rt: HostRuntime) -> Result<(), Fail> {
     let alloc = rt.alloc();
-    overwritten_by_number(
-        &rt,
-        of_two_numbers(alloc)?,
-        Tried::new(IdOrdMap::new(alloc)),
-    );
-    overwritten_by_number(
-        &rt,
-        of_two_numbers(alloc)?,
-        Tried::new(IdHashMap::new(alloc)),
-    );
+    overwritten_by_number(&rt, of_two_numbers(alloc)?, in_order(alloc));
+    overwritten_by_number(&rt, of_two_numbers(alloc)?, by_hash(alloc));
     let items = Vec::from_array(alloc, [OTHER_FOO, BAR])?;
-    overwritten_by_name(&rt, items, Tried::new(IdOrdMap::new(alloc)));
+    overwritten_by_name(&rt, items, in_order(alloc));
     let items = Vec::from_array(alloc, [OTHER_FOO, BAR])?;
-    overwritten_by_name(&rt, items, Tried::new(IdHashMap::new(alloc)));
+    overwritten_by_name(&rt, items, by_hash(alloc));
     collected_by_name::<IdOrdMap<Named>>(&rt, alloc)?;
     collected_by_name::<IdHashMap<Named>>(&rt, alloc)?;
     Ok(())
@@ -200,8 +192,8 @@ where
 
 #[test]
 fn lying_hints(rt: HostRuntime) {
-    lied_to(&rt, Tried::new(IdOrdMap::new(rt.alloc())));
-    lied_to(&rt, Tried::new(IdHashMap::new(rt.alloc())));
+    lied_to(&rt, in_order(rt.alloc()));
+    lied_to(&rt, by_hash(rt.alloc()));
 }
 
 fn stops_at_present<M: KeyedMap<Item = Named, Key = [u8; 3]> + Drop>(
@@ -224,9 +216,9 @@ where
 fn extend_unique_stops(rt: HostRuntime) -> Result<(), Fail> {
     let alloc = rt.alloc();
     let items = Vec::from_array(alloc, [BAR, OTHER_FOO, named(*b"baz", 1)])?;
-    stops_at_present(&rt, items, Tried::new(IdOrdMap::new(alloc)));
+    stops_at_present(&rt, items, in_order(alloc));
     let items = Vec::from_array(alloc, [BAR, OTHER_FOO, named(*b"baz", 1)])?;
-    stops_at_present(&rt, items, Tried::new(IdHashMap::new(alloc)));
+    stops_at_present(&rt, items, by_hash(alloc));
     Ok(())
 }
 
@@ -255,9 +247,9 @@ where
 fn extend_unique_repeats(rt: HostRuntime) -> Result<(), Fail> {
     let alloc = rt.alloc();
     let items = Vec::from_array(alloc, of_two_names())?;
-    stops_at_own(&rt, items, Tried::new(IdOrdMap::new(alloc)));
+    stops_at_own(&rt, items, in_order(alloc));
     let items = Vec::from_array(alloc, of_two_names())?;
-    stops_at_own(&rt, items, Tried::new(IdHashMap::new(alloc)));
+    stops_at_own(&rt, items, by_hash(alloc));
     Ok(())
 }
 
@@ -370,6 +362,6 @@ where
 #[test]
 fn extend_unique_of_nothing(rt: HostRuntime) {
     let alloc = rt.alloc();
-    adds_nothing(&rt, alloc, Tried::new(IdOrdMap::new(alloc)));
-    adds_nothing(&rt, alloc, Tried::new(IdHashMap::new(alloc)));
+    adds_nothing(&rt, alloc, in_order(alloc));
+    adds_nothing(&rt, alloc, by_hash(alloc));
 }

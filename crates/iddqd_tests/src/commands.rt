@@ -7,7 +7,7 @@ use iddqd::errors::TryReserveError;
 use iddqd::{DefaultHashBuilder, IdHashMap, IdOrdMap};
 use iddqd_commands::{Command, KeyedMap, Reply};
 use iddqd_testing::items::{Named, Wide};
-use iddqd_testing::tried::Tried;
+use iddqd_testing::tried::{Tried, by_hash, in_order};
 use iddqd_testing::visitors::Untouched;
 use std::alloc::{AllocError, Global};
 
@@ -75,12 +75,12 @@ fn named_replies() -> [Reply<Named>; 11] {
 fn insert_unique_by_commands(rt: HostRuntime) {
     let alloc = rt.alloc();
     let expected = named_replies();
-    let ordered = Tried::new(IdOrdMap::new(alloc));
+    let ordered = in_order(alloc);
     check(
         &rt,
         answers_with(alloc, ordered, named_commands(alloc), &expected),
     );
-    let hashed = Tried::new(IdHashMap::new(alloc));
+    let hashed = by_hash(alloc);
     check(
         &rt,
         answers_with(alloc, hashed, named_commands(alloc), &expected),
@@ -129,12 +129,12 @@ fn wide_replies() -> [Reply<Wide>; 7] {
 fn duplicate_chain_by_commands(rt: HostRuntime) {
     let alloc = rt.alloc();
     let expected = wide_replies();
-    let ordered = Tried::new(IdOrdMap::new(alloc));
+    let ordered = in_order(alloc);
     check(
         &rt,
         answers_with(alloc, ordered, wide_commands(alloc), &expected),
     );
-    let hashed = Tried::new(IdHashMap::new(alloc));
+    let hashed = by_hash(alloc);
     check(
         &rt,
         answers_with(alloc, hashed, wide_commands(alloc), &expected),
@@ -149,12 +149,12 @@ fn room_commands(alloc: Global) -> Result<Vec<Command<Named, [u8; 3], Untouched>
 fn reserve_and_shrink_by_commands(rt: HostRuntime) {
     let alloc = rt.alloc();
     let expected = [Reply::Done, Reply::Done];
-    let ordered = Tried::new(IdOrdMap::new(alloc));
+    let ordered = in_order(alloc);
     check(
         &rt,
         answers_with(alloc, ordered, room_commands(alloc), &expected),
     );
-    let hashed = Tried::new(IdHashMap::new(alloc));
+    let hashed = by_hash(alloc);
     check(
         &rt,
         answers_with(alloc, hashed, room_commands(alloc), &expected),
@@ -192,12 +192,12 @@ fn extend_unique_by_commands(rt: HostRuntime) {
         Reply::Extended(0),
         Reply::Length(3),
     ];
-    let ordered = Tried::new(IdOrdMap::new(alloc));
+    let ordered = in_order(alloc);
     check(
         &rt,
         answers_with(alloc, ordered, extending_commands(alloc), &expected),
     );
-    let hashed = Tried::new(IdHashMap::new(alloc));
+    let hashed = by_hash(alloc);
     check(
         &rt,
         answers_with(alloc, hashed, extending_commands(alloc), &expected),

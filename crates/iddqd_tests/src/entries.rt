@@ -1,10 +1,9 @@
 //! Rows of entries.
 use crate::checks::check;
-use iddqd::{IdHashMap, IdOrdMap};
 use iddqd_commands::KeyedMap;
 use iddqd_testing::caseless::{Caseless, Coarse, item_of, spelled};
 use iddqd_testing::entered::Entered;
-use iddqd_testing::tried::Tried;
+use iddqd_testing::tried::{Tried, by_hash, in_order};
 use std::process::Abort;
 
 fn foo_by_entry<M: KeyedMap<Item = Coarse, Key = Caseless> + Drop>(
@@ -29,8 +28,8 @@ where
 
 #[test]
 fn entry(rt: HostRuntime) {
-    foo_by_entry(&rt, Tried::new(IdOrdMap::new(rt.alloc())));
-    foo_by_entry(&rt, Tried::new(IdHashMap::new(rt.alloc())));
+    foo_by_entry(&rt, in_order(rt.alloc()));
+    foo_by_entry(&rt, by_hash(rt.alloc()));
 }
 
 fn written_by_entries<M: KeyedMap<Item = Coarse, Key = Caseless>>(
@@ -91,10 +90,10 @@ where
 
 #[test]
 fn entries_with_coarse_keys(rt: HostRuntime) {
-    let ordered = coarse_entries(&rt, Tried::new(IdOrdMap::new(rt.alloc())));
+    let ordered = coarse_entries(&rt, in_order(rt.alloc()));
     check(
         &rt,
         ordered.map().iter().next().map(spelled) == Some((*b"aaa", 3)),
     );
-    let _ = coarse_entries(&rt, Tried::new(IdHashMap::new(rt.alloc())));
+    let _ = coarse_entries(&rt, by_hash(rt.alloc()));
 }

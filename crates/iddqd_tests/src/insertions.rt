@@ -1,9 +1,9 @@
 //! Rows of insertions, of each kind of map from one text.
 use crate::checks::check;
-use iddqd::{IdHashMap, IdOrdMap};
+use iddqd::IdOrdMap;
 use iddqd_commands::KeyedMap;
 use iddqd_testing::items::{Named, Numbered, Wide};
-use iddqd_testing::tried::{Inserted, Tried};
+use iddqd_testing::tried::{Inserted, Tried, by_hash, in_order};
 use iddqd_testing::walked::Walked;
 use std::process::Abort;
 
@@ -56,8 +56,8 @@ where
 
 #[test]
 fn insert_unique(rt: HostRuntime) {
-    foo_twice(&rt, Tried::new(IdOrdMap::new(rt.alloc())));
-    foo_twice(&rt, Tried::new(IdHashMap::new(rt.alloc())));
+    foo_twice(&rt, in_order(rt.alloc()));
+    foo_twice(&rt, by_hash(rt.alloc()));
 }
 
 fn chain<M: KeyedMap<Item = Wide, Key = u8>>(rt: &impl Abort, mut map: Tried<M>)
@@ -87,8 +87,8 @@ where
 
 #[test]
 fn duplicate_chain(rt: HostRuntime) {
-    chain(&rt, Tried::new(IdOrdMap::new(rt.alloc())));
-    chain(&rt, Tried::new(IdHashMap::new(rt.alloc())));
+    chain(&rt, in_order(rt.alloc()));
+    chain(&rt, by_hash(rt.alloc()));
 }
 
 fn one_and_two<M: KeyedMap<Item = Numbered, Key = u32>>(rt: &impl Abort, mut map: Tried<M>)
@@ -120,11 +120,11 @@ fn doubled(rt: &impl Abort, mut map: Tried<IdOrdMap<Named>>) -> [Option<u32>; 2]
 
 #[test]
 fn get_and_double(rt: HostRuntime) {
-    one_and_two(&rt, Tried::new(IdOrdMap::new(rt.alloc())));
-    one_and_two(&rt, Tried::new(IdHashMap::new(rt.alloc())));
+    one_and_two(&rt, in_order(rt.alloc()));
+    one_and_two(&rt, by_hash(rt.alloc()));
     check(
         &rt,
-        doubled(&rt, Tried::new(IdOrdMap::new(rt.alloc()))) == [Some(198), Some(84)],
+        doubled(&rt, in_order(rt.alloc())) == [Some(198), Some(84)],
     );
 }
 
@@ -147,6 +147,6 @@ where
 
 #[test]
 fn removals(rt: HostRuntime) {
-    coming_and_going(&rt, Tried::new(IdOrdMap::new(rt.alloc())));
-    coming_and_going(&rt, Tried::new(IdHashMap::new(rt.alloc())));
+    coming_and_going(&rt, in_order(rt.alloc()));
+    coming_and_going(&rt, by_hash(rt.alloc()));
 }

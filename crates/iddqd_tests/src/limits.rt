@@ -5,7 +5,7 @@ use iddqd::errors::TryReserveError;
 use iddqd::{DefaultHashBuilder, IdHashMap, IdOrdMap};
 use iddqd_commands::KeyedMap;
 use iddqd_testing::items::Named;
-use iddqd_testing::tried::{AskedForRoom, Inserted, Tried};
+use iddqd_testing::tried::{AskedForRoom, Inserted, Tried, by_hash, in_order};
 use std::process::Abort;
 use std::test::Fail;
 
@@ -150,6 +150,6 @@ where
 
 #[test]
 fn empty_map(rt: HostRuntime) {
-    of_nothing(&rt, Tried::new(IdOrdMap::new(rt.alloc())));
-    of_nothing(&rt, Tried::new(IdHashMap::new(rt.alloc())));
+    of_nothing(&rt, in_order(rt.alloc()));
+    of_nothing(&rt, by_hash(rt.alloc()));
 }

@@ -1,9 +1,8 @@
 //! Rows of lookups by texts, by keys of two fields, and among items that are boxed or lent.
 use crate::checks::check;
-use iddqd::{IdHashMap, IdOrdMap};
 use iddqd_commands::KeyedMap;
 use iddqd_testing::items::{Artifact, Release, Titled};
-use iddqd_testing::tried::{AskedByText, Tried};
+use iddqd_testing::tried::{AskedByText, Tried, by_hash, in_order};
 use std::alloc::{AllocError, Global};
 use std::process::Abort;
 use std::rc::Rc;
@@ -38,8 +37,8 @@ where
 fn text_queries(rt: HostRuntime) -> Result<(), Fail> {
     let alloc = rt.alloc();
     let name = "foo".to_string(alloc)?;
-    query_by_text(&rt, &name, foo(alloc)?, Tried::new(IdOrdMap::new(alloc)));
-    query_by_text(&rt, &name, foo(alloc)?, Tried::new(IdHashMap::new(alloc)));
+    query_by_text(&rt, &name, foo(alloc)?, in_order(alloc));
+    query_by_text(&rt, &name, foo(alloc)?, by_hash(alloc));
     Ok(())
 }
 
@@ -67,8 +66,8 @@ where
 
 #[test]
 fn key_of_two_fields(rt: HostRuntime) {
-    query_by_release(&rt, Tried::new(IdOrdMap::new(rt.alloc())));
-    query_by_release(&rt, Tried::new(IdHashMap::new(rt.alloc())));
+    query_by_release(&rt, in_order(rt.alloc()));
+    query_by_release(&rt, by_hash(rt.alloc()));
 }
 
 // What holds an item, and shows its value.
@@ -108,34 +107,13 @@ fn boxed_and_lent_items(rt: HostRuntime) -> Result<(), Fail> {
     let alloc = rt.alloc();
     check(
         &rt,
-        is_found(
-            Box::new(alloc, foo(alloc)?)?,
-            Tried::new(IdOrdMap::new(alloc)),
-        ),
+        is_found(Box::new(alloc, foo(alloc)?)?, in_order(alloc)),
     );
-    check(
-        &rt,
-        is_found(
-            Box::new(alloc, foo(alloc)?)?,
-            Tried::new(IdHashMap::new(alloc)),
-        ),
-    );
-    check(
-        &rt,
-        is_found(
-            Rc::new(alloc, foo(alloc)?)?,
-            Tried::new(IdOrdMap::new(alloc)),
-        ),
-    );
-    check(
-        &rt,
-        is_found(
-            Rc::new(alloc, foo(alloc)?)?,
-            Tried::new(IdHashMap::new(alloc)),
-        ),
-    );
+    check(&rt, is_found(Box::new(alloc, foo(alloc)?)?, by_hash(alloc)));
+    check(&rt, is_found(Rc::new(alloc, foo(alloc)?)?, in_order(alloc)));
+    check(&rt, is_found(Rc::new(alloc, foo(alloc)?)?, by_hash(alloc)));
     let item = foo(alloc)?;
-    check(&rt, is_found(&item, Tried::new(IdOrdMap::new(alloc))));
-    check(&rt, is_found(&item, Tried::new(IdHashMap::new(alloc))));
+    check(&rt, is_found(&item, in_order(alloc)));
+    check(&rt, is_found(&item, by_hash(alloc)));
     Ok(())
 }

@@ -5,11 +5,10 @@ ghost use Rattle.iddqd_testing.specs.Changed.{changed};
 
 use crate::checks::check;
 use crate::insertions::{BAR, FOO, double};
-use iddqd::{IdHashMap, IdOrdMap};
 use iddqd_commands::{Command, KeyedMap, Reply};
 use iddqd_testing::items::{Named, Numbered};
 use iddqd_testing::nine::{are_left, retain_nine};
-use iddqd_testing::tried::{AskedForRoom, Tried};
+use iddqd_testing::tried::{AskedForRoom, Tried, by_hash, in_order};
 use iddqd_testing::visitors::Change;
 use iddqd_testing::walked::Walked;
 use std::alloc::Global;
@@ -76,11 +75,11 @@ fn visitor(rt: HostRuntime) -> Result<(), Fail> {
     let alloc = rt.alloc();
     check(
         &rt,
-        odd_of_three(&rt, Tried::new(IdOrdMap::new(alloc))) == Change::KeepOdd(123),
+        odd_of_three(&rt, in_order(alloc)) == Change::KeepOdd(123),
     );
-    let _ = odd_of_three(&rt, Tried::new(IdHashMap::new(alloc)));
-    visited_by_command(&rt, alloc, Tried::new(IdOrdMap::new(alloc)))?;
-    visited_by_command(&rt, alloc, Tried::new(IdHashMap::new(alloc)))
+    let _ = odd_of_three(&rt, by_hash(alloc));
+    visited_by_command(&rt, alloc, in_order(alloc))?;
+    visited_by_command(&rt, alloc, by_hash(alloc))
 }
 
 // The names that were asked about, once the greater values were kept.
@@ -109,12 +108,12 @@ where
 #[test]
 fn retain_by_value(rt: HostRuntime) -> Result<(), Fail> {
     let alloc = rt.alloc();
-    let asked = kept_by_value(&rt, alloc, Tried::new(IdOrdMap::new(alloc)))?;
+    let asked = kept_by_value(&rt, alloc, in_order(alloc))?;
     check(
         &rt,
         asked.as_slice() == [*b"bar", *b"baz", *b"foo"].as_slice(),
     );
-    let asked = kept_by_value(&rt, alloc, Tried::new(IdHashMap::new(alloc)))?;
+    let asked = kept_by_value(&rt, alloc, by_hash(alloc))?;
     check(&rt, asked.len() == 3);
     Ok(())
 }
@@ -145,7 +144,7 @@ fn doubled_in_order(
     alloc: Global,
     most: usize,
 ) -> (Option<u32>, Option<u32>, usize) {
-    let map = of_foo_and_bar(rt, Tried::new(IdOrdMap::new(alloc)));
+    let map = of_foo_and_bar(rt, in_order(alloc));
     let (map, left) = map.written(most, double);
     (value_in!(map, b"foo"), value_in!(map, b"bar"), left)
 }
@@ -155,7 +154,7 @@ fn doubled_by_hash(
     alloc: Global,
     most: usize,
 ) -> (Option<u32>, Option<u32>, usize) {
-    let map = of_foo_and_bar(rt, Tried::new(IdHashMap::new(alloc)));
+    let map = of_foo_and_bar(rt, by_hash(alloc));
     let (map, left) = map.written(most, double);
     (value_in!(map, b"foo"), value_in!(map, b"bar"), left)
 }
@@ -200,6 +199,6 @@ where
 
 #[test]
 fn retain_then_shrink(rt: HostRuntime) {
-    nine_left(&rt, Tried::new(IdOrdMap::new(rt.alloc())));
-    nine_left(&rt, Tried::new(IdHashMap::new(rt.alloc())));
+    nine_left(&rt, in_order(rt.alloc()));
+    nine_left(&rt, by_hash(rt.alloc()));
 }
