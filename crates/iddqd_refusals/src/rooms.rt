@@ -197,14 +197,23 @@ where
     arm(alloc);
     let added = map.add_each(items);
     let is_met = is_met(alloc);
-    match added {
-        Added::All if !is_met && holds(&map, 25, None) => Ok("added"),
-        Added::Stopped(item, error) if is_met && !error.is_capacity_overflow() => match item {
+    let is_all = added == Added::All;
+    match stop_of(added) {
+        None if is_all && !is_met && holds(&map, 25, None) => Ok("added"),
+        Some(stopped) if is_met && !stopped.error.is_capacity_overflow() => match stopped.item {
             None if holds(&map, 5, None) => Ok("none_added"),
             Some(item) if holds(&map, item.number, None) => Ok("added_back"),
             _ => Err(Fail::from("the map does not hold the items before the refused one")),
         },
         _ => Err(Fail::from("an item is gone, or was refused for nothing")),
+    }
+}
+
+// What was refused, if anything was.
+fn stop_of(added: Added<Numbered>) -> Option<ExtendError<Numbered>> {
+    match added {
+        Added::Stopped(item, error) => Some(ExtendError { item, error }),
+        _ => None,
     }
 }
 
