@@ -11,8 +11,7 @@ use crate::items::{BenchKey, Item};
 use crate::phases::{Plan, Times, timed};
 use crate::report::write_times;
 use crate::subjects::Subject;
-use iddqd::{IdHashMap, IdOrdMap};
-use iddqd_testing::tried::Tried;
+use iddqd_testing::tried::{Hashed, Ordered};
 use std::alloc::Global;
 use std::collections::{BTreeMap, HashMap};
 use std::env::Env;
@@ -66,12 +65,8 @@ fn compare<K: BenchKey>(
     is_told: bool,
 ) -> io::Result<bool> {
     let (plan, size, rounds) = plan;
-    let hash = in_turns::<Tried<IdHashMap<Item<K>>>, HashMap<K, Item<K>>>(
-        clock, alloc, plan, rounds,
-    )?;
-    let ord = in_turns::<Tried<IdOrdMap<Item<K>>>, BTreeMap<K, Item<K>>>(
-        clock, alloc, plan, rounds,
-    )?;
+    let hash = in_turns::<Hashed<Item<K>>, HashMap<K, Item<K>>>(clock, alloc, plan, rounds)?;
+    let ord = in_turns::<Ordered<Item<K>>, BTreeMap<K, Item<K>>>(clock, alloc, plan, rounds)?;
     if is_told {
         write_times(out, ("hash", K::name()), size, (&hash.0, &hash.1))?;
         write_times(out, ("ord", K::name()), size, (&ord.0, &ord.1))?;

@@ -1,7 +1,7 @@
 //! The maps that are timed, under one trait: ours, and std's with each key beside its item.
 use crate::items::{BenchKey, Item, item_of};
 use iddqd::{IdHashMap, IdOrdMap};
-use iddqd_testing::tried::Tried;
+use iddqd_testing::tried::{AskedByKey, Hashed, Ordered};
 use std::alloc::{AllocError, Global};
 use std::collections::{BTreeMap, HashMap};
 
@@ -38,18 +38,18 @@ pub(crate) trait Subject: Drop {
     fn copied(&self) -> usize;
 }
 
-impl<K: BenchKey> Subject for Tried<IdHashMap<Item<K>>> {
+impl<K: BenchKey> Subject for Hashed<Item<K>> {
     type Key = K;
 
     type Load = Item<K>;
 
-    fn empty(alloc: Global) -> Tried<IdHashMap<Item<K>>> {
-        Tried::new(IdHashMap::new(alloc))
+    fn empty(alloc: Global) -> Hashed<Item<K>> {
+        Hashed::new(IdHashMap::new(alloc))
     }
 
-    fn with_room(alloc: Global, size: usize) -> Option<Tried<IdHashMap<Item<K>>>> {
+    fn with_room(alloc: Global, size: usize) -> Option<Hashed<Item<K>>> {
         let map = IdHashMap::with_capacity(alloc, size).ok()?;
-        Some(Tried::new(map))
+        Some(Hashed::new(map))
     }
 
     fn load(alloc: Global, number: u64) -> Result<Item<K>, AllocError> {
@@ -81,16 +81,16 @@ impl<K: BenchKey> Subject for Tried<IdHashMap<Item<K>>> {
     }
 }
 
-impl<K: BenchKey> Subject for Tried<IdOrdMap<Item<K>>> {
+impl<K: BenchKey> Subject for Ordered<Item<K>> {
     type Key = K;
 
     type Load = Item<K>;
 
-    fn empty(alloc: Global) -> Tried<IdOrdMap<Item<K>>> {
-        Tried::new(IdOrdMap::new(alloc))
+    fn empty(alloc: Global) -> Ordered<Item<K>> {
+        Ordered::new(IdOrdMap::new(alloc))
     }
 
-    fn with_room(_alloc: Global, _size: usize) -> Option<Tried<IdOrdMap<Item<K>>>> {
+    fn with_room(_alloc: Global, _size: usize) -> Option<Ordered<Item<K>>> {
         None
     }
 

@@ -1,9 +1,10 @@
 //! A key that counts its own comparisons shows the number that `Steps` shows, so no comparison goes past it.
 use crate::checks::check;
-use iddqd::{IdHashItem, IdOrdItem, Steps};
-use iddqd_testing::counted::{Hashed, Ordered, Outcome};
+use iddqd::{IdHashItem, IdHashMap, IdOrdItem, Steps};
+use iddqd_testing::counted::Outcome;
 use iddqd_testing::counting::{CountingKey, Tallied};
 use iddqd_testing::hashers::ZeroHasher;
+use iddqd_testing::tried::{AskedByKey, Hashed, Ordered, in_order};
 use std::alloc::{AllocError, Global};
 use std::cell::Cell;
 use std::hash::{BuildHasher, BuildHasherDefault, FoldHasher};
@@ -72,7 +73,7 @@ fn ordered_counts<T: IdOrdItem + Copy>(
     absent: &[T],
     compared: &Cell<u32>,
 ) -> bool {
-    let mut map = Ordered::new(alloc);
+    let mut map = in_order(alloc);
     are_put(&mut map, items, compared)
         && are_taken(&mut map, absent, false, compared)
         && are_taken(&mut map, items, true, compared)
@@ -119,9 +120,9 @@ fn hashed_counts<T: IdHashItem + Copy, S: BuildHasher + Drop>(
     absent: &[T],
     compared: &Cell<u32>,
 ) -> bool {
-    let mut map = Hashed::new(alloc, hasher);
+    let mut map = Hashed::new(IdHashMap::with_hasher(alloc, hasher));
     for item in items {
-        let _ = map.put_plainly(*item);
+        let _ = map.is_put(*item);
     }
     compared.set(0);
     are_found(&map, items, true, compared) && are_found(&map, absent, false, compared)
@@ -159,11 +160,11 @@ fn most_compared<T: IdOrdItem + Copy>(
 ) -> Option<u32> {
     let mut most = 0;
     for item in items {
-        let is_found = map.find_plainly(item.key());
+        let is_found = map.get(item.key()).is_some();
         most = most.max(since(compared));
-        let is_taken = map.take_plainly(item.key());
+        let is_taken = map.remove(item.key()).is_some();
         most = most.max(since(compared));
-        if !is_found || !is_taken || !map.put_plainly(*item) {
+        if !is_found || !is_taken || !map.is_put(*item) {
             return None;
         }
         most = most.max(since(compared));
@@ -178,20 +179,20 @@ fn most_of_all<T: IdOrdItem + Copy>(
     absent: &[T],
     compared: &Cell<u32>,
 ) -> Option<u32> {
-    let mut map = Ordered::new(alloc);
+    let mut map = in_order(alloc);
     for item in items {
-        let _ = map.put_plainly(*item);
+        let _ = map.is_put(*item);
     }
     compared.set(0);
     let mut most = most_compared(&mut map, items, compared)?;
     for item in absent {
-        let is_found = map.find_plainly(item.key());
+        let is_found = map.get(item.key()).is_some();
         most = most.max(since(compared));
-        if is_found || !map.put_plainly(*item) {
+        if is_found || !map.is_put(*item) {
             return None;
         }
         most = most.max(since(compared));
-        let _ = map.take_plainly(item.key());
+        let _ = map.remove(item.key());
         compared.set(0);
     }
     Some(most)
@@ -236,7 +237,7 @@ fn find_past_steps<T: IdOrdItem>(map: &Ordered<T>, key: &T::Key) -> Outcome {
 
 // Whether the wrong lookup answers rightly of each item in a map of them, and its steps are never the comparisons.
 fn past_steps<T: IdOrdItem + Copy>(alloc: Global, items: &[T], compared: &Cell<u32>) -> bool {
-    let mut map = Ordered::new(alloc);
+    let mut map = in_order(alloc);
     let _ = are_put(&mut map, items, compared);
     for item in items {
         let outcome = find_past_steps(&map, item.key());

@@ -1,8 +1,9 @@
 //! The most comparisons of a call, by how many items there are.
 use crate::checks::check;
-use iddqd_testing::counted::{Hashed, Ordered};
+use iddqd::IdHashMap;
 use iddqd_testing::hashers::ZeroHasher;
 use iddqd_testing::items::Numbered;
+use iddqd_testing::tried::{AskedByKey, Hashed, in_order};
 use std::alloc::Global;
 use std::hash::BuildHasherDefault;
 use std::test::Fail;
@@ -17,15 +18,15 @@ fn numbered(number: u32) -> Numbered {
 // The most steps of a counted call on an ordered map of so many numbers: a lookup of each and of one that is absent, the
 // removal of each from the full map, and the insertion of one more. Nothing where a call went wrong.
 fn most_steps(alloc: Global, count: u32) -> Option<u32> {
-    let mut map = Ordered::new(alloc);
+    let mut map = in_order(alloc);
     for number in 0..count {
-        let _ = map.put_plainly(numbered(number));
+        let _ = map.is_put(numbered(number));
     }
     let mut most = map.find(&count).steps;
     for number in 0..count {
         let found = map.find(&number);
         let taken = map.take(&number);
-        if !found.is_done || !taken.is_done || !map.put_plainly(numbered(number)) {
+        if !found.is_done || !taken.is_done || !map.is_put(numbered(number)) {
             return None;
         }
         most = most.max(found.steps).max(taken.steps);
@@ -56,9 +57,9 @@ fn growth_refused(rt: HostRuntime) -> Result<(), Fail> {
 #[test]
 fn equal_hashes(rt: HostRuntime) {
     let hasher: BuildHasherDefault<ZeroHasher> = BuildHasherDefault::new();
-    let mut map = Hashed::new(rt.alloc(), hasher);
+    let mut map = Hashed::new(IdHashMap::with_hasher(rt.alloc(), hasher));
     for number in 0..100 {
-        check(&rt, map.put_plainly(numbered(number)));
+        check(&rt, map.is_put(numbered(number)));
     }
     for number in 0..100 {
         check(&rt, map.find(&number).is_done);

@@ -2,7 +2,7 @@
 use crate::checks::check;
 use iddqd::IdHashItem;
 use iddqd_testing::counting::{Fed, HashedKey};
-use iddqd_testing::tried::{AskedForRoom, by_hash};
+use iddqd_testing::tried::{AskedByKey, AskedForRoom, by_hash};
 use iddqd_testing::walked::Walked;
 use std::alloc::Global;
 use std::cell::Cell;

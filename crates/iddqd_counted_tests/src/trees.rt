@@ -1,7 +1,7 @@
 //! Ordered maps of many items, in and out in several orders.
 use crate::checks::check;
-use iddqd_testing::counted::Ordered;
 use iddqd_testing::items::Numbered;
+use iddqd_testing::tried::{AskedByKey, Ordered, in_order};
 use std::alloc::Global;
 
 fn numbered(number: u32) -> Numbered {
@@ -23,9 +23,9 @@ fn bound(len: usize) -> u32 {
 
 // The map of the numbers below 1009, put in in the order that the factor gives.
 fn filled(alloc: Global, factor: u32) -> Ordered<Numbered> {
-    let mut map = Ordered::new(alloc);
+    let mut map = in_order(alloc);
     for place in 1..1009 {
-        let _ = map.put_plainly(numbered(number_at(place, factor)));
+        let _ = map.is_put(numbered(number_at(place, factor)));
     }
     map
 }
@@ -102,12 +102,12 @@ fn removals_in_mixed_order(rt: HostRuntime) {
 
 #[test]
 fn removals_in_order(rt: HostRuntime) {
-    let mut map = Ordered::new(rt.alloc());
+    let mut map = in_order(rt.alloc());
     for number in 1..13 {
-        check(&rt, map.put_plainly(numbered(number)));
+        check(&rt, map.is_put(numbered(number)));
     }
     for number in 1..13u32 {
-        check(&rt, map.take_plainly(&number));
+        check(&rt, map.remove(&number).is_some());
         check(&rt, walks(&map, number.wrapping_add(1), 13));
     }
     check(&rt, map.len() == 0);

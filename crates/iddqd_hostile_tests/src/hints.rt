@@ -2,10 +2,9 @@
 use crate::checks::check;
 use iddqd::errors::{ExtendError, FromIterError, TryReserveError};
 use iddqd::{DefaultHashBuilder, IdHashMap, IdOrdMap};
-use iddqd_commands::KeyedMap;
 use iddqd_testing::bulk::{Bulk, Hinted};
 use iddqd_testing::items::Numbered;
-use iddqd_testing::tried::{Tried, by_hash, in_order};
+use iddqd_testing::tried::{AskedByKey, Hashed, Ordered, by_hash, in_order};
 use std::process::Abort;
 
 fn numbered(number: u32, value: u32) -> Numbered {
@@ -20,10 +19,10 @@ fn stopped_at(outcome: Result<(), ExtendError<Numbered>>) -> (Option<Numbered>, 
     }
 }
 
-fn fill_to_two<M: KeyedMap<Item = Numbered, Key = u32> + Drop>(rt: &impl Abort, mut map: Tried<M>)
-where
-    Tried<M>: Bulk<Numbered>,
-{
+fn fill_to_two<M: AskedByKey<Item = Numbered, Key = u32> + Bulk<Numbered> + Drop>(
+    rt: &impl Abort,
+    mut map: M,
+) {
     let items = [
         numbered(1, 1),
         numbered(2, 2),
@@ -40,26 +39,20 @@ where
 #[test]
 fn extend_to_the_limit(rt: HostRuntime) {
     let alloc = rt.alloc();
-    fill_to_two(&rt, Tried::new(IdOrdMap::with_limit(alloc, 2)));
+    fill_to_two(&rt, Ordered::new(IdOrdMap::with_limit(alloc, 2)));
     let hasher = DefaultHashBuilder::new();
-    fill_to_two(&rt, Tried::new(IdHashMap::with_limit(alloc, 2, hasher)));
+    fill_to_two(&rt, Hashed::new(IdHashMap::with_limit(alloc, 2, hasher)));
 }
 
 // What an announcement of so many comes to, of which none is there.
-fn announced<M: KeyedMap<Item = Numbered, Key = u32> + Drop>(
-    map: &mut Tried<M>,
-    hint: usize,
-) -> (Option<Numbered>, bool)
-where
-    Tried<M>: Bulk<Numbered>,
-{
+fn announced<M: Bulk<Numbered>>(map: &mut M, hint: usize) -> (Option<Numbered>, bool) {
     stopped_at(map.extend(Hinted::new(&[], hint)))
 }
 
-fn hint_at_two<M: KeyedMap<Item = Numbered, Key = u32> + Drop>(rt: &impl Abort, mut map: Tried<M>)
-where
-    Tried<M>: Bulk<Numbered>,
-{
+fn hint_at_two<M: AskedByKey<Item = Numbered, Key = u32> + Bulk<Numbered> + Drop>(
+    rt: &impl Abort,
+    mut map: M,
+) {
     check(rt, announced(&mut map, 3) == (None, true));
     check(rt, map.len() == 0);
     check(rt, map.is_put(numbered(1, 1)));
@@ -74,15 +67,15 @@ where
 #[test]
 fn hints_at_the_limit(rt: HostRuntime) {
     let alloc = rt.alloc();
-    hint_at_two(&rt, Tried::new(IdOrdMap::with_limit(alloc, 2)));
+    hint_at_two(&rt, Ordered::new(IdOrdMap::with_limit(alloc, 2)));
     let hasher = DefaultHashBuilder::new();
-    hint_at_two(&rt, Tried::new(IdHashMap::with_limit(alloc, 2, hasher)));
+    hint_at_two(&rt, Hashed::new(IdHashMap::with_limit(alloc, 2, hasher)));
 }
 
-fn few_come<M: KeyedMap<Item = Numbered, Key = u32> + Drop>(rt: &impl Abort, mut map: Tried<M>)
-where
-    Tried<M>: Bulk<Numbered>,
-{
+fn few_come<M: AskedByKey<Item = Numbered, Key = u32> + Bulk<Numbered> + Drop>(
+    rt: &impl Abort,
+    mut map: M,
+) {
     let one = [numbered(1, 1)];
     check(
         rt,
@@ -91,10 +84,10 @@ where
     check(rt, map.len() == 1);
 }
 
-fn many_come<M: KeyedMap<Item = Numbered, Key = u32> + Drop>(rt: &impl Abort, mut map: Tried<M>)
-where
-    Tried<M>: Bulk<Numbered>,
-{
+fn many_come<M: AskedByKey<Item = Numbered, Key = u32> + Bulk<Numbered> + Drop>(
+    rt: &impl Abort,
+    mut map: M,
+) {
     let mut hundred = [numbered(0, 0); 100];
     for (at, item) in hundred.iter_mut().enumerate() {
         item.number = at as u32;
@@ -107,9 +100,7 @@ where
 }
 
 // The error of an announcement that passes what a map ever holds.
-fn refused_whole<M: KeyedMap<Item = Numbered> + Drop>(
-    made: Result<Tried<M>, FromIterError<Numbered>>,
-) -> Option<TryReserveError> {
+fn refused_whole<M: Drop>(made: Result<M, FromIterError<Numbered>>) -> Option<TryReserveError> {
     match made.err()? {
         FromIterError::Duplicate(_) => None,
         FromIterError::Refused(error) => Some(error),
@@ -124,14 +115,8 @@ fn few_or_many_items(rt: HostRuntime) {
     many_come(&rt, in_order(alloc));
     many_come(&rt, by_hash(alloc));
     let full = Some(TryReserveError::capacity_overflow());
-    let ordered = Tried::<IdOrdMap<Numbered>>::collected_unique(
-        alloc,
-        Hinted::new(&[], 4_294_967_296),
-    );
+    let ordered = Ordered::<Numbered>::collected_unique(alloc, Hinted::new(&[], 4_294_967_296));
     check(&rt, refused_whole(ordered) == full);
-    let hashed = Tried::<IdHashMap<Numbered>>::collected_unique(
-        alloc,
-        Hinted::new(&[], 4_294_967_296),
-    );
+    let hashed = Hashed::<Numbered>::collected_unique(alloc, Hinted::new(&[], 4_294_967_296));
     check(&rt, refused_whole(hashed) == full);
 }

@@ -1,23 +1,23 @@
 //! Rows of writes that spell a key anew, of guards lent once more, of equal hashes, and of walks that end early.
 use crate::checks::check;
 use iddqd::{IdHashMap, IdOrdMap};
-use iddqd_commands::KeyedMap;
 use iddqd_testing::caseless::{Caseless, Coarse, item_of, spelled};
-use iddqd_testing::counted::Hashed;
 use iddqd_testing::hashers::ZeroHasher;
 use iddqd_testing::items::Numbered;
 use iddqd_testing::lent::Lent;
 use iddqd_testing::respelled::Respelled;
-use iddqd_testing::tried::{Inserted, Tried, by_hash, in_order};
+use iddqd_testing::tried::{
+    AskedByKey, AskedForRoom, AskedToInsert, Hashed, Inserted, by_hash, in_order,
+};
 use iddqd_testing::walked::Walked;
 use std::hash::BuildHasherDefault;
 use std::process::Abort;
 
 // The map with bar 1 and Foo 2.
-fn of_bar_and_foo<M: KeyedMap<Item = Coarse, Key = Caseless> + Drop>(
+fn of_bar_and_foo<M: AskedByKey<Item = Coarse, Key = Caseless> + Drop>(
     rt: &impl Abort,
-    mut map: Tried<M>,
-) -> Tried<M> {
+    mut map: M,
+) -> M {
     check(
         rt,
         map.is_put(item_of(*b"bar", 1)) && map.is_put(item_of(*b"Foo", 2)),
@@ -26,10 +26,10 @@ fn of_bar_and_foo<M: KeyedMap<Item = Coarse, Key = Caseless> + Drop>(
 }
 
 // Another item of FOO is a duplicate of fOO 7, and bar is as it was.
-fn is_respelled<M: KeyedMap<Item = Coarse, Key = Caseless> + Drop>(
+fn is_respelled<M: AskedByKey<Item = Coarse, Key = Caseless> + AskedToInsert<Coarse> + Drop>(
     rt: &impl Abort,
-    mut map: Tried<M>,
-) -> Tried<M> {
+    mut map: M,
+) -> M {
     let existing = match map.insert(item_of(*b"FOO", 9)) {
         Inserted::Duplicate(_, existing) => existing,
         Inserted::Done | Inserted::Refused(_, _) => None,
@@ -48,37 +48,25 @@ const RESPELLED: Coarse = Coarse {
     value: 7,
 };
 
-fn by_guard<M: KeyedMap<Item = Coarse, Key = Caseless> + Drop>(
-    rt: &impl Abort,
-    map: Tried<M>,
-) -> Tried<M>
-where
-    Tried<M>: Respelled,
-{
+fn by_guard<
+    M: AskedByKey<Item = Coarse, Key = Caseless> + AskedToInsert<Coarse> + Respelled + Drop,
+>(rt: &impl Abort, map: M) -> M {
     let mut map = of_bar_and_foo(rt, map);
     check(rt, map.respell_by_guard(&Caseless(*b"FOO"), RESPELLED));
     is_respelled(rt, map)
 }
 
-fn by_entry<M: KeyedMap<Item = Coarse, Key = Caseless> + Drop>(
-    rt: &impl Abort,
-    map: Tried<M>,
-) -> Tried<M>
-where
-    Tried<M>: Respelled,
-{
+fn by_entry<
+    M: AskedByKey<Item = Coarse, Key = Caseless> + AskedToInsert<Coarse> + Respelled + Drop,
+>(rt: &impl Abort, map: M) -> M {
     let mut map = of_bar_and_foo(rt, map);
     check(rt, map.respell_by_entry(&Caseless(*b"FOO"), RESPELLED));
     is_respelled(rt, map)
 }
 
-fn by_visitor<M: KeyedMap<Item = Coarse, Key = Caseless> + Drop>(
-    rt: &impl Abort,
-    map: Tried<M>,
-) -> Tried<M>
-where
-    Tried<M>: Respelled,
-{
+fn by_visitor<
+    M: AskedByKey<Item = Coarse, Key = Caseless> + AskedToInsert<Coarse> + Respelled + Drop,
+>(rt: &impl Abort, map: M) -> M {
     let mut map = of_bar_and_foo(rt, map);
     map.respell_by_visitor(RESPELLED);
     is_respelled(rt, map)
@@ -145,10 +133,7 @@ fn numbered(number: u32, value: u32) -> Numbered {
     Numbered { number, value }
 }
 
-fn of_one<M: KeyedMap<Item = Numbered, Key = u32> + Drop>(
-    rt: &impl Abort,
-    mut map: Tried<M>,
-) -> Tried<M> {
+fn of_one<M: AskedByKey<Item = Numbered, Key = u32> + Drop>(rt: &impl Abort, mut map: M) -> M {
     check(rt, map.is_put(numbered(1, 4)) && map.is_put(numbered(2, 8)));
     map
 }
@@ -172,16 +157,16 @@ fn guard_spent_unwritten(rt: HostRuntime) {
 #[test]
 fn equal_hashes_shrunk(rt: HostRuntime) {
     let hasher: BuildHasherDefault<ZeroHasher> = BuildHasherDefault::new();
-    let mut map = Hashed::new(rt.alloc(), hasher);
+    let mut map = Hashed::new(IdHashMap::with_hasher(rt.alloc(), hasher));
     for number in 0..100 {
-        check(&rt, map.put_plainly(numbered(number, number)));
+        check(&rt, map.is_put(numbered(number, number)));
     }
     for half in 0..50 {
-        check(&rt, map.take_plainly(&(2 * half)));
+        check(&rt, map.remove(&(2 * half)).is_some());
     }
-    check(&rt, map.is_shrunk());
+    check(&rt, map.shrink_to_fit().is_ok() && map.is_compact());
     for half in 0..50 {
-        check(&rt, map.put_plainly(numbered(2 * half, half)));
+        check(&rt, map.is_put(numbered(2 * half, half)));
     }
     for number in 0..100 {
         let found = map.find(&number);

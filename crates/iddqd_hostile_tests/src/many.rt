@@ -1,10 +1,11 @@
 //! Maps of many items, hash maps over other hashers, and the numbers of a map.
 use crate::checks::check;
 use iddqd::{IdHashMap, IdOrdMap};
-use iddqd_commands::KeyedMap;
 use iddqd_testing::hashers::{FewBits, Varying, ZeroHasher};
 use iddqd_testing::items::Numbered;
-use iddqd_testing::tried::{Inserted, Tried, by_hash, in_order, is_put};
+use iddqd_testing::tried::{
+    AskedByKey, AskedToInsert, Hashed, Inserted, by_hash, in_order, is_put,
+};
 use std::alloc::{AllocError, Global};
 use std::collections::hash_map::RandomState;
 use std::hash::BuildHasherDefault;
@@ -34,10 +35,7 @@ fn parted(items: &[Numbered], place: usize) -> (&[Numbered], &[Numbered]) {
 }
 
 /// Whether each of the items goes in.
-fn all_go_in<M: KeyedMap<Item = Numbered, Key = u32>>(
-    map: &mut Tried<M>,
-    items: &[Numbered],
-) -> bool {
+fn all_go_in<M: AskedToInsert<Numbered>>(map: &mut M, items: &[Numbered]) -> bool {
     for item in items {
         if map.insert(*item) != Inserted::Done {
             return false;
@@ -47,10 +45,7 @@ fn all_go_in<M: KeyedMap<Item = Numbered, Key = u32>>(
 }
 
 /// Whether each of the items is found under its key.
-fn all_are_found<M: KeyedMap<Item = Numbered, Key = u32>>(
-    map: &Tried<M>,
-    items: &[Numbered],
-) -> bool {
+fn all_are_found<M: AskedByKey<Item = Numbered, Key = u32>>(map: &M, items: &[Numbered]) -> bool {
     for item in items {
         if map.get(&item.number) != Some(item) {
             return false;
@@ -60,8 +55,8 @@ fn all_are_found<M: KeyedMap<Item = Numbered, Key = u32>>(
 }
 
 /// Whether each of the items comes out, and is not there any more.
-fn all_come_out<M: KeyedMap<Item = Numbered, Key = u32>>(
-    map: &mut Tried<M>,
+fn all_come_out<M: AskedByKey<Item = Numbered, Key = u32>>(
+    map: &mut M,
     items: &[Numbered],
 ) -> bool {
     for item in items {
@@ -73,14 +68,11 @@ fn all_come_out<M: KeyedMap<Item = Numbered, Key = u32>>(
 }
 
 // The numbers from 1 to 100 go in, 50 cannot go in twice, and it comes out.
-fn hundred<M: KeyedMap<Item = Numbered, Key = u32>>(
+fn hundred<M: AskedByKey<Item = Numbered, Key = u32> + AskedToInsert<Numbered> + Drop>(
     rt: &impl Abort,
     items: &[Numbered],
-    mut map: Tried<M>,
-)
-where
-    M: Drop,
-{
+    mut map: M,
+) {
     let (front, rest) = parted(items, 50);
     check(rt, all_go_in(&mut map, items));
     check(rt, all_are_found(&map, items));
@@ -109,7 +101,7 @@ fn constant_hasher(rt: HostRuntime) -> Result<(), Fail> {
     hundred(
         &rt,
         items.as_slice(),
-        Tried::new(IdHashMap::with_hasher(alloc, hasher)),
+        Hashed::new(IdHashMap::with_hasher(alloc, hasher)),
     );
     Ok(())
 }
@@ -120,7 +112,7 @@ fn hashers_of_few_bits(rt: HostRuntime) -> Result<(), Fail> {
     let alloc = rt.alloc();
     let items = by_factor(alloc, 100_003, 7)?;
     for varying in [Varying::High, Varying::Low, Varying::Multiples] {
-        let mut map = Tried::new(IdHashMap::with_hasher(alloc, FewBits::new(varying)));
+        let mut map = Hashed::new(IdHashMap::with_hasher(alloc, FewBits::new(varying)));
         check(&rt, all_go_in(&mut map, items.as_slice()));
         check(&rt, all_are_found(&map, items.as_slice()));
     }
@@ -128,15 +120,12 @@ fn hashers_of_few_bits(rt: HostRuntime) -> Result<(), Fail> {
 }
 
 // Ten thousand keys go in, in one order, and come out in another.
-fn ten_thousand<M: KeyedMap<Item = Numbered, Key = u32>>(
+fn ten_thousand<M: AskedByKey<Item = Numbered, Key = u32> + AskedToInsert<Numbered> + Drop>(
     rt: &impl Abort,
     coming: &[Numbered],
     going: &[Numbered],
-    mut map: Tried<M>,
-)
-where
-    M: Drop,
-{
+    mut map: M,
+) {
     check(rt, all_go_in(&mut map, coming));
     check(rt, map.len() == 10_006);
     let (front, rest) = parted(going, 5_000);
@@ -163,7 +152,7 @@ fn random_hasher(rt: HostRuntime) -> Result<(), Fail> {
     let alloc = rt.alloc();
     let items = by_factor(alloc, 13, 2)?;
     let hasher = RandomState::new(&rt)?;
-    let mut map = Tried::new(IdHashMap::with_hasher(alloc, hasher));
+    let mut map = Hashed::new(IdHashMap::with_hasher(alloc, hasher));
     check(&rt, all_go_in(&mut map, items.as_slice()));
     check(
         &rt,

@@ -2,12 +2,11 @@
 use crate::draws::Draws;
 use crate::many::{announced, drawn};
 use crate::plain::{Plain, is_same};
-use iddqd::{IdHashMap, IdOrdMap};
-use iddqd_commands::{Command, KeyedMap, Reply};
+use iddqd_commands::{Command, Reply};
 use iddqd_testing::bulk::{Added, Adding};
 use iddqd_testing::caseless::{Caseless, Coarse};
 use iddqd_testing::hashers::ZeroHasher;
-use iddqd_testing::tried::Tried;
+use iddqd_testing::tried::{AskedByKey, Commanded, Hashed, Ordered};
 use std::alloc::{AllocError, Global};
 use std::collections::hash_map::RandomState;
 use std::hash::BuildHasherDefault;
@@ -29,25 +28,25 @@ pub(crate) trait TakesNew {
     fn take_new(&mut self, alloc: Global, items: Vec<Coarse>) -> Result<Told, AllocError>;
 }
 
-impl TakesNew for Tried<IdOrdMap<Coarse>> {
+impl TakesNew for Ordered<Coarse> {
     fn take_new(&mut self, _: Global, items: Vec<Coarse>) -> Result<Told, AllocError> {
         Ok(answered(&self.add_each(items)))
     }
 }
 
-impl TakesNew for Tried<IdHashMap<Coarse>> {
+impl TakesNew for Hashed<Coarse> {
     fn take_new(&mut self, _: Global, items: Vec<Coarse>) -> Result<Told, AllocError> {
         Ok(answered(&self.add_each(items)))
     }
 }
 
-impl TakesNew for Tried<IdHashMap<Coarse, BuildHasherDefault<ZeroHasher>>> {
+impl TakesNew for Hashed<Coarse, BuildHasherDefault<ZeroHasher>> {
     fn take_new(&mut self, alloc: Global, items: Vec<Coarse>) -> Result<Told, AllocError> {
         by_command(alloc, self, items)
     }
 }
 
-impl TakesNew for Tried<IdHashMap<Coarse, RandomState>> {
+impl TakesNew for Hashed<Coarse, RandomState> {
     fn take_new(&mut self, alloc: Global, items: Vec<Coarse>) -> Result<Told, AllocError> {
         by_command(alloc, self, items)
     }
@@ -71,9 +70,9 @@ fn replied(reply: &Reply<Coarse>) -> Told {
     }
 }
 
-fn by_command<M: KeyedMap<Item = Coarse, Key = Caseless> + Drop>(
+fn by_command<M: Commanded<Coarse, Caseless>>(
     alloc: Global,
-    map: &mut Tried<M>,
+    map: &mut M,
     items: Vec<Coarse>,
 ) -> Result<Told, AllocError> {
     let commands = Vec::from_array(alloc, [Command::ExtendUnique(items)])?;
@@ -98,15 +97,12 @@ fn put_all(plain: &mut Plain, items: &[Coarse]) -> Result<Told, AllocError> {
     Ok(Told::AllIn)
 }
 
-pub(crate) fn extend_unique<M: KeyedMap<Item = Coarse, Key = Caseless> + Drop>(
+pub(crate) fn extend_unique<M: TakesNew>(
     alloc: Global,
-    map: &mut Tried<M>,
+    map: &mut M,
     plain: &mut Plain,
     draws: &mut Draws,
-) -> Result<bool, AllocError>
-where
-    Tried<M>: TakesNew,
-{
+) -> Result<bool, AllocError> {
     let items = drawn(alloc, draws)?;
     let expected = if plain.has_room(announced(plain, items.as_slice())) {
         put_all(plain, items.as_slice())?

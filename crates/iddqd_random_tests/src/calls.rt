@@ -1,17 +1,16 @@
 //! Calls of either map, one function a call: whether the map answers as the plain list.
 use crate::draws::Draws;
 use crate::plain::{Plain, is_same};
-use iddqd_commands::KeyedMap;
 use iddqd_testing::caseless::{Caseless, Coarse, spelled};
 use iddqd_testing::entered::Entered;
 use iddqd_testing::probed::Probed;
 use iddqd_testing::respelled::Respelled;
-use iddqd_testing::tried::{AskedForRoom, Tried};
+use iddqd_testing::tried::{AskedByKey, AskedForRoom, AskedToInsert};
 use iddqd_testing::walked::Walked;
 use std::alloc::AllocError;
 
-pub(crate) fn insert<M: KeyedMap<Item = Coarse, Key = Caseless> + Drop>(
-    map: &mut Tried<M>,
+pub(crate) fn insert<M: AskedToInsert<Coarse>>(
+    map: &mut M,
     plain: &mut Plain,
     draws: &mut Draws,
 ) -> Result<bool, AllocError> {
@@ -19,8 +18,8 @@ pub(crate) fn insert<M: KeyedMap<Item = Coarse, Key = Caseless> + Drop>(
     plain.inserts(item, map.insert(item))
 }
 
-pub(crate) fn overwrite<M: KeyedMap<Item = Coarse, Key = Caseless> + Drop>(
-    map: &mut Tried<M>,
+pub(crate) fn overwrite<M: AskedByKey<Item = Coarse, Key = Caseless>>(
+    map: &mut M,
     plain: &mut Plain,
     draws: &mut Draws,
 ) -> Result<bool, AllocError> {
@@ -40,8 +39,8 @@ pub(crate) fn overwrite<M: KeyedMap<Item = Coarse, Key = Caseless> + Drop>(
     }
 }
 
-pub(crate) fn remove<M: KeyedMap<Item = Coarse, Key = Caseless> + Drop>(
-    map: &mut Tried<M>,
+pub(crate) fn remove<M: AskedByKey<Item = Coarse, Key = Caseless>>(
+    map: &mut M,
     plain: &mut Plain,
     draws: &mut Draws,
 ) -> bool {
@@ -49,27 +48,21 @@ pub(crate) fn remove<M: KeyedMap<Item = Coarse, Key = Caseless> + Drop>(
     is_same(map.remove(&name), plain.take(&name))
 }
 
-pub(crate) fn remove_by_entry<M: KeyedMap<Item = Coarse, Key = Caseless> + Drop>(
-    map: &mut Tried<M>,
+pub(crate) fn remove_by_entry<M: Probed>(
+    map: &mut M,
     plain: &mut Plain,
     draws: &mut Draws,
-) -> bool
-where
-    Tried<M>: Probed,
-{
+) -> bool {
     let name = draws.name();
     is_same(map.remove_by_entry(&name), plain.take(&name))
 }
 
 // A lookup, whose comparisons are counted too, among so many items at most.
-pub(crate) fn find<M: KeyedMap<Item = Coarse, Key = Caseless> + Drop>(
-    map: &Tried<M>,
+pub(crate) fn find<M: AskedByKey<Item = Coarse, Key = Caseless> + Probed>(
+    map: &M,
     plain: &Plain,
     name: &Caseless,
-) -> bool
-where
-    Tried<M>: Probed,
-{
+) -> bool {
     let item = plain.find(name);
     let (counted, steps) = map.get_counted(name);
     is_same(map.get(name).copied(), item)
@@ -78,14 +71,11 @@ where
         && steps as usize <= plain.len().saturating_add(4)
 }
 
-pub(crate) fn write<M: KeyedMap<Item = Coarse, Key = Caseless> + Drop>(
-    map: &mut Tried<M>,
+pub(crate) fn write<M: AskedByKey<Item = Coarse, Key = Caseless> + Entered + Probed>(
+    map: &mut M,
     plain: &mut Plain,
     draws: &mut Draws,
-) -> bool
-where
-    Tried<M>: Entered + Probed,
-{
+) -> bool {
     let (name, value) = (draws.name(), draws.below(1000));
     let old = plain.find(&name);
     plain.write(&name, value);
@@ -100,14 +90,11 @@ where
     }
 }
 
-pub(crate) fn respell<M: KeyedMap<Item = Coarse, Key = Caseless> + Drop>(
-    map: &mut Tried<M>,
+pub(crate) fn respell<M: AskedByKey<Item = Coarse, Key = Caseless> + Respelled>(
+    map: &mut M,
     plain: &mut Plain,
     draws: &mut Draws,
-) -> bool
-where
-    Tried<M>: Respelled,
-{
+) -> bool {
     let item = draws.item();
     let is_there = plain.find(&item.name).is_some();
     plain.replace(item);
@@ -121,14 +108,7 @@ where
     }
 }
 
-pub(crate) fn retain<M: KeyedMap<Item = Coarse, Key = Caseless> + Drop>(
-    map: &mut Tried<M>,
-    plain: &mut Plain,
-    draws: &mut Draws,
-) -> bool
-where
-    Tried<M>: Walked<Coarse>,
-{
+pub(crate) fn retain<M: Walked<Coarse>>(map: &mut M, plain: &mut Plain, draws: &mut Draws) -> bool {
     let (part, rest) = (draws.below(8).saturating_add(3), draws.below(3));
     let before = plain.len();
     plain
@@ -140,14 +120,11 @@ where
     true
 }
 
-pub(crate) fn insert_by_entry<M: KeyedMap<Item = Coarse, Key = Caseless> + Drop>(
-    map: &mut Tried<M>,
+pub(crate) fn insert_by_entry<M: AskedByKey<Item = Coarse, Key = Caseless> + Entered>(
+    map: &mut M,
     plain: &mut Plain,
     draws: &mut Draws,
-) -> Result<bool, AllocError>
-where
-    Tried<M>: Entered,
-{
+) -> Result<bool, AllocError> {
     let item = draws.item();
     let fits = plain.find(&item.name).is_none() && !plain.is_full();
     if draws.coin() {
@@ -165,14 +142,11 @@ where
     Ok(is_same(gone, fits.then_some(item)))
 }
 
-pub(crate) fn replace_by_entry<M: KeyedMap<Item = Coarse, Key = Caseless> + Drop>(
-    map: &mut Tried<M>,
+pub(crate) fn replace_by_entry<M: AskedByKey<Item = Coarse, Key = Caseless> + Entered>(
+    map: &mut M,
     plain: &mut Plain,
     draws: &mut Draws,
-) -> bool
-where
-    Tried<M>: Entered,
-{
+) -> bool {
     let item = draws.item();
     let old = plain.find(&item.name);
     plain.replace(item);
@@ -189,14 +163,11 @@ pub(crate) fn shown(plain: &mut Plain, item: Coarse) -> Result<Option<Coarse>, A
     Ok(old)
 }
 
-pub(crate) fn find_or_make<M: KeyedMap<Item = Coarse, Key = Caseless> + Drop>(
-    map: &mut Tried<M>,
+pub(crate) fn find_or_make<M: AskedByKey<Item = Coarse, Key = Caseless> + Entered>(
+    map: &mut M,
     plain: &mut Plain,
     draws: &mut Draws,
-) -> Result<bool, AllocError>
-where
-    Tried<M>: Entered,
-{
+) -> Result<bool, AllocError> {
     let item = draws.item();
     let was_there = plain.find(&item.name).is_some();
     let expected = shown(plain, item)?;
@@ -206,14 +177,11 @@ where
     Ok(is_same(answer, expected) && (asked == 0) == was_there)
 }
 
-pub(crate) fn double_or_insert<M: KeyedMap<Item = Coarse, Key = Caseless> + Drop>(
-    map: &mut Tried<M>,
+pub(crate) fn double_or_insert<M: AskedByKey<Item = Coarse, Key = Caseless> + Entered>(
+    map: &mut M,
     plain: &mut Plain,
     draws: &mut Draws,
-) -> Result<bool, AllocError>
-where
-    Tried<M>: Entered,
-{
+) -> Result<bool, AllocError> {
     let item = draws.item();
     if let Some(old) = plain.find(&item.name) {
         plain.write(&item.name, old.value.wrapping_mul(2));
@@ -222,28 +190,22 @@ where
     Ok(is_same(map.double_or_insert(item), expected))
 }
 
-pub(crate) fn insert_and_write<M: KeyedMap<Item = Coarse, Key = Caseless> + Drop>(
-    map: &mut Tried<M>,
+pub(crate) fn insert_and_write<M: AskedByKey<Item = Coarse, Key = Caseless> + Entered>(
+    map: &mut M,
     plain: &mut Plain,
     draws: &mut Draws,
-) -> Result<bool, AllocError>
-where
-    Tried<M>: Entered,
-{
+) -> Result<bool, AllocError> {
     let (item, value) = (draws.item(), draws.below(1000));
     let is_in = shown(plain, item)?.is_some();
     plain.write(&item.name, value);
     Ok(map.insert_and_write(item, value) == is_in)
 }
 
-pub(crate) fn reserve<M: KeyedMap<Item = Coarse, Key = Caseless> + Drop>(
-    map: &mut Tried<M>,
+pub(crate) fn reserve<M: AskedForRoom + Probed>(
+    map: &mut M,
     plain: &Plain,
     draws: &mut Draws,
-) -> bool
-where
-    Tried<M>: AskedForRoom + Probed,
-{
+) -> bool {
     let additional = draws.below(40) as usize;
     let fits = plain.has_room(additional);
     let answer = if draws.coin() {
@@ -260,14 +222,7 @@ where
     }
 }
 
-pub(crate) fn shrink<M: KeyedMap<Item = Coarse, Key = Caseless> + Drop>(
-    map: &mut Tried<M>,
-    plain: &mut Plain,
-    draws: &mut Draws,
-) -> bool
-where
-    Tried<M>: AskedForRoom,
-{
+pub(crate) fn shrink<M: AskedForRoom>(map: &mut M, plain: &mut Plain, draws: &mut Draws) -> bool {
     let before = map.capacity();
     plain.vacant = 0;
     if draws.coin() {
@@ -277,8 +232,8 @@ where
     map.shrink_to(min).is_ok() && map.capacity() <= before && map.capacity() >= min.min(before)
 }
 
-pub(crate) fn clear<M: KeyedMap<Item = Coarse, Key = Caseless> + Drop>(
-    map: &mut Tried<M>,
+pub(crate) fn clear<M: AskedByKey<Item = Coarse, Key = Caseless>>(
+    map: &mut M,
     plain: &mut Plain,
 ) -> bool {
     map.clear();
@@ -288,14 +243,11 @@ pub(crate) fn clear<M: KeyedMap<Item = Coarse, Key = Caseless> + Drop>(
 }
 
 // Whether the map holds just what the list does, by what it finds and by its walk, and tells the numbers of the list.
-pub(crate) fn holds_the_same<M: KeyedMap<Item = Coarse, Key = Caseless> + Drop>(
-    map: &Tried<M>,
+pub(crate) fn holds_the_same<M: AskedByKey<Item = Coarse, Key = Caseless> + Probed + AskedForRoom>(
+    map: &M,
     plain: &Plain,
     walked: &[Coarse],
-) -> bool
-where
-    Tried<M>: Probed + AskedForRoom,
-{
+) -> bool {
     for item in walked {
         if !is_same(plain.find(&item.name), Some(*item)) {
             return false;

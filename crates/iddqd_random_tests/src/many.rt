@@ -3,11 +3,10 @@ use crate::calls::holds_the_same;
 use crate::draws::Draws;
 use crate::plain::{Plain, is_same};
 use iddqd::errors::FromIterError;
-use iddqd_commands::KeyedMap;
 use iddqd_testing::bulk::Bulk;
 use iddqd_testing::caseless::{Caseless, Coarse};
 use iddqd_testing::probed::{Copied, Probed};
-use iddqd_testing::tried::{AskedForRoom, Tried};
+use iddqd_testing::tried::{AskedByKey, AskedForRoom};
 use std::alloc::{AllocError, Global};
 
 // Some items, of which some have equal names.
@@ -40,15 +39,12 @@ fn overwrite_all(plain: &mut Plain, items: &[Coarse]) -> Result<Option<Coarse>, 
     Ok(None)
 }
 
-pub(crate) fn extend<M: KeyedMap<Item = Coarse, Key = Caseless> + Drop>(
+pub(crate) fn extend<M: Probed>(
     alloc: Global,
-    map: &mut Tried<M>,
+    map: &mut M,
     plain: &mut Plain,
     draws: &mut Draws,
-) -> Result<bool, AllocError>
-where
-    Tried<M>: Probed,
-{
+) -> Result<bool, AllocError> {
     let items = drawn(alloc, draws)?;
     let is_reserved = plain.has_room(announced(plain, items.as_slice()));
     let stopped = if is_reserved {
@@ -80,17 +76,13 @@ fn first_repeat(
 }
 
 // A map of its own that is made of many items.
-pub(crate) fn collect<M: KeyedMap<Item = Coarse, Key = Caseless> + Drop>(
-    alloc: Global,
-    draws: &mut Draws,
-) -> Result<bool, AllocError>
-where
-    Tried<M>: Bulk<Coarse> + Probed + AskedForRoom,
-{
+pub(crate) fn collect<
+    M: AskedByKey<Item = Coarse, Key = Caseless> + Bulk<Coarse> + Probed + AskedForRoom + Drop,
+>(alloc: Global, draws: &mut Draws) -> Result<bool, AllocError> {
     let items = drawn(alloc, draws)?;
     let mut plain = Plain::new(alloc, 4_294_967_295);
     let _ = overwrite_all(&mut plain, items.as_slice())?;
-    let Ok(map) = Tried::<M>::collected(alloc, items) else {
+    let Ok(map) = M::collected(alloc, items) else {
         return Ok(false);
     };
     let walked = map.walked(alloc)?;
@@ -98,17 +90,13 @@ where
 }
 
 // The same of different items, or the first repeat.
-pub(crate) fn collect_unique<M: KeyedMap<Item = Coarse, Key = Caseless> + Drop>(
-    alloc: Global,
-    draws: &mut Draws,
-) -> Result<bool, AllocError>
-where
-    Tried<M>: Bulk<Coarse> + Probed + AskedForRoom,
-{
+pub(crate) fn collect_unique<
+    M: AskedByKey<Item = Coarse, Key = Caseless> + Bulk<Coarse> + Probed + AskedForRoom + Drop,
+>(alloc: Global, draws: &mut Draws) -> Result<bool, AllocError> {
     let items = drawn(alloc, draws)?;
     let mut plain = Plain::new(alloc, 4_294_967_295);
     let repeat = first_repeat(&mut plain, items.as_slice())?;
-    match (Tried::<M>::collected_unique(alloc, items), repeat) {
+    match (M::collected_unique(alloc, items), repeat) {
         (Ok(map), None) => {
             let walked = map.walked(alloc)?;
             Ok(holds_the_same(&map, &plain, walked.as_slice()))
@@ -123,15 +111,9 @@ where
 }
 
 // A clone holds the same, equals the map as long as it is not written, and lets its items out.
-pub(crate) fn copy<M: KeyedMap<Item = Coarse, Key = Caseless> + Drop>(
-    alloc: Global,
-    map: &Tried<M>,
-    plain: &Plain,
-    draws: &mut Draws,
-) -> Result<bool, AllocError>
-where
-    Tried<M>: Copied + Probed + AskedForRoom,
-{
+pub(crate) fn copy<
+    M: AskedByKey<Item = Coarse, Key = Caseless> + Copied + Probed + AskedForRoom + Drop,
+>(alloc: Global, map: &M, plain: &Plain, draws: &mut Draws) -> Result<bool, AllocError> {
     let Ok(mut copy) = map.copied() else {
         return Ok(false);
     };
@@ -153,14 +135,11 @@ where
 }
 
 // An entry of a clone reads the item there, and shows what it wrote.
-pub(crate) fn write_copy<M: KeyedMap<Item = Coarse, Key = Caseless> + Drop>(
-    map: &Tried<M>,
+pub(crate) fn write_copy<M: AskedByKey<Item = Coarse, Key = Caseless> + Copied + Probed>(
+    map: &M,
     plain: &Plain,
     draws: &mut Draws,
-) -> bool
-where
-    Tried<M>: Copied + Probed,
-{
+) -> bool {
     let Ok(copy) = map.copied() else {
         return false;
     };

@@ -2,9 +2,8 @@
 use crate::calls;
 use crate::draws::Draws;
 use crate::plain::{Plain, is_same};
-use iddqd::IdOrdMap;
 use iddqd_testing::caseless::Coarse;
-use iddqd_testing::tried::Tried;
+use iddqd_testing::tried::{AskedByKey, Ordered};
 use std::alloc::AllocError;
 
 // The greatest count of comparisons among so many items: four, and two more for each binary digit of the count.
@@ -14,11 +13,11 @@ fn bound(count: usize) -> u32 {
 }
 
 // The ends are those of the list.
-pub(crate) fn ends(map: &Tried<IdOrdMap<Coarse>>, plain: &Plain) -> bool {
+pub(crate) fn ends(map: &Ordered<Coarse>, plain: &Plain) -> bool {
     is_same(map.first(), plain.first()) && is_same(map.last(), plain.last())
 }
 
-pub(crate) fn pop(map: &mut Tried<IdOrdMap<Coarse>>, plain: &mut Plain, draws: &mut Draws) -> bool {
+pub(crate) fn pop(map: &mut Ordered<Coarse>, plain: &mut Plain, draws: &mut Draws) -> bool {
     let is_first = draws.coin();
     let by_entry = draws.coin();
     let end = if is_first {
@@ -39,7 +38,7 @@ pub(crate) fn pop(map: &mut Tried<IdOrdMap<Coarse>>, plain: &mut Plain, draws: &
 }
 
 pub(crate) fn insert_counted(
-    map: &mut Tried<IdOrdMap<Coarse>>,
+    map: &mut Ordered<Coarse>,
     plain: &mut Plain,
     draws: &mut Draws,
 ) -> Result<bool, AllocError> {
@@ -50,7 +49,7 @@ pub(crate) fn insert_counted(
 }
 
 pub(crate) fn remove_counted(
-    map: &mut Tried<IdOrdMap<Coarse>>,
+    map: &mut Ordered<Coarse>,
     plain: &mut Plain,
     draws: &mut Draws,
 ) -> bool {
@@ -61,7 +60,7 @@ pub(crate) fn remove_counted(
 }
 
 pub(crate) fn show_or_insert(
-    map: &mut Tried<IdOrdMap<Coarse>>,
+    map: &mut Ordered<Coarse>,
     plain: &mut Plain,
     draws: &mut Draws,
 ) -> Result<bool, AllocError> {
@@ -76,7 +75,7 @@ pub(crate) fn show_or_insert(
 }
 
 pub(crate) fn show_inserted(
-    map: &mut Tried<IdOrdMap<Coarse>>,
+    map: &mut Ordered<Coarse>,
     plain: &mut Plain,
     draws: &mut Draws,
 ) -> Result<bool, AllocError> {

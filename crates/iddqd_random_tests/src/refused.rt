@@ -2,10 +2,9 @@
 use crate::draws::Draws;
 use crate::plain::{Plain, is_same};
 use iddqd::errors::TryReserveError;
-use iddqd_commands::KeyedMap;
 use iddqd_testing::caseless::{Caseless, Coarse, spelled};
 use iddqd_testing::heap::{arm, is_met};
-use iddqd_testing::tried::{AskedForRoom, Inserted, Tried, by_hash, in_order};
+use iddqd_testing::tried::{AskedByKey, AskedForRoom, AskedToInsert, Inserted, by_hash, in_order};
 use std::alloc::{AllocError, Global};
 use std::process::Abort;
 use std::test::Fail;
@@ -37,8 +36,8 @@ fn refusal(plain: &Plain, item: Coarse, back: Coarse, error: TryReserveError) ->
     }
 }
 
-fn insert<M: KeyedMap<Item = Coarse, Key = Caseless> + Drop>(
-    map: &mut Tried<M>,
+fn insert<M: AskedToInsert<Coarse>>(
+    map: &mut M,
     plain: &mut Plain,
     item: Coarse,
 ) -> Result<Outcome, AllocError> {
@@ -48,8 +47,8 @@ fn insert<M: KeyedMap<Item = Coarse, Key = Caseless> + Drop>(
     }
 }
 
-fn overwrite<M: KeyedMap<Item = Coarse, Key = Caseless> + Drop>(
-    map: &mut Tried<M>,
+fn overwrite<M: AskedByKey<Item = Coarse, Key = Caseless>>(
+    map: &mut M,
     plain: &mut Plain,
     item: Coarse,
 ) -> Result<Outcome, AllocError> {
@@ -63,8 +62,8 @@ fn overwrite<M: KeyedMap<Item = Coarse, Key = Caseless> + Drop>(
     }
 }
 
-fn remove<M: KeyedMap<Item = Coarse, Key = Caseless> + Drop>(
-    map: &mut Tried<M>,
+fn remove<M: AskedByKey<Item = Coarse, Key = Caseless>>(
+    map: &mut M,
     plain: &mut Plain,
     name: &Caseless,
 ) -> Outcome {
@@ -81,13 +80,10 @@ fn told(answer: Result<(), TryReserveError>) -> Outcome {
 }
 
 // Whether each item of the list is found, and no more are there. It asks for no memory.
-fn finds_all<M: KeyedMap<Item = Coarse, Key = Caseless> + Drop>(
-    map: &Tried<M>,
+fn finds_all<M: AskedByKey<Item = Coarse, Key = Caseless> + AskedForRoom>(
+    map: &M,
     plain: &Plain,
-) -> bool
-where
-    Tried<M>: AskedForRoom,
-{
+) -> bool {
     for item in plain.items.iter() {
         if map.get(&item.name).map(spelled) != Some(spelled(item)) {
             return false;
@@ -116,15 +112,12 @@ fn drawn_call(draws: &mut Draws) -> Call {
     }
 }
 
-fn made<M: KeyedMap<Item = Coarse, Key = Caseless> + Drop>(
-    map: &mut Tried<M>,
+fn made<M: AskedByKey<Item = Coarse, Key = Caseless> + AskedToInsert<Coarse> + AskedForRoom>(
+    map: &mut M,
     plain: &mut Plain,
     draws: &mut Draws,
     call: Call,
-) -> Result<Outcome, AllocError>
-where
-    Tried<M>: AskedForRoom,
-{
+) -> Result<Outcome, AllocError> {
     match call {
         Call::Insert => insert(map, plain, draws.item()),
         Call::Overwrite => overwrite(map, plain, draws.item()),
@@ -138,15 +131,12 @@ where
 }
 
 // How many of the calls were refused. The list has its room from the beginning.
-fn refusals<M: KeyedMap<Item = Coarse, Key = Caseless> + Drop>(
+fn refusals<M: AskedByKey<Item = Coarse, Key = Caseless> + AskedToInsert<Coarse> + AskedForRoom>(
     rt: &impl Abort,
     alloc: Global,
-    map: &mut Tried<M>,
+    map: &mut M,
     seed: u64,
-) -> Result<u32, Fail>
-where
-    Tried<M>: AskedForRoom,
-{
+) -> Result<u32, Fail> {
     let mut plain = Plain::with_room(alloc, 4_294_967_295, 125)?;
     let mut draws = Draws::new(seed, 5);
     let mut refusals = 0_u32;

@@ -5,13 +5,12 @@ use crate::plain::Plain;
 use crate::writing::{Written, write_first};
 use crate::{calls, many, ordered};
 use iddqd::{IdHashMap, IdOrdMap};
-use iddqd_commands::KeyedMap;
 use iddqd_testing::caseless::{Caseless, Coarse};
 use iddqd_testing::entered::Entered;
 use iddqd_testing::hashers::ZeroHasher;
 use iddqd_testing::probed::{Copied, Probed};
 use iddqd_testing::respelled::Respelled;
-use iddqd_testing::tried::{AskedForRoom, Tried, by_hash};
+use iddqd_testing::tried::{AskedByKey, AskedForRoom, AskedToInsert, Hashed, Ordered, by_hash};
 use iddqd_testing::walked::Walked;
 use std::alloc::{AllocError, Global};
 use std::collections::hash_map::RandomState;
@@ -81,17 +80,25 @@ fn drawn_call(draws: &mut Draws) -> Call {
 }
 
 // Makes the call. Whether it is answered as by the list.
-fn is_answered<M: KeyedMap<Item = Coarse, Key = Caseless> + Drop>(
+fn is_answered<
+    M: AskedByKey<Item = Coarse, Key = Caseless>
+        + AskedToInsert<Coarse>
+        + Probed
+        + Copied
+        + Entered
+        + Respelled
+        + AskedForRoom
+        + Walked<Coarse>
+        + TakesNew
+        + Written
+        + Drop,
+>(
     alloc: Global,
-    map: &mut Tried<M>,
+    map: &mut M,
     plain: &mut Plain,
     draws: &mut Draws,
     call: Call,
-) -> Result<bool, AllocError>
-where
-    Tried<M>: Probed + Copied + Entered + Respelled + AskedForRoom + Walked<Coarse>,
-    Tried<M>: TakesNew + Written,
-{
+) -> Result<bool, AllocError> {
     match call {
         Call::Insert => calls::insert(map, plain, draws),
         Call::Overwrite => calls::overwrite(map, plain, draws),
@@ -127,16 +134,19 @@ struct Run {
 }
 
 // Runs the calls on a hash map.
-fn run_hashed<M: KeyedMap<Item = Coarse, Key = Caseless> + Drop>(
-    rt: &impl Abort,
-    alloc: Global,
-    run: Run,
-    map: Tried<M>,
-) -> Result<(), AllocError>
-where
-    Tried<M>: Probed + Copied + Entered + Respelled + AskedForRoom + Walked<Coarse>,
-    Tried<M>: TakesNew + Written,
-{
+fn run_hashed<
+    M: AskedByKey<Item = Coarse, Key = Caseless>
+        + AskedToInsert<Coarse>
+        + Probed
+        + Copied
+        + Entered
+        + Respelled
+        + AskedForRoom
+        + Walked<Coarse>
+        + TakesNew
+        + Written
+        + Drop,
+>(rt: &impl Abort, alloc: Global, run: Run, map: M) -> Result<(), AllocError> {
     let (mut map, mut plain) = (map, Plain::new(alloc, run.limit));
     let mut draws = Draws::new(run.seed, run.letters);
     for number in 0..run.calls {
@@ -183,7 +193,7 @@ fn drawn_ordered_call(draws: &mut Draws) -> OrderedCall {
 
 fn is_answered_in_order(
     alloc: Global,
-    map: &mut Tried<IdOrdMap<Coarse>>,
+    map: &mut Ordered<Coarse>,
     plain: &mut Plain,
     draws: &mut Draws,
     call: OrderedCall,
@@ -200,7 +210,7 @@ fn is_answered_in_order(
 
 // Runs the calls on an ordered map.
 fn run_ordered(rt: &impl Abort, alloc: Global, run: Run) -> Result<(), AllocError> {
-    let mut map = Tried::new(IdOrdMap::with_limit(alloc, run.limit));
+    let mut map = Ordered::new(IdOrdMap::with_limit(alloc, run.limit));
     let mut plain = Plain::new(alloc, run.limit);
     let mut draws = Draws::new(run.seed, run.letters);
     for number in 0..run.calls {
@@ -279,7 +289,7 @@ fn hash_calls_at_the_limit(rt: HostRuntime) -> Result<(), Fail> {
     for seed in [51, 52] {
         let run = announced(&rt, of_seed(seed, 10_000, 3, 14))?;
         let hasher = iddqd::DefaultHashBuilder::new();
-        let map = Tried::new(IdHashMap::with_limit(rt.alloc(), 14, hasher));
+        let map = Hashed::new(IdHashMap::with_limit(rt.alloc(), 14, hasher));
         run_hashed(&rt, rt.alloc(), run, map)?;
     }
     Ok(())
@@ -290,7 +300,7 @@ fn calls_of_equal_hashes(rt: HostRuntime) -> Result<(), Fail> {
     for seed in [61, 62, 63] {
         let run = announced(&rt, of_seed(seed, 10_000, 3, MAX_ITEMS))?;
         let hasher: BuildHasherDefault<ZeroHasher> = BuildHasherDefault::new();
-        let map = Tried::new(IdHashMap::with_hasher(rt.alloc(), hasher));
+        let map = Hashed::new(IdHashMap::with_hasher(rt.alloc(), hasher));
         run_hashed(&rt, rt.alloc(), run, map)?;
     }
     Ok(())
@@ -300,21 +310,20 @@ fn calls_of_equal_hashes(rt: HostRuntime) -> Result<(), Fail> {
 fn calls_of_random_hashes(rt: HostRuntime) -> Result<(), Fail> {
     for seed in [71, 72] {
         let run = announced(&rt, of_seed(seed, 10_000, 7, MAX_ITEMS))?;
-        let map = Tried::new(IdHashMap::with_hasher(rt.alloc(), RandomState::new(&rt)?));
+        let map = Hashed::new(IdHashMap::with_hasher(rt.alloc(), RandomState::new(&rt)?));
         run_hashed(&rt, rt.alloc(), run, map)?;
     }
     Ok(())
 }
 
 // Maps that are made of many items, each compared with its list.
-fn make_many<M: KeyedMap<Item = Coarse, Key = Caseless> + Drop>(
-    rt: &impl Abort,
-    alloc: Global,
-    seed: u64,
-) -> Result<(), AllocError>
-where
-    Tried<M>: Probed + AskedForRoom + iddqd_testing::bulk::Bulk<Coarse>,
-{
+fn make_many<
+    M: AskedByKey<Item = Coarse, Key = Caseless>
+        + Probed
+        + AskedForRoom
+        + iddqd_testing::bulk::Bulk<Coarse>
+        + Drop,
+>(rt: &impl Abort, alloc: Global, seed: u64) -> Result<(), AllocError> {
     let mut draws = Draws::new(seed, 3);
     for number in 0..2_000 {
         let collected = many::collect::<M>(alloc, &mut draws)?;
@@ -328,8 +337,8 @@ where
 #[test]
 fn maps_of_many_items(rt: HostRuntime) -> Result<(), Fail> {
     println!(rt; "seeds 81, 82, 83")?;
-    make_many::<IdOrdMap<Coarse>>(&rt, rt.alloc(), 81)?;
-    make_many::<IdHashMap<Coarse>>(&rt, rt.alloc(), 82)?;
-    make_many::<IdHashMap<Coarse, BuildHasherDefault<ZeroHasher>>>(&rt, rt.alloc(), 83)?;
+    make_many::<Ordered<Coarse>>(&rt, rt.alloc(), 81)?;
+    make_many::<Hashed<Coarse>>(&rt, rt.alloc(), 82)?;
+    make_many::<Hashed<Coarse, BuildHasherDefault<ZeroHasher>>>(&rt, rt.alloc(), 83)?;
     Ok(())
 }

@@ -1,11 +1,9 @@
 //! Copies of a map that a walk writes: whether it writes the first items alone.
 use crate::draws::Draws;
 use crate::plain::is_same;
-use iddqd::{IdHashMap, IdOrdMap};
-use iddqd_commands::KeyedMap;
 use iddqd_testing::caseless::{Caseless, Coarse};
 use iddqd_testing::probed::{Copied, Probed};
-use iddqd_testing::tried::Tried;
+use iddqd_testing::tried::{AskedByKey, Hashed, Ordered};
 use iddqd_testing::walked::Walked;
 use std::alloc::{AllocError, Global};
 use std::hash::BuildHasher;
@@ -16,7 +14,7 @@ pub(crate) trait Written: Sized {
     fn raised(self, alloc: Global, most: usize) -> Result<(Vec<Coarse>, usize), AllocError>;
 }
 
-impl Written for Tried<IdOrdMap<Coarse>> {
+impl Written for Ordered<Coarse> {
     fn raised(self, alloc: Global, most: usize) -> Result<(Vec<Coarse>, usize), AllocError> {
         let (map, left) = self.written(most, raise);
         let mut items = Vec::with_capacity(alloc, map.len())?;
@@ -27,7 +25,7 @@ impl Written for Tried<IdOrdMap<Coarse>> {
     }
 }
 
-impl<S: BuildHasher + Drop> Written for Tried<IdHashMap<Coarse, S>> {
+impl<S: BuildHasher + Drop> Written for Hashed<Coarse, S> {
     fn raised(self, alloc: Global, most: usize) -> Result<(Vec<Coarse>, usize), AllocError> {
         let (map, left) = self.written(most, raise);
         let mut items = Vec::with_capacity(alloc, map.len())?;
@@ -42,14 +40,11 @@ fn raise(item: &mut Coarse) {
     item.value = item.value.wrapping_add(1);
 }
 
-pub(crate) fn write_first<M: KeyedMap<Item = Coarse, Key = Caseless> + Drop>(
+pub(crate) fn write_first<M: Copied + Probed + Written + Drop>(
     alloc: Global,
-    map: &Tried<M>,
+    map: &M,
     draws: &mut Draws,
-) -> Result<bool, AllocError>
-where
-    Tried<M>: Copied + Probed + Written,
-{
+) -> Result<bool, AllocError> {
     let Ok(copy) = map.copied() else {
         return Ok(false);
     };

@@ -2,23 +2,18 @@
 use crate::maps::{fill, holds};
 use crate::words::tell;
 use iddqd::errors::TryReserveError;
-use iddqd::{IdHashMap, IdOrdMap};
-use iddqd_commands::KeyedMap;
 use iddqd_testing::heap::{arm, is_met};
 use iddqd_testing::items::Numbered;
-use iddqd_testing::tried::{AskedForRoom, Tried, by_hash, in_order};
+use iddqd_testing::tried::{AskedByKey, AskedForRoom, Hashed, Ordered, by_hash, in_order};
 use std::alloc::Global;
 use std::test::Fail;
 
 // The word for what was seen: a clone that is equal, or none for want of memory. The map has its four numbers either way.
-fn row_of_clone<M: KeyedMap<Item = Numbered, Key = u32>>(
-    map: &Tried<M>,
+fn row_of_clone<M: AskedByKey<Item = Numbered, Key = u32> + AskedForRoom>(
+    map: &M,
     is_equal: Result<bool, TryReserveError>,
     is_met: bool,
-) -> Result<&'static str, Fail>
-where
-    Tried<M>: AskedForRoom,
-{
+) -> Result<&'static str, Fail> {
     if !holds(map, 4, None) {
         return Err(Fail::from("the map is not as it was"));
     }
@@ -29,7 +24,7 @@ where
     }
 }
 
-fn clone_in_order(alloc: Global, mut map: Tried<IdOrdMap<Numbered>>) -> Result<&'static str, Fail> {
+fn clone_in_order(alloc: Global, mut map: Ordered<Numbered>) -> Result<&'static str, Fail> {
     fill(&mut map, 4)?;
     arm(alloc);
     let copy = map.copied();
@@ -41,7 +36,7 @@ fn clone_in_order(alloc: Global, mut map: Tried<IdOrdMap<Numbered>>) -> Result<&
     row_of_clone(&map, is_equal, is_met)
 }
 
-fn clone_by_hash(alloc: Global, mut map: Tried<IdHashMap<Numbered>>) -> Result<&'static str, Fail> {
+fn clone_by_hash(alloc: Global, mut map: Hashed<Numbered>) -> Result<&'static str, Fail> {
     fill(&mut map, 4)?;
     arm(alloc);
     let copy = map.copied();

@@ -1,9 +1,9 @@
 //! `run` with a request refused: the commands come back, or the replies are one of the rows that a refusal allows.
 use crate::words::tell;
-use iddqd_commands::{Command, KeyedMap, Reply};
+use iddqd_commands::{Command, Reply};
 use iddqd_testing::heap::{arm, is_met};
 use iddqd_testing::kept::{Kept, make_kept};
-use iddqd_testing::tried::{Tried, by_hash, in_order};
+use iddqd_testing::tried::{AskedByKey, Commanded, by_hash, in_order};
 use iddqd_testing::visitors::Untouched;
 use std::alloc::{AllocError, Global};
 use std::test::Fail;
@@ -108,13 +108,10 @@ fn row_of(replies: &[Reply<Kept>]) -> Option<&'static str> {
 }
 
 // Runs the commands on a new map with a request refused: the row that came.
-fn swept_run<M: KeyedMap<Item = Kept, Key = u32>>(
+fn swept_run<M: AskedByKey<Item = Kept, Key = u32> + Commanded<Kept, u32> + Drop>(
     alloc: Global,
-    mut map: Tried<M>,
-) -> Result<&'static str, Fail>
-where
-    M: Drop,
-{
+    mut map: M,
+) -> Result<&'static str, Fail> {
     let commands = commands(alloc)?;
     arm(alloc);
     let outcome = map.run(alloc, commands);

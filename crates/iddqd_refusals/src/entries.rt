@@ -1,11 +1,9 @@
 //! Insertions by an entry that are refused, on both maps.
 use crate::words::tell;
-use iddqd::IdOrdMap;
-use iddqd_commands::KeyedMap;
 use iddqd_testing::caseless::{Caseless, Coarse, item_of, spelled};
 use iddqd_testing::entered::{Entered, Put};
 use iddqd_testing::heap::{arm, is_met};
-use iddqd_testing::tried::{AskedForRoom, Tried, by_hash, in_order};
+use iddqd_testing::tried::{AskedByKey, AskedForRoom, Ordered, by_hash, in_order};
 use iddqd_testing::walked::Listed;
 use std::alloc::Global;
 use std::test::Fail;
@@ -24,11 +22,7 @@ const NAMES: [[u8; 3]; 9] = [
 ];
 
 // What the insertion of a new item answers; where the call is `insert_entry`, the item is taken out at once.
-fn put<M>(map: &mut Tried<M>, call: Call, item: Coarse) -> Put
-where
-    M: KeyedMap<Item = Coarse, Key = Caseless>,
-    Tried<M>: Entered,
-{
+fn put<M: Entered>(map: &mut M, call: Call, item: Coarse) -> Put {
     let mut asked = 0;
     match call {
         Call::Insert => map.put_vacant(*b"xyz", item),
@@ -39,10 +33,10 @@ where
 }
 
 // Whether the map is sound and has these names, each with the value 5, and no other.
-fn holds<M: KeyedMap<Item = Coarse, Key = Caseless>>(map: &Tried<M>, names: &[[u8; 3]]) -> bool
-where
-    Tried<M>: AskedForRoom,
-{
+fn holds<M: AskedByKey<Item = Coarse, Key = Caseless> + AskedForRoom>(
+    map: &M,
+    names: &[[u8; 3]],
+) -> bool {
     for name in names {
         if map.get(&Caseless(*name)).map(spelled) != Some((*name, 5)) {
             return false;
@@ -52,8 +46,8 @@ where
 }
 
 // Puts in an item of each name.
-fn fill<M: KeyedMap<Item = Coarse, Key = Caseless>>(
-    map: &mut Tried<M>,
+fn fill<M: AskedByKey<Item = Coarse, Key = Caseless>>(
+    map: &mut M,
     names: &[[u8; 3]],
 ) -> Result<(), Fail> {
     for name in names {
@@ -88,15 +82,9 @@ fn is_back(answer: &Put) -> bool {
 }
 
 // Fills the map with so many names, and then tries the insertion of a new one with a request refused: the word for what was seen.
-fn insertion<M: KeyedMap<Item = Coarse, Key = Caseless> + Drop>(
-    alloc: Global,
-    mut map: Tried<M>,
-    call: Call,
-    count: usize,
-) -> Result<&'static str, Fail>
-where
-    Tried<M>: AskedForRoom + Entered + Listed<Coarse>,
-{
+fn insertion<
+    M: AskedByKey<Item = Coarse, Key = Caseless> + AskedForRoom + Entered + Listed<Coarse> + Drop,
+>(alloc: Global, mut map: M, call: Call, count: usize) -> Result<&'static str, Fail> {
     let names = NAMES.get(..count).ok_or("too many names")?;
     fill(&mut map, names)?;
     let walk = map.listed(alloc)?;
@@ -122,7 +110,7 @@ enum Shows {
 }
 
 // What the insertion of a new item answers.
-fn show(map: &mut Tried<IdOrdMap<Coarse>>, call: Shows, item: Coarse) -> Put {
+fn show(map: &mut Ordered<Coarse>, call: Shows, item: Coarse) -> Put {
     match call {
         Shows::InsertRef => map.put_shown(item),
         Shows::OrInsertRef => map.show_or_put(item),

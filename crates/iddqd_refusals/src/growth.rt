@@ -1,13 +1,12 @@
 //! The ordered map as it grows, with each request of each insertion refused in its turn.
 use crate::checks::check;
-use iddqd::IdOrdMap;
 use iddqd_testing::heap::{arm, is_met};
 use iddqd_testing::items::Numbered;
-use iddqd_testing::tried::{AskedForRoom, Inserted, Tried, in_order};
+use iddqd_testing::tried::{AskedByKey, AskedForRoom, AskedToInsert, Inserted, Ordered, in_order};
 use std::test::Fail;
 
 // Whether the walk has the numbers from 1 to below another, in order.
-fn walks(map: &Tried<IdOrdMap<Numbered>>, end: u32) -> bool {
+fn walks(map: &Ordered<Numbered>, end: u32) -> bool {
     let mut next = 1u32;
     for item in map.map().iter() {
         if item.number != next {
@@ -20,7 +19,7 @@ fn walks(map: &Tried<IdOrdMap<Numbered>>, end: u32) -> bool {
 
 // Puts in the number after those that are there, and answers whether it was refused. Then it comes back, the walk has still
 // those before it, and now it goes in.
-fn grow(map: &mut Tried<IdOrdMap<Numbered>>, number: u32) -> Result<bool, Fail> {
+fn grow(map: &mut Ordered<Numbered>, number: u32) -> Result<bool, Fail> {
     let new = Numbered { number, value: 5 };
     match map.insert(new) {
         Inserted::Done => Ok(false),

@@ -1,10 +1,9 @@
 //! Iterators whose hints lie, with a request refused.
 use crate::words::tell;
-use iddqd_commands::KeyedMap;
 use iddqd_testing::bulk::{Bulk, is_not_taken_in};
 use iddqd_testing::heap::{arm, is_met};
 use iddqd_testing::items::Named;
-use iddqd_testing::tried::{AskedForRoom, Inserted, Tried, by_hash, in_order};
+use iddqd_testing::tried::{AskedByKey, AskedForRoom, AskedToInsert, Inserted, by_hash, in_order};
 use std::alloc::Global;
 use std::test::Fail;
 
@@ -19,7 +18,7 @@ const BAR: Named = Named {
 };
 
 // Puts in the item, again where it is refused: whether it was refused, or `None` where it is not in.
-fn put_at_last<M: KeyedMap<Item = Named>>(map: &mut Tried<M>, item: Named) -> Option<bool> {
+fn put_at_last<M: AskedToInsert<Named>>(map: &mut M, item: Named) -> Option<bool> {
     match map.insert(item) {
         Inserted::Done => Some(false),
         Inserted::Refused(_, _) if map.insert(item) == Inserted::Done => Some(true),
@@ -28,22 +27,19 @@ fn put_at_last<M: KeyedMap<Item = Named>>(map: &mut Tried<M>, item: Named) -> Op
 }
 
 // Whether the map is sound and has foo and bar.
-fn has_both<M: KeyedMap<Item = Named, Key = [u8; 3]>>(map: &Tried<M>) -> bool
-where
-    Tried<M>: AskedForRoom,
-{
+fn has_both<M: AskedByKey<Item = Named, Key = [u8; 3]> + AskedForRoom>(map: &M) -> bool {
     let are_found = map.get(b"foo") == Some(&FOO) && map.get(b"bar") == Some(&BAR);
     are_found && map.len() == 2 && map.is_sound()
 }
 
 // The word for a map that an iterator lies to before and after it has two items: a request that is refused is one of theirs.
-fn lied_to<M: KeyedMap<Item = Named, Key = [u8; 3]> + Drop>(
-    alloc: Global,
-    mut map: Tried<M>,
-) -> Result<&'static str, Fail>
-where
-    Tried<M>: AskedForRoom + Bulk<Named>,
-{
+fn lied_to<
+    M: AskedByKey<Item = Named, Key = [u8; 3]>
+        + AskedToInsert<Named>
+        + AskedForRoom
+        + Bulk<Named>
+        + Drop,
+>(alloc: Global, mut map: M) -> Result<&'static str, Fail> {
     arm(alloc);
     let is_empty_kept = is_not_taken_in(&mut map) && map.len() == 0;
     let refused = (put_at_last(&mut map, FOO), put_at_last(&mut map, BAR));

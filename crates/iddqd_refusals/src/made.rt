@@ -4,11 +4,10 @@ use crate::rooms::numbers;
 use crate::words::tell;
 use iddqd::errors::{FromIterError, TryReserveError};
 use iddqd::{DefaultHashBuilder, IdHashMap, IdOrdMap};
-use iddqd_commands::KeyedMap;
 use iddqd_testing::bulk::Bulk;
 use iddqd_testing::heap::{arm, is_met};
 use iddqd_testing::items::Numbered;
-use iddqd_testing::tried::{AskedForRoom, Tried};
+use iddqd_testing::tried::{AskedByKey, AskedForRoom, Hashed, Ordered};
 use std::alloc::Global;
 use std::test::Fail;
 
@@ -44,13 +43,10 @@ fn with_capacity_and_hasher(rt: HostRuntime) -> Result<(), Fail> {
 }
 
 // The word for a map of twenty numbers.
-fn word_of_twenty<M: KeyedMap<Item = Numbered, Key = u32> + Drop>(
-    made: Result<Tried<M>, Option<TryReserveError>>,
+fn word_of_twenty<M: AskedByKey<Item = Numbered, Key = u32> + AskedForRoom + Drop>(
+    made: Result<M, Option<TryReserveError>>,
     is_met: bool,
-) -> Result<&'static str, Fail>
-where
-    Tried<M>: AskedForRoom,
-{
+) -> Result<&'static str, Fail> {
     match made {
         Ok(map) if !is_met && holds(&map, 20, None) => Ok("made"),
         Err(Some(error)) if is_met && !error.is_capacity_overflow() => Ok("nothing_made"),
@@ -61,28 +57,22 @@ where
 }
 
 // Collects twenty numbers.
-fn collection<M: KeyedMap<Item = Numbered, Key = u32> + Drop>(
+fn collection<M: AskedByKey<Item = Numbered, Key = u32> + AskedForRoom + Bulk<Numbered> + Drop>(
     alloc: Global,
-) -> Result<&'static str, Fail>
-where
-    Tried<M>: AskedForRoom + Bulk<Numbered>,
-{
+) -> Result<&'static str, Fail> {
     let items = numbers(alloc, 0, 20)?;
     arm(alloc);
-    let made = Tried::<M>::collected(alloc, items);
+    let made = M::collected(alloc, items);
     word_of_twenty(made.map_err(|error| Some(error)), is_met(alloc))
 }
 
 // The same, where no number may repeat.
-fn unique_collection<M: KeyedMap<Item = Numbered, Key = u32> + Drop>(
-    alloc: Global,
-) -> Result<&'static str, Fail>
-where
-    Tried<M>: AskedForRoom + Bulk<Numbered>,
-{
+fn unique_collection<
+    M: AskedByKey<Item = Numbered, Key = u32> + AskedForRoom + Bulk<Numbered> + Drop,
+>(alloc: Global) -> Result<&'static str, Fail> {
     let items = numbers(alloc, 0, 20)?;
     arm(alloc);
-    let made = Tried::<M>::collected_unique(alloc, items);
+    let made = M::collected_unique(alloc, items);
     word_of_twenty(made.map_err(|stopped| error_of(stopped)), is_met(alloc))
 }
 
@@ -96,20 +86,20 @@ fn error_of(stopped: FromIterError<Numbered>) -> Option<TryReserveError> {
 
 #[test]
 fn from_iter(rt: HostRuntime) -> Result<(), Fail> {
-    tell(&rt, collection::<IdOrdMap<Numbered>>(rt.alloc()))
+    tell(&rt, collection::<Ordered<Numbered>>(rt.alloc()))
 }
 
 #[test]
 fn hash_from_iter(rt: HostRuntime) -> Result<(), Fail> {
-    tell(&rt, collection::<IdHashMap<Numbered>>(rt.alloc()))
+    tell(&rt, collection::<Hashed<Numbered>>(rt.alloc()))
 }
 
 #[test]
 fn from_iter_unique(rt: HostRuntime) -> Result<(), Fail> {
-    tell(&rt, unique_collection::<IdOrdMap<Numbered>>(rt.alloc()))
+    tell(&rt, unique_collection::<Ordered<Numbered>>(rt.alloc()))
 }
 
 #[test]
 fn hash_from_iter_unique(rt: HostRuntime) -> Result<(), Fail> {
-    tell(&rt, unique_collection::<IdHashMap<Numbered>>(rt.alloc()))
+    tell(&rt, unique_collection::<Hashed<Numbered>>(rt.alloc()))
 }

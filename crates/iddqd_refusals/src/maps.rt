@@ -1,11 +1,11 @@
 //! Insertions that are refused, and lookups that need no memory, on both maps.
 use crate::checks::check;
 use crate::words::tell;
-use iddqd::IdOrdMap;
-use iddqd_commands::KeyedMap;
 use iddqd_testing::heap::{arm, is_met};
 use iddqd_testing::items::{Numbered, Titled};
-use iddqd_testing::tried::{AskedByText, AskedForRoom, Inserted, Tried, by_hash, in_order};
+use iddqd_testing::tried::{
+    AskedByKey, AskedByText, AskedForRoom, AskedToInsert, Inserted, Ordered, by_hash, in_order,
+};
 use iddqd_testing::walked::Listed;
 use std::alloc::{AllocError, Global};
 use std::test::Fail;
@@ -15,10 +15,7 @@ fn numbered(number: u32, value: u32) -> Numbered {
 }
 
 // Puts in the numbers below the count, each with the value 5.
-pub(crate) fn fill<M: KeyedMap<Item = Numbered, Key = u32>>(
-    map: &mut Tried<M>,
-    count: u32,
-) -> Result<(), Fail> {
+pub(crate) fn fill<M: AskedToInsert<Numbered>>(map: &mut M, count: u32) -> Result<(), Fail> {
     for number in 0..count {
         if map.insert(numbered(number, 5)) != Inserted::Done {
             return Err(Fail::from("an item is not in"));
@@ -29,14 +26,11 @@ pub(crate) fn fill<M: KeyedMap<Item = Numbered, Key = u32>>(
 
 // Whether the map is sound and holds the numbers below the count, each with the value 5, and no other but for 1000 where a value is
 // given.
-pub(crate) fn holds<M: KeyedMap<Item = Numbered, Key = u32>>(
-    map: &Tried<M>,
+pub(crate) fn holds<M: AskedByKey<Item = Numbered, Key = u32> + AskedForRoom>(
+    map: &M,
     count: u32,
     new: Option<u32>,
-) -> bool
-where
-    Tried<M>: AskedForRoom,
-{
+) -> bool {
     for number in 0..count {
         if map.get(&number).copied() != Some(numbered(number, 5)) {
             return false;
@@ -48,15 +42,15 @@ where
 }
 
 // An insertion that is tried.
-trait Call<M: KeyedMap>: Copy {
-    fn put(self, map: &mut Tried<M>, item: Numbered) -> Inserted<Numbered>;
+trait Call<M>: Copy {
+    fn put(self, map: &mut M, item: Numbered) -> Inserted<Numbered>;
 }
 
 #[derive(Clone, Copy)]
 struct ByUnique;
 
-impl<M: KeyedMap<Item = Numbered, Key = u32>> Call<M> for ByUnique {
-    fn put(self, map: &mut Tried<M>, item: Numbered) -> Inserted<Numbered> {
+impl<M: AskedToInsert<Numbered>> Call<M> for ByUnique {
+    fn put(self, map: &mut M, item: Numbered) -> Inserted<Numbered> {
         map.insert(item)
     }
 }
@@ -64,8 +58,8 @@ impl<M: KeyedMap<Item = Numbered, Key = u32>> Call<M> for ByUnique {
 #[derive(Clone, Copy)]
 struct ByCounted;
 
-impl Call<IdOrdMap<Numbered>> for ByCounted {
-    fn put(self, map: &mut Tried<IdOrdMap<Numbered>>, item: Numbered) -> Inserted<Numbered> {
+impl Call<Ordered<Numbered>> for ByCounted {
+    fn put(self, map: &mut Ordered<Numbered>, item: Numbered) -> Inserted<Numbered> {
         map.insert_counted(item).0
     }
 }
@@ -73,14 +67,14 @@ impl Call<IdOrdMap<Numbered>> for ByCounted {
 #[derive(Clone, Copy)]
 struct ByOverwrite;
 
-impl<M: KeyedMap<Item = Numbered, Key = u32>> Call<M> for ByOverwrite {
-    fn put(self, map: &mut Tried<M>, item: Numbered) -> Inserted<Numbered> {
+impl<M: AskedByKey<Item = Numbered, Key = u32>> Call<M> for ByOverwrite {
+    fn put(self, map: &mut M, item: Numbered) -> Inserted<Numbered> {
         overwrite(map, item)
     }
 }
 
-fn overwrite<M: KeyedMap<Item = Numbered, Key = u32>>(
-    map: &mut Tried<M>,
+fn overwrite<M: AskedByKey<Item = Numbered, Key = u32>>(
+    map: &mut M,
     item: Numbered,
 ) -> Inserted<Numbered> {
     match map.overwrite(item) {
@@ -91,16 +85,13 @@ fn overwrite<M: KeyedMap<Item = Numbered, Key = u32>>(
 }
 
 // Whether nothing has changed, the walk neither, and an item that was refused goes in now.
-fn goes_in_again<M: KeyedMap<Item = Numbered, Key = u32>>(
-    map: &mut Tried<M>,
+fn goes_in_again<M: AskedByKey<Item = Numbered, Key = u32> + AskedForRoom + Listed<Numbered>>(
+    map: &mut M,
     call: impl Call<M>,
     item: Numbered,
     count: u32,
     walk: &[Numbered],
-) -> bool
-where
-    Tried<M>: AskedForRoom + Listed<Numbered>,
-{
+) -> bool {
     holds(map, count, None)
         && map.lists(walk)
         && call.put(map, item) == Inserted::Done
@@ -108,16 +99,13 @@ where
 }
 
 // Fills the map with so many numbers, and then tries the insertion of a new one with a request refused: the word for what was seen.
-fn insertion<M: KeyedMap<Item = Numbered, Key = u32>>(
-    alloc: Global,
-    mut map: Tried<M>,
-    call: impl Call<M>,
-    count: u32,
-) -> Result<&'static str, Fail>
-where
-    M: Drop,
-    Tried<M>: AskedForRoom + Listed<Numbered>,
-{
+fn insertion<
+    M: AskedByKey<Item = Numbered, Key = u32>
+        + AskedToInsert<Numbered>
+        + AskedForRoom
+        + Listed<Numbered>
+        + Drop,
+>(alloc: Global, mut map: M, call: impl Call<M>, count: u32) -> Result<&'static str, Fail> {
     fill(&mut map, count)?;
     let walk = map.listed(alloc)?;
     let new = numbered(1000, 6);
@@ -182,14 +170,11 @@ fn hash_insert_overwrite(rt: HostRuntime) -> Result<(), Fail> {
 }
 
 // Fills the map with so many numbers, puts each in again by both insertions, and clears the map: whether that went well, and met a request.
-fn akin_insertions<M: KeyedMap<Item = Numbered, Key = u32>>(
+fn akin_insertions<M: AskedByKey<Item = Numbered, Key = u32> + AskedToInsert<Numbered> + Drop>(
     alloc: Global,
-    mut map: Tried<M>,
+    mut map: M,
     count: u32,
-) -> Result<(bool, bool), Fail>
-where
-    M: Drop,
-{
+) -> Result<(bool, bool), Fail> {
     fill(&mut map, count)?;
     arm(alloc);
     let mut is_well = true;
@@ -236,8 +221,8 @@ fn names(alloc: Global) -> Result<Vec<String>, AllocError> {
 }
 
 // Puts in an item of each name, its value the place of the name.
-fn fill_with_names<M: KeyedMap<Item = Titled>>(
-    map: &mut Tried<M>,
+fn fill_with_names<M: AskedByKey<Item = Titled>>(
+    map: &mut M,
     names: &[String],
 ) -> Result<(), AllocError> {
     for (value, name) in names.iter().enumerate() {
@@ -251,10 +236,10 @@ fn fill_with_names<M: KeyedMap<Item = Titled>>(
 }
 
 // Whether each name is found, and its item taken out then.
-fn are_taken_out<M: KeyedMap<Item = Titled>>(map: &mut Tried<M>, names: &[String]) -> bool
-where
-    Tried<M>: AskedByText<Item = Titled>,
-{
+fn are_taken_out<M: AskedByKey<Item = Titled> + AskedByText<Item = Titled>>(
+    map: &mut M,
+    names: &[String],
+) -> bool {
     for (value, name) in names.iter().enumerate() {
         if map.find(name).map(|item| item.value as usize) != Some(value) {
             return false;
@@ -269,15 +254,11 @@ where
 }
 
 // Fills the map with a hundred names, and then finds and takes out each: whether that went well, and met a request.
-fn lookups<M: KeyedMap<Item = Titled>>(
+fn lookups<M: AskedByKey<Item = Titled> + AskedByText<Item = Titled> + Drop>(
     alloc: Global,
     names: &[String],
-    mut map: Tried<M>,
-) -> Result<(bool, bool), AllocError>
-where
-    M: Drop,
-    Tried<M>: AskedByText<Item = Titled>,
-{
+    mut map: M,
+) -> Result<(bool, bool), AllocError> {
     fill_with_names(&mut map, names)?;
     arm(alloc);
     let is_well = are_taken_out(&mut map, names);

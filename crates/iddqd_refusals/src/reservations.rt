@@ -4,8 +4,8 @@ use crate::words::tell;
 use iddqd::{DefaultHashBuilder, IdHashMap};
 use iddqd_testing::heap::{arm, is_met};
 use iddqd_testing::items::Numbered;
-use iddqd_testing::tried::{AskedForRoom, Inserted, Tried};
-use iddqd_testing::visitors::Change;
+use iddqd_testing::tried::{AskedByKey, AskedForRoom, AskedToInsert, Hashed, Inserted};
+use iddqd_testing::visitors::{Change, Visited};
 use std::alloc::Global;
 use std::test::Fail;
 
@@ -14,12 +14,12 @@ fn numbered(number: u32) -> Numbered {
 }
 
 // Whether four items of new keys go in beside a removal and a write, and then a hundred times another takes the place of one.
-fn keeps_its_room(map: &mut Tried<IdHashMap<Numbered, DefaultHashBuilder>>) -> bool {
+fn keeps_its_room(map: &mut Hashed<Numbered, DefaultHashBuilder>) -> bool {
     let [a, b, c, d] = [1, 2, 3, 4].map(|number| numbered(number));
     let mut is_kept = map.insert(a) == Inserted::Done
         && map.insert(b) == Inserted::Done
         && map.remove(&1) == Some(a)
-        && map.visit(&2, &mut Change::DenyAll) == Some(false)
+        && map.visit(2, &mut Change::DenyAll) == Some(false)
         && map.insert(c) == Inserted::Done
         && map.insert(d) == Inserted::Done;
     for number in 4..104 {
@@ -31,7 +31,7 @@ fn keeps_its_room(map: &mut Tried<IdHashMap<Numbered, DefaultHashBuilder>>) -> b
 }
 
 // The spare at which a new key was refused; `None` where a hundred went in.
-fn spare_at_refusal(map: &mut Tried<IdHashMap<Numbered, DefaultHashBuilder>>) -> Option<usize> {
+fn spare_at_refusal(map: &mut Hashed<Numbered, DefaultHashBuilder>) -> Option<usize> {
     for number in 200..300 {
         let spare = map.room();
         if map.insert(numbered(number)) != Inserted::Done {
@@ -44,7 +44,7 @@ fn spare_at_refusal(map: &mut Tried<IdHashMap<Numbered, DefaultHashBuilder>>) ->
 // The word for what was seen on a map that was told to make room for three.
 fn reservation(
     alloc: Global,
-    mut map: Tried<IdHashMap<Numbered, DefaultHashBuilder>>,
+    mut map: Hashed<Numbered, DefaultHashBuilder>,
 ) -> Result<&'static str, Fail> {
     arm(alloc);
     let is_kept = keeps_its_room(&mut map);
@@ -62,7 +62,7 @@ fn reservation_holds(rt: HostRuntime) -> Result<(), Fail> {
     let mut map = IdHashMap::new(rt.alloc());
     let is_reserved = map.reserve(3).is_ok();
     check(&rt, is_reserved);
-    tell(&rt, reservation(rt.alloc(), Tried::new(map)))
+    tell(&rt, reservation(rt.alloc(), Hashed::new(map)))
 }
 
 #[test]
@@ -70,5 +70,5 @@ fn tried_reservation_holds(rt: HostRuntime) -> Result<(), Fail> {
     let mut map = IdHashMap::new(rt.alloc());
     let is_reserved = map.try_reserve(3).is_ok();
     check(&rt, is_reserved);
-    tell(&rt, reservation(rt.alloc(), Tried::new(map)))
+    tell(&rt, reservation(rt.alloc(), Hashed::new(map)))
 }

@@ -1,31 +1,26 @@
 //! Reservations, shrinking and calls on many items that are refused, on both maps.
 use crate::maps::{fill, holds};
 use crate::words::tell;
-use iddqd::IdHashMap;
 use iddqd::errors::{ExtendError, TryReserveError};
-use iddqd_commands::KeyedMap;
 use iddqd_testing::bulk::{Added, Adding, Bulk};
 use iddqd_testing::heap::{arm, is_met};
 use iddqd_testing::items::Numbered;
 use iddqd_testing::nine::{are_left, retain_nine};
-use iddqd_testing::tried::{AskedForRoom, Tried, by_hash, in_order};
+use iddqd_testing::tried::{AskedByKey, AskedForRoom, AskedToInsert, Hashed, by_hash, in_order};
 use iddqd_testing::walked::{Listed, Walked};
 use std::alloc::{AllocError, Global};
 use std::test::Fail;
 
 // A reservation that is tried.
-trait Reserving<M: KeyedMap>: Copy {
-    fn reserve(self, map: &mut Tried<M>) -> Result<(), TryReserveError>;
+trait Reserving<M>: Copy {
+    fn reserve(self, map: &mut M) -> Result<(), TryReserveError>;
 }
 
 #[derive(Clone, Copy)]
 struct ByReserve;
 
-impl<M: KeyedMap> Reserving<M> for ByReserve
-where
-    Tried<M>: AskedForRoom,
-{
-    fn reserve(self, map: &mut Tried<M>) -> Result<(), TryReserveError> {
+impl<M: AskedForRoom> Reserving<M> for ByReserve {
+    fn reserve(self, map: &mut M) -> Result<(), TryReserveError> {
         map.reserve(1000)
     }
 }
@@ -33,21 +28,20 @@ where
 #[derive(Clone, Copy)]
 struct ByTryReserve;
 
-impl Reserving<IdHashMap<Numbered>> for ByTryReserve {
-    fn reserve(self, map: &mut Tried<IdHashMap<Numbered>>) -> Result<(), TryReserveError> {
+impl Reserving<Hashed<Numbered>> for ByTryReserve {
+    fn reserve(self, map: &mut Hashed<Numbered>) -> Result<(), TryReserveError> {
         map.reserve_or_tell(1000)
     }
 }
 
 // The word for a reservation on a map of four numbers.
-fn reservation<M: KeyedMap<Item = Numbered, Key = u32> + Drop>(
-    alloc: Global,
-    mut map: Tried<M>,
-    call: impl Reserving<M>,
-) -> Result<&'static str, Fail>
-where
-    Tried<M>: AskedForRoom + Listed<Numbered>,
-{
+fn reservation<
+    M: AskedByKey<Item = Numbered, Key = u32>
+        + AskedToInsert<Numbered>
+        + AskedForRoom
+        + Listed<Numbered>
+        + Drop,
+>(alloc: Global, mut map: M, call: impl Reserving<M>) -> Result<&'static str, Fail> {
     fill(&mut map, 4)?;
     let walk = map.listed(alloc)?;
     let room = map.room();
@@ -84,10 +78,7 @@ fn hash_try_reserve(rt: HostRuntime) -> Result<(), Fail> {
 }
 
 // The least room that a shrink leaves; `None` asks for no more than the items need.
-fn shrink_by<M: KeyedMap>(map: &mut Tried<M>, min: Option<usize>) -> Result<(), TryReserveError>
-where
-    Tried<M>: AskedForRoom,
-{
+fn shrink_by<M: AskedForRoom>(map: &mut M, min: Option<usize>) -> Result<(), TryReserveError> {
     match min {
         None => map.shrink_to_fit(),
         Some(min) => map.shrink_to(min),
@@ -95,14 +86,11 @@ where
 }
 
 // The word for a shrink of a map of nine numbers, with vacant slots among them.
-fn shrink<M: KeyedMap<Item = Numbered, Key = u32> + Drop>(
+fn shrink<M: AskedByKey<Item = Numbered, Key = u32> + AskedForRoom + Walked<Numbered> + Drop>(
     alloc: Global,
-    mut map: Tried<M>,
+    mut map: M,
     min: Option<usize>,
-) -> Result<&'static str, Fail>
-where
-    Tried<M>: AskedForRoom + Walked<Numbered>,
-{
+) -> Result<&'static str, Fail> {
     if !retain_nine(&mut map) {
         return Err(Fail::from("an item is not in"));
     }
@@ -151,13 +139,13 @@ pub(crate) fn numbers(alloc: Global, from: u32, to: u32) -> Result<Vec<Numbered>
 }
 
 // The word for the numbers 5 to 24 put into a map of five numbers.
-fn extension<M: KeyedMap<Item = Numbered, Key = u32> + Drop>(
-    alloc: Global,
-    mut map: Tried<M>,
-) -> Result<&'static str, Fail>
-where
-    Tried<M>: AskedForRoom + Bulk<Numbered>,
-{
+fn extension<
+    M: AskedByKey<Item = Numbered, Key = u32>
+        + AskedToInsert<Numbered>
+        + AskedForRoom
+        + Bulk<Numbered>
+        + Drop,
+>(alloc: Global, mut map: M) -> Result<&'static str, Fail> {
     fill(&mut map, 5)?;
     let items = numbers(alloc, 5, 25)?;
     arm(alloc);
@@ -185,13 +173,13 @@ fn hash_extend(rt: HostRuntime) -> Result<(), Fail> {
 }
 
 // The word for the numbers 5 to 24 added to a map of five numbers.
-fn addition<M: KeyedMap<Item = Numbered, Key = u32> + Drop>(
-    alloc: Global,
-    mut map: Tried<M>,
-) -> Result<&'static str, Fail>
-where
-    Tried<M>: Adding<Numbered> + AskedForRoom,
-{
+fn addition<
+    M: AskedByKey<Item = Numbered, Key = u32>
+        + AskedToInsert<Numbered>
+        + Adding<Numbered>
+        + AskedForRoom
+        + Drop,
+>(alloc: Global, mut map: M) -> Result<&'static str, Fail> {
     fill(&mut map, 5)?;
     let items = numbers(alloc, 5, 25)?;
     arm(alloc);

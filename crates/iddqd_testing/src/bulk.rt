@@ -3,10 +3,9 @@ ghost use Rattle.std.specs.Iterator.{IsFiniteIterable};
 ghost use Rattle.iddqd.specs.Contents.{Ascends};
 
 use crate::items::Named;
-use crate::tried::{Tried, both};
+use crate::tried::{AskedByKey, Hashed, Ordered, both};
 use iddqd::errors::{ExtendError, ExtendUniqueError, FromIterError, TryReserveError};
 use iddqd::{IdHashItem, IdHashMap, IdOrdItem, IdOrdMap, Lookups};
-use iddqd_commands::KeyedMap;
 use std::alloc::Global;
 use std::hash::BuildHasher;
 
@@ -41,22 +40,22 @@ pub trait Bulk<T>: Sized {
         requires ends { IsFiniteIterable U.into_iter_gives U.IntoIter.can_next U.IntoIter.remaining items };
 }
 
-impl<T: IdOrdItem> Bulk<T> for Tried<IdOrdMap<T>> {
-    fn collected(alloc: Global, items: Vec<T>) -> Result<Tried<IdOrdMap<T>>, TryReserveError>
+impl<T: IdOrdItem> Bulk<T> for Ordered<T> {
+    fn collected(alloc: Global, items: Vec<T>) -> Result<Ordered<T>, TryReserveError>
     where
         T: Drop,
     {
-        Ok(Tried::new(IdOrdMap::from_iter(alloc, items)?))
+        Ok(Ordered::new(IdOrdMap::from_iter(alloc, items)?))
     }
 
     fn collected_unique<U: IntoIterator<Item = T>>(
         alloc: Global,
         items: U,
-    ) -> Result<Tried<IdOrdMap<T>>, FromIterError<T>>
+    ) -> Result<Ordered<T>, FromIterError<T>>
     where
         T: Drop,
     {
-        Ok(Tried::new(IdOrdMap::from_iter_unique(alloc, items)?))
+        Ok(Ordered::new(IdOrdMap::from_iter_unique(alloc, items)?))
     }
 
     fn extend<U: IntoIterator<Item = T>>(&mut self, items: U) -> Result<(), ExtendError<T>>
@@ -67,22 +66,22 @@ impl<T: IdOrdItem> Bulk<T> for Tried<IdOrdMap<T>> {
     }
 }
 
-impl<T: IdHashItem, S: BuildHasher + Default + Drop> Bulk<T> for Tried<IdHashMap<T, S>> {
-    fn collected(alloc: Global, items: Vec<T>) -> Result<Tried<IdHashMap<T, S>>, TryReserveError>
+impl<T: IdHashItem, S: BuildHasher + Default + Drop> Bulk<T> for Hashed<T, S> {
+    fn collected(alloc: Global, items: Vec<T>) -> Result<Hashed<T, S>, TryReserveError>
     where
         T: Drop,
     {
-        Ok(Tried::new(IdHashMap::from_iter(alloc, items)?))
+        Ok(Hashed::new(IdHashMap::from_iter(alloc, items)?))
     }
 
     fn collected_unique<U: IntoIterator<Item = T>>(
         alloc: Global,
         items: U,
-    ) -> Result<Tried<IdHashMap<T, S>>, FromIterError<T>>
+    ) -> Result<Hashed<T, S>, FromIterError<T>>
     where
         T: Drop,
     {
-        Ok(Tried::new(IdHashMap::from_iter_unique(alloc, items)?))
+        Ok(Hashed::new(IdHashMap::from_iter_unique(alloc, items)?))
     }
 
     fn extend<U: IntoIterator<Item = T>>(&mut self, items: U) -> Result<(), ExtendError<T>>
@@ -100,13 +99,13 @@ pub trait Adding<T>: Sized {
         requires ends { IsFiniteIterable U.into_iter_gives U.IntoIter.can_next U.IntoIter.remaining items };
 }
 
-impl<T: IdOrdItem + Copy + Drop> Adding<T> for Tried<IdOrdMap<T>> {
+impl<T: IdOrdItem + Copy + Drop> Adding<T> for Ordered<T> {
     fn add_each<U: IntoIterator<Item = T>>(&mut self, items: U) -> Added<T> {
         add_in_order(&mut self.map, items)
     }
 }
 
-impl<T: IdHashItem + Copy + Drop> Adding<T> for Tried<IdHashMap<T>> {
+impl<T: IdHashItem + Copy + Drop> Adding<T> for Hashed<T> {
     fn add_each<U: IntoIterator<Item = T>>(&mut self, items: U) -> Added<T> {
         add_by_hash(&mut self.map, items)
     }
@@ -193,10 +192,7 @@ impl Iterator for Liar {
 }
 
 /// Whether the map refuses what a liar announces before it asks it.
-pub fn is_not_taken_in<M: KeyedMap<Item = Named>>(map: &mut Tried<M>) -> bool
-where
-    Tried<M>: Bulk<Named>,
-{
+pub fn is_not_taken_in<M: Bulk<Named>>(map: &mut M) -> bool {
     let mut liar = Liar::new();
     let refused = match map.extend(&mut liar) {
         Ok(()) => false,

@@ -3,11 +3,11 @@ ghost use Rattle.std.specs.Prelude.{IfOk};
 ghost use Rattle.iddqd.specs.Contents.{ClonesKeepKeys};
 
 use crate::items::Named;
-use crate::tried::Tried;
+use crate::tried::{Hashed, Ordered};
 use iddqd::errors::TryReserveError;
 use iddqd::{IdHashItem, IdHashMap, IdOrdItem, IdOrdMap, Lookups};
 
-impl<T: IdOrdItem + Clone> Tried<IdOrdMap<T>> {
+impl<T: IdOrdItem + Clone> Ordered<T> {
     /// `clone`.
     pub fn copied(&self) -> Result<IdOrdMap<T>, TryReserveError>
         requires keeps_keys { ClonesKeepKeys T.key T.Key.eq T.is_clone }
@@ -16,7 +16,7 @@ impl<T: IdOrdItem + Clone> Tried<IdOrdMap<T>> {
     }
 }
 
-impl<T: IdHashItem + Clone> Tried<IdHashMap<T>> {
+impl<T: IdHashItem + Clone> Hashed<T> {
     /// `clone`.
     pub fn copied(&self) -> Result<IdHashMap<T>, TryReserveError>
         requires keeps_keys { ClonesKeepKeys T.key T.Key.eq T.is_clone }
@@ -39,12 +39,12 @@ pub trait Twin: Sized {
     fn differs_from_written_twin(&self, name: [u8; 3], value: u32) -> Option<bool>;
 }
 
-impl Twin for Tried<IdOrdMap<Named>> {
-    fn twin(&self) -> Result<Tried<IdOrdMap<Named>>, TryReserveError> {
-        Ok(Tried::new(self.map.clone()?))
+impl Twin for Ordered<Named> {
+    fn twin(&self) -> Result<Ordered<Named>, TryReserveError> {
+        Ok(Ordered::new(self.map.clone()?))
     }
 
-    fn is_like(&self, other: &Tried<IdOrdMap<Named>>) -> bool {
+    fn is_like(&self, other: &Ordered<Named>) -> bool {
         self.map == other.map
     }
 
@@ -57,12 +57,12 @@ impl Twin for Tried<IdOrdMap<Named>> {
     }
 }
 
-impl Twin for Tried<IdHashMap<Named>> {
-    fn twin(&self) -> Result<Tried<IdHashMap<Named>>, TryReserveError> {
-        Ok(Tried::new(self.map.clone()?))
+impl Twin for Hashed<Named> {
+    fn twin(&self) -> Result<Hashed<Named>, TryReserveError> {
+        Ok(Hashed::new(self.map.clone()?))
     }
 
-    fn is_like(&self, other: &Tried<IdHashMap<Named>>) -> bool {
+    fn is_like(&self, other: &Hashed<Named>) -> bool {
         self.map.eq(&other.map)
     }
 

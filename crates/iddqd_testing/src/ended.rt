@@ -3,12 +3,12 @@ ghost use Rattle.iddqd.specs.Contents.{Ascends};
 
 use crate::caseless::{Caseless, Coarse};
 use crate::entered::Put;
-use crate::tried::{Inserted, Tried, both};
+use crate::tried::{AskedByKey, Inserted, Ordered, both};
 use iddqd::errors::InsertError;
 use iddqd::id_ord_map::Entry;
 use iddqd::{IdOrdItem, IdOrdMap, Steps};
 
-impl Tried<IdOrdMap<Coarse>> {
+impl Ordered<Coarse> {
     /// `first`.
     pub fn first(&self) -> Option<Coarse> {
         self.map.first().copied()
@@ -77,7 +77,7 @@ impl Tried<IdOrdMap<Coarse>> {
     }
 }
 
-impl<T: IdOrdItem + Copy> Tried<IdOrdMap<T>> {
+impl<T: IdOrdItem + Copy> Ordered<T> {
     /// `insert_unique_counted`, with what is lent copied, and how many comparisons it took.
     pub fn insert_counted(&mut self, item: T) -> (Inserted<T>, u32) {
         let mut steps = Steps::new();

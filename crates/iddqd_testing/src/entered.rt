@@ -3,9 +3,9 @@ mod hash;
 mod ord;
 
 use crate::caseless::{Caseless, Coarse};
-use crate::tried::Tried;
+use crate::tried::{Hashed, Ordered};
+use iddqd::Visit;
 use iddqd::errors::TryReserveError;
-use iddqd::{IdHashMap, IdOrdMap, Visit};
 use std::hash::BuildHasher;
 
 /// Doubles the value, and answers false.
@@ -87,7 +87,7 @@ pub trait Entered {
     fn insert_and_write(&mut self, item: Coarse, value: u32) -> bool;
 }
 
-impl Entered for Tried<IdOrdMap<Coarse>> {
+impl Entered for Ordered<Coarse> {
     fn put_vacant(&mut self, asked: [u8; 3], item: Coarse) -> Put {
         ord::put_vacant(&mut self.map, &Caseless(asked), item)
     }
@@ -117,7 +117,7 @@ impl Entered for Tried<IdOrdMap<Coarse>> {
     }
 }
 
-impl<S: BuildHasher> Entered for Tried<IdHashMap<Coarse, S>> {
+impl<S: BuildHasher> Entered for Hashed<Coarse, S> {
     fn put_vacant(&mut self, asked: [u8; 3], item: Coarse) -> Put {
         hash::put_vacant(&mut self.map, &Caseless(asked), item)
     }

@@ -1,7 +1,6 @@
 //! What a row asks of the guards of a map of either kind.
 use crate::items::Numbered;
-use crate::tried::Tried;
-use iddqd::{IdHashMap, IdOrdMap};
+use crate::tried::{Hashed, Ordered};
 
 /// A map of either kind, by its guards. Each call answers `None` where no item has the number, or where memory was refused.
 pub trait Lent {
@@ -12,7 +11,7 @@ pub trait Lent {
     fn spend_unwritten(self, number: u32) -> Option<bool>;
 }
 
-impl Lent for Tried<IdOrdMap<Numbered>> {
+impl Lent for Ordered<Numbered> {
     fn write_by_reborrow(self, number: u32, value: u32) -> Option<(u32, u32)> {
         let mut map = self.map;
         let mut outer = map.get_mut(&number)?;
@@ -31,7 +30,7 @@ impl Lent for Tried<IdOrdMap<Numbered>> {
     }
 }
 
-impl Lent for Tried<IdHashMap<Numbered>> {
+impl Lent for Hashed<Numbered> {
     fn write_by_reborrow(self, number: u32, value: u32) -> Option<(u32, u32)> {
         let mut map = self.map;
         let mut outer = map.get_mut(&number)?;

@@ -1,8 +1,7 @@
 //! Nine items that are left of twenty-five, with vacant slots among them.
 use crate::items::Numbered;
-use crate::tried::Tried;
+use crate::tried::AskedByKey;
 use crate::walked::Walked;
-use iddqd_commands::KeyedMap;
 
 const IDS: [u32; 25] = [
     0, 17, 1, 12, 5, 21, 8, 10, 18, 4, 16, 22, 9, 24, 23, 13, 7, 25, 26, 20, 31, 11, 14, 2, 6,
@@ -19,10 +18,9 @@ fn of_id(id: u32) -> Numbered {
 }
 
 /// Puts in the twenty-five, and retains the odd ones that three does not divide: whether each went in.
-pub fn retain_nine<M: KeyedMap<Item = Numbered, Key = u32>>(map: &mut Tried<M>) -> bool
-where
-    Tried<M>: Walked<Numbered>,
-{
+pub fn retain_nine<M: AskedByKey<Item = Numbered, Key = u32> + Walked<Numbered>>(
+    map: &mut M,
+) -> bool {
     for id in IDS {
         if !map.is_put(of_id(id)) {
             return false;
@@ -33,7 +31,7 @@ where
 }
 
 /// Whether the nine are there, and no others.
-pub fn are_left<M: KeyedMap<Item = Numbered, Key = u32>>(map: &Tried<M>) -> bool {
+pub fn are_left<M: AskedByKey<Item = Numbered, Key = u32>>(map: &M) -> bool {
     for id in LEFT {
         if map.get(&id) != Some(&of_id(id)) {
             return false;

@@ -4,10 +4,10 @@ mod ord;
 
 use crate::caseless::{Caseless, Coarse};
 use crate::hashers::ZeroHasher;
-use crate::tried::Tried;
+use crate::tried::{AskedByKey, Hashed, Ordered};
+use iddqd::Steps;
 use iddqd::errors::{ExtendError, TryReserveError};
 use iddqd::internal::ValidateCompact;
-use iddqd::{IdHashMap, IdOrdMap, Steps};
 use std::alloc::{AllocError, Global};
 use std::collections::hash_map::RandomState;
 use std::hash::{BuildHasher, BuildHasherDefault};
@@ -54,7 +54,7 @@ pub trait Probed: Sized {
     fn remove_by_entry(&mut self, name: &Caseless) -> Option<Coarse>;
 }
 
-impl Probed for Tried<IdOrdMap<Coarse>> {
+impl Probed for Ordered<Coarse> {
     fn limit(&self) -> u32 {
         self.map.limit()
     }
@@ -98,7 +98,7 @@ impl Probed for Tried<IdOrdMap<Coarse>> {
         Ok(items)
     }
 
-    fn equals(&self, other: &Tried<IdOrdMap<Coarse>>) -> bool {
+    fn equals(&self, other: &Ordered<Coarse>) -> bool {
         self.map == other.map
     }
 
@@ -123,7 +123,7 @@ impl Probed for Tried<IdOrdMap<Coarse>> {
     }
 }
 
-impl<S: BuildHasher + Drop> Probed for Tried<IdHashMap<Coarse, S>> {
+impl<S: BuildHasher + Drop> Probed for Hashed<Coarse, S> {
     fn limit(&self) -> u32 {
         self.map.limit()
     }
@@ -167,7 +167,7 @@ impl<S: BuildHasher + Drop> Probed for Tried<IdHashMap<Coarse, S>> {
         Ok(items)
     }
 
-    fn equals(&self, other: &Tried<IdHashMap<Coarse, S>>) -> bool {
+    fn equals(&self, other: &Hashed<Coarse, S>) -> bool {
         self.map.eq(&other.map)
     }
 
@@ -198,28 +198,26 @@ pub trait Copied: Sized {
     fn copied(&self) -> Result<Self, TryReserveError>;
 }
 
-impl Copied for Tried<IdOrdMap<Coarse>> {
-    fn copied(&self) -> Result<Tried<IdOrdMap<Coarse>>, TryReserveError> {
-        Ok(Tried::new(self.map.clone()?))
+impl Copied for Ordered<Coarse> {
+    fn copied(&self) -> Result<Ordered<Coarse>, TryReserveError> {
+        Ok(Ordered::new(self.map.clone()?))
     }
 }
 
-impl Copied for Tried<IdHashMap<Coarse>> {
-    fn copied(&self) -> Result<Tried<IdHashMap<Coarse>>, TryReserveError> {
-        Ok(Tried::new(self.map.clone()?))
+impl Copied for Hashed<Coarse> {
+    fn copied(&self) -> Result<Hashed<Coarse>, TryReserveError> {
+        Ok(Hashed::new(self.map.clone()?))
     }
 }
 
-impl Copied for Tried<IdHashMap<Coarse, BuildHasherDefault<ZeroHasher>>> {
-    fn copied(
-        &self,
-    ) -> Result<Tried<IdHashMap<Coarse, BuildHasherDefault<ZeroHasher>>>, TryReserveError> {
-        Ok(Tried::new(self.map.clone()?))
+impl Copied for Hashed<Coarse, BuildHasherDefault<ZeroHasher>> {
+    fn copied(&self) -> Result<Hashed<Coarse, BuildHasherDefault<ZeroHasher>>, TryReserveError> {
+        Ok(Hashed::new(self.map.clone()?))
     }
 }
 
-impl Copied for Tried<IdHashMap<Coarse, RandomState>> {
-    fn copied(&self) -> Result<Tried<IdHashMap<Coarse, RandomState>>, TryReserveError> {
-        Ok(Tried::new(self.map.clone()?))
+impl Copied for Hashed<Coarse, RandomState> {
+    fn copied(&self) -> Result<Hashed<Coarse, RandomState>, TryReserveError> {
+        Ok(Hashed::new(self.map.clone()?))
     }
 }

@@ -1,7 +1,7 @@
 //! Items written whole in the place of others of an equal key, which is spelled in another way.
 use crate::caseless::{Caseless, Coarse};
-use crate::tried::Tried;
-use iddqd::{IdHashMap, IdOrdMap, Visit, id_hash_map, id_ord_map};
+use crate::tried::{AskedByKey, Hashed, Ordered};
+use iddqd::{Visit, id_hash_map, id_ord_map};
 use iddqd_coarse::writes::{hash_put, put};
 use std::hash::BuildHasher;
 
@@ -35,7 +35,7 @@ pub trait Respelled {
     fn respell_by_visitor(&mut self, item: Coarse);
 }
 
-impl Respelled for Tried<IdOrdMap<Coarse>> {
+impl Respelled for Ordered<Coarse> {
     fn respell_by_guard(&mut self, asked: &Caseless, item: Coarse) -> bool {
         if !matches!(self.map.get(asked), Some(found) if found.name == item.name) {
             return false;
@@ -58,7 +58,7 @@ impl Respelled for Tried<IdOrdMap<Coarse>> {
     }
 }
 
-impl<S: BuildHasher> Respelled for Tried<IdHashMap<Coarse, S>> {
+impl<S: BuildHasher> Respelled for Hashed<Coarse, S> {
     fn respell_by_guard(&mut self, asked: &Caseless, item: Coarse) -> bool {
         if !matches!(self.map.get(asked), Some(found) if found.name == item.name) {
             return false;

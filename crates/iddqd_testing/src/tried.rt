@@ -1,11 +1,14 @@
-//! A map under test.
-ghost use Rattle.iddqd.specs.Contents.{ClonesAreEqual};
-ghost use Rattle.iddqd.specs.Visiting.{VisitsKeepKeys};
+//! Maps under test, one of each kind. Their calls are the maps', and say nothing of what they leave: a test shows that by what it
+//! finds, so that its proof carries no contract of the maps along.
+ghost use Rattle.iddqd.specs.Contents.{Ascends, ClonesAreEqual};
+ghost use Rattle.iddqd.specs.HashItems.{HashItems, Keyed};
+ghost use Rattle.iddqd.specs.Hashing.{hash_under};
+ghost use Rattle.iddqd.specs.Holding.{Holding};
 
 use crate::visitors::Untouched;
 use iddqd::errors::{DuplicateItem, InsertError, Refused, TryReserveError};
 use iddqd::internal::ValidateCompact;
-use iddqd::{IdHashItem, IdHashMap, IdOrdItem, IdOrdMap, Text, Visit};
+use iddqd::{DefaultHashBuilder, IdHashItem, IdHashMap, IdOrdItem, IdOrdMap, Lookups, Text};
 use iddqd_commands::{Command, KeyedMap, Reply, RunStop, run};
 use std::alloc::Global;
 use std::hash::BuildHasher;
@@ -28,49 +31,188 @@ pub(crate) fn both<T: Copy>(duplicate: &DuplicateItem<T, &T>) -> (T, Option<T>) 
     (*duplicate.new_item(), there)
 }
 
-/// A keyed map of either kind. Its calls are the map's, and say nothing of what they leave: a test shows that by what it
-/// finds, so that its proof carries no contract of the map along.
+/// An ordered map under test. It is keyed.
 #[derive(Drop)]
-pub struct Tried<M: KeyedMap> {
-    pub(crate) map: M,
+pub struct Ordered<T: IdOrdItem> {
+    pub(crate) map: IdOrdMap<T>,
 }
 
-impl<M: KeyedMap> Model for Tried<M> {
-    ghost Value = { M };
+impl<T: IdOrdItem> Model for Ordered<T> {
+    ghost Value = { Holding T };
 
-    ghost view = { λ tried. tried.map };
+    ghost view = { λ ordered. ordered.map };
 
-    ghost invariant = { λ tried. M.keyed tried.map };
+    ghost invariant = { λ ordered. Ascends T.key T.Key.cmp ordered.map.items };
+}
+
+/// A hash map under test. It is keyed.
+#[derive(Drop)]
+pub struct Hashed<T: IdHashItem, S: BuildHasher = DefaultHashBuilder> {
+    pub(crate) map: IdHashMap<T, S>,
+}
+
+impl<T: IdHashItem, S: BuildHasher> Model for Hashed<T, S> {
+    ghost Value = { HashItems S T };
+
+    ghost view = { λ hashed. hashed.map };
+
+    ghost invariant = { λ hashed. Keyed T.key T.Key.eq T.Key.hash_input (hash_under S.BuildHasher S.Hasher.Hasher) hashed.map };
 }
 
 /// An empty ordered map, under test.
-pub fn in_order<T: IdOrdItem>(alloc: Global) -> Tried<IdOrdMap<T>> {
-    Tried::new(IdOrdMap::new(alloc))
+pub fn in_order<T: IdOrdItem>(alloc: Global) -> Ordered<T> {
+    Ordered::new(IdOrdMap::new(alloc))
 }
 
 /// An empty hash map, under test.
-pub fn by_hash<T: IdHashItem>(alloc: Global) -> Tried<IdHashMap<T>> {
-    Tried::new(IdHashMap::new(alloc))
+pub fn by_hash<T: IdHashItem>(alloc: Global) -> Hashed<T> {
+    Hashed::new(IdHashMap::new(alloc))
 }
 
-impl<M: KeyedMap> Tried<M> {
+impl<T: IdOrdItem> Ordered<T> {
     /// The map, under test.
-    pub fn new(map: M) -> Tried<M>
-        requires { M.keyed map }
+    pub fn new(map: IdOrdMap<T>) -> Ordered<T>
+        requires keyed { Ascends T.key T.Key.cmp map.items }
     {
-        Tried { map }
+        Ordered { map }
     }
 
     /// The map, for calls that take any.
-    pub fn map(&self) -> &M {
+    pub fn map(&self) -> &IdOrdMap<T> {
+        &self.map
+    }
+}
+
+impl<T: IdHashItem, S: BuildHasher> Hashed<T, S> {
+    /// The map, under test.
+    pub fn new(map: IdHashMap<T, S>) -> Hashed<T, S>
+        requires keyed { ⟦<IdHashMap<T, S> as Lookups>⟧.keyed map }
+    {
+        Hashed { map }
+    }
+
+    /// The map, for calls that take any.
+    pub fn map(&self) -> &IdHashMap<T, S> {
         &self.map
     }
 
-    /// `insert_unique`, with what is lent copied.
-    pub fn insert(&mut self, item: M::Item) -> Inserted<M::Item>
+    /// `try_reserve`, which an ordered map lacks.
+    pub fn reserve_or_tell(&mut self, additional: usize) -> Result<(), TryReserveError> {
+        self.map.try_reserve(additional)
+    }
+}
+
+/// What a row asks of a map of either kind by keys.
+pub trait AskedByKey {
+    /// What the map holds.
+    type Item;
+
+    /// What tells an item from others.
+    type Key;
+
+    /// Whether the item goes in where no item of its key is there.
+    fn is_put(&mut self, item: Self::Item) -> bool
     where
-        M::Item: Copy,
+        Self::Item: Drop;
+
+    /// `insert_overwrite`.
+    fn overwrite(&mut self, item: Self::Item) -> Result<Option<Self::Item>, Refused<Self::Item>>;
+
+    /// The item of the key.
+    fn get(&self, key: &Self::Key) -> Option<&Self::Item>;
+
+    /// Takes out the item of the key.
+    fn remove(&mut self, key: &Self::Key) -> Option<Self::Item>;
+
+    /// Drops every item.
+    fn clear(&mut self)
+    where
+        Self::Item: Drop;
+
+    /// How many items there are.
+    fn len(&self) -> usize;
+}
+
+impl<T: IdOrdItem> AskedByKey for Ordered<T> {
+    type Item = T;
+
+    type Key = T::Key;
+
+    fn is_put(&mut self, item: T) -> bool
+    where
+        T: Drop,
     {
+        self.map.insert_unique(item).is_ok()
+    }
+
+    fn overwrite(&mut self, item: T) -> Result<Option<T>, Refused<T>> {
+        self.map.insert_overwrite(item)
+    }
+
+    fn get(&self, key: &T::Key) -> Option<&T> {
+        self.map.get(key)
+    }
+
+    fn remove(&mut self, key: &T::Key) -> Option<T> {
+        self.map.remove(key)
+    }
+
+    fn clear(&mut self)
+    where
+        T: Drop,
+    {
+        self.map.clear()
+    }
+
+    fn len(&self) -> usize {
+        self.map.len()
+    }
+}
+
+impl<T: IdHashItem, S: BuildHasher> AskedByKey for Hashed<T, S> {
+    type Item = T;
+
+    type Key = T::Key;
+
+    fn is_put(&mut self, item: T) -> bool
+    where
+        T: Drop,
+    {
+        self.map.insert_unique(item).is_ok()
+    }
+
+    fn overwrite(&mut self, item: T) -> Result<Option<T>, Refused<T>> {
+        self.map.insert_overwrite(item)
+    }
+
+    fn get(&self, key: &T::Key) -> Option<&T> {
+        self.map.get(key)
+    }
+
+    fn remove(&mut self, key: &T::Key) -> Option<T> {
+        self.map.remove(key)
+    }
+
+    fn clear(&mut self)
+    where
+        T: Drop,
+    {
+        self.map.clear()
+    }
+
+    fn len(&self) -> usize {
+        self.map.len()
+    }
+}
+
+/// What a row asks of a map of either kind that takes items.
+pub trait AskedToInsert<T> {
+    /// `insert_unique`, with what is lent copied.
+    fn insert(&mut self, item: T) -> Inserted<T>;
+}
+
+impl<T: IdOrdItem + Copy> AskedToInsert<T> for Ordered<T> {
+    fn insert(&mut self, item: T) -> Inserted<T> {
         match self.map.insert_unique(item) {
             Ok(()) => Inserted::Done,
             Err(InsertError::Duplicate(duplicate)) => {
@@ -80,84 +222,57 @@ impl<M: KeyedMap> Tried<M> {
             Err(InsertError::Refused(refused)) => Inserted::Refused(refused.item, refused.error),
         }
     }
+}
 
-    /// Whether the item goes in where no item of its key is there.
-    pub fn is_put(&mut self, item: M::Item) -> bool
-    where
-        M::Item: Drop,
-    {
-        self.map.insert_unique(item).is_ok()
+impl<T: IdHashItem + Copy, S: BuildHasher> AskedToInsert<T> for Hashed<T, S> {
+    fn insert(&mut self, item: T) -> Inserted<T> {
+        match self.map.insert_unique(item) {
+            Ok(()) => Inserted::Done,
+            Err(InsertError::Duplicate(duplicate)) => {
+                let (new, there) = both(&duplicate);
+                Inserted::Duplicate(new, there)
+            }
+            Err(InsertError::Refused(refused)) => Inserted::Refused(refused.item, refused.error),
+        }
     }
+}
 
-    /// `insert_overwrite`.
-    pub fn overwrite(&mut self, item: M::Item) -> Result<Option<M::Item>, Refused<M::Item>> {
-        self.map.insert_overwrite(item)
-    }
-
-    /// The item of the key.
-    pub fn get(&self, key: &M::Key) -> Option<&M::Item> {
-        self.map.get(key)
-    }
-
-    /// Takes out the item of the key.
-    pub fn remove(&mut self, key: &M::Key) -> Option<M::Item> {
-        self.map.remove(key)
-    }
-
-    /// Drops every item.
-    pub fn clear(&mut self)
-    where
-        M::Item: Drop,
-    {
-        self.map.clear()
-    }
-
-    /// How many items there are.
-    pub fn len(&self) -> usize {
-        self.map.len()
-    }
-
-    /// `visit`.
-    pub fn visit<V: Visit<M::Item>>(&mut self, key: &M::Key, visitor: &mut V) -> Option<bool>
-        requires keeps_keys { VisitsKeepKeys M.key M.Key.eq V.visits }
-    {
-        self.map.visit(key, visitor)
-    }
-
-    /// `retain_mut`.
-    pub fn retain_mut<V: Visit<M::Item>>(&mut self, visitor: &mut V)
-    where
-        M::Item: Drop,
-        requires keeps_keys { VisitsKeepKeys M.key M.Key.eq V.visits }
-    {
-        self.map.retain_mut(visitor)
-    }
-
-    /// The replies to the commands, none of which visits.
-    pub fn run(
+/// What a row asks of a map of either kind by commands, none of which visits.
+pub trait Commanded<T: Clone, K> {
+    /// The replies to the commands.
+    fn run(
         &mut self,
         alloc: Global,
-        commands: Vec<Command<M::Item, M::Key, Untouched>>,
-    ) -> Result<Vec<Reply<M::Item>>, RunStop<M::Item, M::Key, Untouched>>
-    where
-        M::Item: Clone,
-        M::Key: Drop,
-        requires clones { ClonesAreEqual M.Item.is_clone }
+        commands: Vec<Command<T, K, Untouched>>,
+    ) -> Result<Vec<Reply<T>>, RunStop<T, K, Untouched>>
+        requires clones { ClonesAreEqual T.is_clone };
+}
+
+impl<T: IdOrdItem + Clone> Commanded<T, T::Key> for Ordered<T>
+where
+    T::Key: Drop,
+{
+    fn run(
+        &mut self,
+        alloc: Global,
+        commands: Vec<Command<T, T::Key, Untouched>>,
+    ) -> Result<Vec<Reply<T>>, RunStop<T, T::Key, Untouched>>
+        requires clones { ClonesAreEqual T.is_clone }
     {
         run(alloc, &mut self.map, commands)
     }
+}
 
-    /// The replies to the commands.
-    pub fn run_visiting<V: Visit<M::Item> + Drop>(
+impl<T: IdHashItem + Clone, S: BuildHasher> Commanded<T, T::Key> for Hashed<T, S>
+where
+    T::Key: Drop,
+{
+    fn run(
         &mut self,
         alloc: Global,
-        commands: Vec<Command<M::Item, M::Key, V>>,
-    ) -> Result<Vec<Reply<M::Item>>, RunStop<M::Item, M::Key, V>>
-    where
-        M::Item: Clone,
-        M::Key: Drop,
-        requires clones { ClonesAreEqual M.Item.is_clone }
-        requires keeps_keys { VisitsKeepKeys M.key M.Key.eq V.visits }
+        commands: Vec<Command<T, T::Key, Untouched>>,
+    ) -> Result<Vec<Reply<T>>, RunStop<T, T::Key, Untouched>>
+        requires clones { ClonesAreEqual T.is_clone }
     {
         run(alloc, &mut self.map, commands)
     }
@@ -188,7 +303,7 @@ pub trait AskedByText {
     fn take_out(&mut self, name: &str) -> Option<Self::Item>;
 }
 
-impl<T: IdOrdItem<Key = String>> AskedByText for Tried<IdOrdMap<T>> {
+impl<T: IdOrdItem<Key = String>> AskedByText for Ordered<T> {
     type Item = T;
 
     fn find(&self, name: &str) -> Option<&T> {
@@ -204,7 +319,7 @@ impl<T: IdOrdItem<Key = String>> AskedByText for Tried<IdOrdMap<T>> {
     }
 }
 
-impl<T: IdHashItem<Key = String>> AskedByText for Tried<IdHashMap<T>> {
+impl<T: IdHashItem<Key = String>> AskedByText for Hashed<T> {
     type Item = T;
 
     fn find(&self, name: &str) -> Option<&T> {
@@ -247,7 +362,7 @@ pub trait AskedForRoom {
     fn is_compact(&self) -> bool;
 }
 
-impl<T: IdOrdItem> AskedForRoom for Tried<IdOrdMap<T>> {
+impl<T: IdOrdItem> AskedForRoom for Ordered<T> {
     fn reserve(&mut self, additional: usize) -> Result<(), TryReserveError> {
         self.map.reserve(additional)
     }
@@ -281,14 +396,7 @@ impl<T: IdOrdItem> AskedForRoom for Tried<IdOrdMap<T>> {
     }
 }
 
-impl<T: IdHashItem, S: BuildHasher> Tried<IdHashMap<T, S>> {
-    /// `try_reserve`, which an ordered map lacks.
-    pub fn reserve_or_tell(&mut self, additional: usize) -> Result<(), TryReserveError> {
-        self.map.try_reserve(additional)
-    }
-}
-
-impl<T: IdHashItem, S: BuildHasher> AskedForRoom for Tried<IdHashMap<T, S>> {
+impl<T: IdHashItem, S: BuildHasher> AskedForRoom for Hashed<T, S> {
     fn reserve(&mut self, additional: usize) -> Result<(), TryReserveError> {
         self.map.reserve(additional)
     }

@@ -2,7 +2,9 @@
 ghost use Rattle.std.specs.Prelude.{true};
 
 use crate::items::Numbered;
+use crate::tried::{Hashed, Ordered};
 use iddqd::Visit;
+use iddqd_commands::KeyedMap;
 
 /// Leaves each item as it is, and keeps it.
 #[derive(Clone, Copy, PartialEq, Eq)]
@@ -41,5 +43,34 @@ impl Visit<Numbered> for Change {
                 false
             }
         }
+    }
+}
+
+/// A map of either kind, by its calls that visit.
+pub trait Visited {
+    /// A visit of the item of the number: what the visitor answered (`get_mut`).
+    fn visit(&mut self, number: u32, visitor: &mut Change) -> Option<bool>;
+
+    /// `retain_mut`.
+    fn retain_mut(&mut self, visitor: &mut Change);
+}
+
+impl Visited for Ordered<Numbered> {
+    fn visit(&mut self, number: u32, visitor: &mut Change) -> Option<bool> {
+        self.map.visit(&number, visitor)
+    }
+
+    fn retain_mut(&mut self, visitor: &mut Change) {
+        self.map.retain_mut(visitor);
+    }
+}
+
+impl Visited for Hashed<Numbered> {
+    fn visit(&mut self, number: u32, visitor: &mut Change) -> Option<bool> {
+        self.map.visit(&number, visitor)
+    }
+
+    fn retain_mut(&mut self, visitor: &mut Change) {
+        self.map.retain_mut(visitor);
     }
 }

@@ -1,5 +1,5 @@
 //! What a row asks of the walks of a map of either kind.
-use crate::tried::Tried;
+use crate::tried::{AskedByKey, Hashed, Ordered};
 use iddqd::{IdHashItem, IdHashMap, IdOrdItem, IdOrdMap};
 use std::alloc::{AllocError, Global};
 use std::hash::BuildHasher;
@@ -20,7 +20,7 @@ pub trait Walked<T> {
         requires { F.IsAlwaysCallable write };
 }
 
-impl<T: IdOrdItem> Walked<T> for Tried<IdOrdMap<T>> {
+impl<T: IdOrdItem> Walked<T> for Ordered<T> {
     type Map = IdOrdMap<T>;
 
     fn retain<F: FnMut(&T) -> bool>(&mut self, keep: F)
@@ -43,7 +43,7 @@ impl<T: IdOrdItem> Walked<T> for Tried<IdOrdMap<T>> {
     }
 }
 
-impl<T: IdHashItem, S: BuildHasher> Walked<T> for Tried<IdHashMap<T, S>> {
+impl<T: IdHashItem, S: BuildHasher> Walked<T> for Hashed<T, S> {
     type Map = IdHashMap<T, S>;
 
     fn retain<F: FnMut(&T) -> bool>(&mut self, keep: F)
@@ -75,7 +75,7 @@ pub trait Listed<T> {
     fn lists(&self, items: &[T]) -> bool;
 }
 
-impl<T: IdOrdItem + Copy + PartialEq> Listed<T> for Tried<IdOrdMap<T>> {
+impl<T: IdOrdItem + Copy + PartialEq> Listed<T> for Ordered<T> {
     fn listed(&self, alloc: Global) -> Result<Vec<T>, AllocError> {
         let mut items = Vec::new(alloc);
         for item in self.map.iter() {
@@ -89,7 +89,7 @@ impl<T: IdOrdItem + Copy + PartialEq> Listed<T> for Tried<IdOrdMap<T>> {
     }
 }
 
-impl<T: IdHashItem + Copy + PartialEq, S: BuildHasher> Listed<T> for Tried<IdHashMap<T, S>> {
+impl<T: IdHashItem + Copy + PartialEq, S: BuildHasher> Listed<T> for Hashed<T, S> {
     fn listed(&self, alloc: Global) -> Result<Vec<T>, AllocError> {
         let mut items = Vec::new(alloc);
         for item in self.map.iter() {

@@ -1,10 +1,9 @@
 //! Rows of clones.
 use crate::checks::check;
 use crate::insertions::{BAR, FOO};
-use iddqd_commands::KeyedMap;
 use iddqd_testing::copied::Twin;
 use iddqd_testing::items::Named;
-use iddqd_testing::tried::{Tried, by_hash, in_order};
+use iddqd_testing::tried::{AskedByKey, by_hash, in_order};
 use std::process::Abort;
 use std::test::Fail;
 
@@ -13,23 +12,17 @@ const BAZ: Named = Named {
     value: 1,
 };
 
-fn filled<M: KeyedMap<Item = Named, Key = [u8; 3]> + Drop>(
-    rt: &impl Abort,
-    mut map: Tried<M>,
-) -> Tried<M> {
+fn filled<M: AskedByKey<Item = Named, Key = [u8; 3]> + Drop>(rt: &impl Abort, mut map: M) -> M {
     check(rt, map.is_put(FOO) && map.is_put(BAR) && map.is_put(BAZ));
     check(rt, map.remove(b"baz") == Some(BAZ));
     map
 }
 
 // A clone is like its source, and what is written into one the source does not show.
-fn cloned<M: KeyedMap<Item = Named, Key = [u8; 3]> + Drop>(
+fn cloned<M: AskedByKey<Item = Named, Key = [u8; 3]> + Twin + Drop>(
     rt: &impl Abort,
-    map: Tried<M>,
-) -> Result<(), Fail>
-where
-    Tried<M>: Twin,
-{
+    map: M,
+) -> Result<(), Fail> {
     let map = filled(rt, map);
     let Ok(twin) = map.twin() else {
         return Err(Fail::from("no memory for a clone"));

@@ -1,26 +1,23 @@
 //! Rows of keys that are equal without regard to case.
 use crate::checks::check;
-use iddqd_commands::{Command, KeyedMap, Reply};
+use iddqd_commands::{Command, Reply};
 use iddqd_testing::caseless::{Caseless, Coarse, item_of, spelled};
-use iddqd_testing::tried::{Tried, by_hash, in_order};
+use iddqd_testing::tried::{AskedByKey, Commanded, by_hash, in_order};
 use iddqd_testing::visitors::Untouched;
 use std::alloc::Global;
 use std::process::Abort;
 use std::test::Fail;
 
 // What the item replaced, if it was put.
-fn replaced_by<M: KeyedMap<Item = Coarse>>(
-    map: &mut Tried<M>,
+fn replaced_by<M: AskedByKey<Item = Coarse>>(
+    map: &mut M,
     item: Coarse,
 ) -> Option<Option<([u8; 3], u32)>> {
     let old = map.overwrite(item).ok()?;
     Some(old.as_ref().map(spelled))
 }
 
-fn overwrites<M: KeyedMap<Item = Coarse, Key = Caseless>>(rt: &impl Abort, mut map: Tried<M>)
-where
-    M: Drop,
-{
+fn overwrites<M: AskedByKey<Item = Coarse, Key = Caseless> + Drop>(rt: &impl Abort, mut map: M) {
     check(rt, replaced_by(&mut map, item_of(*b"Foo", 1)) == Some(None));
     check(
         rt,
@@ -74,13 +71,10 @@ fn are_coarse_replies(replies: &[Reply<Coarse>]) -> bool {
     }
 }
 
-fn is_run_so<M: KeyedMap<Item = Coarse, Key = Caseless>>(
+fn is_run_so<M: Commanded<Coarse, Caseless> + Drop>(
     alloc: Global,
-    mut map: Tried<M>,
-) -> Result<bool, Fail>
-where
-    M: Drop,
-{
+    mut map: M,
+) -> Result<bool, Fail> {
     let Ok(replies) = map.run(alloc, coarse_commands(alloc)?) else {
         return Err(Fail::from("no memory for the replies"));
     };

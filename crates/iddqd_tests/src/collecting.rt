@@ -3,10 +3,9 @@ use crate::checks::check;
 use crate::insertions::{BAR, FOO, OTHER_FOO, wide_item};
 use iddqd::errors::{FromIterError, TryReserveError};
 use iddqd::{DefaultHashBuilder, IdHashMap, IdOrdMap};
-use iddqd_commands::KeyedMap;
 use iddqd_testing::bulk::{Added, Adding, Bulk, Liar, Unannounced, is_not_taken_in};
 use iddqd_testing::items::{Named, Wide};
-use iddqd_testing::tried::{Tried, by_hash, in_order};
+use iddqd_testing::tried::{AskedByKey, Hashed, Ordered, by_hash, in_order};
 use std::alloc::{AllocError, Global};
 use std::process::Abort;
 use std::test::Fail;
@@ -16,14 +15,11 @@ fn named(name: [u8; 3], value: u32) -> Named {
 }
 
 // The new item and the earlier ones of the first repeat.
-fn first_repeat<M: KeyedMap<Item = T> + Drop, T: Copy + Drop>(
+fn first_repeat<M: Bulk<T> + Drop, T: Copy + Drop>(
     alloc: Global,
     items: Vec<T>,
-) -> Option<(T, usize, Option<T>)>
-where
-    Tried<M>: Bulk<T>,
-{
-    match Tried::<M>::collected_unique(alloc, items).err()? {
+) -> Option<(T, usize, Option<T>)> {
+    match M::collected_unique(alloc, items).err()? {
         FromIterError::Duplicate(repeat) => {
             let earlier = repeat.duplicates();
             Some((*repeat.new_item(), earlier.len(), earlier.get(0).copied()))
@@ -32,13 +28,10 @@ where
     }
 }
 
-fn collect_by_number<M: KeyedMap<Item = Wide> + Drop>(
+fn collect_by_number<M: Bulk<Wide> + Drop>(
     rt: &impl Abort,
     alloc: Global,
-) -> Result<(), AllocError>
-where
-    Tried<M>: Bulk<Wide>,
-{
+) -> Result<(), AllocError> {
     let (first, second) = (wide_item(1, 'a', 'x'), wide_item(2, 'b', 'y'));
     let third = wide_item(1, 'c', 'z');
     let items = Vec::from_array(alloc, [first, second, third])?;
@@ -47,41 +40,32 @@ where
     Ok(())
 }
 
-fn collect_by_name<M: KeyedMap<Item = Named> + Drop>(
+fn collect_by_name<M: Bulk<Named> + Drop>(
     rt: &impl Abort,
     alloc: Global,
-) -> Result<(), AllocError>
-where
-    Tried<M>: Bulk<Named>,
-{
+) -> Result<(), AllocError> {
     let foos = [1, 2, 3].map(|value| named(*b"foo", value));
     let repeat = first_repeat::<M, Named>(alloc, Vec::from_array(alloc, foos)?);
     check(rt, repeat == Some((foos[1], 1, Some(foos[0]))));
     Ok(())
 }
 
-fn collect_what_differs<M: KeyedMap<Item = Named> + Drop>(
+fn collect_what_differs<M: AskedByKey<Item = Named> + Bulk<Named> + Drop>(
     rt: &impl Abort,
     alloc: Global,
-) -> Result<(), AllocError>
-where
-    Tried<M>: Bulk<Named>,
-{
+) -> Result<(), AllocError> {
     let two = Vec::from_array(alloc, [FOO, named(*b"bar", 99)])?;
+    check(rt, len_of::<M>(M::collected_unique(alloc, two)) == Some(2));
     check(
         rt,
-        len_of::<M>(Tried::collected_unique(alloc, two)) == Some(2),
-    );
-    check(
-        rt,
-        len_of::<M>(Tried::collected_unique(alloc, Vec::new(alloc))) == Some(0),
+        len_of::<M>(M::collected_unique(alloc, Vec::new(alloc))) == Some(0),
     );
     Ok(())
 }
 
 // How many items there are in a map that was made.
-fn len_of<M: KeyedMap<Item = Named> + Drop>(
-    made: Result<Tried<M>, FromIterError<Named>>,
+fn len_of<M: AskedByKey<Item = Named> + Drop>(
+    made: Result<M, FromIterError<Named>>,
 ) -> Option<usize> {
     match made {
         Ok(map) => Some(map.len()),
@@ -92,12 +76,12 @@ fn len_of<M: KeyedMap<Item = Named> + Drop>(
 #[test]
 fn collect_unique(rt: HostRuntime) -> Result<(), Fail> {
     let alloc = rt.alloc();
-    collect_by_number::<IdOrdMap<Wide>>(&rt, alloc)?;
-    collect_by_number::<IdHashMap<Wide>>(&rt, alloc)?;
-    collect_by_name::<IdOrdMap<Named>>(&rt, alloc)?;
-    collect_by_name::<IdHashMap<Named>>(&rt, alloc)?;
-    collect_what_differs::<IdOrdMap<Named>>(&rt, alloc)?;
-    collect_what_differs::<IdHashMap<Named>>(&rt, alloc)?;
+    collect_by_number::<Ordered<Wide>>(&rt, alloc)?;
+    collect_by_number::<Hashed<Wide>>(&rt, alloc)?;
+    collect_by_name::<Ordered<Named>>(&rt, alloc)?;
+    collect_by_name::<Hashed<Named>>(&rt, alloc)?;
+    collect_what_differs::<Ordered<Named>>(&rt, alloc)?;
+    collect_what_differs::<Hashed<Named>>(&rt, alloc)?;
     Ok(())
 }
 
@@ -113,14 +97,11 @@ fn of_two_numbers(alloc: Global) -> Result<Vec<Wide>, AllocError> {
     )?)
 }
 
-fn overwritten_by_number<M: KeyedMap<Item = Wide, Key = u8> + Drop>(
+fn overwritten_by_number<M: AskedByKey<Item = Wide, Key = u8> + Bulk<Wide> + Drop>(
     rt: &impl Abort,
     items: Vec<Wide>,
-    mut map: Tried<M>,
-)
-where
-    Tried<M>: Bulk<Wide>,
-{
+    mut map: M,
+) {
     check(rt, map.extend(items).is_ok());
     check(rt, map.len() == 2);
     check(rt, map.get(&1).copied() == Some(wide_item(1, 'c', 'z')));
@@ -128,36 +109,26 @@ where
 }
 
 // Whether there are two items, and these two.
-fn has_both<M: KeyedMap<Item = Named, Key = [u8; 3]>>(
-    map: &Tried<M>,
-    one: Named,
-    other: Named,
-) -> bool {
+fn has_both<M: AskedByKey<Item = Named, Key = [u8; 3]>>(map: &M, one: Named, other: Named) -> bool {
     map.len() == 2 && map.get(&one.name) == Some(&one) && map.get(&other.name) == Some(&other)
 }
 
-fn overwritten_by_name<M: KeyedMap<Item = Named, Key = [u8; 3]> + Drop>(
+fn overwritten_by_name<M: AskedByKey<Item = Named, Key = [u8; 3]> + Bulk<Named> + Drop>(
     rt: &impl Abort,
     items: Vec<Named>,
-    mut map: Tried<M>,
-)
-where
-    Tried<M>: Bulk<Named>,
-{
+    mut map: M,
+) {
     check(rt, map.is_put(FOO));
     check(rt, map.extend(items).is_ok());
     check(rt, has_both(&map, OTHER_FOO, BAR));
 }
 
-fn collected_by_name<M: KeyedMap<Item = Named, Key = [u8; 3]> + Drop>(
+fn collected_by_name<M: AskedByKey<Item = Named, Key = [u8; 3]> + Bulk<Named> + Drop>(
     rt: &impl Abort,
     alloc: Global,
-) -> Result<(), AllocError>
-where
-    Tried<M>: Bulk<Named>,
-{
+) -> Result<(), AllocError> {
     let items = Vec::from_array(alloc, [FOO, BAR, OTHER_FOO])?;
-    let collected: Option<Tried<M>> = Tried::collected(alloc, items).ok();
+    let collected = M::collected(alloc, items).ok();
     check(
         rt,
         matches!(&collected, Some(map) if has_both(map, OTHER_FOO, BAR)),
@@ -174,15 +145,15 @@ fn extend_overwrites(rt: HostRuntime) -> Result<(), Fail> {
     overwritten_by_name(&rt, items, in_order(alloc));
     let items = Vec::from_array(alloc, [OTHER_FOO, BAR])?;
     overwritten_by_name(&rt, items, by_hash(alloc));
-    collected_by_name::<IdOrdMap<Named>>(&rt, alloc)?;
-    collected_by_name::<IdHashMap<Named>>(&rt, alloc)?;
+    collected_by_name::<Ordered<Named>>(&rt, alloc)?;
+    collected_by_name::<Hashed<Named>>(&rt, alloc)?;
     Ok(())
 }
 
-fn lied_to<M: KeyedMap<Item = Named, Key = [u8; 3]> + Drop>(rt: &impl Abort, mut map: Tried<M>)
-where
-    Tried<M>: Bulk<Named>,
-{
+fn lied_to<M: AskedByKey<Item = Named, Key = [u8; 3]> + Bulk<Named> + Drop>(
+    rt: &impl Abort,
+    mut map: M,
+) {
     check(rt, is_not_taken_in(&mut map));
     check(rt, map.len() == 0);
     check(rt, map.is_put(FOO) && map.is_put(BAR));
@@ -196,14 +167,11 @@ fn lying_hints(rt: HostRuntime) {
     lied_to(&rt, by_hash(rt.alloc()));
 }
 
-fn stops_at_present<M: KeyedMap<Item = Named, Key = [u8; 3]> + Drop>(
+fn stops_at_present<M: AskedByKey<Item = Named, Key = [u8; 3]> + Adding<Named> + Drop>(
     rt: &impl Abort,
     items: Vec<Named>,
-    mut map: Tried<M>,
-)
-where
-    Tried<M>: Adding<Named>,
-{
+    mut map: M,
+) {
     check(rt, map.is_put(FOO));
     check(
         rt,
@@ -227,14 +195,11 @@ fn of_two_names() -> [Named; 3] {
     [named(*b"  a", 1), named(*b"  b", 2), named(*b"  a", 3)]
 }
 
-fn stops_at_own<M: KeyedMap<Item = Named, Key = [u8; 3]> + Drop>(
+fn stops_at_own<M: AskedByKey<Item = Named, Key = [u8; 3]> + Adding<Named> + Drop>(
     rt: &impl Abort,
     items: Vec<Named>,
-    mut map: Tried<M>,
-)
-where
-    Tried<M>: Adding<Named>,
-{
+    mut map: M,
+) {
     let [first, second, third] = of_two_names();
     check(
         rt,
@@ -254,13 +219,10 @@ fn extend_unique_repeats(rt: HostRuntime) -> Result<(), Fail> {
 }
 
 // What a map that has foo answers to items that are not announced; the last one comes first.
-fn unannounced<M: KeyedMap<Item = Named, Key = [u8; 3]> + Drop>(
-    map: &mut Tried<M>,
+fn unannounced<M: AskedByKey<Item = Named, Key = [u8; 3]> + Adding<Named>>(
+    map: &mut M,
     items: Vec<Named>,
-) -> Option<Added<Named>>
-where
-    Tried<M>: Adding<Named>,
-{
+) -> Option<Added<Named>> {
     if map.is_put(FOO) {
         Some(map.add_each(Unannounced::new(items)))
     } else {
@@ -268,27 +230,21 @@ where
     }
 }
 
-fn conflicts_when_full<M: KeyedMap<Item = Named, Key = [u8; 3]> + Drop>(
+fn conflicts_when_full<M: AskedByKey<Item = Named, Key = [u8; 3]> + Adding<Named> + Drop>(
     rt: &impl Abort,
     items: Vec<Named>,
-    mut map: Tried<M>,
-)
-where
-    Tried<M>: Adding<Named>,
-{
+    mut map: M,
+) {
     let expected = Added::Conflict(named(*b"foo", 9), Some(FOO));
     check(rt, unannounced(&mut map, items) == Some(expected));
     check(rt, has_both(&map, FOO, BAR));
 }
 
-fn refuses_when_full<M: KeyedMap<Item = Named, Key = [u8; 3]> + Drop>(
+fn refuses_when_full<M: AskedByKey<Item = Named, Key = [u8; 3]> + Adding<Named> + Drop>(
     rt: &impl Abort,
     items: Vec<Named>,
-    mut map: Tried<M>,
-)
-where
-    Tried<M>: Adding<Named>,
-{
+    mut map: M,
+) {
     let full = TryReserveError::capacity_overflow();
     let expected = Added::Stopped(Some(named(*b"baz", 7)), full);
     check(rt, unannounced(&mut map, items) == Some(expected));
@@ -301,31 +257,28 @@ fn extend_unique_at_the_limit(rt: HostRuntime) -> Result<(), Fail> {
     let hasher = DefaultHashBuilder::new();
     let repeats = [named(*b"baz", 7), named(*b"foo", 9), BAR];
     let items = Vec::from_array(alloc, repeats)?;
-    conflicts_when_full(&rt, items, Tried::new(IdOrdMap::with_limit(alloc, 2)));
+    conflicts_when_full(&rt, items, Ordered::new(IdOrdMap::with_limit(alloc, 2)));
     let items = Vec::from_array(alloc, repeats)?;
     conflicts_when_full(
         &rt,
         items,
-        Tried::new(IdHashMap::with_limit(alloc, 2, hasher)),
+        Hashed::new(IdHashMap::with_limit(alloc, 2, hasher)),
     );
     let items = Vec::from_array(alloc, [named(*b"baz", 7), BAR])?;
-    refuses_when_full(&rt, items, Tried::new(IdOrdMap::with_limit(alloc, 2)));
+    refuses_when_full(&rt, items, Ordered::new(IdOrdMap::with_limit(alloc, 2)));
     let items = Vec::from_array(alloc, [named(*b"baz", 7), BAR])?;
     refuses_when_full(
         &rt,
         items,
-        Tried::new(IdHashMap::with_limit(alloc, 2, hasher)),
+        Hashed::new(IdHashMap::with_limit(alloc, 2, hasher)),
     );
     Ok(())
 }
 
-fn refuses_announced<M: KeyedMap<Item = Named, Key = [u8; 3]> + Drop>(
+fn refuses_announced<M: AskedByKey<Item = Named, Key = [u8; 3]> + Adding<Named> + Drop>(
     rt: &impl Abort,
-    mut map: Tried<M>,
-)
-where
-    Tried<M>: Adding<Named>,
-{
+    mut map: M,
+) {
     check(rt, map.is_put(FOO));
     let mut liar = Liar::announcing(5);
     let full = TryReserveError::capacity_overflow();
@@ -337,21 +290,18 @@ where
 #[test]
 fn extend_unique_hint(rt: HostRuntime) {
     let hasher = DefaultHashBuilder::new();
-    refuses_announced(&rt, Tried::new(IdOrdMap::with_limit(rt.alloc(), 2)));
+    refuses_announced(&rt, Ordered::new(IdOrdMap::with_limit(rt.alloc(), 2)));
     refuses_announced(
         &rt,
-        Tried::new(IdHashMap::with_limit(rt.alloc(), 2, hasher)),
+        Hashed::new(IdHashMap::with_limit(rt.alloc(), 2, hasher)),
     );
 }
 
-fn adds_nothing<M: KeyedMap<Item = Named, Key = [u8; 3]> + Drop>(
+fn adds_nothing<M: AskedByKey<Item = Named, Key = [u8; 3]> + Adding<Named> + Drop>(
     rt: &impl Abort,
     alloc: Global,
-    mut map: Tried<M>,
-)
-where
-    Tried<M>: Adding<Named>,
-{
+    mut map: M,
+) {
     check(rt, map.add_each(Vec::new(alloc)) == Added::All);
     check(rt, map.len() == 0);
     check(rt, map.is_put(FOO) && map.is_put(BAR));

@@ -5,24 +5,20 @@ use crate::checks::check;
 use crate::insertions::{BAR, FOO, OTHER_FOO, wide_item};
 use iddqd::errors::TryReserveError;
 use iddqd::{DefaultHashBuilder, IdHashMap, IdOrdMap};
-use iddqd_commands::{Command, KeyedMap, Reply};
+use iddqd_commands::{Command, Reply};
 use iddqd_testing::items::{Named, Wide};
-use iddqd_testing::tried::{Tried, by_hash, in_order};
+use iddqd_testing::tried::{Commanded, Hashed, Ordered, by_hash, in_order};
 use iddqd_testing::visitors::Untouched;
 use std::alloc::{AllocError, Global};
 
 /// Whether there was memory for the commands, and the map gives these replies to them.
-fn answers_with<M: KeyedMap>(
+fn answers_with<T: Clone + PartialEq + Drop, K: Drop, M: Commanded<T, K> + Drop>(
     alloc: Global,
-    mut map: Tried<M>,
-    commands: Result<Vec<Command<M::Item, M::Key, Untouched>>, AllocError>,
-    expected: &[Reply<M::Item>],
+    mut map: M,
+    commands: Result<Vec<Command<T, K, Untouched>>, AllocError>,
+    expected: &[Reply<T>],
 ) -> bool
-where
-    M: Drop,
-    M::Item: Clone + PartialEq,
-    M::Key: Drop,
-    requires clones { ClonesAreEqual M.Item.is_clone }
+    requires clones { ClonesAreEqual T.is_clone }
 {
     let Ok(commands) = commands else {
         return false;
@@ -235,12 +231,12 @@ fn extend_unique_commands(rt: HostRuntime) {
         },
         Reply::Length(2),
     ];
-    let ordered = Tried::new(IdOrdMap::with_limit(alloc, 2));
+    let ordered = Ordered::new(IdOrdMap::with_limit(alloc, 2));
     check(
         &rt,
         answers_with(alloc, ordered, full_commands(alloc), &expected),
     );
-    let hashed = Tried::new(IdHashMap::with_limit(alloc, 2, DefaultHashBuilder::new()));
+    let hashed = Hashed::new(IdHashMap::with_limit(alloc, 2, DefaultHashBuilder::new()));
     check(
         &rt,
         answers_with(alloc, hashed, full_commands(alloc), &expected),

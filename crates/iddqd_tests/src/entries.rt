@@ -1,18 +1,14 @@
 //! Rows of entries.
 use crate::checks::check;
-use iddqd_commands::KeyedMap;
 use iddqd_testing::caseless::{Caseless, Coarse, item_of, spelled};
 use iddqd_testing::entered::Entered;
-use iddqd_testing::tried::{Tried, by_hash, in_order};
+use iddqd_testing::tried::{AskedByKey, by_hash, in_order};
 use std::process::Abort;
 
-fn foo_by_entry<M: KeyedMap<Item = Coarse, Key = Caseless> + Drop>(
+fn foo_by_entry<M: AskedByKey<Item = Coarse, Key = Caseless> + Entered + Drop>(
     rt: &impl Abort,
-    mut map: Tried<M>,
-)
-where
-    Tried<M>: Entered,
-{
+    mut map: M,
+) {
     let foo = map.insert_vacant(*b"foo", item_of(*b"foo", 42));
     check(rt, foo.map(|item| item.value) == Some(42));
     check(rt, map.write(*b"foo", 99));
@@ -32,13 +28,10 @@ fn entry(rt: HostRuntime) {
     foo_by_entry(&rt, by_hash(rt.alloc()));
 }
 
-fn written_by_entries<M: KeyedMap<Item = Coarse, Key = Caseless>>(
+fn written_by_entries<M: AskedByKey<Item = Coarse, Key = Caseless> + Entered>(
     rt: &impl Abort,
-    map: &mut Tried<M>,
-)
-where
-    Tried<M>: Entered,
-{
+    map: &mut M,
+) {
     let doubled = map.double_or_insert(item_of(*b"foo", 0));
     check(
         rt,
@@ -56,10 +49,10 @@ where
     );
 }
 
-fn put_by_entries<M: KeyedMap<Item = Coarse, Key = Caseless>>(rt: &impl Abort, map: &mut Tried<M>)
-where
-    Tried<M>: Entered,
-{
+fn put_by_entries<M: AskedByKey<Item = Coarse, Key = Caseless> + Entered>(
+    rt: &impl Abort,
+    map: &mut M,
+) {
     let old = map.insert_occupied(item_of(*b"FOO", 7));
     check(rt, old.as_ref().map(spelled) == Some((*b"foo", 84)));
     check(
@@ -75,13 +68,10 @@ where
     check(rt, map.get(&Caseless(*b"qux")).is_none());
 }
 
-fn coarse_entries<M: KeyedMap<Item = Coarse, Key = Caseless> + Drop>(
+fn coarse_entries<M: AskedByKey<Item = Coarse, Key = Caseless> + Entered + Drop>(
     rt: &impl Abort,
-    mut map: Tried<M>,
-) -> Tried<M>
-where
-    Tried<M>: Entered,
-{
+    mut map: M,
+) -> M {
     check(rt, map.is_put(item_of(*b"foo", 42)));
     written_by_entries(rt, &mut map);
     put_by_entries(rt, &mut map);

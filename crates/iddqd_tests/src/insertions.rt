@@ -1,9 +1,7 @@
 //! Rows of insertions, of each kind of map from one text.
 use crate::checks::check;
-use iddqd::IdOrdMap;
-use iddqd_commands::KeyedMap;
 use iddqd_testing::items::{Named, Numbered, Wide};
-use iddqd_testing::tried::{Inserted, Tried, by_hash, in_order};
+use iddqd_testing::tried::{AskedByKey, AskedToInsert, Inserted, Ordered, by_hash, in_order};
 use iddqd_testing::walked::Walked;
 use std::process::Abort;
 
@@ -40,10 +38,10 @@ fn numbered(number: u32, value: u32) -> Numbered {
     Numbered { number, value }
 }
 
-fn foo_twice<M: KeyedMap<Item = Named, Key = [u8; 3]>>(rt: &impl Abort, mut map: Tried<M>)
-where
-    M: Drop,
-{
+fn foo_twice<M: AskedByKey<Item = Named, Key = [u8; 3]> + AskedToInsert<Named> + Drop>(
+    rt: &impl Abort,
+    mut map: M,
+) {
     check(rt, map.insert(FOO) == Inserted::Done);
     check(rt, map.insert(BAR) == Inserted::Done);
     check(
@@ -60,10 +58,7 @@ fn insert_unique(rt: HostRuntime) {
     foo_twice(&rt, by_hash(rt.alloc()));
 }
 
-fn chain<M: KeyedMap<Item = Wide, Key = u8>>(rt: &impl Abort, mut map: Tried<M>)
-where
-    M: Drop,
-{
+fn chain<M: AskedToInsert<Wide> + Drop>(rt: &impl Abort, mut map: M) {
     let first = wide_item(20, 'a', 'x');
     let fourth = wide_item(5, 'a', 'y');
     let second_twenty = wide_item(20, 'b', 'y');
@@ -91,10 +86,10 @@ fn duplicate_chain(rt: HostRuntime) {
     chain(&rt, by_hash(rt.alloc()));
 }
 
-fn one_and_two<M: KeyedMap<Item = Numbered, Key = u32>>(rt: &impl Abort, mut map: Tried<M>)
-where
-    M: Drop,
-{
+fn one_and_two<M: AskedByKey<Item = Numbered, Key = u32> + AskedToInsert<Numbered> + Drop>(
+    rt: &impl Abort,
+    mut map: M,
+) {
     check(rt, map.insert(numbered(1, 10)) == Inserted::Done);
     check(rt, map.insert(numbered(2, 20)) == Inserted::Done);
     check(rt, map.get(&1).copied() == Some(numbered(1, 10)));
@@ -111,7 +106,7 @@ pub(crate) fn double(item: &mut Named) {
 }
 
 // The first two values in order, once a walk has doubled two.
-fn doubled(rt: &impl Abort, mut map: Tried<IdOrdMap<Named>>) -> [Option<u32>; 2] {
+fn doubled(rt: &impl Abort, mut map: Ordered<Named>) -> [Option<u32>; 2] {
     check(rt, map.is_put(FOO) && map.is_put(OLD_BAR));
     let (map, _) = map.written(2, double);
     let mut walk = map.iter();
@@ -129,10 +124,10 @@ fn get_and_double(rt: HostRuntime) {
 }
 
 // A removed item is not found, and the others are.
-fn coming_and_going<M: KeyedMap<Item = Named, Key = [u8; 3]>>(rt: &impl Abort, mut map: Tried<M>)
-where
-    M: Drop,
-{
+fn coming_and_going<M: AskedByKey<Item = Named, Key = [u8; 3]> + AskedToInsert<Named> + Drop>(
+    rt: &impl Abort,
+    mut map: M,
+) {
     check(rt, map.insert(FOO) == Inserted::Done);
     check(rt, map.insert(BAR) == Inserted::Done);
     check(rt, map.remove(b"baz") == None);

@@ -3,9 +3,10 @@ use crate::checks::check;
 use crate::insertions::{BAR, FOO, OTHER_FOO};
 use iddqd::errors::TryReserveError;
 use iddqd::{DefaultHashBuilder, IdHashMap, IdOrdMap};
-use iddqd_commands::KeyedMap;
 use iddqd_testing::items::Named;
-use iddqd_testing::tried::{AskedForRoom, Inserted, Tried, by_hash, in_order};
+use iddqd_testing::tried::{
+    AskedByKey, AskedForRoom, AskedToInsert, Hashed, Inserted, Ordered, by_hash, in_order,
+};
 use std::process::Abort;
 use std::test::Fail;
 
@@ -14,11 +15,9 @@ const BAZ: Named = Named {
     value: 7,
 };
 
-fn full_at_two<M: KeyedMap<Item = Named, Key = [u8; 3]>>(rt: &impl Abort, mut map: Tried<M>)
-where
-    M: Drop,
-    Tried<M>: AskedForRoom,
-{
+fn full_at_two<
+    M: AskedByKey<Item = Named, Key = [u8; 3]> + AskedToInsert<Named> + AskedForRoom + Drop,
+>(rt: &impl Abort, mut map: M) {
     let full = TryReserveError::capacity_overflow();
     let answers = [
         map.insert(FOO),
@@ -44,11 +43,7 @@ where
     check(rt, map.reserve(1) == Err(full));
 }
 
-fn full_at_none<M: KeyedMap<Item = Named, Key = [u8; 3]>>(rt: &impl Abort, mut map: Tried<M>)
-where
-    M: Drop,
-    Tried<M>: AskedForRoom,
-{
+fn full_at_none<M: AskedToInsert<Named> + AskedForRoom + Drop>(rt: &impl Abort, mut map: M) {
     let full = TryReserveError::capacity_overflow();
     check(rt, map.reserve(0) == Ok(()));
     check(rt, map.insert(FOO) == Inserted::Refused(FOO, full));
@@ -57,15 +52,15 @@ where
 #[test]
 fn limit_two(rt: HostRuntime) {
     let alloc = rt.alloc();
-    full_at_two(&rt, Tried::new(IdOrdMap::with_limit(alloc, 2)));
-    full_at_none(&rt, Tried::new(IdOrdMap::with_limit(alloc, 0)));
+    full_at_two(&rt, Ordered::new(IdOrdMap::with_limit(alloc, 2)));
+    full_at_none(&rt, Ordered::new(IdOrdMap::with_limit(alloc, 0)));
     let hasher = DefaultHashBuilder::new();
-    full_at_two(&rt, Tried::new(IdHashMap::with_limit(alloc, 2, hasher)));
-    full_at_none(&rt, Tried::new(IdHashMap::with_limit(alloc, 0, hasher)));
+    full_at_two(&rt, Hashed::new(IdHashMap::with_limit(alloc, 2, hasher)));
+    full_at_none(&rt, Hashed::new(IdHashMap::with_limit(alloc, 0, hasher)));
 }
 
 // Of a limit of four, three are there.
-fn room_of_four(rt: &impl Abort, mut map: Tried<IdHashMap<Named>>) {
+fn room_of_four(rt: &impl Abort, mut map: Hashed<Named>) {
     let full = TryReserveError::capacity_overflow();
     check(rt, map.is_put(FOO) && map.is_put(BAR) && map.is_put(BAZ));
     check(rt, map.reserve(1) == Ok(()));
@@ -77,7 +72,7 @@ fn room_of_four(rt: &impl Abort, mut map: Tried<IdHashMap<Named>>) {
 #[test]
 fn limit_four(rt: HostRuntime) {
     let map = IdHashMap::with_limit(rt.alloc(), 4, DefaultHashBuilder::new());
-    room_of_four(&rt, Tried::new(map));
+    room_of_four(&rt, Hashed::new(map));
     let past: Result<IdHashMap<Named>, TryReserveError> = IdHashMap::with_capacity(
         rt.alloc(),
         4_294_967_296,
@@ -99,19 +94,16 @@ fn made_with_room(rt: HostRuntime) -> Result<(), Fail> {
 }
 
 // Whether foo and bar are there.
-fn has_both<M: KeyedMap<Item = Named, Key = [u8; 3]>>(map: &Tried<M>) -> bool {
+fn has_both<M: AskedByKey<Item = Named, Key = [u8; 3]>>(map: &M) -> bool {
     map.get(b"foo") == Some(&FOO) && map.get(b"bar") == Some(&BAR)
 }
 
 // Shrinks a map that was made with room for 100. The least room that is left after each shrink is told apart.
-fn shrunk<M: KeyedMap<Item = Named, Key = [u8; 3]> + Drop>(
+fn shrunk<M: AskedByKey<Item = Named, Key = [u8; 3]> + AskedForRoom + Drop>(
     rt: &impl Abort,
-    mut map: Tried<M>,
+    mut map: M,
     room_of_ten: usize,
-)
-where
-    Tried<M>: AskedForRoom,
-{
+) {
     check(rt, map.is_put(FOO) && map.is_put(BAR));
     let capacity = map.capacity();
     check(rt, capacity >= 100);
@@ -132,17 +124,17 @@ where
 #[test]
 fn capacity_and_shrink(rt: HostRuntime) -> Result<(), Fail> {
     let ordered = IdOrdMap::with_capacity(rt.alloc(), 100)?;
-    shrunk(&rt, Tried::new(ordered), 10);
+    shrunk(&rt, Ordered::new(ordered), 10);
     let hashed = IdHashMap::with_capacity(rt.alloc(), 100)?;
-    shrunk(&rt, Tried::new(hashed), 8);
+    shrunk(&rt, Hashed::new(hashed), 8);
     Ok(())
 }
 
 // A map without items lacks what is asked for, and is as it should be.
-fn of_nothing<M: KeyedMap<Item = Named, Key = [u8; 3]> + Drop>(rt: &impl Abort, mut map: Tried<M>)
-where
-    Tried<M>: AskedForRoom,
-{
+fn of_nothing<M: AskedByKey<Item = Named, Key = [u8; 3]> + AskedForRoom + Drop>(
+    rt: &impl Abort,
+    mut map: M,
+) {
     check(rt, map.get(b"foo").is_none());
     check(rt, map.remove(b"foo").is_none());
     check(rt, map.len() == 0 && map.is_compact());

@@ -1,8 +1,7 @@
 //! Rows of lookups by texts, by keys of two fields, and among items that are boxed or lent.
 use crate::checks::check;
-use iddqd_commands::KeyedMap;
 use iddqd_testing::items::{Artifact, Release, Titled};
-use iddqd_testing::tried::{AskedByText, Tried, by_hash, in_order};
+use iddqd_testing::tried::{AskedByKey, AskedByText, by_hash, in_order};
 use std::alloc::{AllocError, Global};
 use std::process::Abort;
 use std::rc::Rc;
@@ -15,16 +14,12 @@ fn foo(alloc: Global) -> Result<Titled, AllocError> {
     })
 }
 
-fn query_by_text<M: KeyedMap<Item = Titled, Key = String>>(
+fn query_by_text<M: AskedByKey<Item = Titled, Key = String> + AskedByText<Item = Titled> + Drop>(
     rt: &impl Abort,
     name: &String,
     item: Titled,
-    mut map: Tried<M>,
-)
-where
-    M: Drop,
-    Tried<M>: AskedByText<Item = Titled>,
-{
+    mut map: M,
+) {
     check(rt, map.is_put(item));
     check(rt, map.find("foo").map(|item| item.value) == Some(42));
     check(rt, !map.contains("fo"));
@@ -49,10 +44,10 @@ fn released(name: [u8; 9], data: u32) -> Artifact {
     }
 }
 
-fn query_by_release<M: KeyedMap<Item = Artifact, Key = Release>>(rt: &impl Abort, mut map: Tried<M>)
-where
-    M: Drop,
-{
+fn query_by_release<M: AskedByKey<Item = Artifact, Key = Release> + Drop>(
+    rt: &impl Abort,
+    mut map: M,
+) {
     let first = released(*b"artifact1", 1);
     let other = Release {
         name: *b"artifact1",
@@ -94,11 +89,10 @@ impl Holder for &Titled {
 }
 
 // Whether the item goes in, and what is found by its name shows 42.
-fn is_found<M: KeyedMap + Drop>(item: M::Item, mut map: Tried<M>) -> bool
-where
-    M::Item: Holder + Drop,
-    Tried<M>: AskedByText<Item = M::Item>,
-{
+fn is_found<T: Holder + Drop, M: AskedByKey<Item = T> + AskedByText<Item = T> + Drop>(
+    item: T,
+    mut map: M,
+) -> bool {
     map.is_put(item) && map.find("foo").map(|item| item.shown()) == Some(42)
 }
 

@@ -5,11 +5,12 @@ ghost use Rattle.iddqd_testing.specs.Changed.{changed};
 
 use crate::checks::check;
 use crate::insertions::{BAR, FOO, double};
-use iddqd_commands::{Command, KeyedMap, Reply};
+use iddqd::{IdHashMap, IdOrdMap};
+use iddqd_commands::{Command, KeyedMap, Reply, run};
 use iddqd_testing::items::{Named, Numbered};
 use iddqd_testing::nine::{are_left, retain_nine};
-use iddqd_testing::tried::{AskedForRoom, Tried, by_hash, in_order};
-use iddqd_testing::visitors::Change;
+use iddqd_testing::tried::{AskedByKey, AskedForRoom, by_hash, in_order};
+use iddqd_testing::visitors::{Change, Visited};
 use iddqd_testing::walked::Walked;
 use std::alloc::Global;
 use std::process::Abort;
@@ -25,10 +26,7 @@ fn numbered(number: u32, value: u32) -> Numbered {
 }
 
 // The map with three numbers.
-fn of_three<M: KeyedMap<Item = Numbered, Key = u32>>(rt: &impl Abort, mut map: Tried<M>) -> Tried<M>
-where
-    M: Drop,
-{
+fn of_three<M: AskedByKey<Item = Numbered, Key = u32> + Drop>(rt: &impl Abort, mut map: M) -> M {
     for number in [3, 1, 2] {
         check(rt, map.is_put(numbered(number, 10 * number)));
     }
@@ -36,11 +34,10 @@ where
 }
 
 // The visitor, once it has kept the odd ones of three.
-fn odd_of_three<M: KeyedMap<Item = Numbered, Key = u32>>(rt: &impl Abort, map: Tried<M>) -> Change
-where
-    M: Drop,
-    requires keeps_keys { VisitsKeepKeys M.key nat_eq changed }
-{
+fn odd_of_three<M: AskedByKey<Item = Numbered, Key = u32> + Drop + Visited>(
+    rt: &impl Abort,
+    map: M,
+) -> Change {
     let mut map = of_three(rt, map);
     let mut visitor = Change::KeepOdd(0);
     map.retain_mut(&mut visitor);
@@ -51,21 +48,34 @@ where
 }
 
 // A visit that writes 0 and answers false takes nothing out.
-fn visited_by_command<M: KeyedMap<Item = Numbered, Key = u32>>(
+fn visited_by_command<M: KeyedMap<Item = Numbered, Key = u32> + Drop>(
     rt: &impl Abort,
     alloc: Global,
-    map: Tried<M>,
+    mut map: M,
 ) -> Result<(), Fail>
-where
-    M: Drop,
+    requires keyed { M.keyed map }
     requires keeps_keys { VisitsKeepKeys M.key nat_eq changed }
 {
-    let mut map = of_three(rt, map);
-    let commands = Vec::from_array(alloc, [Command::Visit(1, Change::DenyAll), Command::Get(1)])?;
-    let Ok(replies) = map.run_visiting(alloc, commands) else {
+    let commands = Vec::from_array(
+        alloc,
+        [
+            Command::InsertUnique(numbered(3, 30)),
+            Command::InsertUnique(numbered(1, 10)),
+            Command::InsertUnique(numbered(2, 20)),
+            Command::Visit(1, Change::DenyAll),
+            Command::Get(1),
+        ],
+    )?;
+    let Ok(replies) = run(alloc, &mut map, commands) else {
         return Err(Fail::from("the commands came back"));
     };
-    let expected = [Reply::Visited(false), Reply::Found(numbered(1, 0))];
+    let expected = [
+        Reply::Inserted,
+        Reply::Inserted,
+        Reply::Inserted,
+        Reply::Visited(false),
+        Reply::Found(numbered(1, 0)),
+    ];
     check(rt, replies.as_slice() == expected.as_slice());
     Ok(())
 }
@@ -78,20 +88,16 @@ fn visitor(rt: HostRuntime) -> Result<(), Fail> {
         odd_of_three(&rt, in_order(alloc)) == Change::KeepOdd(123),
     );
     let _ = odd_of_three(&rt, by_hash(alloc));
-    visited_by_command(&rt, alloc, in_order(alloc))?;
-    visited_by_command(&rt, alloc, by_hash(alloc))
+    visited_by_command(&rt, alloc, IdOrdMap::new(alloc))?;
+    visited_by_command(&rt, alloc, IdHashMap::new(alloc))
 }
 
 // The names that were asked about, once the greater values were kept.
-fn kept_by_value<M: KeyedMap<Item = Named, Key = [u8; 3]>>(
+fn kept_by_value<M: AskedByKey<Item = Named, Key = [u8; 3]> + Walked<Named> + Drop>(
     rt: &impl Abort,
     alloc: Global,
-    mut map: Tried<M>,
-) -> Result<Vec<[u8; 3]>, Fail>
-where
-    M: Drop,
-    Tried<M>: Walked<Named>,
-{
+    mut map: M,
+) -> Result<Vec<[u8; 3]>, Fail> {
     check(rt, map.is_put(FOO) && map.is_put(BAR) && map.is_put(BAZ));
     let mut asked = Vec::with_capacity(alloc, 3)?;
     map.retain(|item| {
@@ -127,13 +133,10 @@ macro_rules! value_in {
     };
 }
 
-fn of_foo_and_bar<M: KeyedMap<Item = Named, Key = [u8; 3]>>(
+fn of_foo_and_bar<M: AskedByKey<Item = Named, Key = [u8; 3]> + Drop>(
     rt: &impl Abort,
-    mut map: Tried<M>,
-) -> Tried<M>
-where
-    M: Drop,
-{
+    mut map: M,
+) -> M {
     check(rt, map.is_put(FOO) && map.is_put(BAR));
     map
 }
@@ -184,11 +187,10 @@ fn writing_walk_of_one_item(rt: HostRuntime) {
     );
 }
 
-fn nine_left<M: KeyedMap<Item = Numbered, Key = u32>>(rt: &impl Abort, mut map: Tried<M>)
-where
-    M: Drop,
-    Tried<M>: Walked<Numbered> + AskedForRoom,
-{
+fn nine_left<M: AskedByKey<Item = Numbered, Key = u32> + Walked<Numbered> + AskedForRoom + Drop>(
+    rt: &impl Abort,
+    mut map: M,
+) {
     check(rt, retain_nine(&mut map) && are_left(&map));
     check(rt, map.vacant() == 16);
     check(rt, map.reserve(10) == Ok(()));
