@@ -26,12 +26,3 @@ returns-in-Err-Duplicate-clause-answers g c =
 pub returns-in-Err-Refused-clause-answers : goal.returns-in-Err-Refused-clause-answers
 returns-in-Err-Refused-clause-answers g c =
     refused_answered g.M.KeyedMap.key g.met.M.Key.Eq.laws (g.M.KeyedMap.limit c.args.map.now) c.args.items.items (g.M.KeyedMap.state c.args.map.now) _ c.len-before.result c.len-in-Err-Refused.result c.len-before.ensures.len c.len-in-Err-Refused.ensures.len g.V.Visit.visits g.M.KeyedMap.rule c.args.items refl c.in-Err-Refused.refused.item c.in-Err-Refused.refused.error (search rules) (search rules)
-
-pub returns-in-Ok-clause-stays : goal.returns-in-Ok-clause-stays
-returns-in-Ok-clause-stays g c = search rules
-
-pub returns-in-Err-Duplicate-clause-stays : goal.returns-in-Err-Duplicate-clause-stays
-returns-in-Err-Duplicate-clause-stays g c = search rules
-
-pub returns-in-Err-Refused-clause-stays : goal.returns-in-Err-Refused-clause-stays
-returns-in-Err-Refused-clause-stays g c = search rules

@@ -3,6 +3,3 @@ use Rattle.iddqd_commands.proofs.running.retain_mut.Goals as goal
 
 pub returns-clause-answers : goal.returns-clause-answers
 returns-clause-answers g c = search rules
-
-pub returns-clause-stays : goal.returns-clause-stays
-returns-clause-stays g c = search rules

@@ -24,35 +24,5 @@ loop-command-preserved g c =
       room = omega arith;
     }
 
-pub returns-in_default-clause-run : goal.returns-in_default-clause-run
-returns-in_default-clause-run g c = search rules
-
 pub returns-in_default-clause-handed_back : goal.returns-in_default-clause-handed_back
 returns-in_default-clause-handed_back g c = search rules
-
-pub returns-in_default-clause-unchanged : goal.returns-in_default-clause-unchanged
-returns-in_default-clause-unchanged g c = search rules
-
-pub returns-in_default-clause-keyed : goal.returns-in_default-clause-keyed
-returns-in_default-clause-keyed g c = search rules
-
-pub returns-in_default-clause-limit : goal.returns-in_default-clause-limit
-returns-in_default-clause-limit g c = search rules
-
-pub returns-clause-handed_back : goal.returns-clause-handed_back
-returns-clause-handed_back g c = search rules
-
-pub returns-clause-unchanged : goal.returns-clause-unchanged
-returns-clause-unchanged g c = search rules
-
-pub returns-clause-keyed : goal.returns-clause-keyed
-returns-clause-keyed g c = search rules
-
-pub returns-clause-limit : goal.returns-clause-limit
-returns-clause-limit g c = search rules
-
-pub loop-command-init : goal.loop-command-init
-loop-command-init g c = search rules
-
-pub loop-command-smaller : goal.loop-command-smaller
-loop-command-smaller g c = search rules

@@ -54,12 +54,3 @@ returns-in-Err-Refused-clause-answered g c =
     let answered = refused_sent kind g.M.KeyedMap.key c.requires.table.names (g.M.KeyedMap.limit c.args.map.now) c.requires.table.limit c.args.entries.items old new c.in-Err-Refused.refused told.1 c.no_room.result c.no_room.ensures.entry c.no_room.ensures.space in
     subst (λ items. IfOk c.write_reply-in-Err-Refused.result (λ refusals. WritesReply kind request old.items refusals items (string_bytes c.args.text.now) (string_bytes c.write_reply-in-Err-Refused.new.text))) (search rules)
     (written kind request old.items new c.no_room.result (string_bytes c.args.text.now) (string_bytes c.write_reply-in-Err-Refused.new.text) c.write_reply-in-Err-Refused.result answered c.write_reply-in-Err-Refused.ensures.refusals c.write_reply-in-Err-Refused.ensures.line)
-
-pub returns-in-Ok-clause-table : goal.returns-in-Ok-clause-table
-returns-in-Ok-clause-table g c = search rules
-
-pub returns-in-Err-Duplicate-clause-table : goal.returns-in-Err-Duplicate-clause-table
-returns-in-Err-Duplicate-clause-table g c = search rules
-
-pub returns-in-Err-Refused-clause-table : goal.returns-in-Err-Refused-clause-table
-returns-in-Err-Refused-clause-table g c = search rules

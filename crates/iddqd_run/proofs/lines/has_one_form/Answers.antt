@@ -1,9 +1,6 @@
 use Rattle.std.proofs.Common.{rules}
 use Rattle.iddqd_run.proofs.lines.has_one_form.Goals as goal
 
-pub returns-in-None : goal.returns-in-None
-returns-in-None c = search rules
-
 pub returns-then-first-ne48 : goal.returns-then-first-ne48
 returns-then-first-ne48 c = search rules
 

@@ -24,18 +24,6 @@ returns-in-Err-Refused-clause-answered g c =
     let refused = rw (c.in-Err-Refused.field-0-is, c.requires.table.names) at c.in-Err-Refused.ensures.refused in
     no_room_answered g.M.Table.kind (Add c.args.name.now c.args.entry.value) items _ c.no_room.result (λ _. refl) (λ full entries shows. full_plainly g.M.Table.kind c.args.entry items c.args.name.now c.requires.name _ refused.1.0 (Add c.args.name.now c.args.entry.value) Added (add_makes g.M.Table.kind c.args.name.now c.args.entry.value) entries shows full (search rules)) (search rules) (c.no_room.ensures.entry items (rw c.requires.table.limit at refused.1.1))
 
-pub returns-in-Ok-clause-not_full : goal.returns-in-Ok-clause-not_full
-returns-in-Ok-clause-not_full g c = search rules
-
-pub returns-in-Ok-clause-table : goal.returns-in-Ok-clause-table
-returns-in-Ok-clause-table g c = search rules
-
-pub returns-in-Err-Duplicate-clause-not_full : goal.returns-in-Err-Duplicate-clause-not_full
-returns-in-Err-Duplicate-clause-not_full g c = search rules
-
-pub returns-in-Err-Duplicate-clause-table : goal.returns-in-Err-Duplicate-clause-table
-returns-in-Err-Duplicate-clause-table g c = search rules
-
 pub returns-in-Err-Refused-clause-not_full : goal.returns-in-Err-Refused-clause-not_full
 returns-in-Err-Refused-clause-not_full g c = search rules
 

@@ -1,5 +1,6 @@
-use Rattle.std.proofs.Common.{◌≡◌, ℕ, ◌-◌, List, ◌++◌, length, take, drop, sym, ap, ◌∙◌, append_assoc, take-append-drop, rules}
+use Rattle.std.proofs.Common.{◌≡◌, ℕ, ◌-◌, List, ◌++◌, length, take, drop, sym, ap, ◌∙◌, append_assoc, take-append-drop, arith}
 use Rattle.std.proofs.lemmas.List.{take_rest}
+use Rattle.std.proofs.lemmas.Grind.{common_steps}
 use Rattle.std.proofs.KnownBytes.{Appends-trans, Appends-kept}
 use Rattle.iddqd_run.proofs.serving.write_whole.Goals as goal
 use Rattle.iddqd_run.proofs.serving.write_whole.Goals.{in-Ok, in-Err+else-ne}
@@ -16,32 +17,5 @@ loop-preserved g c =
       | in-Err+else-ne w ↦ (front, rw w.rest-is split, Appends-kept _ _ _ _ appended w.in-Err.ensures.bytes)
     ]
 
-pub returns-then-is_empty-clause-begun : goal.returns-then-is_empty-clause-begun
-returns-then-is_empty-clause-begun g c = search rules
-
-pub returns-then-is_empty-clause-fault : goal.returns-then-is_empty-clause-fault
-returns-then-is_empty-clause-fault g c = search rules
-
-pub returns-in-Ok-eq0-clause-whole : goal.returns-in-Ok-eq0-clause-whole
-returns-in-Ok-eq0-clause-whole g c = search rules
-
-pub returns-in-Ok-eq0-clause-fault : goal.returns-in-Ok-eq0-clause-fault
-returns-in-Ok-eq0-clause-fault g c = search rules
-
-pub returns-then-ne-clause-whole : goal.returns-then-ne-clause-whole
-returns-then-ne-clause-whole g c = search rules
-
-pub returns-then-ne-clause-fault : goal.returns-then-ne-clause-fault
-returns-then-ne-clause-fault g c = search rules
-
-pub returns-clause-whole : goal.returns-clause-whole
-returns-clause-whole g c = search rules
-
-pub returns-clause-fault : goal.returns-clause-fault
-returns-clause-fault g c = search rules
-
-pub loop-init : goal.loop-init
-loop-init g c = search rules
-
-pub loop-smaller : goal.loop-smaller
-loop-smaller g c = search rules
+pub returns-then-ne-clause-begun : goal.returns-then-ne-clause-begun
+returns-then-ne-clause-begun g c = grind (arith, common_steps)

@@ -14,11 +14,5 @@ loop-item-preserved g c =
     let here : finds item = c.has_equal.ensures.0 c.if-not-has_equal.false in
     (tt, tt, kept.2, ((λ all. All-drop finds 1 (item ∷ rest) (subst (All finds) steps (kept.3.0 all))), (λ all. kept.3.1 (subst (All finds) (sym steps) (All-cons finds item rest here all)))))
 
-pub returns-then-len : goal.returns-then-len
-returns-then-len g c = search rules
-
-pub returns-then-not-has_equal : goal.returns-then-not-has_equal
-returns-then-not-has_equal g c = search rules
-
 pub returns : goal.returns
 returns g c = search rules

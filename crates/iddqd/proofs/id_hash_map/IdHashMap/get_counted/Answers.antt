@@ -8,9 +8,6 @@ returns-clause-spare g c =
     let m = c.self.inside in
     subst SpareFits c.self.view_is (spare_fits m.hasher m.store m.index c.self.invariant)
 
-pub returns-clause-found : goal.returns-clause-found
-returns-clause-found g c = search rules
-
 pub returns-clause-steps : goal.returns-clause-steps
 returns-clause-steps g c = search rules
 

@@ -23,14 +23,5 @@ returns-clause-steps g c =
     let m = c.self.inside in
     omega (arith, c.find_slot_counted.ensures.steps, bound_of c.args.hash m.hasher m.store m.index c.self.invariant c.args.self.now c.self.view_is)
 
-pub returns-in_err-slot-clause-found : goal.returns-in_err-slot-clause-found
-returns-in_err-slot-clause-found g c = search rules
-
-pub returns-in_err-slot-clause-counts_on : goal.returns-in_err-slot-clause-counts_on
-returns-in_err-slot-clause-counts_on g c = search rules
-
 pub returns-clause-found : goal.returns-clause-found
 returns-clause-found g c = search rules
-
-pub returns-clause-counts_on : goal.returns-clause-counts_on
-returns-clause-counts_on g c = search rules

@@ -42,15 +42,3 @@ returns-clause-written g c = search rules
 
 pub returns-clause-others : goal.returns-clause-others
 returns-clause-others g c = search rules
-
-pub returns-clause-kept : goal.returns-clause-kept
-returns-clause-kept g c = search rules
-
-pub returns-clause-item : goal.returns-clause-item
-returns-clause-item g c = search rules
-
-pub returns-clause-refused : goal.returns-clause-refused
-returns-clause-refused g c = search rules
-
-pub returns-clause-no_spare : goal.returns-clause-no_spare
-returns-clause-no_spare g c = search rules

@@ -9,12 +9,3 @@ returns-clause-capacity g c = search rules
 
 pub returns-clause-in_limit : goal.returns-clause-in_limit
 returns-clause-in_limit g c = search rules
-
-pub returns-clause-refused : goal.returns-clause-refused
-returns-clause-refused g c = search rules
-
-pub returns-clause-needed : goal.returns-clause-needed
-returns-clause-needed g c = search rules
-
-pub returns-clause-kept : goal.returns-clause-kept
-returns-clause-kept g c = search rules

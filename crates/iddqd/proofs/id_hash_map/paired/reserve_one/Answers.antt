@@ -8,12 +8,3 @@ returns-clause-paired g c =
 
 pub returns-then-len-limit-clause-kind : goal.returns-then-len-limit-clause-kind
 returns-then-len-limit-clause-kind g c = search rules
-
-pub returns-in_err-try_reserve-clause-kind : goal.returns-in_err-try_reserve-clause-kind
-returns-in_err-try_reserve-clause-kind g c = search rules
-
-pub returns-clause-kind : goal.returns-clause-kind
-returns-clause-kind g c = search rules
-
-pub overflow_cast-limit : goal.overflow_cast-limit
-overflow_cast-limit g c = search rules

@@ -50,12 +50,3 @@ returns-in_err-insert_one-clause-taken g c = search rules
 
 pub returns-in_err-insert_one-clause-stays : goal.returns-in_err-insert_one-clause-stays
 returns-in_err-insert_one-clause-stays g c = search rules
-
-pub returns-clause-refused : goal.returns-clause-refused
-returns-clause-refused g c = search rules
-
-pub returns-clause-stays : goal.returns-clause-stays
-returns-clause-stays g c = search rules
-
-pub loop-item-smaller : goal.loop-item-smaller
-loop-item-smaller g c = search rules

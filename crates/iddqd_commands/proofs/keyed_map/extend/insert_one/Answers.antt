@@ -8,26 +8,5 @@ returns-in-Ok-clause-inserted g c =
     let inserts = c.insert_unique.follows.holds tt is in
     record { inserted = (inserts.inserted.0, inserts.inserted.1, search rules); stays = search rules }
 
-pub returns-in-Ok-clause-kept : goal.returns-in-Ok-clause-kept
-returns-in-Ok-clause-kept g c = search rules
-
-pub returns-in-Ok-clause-refused : goal.returns-in-Ok-clause-refused
-returns-in-Ok-clause-refused g c = search rules
-
 pub returns-in-Err-Duplicate-clause-inserted : goal.returns-in-Err-Duplicate-clause-inserted
 returns-in-Err-Duplicate-clause-inserted g c = search rules
-
-pub returns-in-Err-Duplicate-clause-kept : goal.returns-in-Err-Duplicate-clause-kept
-returns-in-Err-Duplicate-clause-kept g c = search rules
-
-pub returns-in-Err-Duplicate-clause-refused : goal.returns-in-Err-Duplicate-clause-refused
-returns-in-Err-Duplicate-clause-refused g c = search rules
-
-pub returns-in-Err-Refused-clause-inserted : goal.returns-in-Err-Refused-clause-inserted
-returns-in-Err-Refused-clause-inserted g c = search rules
-
-pub returns-in-Err-Refused-clause-kept : goal.returns-in-Err-Refused-clause-kept
-returns-in-Err-Refused-clause-kept g c = search rules
-
-pub returns-in-Err-Refused-clause-refused : goal.returns-in-Err-Refused-clause-refused
-returns-in-Err-Refused-clause-refused g c = search rules

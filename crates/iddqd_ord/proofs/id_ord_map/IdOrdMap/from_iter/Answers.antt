@@ -4,15 +4,6 @@ use Rattle.iddqd_ord.proofs.id_ord_map.IdOrdMap.from_iter.Goals as goal
 pub returns-in-Ok-clause-items : goal.returns-in-Ok-clause-items
 returns-in-Ok-clause-items g c = search rules
 
-pub returns-in-Ok-clause-vacant : goal.returns-in-Ok-clause-vacant
-returns-in-Ok-clause-vacant g c = search rules
-
-pub returns-in-Ok-clause-limit : goal.returns-in-Ok-clause-limit
-returns-in-Ok-clause-limit g c = search rules
-
-pub returns-in-Ok-clause-keyed : goal.returns-in-Ok-clause-keyed
-returns-in-Ok-clause-keyed g c = search rules
-
 pub returns-in-Err-clause-items : goal.returns-in-Err-clause-items
 returns-in-Err-clause-items g c = search rules
 

@@ -12,9 +12,6 @@ returns-clause-steps g c =
     let m = c.self.inside in
     omega (arith, c.in_ok-slot.ensures.steps, bound_of m.store m.index.slots c.self.invariant c.args.self.now.items (ap (λ v. v.items) c.self.view_is))
 
-pub returns-in_err-slot-clause-found : goal.returns-in_err-slot-clause-found
-returns-in_err-slot-clause-found g c = search rules
-
 pub returns-in_err-slot-clause-counts_on : goal.returns-in_err-slot-clause-counts_on
 returns-in_err-slot-clause-counts_on g c = search rules
 

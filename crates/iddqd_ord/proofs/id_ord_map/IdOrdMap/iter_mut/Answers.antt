@@ -1,11 +1,5 @@
 use Rattle.std.proofs.Common.{rules}
 use Rattle.iddqd_ord.proofs.id_ord_map.IdOrdMap.iter_mut.Goals as goal
 
-pub returns-clause-same_map : goal.returns-clause-same_map
-returns-clause-same_map g c = search rules
-
-pub returns-clause-unchanged : goal.returns-clause-unchanged
-returns-clause-unchanged g c = search rules
-
 pub returns-clause-start : goal.returns-clause-start
 returns-clause-start g c = search rules

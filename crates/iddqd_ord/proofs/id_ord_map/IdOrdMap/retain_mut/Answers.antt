@@ -47,12 +47,6 @@ loop-at-preserved g c =
       keyed = c.take_at.ensures.keyed;
     }
 
-pub loop-at-init : goal.loop-at-init
-loop-at-init g c = search rules
-
-pub overflow_add-at : goal.overflow_add-at
-overflow_add-at g c = search rules
-
 pub loop-at-smaller-then-visit_at : goal.loop-at-smaller-then-visit_at
 loop-at-smaller-then-visit_at g c = search rules
 

@@ -1,20 +1,8 @@
 use Rattle.std.proofs.Common.{rules}
 use Rattle.iddqd_ord.proofs.id_ord_map.IdOrdMap.shrink_to_fit.Goals as goal
 
-pub returns-clause-items : goal.returns-clause-items
-returns-clause-items g c = search rules
-
 pub returns-clause-shrinks : goal.returns-clause-shrinks
 returns-clause-shrinks g c = search rules
 
-pub returns-clause-only_memory : goal.returns-clause-only_memory
-returns-clause-only_memory g c = search rules
-
-pub returns-clause-needed : goal.returns-clause-needed
-returns-clause-needed g c = search rules
-
 pub returns-clause-frees : goal.returns-clause-frees
 returns-clause-frees g c = search rules
-
-pub returns-clause-keyed : goal.returns-clause-keyed
-returns-clause-keyed g c = search rules

@@ -1,4 +1,4 @@
-use Rattle.std.proofs.Common.{Ok, Err, length, subst, sym, ap, arith}
+use Rattle.std.proofs.Common.{Ok, Err, length, subst, sym, ap, arith, rules}
 use Rattle.iddqd_ord_index.specs.Digits.{digits}
 use Rattle.iddqd_ord_index.specs.Standing.{slot_standing, IsMonotone, IsPlace}
 use Rattle.iddqd_ord_index.proofs.HeightLemmas.{height_bound}
@@ -15,9 +15,15 @@ returns-in-Ok-clause-place g c =
 pub returns-in-Ok-clause-steps : goal.returns-in-Ok-clause-steps
 returns-in-Ok-clause-steps g c = omega (arith, height_bound c.self.inside.root c.self.invariant.dense c.self.invariant.top, ap (λ i. digits (length i.slots)) c.self.view_is, c.in-Ok.ensures.steps)
 
+pub returns-in-Ok-clause-counts_on : goal.returns-in-Ok-clause-counts_on
+returns-in-Ok-clause-counts_on g c = search rules
+
 pub returns-in-Err-clause-place : goal.returns-in-Err-clause-place
 returns-in-Err-clause-place g c =
     placed g.T.IdOrdItem.key (g.Q.Comparable.compare c.args.query.now) c.args.store.now c.args.self.now.slots c.requires.occupied (Err c.in-Err.position) (subst (λ i. IsPlace (slot_standing g.T.IdOrdItem.key (g.Q.Comparable.compare c.args.query.now) c.args.store.now) i.slots (Err c.in-Err.position)) c.self.view_is c.in-Err.ensures.place)
 
 pub returns-in-Err-clause-steps : goal.returns-in-Err-clause-steps
 returns-in-Err-clause-steps g c = omega (arith, height_bound c.self.inside.root c.self.invariant.dense c.self.invariant.top, ap (λ i. digits (length i.slots)) c.self.view_is, c.in-Err.ensures.steps)
+
+pub returns-in-Err-clause-counts_on : goal.returns-in-Err-clause-counts_on
+returns-in-Err-clause-counts_on g c = search rules

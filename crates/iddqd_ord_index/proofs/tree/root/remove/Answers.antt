@@ -24,27 +24,3 @@ returns-then-levels-eq1-clause-kept c = search rules
 
 pub returns-then-levels-eq1-clause-fallen : goal.returns-then-levels-eq1-clause-fallen
 returns-then-levels-eq1-clause-fallen c = search rules
-
-pub returns-clause-slot : goal.returns-clause-slot
-returns-clause-slot c = search rules
-
-pub returns-clause-slots : goal.returns-clause-slots
-returns-clause-slots c = search rules
-
-pub returns-clause-levels : goal.returns-clause-levels
-returns-clause-levels c = search rules
-
-pub returns-clause-top : goal.returns-clause-top
-returns-clause-top c = search rules
-
-pub returns-clause-dense : goal.returns-clause-dense
-returns-clause-dense c = search rules
-
-pub returns-clause-wanted : goal.returns-clause-wanted
-returns-clause-wanted c = search rules
-
-pub returns-clause-kept : goal.returns-clause-kept
-returns-clause-kept c = search rules
-
-pub returns-clause-fallen : goal.returns-clause-fallen
-returns-clause-fallen c = search rules

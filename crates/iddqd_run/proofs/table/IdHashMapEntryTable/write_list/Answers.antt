@@ -20,12 +20,3 @@ returns-in_default-clause-listed c = search rules
 
 pub returns-in_default-clause-refused : goal.returns-in_default-clause-refused
 returns-in_default-clause-refused c = search rules
-
-pub returns-in-Ok-write_sorted-clause-refused : goal.returns-in-Ok-write_sorted-clause-refused
-returns-in-Ok-write_sorted-clause-refused c = search rules
-
-pub returns-clause-listed : goal.returns-clause-listed
-returns-clause-listed c = search rules
-
-pub returns-clause-refused : goal.returns-clause-refused
-returns-clause-refused c = search rules

@@ -10,12 +10,3 @@ returns-clause-taken c = search rules
 
 pub returns-clause-left : goal.returns-clause-left
 returns-clause-left c = search rules
-
-pub returns-clause-stays : goal.returns-clause-stays
-returns-clause-stays c = search rules
-
-pub returns-clause-endless : goal.returns-clause-endless
-returns-clause-endless c = search rules
-
-pub returns-clause-unchanged : goal.returns-clause-unchanged
-returns-clause-unchanged c = search rules

@@ -1,15 +1,6 @@
 use Rattle.std.proofs.Common.{rules}
 use Rattle.iddqd_store.proofs.errors.DuplicateItem+T+ref+T.into_owned.Goals as goal
 
-pub returns-in-Ok-clause-new : goal.returns-in-Ok-clause-new
-returns-in-Ok-clause-new g c = search rules
-
-pub returns-in-Ok-clause-duplicates : goal.returns-in-Ok-clause-duplicates
-returns-in-Ok-clause-duplicates g c = search rules
-
-pub returns-in-Ok-clause-back : goal.returns-in-Ok-clause-back
-returns-in-Ok-clause-back g c = search rules
-
 pub returns-in-Err-clause-new : goal.returns-in-Err-clause-new
 returns-in-Err-clause-new g c = search rules
 

@@ -1,11 +1,5 @@
 use Rattle.std.proofs.Common.{rules}
 use Rattle.iddqd_store.proofs.validation.ValidateCompact.internal_check.Goals as goal
 
-pub returns-in-Compact : goal.returns-in-Compact
-returns-in-Compact c = search rules
-
 pub returns-in_default : goal.returns-in_default
 returns-in_default c = search rules
-
-pub returns-in_default-2 : goal.returns-in_default-2
-returns-in_default-2 c = search rules

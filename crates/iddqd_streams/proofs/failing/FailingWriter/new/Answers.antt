@@ -3,6 +3,3 @@ use Rattle.iddqd_streams.proofs.failing.FailingWriter.new.Goals as goal
 
 pub returns-clause-taken : goal.returns-clause-taken
 returns-clause-taken c = search rules
-
-pub returns-clause-after : goal.returns-clause-after
-returns-clause-after c = search rules

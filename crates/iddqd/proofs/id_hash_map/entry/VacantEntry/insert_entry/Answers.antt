@@ -6,6 +6,3 @@ invariant_of-self g c = search rules
 
 pub returns-in-Ok : goal.returns-in-Ok
 returns-in-Ok g c = search rules
-
-pub returns-in-Err : goal.returns-in-Err
-returns-in-Err g c = search rules

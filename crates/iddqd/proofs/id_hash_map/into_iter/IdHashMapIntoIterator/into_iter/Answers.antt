@@ -1,8 +1,5 @@
 use Rattle.std.proofs.Common.{rules}
 use Rattle.iddqd.proofs.id_hash_map.into_iter.IdHashMapIntoIterator.into_iter.Goals as goal
 
-pub invariant_of-result : goal.invariant_of-result
-invariant_of-result g c = search rules
-
 pub returns : goal.returns
 returns g c = search rules

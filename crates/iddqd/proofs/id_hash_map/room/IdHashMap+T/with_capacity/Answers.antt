@@ -1,14 +1,8 @@
 use Rattle.std.proofs.Common.{rules}
 use Rattle.iddqd.proofs.id_hash_map.room.IdHashMap+T.with_capacity.Goals as goal
 
-pub returns-clause-empty : goal.returns-clause-empty
-returns-clause-empty g c = search rules
-
 pub returns-clause-spare : goal.returns-clause-spare
 returns-clause-spare g c = search rules
-
-pub returns-clause-within_limit : goal.returns-clause-within_limit
-returns-clause-within_limit g c = search rules
 
 pub returns-clause-capacity : goal.returns-clause-capacity
 returns-clause-capacity g c = search rules
@@ -18,6 +12,3 @@ returns-clause-in_limit g c = search rules
 
 pub returns-clause-refused : goal.returns-clause-refused
 returns-clause-refused g c = search rules
-
-pub returns-clause-keyed : goal.returns-clause-keyed
-returns-clause-keyed g c = search rules

@@ -3,6 +3,3 @@ use Rattle.iddqd_commands.proofs.keyed_map.ord.IdOrdMapKeyedMap.get.Goals as goa
 
 pub returns-clause-found : goal.returns-clause-found
 returns-clause-found g c = search rules
-
-pub returns-clause-room : goal.returns-clause-room
-returns-clause-room g c = search rules

@@ -3,6 +3,3 @@ use Rattle.iddqd_commands.proofs.keyed_map.ord.IdOrdMapKeyedMap.len.Goals as goa
 
 pub returns-clause-len : goal.returns-clause-len
 returns-clause-len g c = search rules
-
-pub returns-clause-room : goal.returns-clause-room
-returns-clause-room g c = search rules

@@ -6,9 +6,3 @@ returns-clause-value g c = search rules
 
 pub returns-clause-items : goal.returns-clause-items
 returns-clause-items g c = search rules
-
-pub returns-clause-unchanged : goal.returns-clause-unchanged
-returns-clause-unchanged g c = search rules
-
-pub returns-clause-stays : goal.returns-clause-stays
-returns-clause-stays g c = search rules

@@ -3,12 +3,3 @@ use Rattle.iddqd_commands.proofs.keyed_map.ord.IdOrdMapKeyedMap.reserve.Goals as
 
 pub returns-clause-made : goal.returns-clause-made
 returns-clause-made g c = search rules
-
-pub returns-clause-refused : goal.returns-clause-refused
-returns-clause-refused g c = search rules
-
-pub returns-clause-unchanged : goal.returns-clause-unchanged
-returns-clause-unchanged g c = search rules
-
-pub returns-clause-stays : goal.returns-clause-stays
-returns-clause-stays g c = search rules

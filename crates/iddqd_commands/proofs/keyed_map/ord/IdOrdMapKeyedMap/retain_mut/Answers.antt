@@ -3,6 +3,3 @@ use Rattle.iddqd_commands.proofs.keyed_map.ord.IdOrdMapKeyedMap.retain_mut.Goals
 
 pub returns-clause-retained : goal.returns-clause-retained
 returns-clause-retained g c = search rules
-
-pub returns-clause-stays : goal.returns-clause-stays
-returns-clause-stays g c = search rules

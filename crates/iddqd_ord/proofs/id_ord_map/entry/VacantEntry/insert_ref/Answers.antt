@@ -1,11 +1,5 @@
 use Rattle.std.proofs.Common.{rules}
 use Rattle.iddqd_ord.proofs.id_ord_map.entry.VacantEntry.insert_ref.Goals as goal
 
-pub invariant_of-self : goal.invariant_of-self
-invariant_of-self g c = search rules
-
 pub returns-in-Ok : goal.returns-in-Ok
 returns-in-Ok g c = search rules
-
-pub returns-in-Err : goal.returns-in-Err
-returns-in-Err g c = search rules

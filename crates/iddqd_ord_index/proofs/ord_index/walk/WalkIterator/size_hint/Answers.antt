@@ -3,9 +3,3 @@ use Rattle.iddqd_ord_index.proofs.ord_index.walk.WalkIterator.size_hint.Goals as
 
 pub returns-clause-exact : goal.returns-clause-exact
 returns-clause-exact c = search rules
-
-pub returns-clause-lower : goal.returns-clause-lower
-returns-clause-lower c = search rules
-
-pub returns-clause-upper : goal.returns-clause-upper
-returns-clause-upper c = search rules

@@ -1,8 +1,5 @@
 use Rattle.std.proofs.Common.{rules}
 use Rattle.iddqd_ord_index.proofs.tree.node.Branches.put.Goals as goal
 
-pub returns-clause-cell : goal.returns-clause-cell
-returns-clause-cell c = search rules
-
 pub returns-clause-counts : goal.returns-clause-counts
 returns-clause-counts c = search rules

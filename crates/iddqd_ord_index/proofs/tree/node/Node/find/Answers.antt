@@ -1,4 +1,4 @@
-use Rattle.std.proofs.Common.{◌+◌, ◌-◌, Ok, Err, length, take, subst, ap, sym, arith, rules}
+use Rattle.std.proofs.Common.{◌+◌, ◌-◌, Ok, Err, length, take, subst, ap, sym, arith}
 use Rattle.std.specs.List.{All}
 use Rattle.iddqd_store.specs.Store.{IsOccupied}
 use Rattle.iddqd_ord_index.specs.Nodes.{below}
@@ -104,15 +104,3 @@ returns-in-Err-search-clause-place g c =
 pub returns-in-Err-search-clause-steps : goal.returns-in-Err-search-clause-steps
 returns-in-Err-search-clause-steps g c =
     omega (arith, digits_four (length c.as_slice-2.result.now) c.as_slice-2.ensures.fits, c.down.invariant.counted, c.in-Err-search.ensures.steps, leaf_levels (below c.node.inside.branches) (c.is_empty.ensures.none c.down-test.false), ap (λ t. t.height) c.node.view_is)
-
-pub overflow_add-i : goal.overflow_add-i
-overflow_add-i g c = search rules
-
-pub overflow_sub-result : goal.overflow_sub-result
-overflow_sub-result g c = search rules
-
-pub overflow_cast-result : goal.overflow_cast-result
-overflow_cast-result g c = search rules
-
-pub overflow_cast-result-in-Err-search : goal.overflow_cast-result-in-Err-search
-overflow_cast-result-in-Err-search g c = search rules

@@ -1,4 +1,4 @@
-use Rattle.std.proofs.Common.{◌≡◌, ℕ, ◌-◌, ◌<◌, List, length, get_or, ap, ◌∙◌, subst, min, arith, rules}
+use Rattle.std.proofs.Common.{◌≡◌, ℕ, ◌-◌, ◌<◌, List, length, get_or, ap, ◌∙◌, subst, min, arith}
 use Rattle.std.proofs.lemmas.Grind.{common_steps}
 use Rattle.std.specs.List.{remove}
 use Rattle.iddqd_ord_index.specs.Neighbours.{IsNear}
@@ -51,9 +51,6 @@ pub returns-clause-slots : goal.returns-clause-slots
 returns-clause-slots c =
     let m = both (below c.args.branches.now) (below c.remove-lower.new.self) (below c.remove-upper.new.self) c.args.slots.now.items c.args.i c.min-j.result c.len.result c.args.width c.remove-lower.result.0.value c.remove-upper.result.0.value c.requires.near c.min-j.ensures c.len.ensures.value c.remove-lower.ensures.below c.remove-upper.ensures.below c.remove-lower.ensures.node c.remove-upper.ensures.node c.requires.width c.if-width-ge5.false in
     c.settle.ensures.slots ∙ ap (λ l. weave l c.args.slots.now.items) m.back
-
-pub overflow_sub-len : goal.overflow_sub-len
-overflow_sub-len c = search rules
 
 pub remove-upper-requires-clause-in_bounds : goal.remove-upper-requires-clause-in_bounds
 remove-upper-requires-clause-in_bounds c = grind (arith, common_steps)
