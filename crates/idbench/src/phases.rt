@@ -45,21 +45,26 @@ impl Times {
     }
 }
 
+// Puts the numbers in an order that a generator of a fixed seed gives.
+fn shuffle(numbers: &mut [u64]) {
+    let mut seed = 1u64;
+    for last in 1..numbers.len() {
+        seed = seed
+            .wrapping_mul(6_364_136_223_846_793_005)
+            .wrapping_add(1_442_695_040_888_963_407);
+        let other = (seed >> 33) as usize % (last + 1);
+        numbers.swap(last, other);
+    }
+}
+
 impl Plan {
-    /// The numbers below the size, in an order that a generator of a fixed seed gives.
+    /// The numbers below the size, shuffled.
     pub(crate) fn new(alloc: Global, size: u64) -> Result<Plan, AllocError> {
         let mut shuffled = Vec::new(alloc);
         for number in 0..size {
             shuffled.push(number)?;
         }
-        let mut seed = 1u64;
-        for last in 1..shuffled.len() {
-            seed = seed
-                .wrapping_mul(6_364_136_223_846_793_005)
-                .wrapping_add(1_442_695_040_888_963_407);
-            let other = (seed >> 33) as usize % (last + 1);
-            shuffled.swap(last, other);
-        }
+        shuffle(shuffled.as_mut_slice());
         Ok(Plan { size, shuffled })
     }
 
@@ -194,6 +199,15 @@ fn taken<S: Subject>(clock: &impl Clock, map: &mut S, keys: &[S::Key]) -> io::Re
     Ok((nanos_since(clock, start)?, found))
 }
 
+// The sum of what the phases found.
+fn summed(parts: [u64; 7]) -> u64 {
+    let mut sum = 0u64;
+    for part in parts {
+        sum = sum.wrapping_add(part);
+    }
+    sum
+}
+
 // Times each phase over the map, which has no items. The first of the keys are there once all are in, and the others are not.
 fn timed_over<S: Subject>(
     clock: &impl Clock,
@@ -210,8 +224,7 @@ fn timed_over<S: Subject>(
     let (walk, clone, seen) = walked(clock, map)?;
     let (churn, exchanged) = churned(clock, map, present, plan.loads::<S>(alloc, plan.size)?)?;
     let (removal, removed) = taken(clock, map, absent)?;
-    let mut sum = 0u64;
-    for part in [
+    let parts = [
         reserved_count,
         count,
         found,
@@ -219,9 +232,7 @@ fn timed_over<S: Subject>(
         seen,
         exchanged,
         removed,
-    ] {
-        sum = sum.wrapping_add(part);
-    }
+    ];
     Ok(Times {
         nanos: [
             insertion,
@@ -233,7 +244,7 @@ fn timed_over<S: Subject>(
             churn,
             removal,
         ],
-        found: sum,
+        found: summed(parts),
     })
 }
 

@@ -1,2 +1,2 @@
-//! What the crate's own tests ask of a map (the crate's module of that name).
-pub use iddqd_core::{ValidateCompact, ValidationError};
+//! What the crate's own tests ask of a map (the crate's module of that name), and what stands on both maps.
+pub use iddqd_core::{ValidateCompact, ValidationError, likely_new};

@@ -100,7 +100,10 @@ impl IdHashItem for Coarse {
 }
 
 /// An item of this name.
-pub fn item_of(name: [u8; 3], value: u32) -> Coarse {
+pub fn item_of(name: [u8; 3], value: u32) -> Coarse
+    ensures name { result.name.0 ≡ name }
+    ensures value { result.value ≡ value }
+{
     Coarse {
         name: Caseless(name),
         value,
@@ -108,7 +111,9 @@ pub fn item_of(name: [u8; 3], value: u32) -> Coarse {
 }
 
 /// The name's spelling and the value.
-pub fn spelled(item: &Coarse) -> ([u8; 3], u32) {
+pub fn spelled(item: &Coarse) -> ([u8; 3], u32)
+    ensures { result ≡ (item.now.name.0, item.now.value) }
+{
     let name = item.name.0;
     (name, item.value)
 }

@@ -1,5 +1,5 @@
 //! Items whose clone can be refused.
-ghost use Rattle.std.specs.Prelude.{◌≡◌, ℕ};
+ghost use Rattle.std.specs.Prelude.{◌≡◌, ℕ, IfOk};
 
 use iddqd::{IdHashItem, IdOrdItem};
 use std::alloc::{AllocError, Global};
@@ -52,8 +52,10 @@ impl IdHashItem for Kept {
     }
 }
 
-/// An item of the name 7.
-pub fn make_kept(alloc: Global, value: u32) -> Result<Kept, AllocError> {
+/// An item of the name 7, or `Err` where memory for its value was refused.
+pub fn make_kept(alloc: Global, value: u32) -> Result<Kept, AllocError>
+    ensures { IfOk result (λ kept. kept ≡ (7, value)) }
+{
     Ok(Kept {
         name: 7,
         value: Box::new(alloc, value)?,

@@ -16,7 +16,7 @@ use Rattle.std.proofs.lemmas.List.{append_assoc, length-append, length-take-le}
 use Rattle.std.proofs.lemmas.List.Edits.{length-insert}
 use Rattle.std.proofs.lemmas.List.Sorted.{IsPermutation-append_left, IsPermutation-sym, IsPermutation-trans, length_permutation}
 use Rattle.std.proofs.lemmas.Option.{slice_get_within}
-use Rattle.iddqd.specs.Collecting.{AddsAll}
+use Rattle.iddqd.specs.Collecting.{AddsAll, likely_new}
 use Rattle.iddqd.specs.Contents.{NoTwoAkin, OverwritesItem, SameInAnyOrder, find_item}
 use Rattle.iddqd.proofs.AddingLemmas.{adds_last, adds_none, conflicts_first}
 use Rattle.iddqd.proofs.OrderLemmas.{differ_moved, find_moved}
@@ -25,7 +25,7 @@ use Rattle.iddqd.specs.Refusal.{FindsNoRoom, IsLent}
 use Rattle.iddqd.specs.declared.errors.ExtendUniqueError.TheVariants as unique_error
 use Rattle.iddqd_commands.specs.KeyedMap.{RefusesAmong, RefusesOne, StaysKeyed, StopsExtension}
 use Rattle.iddqd_commands.specs.SameReplies.{HoldSameItems, IsUnrefused}
-use Rattle.iddqd_commands.specs.Step.{Answers, FindsFull, FitsLikely, Hashed, KeepsRoom, MapRule, MapState, MeetsAkin, Ordered, RefusesRoom, StopsAt, TakesAll, likely_new}
+use Rattle.iddqd_commands.specs.Step.{Answers, FindsFull, FitsLikely, Hashed, KeepsRoom, MapRule, MapState, MeetsAkin, Ordered, RefusesRoom, StopsAt, TakesAll}
 use Rattle.iddqd_commands.specs.declared.commands.Command.TheVariants.{ExtendUnique}
 use Rattle.iddqd_commands.specs.declared.keyed_map.extend.NotTaken.{NotTaken}
 use Rattle.iddqd_commands.specs.declared.keyed_map.extend.NotTaken.TheVariants.{Akin, Refused}

@@ -7,11 +7,12 @@
 use Rattle.std.specs.Prelude.{◌≡◌, ℕ, Bool, List, length, Some, None, IfErr, IfNone, IfSome, Result}
 use Rattle.std.specs.Borrow.{Fml, RattleType, MutBor, LendsSoOk, unit}
 use Rattle.iddqd.specs.Contents.{OverwritesItem, SameInAnyOrder, find_item}
+use Rattle.iddqd.specs.Collecting.{likely_new}
 use Rattle.iddqd.specs.Errors.{duplicates_of, new_item_of}
 use Rattle.iddqd.specs.Refusal.{FindsNoRoom, InsertionError, IsLent, OnDuplicate}
 use Rattle.iddqd.specs.declared.errors.ExtendUniqueError.{ExtendUniqueError}
 use Rattle.iddqd.specs.declared.errors.ExtendUniqueError.TheVariants.{Duplicate, Refused}
-use Rattle.iddqd_commands.specs.Step.{MapRule, MapState, FindsFull, FitsLikely, KeepsRoom, LeavesRoom, MeetsAkin, RefusesRoom, TakesAll, likely_new}
+use Rattle.iddqd_commands.specs.Step.{MapRule, MapState, FindsFull, FitsLikely, KeepsRoom, LeavesRoom, MeetsAkin, RefusesRoom, TakesAll}
 use Rattle.iddqd_commands.specs.declared.keyed_map.extend.NotTaken.{NotTaken}
 use Rattle.iddqd_commands.specs.declared.keyed_map.extend.NotTaken.TheVariants as not_taken
 

@@ -5,13 +5,12 @@
 --     MakesRoom, RefusesRoom      room is made, or refused
 --     IsVisitOrder      in which order the items of a map are visited
 --     VisitsItem, RetainsVisited      an item is visited; all are, in that order, and some stay
---     likely_new      for how many items room is made before they are put in
 --     TakesAll, StopsAt      items are put in one after the other; so many are, and the next one is not
 --     MeetsAkin, FindsFull      why it is not
 --     Answers      what a command is answered, and the items then
 --     Step, Run      one command and its reply; a list of commands and their replies
 use Rattle.std.specs.Prelude.{◌≡◌, ℕ, ◌+◌, ◌/◌, ◌<◌, ◌≤◌, ◌==◌, if◌then◌else◌, max, Bool, List, [], ◌∷◌, length, take, slice_get, Option, Some, None, IfSome}
-use Rattle.iddqd.specs.Collecting.{AddsAll, IsFirstConflict}
+use Rattle.iddqd.specs.Collecting.{AddsAll, IsFirstConflict, likely_new}
 use Rattle.iddqd.specs.Contents.{find_item, IsAbsent, replaced, SameInAnyOrder, without, OverwritesItem}
 use Rattle.iddqd.specs.Visiting.{kept_by, visitor_after}
 use Rattle.iddqd.specs.Refusal.{FindsNoRoom, RefusalKind, memory_refused, reservation_kind}
@@ -70,10 +69,6 @@ pub record MakesRoom {T : Type 0} (rule : MapRule) (limit n : ℕ) (old new : Ma
 -- room for so many more items was refused: the kind is told by the limit, and for so many as are spare this never comes
 abbrev pub RefusesRoom : {T : Type 0} → (limit n : ℕ) → MapState T → RefusalKind → Type 0
 RefusesRoom limit n old kind = (kind ≡ reservation_kind limit (length old.items + n)) × (old.spare < n)
-
--- for how many items room is made where so many are there and so many are to come: for all of them in a map without items, and for half of them, rounded up, in another
-abbrev pub likely_new : (there coming : ℕ) → ℕ
-likely_new there coming = if there == 0 then coming else (coming + 1) / 2
 
 module _ {T K : Type 0} (key : T → K) (eq : K → K → Bool) (limit : ℕ) where
   -- x comes back for want of room; at a spare above 0 this never comes

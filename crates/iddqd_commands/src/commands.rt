@@ -35,7 +35,9 @@ pub enum Reply<T> {
     Inserted,
     /// An item of its key is there: a clone of that one, `None` only where memory for the clone was refused.
     Duplicate {
+        /// The item, which comes back.
         new: T,
+        /// A clone of the one that is there.
         existing: Option<T>,
     },
     /// The item is in, in the place of this one of its key.
@@ -57,7 +59,9 @@ pub enum Reply<T> {
     /// There was no room: for the item, which comes back, for the clone that `Get` answers, or for what `Reserve` or
     /// `Shrink` needs.
     Refused {
+        /// The item, where one comes back.
         item: Option<T>,
+        /// Why.
         error: TryReserveError,
     },
     /// All of the items are in, so many.
@@ -65,15 +69,21 @@ pub enum Reply<T> {
     /// So many of the items are in, the first ones, and an item of the next one's key is there: a clone of that one,
     /// `None` only where memory for the clone was refused.
     Conflict {
+        /// The next item, which comes back.
         new: T,
+        /// A clone of the one that is there.
         existing: Option<T>,
+        /// How many items are in.
         after: usize,
     },
     /// So many of the items are in, the first ones, and there was no room for the next one, which comes back; or none is
     /// in, and room for as many as were likely new was refused.
     Stopped {
+        /// The next item, or `None` where room was refused.
         item: Option<T>,
+        /// Why.
         error: TryReserveError,
+        /// How many items are in.
         after: usize,
     },
 }

@@ -63,11 +63,12 @@ impl HashIndex {
         }
     }
 
-    /// An index without pairs, with room for so many. It is refused only for want of memory.
+    /// An index without pairs, with room for so many. It is refused only for want of memory, and never where that is none.
     pub fn with_capacity(alloc: Global, capacity: usize) -> Result<Self, TryReserveError>
         ensures pairs { IfOk result (λ i. i.pairs ≡ []) }
         ensures spare { IfOk result (λ i. capacity ≤ i.spare) }
         ensures only_memory { IfErr result (λ e. e ≡ OutOfMemory) }
+        ensures asked { OnErr result (0 < capacity) }
     {
         let mut index = HashIndex::new(alloc);
         index.try_reserve(capacity)?;

@@ -4,7 +4,7 @@ use iddqd::{IdHashMap, IdOrdMap};
 use iddqd_testing::caseless::{Caseless, Coarse, item_of, spelled};
 use iddqd_testing::hashers::ZeroHasher;
 use iddqd_testing::items::Numbered;
-use iddqd_testing::lent::Lent;
+use iddqd_testing::probed::{Copied, Probed};
 use iddqd_testing::respelled::Respelled;
 use iddqd_testing::tried::{
     AskedByKey, AskedForRoom, AskedToInsert, Hashed, Inserted, by_hash, in_order,
@@ -133,41 +133,66 @@ fn numbered(number: u32, value: u32) -> Numbered {
     Numbered { number, value }
 }
 
-fn of_one<M: AskedByKey<Item = Numbered, Key = u32> + Drop>(rt: &impl Abort, mut map: M) -> M {
-    check(rt, map.is_put(numbered(1, 4)) && map.is_put(numbered(2, 8)));
-    map
+// The inner loan writes 5: the guard reads it then, and shows it once it is spent.
+fn reads_and_shows<M: AskedByKey<Item = Coarse, Key = Caseless> + Probed + Drop>(
+    rt: &impl Abort,
+    map: M,
+) {
+    let mut map = of_bar_and_foo(rt, map);
+    let by_guard = map.write_by_reborrow(&Caseless(*b"Foo"), 5);
+    let five = (*b"Foo", 5);
+    check(
+        rt,
+        matches!(by_guard, Some((_, read, shown)) if spelled(&read) == five && spelled(&shown) == five),
+    );
 }
 
 #[test]
 fn reborrow(rt: HostRuntime) {
-    let map = of_one(&rt, in_order(rt.alloc()));
-    check(&rt, map.write_by_reborrow(1, 5) == Some((5, 5)));
-    let map = of_one(&rt, by_hash(rt.alloc()));
-    check(&rt, map.write_by_reborrow(1, 5) == Some((5, 5)));
+    reads_and_shows(&rt, in_order(rt.alloc()));
+    reads_and_shows(&rt, by_hash(rt.alloc()));
+}
+
+fn equals_its_clone<M: AskedByKey<Item = Coarse, Key = Caseless> + Copied + Probed + Drop>(
+    rt: &impl Abort,
+    map: M,
+) {
+    let mut map = of_bar_and_foo(rt, map);
+    let copy = map.copied();
+    check(rt, map.spend_unwritten(&Caseless(*b"Foo")));
+    check(rt, matches!(&copy, Ok(copy) if map.equals(copy)));
 }
 
 #[test]
 fn guard_spent_unwritten(rt: HostRuntime) {
-    let map = of_one(&rt, in_order(rt.alloc()));
-    check(&rt, map.spend_unwritten(1) == Some(true));
-    let map = of_one(&rt, by_hash(rt.alloc()));
-    check(&rt, map.spend_unwritten(1) == Some(true));
+    equals_its_clone(&rt, in_order(rt.alloc()));
+    equals_its_clone(&rt, by_hash(rt.alloc()));
+}
+
+type OfEqualHashes = Hashed<Numbered, BuildHasherDefault<ZeroHasher>>;
+
+// Fifty numbers go in, each two above the one before.
+fn put_fifty(rt: &impl Abort, map: &mut OfEqualHashes, first: u32) {
+    for half in 0..50 {
+        check(rt, map.is_put(numbered(first.wrapping_add(2 * half), half)));
+    }
+}
+
+fn take_evens(rt: &impl Abort, map: &mut OfEqualHashes) {
+    for half in 0..50 {
+        check(rt, map.remove(&(2 * half)).is_some());
+    }
 }
 
 #[test]
 fn equal_hashes_shrunk(rt: HostRuntime) {
     let hasher: BuildHasherDefault<ZeroHasher> = BuildHasherDefault::new();
     let mut map = Hashed::new(IdHashMap::with_hasher(rt.alloc(), hasher));
-    for number in 0..100 {
-        check(&rt, map.is_put(numbered(number, number)));
-    }
-    for half in 0..50 {
-        check(&rt, map.remove(&(2 * half)).is_some());
-    }
+    put_fifty(&rt, &mut map, 0);
+    put_fifty(&rt, &mut map, 1);
+    take_evens(&rt, &mut map);
     check(&rt, map.shrink_to_fit().is_ok() && map.is_compact());
-    for half in 0..50 {
-        check(&rt, map.is_put(numbered(2 * half, half)));
-    }
+    put_fifty(&rt, &mut map, 0);
     for number in 0..100 {
         let found = map.find(&number);
         check(&rt, found.is_done && found.steps <= 100);

@@ -95,7 +95,7 @@ impl OrdIndex {
         }
     }
 
-    /// The slot at the place.
+    /// The slot at the place. It goes down the tree, and looks at no key.
     pub fn slot_at(&self, place: Place) -> u32
         requires { place < length self.now.slots }
         ensures { slice_get self.now.slots place ≡ Some result }
@@ -157,14 +157,14 @@ impl OrdIndex {
         slot
     }
 
-    /// The first slot, or `None` where there is none.
+    /// The first slot, or `None` where there is none. It goes down the tree.
     pub fn first(&self) -> Option<u32>
         ensures { result ≡ slice_get self.now.slots 0 }
     {
         self.root.first()
     }
 
-    /// The last slot, or `None` where there is none.
+    /// The last slot, or `None` where there is none. It goes down the tree.
     pub fn last(&self) -> Option<u32>
         ensures { result ≡ slice_get self.now.slots (length self.now.slots - 1) }
     {
@@ -207,7 +207,7 @@ impl OrdIndex {
         self.root.rename(place.position, new);
     }
 
-    /// Takes every slot out.
+    /// Takes every slot out, and gives the memory of the nodes back. It takes none.
     pub fn clear(&mut self)
         ensures { self.new ≡ record { slots = []; prepared = false } }
     {

@@ -6,7 +6,7 @@ use iddqd_commands::{Command, Reply};
 use iddqd_testing::bulk::{Added, Adding};
 use iddqd_testing::caseless::{Caseless, Coarse};
 use iddqd_testing::hashers::ZeroHasher;
-use iddqd_testing::tried::{AskedByKey, Commanded, Hashed, Ordered};
+use iddqd_testing::tried::{Commanded, Hashed, Ordered};
 use std::alloc::{AllocError, Global};
 use std::collections::hash_map::RandomState;
 use std::hash::BuildHasherDefault;

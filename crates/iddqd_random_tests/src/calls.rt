@@ -83,8 +83,11 @@ pub(crate) fn write<M: AskedByKey<Item = Coarse, Key = Caseless> + Entered + Pro
         return map.write(name.0, value) == old.is_some();
     }
     match map.write_by_reborrow(&name, value) {
-        Some((read, shown)) => {
-            is_same(Some(read), old) && is_same(Some(shown), plain.find(&name))
+        Some((before, read, shown)) => {
+            let written = plain.find(&name);
+            is_same(Some(before), old)
+                && is_same(Some(read), written)
+                && is_same(Some(shown), written)
         }
         None => old.is_none(),
     }

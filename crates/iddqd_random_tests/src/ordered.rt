@@ -3,7 +3,7 @@ use crate::calls;
 use crate::draws::Draws;
 use crate::plain::{Plain, is_same};
 use iddqd_testing::caseless::Coarse;
-use iddqd_testing::tried::{AskedByKey, Ordered};
+use iddqd_testing::tried::Ordered;
 use std::alloc::AllocError;
 
 // The greatest count of comparisons among so many items: four, and two more for each binary digit of the count.

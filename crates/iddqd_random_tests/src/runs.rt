@@ -79,8 +79,21 @@ fn drawn_call(draws: &mut Draws) -> Call {
     }
 }
 
-// Makes the call. Whether it is answered as by the list.
-fn is_answered<
+// What takes every call.
+trait Callable: AskedByKey<Item = Coarse, Key = Caseless>
+    + AskedToInsert<Coarse>
+    + Probed
+    + Copied
+    + Entered
+    + Respelled
+    + AskedForRoom
+    + Walked<Coarse>
+    + TakesNew
+    + Written
+    + Drop {}
+
+impl<M> Callable for M
+where
     M: AskedByKey<Item = Coarse, Key = Caseless>
         + AskedToInsert<Coarse>
         + Probed
@@ -92,7 +105,10 @@ fn is_answered<
         + TakesNew
         + Written
         + Drop,
->(
+{}
+
+// Makes the call. Whether it is answered as by the list.
+fn is_answered<M: Callable>(
     alloc: Global,
     map: &mut M,
     plain: &mut Plain,
@@ -134,19 +150,12 @@ struct Run {
 }
 
 // Runs the calls on a hash map.
-fn run_hashed<
-    M: AskedByKey<Item = Coarse, Key = Caseless>
-        + AskedToInsert<Coarse>
-        + Probed
-        + Copied
-        + Entered
-        + Respelled
-        + AskedForRoom
-        + Walked<Coarse>
-        + TakesNew
-        + Written
-        + Drop,
->(rt: &impl Abort, alloc: Global, run: Run, map: M) -> Result<(), AllocError> {
+fn run_hashed<M: Callable>(
+    rt: &impl Abort,
+    alloc: Global,
+    run: Run,
+    map: M,
+) -> Result<(), AllocError> {
     let (mut map, mut plain) = (map, Plain::new(alloc, run.limit));
     let mut draws = Draws::new(run.seed, run.letters);
     for number in 0..run.calls {

@@ -3,7 +3,7 @@ use crate::draws::Draws;
 use crate::plain::is_same;
 use iddqd_testing::caseless::{Caseless, Coarse};
 use iddqd_testing::probed::{Copied, Probed};
-use iddqd_testing::tried::{AskedByKey, Hashed, Ordered};
+use iddqd_testing::tried::{Hashed, Ordered};
 use iddqd_testing::walked::Walked;
 use std::alloc::{AllocError, Global};
 use std::hash::BuildHasher;

@@ -2,7 +2,7 @@
 use crate::checks::check;
 use iddqd_testing::heap::{arm, is_met};
 use iddqd_testing::items::Numbered;
-use iddqd_testing::tried::{AskedByKey, AskedForRoom, AskedToInsert, Inserted, Ordered, in_order};
+use iddqd_testing::tried::{AskedForRoom, AskedToInsert, Inserted, Ordered, in_order};
 use std::test::Fail;
 
 // Whether the walk has the numbers from 1 to below another, in order.

@@ -16,6 +16,7 @@ use Rattle.std.proofs.lemmas.List.{drop_all, length-append, length-map, length-t
 use Rattle.std.proofs.lemmas.Option.{slice_get_within}
 use Rattle.std.proofs.lemmas.List.Splits.{length-slice_split}
 use Rattle.std.proofs.lemmas.List.Sorted.{IsPermutation-append_left, IsPermutation-sym, IsPermutation-to_front, IsPermutation-trans}
+use Rattle.iddqd.specs.Collecting.{likely_new}
 use Rattle.iddqd.specs.Contents.{find_item, placed}
 use Rattle.iddqd.specs.Errors.{duplicates_of, new_item_of}
 use Rattle.iddqd.specs.Holding.{max_items}
@@ -27,7 +28,7 @@ use Rattle.iddqd.specs.declared.errors.ExtendUniqueError.TheVariants.{Duplicate,
 use Rattle.iddqd_commands.specs.KeyedMap.{StopsExtension}
 use Rattle.iddqd_run.specs.Lines.{AddAll, is_name, onto_pairs, paired_request, pairs_of, value_of, words_of}
 use Rattle.iddqd_run.specs.Shown.{AnswersPlainly, AnswersRequest, LeavesRefused, ShowsEntries, entries_of, entry_of, no_room_reply, no_space_reply, shown}
-use Rattle.iddqd_commands.specs.Step.{FindsFull, FitsLikely, MapState, RefusesRoom, StopsAt, TakesAll, likely_new}
+use Rattle.iddqd_commands.specs.Step.{FindsFull, FitsLikely, MapState, RefusesRoom, StopsAt, TakesAll}
 use Rattle.iddqd_run.specs.declared.arguments.Kind.{Kind}
 use Rattle.iddqd_run.specs.declared.entries.Entry.{Entry}
 use Rattle.iddqd_run.specs.declared.entries.LineReply.TheVariants.{AddedAll, Bad, DuplicateAfter, RefusedCapacity, RefusedMemory}

@@ -10,7 +10,7 @@ use Rattle.std.specs.Cmp.Lexicographic.{slice_cmp}
 use Rattle.iddqd.specs.Contents.{find_item, without, replaced, placed}
 use Rattle.iddqd_run.specs.Lines.{Request, Add, Put, Get, Del, Cost, Len, ListAll, First, Last, PopFirst, PopLast, Bad, lines_of, request_of, Set, Keep, Reserve, Shrink, AddAll}
 use Rattle.iddqd.specs.Holding.{max_items}
-use Rattle.iddqd_commands.specs.Step.{likely_new}
+use Rattle.iddqd.specs.Collecting.{likely_new}
 use Rattle.iddqd_run.specs.declared.arguments.Kind.{Kind}
 use Rattle.iddqd_run.specs.declared.arguments.Kind.TheVariants.{Hash, Ord}
 

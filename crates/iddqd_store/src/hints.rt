@@ -1,13 +1,13 @@
 //! Room for the items that an iterator announces.
-ghost use Rattle.std.specs.Prelude.{◌≡◌, ◌+◌, ◌*◌, ◌<◌, ◌≤◌};
+ghost use Rattle.std.specs.Prelude.{◌≡◌};
+ghost use Rattle.iddqd_store.specs.Collecting as collecting;
 
 /// For how many items to make room where so many are there and at least so many are announced: for all of them in a map
 /// without items, and for half of them, rounded up, in another, which may have their keys already (as the crate's `Extend`
 /// does).
 #[doc(hidden)]
 pub fn likely_new(there: usize, announced: usize) -> usize
-    ensures all { there ≡ 0 → result ≡ announced }
-    ensures half { 0 < there → (announced ≤ 2 * result) × (2 * result ≤ announced + 1) }
+    ensures { result ≡ collecting.likely_new there announced }
 {
     if there == 0 {
         announced

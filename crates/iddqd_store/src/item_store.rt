@@ -192,7 +192,7 @@ impl<T> ItemStore<T> {
         item
     }
 
-    /// Drops every item, and leaves no slot. The capacity stays.
+    /// Drops every item, and leaves no slot. The capacity stays; it takes no memory.
     pub fn clear(&mut self)
     where
         T: Drop,

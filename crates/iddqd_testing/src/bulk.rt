@@ -3,7 +3,7 @@ ghost use Rattle.std.specs.Iterator.{IsFiniteIterable};
 ghost use Rattle.iddqd.specs.Contents.{Ascends};
 
 use crate::items::Named;
-use crate::tried::{AskedByKey, Hashed, Ordered, both};
+use crate::tried::{Hashed, Ordered, both};
 use iddqd::errors::{ExtendError, ExtendUniqueError, FromIterError, TryReserveError};
 use iddqd::{IdHashItem, IdHashMap, IdOrdItem, IdOrdMap, Lookups};
 use std::alloc::Global;

@@ -3,7 +3,7 @@ ghost use Rattle.iddqd.specs.Contents.{Ascends};
 
 use crate::caseless::{Caseless, Coarse};
 use crate::entered::Put;
-use crate::tried::{AskedByKey, Inserted, Ordered, both};
+use crate::tried::{Inserted, Ordered, both};
 use iddqd::errors::InsertError;
 use iddqd::id_ord_map::Entry;
 use iddqd::{IdOrdItem, IdOrdMap, Steps};

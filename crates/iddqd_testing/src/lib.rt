@@ -10,7 +10,6 @@ pub mod entered;
 pub mod hashers;
 pub mod heap;
 pub mod items;
-pub mod lent;
 pub mod nine;
 pub mod parts;
 pub mod probed;

@@ -4,7 +4,7 @@ mod ord;
 
 use crate::caseless::{Caseless, Coarse};
 use crate::hashers::ZeroHasher;
-use crate::tried::{AskedByKey, Hashed, Ordered};
+use crate::tried::{Hashed, Ordered};
 use iddqd::Steps;
 use iddqd::errors::{ExtendError, TryReserveError};
 use iddqd::internal::ValidateCompact;
@@ -44,8 +44,16 @@ pub trait Probed: Sized {
     /// `extend`.
     fn take_all(&mut self, items: Vec<Coarse>) -> Result<(), ExtendError<Coarse>>;
 
-    /// Writes by a guard that is lent once more: the old item, and what the guard shows once it is spent.
-    fn write_by_reborrow(&mut self, name: &Caseless, value: u32) -> Option<(Coarse, Coarse)>;
+    /// Writes by a guard that is lent once more: the old item, what the guard reads once that loan is over, and what it shows
+    /// once it is spent.
+    fn write_by_reborrow(
+        &mut self,
+        name: &Caseless,
+        value: u32,
+    ) -> Option<(Coarse, Coarse, Coarse)>;
+
+    /// Spends a guard that wrote nothing. Whether the name is there.
+    fn spend_unwritten(&mut self, name: &Caseless) -> bool;
 
     /// Reads and writes by the entry of a map that is let go then: the old item, and what the entry shows.
     fn write_by_entry(self, name: &Caseless, value: u32) -> Option<(Coarse, Coarse)>;
@@ -83,19 +91,11 @@ impl Probed for Ordered<Coarse> {
     }
 
     fn walked(&self, alloc: Global) -> Result<Vec<Coarse>, AllocError> {
-        let mut items = Vec::with_capacity(alloc, self.map.len())?;
-        for item in self.map.iter() {
-            items.push(*item)?;
-        }
-        Ok(items)
+        self.map.iter().copied().collect(alloc)
     }
 
     fn walked_out(self, alloc: Global) -> Result<Vec<Coarse>, AllocError> {
-        let mut items = Vec::with_capacity(alloc, self.map.len())?;
-        for item in self.map {
-            items.push(item)?;
-        }
-        Ok(items)
+        self.map.into_iter().collect(alloc)
     }
 
     fn equals(&self, other: &Ordered<Coarse>) -> bool {
@@ -110,8 +110,16 @@ impl Probed for Ordered<Coarse> {
         self.map.extend(items)
     }
 
-    fn write_by_reborrow(&mut self, name: &Caseless, value: u32) -> Option<(Coarse, Coarse)> {
+    fn write_by_reborrow(
+        &mut self,
+        name: &Caseless,
+        value: u32,
+    ) -> Option<(Coarse, Coarse, Coarse)> {
         ord::write_by_reborrow(&mut self.map, name, value)
+    }
+
+    fn spend_unwritten(&mut self, name: &Caseless) -> bool {
+        ord::spend_unwritten(&mut self.map, name)
     }
 
     fn write_by_entry(self, name: &Caseless, value: u32) -> Option<(Coarse, Coarse)> {
@@ -152,19 +160,11 @@ impl<S: BuildHasher + Drop> Probed for Hashed<Coarse, S> {
     }
 
     fn walked(&self, alloc: Global) -> Result<Vec<Coarse>, AllocError> {
-        let mut items = Vec::with_capacity(alloc, self.map.len())?;
-        for item in self.map.iter() {
-            items.push(*item)?;
-        }
-        Ok(items)
+        self.map.iter().copied().collect(alloc)
     }
 
     fn walked_out(self, alloc: Global) -> Result<Vec<Coarse>, AllocError> {
-        let mut items = Vec::with_capacity(alloc, self.map.len())?;
-        for item in self.map {
-            items.push(item)?;
-        }
-        Ok(items)
+        self.map.into_iter().collect(alloc)
     }
 
     fn equals(&self, other: &Hashed<Coarse, S>) -> bool {
@@ -179,8 +179,16 @@ impl<S: BuildHasher + Drop> Probed for Hashed<Coarse, S> {
         self.map.extend(items)
     }
 
-    fn write_by_reborrow(&mut self, name: &Caseless, value: u32) -> Option<(Coarse, Coarse)> {
+    fn write_by_reborrow(
+        &mut self,
+        name: &Caseless,
+        value: u32,
+    ) -> Option<(Coarse, Coarse, Coarse)> {
         hash::write_by_reborrow(&mut self.map, name, value)
+    }
+
+    fn spend_unwritten(&mut self, name: &Caseless) -> bool {
+        hash::spend_unwritten(&mut self.map, name)
     }
 
     fn write_by_entry(self, name: &Caseless, value: u32) -> Option<(Coarse, Coarse)> {

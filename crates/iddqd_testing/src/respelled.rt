@@ -1,6 +1,6 @@
 //! Items written whole in the place of others of an equal key, which is spelled in another way.
 use crate::caseless::{Caseless, Coarse};
-use crate::tried::{AskedByKey, Hashed, Ordered};
+use crate::tried::{Hashed, Ordered};
 use iddqd::{Visit, id_hash_map, id_ord_map};
 use iddqd_coarse::writes::{hash_put, put};
 use std::hash::BuildHasher;

@@ -1,5 +1,5 @@
 //! What a row asks of the walks of a map of either kind.
-use crate::tried::{AskedByKey, Hashed, Ordered};
+use crate::tried::{Hashed, Ordered};
 use iddqd::{IdHashItem, IdHashMap, IdOrdItem, IdOrdMap};
 use std::alloc::{AllocError, Global};
 use std::hash::BuildHasher;

@@ -1,35 +1,35 @@
 //! Rows of clones.
 use crate::checks::check;
-use crate::insertions::{BAR, FOO};
-use iddqd_testing::copied::Twin;
-use iddqd_testing::items::Named;
+use iddqd_testing::caseless::{Caseless, Coarse, item_of, spelled};
+use iddqd_testing::probed::{Copied, Probed};
 use iddqd_testing::tried::{AskedByKey, by_hash, in_order};
 use std::process::Abort;
 use std::test::Fail;
 
-const BAZ: Named = Named {
-    name: *b"baz",
-    value: 1,
-};
-
-fn filled<M: AskedByKey<Item = Named, Key = [u8; 3]> + Drop>(rt: &impl Abort, mut map: M) -> M {
-    check(rt, map.is_put(FOO) && map.is_put(BAR) && map.is_put(BAZ));
-    check(rt, map.remove(b"baz") == Some(BAZ));
+fn filled<M: AskedByKey<Item = Coarse, Key = Caseless> + Drop>(rt: &impl Abort, mut map: M) -> M {
+    check(
+        rt,
+        map.is_put(item_of(*b"foo", 42)) && map.is_put(item_of(*b"bar", 20)),
+    );
+    check(rt, map.is_put(item_of(*b"baz", 1)));
+    check(rt, map.remove(&Caseless(*b"baz")).is_some());
     map
 }
 
-// A clone is like its source, and what is written into one the source does not show.
-fn cloned<M: AskedByKey<Item = Named, Key = [u8; 3]> + Twin + Drop>(
+// A clone equals its source, and what is written into it the source does not show.
+fn cloned<M: AskedByKey<Item = Coarse, Key = Caseless> + Copied + Probed + Drop>(
     rt: &impl Abort,
     map: M,
 ) -> Result<(), Fail> {
     let map = filled(rt, map);
-    let Ok(twin) = map.twin() else {
+    let Ok(mut twin) = map.copied() else {
         return Err(Fail::from("no memory for a clone"));
     };
-    check(rt, twin.is_like(&map));
-    check(rt, map.differs_from_written_twin(*b"foo", 7) == Some(true));
-    check(rt, map.get(b"foo") == Some(&FOO));
+    check(rt, twin.equals(&map));
+    check(rt, twin.write_by_reborrow(&Caseless(*b"foo"), 7).is_some());
+    check(rt, !twin.equals(&map));
+    let found = map.get(&Caseless(*b"foo")).map(spelled);
+    check(rt, found == Some((*b"foo", 42)));
     Ok(())
 }
 

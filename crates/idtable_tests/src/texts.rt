@@ -81,6 +81,7 @@ fn bad_lines(rt: HostRuntime) -> Result<(), Fail> {
         &rt,
         are_answered(alloc, input, b"bad\nbad\nbad\nadded\n1\n")?,
     );
+    check(&rt, are_answered(alloc, b"", b"")?);
     for (words, kind) in [
         ([].as_slice(), Some(Kind::Ord)),
         (["ord"].as_slice(), Some(Kind::Ord)),

@@ -57,7 +57,7 @@ impl Inventory {
     }
 }
 
-fn run(all: &mut Inventory, out: &mut impl Write) -> io::Result<()> {
+fn add_parts(all: &mut Inventory, out: &mut impl Write) -> io::Result<()> {
     for (number, count) in [(7, 40), (3, 12), (7, 5)] {
         match all.0.insert_unique(Part { number, count }) {
             Ok(()) => {}
@@ -65,11 +65,20 @@ fn run(all: &mut Inventory, out: &mut impl Write) -> io::Result<()> {
             Err(InsertError::Refused(refused)) => writeln!(out, "{}", refused.error)?,
         }
     }
+    Ok(())
+}
+
+fn take_parts(all: &mut Inventory, out: &mut impl Write) -> io::Result<()> {
     for (number, count) in [(7, 15), (3, 13), (8, 1)] {
         let left = all.take(number, count);
         writeln!(out, "{count} of part {number} taken, left: {left:?}")?;
     }
     Ok(())
+}
+
+fn run(all: &mut Inventory, out: &mut impl Write) -> io::Result<()> {
+    add_parts(all, out)?;
+    take_parts(all, out)
 }
 
 fn main(rt: HostRuntime) -> ExitCode {

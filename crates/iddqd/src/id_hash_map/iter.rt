@@ -66,7 +66,7 @@ impl<'a, T> ExactSizeIterator for Iter<'a, T> {
 impl<'a, T> FusedIterator for Iter<'a, T> {}
 
 impl<T, S> IdHashMap<T, S> {
-    /// The items, in no order that a caller may rely on. It takes no memory.
+    /// The items, in no order that a caller may rely on. The walk looks at vacant slots too; it takes no memory.
     pub fn iter(&self) -> Iter<'_, T>
         ensures { result ≡ self.now.items }
     {

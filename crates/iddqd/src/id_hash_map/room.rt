@@ -24,6 +24,7 @@ impl<T: IdHashItem> IdHashMap<T> {
         ensures capacity { IfOk result (λ m. capacity ≤ m.capacity) }
         ensures in_limit { OnOk result (capacity ≤ MAX_ITEMS) }
         ensures refused { IfErr result (λ e. e ≡ reservation_kind MAX_ITEMS capacity) }
+        ensures asked { OnErr result (0 < capacity) }
         ensures keyed { IfOk result ⟦<IdHashMap<T> as Lookups>⟧.keyed }
     {
         IdHashMap::with_capacity_and_hasher(alloc, capacity, DefaultHashBuilder::new())
@@ -32,7 +33,7 @@ impl<T: IdHashItem> IdHashMap<T> {
 
 impl<T: IdHashItem, S: BuildHasher> IdHashMap<T, S> {
     /// A map without items, with so many spare: the next `capacity` new keys meet no refusal. It is refused by the limit
-    /// where `capacity` is above `MAX_ITEMS`, and else for want of memory.
+    /// where `capacity` is above `MAX_ITEMS`, and else for want of memory, which it needs only for more than none.
     pub fn with_capacity_and_hasher(
         alloc: Global,
         capacity: usize,
@@ -47,6 +48,7 @@ impl<T: IdHashItem, S: BuildHasher> IdHashMap<T, S> {
         ensures hasher { IfOk result (λ m. m.hasher ≡ hasher) }
         ensures in_limit { OnOk result (capacity ≤ MAX_ITEMS) }
         ensures refused { IfErr result (λ e. e ≡ reservation_kind MAX_ITEMS capacity) }
+        ensures asked { OnErr result (0 < capacity) }
         ensures keyed { IfOk result ⟦<IdHashMap<T, S> as Lookups>⟧.keyed }
     {
         if capacity > MAX_ITEMS as usize {

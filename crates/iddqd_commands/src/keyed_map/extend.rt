@@ -3,10 +3,10 @@ ghost use Rattle.std.specs.Prelude.{◌≡◌, IfErr, IfOk, OnErr, OnOk};
 ghost use Rattle.std.specs.Borrow.{sem};
 ghost use Rattle.iddqd_commands.specs.KeyedMap.{InsertsItem, KeepsMap, RefusesAmong, RefusesOne, StaysKeyed, ends_extended};
 ghost use Rattle.iddqd_commands.specs.Step.{FitsLikely, FitsRoom, TakesAll};
-ghost use Rattle.iddqd_commands.specs.Step as step;
 
 use super::KeyedMap;
 use iddqd::errors::{DuplicateItem, ExtendError, ExtendUniqueError, Few, InsertError, Refused};
+use iddqd::internal::likely_new;
 
 // An item that was not put in.
 #[derive(Drop)]
@@ -41,17 +41,6 @@ where
             item: Some(refused.item),
             error: refused.error,
         })),
-    }
-}
-
-// For how many items room is made where so many are there.
-fn likely_new(there: usize, coming: usize) -> usize
-    ensures { result ≡ step.likely_new there coming }
-{
-    if there == 0 {
-        coming
-    } else {
-        coming.div_ceil(2)
     }
 }
 

@@ -12,12 +12,13 @@ use std::alloc::Global;
 
 impl<T: IdOrdItem> IdOrdMap<T> {
     /// A map without items, with room for so many in the store. It is refused by the limit where `capacity` is above
-    /// `MAX_ITEMS`, and else for want of memory.
+    /// `MAX_ITEMS`, and else for want of memory, which it needs only for more than none.
     pub fn with_capacity(alloc: Global, capacity: usize) -> Result<Self, TryReserveError>
         ensures empty { IfOk result (λ m. m ≡ record { items = []; slots = []; vacant = 0; capacity = m.capacity; limit = MAX_ITEMS }) }
         ensures room { IfOk result (λ m. capacity ≤ m.capacity) }
         ensures in_limit { OnOk result (capacity ≤ MAX_ITEMS) }
         ensures refused { IfErr result (λ e. e ≡ reservation_kind MAX_ITEMS capacity) }
+        ensures asked { OnErr result (0 < capacity) }
         ensures keyed { IfOk result (λ m. Ascends T.key T.Key.cmp m.items) }
     {
         let store = ItemStore::with_capacity(alloc, MAX_ITEMS, capacity)?;

@@ -10,7 +10,7 @@ use std::alloc::Global;
 
 impl<T> ItemStore<T> {
     /// A store without items that holds at most `limit`, with room for `capacity`. `CapacityOverflow` where that is above
-    /// the limit, else `AllocError` where memory was refused.
+    /// the limit, else `AllocError` where memory was refused; none is asked for where `capacity` is 0.
     pub fn with_capacity(
         alloc: Global,
         limit: u32,
@@ -20,6 +20,7 @@ impl<T> ItemStore<T> {
         ensures room { IfOk result (λ s. capacity ≤ s.capacity) }
         ensures in_limit { OnOk result (capacity ≤ limit) }
         ensures refused { IfErr result (λ e. e ≡ reservation_kind limit capacity) }
+        ensures asked { OnErr result (0 < capacity) }
     {
         if capacity > limit as usize {
             return Err(TryReserveError::capacity_overflow());

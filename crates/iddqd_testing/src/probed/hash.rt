@@ -9,7 +9,7 @@ pub(super) fn write_by_reborrow<S: BuildHasher>(
     map: &mut IdHashMap<Coarse, S>,
     name: &Caseless,
     value: u32,
-) -> Option<(Coarse, Coarse)>
+) -> Option<(Coarse, Coarse, Coarse)>
     requires keyed { ⟦<IdHashMap<Coarse, S> as Lookups>⟧.keyed map.old }
     ensures keyed { ⟦<IdHashMap<Coarse, S> as Lookups>⟧.keyed map.new }
 {
@@ -18,10 +18,28 @@ pub(super) fn write_by_reborrow<S: BuildHasher>(
             let old = *outer;
             let inner = outer.reborrow();
             inner.value = value;
+            let read = *outer;
             let shown = outer.into_ref();
-            Some((old, *shown))
+            Some((old, read, *shown))
         }
         None => None,
+    }
+}
+
+#[tactic(auto, using(iddqd::proofs::GuardLemmas::same_key_kept))]
+pub(super) fn spend_unwritten<S: BuildHasher>(
+    map: &mut IdHashMap<Coarse, S>,
+    name: &Caseless,
+) -> bool
+    requires keyed { ⟦<IdHashMap<Coarse, S> as Lookups>⟧.keyed map.old }
+    ensures keyed { ⟦<IdHashMap<Coarse, S> as Lookups>⟧.keyed map.new }
+{
+    match map.get_mut(name) {
+        Some(lent) => {
+            lent.finish();
+            true
+        }
+        None => false,
     }
 }
 

@@ -10,7 +10,7 @@ pub(super) fn write_by_reborrow(
     map: &mut IdOrdMap<Coarse>,
     name: &Caseless,
     value: u32,
-) -> Option<(Coarse, Coarse)>
+) -> Option<(Coarse, Coarse, Coarse)>
     requires keyed { Ascends ⟦<Coarse as IdOrdItem>⟧.key ⟦<Caseless as Ord>⟧.cmp map.old.items }
     ensures keyed { Ascends ⟦<Coarse as IdOrdItem>⟧.key ⟦<Caseless as Ord>⟧.cmp map.new.items }
 {
@@ -19,10 +19,25 @@ pub(super) fn write_by_reborrow(
             let old = *outer;
             let inner = outer.reborrow();
             inner.value = value;
+            let read = *outer;
             let shown = outer.into_ref();
-            Some((old, *shown))
+            Some((old, read, *shown))
         }
         None => None,
+    }
+}
+
+#[tactic(auto, using(iddqd::proofs::GuardLemmas::same_key_kept))]
+pub(super) fn spend_unwritten(map: &mut IdOrdMap<Coarse>, name: &Caseless) -> bool
+    requires keyed { Ascends ⟦<Coarse as IdOrdItem>⟧.key ⟦<Caseless as Ord>⟧.cmp map.old.items }
+    ensures keyed { Ascends ⟦<Coarse as IdOrdItem>⟧.key ⟦<Caseless as Ord>⟧.cmp map.new.items }
+{
+    match map.get_mut(name) {
+        Some(lent) => {
+            lent.finish();
+            true
+        }
+        None => false,
     }
 }
 

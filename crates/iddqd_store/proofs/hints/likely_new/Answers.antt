@@ -1,5 +1,8 @@
 use Rattle.std.proofs.Common.{rules}
 use Rattle.iddqd_store.proofs.hints.likely_new.Goals as goal
 
-pub returns-else-there-eq0-clause-half : goal.returns-else-there-eq0-clause-half
-returns-else-there-eq0-clause-half c = search rules
+pub returns-then-there-eq0 : goal.returns-then-there-eq0
+returns-then-there-eq0 c = search rules
+
+pub returns-else-there-eq0 : goal.returns-else-there-eq0
+returns-else-there-eq0 c = search rules

@@ -1,4 +1,4 @@
-use Rattle.std.proofs.Common.{◌∙◌, ap, arith, subst, sym}
+use Rattle.std.proofs.Common.{◌∙◌, ap, arith, subst, sym, rules}
 use Rattle.std.specs.List.{AllZip}
 use Rattle.iddqd_core.specs.Hashing.{hash_under}
 use Rattle.iddqd.specs.HashItems.{Keyed}
@@ -43,3 +43,6 @@ returns-clause-keyed g c =
     copied_keyed g.T.Clone.is_clone m.store copy c.in-Ok-try_clone.ensures.clones m.index c.in_ok-index.index c.in_ok-index.ensures.pairs
     key input hash g.met.T.Key.Eq.laws g.met.T.Key.Hash.respects_eq c.requires.keeps_keys m.hasher c.in-Ok.hasher (subst (λ v. CloneHashesAlike g.S.Clone.is_clone hash v.hasher) (sym c.self.view_is) c.requires.hashes_alike c.in-Ok.hasher c.in-Ok.ensures.cases)
     (subst (Keyed key eq input hash) (sym c.self.view_is) c.requires.keyed)
+
+pub returns-clause-vacant : goal.returns-clause-vacant
+returns-clause-vacant g c = search rules

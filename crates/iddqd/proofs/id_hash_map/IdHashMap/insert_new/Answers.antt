@@ -1,4 +1,4 @@
-use Rattle.std.proofs.Common.{◌∙◌, ◌<◌, Some, length, sym, ap, subst, arith}
+use Rattle.std.proofs.Common.{◌∙◌, ◌<◌, Some, length, sym, ap, subst, arith, rules}
 use Rattle.std.specs.Option.{option_map}
 use Rattle.iddqd_core.specs.Contents.{AddsItem, IsAbsent}
 use Rattle.iddqd_core.specs.Hashing.{hash_under}
@@ -89,3 +89,6 @@ pub returns-clause-others : goal.returns-clause-others
 returns-clause-others g c =
     added_others c.reserve_one.new.store c.put_in.new.store c.put_in.result c.args.item c.put_in.ensures.was_vacant c.put_in.ensures.updates
     ∙ ap (λ s. items_in s) c.reserve_one.ensures.store ∙ ap (λ v. v.items) c.self.view_is
+
+pub returns-in-Err-clause-no_spare : goal.returns-in-Err-clause-no_spare
+returns-in-Err-clause-no_spare g c = search rules

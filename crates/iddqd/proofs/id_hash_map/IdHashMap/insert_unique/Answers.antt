@@ -1,4 +1,4 @@
-use Rattle.std.proofs.Common.{◌∙◌, ◌≡◌, IsSome, Some, sym, ap, subst, refl}
+use Rattle.std.proofs.Common.{◌∙◌, ◌≡◌, IsSome, Some, sym, ap, subst, refl, rules}
 use Rattle.iddqd_core.specs.Contents.{find_item}
 use Rattle.iddqd_core.specs.Hashing.{hash_under}
 use Rattle.iddqd_core.specs.Refusal.{IsLent}
@@ -49,3 +49,6 @@ returns-in-Some g c =
       (refl, λ _ h. cc, (kept, refl)),
       record { after = tt; absent = tt; refused = (c.internal_new.ensures.new, existing, subst (λ ds. IsLent ds existing) (sym c.internal_new.ensures.duplicates) refl, found); no_spare = tt },
     )
+
+pub returns-in-Err : goal.returns-in-Err
+returns-in-Err g c = search rules

@@ -1,4 +1,4 @@
-use Rattle.std.proofs.Common.{◌∙◌, sym, ap, subst, slice_get}
+use Rattle.std.proofs.Common.{◌∙◌, sym, ap, subst, slice_get, rules}
 use Rattle.std.specs.List.{remove}
 use Rattle.iddqd_core.specs.Contents.{IsAbsent, without}
 use Rattle.iddqd_core.specs.Hashing.{hash_under}
@@ -82,3 +82,6 @@ returns-clause-slots g c =
       there = ap (λ v. slice_get v.items left.place) (sym c.self.view_is) ∙ left.there;
       slots = left.slots ∙ ap (λ v. remove v.slots left.place) c.self.view_is;
     }
+
+pub returns-clause-value : goal.returns-clause-value
+returns-clause-value g c = search rules

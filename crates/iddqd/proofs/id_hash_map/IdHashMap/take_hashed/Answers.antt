@@ -1,4 +1,4 @@
-use Rattle.std.proofs.Common.{◌≡◌, ◌∙◌, sym, ap, subst, is_some, None, ℕ, get_or, set, ⊎_elim}
+use Rattle.std.proofs.Common.{◌≡◌, ◌∙◌, sym, ap, subst, is_some, None, ℕ, get_or, set, ⊎_elim, rules}
 use Rattle.std.proofs.lemmas.Bool.{cases_eq}
 use Rattle.std.specs.List.{remove, slice_get}
 use Rattle.iddqd_core.specs.Hashing.{hash_under}
@@ -70,3 +70,6 @@ returns-clause-keyed g c =
     let x = out.result in
     let keyed = subst (Keyed key eq input hash) (sym c.self.view_is) c.requires.keyed in
     taken_keyed key eq input hash m.hasher m.store out.new.store m.index out.new.index c.self.invariant out.ensures.paired equivalence (eq (key x)) (equivalence.congr (key x)) keyed c.args.slot x out.ensures.item (equivalence.refl (key x)) c.args.hash out.ensures.pairs out.ensures.updates
+
+pub invariant_of-self : goal.invariant_of-self
+invariant_of-self g c = search rules

@@ -1,4 +1,4 @@
-use Rattle.std.proofs.Common.{sym, ap, subst}
+use Rattle.std.proofs.Common.{sym, ap, subst, rules}
 use Rattle.std.specs.List.{AllZip}
 use Rattle.iddqd_core.specs.Listed.{listed_items}
 use Rattle.iddqd_core.proofs.CloneLemmas.{ascends_clones}
@@ -24,3 +24,9 @@ returns-in-Ok-clause-items g c =
 pub returns-in-Ok-clause-keyed : goal.returns-in-Ok-clause-keyed
 returns-in-Ok-clause-keyed g c =
     ascends_clones g.T.IdOrdItem.key g.T.Clone.is_clone c.requires.keeps_keys g.met.T.Key.Ord.total g.met.T.Key.Ord.matches_eq c.args.self.now.items _ (returns-in-Ok-clause-items g c) c.requires.keyed
+
+pub returns-in-Ok-clause-slots : goal.returns-in-Ok-clause-slots
+returns-in-Ok-clause-slots g c = search rules
+
+pub returns-in-Ok-clause-vacant : goal.returns-in-Ok-clause-vacant
+returns-in-Ok-clause-vacant g c = search rules

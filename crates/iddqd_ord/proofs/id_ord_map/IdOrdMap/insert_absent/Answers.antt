@@ -1,4 +1,4 @@
-use Rattle.std.proofs.Common.{◌≤◌, length, ◌∙◌, sym, ap, arith}
+use Rattle.std.proofs.Common.{◌≤◌, length, ◌∙◌, sym, ap, arith, rules}
 use Rattle.std.proofs.lemmas.List.{length-map}
 use Rattle.std.proofs.lemmas.Option.{slice_get-get_or}
 use Rattle.iddqd_core.proofs.QueryLemmas.{OrderedQuery, own_query, place_there}
@@ -45,3 +45,6 @@ returns-clause-others g c =
     let new = c.insert_at.new.self in
     let e = c.in_ok-slot-in-Err.ensures in
     put_others new.slots items new.items c.in-Err.place c.in_ok-slot-in-Err.slot c.args.item e.inserted.takes.slots e.slot within e.put
+
+pub returns-clause-inserted : goal.returns-clause-inserted
+returns-clause-inserted g c = search rules

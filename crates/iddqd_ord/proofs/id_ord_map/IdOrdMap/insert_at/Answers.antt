@@ -1,4 +1,4 @@
-use Rattle.std.proofs.Common.{◌≡◌, ◌≤◌, ◌-◌, ◌∙◌, insert, slice_get, ap, subst, sym, length, arith}
+use Rattle.std.proofs.Common.{◌≡◌, ◌≤◌, ◌-◌, ◌∙◌, insert, slice_get, ap, subst, sym, length, arith, rules}
 use Rattle.std.proofs.lemmas.List.{length-map}
 use Rattle.iddqd_core.specs.Contents.{Ascends}
 use Rattle.iddqd_core.specs.Listed.{listed_items}
@@ -50,3 +50,6 @@ returns-clause-slot g c =
     let m = c.self.inside in
     let within : c.args.place ≤ length c.reserve_one.new.index.slots = omega (arith, c.requires.place.0, length-map c.args.self.now.items g.T.IdOrdItem.key, ap (λ v. length v.items) c.self.view_is, length-listed m.store m.index.slots c.self.invariant.occupied, ap length c.in_default.ensures.slots) in
     ap (λ xs. slice_get xs c.args.place) c.put_in.ensures.slots ∙ insert_then_get c.reserve_one.new.index.slots c.args.place c.put_in.result within
+
+pub returns-in-Err-clause-kept : goal.returns-in-Err-clause-kept
+returns-in-Err-clause-kept g c = search rules

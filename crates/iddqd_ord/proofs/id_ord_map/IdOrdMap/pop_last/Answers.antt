@@ -1,4 +1,4 @@
-use Rattle.std.proofs.Common.{◌∙◌, sym, ap, subst, arith}
+use Rattle.std.proofs.Common.{◌∙◌, sym, ap, subst, arith, rules}
 use Rattle.std.proofs.lemmas.Grind.{common_steps}
 use Rattle.std.specs.List.{remove}
 use Rattle.iddqd_core.specs.Contents.{Ascends}
@@ -17,3 +17,12 @@ overflow_sub-len g c = grind (arith, common_steps)
 
 pub take_out-requires-clause-in_list : goal.take_out-requires-clause-in_list
 take_out-requires-clause-in_list g c = grind (arith, common_steps)
+
+pub returns-clause-value : goal.returns-clause-value
+returns-clause-value g c = search rules
+
+pub returns-clause-items : goal.returns-clause-items
+returns-clause-items g c = grind (arith, common_steps)
+
+pub returns-clause-slots : goal.returns-clause-slots
+returns-clause-slots g c = grind (arith, common_steps)

@@ -1,4 +1,4 @@
-use Rattle.std.proofs.Common.{◌∙◌, sym, ap, subst}
+use Rattle.std.proofs.Common.{◌∙◌, sym, ap, subst, rules}
 use Rattle.std.specs.List.{remove}
 use Rattle.iddqd_core.specs.Contents.{Ascends}
 use Rattle.iddqd_core.specs.SlotItems.{HaveSlots}
@@ -17,3 +17,6 @@ returns-clause-keyed g c =
     let cmp = g.T.Key.Ord.cmp in
     let left = c.take_out.ensures.items ∙ ap (λ v. remove v.items c.args.place) c.self.view_is in
     subst (Ascends key cmp) (sym left) (ascends_remove key cmp c.args.self.now.items c.args.place c.requires.keyed)
+
+pub invariant_of-self : goal.invariant_of-self
+invariant_of-self g c = search rules

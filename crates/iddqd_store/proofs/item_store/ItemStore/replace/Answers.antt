@@ -27,3 +27,6 @@ index_mut-requires g c = grind (arith, common_steps)
 
 pub unreachable-requires : goal.unreachable-requires
 unreachable-requires g c = grind (arith, common_steps)
+
+pub returns-clause-item : goal.returns-clause-item
+returns-clause-item g c = grind (arith, common_steps)

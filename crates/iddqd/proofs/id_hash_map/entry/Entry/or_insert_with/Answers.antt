@@ -33,3 +33,6 @@ invariant_of-self g c = search rules
 
 pub returns-in-Vacant : goal.returns-in-Vacant
 returns-in-Vacant g c = search rules
+
+pub make-requires : goal.make-requires
+make-requires g c = search rules

@@ -1,4 +1,4 @@
-use Rattle.std.proofs.Common.{◌∙◌, sym}
+use Rattle.std.proofs.Common.{◌∙◌, sym, rules}
 use Rattle.iddqd_core.proofs.WrittenLemmas.{PlaceRead, place_read}
 use Rattle.iddqd_ord.proofs.id_ord_map.entry.OccupiedEntry.remove.Given.{Over}
 use Rattle.iddqd_ord.proofs.id_ord_map.entry.OccupiedEntry.remove.Goals as goal
@@ -13,3 +13,9 @@ returns-clause-value g c = (read g c).item ∙ c.take_placed.ensures.item
 
 pub returns-clause-items : goal.returns-clause-items
 returns-clause-items g c = c.take_placed.ensures.items ∙ sym (read g c).others
+
+pub returns-clause-slots : goal.returns-clause-slots
+returns-clause-slots g c = search rules
+
+pub returns-clause-keyed : goal.returns-clause-keyed
+returns-clause-keyed g c = search rules
