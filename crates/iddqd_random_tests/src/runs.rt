@@ -92,20 +92,13 @@ trait Callable: AskedByKey<Item = Coarse, Key = Caseless>
     + Written
     + Drop {}
 
-impl<M> Callable for M
-where
-    M: AskedByKey<Item = Coarse, Key = Caseless>
-        + AskedToInsert<Coarse>
-        + Probed
-        + Copied
-        + Entered
-        + Respelled
-        + AskedForRoom
-        + Walked<Coarse>
-        + TakesNew
-        + Written
-        + Drop,
-{}
+impl Callable for Ordered<Coarse> {}
+
+impl Callable for Hashed<Coarse> {}
+
+impl Callable for Hashed<Coarse, BuildHasherDefault<ZeroHasher>> {}
+
+impl Callable for Hashed<Coarse, RandomState> {}
 
 // Makes the call. Whether it is answered as by the list.
 fn is_answered<M: Callable>(
