@@ -16,6 +16,20 @@ fn write_bar(out: &mut impl Write, hundredths: u64) -> io::Result<()> {
     writeln!(out, "")
 }
 
+// Tenths, as a number with one digit behind the point.
+fn write_tenths(out: &mut impl Write, tenths: u64) -> io::Result<()> {
+    write!(out, "{:>6}.{} ", tenths / 10, tenths % 10)
+}
+
+// The tenths of a nanosecond that an operation took of ours and of std's, their ratio, and a bar that shows it.
+fn write_pair(out: &mut impl Write, ours: u64, std: u64) -> io::Result<()> {
+    write_tenths(out, ours)?;
+    write_tenths(out, std)?;
+    let ratio = ours.saturating_mul(100) / std.max(1);
+    write!(out, "{:>3}.{:02} ", ratio / 100, ratio % 100)?;
+    write_bar(out, ratio)
+}
+
 /// Writes a line a phase that both have: the nanoseconds an operation of ours and of std's, their ratio, and a bar that shows it.
 pub(crate) fn write_times(
     out: &mut impl Write,
@@ -28,19 +42,8 @@ pub(crate) fn write_times(
         if *ours == 0 || std == 0 {
             continue;
         }
-        let (ours, std) = (tenths(*ours, size), tenths(std, size));
-        let ratio = ours.saturating_mul(100) / std.max(1);
         write!(out, "{map:<5} {key:<7} {size:>8} {phase:<10} ")?;
-        write!(
-            out,
-            "{:>6}.{} {:>6}.{} ",
-            ours / 10,
-            ours % 10,
-            std / 10,
-            std % 10
-        )?;
-        write!(out, "{:>3}.{:02} ", ratio / 100, ratio % 100)?;
-        write_bar(out, ratio)?;
+        write_pair(out, tenths(*ours, size), tenths(std, size))?;
     }
     Ok(())
 }

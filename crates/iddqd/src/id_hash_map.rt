@@ -41,13 +41,24 @@ pub type DefaultHashBuilder = BuildHasherDefault<FoldHasher>;
 /// Items of pairwise different keys, in no order that a caller may rely on (the crate's `IdHashMap`). Each item lies in
 /// a numbered slot of a store, and an index finds the slot by the hash of the key that the item shows. Contracts see the
 /// items, each with its slot and its stored hash, the hasher, `spare`, how many slots are vacant, the capacity and the limit.
-#[derive(Drop)]
 pub struct IdHashMap<T, S = DefaultHashBuilder> {
     store: ItemStore<T>,
     index: HashIndex,
     hasher: S,
     // What an insertion lends where it succeeds, so that its caller learns what the map is then.
     done: (),
+}
+
+// Not derived: the proof of a function has a derived drop field by field wherever it drops a map, and this one as a call.
+impl<T: Drop, S: Drop> Drop for IdHashMap<T, S> {
+    fn drop(self) {
+        let IdHashMap {
+            store: _,
+            index: _,
+            hasher: _,
+            done: _,
+        } = self;
+    }
 }
 
 impl<T, S> Model for IdHashMap<T, S> {

@@ -198,11 +198,14 @@ fn pairs(rt: HostRuntime) {
     check(&rt, mint.finds(7, 1830, None, 1));
 }
 
-// A hundred years go in, and ninety leave: the room stays, until half of it is given back.
-fn keeps_room(rt: &impl Abort, mint: &mut Mint) {
+fn puts_a_hundred(rt: &impl Abort, mint: &mut Mint) {
     for year in 0..100 {
         mint.put(rt, hash_of(year), year);
     }
+}
+
+// Ninety of a hundred years leave: the room stays, until half of it is given back.
+fn keeps_room(rt: &impl Abort, mint: &mut Mint) {
     let room = mint.room();
     for year in 0..90 {
         mint.take(hash_of(year), year);
@@ -227,6 +230,7 @@ fn copies_and_clears(rt: &impl Abort, mint: &mut Mint) {
 fn room(rt: HostRuntime) {
     let mut mint = Mint::new(rt.alloc());
     check(&rt, mint.index.spare() == 0);
+    puts_a_hundred(&rt, &mut mint);
     keeps_room(&rt, &mut mint);
     copies_and_clears(&rt, &mut mint);
 }

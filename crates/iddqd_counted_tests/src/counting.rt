@@ -172,19 +172,13 @@ fn most_compared<T: IdOrdItem + Copy>(
     Some(most)
 }
 
-// The same of a map of these items, and of the lookup and the insertion of others, each taken out again.
-fn most_of_all<T: IdOrdItem + Copy>(
-    alloc: Global,
-    items: &[T],
+// The same of the lookup and the insertion of one of these that are absent, each taken out again.
+fn most_of_absent<T: IdOrdItem + Copy>(
+    map: &mut Ordered<T>,
     absent: &[T],
     compared: &Cell<u32>,
 ) -> Option<u32> {
-    let mut map = in_order(alloc);
-    for item in items {
-        let _ = map.is_put(*item);
-    }
-    compared.set(0);
-    let mut most = most_compared(&mut map, items, compared)?;
+    let mut most = 0;
     for item in absent {
         let is_found = map.get(item.key()).is_some();
         most = most.max(since(compared));
@@ -196,6 +190,22 @@ fn most_of_all<T: IdOrdItem + Copy>(
         compared.set(0);
     }
     Some(most)
+}
+
+// The same of a map of these items and of those that are absent.
+fn most_of_all<T: IdOrdItem + Copy>(
+    alloc: Global,
+    items: &[T],
+    absent: &[T],
+    compared: &Cell<u32>,
+) -> Option<u32> {
+    let mut map = in_order(alloc);
+    for item in items {
+        let _ = map.is_put(*item);
+    }
+    compared.set(0);
+    let most = most_compared(&mut map, items, compared)?;
+    Some(most.max(most_of_absent(&mut map, absent, compared)?))
 }
 
 // The same of so many even numbers, beside an odd one.

@@ -6,6 +6,8 @@ mod checks;
 #[cfg(test)]
 mod counting;
 #[cfg(test)]
+mod numbers;
+#[cfg(test)]
 mod rows;
 #[cfg(test)]
 mod stored;

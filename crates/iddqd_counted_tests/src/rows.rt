@@ -1,28 +1,17 @@
 //! The most comparisons of a call, by how many items there are.
 use crate::checks::check;
+use crate::numbers::{are_numbers_put, numbered};
 use iddqd::IdHashMap;
 use iddqd_testing::hashers::ZeroHasher;
 use iddqd_testing::items::Numbered;
-use iddqd_testing::tried::{AskedByKey, Hashed, in_order};
+use iddqd_testing::tried::{AskedByKey, Hashed, Ordered, in_order};
 use std::alloc::Global;
 use std::hash::BuildHasherDefault;
 use std::test::Fail;
 
-fn numbered(number: u32) -> Numbered {
-    Numbered {
-        number,
-        value: number ^ 5,
-    }
-}
-
-// The most steps of a counted call on an ordered map of so many numbers: a lookup of each and of one that is absent, the
-// removal of each from the full map, and the insertion of one more. Nothing where a call went wrong.
-fn most_steps(alloc: Global, count: u32) -> Option<u32> {
-    let mut map = in_order(alloc);
-    for number in 0..count {
-        let _ = map.is_put(numbered(number));
-    }
-    let mut most = map.find(&count).steps;
+// The most steps of the lookup of one of so many numbers, and of its removal from the full map. Nothing where a call went wrong.
+fn most_of_each(map: &mut Ordered<Numbered>, count: u32) -> Option<u32> {
+    let mut most = 0;
     for number in 0..count {
         let found = map.find(&number);
         let taken = map.take(&number);
@@ -31,8 +20,17 @@ fn most_steps(alloc: Global, count: u32) -> Option<u32> {
         }
         most = most.max(found.steps).max(taken.steps);
     }
+    Some(most)
+}
+
+// The same of a map of these numbers alone, with the lookup of one that is absent, and its insertion.
+fn most_steps(alloc: Global, count: u32) -> Option<u32> {
+    let mut map = in_order(alloc);
+    let is_full = are_numbers_put(&mut map, 0, count);
+    let absent = map.find(&count);
+    let most = most_of_each(&mut map, count)?;
     let put = map.put(numbered(count));
-    put.is_done.then_some(most.max(put.steps))
+    (is_full && put.is_done).then_some(most.max(absent.steps).max(put.steps))
 }
 
 #[test]
@@ -58,9 +56,7 @@ fn growth_refused(rt: HostRuntime) -> Result<(), Fail> {
 fn equal_hashes(rt: HostRuntime) {
     let hasher: BuildHasherDefault<ZeroHasher> = BuildHasherDefault::new();
     let mut map = Hashed::new(IdHashMap::with_hasher(rt.alloc(), hasher));
-    for number in 0..100 {
-        check(&rt, map.is_put(numbered(number)));
-    }
+    check(&rt, are_numbers_put(&mut map, 0, 100));
     for number in 0..100 {
         check(&rt, map.find(&number).is_done);
     }

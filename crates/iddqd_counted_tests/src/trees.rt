@@ -1,15 +1,9 @@
 //! Ordered maps of many items, in and out in several orders.
 use crate::checks::check;
+use crate::numbers::{are_numbers_put, numbered};
 use iddqd_testing::items::Numbered;
 use iddqd_testing::tried::{AskedByKey, Ordered, in_order};
 use std::alloc::Global;
-
-fn numbered(number: u32) -> Numbered {
-    Numbered {
-        number,
-        value: number ^ 5,
-    }
-}
 
 // The i-th of the numbers below 1009, in an order that the factor gives.
 fn number_at(place: u32, factor: u32) -> u32 {
@@ -103,9 +97,7 @@ fn removals_in_mixed_order(rt: HostRuntime) {
 #[test]
 fn removals_in_order(rt: HostRuntime) {
     let mut map = in_order(rt.alloc());
-    for number in 1..13 {
-        check(&rt, map.is_put(numbered(number)));
-    }
+    check(&rt, are_numbers_put(&mut map, 1, 13));
     for number in 1..13u32 {
         check(&rt, map.remove(&number).is_some());
         check(&rt, walks(&map, number.wrapping_add(1), 13));

@@ -245,24 +245,36 @@ pub(crate) fn clear<M: AskedByKey<Item = Coarse, Key = Caseless>>(
     map.len() == 0
 }
 
+// Whether the list has each item of the walk.
+fn are_listed(plain: &Plain, walked: &[Coarse]) -> bool {
+    for item in walked {
+        if !is_same(plain.find(&item.name), Some(*item)) {
+            return false;
+        }
+    }
+    true
+}
+
+// Whether the map finds each item of the list.
+fn are_found<M: AskedByKey<Item = Coarse, Key = Caseless>>(map: &M, plain: &Plain) -> bool {
+    for item in plain.items.iter() {
+        if map.get(&item.name).map(spelled) != Some(spelled(item)) {
+            return false;
+        }
+    }
+    true
+}
+
 // Whether the map holds just what the list does, by what it finds and by its walk, and tells the numbers of the list.
 pub(crate) fn holds_the_same<M: AskedByKey<Item = Coarse, Key = Caseless> + Probed + AskedForRoom>(
     map: &M,
     plain: &Plain,
     walked: &[Coarse],
 ) -> bool {
-    for item in walked {
-        if !is_same(plain.find(&item.name), Some(*item)) {
-            return false;
-        }
-    }
-    for item in plain.items.iter() {
-        if map.get(&item.name).map(spelled) != Some(spelled(item)) {
-            return false;
-        }
-    }
     let count = plain.len();
-    walked.len() == count
+    are_listed(plain, walked)
+        && are_found(map, plain)
+        && walked.len() == count
         && map.len() == count
         && map.capacity() >= count
         && map.limit() == plain.limit

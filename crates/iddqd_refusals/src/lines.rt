@@ -19,39 +19,74 @@ fn served(
     Ok((text, outcome, is_met))
 }
 
-// The row that the five lines are answered by, which is one of those that a refusal allows.
-fn row_of_lines(alloc: Global, kind: Kind) -> Result<&'static str, Fail> {
-    let (text, outcome, is_met) = served(
-        alloc,
-        kind,
-        b"add bob 2\nadd bob 9\nget bob\ndel bob\nlen\n",
-    )?;
-    for (name, answer, refused, written) in [
-        (
-            "answered",
-            Ok(0),
-            false,
-            b"added\nduplicate bob 2\n2\nremoved 2\n0\n".as_slice(),
-        ),
-        (
-            "first_item_refused",
-            Ok(1),
-            true,
-            b"refused memory\nadded\n9\nremoved 9\n0\n",
-        ),
-        (
-            "second_item_refused",
-            Ok(1),
-            true,
-            b"added\nrefused memory\n2\nremoved 2\n0\n",
-        ),
-        ("no_memory", Err(Fault::Memory), true, b""),
-    ] {
-        if outcome == answer && is_met == refused && text.as_slice() == written {
-            return Ok(name);
+// A row: the text and the answer of `serve`, and whether a request was refused then.
+#[derive(Clone, Copy)]
+struct Row {
+    name: &'static str,
+    text: &'static [u8],
+    outcome: Result<u64, Fault>,
+    is_met: bool,
+}
+
+// The name of the row that is answered.
+fn row_of(
+    rows: &[Row],
+    text: &[u8],
+    outcome: Result<u64, Fault>,
+    is_met: bool,
+) -> Option<&'static str> {
+    for row in rows {
+        if text == row.text && outcome == row.outcome && is_met == row.is_met {
+            return Some(row.name);
         }
     }
-    Err(Fail::from("the answer is no row"))
+    None
+}
+
+// A row without a refusal.
+fn answered(name: &'static str, text: &'static [u8]) -> Row {
+    Row {
+        name,
+        text,
+        outcome: Ok(0),
+        is_met: false,
+    }
+}
+
+// A row in which a line was refused.
+fn refused(name: &'static str, text: &'static [u8]) -> Row {
+    Row {
+        name,
+        text,
+        outcome: Ok(1),
+        is_met: true,
+    }
+}
+
+const NO_MEMORY: Row = Row {
+    name: "no_memory",
+    text: b"",
+    outcome: Err(Fault::Memory),
+    is_met: true,
+};
+
+// The row that the five lines are answered by, which is one of those that a refusal allows.
+fn row_of_lines(alloc: Global, kind: Kind) -> Result<&'static str, Fail> {
+    let lines = b"add bob 2\nadd bob 9\nget bob\ndel bob\nlen\n";
+    let (text, outcome, is_met) = served(alloc, kind, lines)?;
+    let rows = [
+        answered("answered", b"added\nduplicate bob 2\n2\nremoved 2\n0\n"),
+        refused(
+            "first_item_refused",
+            b"refused memory\nadded\n9\nremoved 9\n0\n",
+        ),
+        refused(
+            "second_item_refused",
+            b"added\nrefused memory\n2\nremoved 2\n0\n",
+        ),
+        NO_MEMORY,
+    ];
+    Ok(row_of(&rows, text.as_slice(), outcome, is_met).ok_or("the answer is no row")?)
 }
 
 // Memory for the item of `add bob 2` is refused: the row of this name comes in some run, as `tools/sweeps` wants it.
@@ -105,32 +140,40 @@ fn hash_served_lines(rt: HostRuntime) -> Result<(), Fail> {
     tell(&rt, row_of_served(rt.alloc(), Kind::Hash))
 }
 
+// The row that two items, their list and their count are answered by, over a hash map.
+fn row_of_list(alloc: Global) -> Result<&'static str, Fail> {
+    let lines = b"add b 1\nadd a 2\nlist\nlen\n";
+    let (text, outcome, is_met) = served(alloc, Kind::Hash, lines)?;
+    let rows = [
+        answered("listed", b"added\nadded\nlist 2 a=2 b=1\n2\n"),
+        refused("list_refused", b"added\nadded\nrefused memory\n2\n"),
+        NO_MEMORY,
+    ];
+    let row = row_of(&rows, text.as_slice(), outcome, is_met);
+    if row.is_none() && is_met && outcome == Ok(1) && refused_lines(text.as_slice()) == 1 {
+        return Ok("item_refused");
+    }
+    Ok(row.ok_or("the answer is no row")?)
+}
+
 // Memory to put the entries of a hash map in order is refused in some run, and the line that asks for the list says so.
 #[test]
 fn hash_list(rt: HostRuntime) -> Result<(), Fail> {
-    let (text, outcome, is_met) = served(rt.alloc(), Kind::Hash, b"add b 1\nadd a 2\nlist\nlen\n")?;
-    let row = match (outcome, text.as_slice()) {
-        (Ok(0), b"added\nadded\nlist 2 a=2 b=1\n2\n") if !is_met => "listed",
-        (Ok(1), b"added\nadded\nrefused memory\n2\n") if is_met => "list_refused",
-        (Ok(1), text) if is_met && refused_lines(text) == 1 => "item_refused",
-        (Err(Fault::Memory), b"") if is_met => "no_memory",
-        _ => return Err(Fail::from("the answer is no row")),
-    };
-    println!(rt; "{row}")?;
-    Ok(())
+    tell(&rt, row_of_list(rt.alloc()))
 }
 
 // The row that a line of three pairs and the count after it are answered by: memory for the pairs or for their room was
 // refused, or memory for one of them when others were in.
 fn row_of_added(alloc: Global, kind: Kind) -> Result<&'static str, Fail> {
     let (text, outcome, is_met) = served(alloc, kind, b"addall a 1 b 2 c 3\nlen\n")?;
-    match (outcome, text.as_slice()) {
-        (Ok(0), b"added 3\n3\n") if !is_met => Ok("added"),
-        (Ok(1), b"refused memory\n0\n") if is_met => Ok("none_added"),
-        (Ok(1), b"refused memory\n1\n" | b"refused memory\n2\n") if is_met => Ok("some_added"),
-        (Err(Fault::Memory), b"") if is_met => Ok("no_memory"),
-        _ => Err(Fail::from("the answer is no row")),
-    }
+    let rows = [
+        answered("added", b"added 3\n3\n"),
+        refused("none_added", b"refused memory\n0\n"),
+        refused("some_added", b"refused memory\n1\n"),
+        refused("some_added", b"refused memory\n2\n"),
+        NO_MEMORY,
+    ];
+    Ok(row_of(&rows, text.as_slice(), outcome, is_met).ok_or("the answer is no row")?)
 }
 
 #[test]

@@ -209,13 +209,11 @@ fn hash_akin_insertions_into_full_index(rt: HostRuntime) -> Result<(), Fail> {
     Ok(())
 }
 
-// A hundred names of two letters.
+// A hundred names.
 fn names(alloc: Global) -> Result<Vec<String>, AllocError> {
     let mut names = Vec::new(alloc);
-    for first in ["a", "b", "c", "d", "e", "f", "g", "h", "i", "j"] {
-        for second in ["k", "l", "m", "n", "o", "p", "q", "r", "s", "t"] {
-            names.push(format!(in alloc; "{first}{second}")?)?;
-        }
+    for number in 0..100u32 {
+        names.push(format!(in alloc; "name {number}")?)?;
     }
     Ok(names)
 }
@@ -235,22 +233,24 @@ fn fill_with_names<M: AskedByKey<Item = Titled>>(
     Ok(())
 }
 
-// Whether each name is found, and its item taken out then.
-fn are_taken_out<M: AskedByKey<Item = Titled> + AskedByText<Item = Titled>>(
-    map: &mut M,
-    names: &[String],
-) -> bool {
+// Whether each name is found.
+fn are_found<M: AskedByText<Item = Titled>>(map: &M, names: &[String]) -> bool {
     for (value, name) in names.iter().enumerate() {
         if map.find(name).map(|item| item.value as usize) != Some(value) {
             return false;
         }
     }
+    true
+}
+
+// Whether each name's item is taken out.
+fn are_taken_out<M: AskedByText<Item = Titled>>(map: &mut M, names: &[String]) -> bool {
     for (value, name) in names.iter().enumerate() {
         if map.take_out(name).map(|item| item.value as usize) != Some(value) {
             return false;
         }
     }
-    map.len() == 0
+    true
 }
 
 // Fills the map with a hundred names, and then finds and takes out each: whether that went well, and met a request.
@@ -261,7 +261,7 @@ fn lookups<M: AskedByKey<Item = Titled> + AskedByText<Item = Titled> + Drop>(
 ) -> Result<(bool, bool), AllocError> {
     fill_with_names(&mut map, names)?;
     arm(alloc);
-    let is_well = are_taken_out(&mut map, names);
+    let is_well = are_found(&map, names) && are_taken_out(&mut map, names) && map.len() == 0;
     Ok((is_well, is_met(alloc)))
 }
 
