@@ -157,7 +157,6 @@ fn thousands(rt: HostRuntime) -> Result<(), Fail> {
     Ok(())
 }
 
-// Where all hashes are equal, only time is lost.
 // A hundred years are found by the hash 5, and none by another.
 fn finds_under_five(rt: &impl Abort, mint: &Mint) {
     for year in 0..100 {
@@ -172,6 +171,7 @@ fn takes_from_the_last(rt: &impl Abort, mint: &mut Mint) {
     }
 }
 
+// Where all hashes are equal, only time is lost.
 #[test]
 fn pairs_of_one_hash(rt: HostRuntime) {
     let mut mint = Mint::new(rt.alloc());
