@@ -1,5 +1,5 @@
 //! `into_owned` with a request refused: it hands itself back, and then succeeds.
-use crate::checks::check;
+use crate::words::tell;
 use iddqd::errors::{DuplicateItem, Few};
 use iddqd_testing::heap::{arm, is_met};
 use iddqd_testing::kept::{Kept, make_kept};
@@ -61,6 +61,5 @@ fn into_owned(rt: HostRuntime) -> Result<(), Fail> {
     let new = make_kept(alloc, 4)?;
     let lent = DuplicateItem::internal_new(new, Few::Three(&first, &second, &third));
     let word = owned_or_back(alloc, lent).ok_or("an item is not as it was")?;
-    println!(rt; "{word}")?;
-    Ok(())
+    tell(&rt, Ok(word))
 }
