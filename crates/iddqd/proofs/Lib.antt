@@ -1,17 +1,4 @@
-pub mod CloneLemmas
-mod EntryLemmas
-mod CollectLemmas
-mod CompactLemmas
-pub mod FoundLemmas
 pub mod GuardLemmas
-pub mod HashCountLemmas
-pub mod LentLemmas
-pub mod MapLemmas
-pub mod PairLemmas
-pub mod PairedLemmas
-pub mod RisingLemmas
-pub mod SlotItemLemmas
-pub mod WalkedLemmas
 pub use Rattle.iddqd_core.proofs.AddingLemmas
 pub use Rattle.iddqd_core.proofs.DistinctLemmas
 pub use Rattle.iddqd_core.proofs.KeepsLemmas

@@ -1,11 +1,3 @@
-pub mod Entry
-pub mod Guard
-pub mod HashItems
-pub mod HashMap
-pub mod Paired
-pub mod Walked
-pub mod SlotOrder
-pub mod WritingWalk
 pub use Rattle.iddqd_core.specs.Adding
 pub use Rattle.iddqd_core.specs.Collecting
 pub use Rattle.iddqd_core.specs.Contents
@@ -17,3 +9,10 @@ pub use Rattle.iddqd_core.specs.Query
 pub use Rattle.iddqd_core.specs.Refusal
 pub use Rattle.iddqd_core.specs.SlotItems
 pub use Rattle.iddqd_core.specs.Visiting
+pub use Rattle.iddqd_hash.specs.Entry
+pub use Rattle.iddqd_hash.specs.Guard
+pub use Rattle.iddqd_hash.specs.HashItems
+pub use Rattle.iddqd_hash.specs.HashMap
+pub use Rattle.iddqd_hash.specs.SlotOrder
+pub use Rattle.iddqd_hash.specs.Walked
+pub use Rattle.iddqd_hash.specs.WritingWalk

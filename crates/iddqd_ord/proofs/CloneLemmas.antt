@@ -3,9 +3,9 @@
 --     listed_clones      the items are the clones
 use Rattle.std.proofs.Common.{◌≡◌, ℕ, List, [], ◌∷◌, is_some, sym, ◌∙◌}
 use Rattle.std.specs.List.{AllZip}
-use Rattle.iddqd_core.specs.Listed.{listed_items}
-use Rattle.iddqd_core.specs.Store.{Store, item_at, store_len, IsStoreClone}
-use Rattle.iddqd_core.proofs.CloneLemmas.{clones_on, occupied_both, clone_at}
+use Rattle.iddqd_ord_index.specs.Listed.{listed_items}
+use Rattle.iddqd_store.specs.Store.{Store, item_at, store_len, IsStoreClone}
+use Rattle.iddqd_store.proofs.CloneLemmas.{clones_on, occupied_both, clone_at}
 use Rattle.iddqd_ord.specs.Paired.{ListsOccupied}
 
 module _ {T : Type 0} (is_clone : T → T → Type 0) (store copy : Store T) (clones : IsStoreClone is_clone store copy) where

@@ -13,13 +13,13 @@ use Rattle.std.specs.declared.cmp.Ordering.TheVariants.{Less, Equal, Greater}
 use Rattle.std.specs.Cmp.{IsEquivalence, IsTotalOrder, nat_eq_equiv}
 use Rattle.std.specs.List.{AllWithin, Contains, HoldsAt, cons_option}
 use Rattle.std.specs.Ordering.{is_eq}
-use Rattle.iddqd_core.specs.Contents.{Ascends}
-use Rattle.iddqd_core.specs.Listed.{SlotList, listed_items}
-use Rattle.iddqd_core.specs.Store.{Store, item_at, store_len, EndsOccupied, MovesLast, SameItems}
-use Rattle.iddqd_core.proofs.DistinctLemmas.{absent_apart, distinct_set}
-use Rattle.iddqd_core.proofs.ListedLemmas.{length-listed, listed-same, read-listed}
-use Rattle.iddqd_core.proofs.QueryLemmas.{none_at, only_at, own_query}
-use Rattle.iddqd_core.proofs.StoreLemmas.{last_moves}
+use Rattle.iddqd_store.specs.Contents.{Ascends}
+use Rattle.iddqd_ord_index.specs.Listed.{SlotList, listed_items}
+use Rattle.iddqd_store.specs.Store.{Store, item_at, store_len, EndsOccupied, MovesLast, SameItems}
+use Rattle.iddqd_store.proofs.DistinctLemmas.{absent_apart, distinct_set}
+use Rattle.iddqd_ord_index.proofs.ListedLemmas.{length-listed, listed-same, read-listed}
+use Rattle.iddqd_store.proofs.QueryLemmas.{none_at, only_at, own_query}
+use Rattle.iddqd_store.proofs.StoreLemmas.{last_moves}
 use Rattle.iddqd_ord.specs.Paired.{ListsOccupied}
 use Rattle.iddqd_ord.proofs.PairedLemmas.{vacant_absent}
 

@@ -7,9 +7,9 @@ use Rattle.std.proofs.Props.{props}
 use Rattle.std.specs.Option.{IsSome}
 use Rattle.std.specs.List.{remove, slice_get}
 use mathlib.Core.HLevel.{is_prop→PathP}
-use Rattle.iddqd_core.specs.Contents.{AddsItem}
-use Rattle.iddqd_core.specs.SlotItems.{HaveSlots, item_of_slot, without_slot, written_to_slot}
-use Rattle.iddqd_core.proofs.WrittenLemmas.{PlaceRead, place_read}
+use Rattle.iddqd_store.specs.Contents.{AddsItem}
+use Rattle.iddqd_store.specs.SlotItems.{HaveSlots, item_of_slot, without_slot, written_to_slot}
+use Rattle.iddqd_store.proofs.WrittenLemmas.{PlaceRead, place_read}
 use Rattle.iddqd_ord.specs.declared.id_ord_map.entry.OccupiedEntry.{OccupiedEntry}
 
 module _ {T : Type 0} where

@@ -3,12 +3,12 @@
 --     lent_paired, lent_items, lent_vacant      the pair of store and index after the write
 use Rattle.std.proofs.Common.{◌≡◌, ℕ, zero, suc, ◌∙◌, ⊎_elim, Bool, true, false, cond, List, [], ◌∷◌, get_or, Some, is_some, refl, sym, ap, arith, true≢false, nat_eq, suc-le-suc}
 use Rattle.std.proofs.lemmas.Bool.{cases_eq, eqb-true}
-use Rattle.iddqd_core.specs.Listed.{listed_items, AreOccupied}
-use Rattle.iddqd_core.specs.SlotItems.{item_of_slot, written_to_slot}
-use Rattle.iddqd_core.specs.Store.{Store, item_at, IsOccupied, vacant, with_item}
-use Rattle.iddqd_core.proofs.ListedLemmas.{listed-updated}
-use Rattle.iddqd_core.proofs.StoreLemmas.{given, len_lent, updates-set, vacant_lent}
-use Rattle.iddqd_core.proofs.WrittenLemmas.{slot_place}
+use Rattle.iddqd_ord_index.specs.Listed.{listed_items, AreOccupied}
+use Rattle.iddqd_store.specs.SlotItems.{item_of_slot, written_to_slot}
+use Rattle.iddqd_store.specs.Store.{Store, item_at, IsOccupied, vacant, with_item}
+use Rattle.iddqd_ord_index.proofs.ListedLemmas.{listed-updated}
+use Rattle.iddqd_store.proofs.StoreLemmas.{given, len_lent, updates-set, vacant_lent}
+use Rattle.iddqd_store.proofs.WrittenLemmas.{slot_place}
 use Rattle.iddqd_ord.specs.Paired.{ListsOccupied}
 
 module _ {T : Type 0} where

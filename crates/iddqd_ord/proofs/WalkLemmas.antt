@@ -3,9 +3,9 @@
 --     rest_distinct, rest_there, rest_listed      what is left where the item of the first slot has been taken out
 use Rattle.std.proofs.Common.{◌≡◌, ℕ, zero, suc, List, ◌∷◌, Some, None, refl, sym, ap, ◌∙◌, nat_eq, suc-le-suc, is_some}
 use Rattle.std.specs.List.{IsDistinct, cons_option}
-use Rattle.iddqd_core.specs.Listed.{listed_items, AreOccupied}
-use Rattle.iddqd_core.specs.Store.{Store, item_at, Updates}
-use Rattle.iddqd_core.proofs.ListedLemmas.{listed-same}
+use Rattle.iddqd_ord_index.specs.Listed.{listed_items, AreOccupied}
+use Rattle.iddqd_store.specs.Store.{Store, item_at, Updates}
+use Rattle.iddqd_ord_index.proofs.ListedLemmas.{listed-same}
 use Rattle.iddqd_ord.proofs.PairedLemmas.{all-removed}
 
 module _ {T : Type 0} where

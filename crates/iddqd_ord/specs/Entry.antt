@@ -10,8 +10,8 @@ use Rattle.std.specs.Prelude.{◌≡◌, ℕ, [], List, Option, None, Result}
 use Rattle.std.specs.Borrow.{Fml, GName, RattleType, MutBor, RestsIfErr, RestsIfNone, follows}
 use Rattle.std.specs.declared.cmp.Ordering.{Ordering}
 use mir.Syntax.{named}
-use Rattle.iddqd_core.specs.Holding.{Holding}
-use Rattle.iddqd_core.specs.SlotItems.{item_of_slot, still_there, without_slot}
+use Rattle.iddqd_store.specs.Holding.{Holding}
+use Rattle.iddqd_store.specs.SlotItems.{item_of_slot, still_there, without_slot}
 use Rattle.iddqd_ord.specs.declared.id_ord_map.entry.Entry.{Entry}
 use Rattle.iddqd_ord.specs.declared.id_ord_map.entry.OccupiedEntry.{OccupiedEntry}
 use Rattle.iddqd_ord.specs.Guard.{with_item_in}

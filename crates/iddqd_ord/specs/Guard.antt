@@ -8,8 +8,8 @@
 use Rattle.std.specs.Prelude.{◌≡◌, ℕ, [], Option}
 use Rattle.std.specs.Borrow.{Fml, GName, RattleType, MutBor, Lends, RestsIfNone, follows}
 use mir.Syntax.{named}
-use Rattle.iddqd_core.specs.Holding.{Holding}
-use Rattle.iddqd_core.specs.SlotItems.{item_of_slot, still_there, written_to_slot}
+use Rattle.iddqd_store.specs.Holding.{Holding}
+use Rattle.iddqd_store.specs.SlotItems.{item_of_slot, still_there, written_to_slot}
 use Rattle.iddqd_ord.specs.declared.id_ord_map.ref_mut.RefMut.{RefMut}
 use Rattle.iddqd_ord.specs.declared.id_ord_map.ref_mut.Shown.{Shown}
 use Rattle.iddqd_ord.specs.contracts.id_ord_map.IdOrdMap as map

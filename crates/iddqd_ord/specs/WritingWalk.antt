@@ -4,7 +4,7 @@
 use Rattle.std.specs.Prelude.{ℕ, ◌+◌, [], Option, slice_set}
 use Rattle.std.specs.Borrow.{Fml, GName, RattleType, MutBor, LendsIf}
 use mir.Syntax.{named}
-use Rattle.iddqd_core.specs.Holding.{Holding}
+use Rattle.iddqd_store.specs.Holding.{Holding}
 use Rattle.iddqd_ord.specs.declared.id_ord_map.iter_mut.IterMut.{IterMut}
 use Rattle.iddqd_ord.specs.contracts.id_ord_map.iter_mut.IterMut as walk
 

@@ -1,7 +1,7 @@
 //! An ordered map over an item store and an ordered index.
 ghost use Rattle.std.specs.Prelude.{◌≡◌, ◌↔◌, ◌≤◌, [], length, IsTrue};
-ghost use Rattle.iddqd_core.specs.Contents.{Ascends};
-ghost use Rattle.iddqd_core.specs.SlotItems.{HaveSlots};
+ghost use Rattle.iddqd_store.specs.Contents.{Ascends};
+ghost use Rattle.iddqd_store.specs.SlotItems.{HaveSlots};
 
 mod clone;
 mod collect;
@@ -23,17 +23,15 @@ mod room;
 mod validate;
 
 pub use entry::{Entry, OccupiedEntry, VacantEntry};
-pub use iddqd_core::IdOrdItem;
-use iddqd_core::{ItemStore, OrdIndex};
+use iddqd_ord_index::OrdIndex;
+pub use iddqd_store::IdOrdItem;
+use iddqd_store::{ItemStore, MAX_ITEMS};
 pub use into_iter::IntoIter;
 pub use iter::Iter;
 pub use iter_mut::IterMut;
 pub use ref_mut::{RefMut, Shown};
 use std::alloc::Global;
 use std::marker::Model;
-
-/// The most items that a map holds (ours: the crate leaves it open).
-pub const MAX_ITEMS: u32 = u32::MAX;
 
 /// Items of pairwise different keys, in ascending order of the keys that they show (the crate's `IdOrdMap`). Each item
 /// lies in a numbered slot of a store, and an index lists the slots in the order of the keys. Contracts see the items
@@ -57,9 +55,9 @@ impl<T: Drop> Drop for IdOrdMap<T> {
 }
 
 impl<T> Model for IdOrdMap<T> {
-    ghost use Rattle.iddqd_core.specs.Holding.{Holding, holding_code};
-    ghost use Rattle.iddqd_core.specs.Listed.{listed_items};
-    ghost use Rattle.iddqd_core.specs.Store.{vacant};
+    ghost use Rattle.iddqd_store.specs.Holding.{Holding, holding_code};
+    ghost use Rattle.iddqd_ord_index.specs.Listed.{listed_items};
+    ghost use Rattle.iddqd_store.specs.Store.{vacant};
     ghost use Rattle.iddqd_ord.specs.Paired.{ListsOccupied};
 
     ghost Value = { Holding T };

@@ -14,6 +14,9 @@ use std::alloc::{AllocError, Global};
 use std::marker::Model;
 use std::mem;
 
+/// The most items that a map holds (ours: the crate leaves it open): as many as there are slot numbers but one.
+pub const MAX_ITEMS: u32 = u32::MAX;
+
 /// Items in numbered slots, as the crate's `ItemSet`: an item stays in its slot until it is removed
 /// or moved into a lower one, and the slot of a removed item is used again. Contracts see the list
 /// of the slots, each with its item or vacant, the capacity and the limit.

@@ -19,7 +19,7 @@ pub use errors::{
 };
 pub use halts::Halt;
 pub use hints::likely_new;
-pub use item_store::ItemStore;
+pub use item_store::{ItemStore, MAX_ITEMS};
 pub use items::{IdHashItem, IdOrdItem};
 pub use queries::{Comparable, Equivalent};
 pub use steps::Steps;

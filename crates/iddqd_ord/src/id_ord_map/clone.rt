@@ -1,11 +1,11 @@
 //! A copy of a map.
 ghost use Rattle.std.specs.Prelude.{◌≡◌, IfErr, IfOk};
 ghost use Rattle.std.specs.List.{AllZip};
-ghost use Rattle.iddqd_core.specs.Contents.{Ascends, ClonesKeepKeys};
-ghost use Rattle.iddqd_core.specs.Refusal.{memory_refused};
+ghost use Rattle.iddqd_store.specs.Contents.{Ascends, ClonesKeepKeys};
+ghost use Rattle.iddqd_store.specs.Refusal.{memory_refused};
 
 use super::IdOrdMap;
-use iddqd_core::{IdOrdItem, TryReserveError};
+use iddqd_store::{IdOrdItem, TryReserveError};
 
 impl<T: IdOrdItem> IdOrdMap<T> {
     /// A map of the items' clones, in the same slots and under the same limit (a function: the crate's is the trait

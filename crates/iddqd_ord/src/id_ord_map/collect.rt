@@ -1,15 +1,16 @@
 //! Many items at once, from an iterator.
 ghost use Rattle.std.specs.Prelude.{◌≡◌, [], List, IfOk, IfErr, IfNone, IfSome, OnOk};
 ghost use Rattle.std.specs.Iterator.{IsFiniteIterable};
-ghost use Rattle.iddqd_core.specs.Collecting.{GivesAll, GivesThen, OverwritesAll, ShowsAkin, ShowsFirstRepeat};
-ghost use Rattle.iddqd_core.specs.Contents.{Ascends, IsAbsent, NoTwoAkin, SameInAnyOrder};
-ghost use Rattle.iddqd_core.specs.Holding.{FillsSlots, KeepsItems};
-ghost use Rattle.iddqd_core.specs.Refusal.{FindsNoRoom};
+ghost use Rattle.iddqd_store.specs.Collecting.{GivesAll, GivesThen, OverwritesAll, ShowsAkin, ShowsFirstRepeat};
+ghost use Rattle.iddqd_store.specs.Contents.{Ascends, IsAbsent, NoTwoAkin, SameInAnyOrder};
+ghost use Rattle.iddqd_store.specs.Holding.{FillsSlots, KeepsItems};
+ghost use Rattle.iddqd_store.specs.Refusal.{FindsNoRoom};
 
+use super::IdOrdMap;
 use super::paired::take_out;
-use super::{IdOrdMap, MAX_ITEMS};
-use iddqd_core::{
-    DuplicateItem, ExtendError, Few, FromIterError, IdOrdItem, Steps, TryReserveError, likely_new,
+use iddqd_store::{
+    DuplicateItem, ExtendError, Few, FromIterError, IdOrdItem, MAX_ITEMS, Steps, TryReserveError,
+    likely_new,
 };
 use std::alloc::Global;
 

@@ -1,11 +1,12 @@
 //! Closing up the slots, so that none is vacant (the crate's `compact`).
 ghost use Rattle.std.specs.Prelude.{◌≡◌, ◌-◌, ◌<◌, length, Some, slice_get};
-ghost use Rattle.iddqd_core.specs.Contents.{Ascends};
-ghost use Rattle.iddqd_core.specs.Listed.{listed_items};
-ghost use Rattle.iddqd_core.specs.Store.{EndsOccupied, IsOccupied, vacant};
+ghost use Rattle.iddqd_store.specs.Contents.{Ascends};
+ghost use Rattle.iddqd_ord_index.specs.Listed.{listed_items};
+ghost use Rattle.iddqd_store.specs.Store.{EndsOccupied, IsOccupied, vacant};
 ghost use Rattle.iddqd_ord.specs.Paired.{ListsOccupied};
 
-use iddqd_core::{IdOrdItem, ItemStore, OrdIndex, Place, Steps};
+use iddqd_ord_index::{OrdIndex, Place};
+use iddqd_store::{IdOrdItem, ItemStore, Steps};
 
 // Moves the item of the last slot into a vacant one, and goes on until no slot is vacant. It takes no memory.
 pub(super) fn compact<T: IdOrdItem>(store: &mut ItemStore<T>, index: &mut OrdIndex)

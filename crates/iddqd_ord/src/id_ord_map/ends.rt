@@ -1,10 +1,10 @@
 //! The first and the last item.
 ghost use Rattle.std.specs.Prelude.{◌≡◌, ◌+◌, ◌-◌, length, drop, take, IfNone, OnSome, option_copied, slice_get};
-ghost use Rattle.iddqd_core.specs.Contents.{Ascends};
+ghost use Rattle.iddqd_store.specs.Contents.{Ascends};
 
 use super::IdOrdMap;
 use super::paired::take_out;
-use iddqd_core::IdOrdItem;
+use iddqd_store::IdOrdItem;
 
 impl<T> IdOrdMap<T> {
     /// The item of the least key, or `None` where there is none. It compares no keys.

@@ -1,7 +1,7 @@
 //! Entries: the place of an item in a map, or a map that lacks one.
 ghost use Rattle.std.specs.Prelude.{◌≡◌, IfSome, IsSome, IsTrue, Some, slice_get};
-ghost use Rattle.iddqd_core.specs.Contents.{Ascends, find_item, replaced, without};
-ghost use Rattle.iddqd_core.specs.SlotItems.{item_of_slot};
+ghost use Rattle.iddqd_store.specs.Contents.{Ascends, find_item, replaced, without};
+ghost use Rattle.iddqd_store.specs.SlotItems.{item_of_slot};
 
 mod ends;
 mod inserting;
@@ -10,7 +10,8 @@ mod occupied;
 mod vacant;
 
 use super::IdOrdMap;
-use iddqd_core::{Comparable, IdOrdItem, Place, Steps};
+use iddqd_ord_index::Place;
+use iddqd_store::{Comparable, IdOrdItem, Steps};
 
 /// What `entry` finds (the crate's `Entry`). One that is let go changes nothing more.
 #[derive(Drop)]

@@ -2,12 +2,12 @@
 ghost use Rattle.std.specs.Prelude.{List, IfErr, OnErr, OnOk};
 ghost use Rattle.std.specs.Borrow.{sem};
 ghost use Rattle.std.specs.Iterator.{IsFiniteIterable};
-ghost use Rattle.iddqd_core.specs.Adding.{HaltsAdding, HaltsAt, ShowsFirstConflict};
-ghost use Rattle.iddqd_core.specs.Collecting.{AddsAll, GivesAll, GivesThen};
-ghost use Rattle.iddqd_core.specs.Contents.{Ascends, IsAbsent};
+ghost use Rattle.iddqd_store.specs.Adding.{HaltsAdding, HaltsAt, ShowsFirstConflict};
+ghost use Rattle.iddqd_store.specs.Collecting.{AddsAll, GivesAll, GivesThen};
+ghost use Rattle.iddqd_store.specs.Contents.{Ascends, IsAbsent};
 
 use super::IdOrdMap;
-use iddqd_core::{
+use iddqd_store::{
     DuplicateItem, ExtendError, ExtendUniqueError, Few, Halt, IdOrdItem, Steps, likely_new,
 };
 

@@ -1,12 +1,13 @@
 //! Lookups and removals.
 ghost use Rattle.std.specs.Prelude.{◌≡◌, ◌+◌, ◌*◌, ◌<◌, ◌≤◌, length, IfNone, IfSome, OnSome, Some, option_copied, is_some, slice_get};
-ghost use Rattle.iddqd_core.specs.Contents.{Ascends, find_item, without};
-ghost use Rattle.iddqd_core.specs.Digits.{digits};
-ghost use Rattle.iddqd_core.specs.Holding.{LeavesSlot};
+ghost use Rattle.iddqd_store.specs.Contents.{Ascends, find_item, without};
+ghost use Rattle.iddqd_ord_index.specs.Digits.{digits};
+ghost use Rattle.iddqd_store.specs.Holding.{LeavesSlot};
 
 use super::IdOrdMap;
 use super::paired::take_out;
-use iddqd_core::{Comparable, IdOrdItem, Place, Steps};
+use iddqd_ord_index::Place;
+use iddqd_store::{Comparable, IdOrdItem, Steps};
 
 impl<T: IdOrdItem> IdOrdMap<T> {
     /// The item that the query finds, or `None`, by as many comparisons as `get_counted`. It goes down the index once, and

@@ -1,14 +1,15 @@
 //! Insertions. An akin item is looked for first, then the limit, then memory, and only then is anything changed.
 ghost use Rattle.std.specs.Prelude.{◌≡◌, ◌+◌, ◌*◌, ◌≤◌, length, insert, IfOk, IfErr, IfNone, OnOk, OnErr, OnSome, Err, Some, slice_get};
 ghost use Rattle.std.specs.Borrow.{sem};
-ghost use Rattle.iddqd_core.specs.Contents.{Ascends, IsAbsent, find_item, keys, replaced};
-ghost use Rattle.iddqd_core.specs.Digits.{digits};
-ghost use Rattle.iddqd_core.specs.Refusal.{FindsNoRoom, RefusesInsertion, refusal_kind};
-ghost use Rattle.iddqd_core.specs.Search.{IsPlaceAmong};
+ghost use Rattle.iddqd_store.specs.Contents.{Ascends, IsAbsent, find_item, keys, replaced};
+ghost use Rattle.iddqd_ord_index.specs.Digits.{digits};
+ghost use Rattle.iddqd_store.specs.Refusal.{FindsNoRoom, RefusesInsertion, refusal_kind};
+ghost use Rattle.iddqd_ord_index.specs.Search.{IsPlaceAmong};
 
 use super::IdOrdMap;
 use super::paired::{exchange, put_in, reserve_one};
-use iddqd_core::{DuplicateItem, Few, IdOrdItem, InsertError, Place, Refused, Steps};
+use iddqd_ord_index::Place;
+use iddqd_store::{DuplicateItem, Few, IdOrdItem, InsertError, Refused, Steps};
 
 impl<T: IdOrdItem> IdOrdMap<T> {
     ghost use Rattle.iddqd_ord.specs.OrdMap.{OrdInserts, OrdKeeps, ends_ord_inserted, lends_nothing};

@@ -4,7 +4,8 @@ ghost use Rattle.std.specs.Iterator.{UpTo, YieldsFirst, at_most, item_count};
 ghost use Rattle.std.specs.Iterator.SizeHint.{IsWithinCount};
 
 use super::IdOrdMap;
-use iddqd_core::{IntoWalk, ItemStore};
+use iddqd_ord_index::IntoWalk;
+use iddqd_store::ItemStore;
 use std::iter::FusedIterator;
 use std::marker::Model;
 
@@ -19,7 +20,7 @@ pub struct IntoIter<T> {
 impl<T> Model for IntoIter<T> {
     ghost use Rattle.std.specs.Prelude.{List, nat_eq};
     ghost use Rattle.std.specs.List.{IsDistinct};
-    ghost use Rattle.iddqd_core.specs.Listed.{listed_items, AreOccupied};
+    ghost use Rattle.iddqd_ord_index.specs.Listed.{listed_items, AreOccupied};
 
     ghost Value = { List T };
 

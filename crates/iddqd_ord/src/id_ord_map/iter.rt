@@ -4,7 +4,8 @@ ghost use Rattle.std.specs.Iterator.{UpTo, YieldsFirstRef, at_most, item_count};
 ghost use Rattle.std.specs.Iterator.SizeHint.{IsWithinCount};
 
 use super::IdOrdMap;
-use iddqd_core::{ItemStore, Walk};
+use iddqd_ord_index::Walk;
+use iddqd_store::ItemStore;
 use std::iter::FusedIterator;
 use std::marker::Model;
 
@@ -18,7 +19,7 @@ pub struct Iter<'a, T> {
 
 impl<'a, T> Model for Iter<'a, T> {
     ghost use Rattle.std.specs.Prelude.{List};
-    ghost use Rattle.iddqd_core.specs.Listed.{listed_items, AreOccupied};
+    ghost use Rattle.iddqd_ord_index.specs.Listed.{listed_items, AreOccupied};
 
     ghost Value = { List T };
 

@@ -2,11 +2,11 @@
 ghost use Rattle.std.specs.Prelude.{◌≡◌, ◌-◌, ◌<◌, ◌↔◌, IsSome, length, slice_get};
 ghost use Rattle.std.specs.Borrow.{sem};
 ghost use Rattle.std.specs.Option.{option_copied_mut};
-ghost use Rattle.iddqd_core.specs.Contents.{Ascends};
+ghost use Rattle.iddqd_store.specs.Contents.{Ascends};
 ghost use Rattle.iddqd_ord.specs.WritingWalk.{walk_map, walk_name, walk_done, walk_lends};
 
 use super::IdOrdMap;
-use iddqd_core::IdOrdItem;
+use iddqd_store::IdOrdItem;
 
 /// Lends the items of a map for writing, in the order of their keys (the crate's `IterMut`; ours lends a plain reference,
 /// one at a time, so that its caller learns what the map is then).

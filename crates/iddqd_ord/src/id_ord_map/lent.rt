@@ -1,11 +1,12 @@
 //! Lending one item for writing, and what lends it.
 ghost use Rattle.std.specs.Prelude.{◌≡◌, ◌<◌, length, remove, IfNone, IfSome, IsSome, IsTrue, Some, None, slice_get, slice_set};
 ghost use Rattle.std.specs.Borrow.{sem};
-ghost use Rattle.iddqd_core.specs.Contents.{Ascends, find_item, replaced};
-ghost use Rattle.iddqd_core.specs.SlotItems.{item_of_slot, without_slot, written_to_slot};
+ghost use Rattle.iddqd_store.specs.Contents.{Ascends, find_item, replaced};
+ghost use Rattle.iddqd_store.specs.SlotItems.{item_of_slot, without_slot, written_to_slot};
 
 use super::{IdOrdMap, RefMut};
-use iddqd_core::{Comparable, IdOrdItem, Place, Steps};
+use iddqd_ord_index::Place;
+use iddqd_store::{Comparable, IdOrdItem, Steps};
 
 impl<T> IdOrdMap<T> {
     ghost use Rattle.iddqd_ord.specs.Guard.{lends_item};

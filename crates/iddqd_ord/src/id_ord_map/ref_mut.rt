@@ -1,6 +1,6 @@
 //! What lends one item of an ordered map for writing.
 ghost use Rattle.std.specs.Prelude.{IsSome, IsTrue};
-ghost use Rattle.iddqd_core.specs.SlotItems.{item_of_slot};
+ghost use Rattle.iddqd_store.specs.SlotItems.{item_of_slot};
 
 mod methods;
 mod reading;

@@ -2,14 +2,15 @@
 ghost use Rattle.std.specs.Prelude.{◌≡◌, ◌+◌, ◌<◌, length, remove, slice_get, Some, slice_set};
 ghost use Rattle.std.specs.Fn.{CalledAt};
 ghost use Rattle.std.specs.List.Retain.{IsFiltered};
-ghost use Rattle.iddqd_core.specs.Contents.{Ascends};
-ghost use Rattle.iddqd_core.specs.Holding.{LeavesSlots};
-ghost use Rattle.iddqd_core.specs.SlotItems.{HaveSlots};
-ghost use Rattle.iddqd_core.specs.Visiting.{VisitsKeepKeys, kept_by, visitor_after};
+ghost use Rattle.iddqd_store.specs.Contents.{Ascends};
+ghost use Rattle.iddqd_store.specs.Holding.{LeavesSlots};
+ghost use Rattle.iddqd_store.specs.SlotItems.{HaveSlots};
+ghost use Rattle.iddqd_store.specs.Visiting.{VisitsKeepKeys, kept_by, visitor_after};
 
 use super::IdOrdMap;
 use super::paired::take_out;
-use iddqd_core::{IdOrdItem, Place, Visit};
+use iddqd_ord_index::Place;
+use iddqd_store::{IdOrdItem, Visit};
 
 impl<T: IdOrdItem> IdOrdMap<T> {
     /// Asks once about each item, ascending, and takes out each that is answered false (the crate's `retain`, over a

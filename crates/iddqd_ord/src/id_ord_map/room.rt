@@ -1,13 +1,13 @@
 //! Room for items.
 ghost use Rattle.std.specs.Prelude.{◌≡◌, ◌+◌, ◌<◌, ◌≤◌, [], length, max, Err, IfOk, IfErr, OnOk, OnErr};
-ghost use Rattle.iddqd_core.specs.Contents.{Ascends};
-ghost use Rattle.iddqd_core.specs.Holding.{Shrinks};
-ghost use Rattle.iddqd_core.specs.Refusal.{memory_refused, reservation_kind};
+ghost use Rattle.iddqd_store.specs.Contents.{Ascends};
+ghost use Rattle.iddqd_store.specs.Holding.{Shrinks};
+ghost use Rattle.iddqd_store.specs.Refusal.{memory_refused, reservation_kind};
 
+use super::IdOrdMap;
 use super::compact::compact;
 use super::paired::reserve_slots;
-use super::{IdOrdMap, MAX_ITEMS};
-use iddqd_core::{IdOrdItem, ItemStore, TryReserveError};
+use iddqd_store::{IdOrdItem, ItemStore, MAX_ITEMS, TryReserveError};
 use std::alloc::Global;
 
 impl<T: IdOrdItem> IdOrdMap<T> {

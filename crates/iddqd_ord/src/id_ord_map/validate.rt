@@ -1,10 +1,10 @@
 //! What the structure is asked.
 ghost use Rattle.std.specs.Prelude.{◌↔◌, IsErr};
-ghost use Rattle.iddqd_core.specs.Contents.{Ascends};
-ghost use Rattle.iddqd_core.specs.Validation.{HasNeedlessSlots};
+ghost use Rattle.iddqd_store.specs.Contents.{Ascends};
+ghost use Rattle.iddqd_store.specs.Validation.{HasNeedlessSlots};
 
 use super::IdOrdMap;
-use iddqd_core::{IdOrdItem, ValidateCompact, ValidationError};
+use iddqd_store::{IdOrdItem, ValidateCompact, ValidationError};
 
 impl<T: IdOrdItem> IdOrdMap<T> {
     /// `Err` exactly where slots are vacant and none may be. That keys and index agree is known (the crate looks each key

@@ -1,11 +1,11 @@
 //! The entries of the first and the last item.
 ghost use Rattle.std.specs.Prelude.{◌≡◌, ◌-◌, [], IfNone, IfSome, drop, length, slice_get, slice_set, take};
 ghost use Rattle.std.specs.Borrow.{sem};
-ghost use Rattle.iddqd_core.specs.Contents.{Ascends};
+ghost use Rattle.iddqd_store.specs.Contents.{Ascends};
 
 use super::OccupiedEntry;
 use crate::id_ord_map::IdOrdMap;
-use iddqd_core::IdOrdItem;
+use iddqd_store::IdOrdItem;
 
 impl<T: IdOrdItem> IdOrdMap<T> {
     ghost use Rattle.iddqd_ord.specs.Entry.{Occupied, entry_item, entry_map, entry_name, entry_others, entry_with, rests_without_entry};

@@ -1,11 +1,12 @@
 //! What each insertion by an entry does to the map.
 ghost use Rattle.std.specs.Prelude.{◌≡◌, IfErr, IfOk, OnErr, OnOk, Some, slice_get};
-ghost use Rattle.iddqd_core.specs.Contents.{AddsItem, Ascends, IsAbsent};
-ghost use Rattle.iddqd_core.specs.Refusal.{FindsNoRoom};
-ghost use Rattle.iddqd_core.specs.SlotItems.{item_of_slot, without_slot, written_to_slot};
+ghost use Rattle.iddqd_store.specs.Contents.{AddsItem, Ascends, IsAbsent};
+ghost use Rattle.iddqd_store.specs.Refusal.{FindsNoRoom};
+ghost use Rattle.iddqd_store.specs.SlotItems.{item_of_slot, without_slot, written_to_slot};
 
 use crate::id_ord_map::IdOrdMap;
-use iddqd_core::{IdOrdItem, Place, Refused, Steps};
+use iddqd_ord_index::Place;
+use iddqd_store::{IdOrdItem, Refused, Steps};
 
 impl<T: IdOrdItem> IdOrdMap<T> {
     ghost use Rattle.iddqd_ord.specs.OrdMap.{OrdInserts, OrdKeeps};

@@ -1,15 +1,15 @@
 //! The calls of an entry that is occupied or vacant.
 ghost use Rattle.std.specs.Prelude.{◌≡◌, IfErr, IfNone, IfOk, IfSome, IsSome, IsTrue, None, Some, option_map};
 ghost use Rattle.std.specs.Borrow.{sem};
-ghost use Rattle.iddqd_core.specs.Contents.{AddsItem, Ascends, IsAbsent};
-ghost use Rattle.iddqd_core.specs.Refusal.{FindsNoRoom};
+ghost use Rattle.iddqd_store.specs.Contents.{AddsItem, Ascends, IsAbsent};
+ghost use Rattle.iddqd_store.specs.Refusal.{FindsNoRoom};
 ghost use Rattle.iddqd_ord.specs.Entry.{entry_item, entry_map, entry_name, entry_others, entry_with, rests_if_refused};
 ghost use Rattle.iddqd_ord.specs.Guard.{lent_item, lent_map, lent_name, lent_with, shown_item, shown_map, shown_name};
 ghost use Rattle.iddqd_ord.specs.OrdMap.{OrdInserts};
 
 use super::{Entry, OccupiedEntry};
 use crate::id_ord_map::{RefMut, Shown};
-use iddqd_core::{IdOrdItem, Refused, Visit};
+use iddqd_store::{IdOrdItem, Refused, Visit};
 
 impl<'a, T: IdOrdItem> Entry<'a, T> {
     /// Lends the item there and drops this one; where there is none, inserts this one as `VacantEntry::insert` does and lends

@@ -1,14 +1,14 @@
 //! The item of an entry: read, lent, replaced, taken out. None of this looks for it again, and none takes memory.
 ghost use Rattle.std.specs.Prelude.{◌≡◌, ◌+◌, IfSome, IsTrue, Some};
 ghost use Rattle.std.specs.Borrow.{sem};
-ghost use Rattle.iddqd_core.specs.Contents.{Ascends};
-ghost use Rattle.iddqd_core.specs.Holding.{LeavesSlot};
+ghost use Rattle.iddqd_store.specs.Contents.{Ascends};
+ghost use Rattle.iddqd_store.specs.Holding.{LeavesSlot};
 ghost use Rattle.iddqd_ord.specs.Entry.{Occupied, entry_follows, entry_item, entry_map, entry_name, entry_others, entry_slot, entry_with};
 ghost use Rattle.iddqd_ord.specs.Guard.{lent_item, lent_map, lent_name, lent_slot, lent_with, shown_item, shown_map, shown_name};
 
 use super::OccupiedEntry;
 use crate::id_ord_map::{RefMut, Shown};
-use iddqd_core::IdOrdItem;
+use iddqd_store::IdOrdItem;
 use std::mem;
 
 impl<'a, T> OccupiedEntry<'a, T> {

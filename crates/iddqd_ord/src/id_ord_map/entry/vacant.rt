@@ -1,15 +1,15 @@
 //! Insertions where no item was found. The limit is looked at first, then memory, and only then is anything changed.
 ghost use Rattle.std.specs.Prelude.{◌≡◌, IfErr, IfOk, IsTrue, Some};
 ghost use Rattle.std.specs.Borrow.{sem};
-ghost use Rattle.iddqd_core.specs.Contents.{AddsItem, Ascends, IsAbsent};
-ghost use Rattle.iddqd_core.specs.Refusal.{FindsNoRoom};
+ghost use Rattle.iddqd_store.specs.Contents.{AddsItem, Ascends, IsAbsent};
+ghost use Rattle.iddqd_store.specs.Refusal.{FindsNoRoom};
 ghost use Rattle.iddqd_ord.specs.Entry.{Occupied, Vacant, entry_item, entry_map, entry_name, entry_others, entry_with, rests_if_refused};
 ghost use Rattle.iddqd_ord.specs.Guard.{lent_item, lent_map, lent_name, lent_with, shown_item, shown_map, shown_name};
 ghost use Rattle.iddqd_ord.specs.OrdMap.{OrdInserts};
 
 use super::{OccupiedEntry, VacantEntry};
 use crate::id_ord_map::{RefMut, Shown};
-use iddqd_core::{IdOrdItem, Refused};
+use iddqd_store::{IdOrdItem, Refused};
 
 impl<'a, T: IdOrdItem> VacantEntry<'a, T> {
     /// Inserts the item at the place of its own key, which no item has and which need not be the one that was asked for, and

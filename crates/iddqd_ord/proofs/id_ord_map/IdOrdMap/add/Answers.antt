@@ -1,7 +1,7 @@
 use Rattle.std.proofs.Common.{◌∙◌, Some, sym, ap, refl, arith}
 use Rattle.std.proofs.lemmas.List.{length-map}
 use Rattle.std.proofs.lemmas.Option.{slice_get-get_or}
-use Rattle.iddqd_core.proofs.QueryLemmas.{OrderedQuery, own_query, place_there, find_nowhere}
+use Rattle.iddqd_store.proofs.QueryLemmas.{OrderedQuery, own_query, place_there, find_nowhere}
 use Rattle.iddqd_ord.proofs.id_ord_map.IdOrdMap.add.Given.{Over}
 use Rattle.iddqd_ord.proofs.id_ord_map.IdOrdMap.add.Goals as goal
 

@@ -1,11 +1,11 @@
 use Rattle.std.proofs.Common.{[], rules, ap, subst, sym}
 use Rattle.std.proofs.iter.Next.{on}
 use Rattle.std.proofs.lemmas.Result.{err_from_is_err_and}
-use Rattle.iddqd_core.specs.Collecting.{AddsAll, GivesThen}
-use Rattle.iddqd_core.specs.Holding.{KeepsItems}
-use Rattle.iddqd_core.specs.Query.{differ_from_ascends}
-use Rattle.iddqd_core.proofs.AddingLemmas.{adds_last, adds_none, halts_adding}
-use Rattle.iddqd_core.proofs.CollectingLemmas.{fills_kept, fills_on, fills_taken}
+use Rattle.iddqd_store.specs.Collecting.{AddsAll, GivesThen}
+use Rattle.iddqd_store.specs.Holding.{KeepsItems}
+use Rattle.iddqd_store.specs.Query.{differ_from_ascends}
+use Rattle.iddqd_store.proofs.AddingLemmas.{adds_last, adds_none, halts_adding}
+use Rattle.iddqd_store.proofs.CollectingLemmas.{fills_kept, fills_on, fills_taken}
 use Rattle.iddqd_ord.proofs.id_ord_map.IdOrdMap.add_each.Goals as goal
 
 pub loop-item-init : goal.loop-item-init

@@ -1,4 +1,4 @@
-use Rattle.iddqd_core.specs.Collecting.{AddsAll}
+use Rattle.iddqd_store.specs.Collecting.{AddsAll}
 use Rattle.iddqd_ord.specs.OrdMap.{OrdFills}
 use Rattle.iddqd_ord.proofs.id_ord_map.IdOrdMap.add_each.Given as goal
 

@@ -1,7 +1,7 @@
 use Rattle.std.proofs.Common.{sym, ap, subst, rules}
 use Rattle.std.specs.List.{AllZip}
-use Rattle.iddqd_core.specs.Listed.{listed_items}
-use Rattle.iddqd_core.proofs.CloneLemmas.{ascends_clones}
+use Rattle.iddqd_ord_index.specs.Listed.{listed_items}
+use Rattle.iddqd_store.proofs.CloneLemmas.{ascends_clones}
 use Rattle.iddqd_ord.specs.Paired.{ListsOccupied}
 use Rattle.iddqd_ord.proofs.CloneLemmas.{paired_copied, listed_clones}
 use Rattle.iddqd_ord.proofs.id_ord_map.IdOrdMap.clone.Goals as goal

@@ -1,7 +1,7 @@
 use Rattle.std.proofs.Common.{◌∙◌, sym, ap}
-use Rattle.iddqd_core.specs.SlotItems.{item_of_slot}
-use Rattle.iddqd_core.proofs.OrderLemmas.{found_answers}
-use Rattle.iddqd_core.proofs.QueryLemmas.{OrderedQuery, place_there, find_nowhere, replaced_nowhere, replaced_there, without_nowhere, without_there}
+use Rattle.iddqd_store.specs.SlotItems.{item_of_slot}
+use Rattle.iddqd_store.proofs.OrderLemmas.{found_answers}
+use Rattle.iddqd_store.proofs.QueryLemmas.{OrderedQuery, place_there, find_nowhere, replaced_nowhere, replaced_there, without_nowhere, without_there}
 use Rattle.iddqd_ord.proofs.id_ord_map.IdOrdMap.entry.Given.{Over}
 use Rattle.iddqd_ord.proofs.id_ord_map.IdOrdMap.entry.Goals as goal
 

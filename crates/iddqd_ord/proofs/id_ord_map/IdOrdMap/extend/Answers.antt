@@ -1,7 +1,7 @@
 use Rattle.std.proofs.Common.{subst, rules}
 use Rattle.std.proofs.iter.Next.{on}
-use Rattle.iddqd_core.specs.Contents.{OverwritesItem}
-use Rattle.iddqd_core.proofs.CollectingLemmas.{fills_on, overwrites_last, overwritten}
+use Rattle.iddqd_store.specs.Contents.{OverwritesItem}
+use Rattle.iddqd_store.proofs.CollectingLemmas.{fills_on, overwrites_last, overwritten}
 use Rattle.iddqd_ord.proofs.id_ord_map.IdOrdMap.extend.Goals as goal
 
 pub loop-item-preserved : goal.loop-item-preserved

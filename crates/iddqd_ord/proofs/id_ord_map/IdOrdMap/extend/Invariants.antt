@@ -1,6 +1,6 @@
-use Rattle.iddqd_core.specs.Collecting.{OverwritesAll}
-use Rattle.iddqd_core.specs.Contents.{Ascends}
-use Rattle.iddqd_core.specs.Holding.{FillsSlots}
+use Rattle.iddqd_store.specs.Collecting.{OverwritesAll}
+use Rattle.iddqd_store.specs.Contents.{Ascends}
+use Rattle.iddqd_store.specs.Holding.{FillsSlots}
 use Rattle.iddqd_ord.proofs.id_ord_map.IdOrdMap.extend.Given as goal
 
 abbrev pub invariant-loop-item : goal.invariant-loop-item

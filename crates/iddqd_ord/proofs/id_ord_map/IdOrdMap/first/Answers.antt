@@ -1,7 +1,7 @@
 use Rattle.std.proofs.Common.{◌∙◌, sym, ap, option_copied, slice_get}
 use Rattle.std.specs.Option.{option_and_then}
-use Rattle.iddqd_core.specs.Store.{item_at}
-use Rattle.iddqd_core.proofs.ListedLemmas.{get-listed}
+use Rattle.iddqd_store.specs.Store.{item_at}
+use Rattle.iddqd_ord_index.proofs.ListedLemmas.{get-listed}
 use Rattle.iddqd_ord.proofs.id_ord_map.IdOrdMap.first.Goals as goal
 
 pub returns-in_err-first : goal.returns-in_err-first

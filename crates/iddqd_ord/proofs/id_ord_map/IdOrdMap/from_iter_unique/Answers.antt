@@ -2,9 +2,9 @@ use Rattle.std.proofs.Common.{rules, ◌∙◌, arith}
 use Rattle.std.proofs.lemmas.Grind.{common_steps}
 use Rattle.std.proofs.iter.Next.{on}
 use Rattle.std.proofs.lemmas.Result.{err_from_is_err_and}
-use Rattle.iddqd_core.specs.Collecting.{GivesThen}
-use Rattle.iddqd_core.specs.Query.{differ_from_ascends}
-use Rattle.iddqd_core.proofs.CollectingLemmas.{collected_differ, collects_last, shows_first}
+use Rattle.iddqd_store.specs.Collecting.{GivesThen}
+use Rattle.iddqd_store.specs.Query.{differ_from_ascends}
+use Rattle.iddqd_store.proofs.CollectingLemmas.{collected_differ, collects_last, shows_first}
 use Rattle.iddqd_ord.proofs.id_ord_map.IdOrdMap.from_iter_unique.Goals as goal
 
 pub loop-item-preserved : goal.loop-item-preserved

@@ -1,5 +1,5 @@
 use Rattle.std.proofs.Common.{◌≡◌}
-use Rattle.iddqd_core.specs.Contents.{Ascends, SameInAnyOrder}
+use Rattle.iddqd_store.specs.Contents.{Ascends, SameInAnyOrder}
 use Rattle.iddqd_ord.proofs.id_ord_map.IdOrdMap.from_iter_unique.Given as goal
 
 abbrev pub invariant-loop-item : goal.invariant-loop-item

@@ -1,9 +1,9 @@
 use Rattle.std.proofs.Common.{◌≡◌, ◌∙◌, sym, ap, refl, is_some}
-use Rattle.iddqd_core.specs.Contents.{find_item}
-use Rattle.iddqd_core.specs.Listed.{listed_items}
-use Rattle.iddqd_core.specs.Query.{differ_from_ascends}
-use Rattle.iddqd_core.specs.SlotItems.{item_of_slot}
-use Rattle.iddqd_core.proofs.WrittenLemmas.{akin_key_kept, listed_slot, same_key_kept, written_found}
+use Rattle.iddqd_store.specs.Contents.{find_item}
+use Rattle.iddqd_ord_index.specs.Listed.{listed_items}
+use Rattle.iddqd_store.specs.Query.{differ_from_ascends}
+use Rattle.iddqd_store.specs.SlotItems.{item_of_slot}
+use Rattle.iddqd_store.proofs.WrittenLemmas.{akin_key_kept, listed_slot, same_key_kept, written_found}
 use Rattle.iddqd_ord.proofs.LentLemmas.{item_in_slot}
 use Rattle.iddqd_ord.proofs.PairedLemmas.{have_slots}
 use Rattle.iddqd_ord.proofs.id_ord_map.IdOrdMap.get_mut.Goals as goal

@@ -1,7 +1,7 @@
 use Rattle.std.proofs.Common.{◌≤◌, length, ◌∙◌, sym, ap, arith, rules}
 use Rattle.std.proofs.lemmas.List.{length-map}
 use Rattle.std.proofs.lemmas.Option.{slice_get-get_or}
-use Rattle.iddqd_core.proofs.QueryLemmas.{OrderedQuery, own_query, place_there}
+use Rattle.iddqd_store.proofs.QueryLemmas.{OrderedQuery, own_query, place_there}
 use Rattle.iddqd_ord.proofs.EntryLemmas.{put_item, put_others, put_written}
 use Rattle.iddqd_ord.proofs.id_ord_map.IdOrdMap.insert_absent.Given.{Over}
 use Rattle.iddqd_ord.proofs.id_ord_map.IdOrdMap.insert_absent.Goals as goal

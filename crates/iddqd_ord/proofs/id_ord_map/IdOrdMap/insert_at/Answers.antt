@@ -1,12 +1,12 @@
 use Rattle.std.proofs.Common.{◌≡◌, ◌≤◌, ◌-◌, ◌∙◌, insert, slice_get, ap, subst, sym, length, arith, rules}
 use Rattle.std.proofs.lemmas.List.{length-map}
-use Rattle.iddqd_core.specs.Contents.{Ascends}
-use Rattle.iddqd_core.specs.Listed.{listed_items}
-use Rattle.iddqd_core.specs.Refusal.{refusal_kind}
-use Rattle.iddqd_core.specs.Store.{vacant}
-use Rattle.iddqd_core.proofs.KeepsLemmas.{ascends_insert}
-use Rattle.iddqd_core.proofs.ListedLemmas.{length-listed}
-use Rattle.iddqd_core.proofs.RefusalLemmas.{kind_by_length}
+use Rattle.iddqd_store.specs.Contents.{Ascends}
+use Rattle.iddqd_ord_index.specs.Listed.{listed_items}
+use Rattle.iddqd_store.specs.Refusal.{refusal_kind}
+use Rattle.iddqd_store.specs.Store.{vacant}
+use Rattle.iddqd_store.proofs.KeepsLemmas.{ascends_insert}
+use Rattle.iddqd_ord_index.proofs.ListedLemmas.{length-listed}
+use Rattle.iddqd_store.proofs.RefusalLemmas.{kind_by_length}
 use Rattle.iddqd_ord.proofs.EntryLemmas.{insert_then_get}
 use Rattle.iddqd_ord.proofs.PairedLemmas.{have_slots}
 use Rattle.iddqd_ord.proofs.id_ord_map.IdOrdMap.insert_at.Goals as goal

@@ -1,5 +1,5 @@
 use Rattle.std.proofs.Common.{◌∙◌, sym, ap, slice_get}
-use Rattle.iddqd_core.proofs.QueryLemmas.{OrderedQuery, own_query, place_there, find_nowhere}
+use Rattle.iddqd_store.proofs.QueryLemmas.{OrderedQuery, own_query, place_there, find_nowhere}
 use Rattle.iddqd_ord.proofs.id_ord_map.IdOrdMap.insert_first.Given.{Over}
 use Rattle.iddqd_ord.proofs.id_ord_map.IdOrdMap.insert_first.Goals as goal
 

@@ -1,6 +1,6 @@
 use Rattle.std.proofs.Common.{◌∙◌, sym, ap, option_copied}
-use Rattle.iddqd_core.specs.SlotItems.{item_of_slot}
-use Rattle.iddqd_core.proofs.StoreLemmas.{some_lent}
+use Rattle.iddqd_store.specs.SlotItems.{item_of_slot}
+use Rattle.iddqd_store.proofs.StoreLemmas.{some_lent}
 use Rattle.iddqd_ord.proofs.LentLemmas.{here, item_in_slot}
 use Rattle.iddqd_ord.proofs.id_ord_map.IdOrdMap.item_in.Goals as goal
 

@@ -1,5 +1,5 @@
 use Rattle.std.proofs.Common.{◌∙◌, sym, ap, refl}
-use Rattle.iddqd_core.specs.SlotItems.{item_of_slot, written_to_slot}
+use Rattle.iddqd_store.specs.SlotItems.{item_of_slot, written_to_slot}
 use Rattle.iddqd_ord.proofs.LentLemmas.{here, item_in_slot, lent_items, lent_paired, lent_vacant}
 use Rattle.iddqd_ord.proofs.id_ord_map.IdOrdMap.item_mut.Goals as goal
 

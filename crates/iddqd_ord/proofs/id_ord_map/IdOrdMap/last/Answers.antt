@@ -1,6 +1,6 @@
 use Rattle.std.proofs.Common.{◌-◌, ◌∙◌, length, sym, ap, option_copied, slice_get}
 use Rattle.std.specs.Option.{option_and_then}
-use Rattle.iddqd_core.specs.Store.{item_at}
+use Rattle.iddqd_store.specs.Store.{item_at}
 use Rattle.iddqd_ord.proofs.EndLemmas.{last_listed}
 use Rattle.iddqd_ord.proofs.id_ord_map.IdOrdMap.last.Goals as goal
 

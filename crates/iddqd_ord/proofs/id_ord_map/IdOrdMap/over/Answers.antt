@@ -1,7 +1,7 @@
 use Rattle.std.proofs.Common.{sym, subst}
 use Rattle.std.specs.List.Sorted.{IsStrictlySortedBy}
-use Rattle.iddqd_core.specs.Contents.{Ascends}
-use Rattle.iddqd_core.specs.Listed.{listed_items}
+use Rattle.iddqd_store.specs.Contents.{Ascends}
+use Rattle.iddqd_ord_index.specs.Listed.{listed_items}
 use Rattle.iddqd_ord.proofs.id_ord_map.IdOrdMap.over.Goals as goal
 
 pub returns-clause-keyed : goal.returns-clause-keyed

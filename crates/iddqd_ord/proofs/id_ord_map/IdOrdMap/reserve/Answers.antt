@@ -1,5 +1,5 @@
 use Rattle.std.proofs.Common.{◌≡◌, ◌+◌, ◌<◌, ◌≤◌, ◌∙◌, length, Err, IfErr, OnOk, ap, subst}
-use Rattle.iddqd_core.specs.Refusal.{memory_refused, reservation_kind}
+use Rattle.iddqd_store.specs.Refusal.{memory_refused, reservation_kind}
 use Rattle.iddqd_ord.proofs.PairedLemmas.{listed_counted}
 use Rattle.iddqd_ord.proofs.id_ord_map.IdOrdMap.reserve.Goals as goal
 

@@ -3,7 +3,7 @@ use Rattle.std.proofs.lemmas.Grind.{common_steps}
 use Rattle.std.specs.Fn.{CalledAt}
 use Rattle.std.proofs.lemmas.Fn.{called_at}
 use Rattle.std.proofs.lemmas.List.Edits.{length-remove}
-use Rattle.iddqd_core.proofs.VisitLemmas.{IsAsked, asked_dropped, asked_end, asked_kept}
+use Rattle.iddqd_store.proofs.VisitLemmas.{IsAsked, asked_dropped, asked_end, asked_kept}
 use Rattle.iddqd_ord.proofs.id_ord_map.IdOrdMap.retain.Goals as goal
 
 pub loop-at-preserved-then-keep : goal.loop-at-preserved-then-keep

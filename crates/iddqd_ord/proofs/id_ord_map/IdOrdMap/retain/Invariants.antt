@@ -1,7 +1,7 @@
 use Rattle.std.proofs.Common.{◌≡◌, ◌+◌, ◌-◌, ◌≤◌, length}
 use Rattle.std.specs.Fn.{CalledAt}
-use Rattle.iddqd_core.specs.Contents.{Ascends}
-use Rattle.iddqd_core.proofs.VisitLemmas.{IsAsked}
+use Rattle.iddqd_store.specs.Contents.{Ascends}
+use Rattle.iddqd_store.proofs.VisitLemmas.{IsAsked}
 use Rattle.iddqd_ord.proofs.id_ord_map.IdOrdMap.retain.Given as goal
 
 abbrev pub invariant-loop-at : goal.invariant-loop-at

@@ -3,8 +3,8 @@ use Rattle.std.proofs.lemmas.Grind.{common_steps}
 use Rattle.std.proofs.lemmas.List.{length-set}
 use Rattle.std.proofs.lemmas.List.Edits.{length-remove}
 use Rattle.std.specs.List.{remove}
-use Rattle.iddqd_core.specs.Visiting.{kept_by, visitor_after}
-use Rattle.iddqd_core.proofs.VisitLemmas.{visited_dropped, visited_kept, visitor_dropped, visitor_kept, written_then_removed}
+use Rattle.iddqd_store.specs.Visiting.{kept_by, visitor_after}
+use Rattle.iddqd_store.proofs.VisitLemmas.{visited_dropped, visited_kept, visitor_dropped, visitor_kept, written_then_removed}
 use Rattle.iddqd_ord.proofs.id_ord_map.IdOrdMap.retain_mut.Goals as goal
 
 pub loop-at-preserved-then-visit_at : goal.loop-at-preserved-then-visit_at

@@ -1,6 +1,6 @@
 use Rattle.std.proofs.Common.{◌≡◌, ◌+◌, ◌-◌, ◌≤◌, ◌++◌, length, take, drop}
-use Rattle.iddqd_core.specs.Contents.{Ascends}
-use Rattle.iddqd_core.specs.Visiting.{kept_by, visitor_after}
+use Rattle.iddqd_store.specs.Contents.{Ascends}
+use Rattle.iddqd_store.specs.Visiting.{kept_by, visitor_after}
 use Rattle.iddqd_ord.proofs.id_ord_map.IdOrdMap.retain_mut.Given as goal
 
 abbrev pub invariant-loop-at : goal.invariant-loop-at

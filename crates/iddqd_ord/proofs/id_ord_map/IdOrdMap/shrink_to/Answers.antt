@@ -1,6 +1,6 @@
 use Rattle.std.proofs.Common.{◌≡◌, ◌<◌, ◌≤◌, ◌∙◌, OnErr, length, max, sym, ap, arith, subst}
 use Rattle.std.proofs.Common.{min as least}
-use Rattle.iddqd_core.specs.Store.{item_at, store_len, vacant}
+use Rattle.iddqd_store.specs.Store.{item_at, store_len, vacant}
 use Rattle.iddqd_ord.proofs.CompactLemmas.{paired_same}
 use Rattle.iddqd_ord.proofs.PairedLemmas.{have_slots, items_counted}
 use Rattle.iddqd_ord.proofs.id_ord_map.IdOrdMap.shrink_to.Given.{Over}

@@ -1,8 +1,8 @@
 use Rattle.std.proofs.Common.{◌∙◌, ◌<◌, ◌∷◌, [], List, IsSome, ℕ, le_of_suc-le-suc, not-suc-le-zero, refl, subst, suc, sym, zero, ap, arith, length, slice_get, set}
 use Rattle.std.specs.List.{remove}
-use Rattle.iddqd_core.specs.Listed.{listed_items}
-use Rattle.iddqd_core.specs.SlotItems.{item_of_slot, without_slot, written_to_slot}
-use Rattle.iddqd_core.proofs.WrittenLemmas.{PlaceRead, place_read}
+use Rattle.iddqd_ord_index.specs.Listed.{listed_items}
+use Rattle.iddqd_store.specs.SlotItems.{item_of_slot, without_slot, written_to_slot}
+use Rattle.iddqd_store.proofs.WrittenLemmas.{PlaceRead, place_read}
 use Rattle.iddqd_ord.proofs.PairedLemmas.{have_slots}
 use Rattle.iddqd_ord.proofs.id_ord_map.IdOrdMap.slot_at.Given.{Over}
 use Rattle.iddqd_ord.proofs.id_ord_map.IdOrdMap.slot_at.Goals as goal

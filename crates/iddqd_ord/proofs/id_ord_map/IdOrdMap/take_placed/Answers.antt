@@ -1,8 +1,8 @@
 use Rattle.std.proofs.Common.{◌∙◌, sym, ap, subst, rules}
 use Rattle.std.specs.List.{remove}
-use Rattle.iddqd_core.specs.Contents.{Ascends}
-use Rattle.iddqd_core.specs.SlotItems.{HaveSlots}
-use Rattle.iddqd_core.proofs.KeepsLemmas.{ascends_remove}
+use Rattle.iddqd_store.specs.Contents.{Ascends}
+use Rattle.iddqd_store.specs.SlotItems.{HaveSlots}
+use Rattle.iddqd_store.proofs.KeepsLemmas.{ascends_remove}
 use Rattle.iddqd_ord.proofs.PairedLemmas.{have_slots}
 use Rattle.iddqd_ord.proofs.id_ord_map.IdOrdMap.take_placed.Goals as goal
 

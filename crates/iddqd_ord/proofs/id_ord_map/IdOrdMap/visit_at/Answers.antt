@@ -1,5 +1,5 @@
 use Rattle.std.proofs.Common.{◌≡◌, ◌∙◌, sym, ap, true}
-use Rattle.iddqd_core.proofs.WrittenLemmas.{akin_key_kept}
+use Rattle.iddqd_store.proofs.WrittenLemmas.{akin_key_kept}
 use Rattle.iddqd_ord.proofs.id_ord_map.IdOrdMap.visit_at.Goals as goal
 
 pub returns-clause-visited : goal.returns-clause-visited

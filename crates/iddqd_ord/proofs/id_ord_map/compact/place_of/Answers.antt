@@ -1,5 +1,5 @@
 use Rattle.std.proofs.Common.{◌≡◌, ◌∙◌, Some, sym, ap, option_copied}
-use Rattle.iddqd_core.specs.Store.{item_at}
+use Rattle.iddqd_store.specs.Store.{item_at}
 use Rattle.iddqd_ord.proofs.CompactLemmas.{has_place, own_place}
 use Rattle.iddqd_ord.proofs.id_ord_map.compact.place_of.Goals as goal
 

@@ -1,7 +1,7 @@
 use Rattle.std.proofs.Common.{◌≡◌, ◌∙◌, Some, ap, subst, sym, true}
 use Rattle.std.specs.Option.{IfSome, option_map}
-use Rattle.iddqd_core.specs.Contents.{Ascends}
-use Rattle.iddqd_core.proofs.WrittenLemmas.{akin_key_kept, others_written, read_back, written_twice}
+use Rattle.iddqd_store.specs.Contents.{Ascends}
+use Rattle.iddqd_store.proofs.WrittenLemmas.{akin_key_kept, others_written, read_back, written_twice}
 use Rattle.iddqd_ord.specs.Entry.{entry_item, entry_map, entry_others, entry_with}
 use Rattle.iddqd_ord.proofs.id_ord_map.entry.Entry.and_modify.Goals as goal
 

@@ -1,6 +1,6 @@
 use Rattle.std.proofs.Common.{◌≡◌, ◌∙◌, None, ap, is_some, refl, subst, sym, true≢false, rules}
-use Rattle.iddqd_core.specs.Contents.{Ascends}
-use Rattle.iddqd_core.proofs.WrittenLemmas.{akin_key_kept, same_key_kept}
+use Rattle.iddqd_store.specs.Contents.{Ascends}
+use Rattle.iddqd_store.proofs.WrittenLemmas.{akin_key_kept, same_key_kept}
 use Rattle.iddqd_ord.specs.Entry.{entry_item, entry_map, entry_name, entry_with}
 use Rattle.iddqd_ord.proofs.id_ord_map.entry.Entry.or_insert_with.Goals as goal
 

@@ -1,5 +1,5 @@
 use Rattle.std.proofs.Common.{refl}
-use Rattle.iddqd_core.specs.SlotItems.{still_there}
+use Rattle.iddqd_store.specs.SlotItems.{still_there}
 use Rattle.iddqd_ord.specs.Entry.{with_entry_item}
 use Rattle.iddqd_ord.proofs.EntryLemmas.{same_entry}
 use Rattle.iddqd_ord.proofs.id_ord_map.entry.OccupiedEntry.get_mut.Goals as goal

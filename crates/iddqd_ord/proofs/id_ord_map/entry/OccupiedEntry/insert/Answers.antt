@@ -1,6 +1,6 @@
 use Rattle.std.proofs.Common.{◌≡◌, ◌∙◌, Some, ap, subst, true}
 use Rattle.std.specs.Option.{IfSome}
-use Rattle.iddqd_core.proofs.WrittenLemmas.{akin_key_kept, others_written, read_back}
+use Rattle.iddqd_store.proofs.WrittenLemmas.{akin_key_kept, others_written, read_back}
 use Rattle.iddqd_ord.proofs.id_ord_map.entry.OccupiedEntry.insert.Goals as goal
 
 pub returns-clause-new : goal.returns-clause-new

@@ -1,4 +1,4 @@
-use Rattle.iddqd_core.proofs.WrittenLemmas.{akin_key_kept, same_key_kept}
+use Rattle.iddqd_store.proofs.WrittenLemmas.{akin_key_kept, same_key_kept}
 use Rattle.iddqd_ord.proofs.id_ord_map.entry.OccupiedEntry.into_mut.Goals as goal
 
 pub returns-clause-keyed : goal.returns-clause-keyed

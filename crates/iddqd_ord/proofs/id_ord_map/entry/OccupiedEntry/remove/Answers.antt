@@ -1,5 +1,5 @@
 use Rattle.std.proofs.Common.{◌∙◌, sym, rules}
-use Rattle.iddqd_core.proofs.WrittenLemmas.{PlaceRead, place_read}
+use Rattle.iddqd_store.proofs.WrittenLemmas.{PlaceRead, place_read}
 use Rattle.iddqd_ord.proofs.id_ord_map.entry.OccupiedEntry.remove.Given.{Over}
 use Rattle.iddqd_ord.proofs.id_ord_map.entry.OccupiedEntry.remove.Goals as goal
 

@@ -1,5 +1,5 @@
 use Rattle.std.proofs.Common.{refl}
-use Rattle.iddqd_core.proofs.WrittenLemmas.{akin_key_kept, same_key_kept}
+use Rattle.iddqd_store.proofs.WrittenLemmas.{akin_key_kept, same_key_kept}
 use Rattle.iddqd_ord.proofs.id_ord_map.entry.VacantEntry.insert.Goals as goal
 
 pub returns-in-Ok : goal.returns-in-Ok

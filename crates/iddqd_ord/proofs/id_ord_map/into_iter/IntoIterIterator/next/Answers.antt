@@ -1,8 +1,8 @@
 use Rattle.std.proofs.Common.{◌∙◌, length, None, sym, ap, subst, nat_eq, arith}
 use Rattle.std.specs.List.{IsDistinct}
-use Rattle.iddqd_core.specs.Listed.{listed_items, AreOccupied}
-use Rattle.iddqd_core.specs.Store.{Updates}
-use Rattle.iddqd_core.proofs.StoreLemmas.{updates-set}
+use Rattle.iddqd_ord_index.specs.Listed.{listed_items, AreOccupied}
+use Rattle.iddqd_store.specs.Store.{Updates}
+use Rattle.iddqd_store.proofs.StoreLemmas.{updates-set}
 use Rattle.iddqd_ord.proofs.WalkLemmas.{rest_distinct, rest_there, rest_listed}
 use Rattle.iddqd_ord.proofs.id_ord_map.into_iter.IntoIterIterator.next.Goals as goal
 

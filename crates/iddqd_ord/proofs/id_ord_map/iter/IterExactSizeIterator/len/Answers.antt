@@ -1,5 +1,5 @@
 use Rattle.std.proofs.Common.{◌∙◌, length, sym, ap}
-use Rattle.iddqd_core.proofs.ListedLemmas.{length-listed}
+use Rattle.iddqd_ord_index.proofs.ListedLemmas.{length-listed}
 use Rattle.iddqd_ord.proofs.id_ord_map.iter.IterExactSizeIterator.len.Goals as goal
 
 pub returns-clause-value : goal.returns-clause-value

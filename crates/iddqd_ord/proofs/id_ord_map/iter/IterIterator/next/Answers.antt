@@ -1,5 +1,5 @@
 use Rattle.std.proofs.Common.{subst, rules}
-use Rattle.iddqd_core.specs.Listed.{AreOccupied}
+use Rattle.iddqd_ord_index.specs.Listed.{AreOccupied}
 use Rattle.iddqd_ord.proofs.WalkLemmas.{rest_occupied}
 use Rattle.iddqd_ord.proofs.id_ord_map.iter.IterIterator.next.Goals as goal
 

@@ -1,6 +1,6 @@
 use Rattle.std.proofs.Common.{refl, ap}
 use Rattle.std.proofs.Math.Bool.{Bool-set}
-use Rattle.iddqd_core.specs.SlotItems.{still_there}
+use Rattle.iddqd_store.specs.SlotItems.{still_there}
 use Rattle.iddqd_ord.specs.Guard.{with_item}
 use Rattle.iddqd_ord.proofs.id_ord_map.ref_mut.methods.RefMutDerefMut.deref_mut.Goals as goal
 

@@ -1,8 +1,0 @@
-use Rattle.std.proofs.Common.{rules}
-use Rattle.iddqd.proofs.id_hash_map.IdHashMap.extend_unique.Goals as goal
-
-pub invariant_of-self-in-Err-Akin : goal.invariant_of-self-in-Err-Akin
-invariant_of-self-in-Err-Akin g c = search rules
-
-pub returns-in-Err-Akin : goal.returns-in-Err-Akin
-returns-in-Err-Akin g c = search rules

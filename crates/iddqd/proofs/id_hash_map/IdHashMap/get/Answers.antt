@@ -1,8 +1,0 @@
-use Rattle.std.proofs.Common.{rules}
-use Rattle.iddqd.proofs.id_hash_map.IdHashMap.get.Goals as goal
-
-pub returns-clause-found : goal.returns-clause-found
-returns-clause-found g c = search rules
-
-pub returns-clause-spare : goal.returns-clause-spare
-returns-clause-spare g c = search rules

@@ -1,5 +1,0 @@
-use Rattle.iddqd.proofs.MapLemmas.{emptied_keyed}
-use Rattle.iddqd.proofs.id_hash_map.IdHashMap.over.Goals as goal
-
-pub returns-clause-keyed : goal.returns-clause-keyed
-returns-clause-keyed g c = emptied_keyed _ _ _ _ _ c.args.store c.args.index c.requires.no_slot

@@ -1,9 +1,0 @@
-use Rattle.std.proofs.Common.{subst}
-use Rattle.iddqd.specs.HashMap.{SpareFits}
-use Rattle.iddqd.proofs.MapLemmas.{spare_fits}
-use Rattle.iddqd.proofs.id_hash_map.IdHashMap.spare.Goals as goal
-
-pub returns-clause-within_limit : goal.returns-clause-within_limit
-returns-clause-within_limit g c =
-    let m = c.self.inside in
-    subst SpareFits c.self.view_is (spare_fits m.hasher m.store m.index c.self.invariant)

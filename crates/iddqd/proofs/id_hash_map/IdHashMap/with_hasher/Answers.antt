@@ -1,5 +1,0 @@
-use Rattle.std.proofs.Common.{rules}
-use Rattle.iddqd.proofs.id_hash_map.IdHashMap.with_hasher.Goals as goal
-
-pub returns-clause-empty : goal.returns-clause-empty
-returns-clause-empty g c = search rules

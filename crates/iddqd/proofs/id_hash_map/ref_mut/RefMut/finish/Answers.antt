@@ -1,5 +1,0 @@
-use Rattle.std.proofs.Common.{rules}
-use Rattle.iddqd.proofs.id_hash_map.ref_mut.RefMut.finish.Goals as goal
-
-pub returns : goal.returns
-returns g c = search rules

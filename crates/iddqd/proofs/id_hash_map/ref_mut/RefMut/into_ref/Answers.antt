@@ -1,5 +1,0 @@
-use Rattle.std.proofs.Common.{rules}
-use Rattle.iddqd.proofs.id_hash_map.ref_mut.RefMut.into_ref.Goals as goal
-
-pub returns-clause-map : goal.returns-clause-map
-returns-clause-map g c = search rules

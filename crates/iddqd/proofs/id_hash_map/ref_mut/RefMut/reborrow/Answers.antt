@@ -1,8 +1,0 @@
-use Rattle.std.proofs.Common.{rules}
-use Rattle.iddqd.proofs.id_hash_map.ref_mut.RefMut.reborrow.Goals as goal
-
-pub returns-clause-same : goal.returns-clause-same
-returns-clause-same g c = search rules
-
-pub returns-clause-guard : goal.returns-clause-guard
-returns-clause-guard g c = search rules

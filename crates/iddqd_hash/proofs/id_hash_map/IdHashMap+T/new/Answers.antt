@@ -1,0 +1,8 @@
+use Rattle.std.proofs.Common.{rules}
+use Rattle.iddqd_hash.proofs.id_hash_map.IdHashMap+T.new.Goals as goal
+
+pub returns-clause-empty : goal.returns-clause-empty
+returns-clause-empty g c = search rules
+
+pub returns-clause-keyed : goal.returns-clause-keyed
+returns-clause-keyed g c = search rules

@@ -1,0 +1,52 @@
+use Rattle.std.proofs.Common.{[], ◌∙◌, rules, subst, sym, arith}
+use Rattle.std.proofs.iter.Next.{on}
+use Rattle.std.proofs.lemmas.Result.{err_from_is_err_and}
+use Rattle.iddqd_store.specs.Collecting.{AddsAll, GivesThen}
+use Rattle.iddqd_store.proofs.AddingLemmas.{adds_last, adds_none, halts_adding}
+use Rattle.iddqd_store.proofs.CollectingLemmas.{fills_kept, fills_on, fills_taken}
+use Rattle.iddqd_hash.specs.HashItems.{held}
+use Rattle.iddqd_hash.proofs.id_hash_map.IdHashMap.add_each.Goals as goal
+
+pub loop-item-init : goal.loop-item-init
+loop-item-init g c =
+    let key = g.T.IdHashItem.key in
+    let old = c.args.self.now in
+    let new = c.reserve.new.self in
+    let kept = c.reserve.ensures.kept in (
+      search rules,
+      search rules,
+      subst (AddsAll key g.T.Key.PartialEq.eq [] old.items) (sym kept.keeps.items) (adds_none key old.items c.requires.keyed.differ),
+      record { fills = fills_kept (held old) (held new) c.len.ensures.slots kept.keeps; keyed = kept.keyed; spare = kept.spare; hasher = kept.hasher },
+    )
+
+pub loop-item-preserved : goal.loop-item-preserved
+loop-item-preserved g c =
+    let old = c.args.self.now in
+    let between = c.loop-item.self in
+    let new = c.add.new.self in
+    let x = c.in-Some.item in
+    let put = c.in_ok-add.ensures in
+    let inv = c.loop-item.invariant in
+    let goes = on x c.in-Some.is c.next.ensures.goes inv.1 in (
+      goes.0,
+      goes.1,
+      adds_last g.T.IdHashItem.key g.met.T.Key.Eq.laws c.loop-item.yielded old.items between.items inv.2 x new.items put.absent put.inserted.takes.added,
+      record {
+        fills = fills_on (held old) (held between) (held new) inv.3.fills (fills_taken x (held between) (held new) put.inserted.takes);
+        keyed = put.inserted.keyed;
+        spare = record { never_less = omega (arith, inv.3.spare.never_less, put.inserted.spare.never_less); in_limit = put.inserted.spare.in_limit };
+        hasher = put.inserted.hasher ∙ inv.3.hasher;
+      },
+    )
+
+pub returns-in_err-add-clause-halted : goal.returns-in_err-add-clause-halted
+returns-in_err-add-clause-halted g c =
+    let old = c.args.self.now in
+    let inv = c.loop-item.invariant in
+    let back = err_from_is_err_and c.from_residual.result c.from_residual.ensures.1 in
+    let stopped = c.in_err-add.ensures in
+    let gives = GivesThen g.U.IntoIterator.into_iter_gives g.U.IntoIter.Iterator.next_gives c.args.iter in
+    rw back.1 (halts_adding g.T.IdHashItem.key g.met.T.Key.Eq.laws gives (held old) (held c.loop-item.self) (held c.add.new.self) c.loop-item.yielded inv.2 inv.3.fills.limit stopped.kept.keeps c.in-Some.item (search rules) _ (rw back.2 stopped.halted))
+
+pub loop-item-smaller : goal.loop-item-smaller
+loop-item-smaller g c = search rules

@@ -1,0 +1,78 @@
+use Rattle.std.proofs.Common.{◌∙◌, sym, ap, is_some, subst}
+use Rattle.std.specs.Option.{IsSome}
+use Rattle.iddqd_store.specs.Contents.{IsAbsent, find_item}
+use Rattle.iddqd_store.specs.Hashing.{hash_under}
+use Rattle.iddqd_store.specs.SlotItems.{item_of_slot}
+use Rattle.iddqd_store.proofs.OrderLemmas.{found_answers}
+use Rattle.iddqd_store.proofs.WrittenLemmas.{others_found, written_found}
+use Rattle.iddqd_hash.specs.HashItems.{Keyed}
+use Rattle.iddqd_hash.proofs.EntryLemmas.{told_listed}
+use Rattle.iddqd_hash.proofs.FoundLemmas.{replaced_absent, without_absent}
+use Rattle.iddqd_hash.proofs.LentLemmas.{item_in_slot}
+use Rattle.iddqd_hash.proofs.MapLemmas.{listed_under_query}
+use Rattle.iddqd_hash.proofs.PairedLemmas.{listed_occupied}
+use Rattle.iddqd_hash.proofs.id_hash_map.IdHashMap.entry.Given.{Over}
+use Rattle.iddqd_hash.proofs.id_hash_map.IdHashMap.entry.Goals as goal
+
+pub find_slot-requires-clause-stored : goal.find_slot-requires-clause-stored
+find_slot-requires-clause-stored g c =
+    let input = g.T.Key.Hash.hash_input in
+    let hash = hash_under g.S.BuildHasher g.S.Hasher.Hasher in
+    let m = c.self.inside in
+    listed_under_query g.T.IdHashItem.key g.T.Key.PartialEq.eq input hash m.hasher m.store m.index (subst (Keyed g.T.IdHashItem.key g.T.Key.PartialEq.eq input hash) (sym c.self.view_is) c.requires.keyed) (g.Q.Equivalent.equivalent c.args.query.now) c.hash_one-hash.result
+    (λ k stands. ap (hash m.hasher) (sym (c.requires.hashes k stands)) ∙ sym c.hash_one-hash.ensures)
+
+pub invariant_of-result : goal.invariant_of-result
+invariant_of-result g c =
+    let m = c.self.inside in
+    let slot = c.in-Some.slot in
+    record {
+      there = ap (λ v. is_some (item_of_slot v.slots v.items slot)) (sym c.self.view_is) ∙ ap is_some (item_in_slot m.store.slots slot) ∙ listed_occupied m.store m.index.pairs c.self.invariant c.hash_one-hash.result slot c.in-Some.ensures.listed;
+      listed = ap (λ v. item_of_slot v.slots v.hashes slot) (sym c.self.view_is) ∙ told_listed m.store m.index.pairs c.self.invariant c.hash_one-hash.result slot c.in-Some.ensures.listed;
+    }
+
+pub returns-in-Some-clause-found : goal.returns-in-Some-clause-found
+returns-in-Some-clause-found g c =
+    let m = c.self.inside in
+    let key = g.T.IdHashItem.key in
+    let test = g.Q.Equivalent.equivalent c.args.query.now in
+    let slot = c.in-Some.slot in
+    ap (λ v. item_of_slot v.slots v.items slot) (sym c.self.view_is)
+    ∙ item_in_slot m.store.slots slot
+    ∙ c.in-Some.ensures.item
+    ∙ ap (λ v. find_item key test v.items) c.self.view_is
+
+pub returns-in-Some-clause-answers : goal.returns-in-Some-clause-answers
+returns-in-Some-clause-answers g c =
+    let key = g.T.IdHashItem.key in
+    let test = g.Q.Equivalent.equivalent c.args.query.now in
+    let now = c.args.self.now in
+    found_answers (λ x. test (key x)) now.items (item_of_slot now.slots now.items c.in-Some.slot) (returns-in-Some-clause-found g c)
+
+there : (g : Over) (c : goal.After-result-1 g) → IsSome (item_of_slot c.args.self.now.slots c.args.self.now.items c.in-Some.slot)
+there g c =
+    let m = c.self.inside in
+    let slot = c.in-Some.slot in
+    ap (λ v. is_some (item_of_slot v.slots v.items slot)) (sym c.self.view_is) ∙ ap is_some (item_in_slot m.store.slots slot) ∙ listed_occupied m.store m.index.pairs c.self.invariant c.hash_one-hash.result slot c.in-Some.ensures.listed
+
+pub returns-in-Some-clause-written : goal.returns-in-Some-clause-written
+returns-in-Some-clause-written g c w =
+    let now = c.args.self.now in
+    written_found g.T.IdHashItem.key g.met.T.Key.Eq.laws (g.Q.Equivalent.equivalent c.args.query.now) (g.met.Q.Equivalent.one_key c.args.query.now) now.slots now.items c.requires.keyed.differ c.in-Some.slot w (there g c) (sym (returns-in-Some-clause-found g c))
+
+pub returns-in-Some-clause-others : goal.returns-in-Some-clause-others
+returns-in-Some-clause-others g c =
+    let now = c.args.self.now in
+    others_found g.T.IdHashItem.key g.met.T.Key.Eq.laws (g.Q.Equivalent.equivalent c.args.query.now) (g.met.Q.Equivalent.one_key c.args.query.now) now.slots now.items c.requires.keyed.differ c.in-Some.slot (there g c) (sym (returns-in-Some-clause-found g c))
+
+pub returns-in-None-clause-written : goal.returns-in-None-clause-written
+returns-in-None-clause-written g c w =
+    let key = g.T.IdHashItem.key in
+    let test = g.Q.Equivalent.equivalent c.args.query.now in
+    replaced_absent key test w c.args.self.now.items (subst (λ v. IsAbsent key test v.items) c.self.view_is (sym c.in-None.ensures.item))
+
+pub returns-in-None-clause-others : goal.returns-in-None-clause-others
+returns-in-None-clause-others g c =
+    let key = g.T.IdHashItem.key in
+    let test = g.Q.Equivalent.equivalent c.args.query.now in
+    without_absent key test c.args.self.now.items (subst (λ v. IsAbsent key test v.items) c.self.view_is (sym c.in-None.ensures.item))

@@ -1,0 +1,37 @@
+use Rattle.std.proofs.Common.{subst, ap, arith, ◌∙◌, rules}
+use Rattle.std.proofs.iter.Next.{on}
+use Rattle.iddqd_store.specs.Contents.{OverwritesItem}
+use Rattle.iddqd_store.proofs.CollectingLemmas.{fills_on, overwrites_last, overwritten}
+use Rattle.iddqd_store.specs.Hashing.{hash_under}
+use Rattle.iddqd_hash.specs.HashItems.{Keyed, held}
+use Rattle.iddqd_hash.proofs.CollectLemmas.{overwritten_hasher}
+use Rattle.iddqd_hash.proofs.id_hash_map.IdHashMap.extend.Goals as goal
+
+pub loop-item-preserved : goal.loop-item-preserved
+loop-item-preserved g c =
+    let key = g.T.IdHashItem.key in
+    let eq = g.T.Key.PartialEq.eq in
+    let old = c.args.self.now in
+    let between = c.loop-item.self in
+    let new = c.insert_overwrite.new.self in
+    let x = c.in-Some.item in
+    let back = c.in-Ok.replaced in
+    let told = c.in-Ok.ensures in
+    let inv = c.loop-item.invariant in
+    let goes = on x c.in-Some.is c.next.ensures.goes inv.1 in
+    let put = overwritten key eq x (held between) (held new) inv.3.slots (λ h. ap held h) (λ h. h.takes) back told.found told.replaced told.inserted in (
+      goes.0,
+      goes.1,
+      overwrites_last key eq old.limit x c.loop-item.yielded old.items between.items back new.items inv.2
+          (subst (λ limit. OverwritesItem key eq x limit between.items back new.items) inv.3.limit put.0),
+      fills_on (held old) (held between) (held new) inv.3 put.1,
+      record { never_less = omega (arith, inv.4.never_less, told.spare.never_less); in_limit = told.spare.in_limit },
+      overwritten_hasher key eq (Keyed key eq g.T.Key.Hash.hash_input (hash_under g.S.BuildHasher g.S.Hasher.Hasher)) x between new back told.replaced told.inserted ∙ inv.5,
+      told.keyed,
+    )
+
+pub loop-item-init : goal.loop-item-init
+loop-item-init g c = search rules
+
+pub returns-in-Err-insert_overwrite-clause-not_begun : goal.returns-in-Err-insert_overwrite-clause-not_begun
+returns-in-Err-insert_overwrite-clause-not_begun g c = search rules

@@ -1,0 +1,41 @@
+use Rattle.std.proofs.Common.{rules, ◌∙◌, arith}
+use Rattle.std.proofs.lemmas.Grind.{common_steps}
+use Rattle.std.proofs.iter.Next.{on}
+use Rattle.std.proofs.lemmas.Result.{err_from_is_err_and}
+use Rattle.iddqd_store.specs.Collecting.{GivesThen}
+use Rattle.iddqd_store.proofs.CollectingLemmas.{collected_differ, collects_last, shows_first}
+use Rattle.iddqd_hash.proofs.id_hash_map.IdHashMap.from_iter_unique.Goals as goal
+
+pub loop-item-preserved : goal.loop-item-preserved
+loop-item-preserved g c =
+    let x = c.in-Some.item in
+    let inv = c.loop-item.invariant in
+    let goes = on x c.in-Some.is c.next.ensures.goes inv.1 in
+    let put = c.in_ok-insert_first.ensures.inserted in (
+      goes.0,
+      goes.1,
+      collects_last x c.loop-item.yielded c.loop-item.map.items c.insert_first.new.self.items inv.2 put.takes.added,
+      put.spare.in_limit,
+      omega (arith, put.takes.vacant, inv.4),
+      put.takes.limit ∙ inv.5,
+      put.hasher ∙ inv.6,
+      put.keyed,
+    )
+
+pub returns-in_err-insert_first-clause-repeat : goal.returns-in_err-insert_first-clause-repeat
+returns-in_err-insert_first-clause-repeat g c =
+    let key = g.T.IdHashItem.key in
+    let inv = c.loop-item.invariant in
+    let back = err_from_is_err_and c.from_residual.result c.from_residual.ensures.1 in
+    let items = c.loop-item.map.items in
+    let gives = GivesThen g.U.IntoIterator.into_iter_gives g.U.IntoIter.Iterator.next_gives c.args.iter in
+    rw back.1 (shows_first key g.met.T.Key.Eq.laws c.loop-item.yielded items inv.2 inv.7.differ gives c.in-Some.item _ (search rules) (rw back.2 c.in_err-insert_first.ensures.akin))
+
+pub returns-clause-items : goal.returns-clause-items
+returns-clause-items g c =
+    let key = g.T.IdHashItem.key in
+    let inv = c.loop-item.invariant in
+    (c.loop-item.yielded, search rules, collected_differ key g.met.T.Key.Eq.laws c.loop-item.yielded c.loop-item.map.items inv.2 inv.7.differ, inv.2)
+
+pub loop-item-init : goal.loop-item-init
+loop-item-init g c = grind (arith, common_steps)

@@ -1,0 +1,94 @@
+use Rattle.std.proofs.Common.{◌∙◌, ◌<◌, Some, length, sym, ap, subst, arith, rules}
+use Rattle.std.specs.Option.{option_map}
+use Rattle.iddqd_store.specs.Contents.{AddsItem, IsAbsent}
+use Rattle.iddqd_store.specs.Hashing.{hash_under}
+use Rattle.iddqd_hash_index.specs.HashPairs.{HasOneMore}
+use Rattle.iddqd_store.specs.Refusal.{refusal_kind}
+use Rattle.iddqd_store.specs.SlotItems.{item_of_slot, written_to_slot}
+use Rattle.iddqd_store.proofs.RefusalLemmas.{kind_by_length}
+use Rattle.iddqd_store.proofs.WrittenLemmas.{told_of_slot}
+use Rattle.iddqd_hash.specs.HashItems.{Keyed}
+use Rattle.iddqd_hash.specs.HashMap.{HashInserts, HashKeeps}
+use Rattle.iddqd_hash.specs.Paired.{items_in, shown, slots_in}
+use Rattle.iddqd_hash.proofs.EntryLemmas.{added_item, added_others, added_written}
+use Rattle.iddqd_hash.proofs.MapLemmas.{inserted_after, map_inserted, map_kept}
+use Rattle.iddqd_hash.proofs.SlotItemLemmas.{length-items}
+use Rattle.iddqd_hash.proofs.id_hash_map.IdHashMap.insert_new.Goals as goal
+
+pub returns-in-Err-clause-kind : goal.returns-in-Err-clause-kind
+returns-in-Err-clause-kind g c =
+    let m = c.self.inside in
+    c.in-Err.ensures.kind
+    ∙ kind_by_length m.store.limit m.index.pairs (items_in m.store) (c.self.invariant.counted ∙ sym (length-items m.store.slots))
+    ∙ ap (λ v. refusal_kind v.limit v.items) c.self.view_is
+
+pub returns-in-Err-clause-kept : goal.returns-in-Err-clause-kept
+returns-in-Err-clause-kept g c =
+    let key = g.T.IdHashItem.key in
+    let eq = g.T.Key.PartialEq.eq in
+    let input = g.T.Key.Hash.hash_input in
+    let hash = hash_under g.S.BuildHasher g.S.Hasher.Hasher in
+    let m = c.self.inside in
+    let room = c.reserve_one.new in
+    let keyed = subst (Keyed key eq input hash) (sym c.self.view_is) c.requires.keyed in
+    subst (λ old. HashKeeps (Keyed key eq input hash) old (shown room.store room.index m.hasher)) c.self.view_is
+    (map_kept key eq input hash m.hasher m.store room.store m.index room.index c.self.invariant c.reserve_one.ensures.paired keyed c.reserve_one.ensures.store c.reserve_one.ensures.capacity c.reserve_one.ensures.pairs c.reserve_one.ensures.spare)
+
+pub returns-clause-inserted : goal.returns-clause-inserted
+returns-clause-inserted g c =
+    let key = g.T.IdHashItem.key in
+    let eq = g.T.Key.PartialEq.eq in
+    let input = g.T.Key.Hash.hash_input in
+    let hash = hash_under g.S.BuildHasher g.S.Hasher.Hasher in
+    let m = c.self.inside in
+    let room = c.reserve_one.new in
+    let put = c.put_in in
+    let x = c.args.item in
+    let keyed = subst (Keyed key eq input hash) (sym c.self.view_is) c.requires.keyed in
+    let kept = map_kept key eq input hash m.hasher m.store room.store m.index room.index c.self.invariant c.reserve_one.ensures.paired keyed c.reserve_one.ensures.store c.reserve_one.ensures.capacity c.reserve_one.ensures.pairs c.reserve_one.ensures.spare in
+    let absent = subst (λ v. IsAbsent key (eq (key x)) v.items) (sym c.self.view_is) c.requires.absent in
+    let told = c.requires.hash ∙ ap (λ v. hash v.hasher (input (key x))) (sym c.self.view_is) in
+    let below : length (items_in m.store) < m.store.limit = omega (arith, c.in_default.ensures.below_limit, c.self.invariant.counted, length-items m.store.slots) in
+    let room_left : length (items_in room.store) < room.store.limit = omega (arith, below, ap length kept.keeps.items, kept.keeps.limit) in
+    let inserted = map_inserted key eq input hash m.hasher room.store put.new.store room.index put.new.index c.reserve_one.ensures.paired put.ensures.paired g.met.T.Key.Eq.laws kept.keyed x put.result
+    (subst (IsAbsent key (eq (key x))) (sym kept.keeps.items) absent)
+    room_left
+    (subst (λ h. HasOneMore room.index.pairs put.new.index.pairs (h, put.result)) told put.ensures.pairs)
+    put.ensures.was_vacant put.ensures.updates put.ensures.spare put.ensures.len put.ensures.vacant put.ensures.capacity put.ensures.limit in
+    subst (λ old. HashInserts (Keyed key eq input hash) x old (shown put.new.store put.new.index m.hasher)) c.self.view_is
+    (inserted_after key eq input hash x (shown m.store m.index m.hasher) (shown room.store room.index m.hasher) (shown put.new.store put.new.index m.hasher) kept inserted)
+
+pub returns-clause-there : goal.returns-clause-there
+returns-clause-there g c =
+    added_item c.reserve_one.new.store c.put_in.new.store c.put_in.result c.args.item c.put_in.ensures.was_vacant c.put_in.ensures.updates
+
+pub returns-clause-listed : goal.returns-clause-listed
+returns-clause-listed g c =
+    let key = g.T.IdHashItem.key in
+    let input = g.T.Key.Hash.hash_input in
+    let hash = hash_under g.S.BuildHasher g.S.Hasher.Hasher in
+    let m = c.self.inside in
+    let new = shown c.put_in.new.store c.put_in.new.index m.hasher in
+    let slot = c.put_in.result in
+    let tell = λ (y : g.row.T.Denot). hash m.hasher (input (key y)) in
+    ap (λ hashes. item_of_slot new.slots hashes slot) (returns-clause-inserted g c).keyed.stored
+    ∙ told_of_slot tell new.slots new.items slot
+    ∙ ap (option_map tell) (returns-clause-there g c)
+    ∙ ap (λ v. Some (hash v.hasher (input (key c.args.item)))) c.self.view_is
+    ∙ ap Some (sym c.requires.hash)
+
+pub returns-clause-written : goal.returns-clause-written
+returns-clause-written g c w =
+    let room = c.reserve_one.new.store in
+    let new = c.put_in.new.store in
+    let same = ap (λ s. items_in s) c.reserve_one.ensures.store ∙ ap (λ v. v.items) c.self.view_is in
+    subst (λ items. AddsItem w items (written_to_slot (slots_in new) (items_in new) c.put_in.result w)) same
+    (added_written room new c.put_in.result c.args.item c.put_in.ensures.was_vacant c.put_in.ensures.updates w)
+
+pub returns-clause-others : goal.returns-clause-others
+returns-clause-others g c =
+    added_others c.reserve_one.new.store c.put_in.new.store c.put_in.result c.args.item c.put_in.ensures.was_vacant c.put_in.ensures.updates
+    ∙ ap (λ s. items_in s) c.reserve_one.ensures.store ∙ ap (λ v. v.items) c.self.view_is
+
+pub returns-in-Err-clause-no_spare : goal.returns-in-Err-clause-no_spare
+returns-in-Err-clause-no_spare g c = search rules

@@ -1,0 +1,42 @@
+use Rattle.std.proofs.Common.{◌≡◌, ◌+◌, ◌≤◌, ◌∙◌, length, IfErr, OnOk, sym, subst}
+use Rattle.iddqd_store.specs.Hashing.{hash_under}
+use Rattle.iddqd_store.specs.Refusal.{reservation_kind}
+use Rattle.iddqd_hash.specs.HashItems.{Keyed}
+use Rattle.iddqd_hash.specs.HashMap.{HashKeeps}
+use Rattle.iddqd_hash.specs.Paired.{shown}
+use Rattle.iddqd_hash.proofs.MapLemmas.{map_kept}
+use Rattle.iddqd_hash.proofs.SlotItemLemmas.{length-items}
+use Rattle.iddqd_hash.proofs.id_hash_map.IdHashMap.reserve.Goals as goal
+
+pub returns-clause-capacity : goal.returns-clause-capacity
+returns-clause-capacity g c =
+    let room = c.reserve_room in
+    let m = c.self.inside in
+    subst (λ v. OnOk room.result (length v.items + c.args.additional ≤ room.new.store.capacity)) c.self.view_is
+    (subst (λ n. OnOk room.result (n + c.args.additional ≤ room.new.store.capacity)) (c.self.invariant.counted ∙ sym (length-items m.store.slots)) room.ensures.capacity_left)
+
+pub returns-clause-in_limit : goal.returns-clause-in_limit
+returns-clause-in_limit g c =
+    let room = c.reserve_room in
+    let m = c.self.inside in
+    subst (λ v. OnOk room.result (length v.items + c.args.additional ≤ v.limit)) c.self.view_is
+    (subst (λ n. OnOk room.result (n + c.args.additional ≤ m.store.limit)) (c.self.invariant.counted ∙ sym (length-items m.store.slots)) room.ensures.in_limit)
+
+pub returns-clause-refused : goal.returns-clause-refused
+returns-clause-refused g c =
+    let room = c.reserve_room in
+    let m = c.self.inside in
+    subst (λ v. IfErr room.result (λ e. e ≡ reservation_kind v.limit (length v.items + c.args.additional))) c.self.view_is
+    (subst (λ n. IfErr room.result (λ e. e ≡ reservation_kind m.store.limit (n + c.args.additional))) (c.self.invariant.counted ∙ sym (length-items m.store.slots)) room.ensures.kind)
+
+pub returns-clause-kept : goal.returns-clause-kept
+returns-clause-kept g c =
+    let key = g.T.IdHashItem.key in
+    let eq = g.T.Key.PartialEq.eq in
+    let input = g.T.Key.Hash.hash_input in
+    let hash = hash_under g.S.BuildHasher g.S.Hasher.Hasher in
+    let m = c.self.inside in
+    let room = c.reserve_room in
+    let keyed = subst (Keyed key eq input hash) (sym c.self.view_is) c.requires.keyed in
+    subst (λ old. HashKeeps (Keyed key eq input hash) old (shown room.new.store room.new.index m.hasher)) c.self.view_is
+    (map_kept key eq input hash m.hasher m.store room.new.store m.index room.new.index c.self.invariant room.ensures.paired keyed room.ensures.store room.ensures.capacity room.ensures.pairs room.ensures.spare)

@@ -1,0 +1,21 @@
+use Rattle.std.proofs.Common.{◌≡◌, ◌+◌, ◌-◌, ◌≤◌, ◌++◌, length, take, drop}
+use Rattle.iddqd_store.specs.Hashing.{hash_under}
+use Rattle.iddqd_store.specs.Visiting.{kept_by, visitor_after}
+use Rattle.iddqd_hash.specs.HashItems.{Keyed}
+use Rattle.iddqd_hash.specs.SlotOrder.{slots_below}
+use Rattle.iddqd_hash.proofs.id_hash_map.IdHashMap.retain_mut.Given as goal
+
+abbrev pub invariant-loop-slot : goal.invariant-loop-slot
+invariant-loop-slot g l = record {
+  items : kept_by g.V.Visit.visits l.initial.visitor l.initial.self.items ≡ take (slots_below l.next l.self.slots) l.self.items ++ kept_by g.V.Visit.visits l.visitor (drop (slots_below l.next l.self.slots) l.self.items);
+  visitor : visitor_after g.V.Visit.visits l.initial.visitor l.initial.self.items ≡ visitor_after g.V.Visit.visits l.visitor (drop (slots_below l.next l.self.slots) l.self.items);
+  vacant : l.self.vacant + length l.self.items ≡ l.initial.self.vacant + length l.initial.self.items;
+  capacity : l.self.capacity ≡ l.initial.self.capacity;
+  limit : l.self.limit ≡ l.initial.self.limit;
+  hasher : l.self.hasher ≡ l.initial.self.hasher;
+  spare : l.initial.self.spare + length l.initial.self.items ≤ l.self.spare + length l.self.items;
+  keyed : Keyed g.T.IdHashItem.key g.T.Key.PartialEq.eq g.T.Key.Hash.hash_input (hash_under g.S.BuildHasher g.S.Hasher.Hasher) l.self;
+}
+
+abbrev pub decreases-loop-slot : goal.decreases-loop-slot
+decreases-loop-slot g l = length l.self.slots - slots_below l.next l.self.slots

@@ -1,0 +1,11 @@
+use Rattle.std.proofs.Common.{rules}
+use Rattle.iddqd_hash.proofs.id_hash_map.IdHashMap.shrink_to_fit.Goals as goal
+
+pub returns-clause-shrinks : goal.returns-clause-shrinks
+returns-clause-shrinks g c = search rules
+
+pub returns-clause-frees : goal.returns-clause-frees
+returns-clause-frees g c = search rules
+
+pub returns-clause-within_limit : goal.returns-clause-within_limit
+returns-clause-within_limit g c = search rules

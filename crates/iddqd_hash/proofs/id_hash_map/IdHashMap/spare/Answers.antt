@@ -1,0 +1,9 @@
+use Rattle.std.proofs.Common.{subst}
+use Rattle.iddqd_hash.specs.HashMap.{SpareFits}
+use Rattle.iddqd_hash.proofs.MapLemmas.{spare_fits}
+use Rattle.iddqd_hash.proofs.id_hash_map.IdHashMap.spare.Goals as goal
+
+pub returns-clause-within_limit : goal.returns-clause-within_limit
+returns-clause-within_limit g c =
+    let m = c.self.inside in
+    subst SpareFits c.self.view_is (spare_fits m.hasher m.store m.index c.self.invariant)

@@ -1,0 +1,75 @@
+use Rattle.std.proofs.Common.{◌≡◌, ◌∙◌, sym, ap, subst, is_some, None, ℕ, get_or, set, ⊎_elim, rules}
+use Rattle.std.proofs.lemmas.Bool.{cases_eq}
+use Rattle.std.specs.List.{remove, slice_get}
+use Rattle.iddqd_store.specs.Hashing.{hash_under}
+use Rattle.iddqd_store.specs.SlotItems.{item_of_slot}
+use Rattle.iddqd_store.specs.Store.{item_at}
+use Rattle.iddqd_store.proofs.StoreLemmas.{updates-set}
+use Rattle.iddqd_hash.specs.HashItems.{Keyed}
+use Rattle.iddqd_hash.specs.HashMap.{KeepsSpare}
+use Rattle.iddqd_hash.specs.Paired.{shown}
+use Rattle.iddqd_hash.proofs.FoundLemmas.{same_numbers}
+use Rattle.iddqd_hash.proofs.SlotItemLemmas.{same_items}
+use Rattle.iddqd_hash.proofs.EntryLemmas.{listed_told}
+use Rattle.iddqd_hash.proofs.LentLemmas.{item_in_slot}
+use Rattle.iddqd_hash.proofs.MapLemmas.{taken_keyed, taken_spare}
+use Rattle.iddqd_hash.proofs.RisingLemmas.{slot_removed}
+use Rattle.iddqd_hash.proofs.id_hash_map.IdHashMap.take_hashed.Goals as goal
+
+pub take_out-requires-clause-listed : goal.take_out-requires-clause-listed
+take_out-requires-clause-listed g c =
+    let m = c.self.inside in
+    let slot = c.args.slot in
+    let some = ap is_some (sym (item_in_slot m.store.slots slot)) ∙ ap (λ v. is_some (item_of_slot v.slots v.items slot)) c.self.view_is ∙ c.requires.there in
+    listed_told m.store m.index.pairs c.self.invariant c.args.hash slot some (ap (λ v. item_of_slot v.slots v.hashes slot) c.self.view_is ∙ c.requires.listed)
+
+pub returns-clause-value : goal.returns-clause-value
+returns-clause-value g c =
+    let m = c.self.inside in
+    ap (λ v. item_of_slot v.slots v.items c.args.slot) (sym c.self.view_is) ∙ item_in_slot m.store.slots c.args.slot ∙ c.take_out.ensures.item
+
+pub returns-clause-gone : goal.returns-clause-gone
+returns-clause-gone g c at there =
+    let m = c.self.inside in
+    let slot = c.args.slot in
+    let new = c.take_out.new.store in
+    let gone = c.take_out.ensures.updates in
+    let left = updates-set m.store slot None (ap is_some c.take_out.ensures.item) in
+    let same : (k : ℕ) → item_at new k ≡ get_or (set m.store.slots slot None) k None = λ k. ⊎_elim
+    (λ e. ap (item_at new) e ∙ gone.changed ∙ sym left.changed ∙ ap (λ n. get_or (set m.store.slots slot None) n None) (sym e))
+    (λ n. gone.others k n ∙ sym (left.others k n))
+    (cases_eq k slot) in
+    let removed = slot_removed (λ s. s) (λ s t h. h) (λ s. s) m.store.slots slot at c.take_out.result c.take_out.ensures.item (ap (λ v. slice_get v.slots at) c.self.view_is ∙ there) in (
+      same_items new.slots (set m.store.slots slot None) same ∙ removed.1 ∙ ap (λ v. remove v.items at) c.self.view_is,
+      same_numbers g.T.IdHashItem.key (λ s. s) new.slots (set m.store.slots slot None) (λ k. ap is_some (same k)) ∙ removed.0 ∙ ap (λ v. remove v.slots at) c.self.view_is,
+    )
+
+pub returns-clause-spare : goal.returns-clause-spare
+returns-clause-spare g c =
+    let key = g.T.IdHashItem.key in
+    let eq = g.T.Key.PartialEq.eq in
+    let input = g.T.Key.Hash.hash_input in
+    let hash = hash_under g.S.BuildHasher g.S.Hasher.Hasher in
+    let equivalence = g.met.T.Key.Eq.laws in
+    let m = c.self.inside in
+    let out = c.take_out in
+    let x = out.result in
+    let keyed = subst (Keyed key eq input hash) (sym c.self.view_is) c.requires.keyed in
+    subst (λ old. KeepsSpare old (shown out.new.store out.new.index m.hasher)) c.self.view_is
+    (taken_spare key eq input hash m.hasher m.store out.new.store m.index out.new.index c.self.invariant out.ensures.paired equivalence (eq (key x)) (equivalence.congr (key x)) keyed c.args.slot x out.ensures.item (equivalence.refl (key x)) out.ensures.spare out.ensures.len out.ensures.capacity out.ensures.limit)
+
+pub returns-clause-keyed : goal.returns-clause-keyed
+returns-clause-keyed g c =
+    let key = g.T.IdHashItem.key in
+    let eq = g.T.Key.PartialEq.eq in
+    let input = g.T.Key.Hash.hash_input in
+    let hash = hash_under g.S.BuildHasher g.S.Hasher.Hasher in
+    let equivalence = g.met.T.Key.Eq.laws in
+    let m = c.self.inside in
+    let out = c.take_out in
+    let x = out.result in
+    let keyed = subst (Keyed key eq input hash) (sym c.self.view_is) c.requires.keyed in
+    taken_keyed key eq input hash m.hasher m.store out.new.store m.index out.new.index c.self.invariant out.ensures.paired equivalence (eq (key x)) (equivalence.congr (key x)) keyed c.args.slot x out.ensures.item (equivalence.refl (key x)) c.args.hash out.ensures.pairs out.ensures.updates
+
+pub invariant_of-self : goal.invariant_of-self
+invariant_of-self g c = search rules

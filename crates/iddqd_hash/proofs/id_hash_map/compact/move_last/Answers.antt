@@ -1,0 +1,63 @@
+use Rattle.std.proofs.Common.{ℕ, ◌≡◌, ◌-◌, ◌∙◌, Some, sym, ap, subst, option_copied, rules}
+use Rattle.std.proofs.lemmas.List.Sorted.{IsPermutation-refl}
+use Rattle.std.specs.List.{Contains}
+use Rattle.iddqd_store.specs.Contents.{SameInAnyOrder}
+use Rattle.iddqd_hash_index.specs.HashPairs.{HasInstead}
+use Rattle.iddqd_store.specs.Hashing.{hash_under}
+use Rattle.iddqd_store.specs.Store.{item_at, MovesLast}
+use Rattle.iddqd_store.proofs.StoreLemmas.{last_moves}
+use Rattle.iddqd_hash.specs.Paired.{items_in}
+use Rattle.iddqd_hash.proofs.CompactLemmas.{last_listed, moved_items, moved_paired, moved_under}
+use Rattle.iddqd_hash.proofs.SlotItemLemmas.{same_items}
+use Rattle.iddqd_hash.proofs.id_hash_map.compact.move_last.Given.{Over}
+use Rattle.iddqd_hash.proofs.id_hash_map.compact.move_last.Goals as goal
+
+-- what an item's key hashes to
+abbrev tell : (g : Over) → g.row.S.Denot → g.row.T.Denot → ℕ
+tell g hasher x = hash_under g.S.BuildHasher g.S.Hasher.Hasher hasher (g.T.Key.Hash.hash_input (g.T.IdHashItem.key x))
+
+pub rename-requires-clause-present : goal.rename-requires-clause-present
+rename-requires-clause-present g c =
+    let x = c.unwrap.result.now in
+    let there : item_at c.args.store.now (c.slots-last.result - 1) ≡ Some x = sym c.get.ensures ∙ ap option_copied c.unwrap.ensures in
+    let told : tell g c.args.hasher.now x ≡ c.hash_one-hash.result = ap (λ k. hash_under g.S.BuildHasher g.S.Hasher.Hasher c.args.hasher.now (g.T.Key.Hash.hash_input k)) (sym c.key.ensures) ∙ sym c.hash_one-hash.ensures in
+    subst (λ h. Contains c.args.index.now.pairs (h, c.slots-last.result - 1)) told
+    (last_listed (tell g c.args.hasher.now) c.args.store.now c.args.index.now.pairs c.requires.paired c.requires.under (c.slots-last.result - 1) x there)
+
+there : (g : Over) (c : goal.After-rename g) → item_at c.args.store.now (c.slots-last.result - 1) ≡ Some c.unwrap.result.now
+there g c = sym c.get.ensures ∙ ap option_copied c.unwrap.ensures
+
+moves : (g : Over) (c : goal.After-rename g) → MovesLast c.args.store.now.slots c.last_into_hole.new.self.slots (c.slots-last.result - 1) c.in-Some.hole
+moves g c =
+    let old = c.args.store.now in
+    let new = c.last_into_hole.new.self in
+    let same = last_moves old.slots new.slots c.in-Some.field-0-0 c.in-Some.hole c.requires.cut c.in-Some.ensures.moves ∙ ap (λ n. n - 1) (sym c.slots-last.ensures.slots) in
+    subst (λ s. MovesLast old.slots new.slots s c.in-Some.hole) same c.in-Some.ensures.moves
+
+instead : (g : Over) (c : goal.After-rename g) → HasInstead c.args.index.now.pairs c.rename.new.self.pairs (tell g c.args.hasher.now c.unwrap.result.now, c.slots-last.result - 1) (tell g c.args.hasher.now c.unwrap.result.now, c.in-Some.hole)
+instead g c =
+    let told = ap (λ k. hash_under g.S.BuildHasher g.S.Hasher.Hasher c.args.hasher.now (g.T.Key.Hash.hash_input k)) (sym c.key.ensures) ∙ sym c.hash_one-hash.ensures in
+    subst (λ h. HasInstead c.args.index.now.pairs c.rename.new.self.pairs (h, c.slots-last.result - 1) (h, c.in-Some.hole)) (sym told) c.rename.ensures.pairs
+
+pub returns-in-Some-clause-paired : goal.returns-in-Some-clause-paired
+returns-in-Some-clause-paired g c =
+    let moved = c.last_into_hole in
+    moved_paired (tell g c.args.hasher.now) c.args.store.now moved.new.self c.args.index.now.pairs c.rename.new.self.pairs c.requires.paired c.requires.under (c.slots-last.result - 1) c.in-Some.hole c.unwrap.result.now (there g c) (moves g c) (instead g c) moved.ensures.len moved.ensures.capacity moved.ensures.limit
+
+pub returns-in-Some-clause-under : goal.returns-in-Some-clause-under
+returns-in-Some-clause-under g c =
+    let moved = c.last_into_hole in
+    moved_under (tell g c.args.hasher.now) c.args.store.now moved.new.self c.args.index.now.pairs c.rename.new.self.pairs c.requires.paired c.requires.under (c.slots-last.result - 1) c.in-Some.hole c.unwrap.result.now (there g c) (moves g c) (instead g c) moved.ensures.len moved.ensures.capacity moved.ensures.limit
+
+pub returns-in-Some-clause-items : goal.returns-in-Some-clause-items
+returns-in-Some-clause-items g c =
+    moved_items (tell g c.args.hasher.now) c.args.store.now c.last_into_hole.new.self c.args.index.now.pairs c.rename.new.self.pairs c.requires.paired c.requires.under (c.slots-last.result - 1) c.in-Some.hole c.unwrap.result.now (there g c) (moves g c)
+
+pub returns-in_default-clause-items : goal.returns-in_default-clause-items
+returns-in_default-clause-items g c =
+    let old = c.args.store.now in
+    let new = c.last_into_hole.new.self in
+    subst (λ xs. SameInAnyOrder (items_in old) xs) (sym (same_items new.slots old.slots c.in_default.ensures.none_moves)) (IsPermutation-refl (items_in old))
+
+pub overflow_sub-last : goal.overflow_sub-last
+overflow_sub-last g c = search rules

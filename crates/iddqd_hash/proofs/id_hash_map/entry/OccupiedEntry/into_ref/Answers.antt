@@ -1,0 +1,5 @@
+use Rattle.std.proofs.Common.{rules}
+use Rattle.iddqd_hash.proofs.id_hash_map.entry.OccupiedEntry.into_ref.Goals as goal
+
+pub returns-clause-map : goal.returns-clause-map
+returns-clause-map g c = search rules

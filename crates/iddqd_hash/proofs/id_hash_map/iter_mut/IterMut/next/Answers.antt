@@ -1,0 +1,71 @@
+use Rattle.std.proofs.Common.{ℕ, ◌≡◌, ◌+◌, ◌∙◌, sym, arith, Some, slice_get, ap, rules, inl, inr, refl}
+use mathlib.Core.HLevel.{is_prop→PathP}
+use Rattle.std.proofs.Math.Nat.{ℕ_set}
+use Rattle.std.proofs.lemmas.Option.{slice_get_past}
+use Rattle.iddqd_store.specs.SlotItems.{written_to_slot}
+use Rattle.iddqd_store.proofs.WrittenLemmas.{place_read}
+use Rattle.iddqd_hash.specs.SlotOrder.{behind, slots_below}
+use Rattle.iddqd_hash.proofs.RisingLemmas.{behind_next, there_listed}
+use Rattle.iddqd_hash.proofs.id_hash_map.iter_mut.IterMut.next.Goals as goal
+
+-- two proofs that numbers are equal are one
+all_same : {A : Type 0} {n b : ℕ} (p q : A → n ≡ b) → p ≡ q
+all_same p q i w = ℕ_set _ _ (p w) (q w) i
+
+pub item_mut-requires : goal.item_mut-requires
+item_mut-requires g c =
+    let m = c.args.self.now.map.now in
+    let found = c.in_ok-slot.ensures in
+    there_listed m.slots (slots_below c.args.self.now.next m.slots) c.in_ok-slot.slot found.there m.items found.own
+
+pub returns-in_ok-slot : goal.returns-in_ok-slot
+returns-in_ok-slot g c =
+    let walk = c.args.self.now in
+    let m = walk.map.now in
+    let slot = c.in_ok-slot.slot in
+    let found = c.in_ok-slot.ensures in
+    let below : slots_below walk.next m.slots ≡ walk.done = ap (λ n. slots_below n m.slots) walk.from ∙ found.rises walk.done (omega (arith, c.if-self-len.true, c.len.ensures.len, found.own.as_many)) in
+    let there : slice_get m.slots walk.done ≡ Some slot = ap (slice_get m.slots) (sym below) ∙ found.there in
+    let read = place_read m.slots m.items walk.done slot found.own there in
+    let next : slot + 1 ≡ behind m.slots (walk.done + 1) = behind_next m.slots walk.done slot there in (
+      ap (λ q. inl (
+        c.item_mut.result.ghost_name,
+        λ w. record {
+          map = record walk.map { now = record m { items = written_to_slot m.slots m.items slot w } };
+          done = walk.done + 1;
+          next = slot + 1;
+          from = q w;
+        },
+      )) (all_same _ (λ w. next))
+          ∙ (λ j. inl (
+            c.item_mut.result.ghost_name,
+            λ w. record {
+              map = record walk.map { now = record m { items = read.written w j } };
+              done = walk.done + 1;
+              next = next j;
+              from = is_prop→PathP (λ i. next i ≡ behind m.slots (walk.done + 1)) (λ i. ℕ_set _ _) next refl j;
+            },
+          )),
+      record {
+        writes_back = tt;
+        value = sym c.item_mut.ensures.value ∙ read.item;
+        found = (λ _. omega (arith, c.if-self-len.true, c.len.ensures.len), λ _. refl);
+      },
+    )
+
+pub returns-else-self-len : goal.returns-else-self-len
+returns-else-self-len g c =
+    let walk = c.args.self.now in (
+      ap (λ q. inr (record walk { from = q })) (ℕ_set _ _ _ _),
+      record {
+        writes_back = tt;
+        value = sym (slice_get_past (walk.map.now.items) walk.done (omega (arith, c.if-self-len.false, c.len.ensures.len)));
+        found = search rules;
+      },
+    )
+
+pub overflow_add-self : goal.overflow_add-self
+overflow_add-self g c = search rules
+
+pub overflow_add-self-then-self-len : goal.overflow_add-self-then-self-len
+overflow_add-self-then-self-len g c = search rules

@@ -1,0 +1,5 @@
+use Rattle.std.proofs.Common.{rules}
+use Rattle.iddqd_hash.proofs.id_hash_map.ref_mut.reading.ShownDeref.deref.Goals as goal
+
+pub returns : goal.returns
+returns g c = search rules

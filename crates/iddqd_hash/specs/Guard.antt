@@ -1,0 +1,68 @@
+-- What a contract sees of a guard of a hash map.
+--     with_item_in m slot w      the map, once w stands in the slot
+--     lent_map, lent_slot, lent_item, lent_name      the map as the guard holds it, the slot, its item, the name of the reference to the map
+--     lent_with r w      the map once w is written through the guard
+--     shown_map, shown_item, shown_name      the same of what `into_ref` answers
+--     lends_item, item_follows, guard_follows      the map, or the guard, ends with the last value written
+--     rests_at_none      with no guard the map stays as it is
+use Rattle.std.specs.Prelude.{◌≡◌, ℕ, [], Option}
+use Rattle.std.specs.Borrow.{Fml, GName, RattleType, MutBor, Lends, RestsIfNone, follows}
+use mir.Syntax.{named}
+use Rattle.iddqd_store.specs.SlotItems.{item_of_slot, still_there, written_to_slot}
+use Rattle.iddqd_hash.specs.HashItems.{HashItems}
+use Rattle.iddqd_hash.specs.declared.id_hash_map.ref_mut.RefMut.{RefMut}
+use Rattle.iddqd_hash.specs.declared.id_hash_map.ref_mut.Shown.{Shown}
+use Rattle.iddqd_hash.specs.contracts.id_hash_map.IdHashMap as map
+use Rattle.iddqd_hash.specs.contracts.id_hash_map.ref_mut.RefMut as guard
+
+module _ {S T : Type 0} where
+  abbrev pub with_item_in : HashItems S T → ℕ → T → HashItems S T
+  with_item_in m slot w = record m { items = written_to_slot m.slots m.items slot w }
+
+  abbrev pub lent_map : RefMut T S → HashItems S T
+  lent_map r = r.map.now
+
+  abbrev pub lent_slot : RefMut T S → ℕ
+  lent_slot r = r.slot
+
+  abbrev pub lent_item : RefMut T S → Option T
+  lent_item r = item_of_slot r.map.now.slots r.map.now.items r.slot
+
+  abbrev pub lent_name : RefMut T S → GName
+  lent_name r = r.map.ghost_name
+
+  abbrev pub lent_with : RefMut T S → T → HashItems S T
+  lent_with r w = with_item_in r.map.now r.slot w
+
+  -- the guard, once w is written through it
+  abbrev pub with_item : RefMut T S → T → RefMut T S
+  with_item r w = record {
+    map = record r.map { now = with_item_in r.map.now r.slot w };
+    slot = r.slot;
+    spent = r.spent;
+    there = still_there r.map.now.slots r.map.now.items r.slot w r.there;
+  }
+
+  abbrev pub shown_map : Shown T S → HashItems S T
+  shown_map s = s.map.now
+
+  abbrev pub shown_item : Shown T S → Option T
+  shown_item s = item_of_slot s.map.now.slots s.map.now.items s.slot
+
+  abbrev pub shown_name : Shown T S → GName
+  shown_name s = s.map.ghost_name
+
+module _ (S T : RattleType) where
+  abbrev pub lends_item : MutBor (HashItems S.Denot T.Denot) → ℕ → MutBor T.Denot → Fml
+  lends_item m slot r = Lends (map.the_row T S) T m r (with_item_in m.now slot)
+
+  abbrev pub rests_at_none : MutBor (HashItems S.Denot T.Denot) → Option (RefMut T.Denot S.Denot) → Fml
+  rests_at_none m r = RestsIfNone (map.the_row T S) m lent_name r (λ n. n ≡ m.now)
+
+  abbrev pub item_follows : RefMut T.Denot S.Denot → MutBor T.Denot → Fml
+  item_follows r x = follows (map.the_row T S) T r.map.ghost_name x.ghost_name (with_item_in r.map.now r.slot)
+
+  -- the guard's lifetime is the second of the signature
+  abbrev pub guard_follows : MutBor (RefMut T.Denot S.Denot) → MutBor T.Denot → Fml
+  guard_follows g x =
+      follows (guard.the_row (record { mir = named 1; lft = [] }) T S) T g.ghost_name x.ghost_name (with_item g.now)

@@ -1,0 +1,90 @@
+-- What the calls of a hash map leave. `IsKeyed` tells that its items lie as lookups expect them.
+--     IsEmptyMap      there is no item, and no memory has been taken
+--     SpareFits      what is there and what is spare fit the limit together
+--     KeepsSpare      the spare stays (SpareStays of the core)
+--     HashInserts      the item was put in
+--     HashKeeps      nothing has changed but the room, which may have grown
+--     HashFills, HashExtends      items were put in, and all that came were
+--     HaveEqualItems      what `eq` of two maps says
+--     CloneHashesAlike      a hasher's clone hashes as it does
+use Rattle.std.specs.Prelude.{◌≡◌, ℕ, ◌+◌, ◌≤◌, [], List, length, Bool, true, All, IfErr, IsSomeAnd, Result}
+use Rattle.std.specs.Borrow.{Fml, RattleType, MutBor, Lends, LendsSoOk, unit}
+use Rattle.std.specs.Hash.{HashWrites}
+use Rattle.iddqd_store.specs.Adding.{AddsGiven, OnItemRefused, StopsAdding}
+use Rattle.iddqd_store.specs.Contents.{find_item}
+use Rattle.iddqd_store.specs.Holding.{FillsSlots, TakesItem, KeepsItems, SpareStays}
+use Rattle.iddqd_store.specs.Refusal.{OnDuplicate}
+use Rattle.iddqd_store.specs.declared.errors.ExtendUniqueError.{ExtendUniqueError}
+use Rattle.iddqd_store.specs.declared.errors.InsertError.{InsertError}
+use Rattle.iddqd_hash.specs.HashItems.{HashItems, held}
+use Rattle.iddqd_hash.specs.contracts.id_hash_map.IdHashMap.{the_row}
+
+module _ {S T : Type 0} where
+  abbrev pub IsEmptyMap : ℕ → HashItems S T → Type 0
+  IsEmptyMap limit m = m ≡ record m { items = []; slots = []; hashes = []; spare = 0; vacant = 0; capacity = 0; limit = limit }
+
+  abbrev pub SpareFits : HashItems S T → Type 0
+  SpareFits m = m.spare + length m.items ≤ m.limit
+
+  abbrev pub KeepsSpare : HashItems S T → HashItems S T → Type 0
+  KeepsSpare old new = SpareStays new.limit old.spare old.items new.spare new.items
+
+  module _ (IsKeyed : HashItems S T → Type 0) where
+    pub record HashInserts (x : T) (old new : HashItems S T) : Type 0 where
+      pub takes : TakesItem x (held old) (held new)
+      pub keyed : IsKeyed new
+      pub spare : KeepsSpare old new
+      pub hasher : new.hasher ≡ old.hasher
+
+    pub record HashKeeps (old new : HashItems S T) : Type 0 where
+      pub keeps : KeepsItems (held old) (held new)
+      pub keyed : IsKeyed new
+      pub spare : KeepsSpare old new
+      pub hasher : new.hasher ≡ old.hasher
+
+    pub record HashFills (old new : HashItems S T) : Type 0 where
+      pub fills : FillsSlots (held old) (held new)
+      pub keyed : IsKeyed new
+      pub spare : KeepsSpare old new
+      pub hasher : new.hasher ≡ old.hasher
+
+    -- all items that came were put in
+    pub record HashExtends {K : Type 0} (key : T → K) (eq : K → K → Bool) (gives : List T → Type 0) (old new : HashItems S T) : Type 0 where
+      pub given : AddsGiven key eq gives old.items new.items
+      pub fills : FillsSlots (held old) (held new)
+      pub keyed : IsKeyed new
+      pub spare : KeepsSpare old new
+      pub hasher : new.hasher ≡ old.hasher
+
+module _ {S T K : Type 0} (key : T → K) (key_eq : K → K → Bool) (eq : T → T → Bool) where
+  -- the item's key finds an item that is equal to it
+  abbrev pub FindsEqual : HashItems S T → T → Type 0
+  FindsEqual m x = IsSomeAnd (find_item key (key_eq (key x)) m.items) (λ y. eq x y ≡ true)
+
+  -- as many items in both, and each one's key finds an equal item in the other; no order plays a part (the crate's `==`)
+  pub record HaveEqualItems (one other : HashItems S T) : Type 0 where
+    pub as_many : length one.items ≡ length other.items
+    pub each_found : All (FindsEqual other) one.items
+
+-- each clone of the hasher gives every value the hash that the hasher gives it (ours, a premise of `clone`)
+abbrev pub CloneHashesAlike : {S : Type 0} → (S → S → Type 0) → (S → HashWrites → ℕ) → S → Type 0
+CloneHashesAlike is_clone hash hasher = (copy : _) → is_clone hasher copy → (writes : HashWrites) → hash copy writes ≡ hash hasher writes
+
+-- what the map is once what an insertion shows is let go: at `Ok` the item is in; at `Err` the items are as they were, and beside a duplicate all is
+abbrev pub ends_hash_inserted : (S T : RattleType) (IsKeyed : HashItems S.Denot T.Denot → Type 0) → MutBor (HashItems S.Denot T.Denot) → Result (MutBor unit.Denot) (InsertError T.Denot) → T.Denot → Fml
+ends_hash_inserted S T IsKeyed map result x =
+    LendsSoOk (the_row T S) unit map result
+    (λ new _. HashInserts IsKeyed x map.now new)
+    (λ new. HashKeeps IsKeyed map.now new × IfErr result (OnDuplicate (new ≡ map.now)))
+
+-- nothing of the map is lent
+abbrev pub lends_nothing : (S T : RattleType) → MutBor (HashItems S.Denot T.Denot) → MutBor unit.Denot → Fml
+lends_nothing S T map result = Lends (the_row T S) unit map result (λ _. map.now)
+
+-- what the map is once what `extend_unique` shows is let go: at `Ok` all items are in, and at `Err` those before the one that was not put in; as many new keys
+-- as were spare are taken before one finds no room
+abbrev pub ends_hash_extended : (S T : RattleType) {K : Type 0} (key : T.Denot → K) (eq : K → K → Bool) (IsKeyed : HashItems S.Denot T.Denot → Type 0) (gives_all : List T.Denot → Type 0) (gives_then : List T.Denot → T.Denot → Type 0) → MutBor (HashItems S.Denot T.Denot) → Result (MutBor unit.Denot) (ExtendUniqueError T.Denot) → Fml
+ends_hash_extended S T key eq IsKeyed gives_all gives_then map result =
+    LendsSoOk (the_row T S) unit map result
+    (λ new _. HashExtends IsKeyed key eq gives_all map.now new)
+    (λ new. HashFills IsKeyed map.now new × IfErr result (StopsAdding key eq gives_then (held map.now) (held new)) × IfErr result (OnItemRefused (map.now.spare + length map.now.items ≤ length new.items)))

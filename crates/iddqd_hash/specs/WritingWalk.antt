@@ -1,0 +1,35 @@
+-- What a contract sees of a walk that lends the items of a hash map for writing (the crate's `IterMut`).
+--     walk_map, walk_name, walk_done      the map as the walk holds it, the name of the reference to it, how many items it has lent
+--     walk_lends      the walk ends with the last value written to the item, and one item further
+use Rattle.std.specs.Prelude.{ℕ, ◌+◌, [], Option, slice_set}
+use Rattle.std.specs.Borrow.{Fml, GName, RattleType, MutBor, LendsIf}
+use Rattle.std.proofs.Common.{refl}
+use mir.Syntax.{named}
+use Rattle.iddqd_hash.specs.HashItems.{HashItems}
+use Rattle.iddqd_hash.specs.SlotOrder.{behind}
+use Rattle.iddqd_hash.specs.declared.id_hash_map.iter_mut.IterMut.{IterMut}
+use Rattle.iddqd_hash.specs.contracts.id_hash_map.iter_mut.IterMut as walk
+
+module _ {S T : Type 0} where
+  abbrev pub walk_map : IterMut T S → HashItems S T
+  walk_map w = w.map.now
+
+  abbrev pub walk_name : IterMut T S → GName
+  walk_name w = w.map.ghost_name
+
+  abbrev pub walk_done : IterMut T S → ℕ
+  walk_done w = w.done
+
+  -- the walk once x is written to the item that it lent
+  abbrev pub with_next : IterMut T S → T → IterMut T S
+  with_next w x = record {
+    map = record w.map { now = record w.map.now { items = slice_set w.map.now.items w.done x } };
+    done = w.done + 1;
+    next = behind w.map.now.slots (w.done + 1);
+    from = refl;
+  }
+
+module _ (S T : RattleType) where
+  -- the walk's lifetime is the second of the signature
+  abbrev pub walk_lends : MutBor (IterMut T.Denot S.Denot) → Option (MutBor T.Denot) → Fml
+  walk_lends w r = LendsIf (walk.the_row (record { mir = named 1; lft = [] }) T S) T w r (with_next w.now) w.now

@@ -1,0 +1,213 @@
+//! A hash map over an item store and a hash index.
+ghost use Rattle.std.specs.Prelude.{◌≡◌, min, ◌↔◌, ◌+◌, ◌≤◌, [], length, IsTrue};
+ghost use Rattle.iddqd_store.specs.Hashing.{hash_under};
+ghost use Rattle.iddqd_store.specs.SlotItems.{HaveSlots};
+
+mod clone;
+mod collect;
+mod compact;
+pub mod entry;
+mod equality;
+mod extend_unique;
+mod imp;
+mod insert;
+mod into_iter;
+mod iter;
+pub mod iter_mut;
+mod lent;
+mod paired;
+pub mod ref_mut;
+mod retain;
+mod room;
+mod slots;
+mod validate;
+
+pub use entry::{Entry, OccupiedEntry, VacantEntry};
+use iddqd_hash_index::HashIndex;
+pub use iddqd_store::IdHashItem;
+use iddqd_store::{ItemStore, MAX_ITEMS};
+pub use into_iter::IntoIter;
+pub use iter::Iter;
+pub use iter_mut::IterMut;
+pub use ref_mut::{RefMut, Shown};
+use std::alloc::Global;
+use std::hash::{BuildHasher, BuildHasherDefault, FoldHasher, Hasher};
+use std::marker::Model;
+
+/// The hasher's builder where none is named: std's, with the fixed seed. Where strangers choose the keys, hand in a
+/// `RandomState` instead.
+pub type DefaultHashBuilder = BuildHasherDefault<FoldHasher>;
+
+/// Items of pairwise different keys, in no order that a caller may rely on (the crate's `IdHashMap`). Each item lies in
+/// a numbered slot of a store, and an index finds the slot by the hash of the key that the item shows. Contracts see the
+/// items, each with its slot and its stored hash, the hasher, `spare`, how many slots are vacant, the capacity and the limit.
+pub struct IdHashMap<T, S = DefaultHashBuilder> {
+    store: ItemStore<T>,
+    index: HashIndex,
+    hasher: S,
+    // What an insertion lends where it succeeds, so that its caller learns what the map is then.
+    done: (),
+}
+
+// Not derived: the proof of a function has a derived drop field by field wherever it drops a map, and this one as a call.
+impl<T: Drop, S: Drop> Drop for IdHashMap<T, S> {
+    fn drop(self) {
+        let IdHashMap {
+            store: _,
+            index: _,
+            hasher: _,
+            done: _,
+        } = self;
+    }
+}
+
+impl<T, S> Model for IdHashMap<T, S> {
+    ghost use Rattle.iddqd_hash.specs.HashItems.{HashItems, hash_items_code};
+    ghost use Rattle.iddqd_hash.specs.Paired.{PairsOccupied, shown};
+
+    ghost Value = { HashItems S T };
+
+    ghost coded = { hash_items_code S.code T.code };
+
+    ghost view = { λ m. shown m.store m.index m.hasher };
+
+    ghost invariant = { λ m. PairsOccupied m.store m.index.pairs };
+}
+
+/// What a map asks of its items before they can be looked for (ours). It has no code: contracts cite it.
+pub trait Lookups {
+    // The items lie as lookups expect them.
+    ghost keyed: { Self → Type 0 };
+}
+
+impl<T: IdHashItem, S: BuildHasher> Lookups for IdHashMap<T, S> {
+    ghost use Rattle.iddqd_hash.specs.HashItems.{Keyed};
+
+    ghost keyed = { Keyed T.key T.Key.eq T.Key.hash_input (hash_under S.BuildHasher S.Hasher.Hasher) };
+}
+
+impl<T, S> IdHashMap<T, S> {
+    ghost use Rattle.iddqd_hash.specs.HashMap.{SpareFits};
+
+    /// How many items there are. It counts none of them.
+    #[inline]
+    pub fn len(&self) -> usize
+        ensures len { result ≡ length self.now.items }
+        ensures within_limit { result ≤ self.now.limit }
+        ensures spare { SpareFits self.now }
+        ensures slots { HaveSlots self.now.slots self.now.items }
+    {
+        self.store.len()
+    }
+
+    /// Whether there is no item.
+    #[inline]
+    pub fn is_empty(&self) -> bool
+        ensures { IsTrue result ↔ (self.now.items ≡ []) }
+    {
+        self.len() == 0
+    }
+
+    /// How many items fit before the store needs memory.
+    #[inline]
+    pub fn capacity(&self) -> usize
+        ensures number { result ≡ self.now.capacity }
+        ensures holds { self.now.spare + length self.now.items ≤ result }
+    {
+        self.store.capacity()
+    }
+
+    /// How many items of new keys the map takes without a refusal (ours). It counts none of them.
+    #[inline]
+    pub fn spare(&self) -> usize
+        ensures number { result ≡ self.now.spare }
+        ensures within_limit { SpareFits self.now }
+    {
+        let len = self.store.len();
+        let in_store = self.store.capacity().min(self.store.limit() as usize) - len;
+        self.index.spare().min(in_store)
+    }
+
+    /// How many slots are vacant, as removed items left them (ours). It counts none of them.
+    #[inline]
+    pub fn vacant(&self) -> u32
+        ensures { result ≡ self.now.vacant }
+    {
+        self.store.vacant()
+    }
+
+    /// The most items that the map ever holds (ours).
+    #[inline]
+    pub fn limit(&self) -> u32
+        ensures { result ≡ self.now.limit }
+    {
+        self.store.limit()
+    }
+}
+
+impl<T: IdHashItem> IdHashMap<T> {
+    ghost use Rattle.iddqd_hash.specs.HashMap.{IsEmptyMap};
+
+    /// A map without items, over the default hasher. It takes no memory.
+    pub fn new(alloc: Global) -> Self
+        ensures empty { IsEmptyMap MAX_ITEMS result }
+        ensures keyed { ⟦<IdHashMap<T> as Lookups>⟧.keyed result }
+    {
+        IdHashMap::with_hasher(alloc, DefaultHashBuilder::new())
+    }
+}
+
+impl<T: IdHashItem, S: BuildHasher> IdHashMap<T, S> {
+    ghost use Rattle.iddqd_hash.specs.HashMap.{IsEmptyMap, KeepsSpare};
+
+    /// A map without items, over the hasher that is handed in. It takes no memory.
+    pub fn with_hasher(alloc: Global, hasher: S) -> Self
+        ensures empty { IsEmptyMap MAX_ITEMS result }
+        ensures hasher { result.hasher ≡ hasher }
+        ensures keyed { ⟦<IdHashMap<T, S> as Lookups>⟧.keyed result }
+    {
+        IdHashMap::with_limit(alloc, MAX_ITEMS, hasher)
+    }
+
+    /// A map without items that never holds more than `limit` (ours: the crate leaves open where a map is full). It takes
+    /// no memory.
+    pub fn with_limit(alloc: Global, limit: u32, hasher: S) -> Self
+        ensures empty { IsEmptyMap limit result }
+        ensures hasher { result.hasher ≡ hasher }
+        ensures keyed { ⟦<IdHashMap<T, S> as Lookups>⟧.keyed result }
+    {
+        IdHashMap::over(ItemStore::new(alloc, limit), HashIndex::new(alloc), hasher)
+    }
+
+    // The map over a store without slots and an index without pairs.
+    fn over(store: ItemStore<T>, index: HashIndex, hasher: S) -> Self
+        requires no_slot { store.slots ≡ [] }
+        requires no_pair { index.pairs ≡ [] }
+        ensures empty { result ≡ record { items = []; slots = []; hashes = []; hasher = hasher; spare = min index.spare (min store.capacity store.limit); vacant = 0; capacity = store.capacity; limit = store.limit } }
+        ensures keyed { ⟦<IdHashMap<T, S> as Lookups>⟧.keyed result }
+    {
+        IdHashMap {
+            store,
+            index,
+            hasher,
+            done: (),
+        }
+    }
+
+    /// Drops every item, and leaves no slot. The capacity stays, and the room of the items is spare again. It takes no memory.
+    pub fn clear(&mut self)
+    where
+        T: Drop,
+        ensures items { self.new.items ≡ [] }
+        ensures slots { self.new.slots ≡ [] }
+        ensures vacant { self.new.vacant ≡ 0 }
+        ensures spare { KeepsSpare self.old self.new }
+        ensures capacity { self.new.capacity ≡ self.old.capacity }
+        ensures limit { self.new.limit ≡ self.old.limit }
+        ensures hasher { self.new.hasher ≡ self.old.hasher }
+        ensures keyed { ⟦<IdHashMap<T, S> as Lookups>⟧.keyed self.new }
+    {
+        self.store.clear();
+        self.index.clear();
+    }
+}

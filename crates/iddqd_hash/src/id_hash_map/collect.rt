@@ -1,0 +1,140 @@
+//! Many items at once, from an iterator.
+ghost use Rattle.std.specs.Prelude.{◌≡◌, ◌+◌, ◌≤◌, [], List, length, IfOk, IfErr, IfNone, IfSome, OnOk};
+ghost use Rattle.std.specs.Iterator.{IsFiniteIterable};
+ghost use Rattle.iddqd_store.specs.Collecting.{GivesAll, GivesThen, OverwritesAll, ShowsAkin, ShowsFirstRepeat};
+ghost use Rattle.iddqd_store.specs.Contents.{IsAbsent, NoTwoAkin, SameInAnyOrder};
+ghost use Rattle.iddqd_store.specs.Holding.{FillsSlots};
+ghost use Rattle.iddqd_store.specs.Refusal.{FindsNoRoom};
+
+use super::paired::{find_slot, take_out};
+use super::{IdHashMap, Lookups};
+use iddqd_store::{
+    DuplicateItem, ExtendError, Few, FromIterError, IdHashItem, MAX_ITEMS, TryReserveError,
+    likely_new,
+};
+use std::alloc::Global;
+use std::hash::BuildHasher;
+
+impl<T: IdHashItem, S: BuildHasher> IdHashMap<T, S> {
+    ghost use Rattle.iddqd_hash.specs.HashItems.{held};
+    ghost use Rattle.iddqd_hash.specs.HashMap.{HashInserts, HashKeeps, KeepsSpare, SpareFits};
+
+    /// Puts in the items one after the other, each in the stead of one of an equal key (the crate's `Extend`, a function
+    /// here, since it can refuse). Room is made before an item is asked for: for as many as the iterator announces at least
+    /// where the map is empty, and else for half of them, rounded up; where that is refused, the error has no item and the
+    /// items are as they were. Else the first item that is refused comes back, those before it stay, and the rest of the
+    /// iterator is dropped; as many new keys as were spare are taken before that. What an iterator announces costs at most
+    /// a refusal or memory. It hashes each item's key once and searches once for it.
+    pub fn extend<U: IntoIterator<Item = T>>(&mut self, iter: U) -> Result<(), ExtendError<T>>
+    where
+        T: Drop,
+        requires keyed { ⟦<IdHashMap<T, S> as Lookups>⟧.keyed self.old }
+        requires ends { IsFiniteIterable U.into_iter_gives U.IntoIter.can_next U.IntoIter.remaining iter }
+        ensures taken { OnOk result ((xs : List T) × GivesAll U.into_iter_gives U.IntoIter.next_gives iter xs × OverwritesAll T.key T.Key.eq self.old.limit xs self.old.items self.new.items) }
+        ensures stopped { IfErr result (λ e. IfSome e.item (λ x. (xs : List T) × GivesThen U.into_iter_gives U.IntoIter.next_gives iter xs x × OverwritesAll T.key T.Key.eq self.old.limit xs self.old.items self.new.items × FindsNoRoom T.key T.Key.eq self.old.limit self.new.items x e.error)) }
+        ensures spare_first { IfErr result (λ e. IfSome e.item (λ x. self.old.spare + length self.old.items ≤ length self.new.items)) }
+        ensures not_begun { IfErr result (λ e. IfNone e.item (HashKeeps ⟦<IdHashMap<T, S> as Lookups>⟧.keyed self.old self.new)) }
+        ensures fills { FillsSlots (held self.old) (held self.new) }
+        ensures spare { KeepsSpare self.old self.new }
+        ensures hasher { self.new.hasher ≡ self.old.hasher }
+        ensures keyed { ⟦<IdHashMap<T, S> as Lookups>⟧.keyed self.new }
+    {
+        let items = iter.into_iter();
+        let room = likely_new(self.len(), items.size_hint().0);
+        if let Err(error) = self.reserve(room) {
+            return Err(ExtendError { item: None, error });
+        }
+        for item in items {
+            match self.insert_overwrite(item) {
+                Ok(replaced) => drop(replaced),
+                Err(refused) => {
+                    return Err(ExtendError {
+                        item: Some(refused.item),
+                        error: refused.error,
+                    });
+                }
+            }
+        }
+        Ok(())
+    }
+
+    /// A map of the iterator's items, as `extend` puts them into one without items, over the hasher of `S::default`: of
+    /// equal keys the last item stays (the crate's `FromIterator`, a function here, since it can refuse). Where room is
+    /// refused, what was collected is dropped.
+    pub fn from_iter<U: IntoIterator<Item = T>>(
+        alloc: Global,
+        iter: U,
+    ) -> Result<Self, TryReserveError>
+    where
+        T: Drop,
+        S: Default + Drop,
+        requires ends { IsFiniteIterable U.into_iter_gives U.IntoIter.can_next U.IntoIter.remaining iter }
+        ensures items { IfOk result (λ m. (xs : List T) × GivesAll U.into_iter_gives U.IntoIter.next_gives iter xs × OverwritesAll T.key T.Key.eq MAX_ITEMS xs [] m.items) }
+        ensures vacant { IfOk result (λ m. m.vacant ≡ 0) }
+        ensures limit { IfOk result (λ m. m.limit ≡ MAX_ITEMS) }
+        ensures spare { IfOk result SpareFits }
+        ensures hasher { IfOk result (λ m. S.is_default m.hasher) }
+        ensures keyed { IfOk result ⟦<IdHashMap<T, S> as Lookups>⟧.keyed }
+    {
+        let mut map = IdHashMap::with_hasher(alloc, S::default());
+        match map.extend(iter) {
+            Ok(()) => Ok(map),
+            Err(stopped) => Err(stopped.error),
+        }
+    }
+
+    /// A map of the iterator's items, if no two have equal keys, over the hasher of `S::default` (the crate's call, which
+    /// answers the duplicate alone where it does not panic or abort). At the first item whose key came before it stops, and
+    /// answers it as the new one beside the earlier one, which is taken out. Room for as many items as the iterator
+    /// announces at least is made before one is asked for. In each error all else that was collected is dropped, and so is
+    /// the rest of the iterator. It hashes each item's key once and searches once for it.
+    pub fn from_iter_unique<U: IntoIterator<Item = T>>(
+        alloc: Global,
+        iter: U,
+    ) -> Result<Self, FromIterError<T>>
+    where
+        T: Drop,
+        S: Default + Drop,
+        requires ends { IsFiniteIterable U.into_iter_gives U.IntoIter.can_next U.IntoIter.remaining iter }
+        ensures items { IfOk result (λ m. (xs : List T) × GivesAll U.into_iter_gives U.IntoIter.next_gives iter xs × NoTwoAkin T.key T.Key.eq xs × SameInAnyOrder xs m.items) }
+        ensures repeat { IfErr result (ShowsFirstRepeat T.key T.Key.eq (GivesThen U.into_iter_gives U.IntoIter.next_gives iter)) }
+        ensures vacant { IfOk result (λ m. m.vacant ≡ 0) }
+        ensures limit { IfOk result (λ m. m.limit ≡ MAX_ITEMS) }
+        ensures spare { IfOk result SpareFits }
+        ensures hasher { IfOk result (λ m. S.is_default m.hasher) }
+        ensures keyed { IfOk result ⟦<IdHashMap<T, S> as Lookups>⟧.keyed }
+    {
+        let items = iter.into_iter();
+        let announced = items.size_hint().0;
+        let mut map = match IdHashMap::with_capacity_and_hasher(alloc, announced, S::default()) {
+            Ok(map) => map,
+            Err(error) => return Err(FromIterError::Refused(error)),
+        };
+        for item in items {
+            map.insert_first(item)?;
+        }
+        Ok(map)
+    }
+
+    // Inserts the item where none of an equal key is there; else takes that one out and answers both.
+    fn insert_first(&mut self, item: T) -> Result<(), FromIterError<T>>
+    where
+        T: Drop,
+        requires keyed { ⟦<IdHashMap<T, S> as Lookups>⟧.keyed self.old }
+        ensures inserted { OnOk result (HashInserts ⟦<IdHashMap<T, S> as Lookups>⟧.keyed item self.old self.new) }
+        ensures absent { OnOk result (IsAbsent T.key (T.Key.eq (T.key item)) self.old.items) }
+        ensures akin { IfErr result (ShowsAkin T.key T.Key.eq self.old.items item) }
+    {
+        let hash = self.hasher.hash_one(item.key());
+        match find_slot(&self.store, &self.index, hash, item.key()) {
+            Some(slot) => {
+                let earlier = Few::One(take_out(&mut self.store, &mut self.index, hash, slot));
+                Err(FromIterError::Duplicate(DuplicateItem::internal_new(item, earlier)))
+            }
+            None => match self.insert_new(hash, item) {
+                Ok(_) => Ok(()),
+                Err(refused) => Err(FromIterError::Refused(refused.error)),
+            },
+        }
+    }
+}

@@ -1,0 +1,67 @@
+//! Entries: the place of an item in a map, or a map that lacks one.
+ghost use Rattle.std.specs.Prelude.{◌≡◌, IfSome, IsSome, IsTrue, Some};
+ghost use Rattle.iddqd_store.specs.Contents.{find_item, replaced, without};
+ghost use Rattle.iddqd_store.specs.Hashing.{HashesAs};
+ghost use Rattle.iddqd_store.specs.SlotItems.{item_of_slot};
+
+mod inserting;
+mod methods;
+mod occupied;
+mod vacant;
+
+use super::paired::find_slot;
+use super::{DefaultHashBuilder, IdHashMap, Lookups};
+use iddqd_store::{Equivalent, IdHashItem};
+use std::hash::{BuildHasher, Hash};
+
+/// What `entry` finds (the crate's `Entry`). One that is let go changes nothing more.
+#[derive(Drop)]
+pub enum Entry<'a, T, S = DefaultHashBuilder> {
+    /// No item has a key that the query stands for.
+    Vacant(VacantEntry<'a, T, S>),
+    /// The item that the query finds.
+    Occupied(OccupiedEntry<'a, T, S>),
+}
+
+/// A map that lacks the item that was asked for (the crate's `VacantEntry`).
+#[derive(Drop)]
+pub struct VacantEntry<'a, T, S = DefaultHashBuilder> {
+    pub(super) map: &'a mut IdHashMap<T, S>,
+}
+
+/// An item of a map (the crate's `OccupiedEntry`). It holds the item's slot, and the hash that a removal needs.
+#[derive(Drop)]
+pub struct OccupiedEntry<'a, T, S = DefaultHashBuilder> {
+    pub(super) map: &'a mut IdHashMap<T, S>,
+    pub(super) slot: u32,
+    pub(super) hash: u64,
+    ghost there: { IsSome (item_of_slot map.now.slots map.now.items slot) },
+    ghost listed: { item_of_slot map.now.slots map.now.hashes slot ≡ Some hash },
+}
+
+impl<T: IdHashItem, S: BuildHasher> IdHashMap<T, S> {
+    ghost use Rattle.iddqd_hash.specs.Entry.{entry_item, entry_map, entry_name, entry_others, entry_with};
+
+    /// The entry of the query: occupied where it finds an item. It hashes the query once, makes as many comparisons as `get`,
+    /// takes no memory, and changes nothing.
+    pub fn entry<Q: Hash + Equivalent<T::Key>>(&mut self, query: &Q) -> Entry<'_, T, S>
+        requires keyed { ⟦<IdHashMap<T, S> as Lookups>⟧.keyed self.old }
+        requires hashes { HashesAs (Q.equivalent query.now) (Q.hash_input query.now) T.Key.hash_input }
+        ensures same_map { entry_name result ≡ self.entry.ghost_name }
+        ensures unchanged { entry_map result ≡ self.old }
+        ensures found { entry_item result ≡ find_item T.key (Q.equivalent query.now) self.old.items }
+        ensures answers { IfSome (entry_item result) (λ x. IsTrue (Q.equivalent query.now (T.key x))) }
+        ensures written { (w : T) → (entry_with result w).items ≡ replaced T.key (Q.equivalent query.now) w self.old.items }
+        ensures others { entry_others result ≡ without T.key (Q.equivalent query.now) self.old.items }
+    {
+        let hash = self.hasher.hash_one(query);
+        match find_slot(&self.store, &self.index, hash, query) {
+            Some(slot) => Entry::Occupied(OccupiedEntry {
+                map: self,
+                slot,
+                hash,
+            }),
+            None => Entry::Vacant(VacantEntry { map: self }),
+        }
+    }
+}

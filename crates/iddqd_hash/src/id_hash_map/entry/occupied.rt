@@ -1,0 +1,100 @@
+//! The item of an entry: read, lent, replaced, taken out. None of this looks for it again, and none takes memory.
+ghost use Rattle.std.specs.Prelude.{◌≡◌, ◌+◌, IfSome, IsTrue, Some};
+ghost use Rattle.std.specs.Borrow.{sem};
+ghost use Rattle.iddqd_store.specs.Holding.{LeavesSlot};
+ghost use Rattle.iddqd_hash.specs.Entry.{Occupied, entry_follows, entry_item, entry_map, entry_name, entry_others, entry_slot, entry_with};
+ghost use Rattle.iddqd_hash.specs.Guard.{lent_item, lent_map, lent_name, lent_slot, lent_with, shown_item, shown_map, shown_name};
+ghost use Rattle.iddqd_hash.specs.HashItems.{held};
+ghost use Rattle.iddqd_hash.specs.HashMap.{KeepsSpare};
+
+use super::OccupiedEntry;
+use crate::id_hash_map::{IdHashMap, Lookups, RefMut, Shown};
+use iddqd_store::IdHashItem;
+use std::hash::BuildHasher;
+use std::mem;
+
+impl<'a, T, S> OccupiedEntry<'a, T, S> {
+    /// The item.
+    #[inline]
+    pub fn get(&self) -> &T
+        ensures { entry_item (Occupied self.now) ≡ Some result.now }
+    {
+        self.map.item_in(self.slot)
+    }
+
+    /// The item, for writing while the entry is lent (ours: the crate's answers a guard). Whoever writes keeps the key, or
+    /// the map behind the entry is not keyed any more.
+    #[inline]
+    pub fn get_mut(&mut self) -> &mut T
+        ensures* writes_back { sem 𝓛 (entry_follows S.row T.row self.entry result) }
+        ensures value { entry_item (Occupied self.old) ≡ Some result.now }
+    {
+        let slot = self.slot;
+        self.map.item_mut(slot)
+    }
+
+    /// Shows the item for as long as the map is lent (ours: the crate's answers a plain reference).
+    #[inline]
+    pub fn into_ref(self) -> Shown<'a, T, S>
+        ensures same_map { shown_name result ≡ entry_name (Occupied self.entry) }
+        ensures map { shown_map result ≡ entry_map (Occupied self.entry) }
+        ensures item { shown_item result ≡ entry_item (Occupied self.entry) }
+    {
+        let OccupiedEntry { map, slot, hash: _ } = self;
+        Shown { map, slot }
+    }
+}
+
+impl<'a, T: IdHashItem, S: BuildHasher> OccupiedEntry<'a, T, S> {
+    /// Lends the item for as long as the map is lent. The guard has to be spent.
+    #[inline]
+    pub fn into_mut(self) -> RefMut<'a, T, S>
+        requires keyed { ⟦<IdHashMap<T, S> as Lookups>⟧.keyed (entry_map (Occupied self)) }
+        ensures same_map { lent_name result ≡ entry_name (Occupied self.entry) }
+        ensures lent { lent_map result ≡ entry_map (Occupied self.entry) }
+        ensures slot { lent_slot result ≡ entry_slot self.entry }
+        ensures keyed { (x w : T) → lent_item result ≡ Some x → T.key w ≡ T.key x → ⟦<IdHashMap<T, S> as Lookups>⟧.keyed (lent_with result w) }
+        ensures keyed_akin { (x w : T) → lent_item result ≡ Some x → IsTrue (T.Key.eq (T.key x) (T.key w)) → ⟦<IdHashMap<T, S> as Lookups>⟧.keyed (lent_with result w) }
+    {
+        let OccupiedEntry { map, slot, hash: _ } = self;
+        RefMut {
+            map,
+            slot,
+            spent: false,
+        }
+    }
+
+    /// Puts the item, whose key is equal to the entry's, in the stead of the one there, which it answers: the whole item,
+    /// its key's spelling too. It hashes and compares no keys.
+    pub fn insert(&mut self, item: T) -> T
+        requires keyed { ⟦<IdHashMap<T, S> as Lookups>⟧.keyed (entry_map (Occupied self.old)) }
+        requires akin { IfSome (entry_item (Occupied self.old)) (λ x. IsTrue (T.Key.eq (T.key item) (T.key x))) }
+        ensures old { entry_item (Occupied self.old) ≡ Some result }
+        ensures new { entry_item (Occupied self.new) ≡ Some item }
+        ensures same_map { entry_name (Occupied self.new) ≡ entry_name (Occupied self.old) }
+        ensures map { entry_map (Occupied self.new) ≡ entry_with (Occupied self.old) item }
+        ensures slot { entry_slot self.new ≡ entry_slot self.old }
+        ensures others { entry_others (Occupied self.new) ≡ entry_others (Occupied self.old) }
+        ensures keyed { ⟦<IdHashMap<T, S> as Lookups>⟧.keyed (entry_map (Occupied self.new)) }
+    {
+        mem::replace(self.get_mut(), item)
+    }
+
+    /// Takes the item out, and answers it. Its slot is vacant then, and its room is spare. It hashes and compares no keys.
+    pub fn remove(self) -> T
+        requires keyed { ⟦<IdHashMap<T, S> as Lookups>⟧.keyed (entry_map (Occupied self)) }
+        ensures value { entry_item (Occupied self.entry) ≡ Some result }
+        ensures items { self.exit.0.now.items ≡ entry_others (Occupied self.entry) }
+        ensures slots { LeavesSlot result (held (entry_map (Occupied self.entry))) (held self.exit.0.now) }
+        ensures vacant { self.exit.0.now.vacant ≡ (entry_map (Occupied self.entry)).vacant + 1 }
+        ensures spare { KeepsSpare (entry_map (Occupied self.entry)) self.exit.0.now }
+        ensures capacity { self.exit.0.now.capacity ≡ (entry_map (Occupied self.entry)).capacity }
+        ensures limit { self.exit.0.now.limit ≡ (entry_map (Occupied self.entry)).limit }
+        ensures hasher { self.exit.0.now.hasher ≡ (entry_map (Occupied self.entry)).hasher }
+        ensures keyed { ⟦<IdHashMap<T, S> as Lookups>⟧.keyed self.exit.0.now }
+    {
+        let slot = self.slot;
+        let hash = self.hash;
+        self.map.take_hashed(hash, slot)
+    }
+}

@@ -1,0 +1,43 @@
+//! Equality of two maps.
+ghost use Rattle.std.specs.Prelude.{◌↔◌, IsTrue};
+
+use super::{IdHashMap, Lookups};
+use iddqd_store::IdHashItem;
+use std::hash::BuildHasher;
+
+impl<T: IdHashItem, S: BuildHasher> IdHashMap<T, S> {
+    ghost use Rattle.iddqd_hash.specs.HashMap.{FindsEqual, HaveEqualItems};
+
+    /// Whether there are as many items in both, and each item's key finds an equal item in the other, by the items' own
+    /// `==`. No order and no hasher plays a part (a function: the crate's is the trait `PartialEq`, which asks nothing of
+    /// the maps). It looks each item up, and takes no memory.
+    pub fn eq(&self, other: &Self) -> bool
+    where
+        T: PartialEq,
+        requires keyed { ⟦<IdHashMap<T, S> as Lookups>⟧.keyed other.now }
+        ensures { IsTrue result ↔ HaveEqualItems T.key T.Key.eq T.eq self.now other.now }
+    {
+        if self.len() != other.len() {
+            return false;
+        }
+        for item in self.iter() {
+            if !other.has_equal(item) {
+                return false;
+            }
+        }
+        true
+    }
+
+    // Whether the item's key finds an equal one.
+    fn has_equal(&self, item: &T) -> bool
+    where
+        T: PartialEq,
+        requires keyed { ⟦<IdHashMap<T, S> as Lookups>⟧.keyed self.now }
+        ensures { IsTrue result ↔ FindsEqual T.key T.Key.eq T.eq self.now item.now }
+    {
+        match self.get(item.key()) {
+            Some(found) => *item == *found,
+            None => false,
+        }
+    }
+}

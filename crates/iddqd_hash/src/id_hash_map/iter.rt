@@ -1,0 +1,105 @@
+//! Reading walks, in no order that a caller may rely on. Contracts see the items that are still to come.
+ghost use Rattle.std.specs.Prelude.{◌≡◌, ◌<◌, ◌≤◌, length, IfNone, IfSome, None};
+ghost use Rattle.std.specs.Iterator.{UpTo, YieldsFirstRef, at_most, item_count};
+ghost use Rattle.std.specs.Iterator.SizeHint.{IsWithinCount};
+ghost use Rattle.iddqd_hash.specs.Walked.{AreVacant, IsFirstOccupied};
+
+use super::IdHashMap;
+use iddqd_store::ItemStore;
+use std::iter::FusedIterator;
+use std::marker::Model;
+
+/// The items of a map, lent one after the other in no order that a caller may rely on (the crate's `Iter`). The whole
+/// walk looks at each slot once, and compares no keys.
+#[derive(Drop)]
+pub struct Iter<'a, T> {
+    store: &'a ItemStore<T>,
+    // The slot to go on from.
+    next: u32,
+    // How many items are still to come.
+    left: usize,
+}
+
+impl<'a, T> Model for Iter<'a, T> {
+    ghost use Rattle.std.specs.Prelude.{◌≡◌, List, length};
+    ghost use Rattle.iddqd_hash.specs.Walked.{items_from};
+
+    ghost Value = { List T };
+
+    ghost view = { λ it. items_from it.store.now it.next };
+
+    ghost invariant = { λ it. it.left ≡ length (items_from it.store.now it.next) };
+}
+
+impl<'a, T> Iterator for Iter<'a, T> {
+    type Item = &'a T;
+
+    ghost next_gives = { YieldsFirstRef (λ rest. rest) };
+
+    ghost remaining = { item_count (λ rest. rest) };
+
+    fn next(&mut self) -> Option<&'a T> {
+        if self.left == 0 {
+            return None;
+        }
+        let slot = occupied_from(self.store, self.next)?;
+        self.next = slot + 1;
+        self.left -= 1;
+        self.store.get(slot)
+    }
+
+    fn size_hint(&self) -> (usize, Option<usize>)
+        ensures exact { result ≡ (length self.now, Some (length self.now)) }
+        ensures lower { IsWithinCount result.0 (at_most (length self.now)) }
+        ensures upper { IfSome result.1 (UpTo (at_most (length self.now))) }
+    {
+        (self.left, Some(self.left))
+    }
+}
+
+impl<'a, T> ExactSizeIterator for Iter<'a, T> {
+    fn len(&self) -> usize {
+        self.left
+    }
+}
+
+impl<'a, T> FusedIterator for Iter<'a, T> {}
+
+impl<T, S> IdHashMap<T, S> {
+    /// The items, in no order that a caller may rely on. The walk looks at vacant slots too; it takes no memory.
+    pub fn iter(&self) -> Iter<'_, T>
+        ensures { result ≡ self.now.items }
+    {
+        Iter {
+            store: &self.store,
+            next: 0,
+            left: self.store.len(),
+        }
+    }
+}
+
+impl<'a, T, S> IntoIterator for &'a IdHashMap<T, S> {
+    type Item = &'a T;
+
+    type IntoIter = Iter<'a, T>;
+
+    ghost into_iter_gives = { λ map it. it ≡ map.now.items };
+
+    fn into_iter(self) -> Iter<'a, T> {
+        self.iter()
+    }
+}
+
+// The first occupied slot from there on.
+pub(super) fn occupied_from<T>(store: &ItemStore<T>, from: u32) -> Option<u32>
+    ensures some { IfSome result (IsFirstOccupied store.now from) }
+    ensures none { IfNone result (AreVacant store.now from (length store.now.slots)) }
+    ensures below { IfSome result (λ slot. slot < u32.MAX) }
+{
+    for slot in from..store.slots() {
+        if store.get(slot).is_some() {
+            return Some(slot);
+        }
+    }
+    None
+}

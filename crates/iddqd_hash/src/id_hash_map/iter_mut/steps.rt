@@ -1,0 +1,54 @@
+//! Making a writing walk, and its steps.
+ghost use Rattle.std.specs.Prelude.{◌≡◌, ◌-◌, ◌<◌, ◌↔◌, IsSome, length, slice_get};
+ghost use Rattle.std.specs.Borrow.{sem};
+ghost use Rattle.std.specs.Option.{option_copied_mut};
+ghost use Rattle.iddqd_hash.specs.WritingWalk.{walk_map, walk_name, walk_done, walk_lends};
+
+use super::IterMut;
+use crate::id_hash_map::{IdHashMap, Lookups};
+use iddqd_store::IdHashItem;
+use std::hash::BuildHasher;
+
+impl<T: IdHashItem, S: BuildHasher> IdHashMap<T, S> {
+    /// A walk over the items that lends each once. It hashes nothing and compares no keys; whoever writes keeps each key,
+    /// or the map is not keyed any more.
+    #[inline]
+    pub fn iter_mut(&mut self) -> IterMut<'_, T, S>
+        requires keyed { ⟦<IdHashMap<T, S> as Lookups>⟧.keyed self.old }
+        ensures same_map { walk_name result ≡ self.entry.ghost_name }
+        ensures unchanged { walk_map result ≡ self.old }
+        ensures start { walk_done result ≡ 0 }
+    {
+        IterMut {
+            map: self,
+            done: 0,
+            next: 0,
+        }
+    }
+}
+
+impl<T, S> IterMut<'_, T, S> {
+    /// How many items are to come.
+    #[inline]
+    pub fn len(&self) -> usize
+        ensures { result ≡ length (walk_map self.now).items - walk_done self.now }
+    {
+        self.map.len().saturating_sub(self.done)
+    }
+
+    /// The next item, for writing, or `None` for good where each was lent. It looks at each slot on its way.
+    pub fn next(&mut self) -> Option<&mut T>
+        ensures* writes_back { sem 𝓛 (walk_lends S.row T.row self.entry result) }
+        ensures value { option_copied_mut result ≡ slice_get (walk_map self.old).items (walk_done self.old) }
+        ensures found { IsSome result ↔ (walk_done self.old < length (walk_map self.old).items) }
+    {
+        if self.done < self.map.len() {
+            let slot = self.map.slot_from(self.next)?;
+            self.done += 1;
+            self.next = slot + 1;
+            Some(self.map.item_mut(slot))
+        } else {
+            None
+        }
+    }
+}

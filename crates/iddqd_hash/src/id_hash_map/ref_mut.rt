@@ -1,0 +1,40 @@
+//! What lends one item of a hash map for writing.
+ghost use Rattle.std.specs.Prelude.{IsSome, IsTrue};
+ghost use Rattle.iddqd_store.specs.SlotItems.{item_of_slot};
+
+mod methods;
+mod reading;
+
+use super::{DefaultHashBuilder, IdHashMap};
+
+/// One item, lent for writing (the crate's `RefMut`). Each read and each write of it is one access to the store. Spend it
+/// by `finish`, `into_ref` or `into_mut`: a program that lets one go unspent is not accepted (ours: the crate looks at the
+/// key when the guard is dropped, and panics).
+pub struct RefMut<'a, T, S = DefaultHashBuilder> {
+    pub(super) map: &'a mut IdHashMap<T, S>,
+    pub(super) slot: u32,
+    // Always false: nothing can show that a guard may be let go.
+    pub(super) spent: bool,
+    ghost there: { IsSome (item_of_slot map.now.slots map.now.items slot) },
+}
+
+impl<'a, T, S> Drop for RefMut<'a, T, S> {
+    fn drop(self)
+        requires { IsTrue self.spent }
+    {
+        let RefMut {
+            map: _,
+            slot: _,
+            spent: _,
+        } = self;
+    }
+}
+
+/// The item of a guard that was spent, for reading (ours: the crate's `into_ref` answers a plain reference). While it is
+/// there the map stays as it is.
+#[derive(Drop)]
+pub struct Shown<'a, T, S = DefaultHashBuilder> {
+    pub(super) map: &'a mut IdHashMap<T, S>,
+    pub(super) slot: u32,
+    ghost there: { IsSome (item_of_slot map.now.slots map.now.items slot) },
+}

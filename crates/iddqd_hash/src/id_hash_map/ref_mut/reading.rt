@@ -1,0 +1,36 @@
+//! Reading an item that a guard was spent on.
+ghost use Rattle.std.specs.Prelude.{◌≡◌, Some};
+ghost use Rattle.iddqd_hash.specs.Guard.{lent_map, lent_item, lent_name, shown_map, shown_item, shown_name};
+
+use super::{RefMut, Shown};
+use std::ops::Deref;
+
+impl<'a, T, S> RefMut<'a, T, S> {
+    /// Spends the guard, and goes on showing the item.
+    #[inline]
+    pub fn into_ref(self) -> Shown<'a, T, S>
+        ensures same_map { shown_name result ≡ lent_name self.entry }
+        ensures map { shown_map result ≡ lent_map self.entry }
+        ensures item { shown_item result ≡ lent_item self.entry }
+    {
+        let RefMut {
+            map,
+            slot,
+            spent: _,
+        } = self;
+        Shown { map, slot }
+    }
+}
+
+impl<T, S> Deref for Shown<'_, T, S> {
+    type Target = T;
+
+    ghost deref_gives = { λ s x. shown_item s ≡ Some x };
+
+    #[inline]
+    fn deref(&self) -> &T
+        ensures { shown_item self.now ≡ Some result.now }
+    {
+        self.map.item_in(self.slot)
+    }
+}
