@@ -26,10 +26,10 @@ use Rattle.iddqd_run.specs.Answer as answer
 use Rattle.iddqd_run.specs.Answer.{added_text, all_placed, entry_named, how_many_added, how_many_fit, is_full, lacks_room, name_cmp, name_of}
 use Rattle.iddqd.specs.declared.errors.ExtendUniqueError.TheVariants.{Duplicate, Refused}
 use Rattle.iddqd_commands.specs.KeyedMap.{StopsExtension}
-use Rattle.iddqd_run.specs.Lines.{AddAll, is_name, onto_pairs, paired_request, pairs_of, value_of, words_of}
+use Rattle.iddqd_lines.specs.Lines.{AddAll, is_name, onto_pairs, paired_request, pairs_of, value_of, words_of}
 use Rattle.iddqd_run.specs.Shown.{AnswersPlainly, AnswersRequest, LeavesRefused, ShowsEntries, entries_of, entry_of, no_room_reply, no_space_reply, shown}
 use Rattle.iddqd_commands.specs.Step.{FindsFull, FitsLikely, MapState, RefusesRoom, StopsAt, TakesAll}
-use Rattle.iddqd_run.specs.declared.arguments.Kind.{Kind}
+use Rattle.iddqd_lines.specs.declared.arguments.Kind.{Kind}
 use Rattle.iddqd_run.specs.declared.entries.Entry.{Entry}
 use Rattle.iddqd_run.specs.declared.entries.LineReply.TheVariants.{AddedAll, Bad, DuplicateAfter, RefusedCapacity, RefusedMemory}
 use Rattle.iddqd_run.specs.declared.entries.LineReply.{LineReply}

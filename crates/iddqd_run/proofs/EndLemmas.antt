@@ -14,10 +14,10 @@ use Rattle.iddqd.proofs.KeepsLemmas.{ascends_remove}
 use Rattle.iddqd.proofs.MappedLemmas.{remove-map}
 use Rattle.iddqd_run.specs.Answer as answer
 use Rattle.iddqd_run.specs.Answer.{by_ends, end_text, entries_after, line_reply, list_text, name_of, name_cmp}
-use Rattle.iddqd_run.specs.Lines.{Request, First, Last, PopFirst, PopLast}
+use Rattle.iddqd_lines.specs.Lines.{Request, First, Last, PopFirst, PopLast}
 use Rattle.iddqd_run.specs.Shown.{AnswersPlainly, AnswersRequest, AreByName, HasEnds, ListsItems, ShowsEntries, entries_of, entry_of, refusals_of, shown}
-use Rattle.iddqd_run.specs.declared.arguments.Kind.{Kind}
-use Rattle.iddqd_run.specs.declared.arguments.Kind.TheVariants.{Hash, Ord}
+use Rattle.iddqd_lines.specs.declared.arguments.Kind.{Kind}
+use Rattle.iddqd_lines.specs.declared.arguments.Kind.TheVariants.{Hash, Ord}
 use Rattle.iddqd_run.specs.declared.entries.Entry.{Entry}
 use Rattle.iddqd_run.specs.declared.entries.LineReply.{LineReply}
 use Rattle.iddqd_run.specs.declared.entries.LineReply.TheVariants.{RefusedMemory, Unsupported}

@@ -2,9 +2,9 @@
 use Rattle.std.proofs.Common.{◌≡◌, ◌≤◌, ℕ, ◌+◌, List, [], ◌∷◌, ◌++◌, refl, sym, ap, ◌∙◌, subst, arith, inl, inr, ⊎_elim, Result, Ok, Err, IfOk, OnOk}
 use Rattle.iddqd_run.specs.Answer as answer
 use Rattle.iddqd_run.specs.Answer.{RepliesWithRefusals, replies, line_reply, entries_after}
-use Rattle.iddqd_run.specs.Lines.{Request, request_of}
+use Rattle.iddqd_lines.specs.Lines.{Request, request_of}
 use Rattle.iddqd_run.specs.Shown.{shown, refusals_of, AnswersInText, AnswersRequest, ShowsEntries, WritesReply}
-use Rattle.iddqd_run.specs.declared.arguments.Kind.{Kind}
+use Rattle.iddqd_lines.specs.declared.arguments.Kind.{Kind}
 use Rattle.iddqd_run.specs.declared.entries.Entry.{Entry}
 use Rattle.iddqd_run.specs.declared.entries.LineReply.{LineReply}
 use Rattle.iddqd_run.specs.declared.entries.LineReply.TheVariants.{RefusedMemory}

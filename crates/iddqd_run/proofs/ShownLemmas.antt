@@ -11,10 +11,10 @@ use Rattle.std.proofs.Common.{String, Global}
 use Rattle.iddqd_run.specs.Answer as answer
 use Rattle.iddqd_run.specs.Answer.{greater, name_of, name_cmp, entry_named, is_full, line_reply, entries_after, RefusedLeaves}
 use Rattle.iddqd.specs.Contents.{AddsItem, SameInAnyOrder, find_item, without, replaced, placed}
-use Rattle.iddqd_run.specs.Lines.{Request, Add, Put, Get, Del, Set, Keep, Reserve, Shrink, Len}
+use Rattle.iddqd_lines.specs.Lines.{Request, Add, Put, Get, Del, Set, Keep, Reserve, Shrink, Len}
 use Rattle.iddqd_run.specs.Shown.{entry_of, entries_of, shown, AnswersPlainly, AnswersRequest, ShowsEntries, no_room_reply, no_space_reply}
 use Rattle.iddqd.specs.Holding.{max_items}
-use Rattle.iddqd_run.specs.declared.arguments.Kind.{Kind}
+use Rattle.iddqd_lines.specs.declared.arguments.Kind.{Kind}
 use Rattle.iddqd_run.specs.declared.entries.Entry.{Entry}
 use Rattle.iddqd_run.specs.declared.entries.LineReply.{LineReply}
 use Rattle.iddqd_run.specs.declared.entries.LineReply.TheVariants.{Added, Duplicate, New, Replaced, Found, Removed, Absent, Set as Written, Kept, Length, Done, RefusedCapacity, RefusedMemory}

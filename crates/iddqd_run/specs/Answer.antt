@@ -8,11 +8,11 @@ use Rattle.std.specs.Ordering.{nat_cmp}
 use Rattle.std.specs.Option.{option_map_or}
 use Rattle.std.specs.Cmp.Lexicographic.{slice_cmp}
 use Rattle.iddqd.specs.Contents.{find_item, without, replaced, placed}
-use Rattle.iddqd_run.specs.Lines.{Request, Add, Put, Get, Del, Cost, Len, ListAll, First, Last, PopFirst, PopLast, Bad, lines_of, request_of, Set, Keep, Reserve, Shrink, AddAll}
+use Rattle.iddqd_lines.specs.Lines.{Request, Add, Put, Get, Del, Cost, Len, ListAll, First, Last, PopFirst, PopLast, Bad, lines_of, request_of, Set, Keep, Reserve, Shrink, AddAll}
 use Rattle.iddqd.specs.Holding.{max_items}
 use Rattle.iddqd.specs.Collecting.{likely_new}
-use Rattle.iddqd_run.specs.declared.arguments.Kind.{Kind}
-use Rattle.iddqd_run.specs.declared.arguments.Kind.TheVariants.{Hash, Ord}
+use Rattle.iddqd_lines.specs.declared.arguments.Kind.{Kind}
+use Rattle.iddqd_lines.specs.declared.arguments.Kind.TheVariants.{Hash, Ord}
 
 -- a name and its value; entries ascend by name, whose bytes are compared
 abbrev pub Entry : Type 0

@@ -1,10 +1,10 @@
 pub mod Answer
-pub mod Asked
-pub mod Lines
 pub mod Served
 pub mod Shown
 pub mod Words
 pub use Rattle.iddqd_streams.specs.Failing
+pub use Rattle.iddqd_lines.specs.Arguments
+pub use Rattle.iddqd_lines.specs.Lines
 pub use Rattle.iddqd_commands.specs.KeyedMap
 pub use Rattle.iddqd_commands.specs.SameReplies
 pub use Rattle.iddqd_commands.specs.Step

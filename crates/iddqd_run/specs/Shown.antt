@@ -5,10 +5,10 @@ use Rattle.std.specs.Global.{Global}
 use Rattle.iddqd_run.specs.Answer as answer
 use Rattle.iddqd.specs.Contents.{Ascends, SameInAnyOrder}
 use Rattle.iddqd.specs.Holding.{max_items}
-use Rattle.iddqd_run.specs.Lines.{Request}
+use Rattle.iddqd_lines.specs.Lines.{Request}
 use Rattle.iddqd_commands.specs.Step.{MapState}
-use Rattle.iddqd_run.specs.declared.arguments.Kind.{Kind}
-use Rattle.iddqd_run.specs.declared.arguments.Kind.TheVariants.{Ord}
+use Rattle.iddqd_lines.specs.declared.arguments.Kind.{Kind}
+use Rattle.iddqd_lines.specs.declared.arguments.Kind.TheVariants.{Ord}
 use Rattle.iddqd_run.specs.declared.entries.Entry.{Entry}
 use Rattle.iddqd_run.specs.declared.entries.LineReply.{LineReply}
 use Rattle.iddqd_run.specs.declared.entries.LineReply.TheVariants.{Added, Duplicate, New, Replaced, Found, Removed, Named, Absent, Within, Length, Unsupported, Bad, RefusedCapacity, RefusedMemory, Set, Kept, Done, AddedAll, DuplicateAfter}

@@ -1,14 +1,14 @@
 //! The answer to a text, line by line, over a map of either kind.
 ghost use Rattle.std.specs.Prelude.{◌≡◌, [], IfOk, string_bytes};
 ghost use Rattle.iddqd_run.specs.Answer.{AnswersWithRefusals};
-ghost use Rattle.iddqd_run.specs.Asked.{asked};
+ghost use Rattle.iddqd_lines.specs.Asked.{asked};
 ghost use Rattle.iddqd_run.specs.Shown.{IsTable, WritesReply};
 
 use crate::entries::{Entry, LineReply, write_reply};
-use crate::lines::{Line, first_line, parse};
 use crate::table::Table;
 use crate::{adding, ends, requests};
 use iddqd::Steps;
+use iddqd_lines::{Line, first_line, parse};
 use std::alloc::{AllocError, Global};
 
 /// The answer to a text from a map without entries, and how many of its lines were refused for want of memory.

@@ -1,7 +1,7 @@
 //! What a line asks of the whole table or of its ends, and its reply.
 ghost use Rattle.std.specs.Prelude.{◌≡◌, IfOk, option_copied, option_map, string_bytes};
 ghost use Rattle.iddqd_run.specs.Answer.{end_text};
-ghost use Rattle.iddqd_run.specs.Lines.{ListAll, First, Last, PopFirst, PopLast};
+ghost use Rattle.iddqd_lines.specs.Lines.{ListAll, First, Last, PopFirst, PopLast};
 ghost use Rattle.iddqd_run.specs.Shown.{AnswersRequest, IsTable, WritesReply, entry_of, refusals_of, shown};
 
 use crate::entries::{Entry, LineReply, write_reply};

@@ -3,19 +3,17 @@
 
 mod adding;
 mod answering;
-mod arguments;
 mod ends;
 mod entries;
-mod lines;
 mod requests;
 mod serving;
 mod statuses;
 mod table;
 
-pub use arguments::{Kind, after_name, kind_of};
 pub use iddqd::errors::{DuplicateItem, Few, InsertError, Refused, TryReserveError};
 pub use iddqd::{IdHashItem, IdHashMap, IdOrdItem, IdOrdMap, MAX_ITEMS};
 pub use iddqd_commands::{Command, KeyedMap, Reply, RunStop, laws, run};
+pub use iddqd_lines::{Kind, after_name, kind_of};
 pub use iddqd_streams::{FailingReader, FailingWriter};
 pub use serving::{Fault, fault_text, serve};
 pub use statuses::{Stop, exit_status};

@@ -2,7 +2,7 @@
 ghost use Rattle.std.specs.Prelude.{◌≡◌, ◌≢◌, ℕ, ◌+◌, ◌≤◌, List, length, string_bytes};
 ghost use Rattle.iddqd.specs.Errors.{listed};
 ghost use Rattle.iddqd.specs.Refusal.{IsLent, refusal_kind, reservation_kind};
-ghost use Rattle.iddqd_run.specs.Lines.{Add, Put, Get, Del, Cost, Set, Keep, Reserve, Shrink, Len};
+ghost use Rattle.iddqd_lines.specs.Lines.{Add, Put, Get, Del, Cost, Set, Keep, Reserve, Shrink, Len};
 ghost use Rattle.iddqd_run.specs.Shown.{AnswersRequest, IsTable, no_room_reply, no_space_reply};
 ghost use Rattle.iddqd_run.specs.declared.entries.Entry.{Entry};
 ghost use Rattle.iddqd_run.specs.declared.entries.LineReply.TheVariants.{RefusedMemory};

@@ -5,8 +5,8 @@ ghost use Rattle.iddqd_run.specs.Served.{AnswersAll, AppendsBeginning};
 ghost use Rattle.iddqd_run.specs.Words.{text_for};
 
 use crate::answering::answer;
-use crate::arguments::Kind;
 use iddqd::{IdHashMap, IdOrdMap};
+use iddqd_lines::Kind;
 use std::alloc::Global;
 use std::io::{ErrorKind, Read, Write};
 

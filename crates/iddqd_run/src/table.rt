@@ -10,9 +10,9 @@ ghost use Rattle.iddqd_commands.specs.KeyedMap.{StaysKeyed};
 ghost use Rattle.iddqd_commands.specs.Step.{VisitsItem};
 ghost use Rattle.iddqd_run.specs.Answer.{list_text};
 ghost use Rattle.iddqd_run.specs.Shown.{HasEnds, ListsItems, all_lent, entries_of};
-ghost use Rattle.iddqd_run.specs.declared.arguments.Kind.{Kind};
+ghost use Rattle.iddqd_lines.specs.declared.arguments.Kind.{Kind};
 ghost use Rattle.iddqd_run.specs.declared.entries.Entry.{Entry};
-ghost use Rattle.iddqd_run.specs.declared.arguments.Kind.TheVariants.{Hash, Ord};
+ghost use Rattle.iddqd_lines.specs.declared.arguments.Kind.TheVariants.{Hash, Ord};
 ghost use Rattle.iddqd_run.specs.declared.table.ListStop.TheVariants.{Entries};
 
 mod sorted;

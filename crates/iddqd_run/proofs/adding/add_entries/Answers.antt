@@ -2,7 +2,7 @@ use Rattle.std.proofs.Common.{rules, ◌≡◌, ◌∙◌, length, sym, ap, subs
 use Rattle.std.specs.Result.{IsOk}
 use Rattle.std.specs.String.{string_eq_equiv}
 use Rattle.iddqd.specs.Refusal.{IsLent}
-use Rattle.iddqd_run.specs.Lines.{AddAll}
+use Rattle.iddqd_lines.specs.Lines.{AddAll}
 use Rattle.iddqd_run.specs.Shown.{WritesReply, entries_of}
 use Rattle.iddqd_run.specs.declared.entries.LineReply.TheVariants.{AddedAll, DuplicateAfter}
 use Rattle.iddqd_run.proofs.AddAllLemmas.{all_sent, conflict_sent, refused_sent}

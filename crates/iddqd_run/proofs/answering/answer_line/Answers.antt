@@ -1,5 +1,5 @@
 use Rattle.std.proofs.Common.{refl, string_bytes}
-use Rattle.iddqd_run.specs.Lines as request
+use Rattle.iddqd_lines.specs.Lines as request
 use Rattle.iddqd_run.specs.declared.entries.LineReply.TheVariants.{Bad}
 use Rattle.iddqd_run.proofs.ReplyLemmas.{written}
 use Rattle.iddqd_run.proofs.answering.answer_line.Goals as goal

@@ -1,5 +1,5 @@
 use Rattle.std.proofs.Common.{◌≡◌, ◌++◌, ◌∷◌, [], OnOk, refl, ap, ◌∙◌, subst, arith, append_assoc, inl, string_bytes}
-use Rattle.iddqd_run.specs.Lines.{ListAll}
+use Rattle.iddqd_lines.specs.Lines.{ListAll}
 use Rattle.iddqd_run.specs.Shown.{ListsItems, shown}
 use Rattle.iddqd_run.specs.declared.entries.LineReply.TheVariants.{RefusedMemory}
 use Rattle.iddqd_run.proofs.ReplyLemmas.{written}

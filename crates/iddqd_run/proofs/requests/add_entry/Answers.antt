@@ -1,7 +1,7 @@
 use Rattle.std.proofs.Common.{sym, refl, subst, rules, arith}
 use Rattle.std.specs.Result.{IsOk}
 use Rattle.iddqd.specs.Refusal.{IsLent}
-use Rattle.iddqd_run.specs.Lines.{Add}
+use Rattle.iddqd_lines.specs.Lines.{Add}
 use Rattle.iddqd_run.specs.declared.entries.LineReply.TheVariants.{Added}
 use Rattle.iddqd_run.proofs.ShownLemmas.{add_makes, made_plainly, full_plainly, duplicate_answered, no_room_answered}
 use Rattle.iddqd_run.proofs.requests.add_entry.Goals as goal

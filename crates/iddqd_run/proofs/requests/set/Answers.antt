@@ -1,7 +1,7 @@
 use Rattle.std.proofs.Common.{◌≡◌, ◌∙◌, Bool, Some, sym, ap, subst, String, Global}
 use Rattle.std.specs.Prelude.{bytes_eq, string_bytes}
 use Rattle.iddqd.specs.Contents.{find_item, replaced}
-use Rattle.iddqd_run.specs.Lines.{Set}
+use Rattle.iddqd_lines.specs.Lines.{Set}
 use Rattle.iddqd_run.specs.Shown.{AnswersRequest}
 use Rattle.iddqd_run.specs.declared.entries.Entry.{Entry}
 use Rattle.iddqd_run.specs.declared.entries.LineReply.TheVariants.{Set as Written}

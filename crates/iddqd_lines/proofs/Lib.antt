@@ -1,0 +1,3 @@
+mod Cuts
+pub mod NameLemmas
+pub mod ValueLemmas

@@ -1,5 +1,0 @@
-use Rattle.std.proofs.Common.{rules}
-use Rattle.iddqd_run.proofs.arguments.after_name.Goals as goal
-
-pub returns-in-empty : goal.returns-in-empty
-returns-in-empty c = search rules
