@@ -1,8 +1,9 @@
 //! The answer to a text, line by line, over a map of either kind.
-ghost use Rattle.std.specs.Prelude.{◌≡◌, [], IfOk, string_bytes};
+ghost use Rattle.std.specs.Prelude.{◌≡◌, ◌≢◌, [], IfOk, string_bytes};
 ghost use Rattle.iddqd_run.specs.Answer.{AnswersWithRefusals};
 ghost use Rattle.iddqd_lines.specs.Asked.{asked};
-ghost use Rattle.iddqd_run.specs.Shown.{IsTable, WritesReply};
+ghost use Rattle.iddqd_lines.specs.declared.lines.Line.TheVariants.{AddAll, ListAll, First, Last, PopFirst, PopLast};
+ghost use Rattle.iddqd_run.specs.Shown.{AnswersRequest, IsTable, WritesReply};
 
 use crate::entries::{Entry, LineReply, write_reply};
 use crate::table::Table;
@@ -45,22 +46,40 @@ fn answer_line<M: Table<Item = Entry, Key = String>>(
     ensures table { IsTable M.key M.is_text M.entries M.state M.keyed M.limit map.new }
 {
     match line {
-        Line::Add { name, value } => write_reply(text, requests::add(alloc, map, name, value)),
-        Line::Put { name, value } => write_reply(text, requests::put(alloc, map, name, value)),
-        Line::Get { name } => write_reply(text, requests::get(map, name)),
-        Line::Del { name } => write_reply(text, requests::delete(map, name)),
-        Line::Cost { name } => { write_reply(text, requests::cost(map, name, &mut Steps::new())) }
-        Line::Set { name, value } => write_reply(text, requests::set(map, name, value)),
-        Line::Keep { value } => write_reply(text, requests::keep(map, value)),
-        Line::Reserve { value } => write_reply(text, requests::reserve(map, value)),
-        Line::Shrink => write_reply(text, requests::shrink(map)),
         Line::AddAll { fields } => adding::add_all(alloc, map, fields, text),
-        Line::Len => write_reply(text, requests::len(map)),
         Line::ListAll => ends::list(alloc, map, text),
         Line::First => write_reply(text, ends::first(map)),
         Line::Last => write_reply(text, ends::last(map)),
         Line::PopFirst => ends::pop_first(map, text),
         Line::PopLast => ends::pop_last(map, text),
-        Line::Bad => write_reply(text, LineReply::Bad),
+        _ => write_reply(text, reply_to(alloc, map, line)),
+    }
+}
+
+// The reply to a line that asks neither for many entries nor for those at an end.
+fn reply_to<'a, M: Table<Item = Entry, Key = String>>(
+    alloc: Global,
+    map: &mut M,
+    line: Line<'a>,
+) -> LineReply<'a>
+    requires table { IsTable M.key M.is_text M.entries M.state M.keyed M.limit map.old }
+    requires not_add_all { (fields : _) → line ≢ AddAll fields }
+    requires not_list { line ≢ ListAll }
+    requires not_ends { (line ≢ First) × (line ≢ Last) × (line ≢ PopFirst) × (line ≢ PopLast) }
+    ensures answered { AnswersRequest M.kind (asked line.entry) (M.state map.old).items result (M.state map.new).items }
+    ensures table { IsTable M.key M.is_text M.entries M.state M.keyed M.limit map.new }
+{
+    match line {
+        Line::Add { name, value } => requests::add(alloc, map, name, value),
+        Line::Put { name, value } => requests::put(alloc, map, name, value),
+        Line::Get { name } => requests::get(map, name),
+        Line::Del { name } => requests::delete(map, name),
+        Line::Cost { name } => requests::cost(map, name, &mut Steps::new()),
+        Line::Set { name, value } => requests::set(map, name, value),
+        Line::Keep { value } => requests::keep(map, value),
+        Line::Reserve { value } => requests::reserve(map, value),
+        Line::Shrink => requests::shrink(map),
+        Line::Len => requests::len(map),
+        _ => LineReply::Bad,
     }
 }
