@@ -19,3 +19,12 @@ loop-preserved g c =
 
 pub returns-then-ne-clause-begun : goal.returns-then-ne-clause-begun
 returns-then-ne-clause-begun g c = grind (arith, common_steps)
+
+pub returns-then-is_empty-clause-whole : goal.returns-then-is_empty-clause-whole
+returns-then-is_empty-clause-whole g c = grind (arith, common_steps)
+
+pub returns-in-Ok-eq0-clause-begun : goal.returns-in-Ok-eq0-clause-begun
+returns-in-Ok-eq0-clause-begun g c = grind (arith, common_steps)
+
+pub returns-clause-begun : goal.returns-clause-begun
+returns-clause-begun g c = grind (arith, common_steps)
