@@ -1,4 +1,5 @@
-use Rattle.std.proofs.Common.{◌≡◌, [], ◌∷◌, ◌++◌, refl, sym, ap, subst, ◌∙◌, append_assoc, rules}
+use Rattle.std.proofs.Common.{◌≡◌, [], ◌∷◌, ◌++◌, refl, sym, ap, subst, ◌∙◌, append_assoc, rules, arith}
+use Rattle.std.proofs.lemmas.Grind.{common_steps}
 use Rattle.std.proofs.lemmas.Result.{err_from_is_err_and}
 use Rattle.iddqd.specs.Contents.{OverwritesItem}
 use Rattle.std.specs.Prelude.{None}
@@ -50,3 +51,6 @@ returns-in_err-insert_one-clause-taken g c = search rules
 
 pub returns-in_err-insert_one-clause-stays : goal.returns-in_err-insert_one-clause-stays
 returns-in_err-insert_one-clause-stays g c = search rules
+
+pub returns-clause-taken : goal.returns-clause-taken
+returns-clause-taken g c = grind (arith, common_steps)
