@@ -56,7 +56,8 @@ fn answer_line<M: Table<Item = Entry, Key = String>>(
     }
 }
 
-// The reply to a line that asks neither for many entries nor for those at an end.
+// The reply to a line that asks neither for many entries nor for those at an end. What is none of the requests below is a line
+// that follows no form.
 fn reply_to<'a, M: Table<Item = Entry, Key = String>>(
     alloc: Global,
     map: &mut M,
