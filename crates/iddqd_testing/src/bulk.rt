@@ -1,6 +1,5 @@
 //! What a row asks of the bulk calls of a map of either kind, and iterators that lie.
 ghost use Rattle.std.specs.Iterator.{IsFiniteIterable};
-ghost use Rattle.iddqd.specs.Contents.{Ascends};
 
 use crate::items::Named;
 use crate::tried::{Hashed, Ordered, both};
@@ -101,31 +100,16 @@ pub trait Adding<T>: Sized {
 
 impl<T: IdOrdItem + Copy + Drop> Adding<T> for Ordered<T> {
     fn add_each<U: IntoIterator<Item = T>>(&mut self, items: U) -> Added<T> {
-        add_in_order(&mut self.map, items)
+        match self.map.extend_unique(items) {
+            Ok(()) => Added::All,
+            Err(error) => stopped(error),
+        }
     }
 }
 
 impl<T: IdHashItem + Copy + Drop> Adding<T> for Hashed<T> {
     fn add_each<U: IntoIterator<Item = T>>(&mut self, items: U) -> Added<T> {
         add_by_hash(&mut self.map, items)
-    }
-}
-
-fn add_in_order<T: IdOrdItem + Copy + Drop, U: IntoIterator<Item = T>>(
-    map: &mut IdOrdMap<T>,
-    items: U,
-) -> Added<T>
-    requires keyed { Ascends T.key T.Key.cmp map.old.items }
-    requires ends { IsFiniteIterable U.into_iter_gives U.IntoIter.can_next U.IntoIter.remaining items }
-    ensures keyed { Ascends T.key T.Key.cmp map.new.items }
-{
-    match map.extend_unique(items) {
-        Ok(()) => Added::All,
-        Err(ExtendUniqueError::Duplicate(conflict)) => {
-            let (new, there) = both(&conflict);
-            Added::Conflict(new, there)
-        }
-        Err(ExtendUniqueError::Refused(stopped)) => Added::Stopped(stopped.item, stopped.error),
     }
 }
 
@@ -139,11 +123,18 @@ fn add_by_hash<T: IdHashItem + Copy + Drop, S: BuildHasher, U: IntoIterator<Item
 {
     match map.extend_unique(items) {
         Ok(()) => Added::All,
-        Err(ExtendUniqueError::Duplicate(conflict)) => {
+        Err(error) => stopped(error),
+    }
+}
+
+// What ends the adding, with what is lent copied.
+fn stopped<T: Copy>(error: ExtendUniqueError<T>) -> Added<T> {
+    match error {
+        ExtendUniqueError::Duplicate(conflict) => {
             let (new, there) = both(&conflict);
             Added::Conflict(new, there)
         }
-        Err(ExtendUniqueError::Refused(stopped)) => Added::Stopped(stopped.item, stopped.error),
+        ExtendUniqueError::Refused(stopped) => Added::Stopped(stopped.item, stopped.error),
     }
 }
 

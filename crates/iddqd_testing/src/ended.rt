@@ -3,8 +3,7 @@ ghost use Rattle.iddqd.specs.Contents.{Ascends};
 
 use crate::caseless::{Caseless, Coarse};
 use crate::entered::Put;
-use crate::tried::{Inserted, Ordered, both};
-use iddqd::errors::InsertError;
+use crate::tried::{Inserted, Ordered, kept_out};
 use iddqd::id_ord_map::Entry;
 use iddqd::{IdOrdItem, IdOrdMap, Steps};
 
@@ -83,11 +82,7 @@ impl<T: IdOrdItem + Copy> Ordered<T> {
         let mut steps = Steps::new();
         let inserted = match self.map.insert_unique_counted(item, &mut steps) {
             Ok(()) => Inserted::Done,
-            Err(InsertError::Duplicate(duplicate)) => {
-                let (new, there) = both(&duplicate);
-                Inserted::Duplicate(new, there)
-            }
-            Err(InsertError::Refused(refused)) => Inserted::Refused(refused.item, refused.error),
+            Err(error) => kept_out(error),
         };
         (inserted, steps.count())
     }

@@ -31,6 +31,17 @@ pub(crate) fn both<T: Copy>(duplicate: &DuplicateItem<T, &T>) -> (T, Option<T>) 
     (*duplicate.new_item(), there)
 }
 
+// What keeps an item out, with what is lent copied.
+pub(crate) fn kept_out<T: Copy>(error: InsertError<T>) -> Inserted<T> {
+    match error {
+        InsertError::Duplicate(duplicate) => {
+            let (new, there) = both(&duplicate);
+            Inserted::Duplicate(new, there)
+        }
+        InsertError::Refused(refused) => Inserted::Refused(refused.item, refused.error),
+    }
+}
+
 /// An ordered map under test. It is keyed.
 #[derive(Drop)]
 pub struct Ordered<T: IdOrdItem> {
@@ -215,11 +226,7 @@ impl<T: IdOrdItem + Copy> AskedToInsert<T> for Ordered<T> {
     fn insert(&mut self, item: T) -> Inserted<T> {
         match self.map.insert_unique(item) {
             Ok(()) => Inserted::Done,
-            Err(InsertError::Duplicate(duplicate)) => {
-                let (new, there) = both(&duplicate);
-                Inserted::Duplicate(new, there)
-            }
-            Err(InsertError::Refused(refused)) => Inserted::Refused(refused.item, refused.error),
+            Err(error) => kept_out(error),
         }
     }
 }
@@ -228,11 +235,7 @@ impl<T: IdHashItem + Copy, S: BuildHasher> AskedToInsert<T> for Hashed<T, S> {
     fn insert(&mut self, item: T) -> Inserted<T> {
         match self.map.insert_unique(item) {
             Ok(()) => Inserted::Done,
-            Err(InsertError::Duplicate(duplicate)) => {
-                let (new, there) = both(&duplicate);
-                Inserted::Duplicate(new, there)
-            }
-            Err(InsertError::Refused(refused)) => Inserted::Refused(refused.item, refused.error),
+            Err(error) => kept_out(error),
         }
     }
 }

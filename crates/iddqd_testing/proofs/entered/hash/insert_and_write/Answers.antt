@@ -1,7 +1,11 @@
-use Rattle.std.proofs.Common.{rules, refl}
+use Rattle.std.proofs.Common.{arith, rules, refl}
+use Rattle.std.proofs.lemmas.Grind.{common_steps}
 use Rattle.iddqd_testing.proofs.entered.hash.insert_and_write.Goals as goal
 
 pub returns-in-Ok : goal.returns-in-Ok
 returns-in-Ok g c =
     let keyed = c.in-Ok.ensures.keyed c.deref_mut.result.now (record c.deref_mut.result.now { value = c.args.value }) c.deref_mut.ensures.value refl in
     search rules
+
+pub or_insert-requires-clause-absent : goal.or_insert-requires-clause-absent
+or_insert-requires-clause-absent g c = grind (arith, common_steps)
