@@ -7,5 +7,5 @@ returns-in-Ok g c =
     let keyed = c.in-Ok.ensures.keyed c.deref_mut.result.now (record c.deref_mut.result.now { value = c.args.value }) c.deref_mut.ensures.value refl in
     search rules
 
-pub or_insert-requires-clause-absent : goal.or_insert-requires-clause-absent
-or_insert-requires-clause-absent g c = grind (arith, common_steps)
+pub returns-in-Err : goal.returns-in-Err
+returns-in-Err g c = grind (arith, common_steps)

@@ -2,5 +2,11 @@ use Rattle.std.proofs.Common.{arith}
 use Rattle.std.proofs.lemmas.Grind.{common_steps}
 use Rattle.iddqd_testing.proofs.entered.hash.put_and_remove.Goals as goal
 
-pub insert_entry-requires-clause-absent : goal.insert_entry-requires-clause-absent
-insert_entry-requires-clause-absent g c = grind (arith, common_steps)
+pub returns-in-Ok : goal.returns-in-Ok
+returns-in-Ok g c = grind (arith, common_steps)
+
+pub returns-in-Err : goal.returns-in-Err
+returns-in-Err g c = grind (arith, common_steps)
+
+pub returns-in-Occupied : goal.returns-in-Occupied
+returns-in-Occupied g c = grind (arith, common_steps)

@@ -2,5 +2,8 @@ use Rattle.std.proofs.Common.{arith}
 use Rattle.std.proofs.lemmas.Grind.{common_steps}
 use Rattle.iddqd_testing.proofs.entered.ord.find_or_put.Goals as goal
 
-pub or_insert_with-requires-clause-absent : goal.or_insert_with-requires-clause-absent
-or_insert_with-requires-clause-absent c = grind (arith, common_steps)
+pub returns-in-Ok : goal.returns-in-Ok
+returns-in-Ok c = grind (arith, common_steps)
+
+pub returns-in-Err : goal.returns-in-Err
+returns-in-Err c = grind (arith, common_steps)

@@ -2,5 +2,14 @@ use Rattle.std.proofs.Common.{arith}
 use Rattle.std.proofs.lemmas.Grind.{common_steps}
 use Rattle.iddqd_testing.proofs.entered.ord.put_vacant.Goals as goal
 
-pub insert-requires-clause-absent : goal.insert-requires-clause-absent
-insert-requires-clause-absent c = grind (arith, common_steps)
+pub returns-in-Ok : goal.returns-in-Ok
+returns-in-Ok c = grind (arith, common_steps)
+
+pub returns-in-Err : goal.returns-in-Err
+returns-in-Err c = grind (arith, common_steps)
+
+pub returns-in-Occupied : goal.returns-in-Occupied
+returns-in-Occupied c = grind (arith, common_steps)
+
+pub returns-then-contains_key : goal.returns-then-contains_key
+returns-then-contains_key c = grind (arith, common_steps)
