@@ -63,6 +63,14 @@ fn collect_what_differs<M: AskedByKey<Item = Named> + Bulk<Named> + Drop>(
     Ok(())
 }
 
+fn collect_names<M: AskedByKey<Item = Named> + Bulk<Named> + Drop>(
+    rt: &impl Abort,
+    alloc: Global,
+) -> Result<(), AllocError> {
+    collect_by_name::<M>(rt, alloc)?;
+    collect_what_differs::<M>(rt, alloc)
+}
+
 // How many items there are in a map that was made.
 fn len_of<M: AskedByKey<Item = Named> + Drop>(
     made: Result<M, FromIterError<Named>>,
@@ -78,10 +86,8 @@ fn collect_unique(rt: HostRuntime) -> Result<(), Fail> {
     let alloc = rt.alloc();
     collect_by_number::<Ordered<Wide>>(&rt, alloc)?;
     collect_by_number::<Hashed<Wide>>(&rt, alloc)?;
-    collect_by_name::<Ordered<Named>>(&rt, alloc)?;
-    collect_by_name::<Hashed<Named>>(&rt, alloc)?;
-    collect_what_differs::<Ordered<Named>>(&rt, alloc)?;
-    collect_what_differs::<Hashed<Named>>(&rt, alloc)?;
+    collect_names::<Ordered<Named>>(&rt, alloc)?;
+    collect_names::<Hashed<Named>>(&rt, alloc)?;
     Ok(())
 }
 
@@ -97,15 +103,21 @@ fn of_two_numbers(alloc: Global) -> Result<Vec<Wide>, AllocError> {
     )?)
 }
 
+// Whether there are two items, and these two.
+fn has_both_numbers<M: AskedByKey<Item = Wide, Key = u8>>(map: &M, one: Wide, other: Wide) -> bool {
+    map.len() == 2 && map.get(&one.number) == Some(&one) && map.get(&other.number) == Some(&other)
+}
+
 fn overwritten_by_number<M: AskedByKey<Item = Wide, Key = u8> + Bulk<Wide> + Drop>(
     rt: &impl Abort,
-    items: Vec<Wide>,
+    alloc: Global,
     mut map: M,
-) {
+) -> Result<(), AllocError> {
+    let items = of_two_numbers(alloc)?;
     check(rt, map.extend(items).is_ok());
-    check(rt, map.len() == 2);
-    check(rt, map.get(&1).copied() == Some(wide_item(1, 'c', 'z')));
-    check(rt, map.get(&2).copied() == Some(wide_item(2, 'b', 'y')));
+    let (last, second) = (wide_item(1, 'c', 'z'), wide_item(2, 'b', 'y'));
+    check(rt, has_both_numbers(&map, last, second));
+    Ok(())
 }
 
 // Whether there are two items, and these two.
@@ -115,12 +127,14 @@ fn has_both<M: AskedByKey<Item = Named, Key = [u8; 3]>>(map: &M, one: Named, oth
 
 fn overwritten_by_name<M: AskedByKey<Item = Named, Key = [u8; 3]> + Bulk<Named> + Drop>(
     rt: &impl Abort,
-    items: Vec<Named>,
+    alloc: Global,
     mut map: M,
-) {
+) -> Result<(), AllocError> {
+    let items = Vec::from_array(alloc, [OTHER_FOO, BAR])?;
     check(rt, map.is_put(FOO));
     check(rt, map.extend(items).is_ok());
     check(rt, has_both(&map, OTHER_FOO, BAR));
+    collected_by_name::<M>(rt, alloc)
 }
 
 fn collected_by_name<M: AskedByKey<Item = Named, Key = [u8; 3]> + Bulk<Named> + Drop>(
@@ -139,14 +153,10 @@ fn collected_by_name<M: AskedByKey<Item = Named, Key = [u8; 3]> + Bulk<Named> + 
 #[test]
 fn extend_overwrites(rt: HostRuntime) -> Result<(), Fail> {
     let alloc = rt.alloc();
-    overwritten_by_number(&rt, of_two_numbers(alloc)?, in_order(alloc));
-    overwritten_by_number(&rt, of_two_numbers(alloc)?, by_hash(alloc));
-    let items = Vec::from_array(alloc, [OTHER_FOO, BAR])?;
-    overwritten_by_name(&rt, items, in_order(alloc));
-    let items = Vec::from_array(alloc, [OTHER_FOO, BAR])?;
-    overwritten_by_name(&rt, items, by_hash(alloc));
-    collected_by_name::<Ordered<Named>>(&rt, alloc)?;
-    collected_by_name::<Hashed<Named>>(&rt, alloc)?;
+    overwritten_by_number(&rt, alloc, in_order(alloc))?;
+    overwritten_by_number(&rt, alloc, by_hash(alloc))?;
+    overwritten_by_name(&rt, alloc, in_order(alloc))?;
+    overwritten_by_name(&rt, alloc, by_hash(alloc))?;
     Ok(())
 }
 
@@ -251,27 +261,34 @@ fn refuses_when_full<M: AskedByKey<Item = Named, Key = [u8; 3]> + Adding<Named> 
     check(rt, has_both(&map, FOO, BAR));
 }
 
+// Two maps with room for two items each.
+fn full_at_two<M: AskedByKey<Item = Named, Key = [u8; 3]> + Adding<Named> + Drop>(
+    rt: &impl Abort,
+    alloc: Global,
+    one: M,
+    other: M,
+) -> Result<(), AllocError> {
+    let repeats = Vec::from_array(alloc, [named(*b"baz", 7), named(*b"foo", 9), BAR])?;
+    conflicts_when_full(rt, repeats, one);
+    let new = Vec::from_array(alloc, [named(*b"baz", 7), BAR])?;
+    refuses_when_full(rt, new, other);
+    Ok(())
+}
+
+fn ordered_of_two(alloc: Global) -> Ordered<Named> {
+    Ordered::new(IdOrdMap::with_limit(alloc, 2))
+}
+
+fn hashed_of_two(alloc: Global) -> Hashed<Named> {
+    let hasher = DefaultHashBuilder::new();
+    Hashed::new(IdHashMap::with_limit(alloc, 2, hasher))
+}
+
 #[test]
 fn extend_unique_at_the_limit(rt: HostRuntime) -> Result<(), Fail> {
     let alloc = rt.alloc();
-    let hasher = DefaultHashBuilder::new();
-    let repeats = [named(*b"baz", 7), named(*b"foo", 9), BAR];
-    let items = Vec::from_array(alloc, repeats)?;
-    conflicts_when_full(&rt, items, Ordered::new(IdOrdMap::with_limit(alloc, 2)));
-    let items = Vec::from_array(alloc, repeats)?;
-    conflicts_when_full(
-        &rt,
-        items,
-        Hashed::new(IdHashMap::with_limit(alloc, 2, hasher)),
-    );
-    let items = Vec::from_array(alloc, [named(*b"baz", 7), BAR])?;
-    refuses_when_full(&rt, items, Ordered::new(IdOrdMap::with_limit(alloc, 2)));
-    let items = Vec::from_array(alloc, [named(*b"baz", 7), BAR])?;
-    refuses_when_full(
-        &rt,
-        items,
-        Hashed::new(IdHashMap::with_limit(alloc, 2, hasher)),
-    );
+    full_at_two(&rt, alloc, ordered_of_two(alloc), ordered_of_two(alloc))?;
+    full_at_two(&rt, alloc, hashed_of_two(alloc), hashed_of_two(alloc))?;
     Ok(())
 }
 
@@ -289,12 +306,8 @@ fn refuses_announced<M: AskedByKey<Item = Named, Key = [u8; 3]> + Adding<Named> 
 
 #[test]
 fn extend_unique_hint(rt: HostRuntime) {
-    let hasher = DefaultHashBuilder::new();
-    refuses_announced(&rt, Ordered::new(IdOrdMap::with_limit(rt.alloc(), 2)));
-    refuses_announced(
-        &rt,
-        Hashed::new(IdHashMap::with_limit(rt.alloc(), 2, hasher)),
-    );
+    refuses_announced(&rt, ordered_of_two(rt.alloc()));
+    refuses_announced(&rt, hashed_of_two(rt.alloc()));
 }
 
 fn adds_nothing<M: AskedByKey<Item = Named, Key = [u8; 3]> + Adding<Named> + Drop>(

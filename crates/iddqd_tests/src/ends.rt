@@ -1,5 +1,4 @@
 //! Rows of the ordered map's ends.
-ghost use Rattle.std.specs.Prelude.{IfOk};
 ghost use Rattle.std.specs.Cmp.Lexicographic.{slice_cmp};
 ghost use Rattle.std.specs.Ordering.{nat_cmp};
 ghost use Rattle.iddqd.specs.Contents.{Ascends};
@@ -8,7 +7,7 @@ use crate::checks::check;
 use iddqd::{IdOrdItem, IdOrdMap};
 use iddqd_commands::KeyedMap;
 use iddqd_testing::tried::is_put;
-use std::test::Fail;
+use std::process::Abort;
 
 /// A name of seven letters, and a value.
 #[derive(Clone, Copy, PartialEq, Eq)]
@@ -32,17 +31,14 @@ fn one(name: [u8; 7], value: u32) -> Person {
 }
 
 // The map with three people.
-fn filled<M: KeyedMap<Item = Person> + Drop>(mut map: M) -> Result<M, Fail>
+fn filled<M: KeyedMap<Item = Person> + Drop>(rt: &impl Abort, mut map: M) -> M
     requires { M.keyed map }
-    ensures { IfOk result M.keyed }
+    ensures { M.keyed result }
 {
-    let is_filled = is_put(&mut map, one(*b"charlie", 30))
-        && is_put(&mut map, one(*b"alice  ", 42))
-        && is_put(&mut map, one(*b"bob    ", 99));
-    if !is_filled {
-        return Err(Fail::from("an item is not in"));
-    }
-    Ok(map)
+    check(rt, is_put(&mut map, one(*b"charlie", 30)));
+    check(rt, is_put(&mut map, one(*b"alice  ", 42)));
+    check(rt, is_put(&mut map, one(*b"bob    ", 99)));
+    map
 }
 
 // Takes out the first item, or the last one.
@@ -58,8 +54,8 @@ fn pop<T: IdOrdItem>(map: &mut IdOrdMap<T>, first: bool) -> Option<T>
 }
 
 #[test]
-fn ends(rt: HostRuntime) -> Result<(), Fail> {
-    let mut map = filled(IdOrdMap::new(rt.alloc()))?;
+fn ends(rt: HostRuntime) {
+    let mut map = filled(&rt, IdOrdMap::new(rt.alloc()));
     check(&rt, map.first().copied() == Some(one(*b"alice  ", 42)));
     check(&rt, map.last().copied() == Some(one(*b"charlie", 30)));
     check(&rt, pop(&mut map, true) == Some(one(*b"alice  ", 42)));
@@ -67,17 +63,15 @@ fn ends(rt: HostRuntime) -> Result<(), Fail> {
     check(&rt, pop(&mut map, true) == Some(one(*b"bob    ", 99)));
     check(&rt, pop(&mut map, true) == Some(one(*b"charlie", 30)));
     check(&rt, pop(&mut map, true) == None);
-    Ok(())
 }
 
 #[test]
-fn ends_from_behind(rt: HostRuntime) -> Result<(), Fail> {
-    let mut map = filled(IdOrdMap::new(rt.alloc()))?;
+fn ends_from_behind(rt: HostRuntime) {
+    let mut map = filled(&rt, IdOrdMap::new(rt.alloc()));
     check(&rt, pop(&mut map, false) == Some(one(*b"charlie", 30)));
     check(&rt, pop(&mut map, false) == Some(one(*b"bob    ", 99)));
     check(&rt, pop(&mut map, false) == Some(one(*b"alice  ", 42)));
     check(&rt, pop(&mut map, false) == None);
-    Ok(())
 }
 
 // Writes the value of the first item through its entry.
@@ -98,18 +92,17 @@ fn write_first(map: &mut IdOrdMap<Person>, value: u32) -> bool
 }
 
 #[test]
-fn ends_by_entries(rt: HostRuntime) -> Result<(), Fail> {
-    let mut map = filled(IdOrdMap::new(rt.alloc()))?;
+fn ends_by_entries(rt: HostRuntime) {
+    let mut map = filled(&rt, IdOrdMap::new(rt.alloc()));
     check(&rt, write_first(&mut map, 100));
     check(
         &rt,
         map.get(b"alice  ").copied() == Some(one(*b"alice  ", 100)),
     );
-    Ok(())
 }
 
 #[test]
-fn ends_of_empty_map(rt: HostRuntime) -> Result<(), Fail> {
+fn ends_of_empty_map(rt: HostRuntime) {
     let mut map: IdOrdMap<Person> = IdOrdMap::new(rt.alloc());
     check(&rt, map.first().is_none() && map.last().is_none());
     check(&rt, !write_first(&mut map, 100));
@@ -118,5 +111,4 @@ fn ends_of_empty_map(rt: HostRuntime) -> Result<(), Fail> {
         pop(&mut map, true).is_none() && pop(&mut map, false).is_none(),
     );
     check(&rt, map.last_entry().is_none());
-    Ok(())
 }
