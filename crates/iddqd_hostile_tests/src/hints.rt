@@ -5,6 +5,7 @@ use iddqd::{DefaultHashBuilder, IdHashMap, IdOrdMap};
 use iddqd_testing::bulk::{Bulk, Hinted};
 use iddqd_testing::items::Numbered;
 use iddqd_testing::tried::{AskedByKey, Hashed, Ordered, by_hash, in_order};
+use std::alloc::Global;
 use std::process::Abort;
 
 fn numbered(number: u32, value: u32) -> Numbered {
@@ -107,16 +108,22 @@ fn refused_whole<M: Drop>(made: Result<M, FromIterError<Numbered>>) -> Option<Tr
     }
 }
 
+fn few_or_many<M: AskedByKey<Item = Numbered, Key = u32> + Bulk<Numbered> + Drop>(
+    rt: &impl Abort,
+    alloc: Global,
+    one: M,
+    other: M,
+) {
+    few_come(rt, one);
+    many_come(rt, other);
+    let full = Some(TryReserveError::capacity_overflow());
+    let made = M::collected_unique(alloc, Hinted::new(&[], 4_294_967_296));
+    check(rt, refused_whole(made) == full);
+}
+
 #[test]
 fn few_or_many_items(rt: HostRuntime) {
     let alloc = rt.alloc();
-    few_come(&rt, in_order(alloc));
-    few_come(&rt, by_hash(alloc));
-    many_come(&rt, in_order(alloc));
-    many_come(&rt, by_hash(alloc));
-    let full = Some(TryReserveError::capacity_overflow());
-    let ordered = Ordered::<Numbered>::collected_unique(alloc, Hinted::new(&[], 4_294_967_296));
-    check(&rt, refused_whole(ordered) == full);
-    let hashed = Hashed::<Numbered>::collected_unique(alloc, Hinted::new(&[], 4_294_967_296));
-    check(&rt, refused_whole(hashed) == full);
+    few_or_many(&rt, alloc, in_order(alloc), in_order(alloc));
+    few_or_many(&rt, alloc, by_hash(alloc), by_hash(alloc));
 }

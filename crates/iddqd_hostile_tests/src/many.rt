@@ -73,10 +73,9 @@ fn hundred<M: AskedByKey<Item = Numbered, Key = u32> + AskedToInsert<Numbered> +
     items: &[Numbered],
     mut map: M,
 ) {
-    let (front, rest) = parted(items, 50);
     check(rt, all_go_in(&mut map, items));
     check(rt, all_are_found(&map, items));
-    check(rt, map.get(&101).copied() == None);
+    check(rt, map.get(&101).is_none());
     let again = Numbered {
         number: 50,
         value: 0,
@@ -85,12 +84,19 @@ fn hundred<M: AskedByKey<Item = Numbered, Key = u32> + AskedToInsert<Numbered> +
         rt,
         map.insert(again) == Inserted::Duplicate(again, Some(numbered(50))),
     );
+    lose_one(rt, items, &mut map);
+}
+
+fn lose_one<M: AskedByKey<Item = Numbered, Key = u32>>(
+    rt: &impl Abort,
+    items: &[Numbered],
+    map: &mut M,
+) {
+    let (front, rest) = parted(items, 50);
     check(rt, map.remove(&50) == Some(numbered(50)));
-    check(rt, map.get(&50).copied() == None);
-    check(
-        rt,
-        all_are_found(&map, parted(front, 49).0) && all_are_found(&map, rest),
-    );
+    check(rt, map.get(&50).is_none());
+    check(rt, all_are_found(map, parted(front, 49).0));
+    check(rt, all_are_found(map, rest));
 }
 
 #[test]
@@ -106,15 +112,24 @@ fn constant_hasher(rt: HostRuntime) -> Result<(), Fail> {
     Ok(())
 }
 
+// The items go in, and all are found.
+fn go_in<M: AskedByKey<Item = Numbered, Key = u32> + AskedToInsert<Numbered> + Drop>(
+    rt: &impl Abort,
+    items: &[Numbered],
+    mut map: M,
+) {
+    check(rt, all_go_in(&mut map, items));
+    check(rt, all_are_found(&map, items));
+}
+
 // A hundred thousand keys whose hashes vary in few bits go in, and all are found: each in time that does not grow with their number.
 #[test]
 fn hashers_of_few_bits(rt: HostRuntime) -> Result<(), Fail> {
     let alloc = rt.alloc();
     let items = by_factor(alloc, 100_003, 7)?;
     for varying in [Varying::High, Varying::Low, Varying::Multiples] {
-        let mut map = Hashed::new(IdHashMap::with_hasher(alloc, FewBits::new(varying)));
-        check(&rt, all_go_in(&mut map, items.as_slice()));
-        check(&rt, all_are_found(&map, items.as_slice()));
+        let map = IdHashMap::with_hasher(alloc, FewBits::new(varying));
+        go_in(&rt, items.as_slice(), Hashed::new(map));
     }
     Ok(())
 }
@@ -147,19 +162,28 @@ fn ten_thousand_keys(rt: HostRuntime) -> Result<(), Fail> {
     Ok(())
 }
 
+// The items go in, 7 cannot go in twice, and all come out.
+fn come_and_go<M: AskedByKey<Item = Numbered, Key = u32> + AskedToInsert<Numbered> + Drop>(
+    rt: &impl Abort,
+    items: &[Numbered],
+    mut map: M,
+) {
+    check(rt, all_go_in(&mut map, items));
+    let seven = numbered(7);
+    check(
+        rt,
+        map.insert(seven) == Inserted::Duplicate(seven, Some(seven)),
+    );
+    check(rt, all_are_found(&map, items));
+    check(rt, all_come_out(&mut map, items));
+}
+
 #[test]
 fn random_hasher(rt: HostRuntime) -> Result<(), Fail> {
     let alloc = rt.alloc();
     let items = by_factor(alloc, 13, 2)?;
-    let hasher = RandomState::new(&rt)?;
-    let mut map = Hashed::new(IdHashMap::with_hasher(alloc, hasher));
-    check(&rt, all_go_in(&mut map, items.as_slice()));
-    check(
-        &rt,
-        map.insert(numbered(7)) == Inserted::Duplicate(numbered(7), Some(numbered(7))),
-    );
-    check(&rt, all_are_found(&map, items.as_slice()));
-    check(&rt, all_come_out(&mut map, items.as_slice()));
+    let map = IdHashMap::with_hasher(alloc, RandomState::new(&rt)?);
+    come_and_go(&rt, items.as_slice(), Hashed::new(map));
     Ok(())
 }
 

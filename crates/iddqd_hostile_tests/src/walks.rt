@@ -1,5 +1,5 @@
 //! Rows of reading walks and equality.
-ghost use Rattle.std.specs.Prelude.{IfOk, nat_eq};
+ghost use Rattle.std.specs.Prelude.{nat_eq};
 ghost use Rattle.std.specs.Cmp.{on_equiv, on_per, nat_eq_equiv, partial_equiv_from_equiv};
 
 use crate::checks::check;
@@ -8,6 +8,7 @@ use iddqd_commands::KeyedMap;
 use iddqd_testing::items::Named;
 use iddqd_testing::tried::is_put;
 use std::alloc::Global;
+use std::process::Abort;
 use std::test::Fail;
 
 fn named(name: [u8; 3], value: u32) -> Named {
@@ -15,51 +16,14 @@ fn named(name: [u8; 3], value: u32) -> Named {
 }
 
 // The map with foo, bar and baz.
-fn filled<M: KeyedMap<Item = Named> + Drop>(mut map: M) -> Result<M, Fail>
+fn filled<M: KeyedMap<Item = Named> + Drop>(rt: &impl Abort, mut map: M) -> M
     requires { M.keyed map }
-    ensures { IfOk result M.keyed }
+    ensures { M.keyed result }
 {
-    let is_filled = is_put(&mut map, named(*b"foo", 42))
-        && is_put(&mut map, named(*b"bar", 20))
-        && is_put(&mut map, named(*b"baz", 1));
-    if !is_filled {
-        return Err(Fail::from("an item is not in"));
-    }
-    Ok(map)
-}
-
-#[test]
-fn reading_walk(rt: HostRuntime) -> Result<(), Fail> {
-    let map = filled(IdOrdMap::new(rt.alloc()))?;
-    let mut walk = map.iter();
-    check(&rt, walk.len() == 3 && walk.next().is_some());
-    check(&rt, walk.len() == 2 && walk.next().is_some());
-    check(&rt, walk.len() == 1 && walk.next().is_some());
-    check(
-        &rt,
-        walk.len() == 0 && walk.next().is_none() && walk.next().is_none(),
-    );
-    let mut walk = map.into_iter();
-    check(&rt, walk.next() == Some(named(*b"bar", 20)));
-    check(&rt, walk.len() == 2);
-    Ok(())
-}
-
-#[test]
-fn hash_reading_walk(rt: HostRuntime) -> Result<(), Fail> {
-    let map = filled(IdHashMap::new(rt.alloc()))?;
-    let mut walk = map.iter();
-    check(&rt, walk.len() == 3 && walk.next().is_some());
-    check(&rt, walk.len() == 2 && walk.next().is_some());
-    check(&rt, walk.len() == 1 && walk.next().is_some());
-    check(
-        &rt,
-        walk.len() == 0 && walk.next().is_none() && walk.next().is_none(),
-    );
-    let mut walk = map.into_iter();
-    check(&rt, walk.next().is_some());
-    check(&rt, walk.len() == 2);
-    Ok(())
+    check(rt, is_put(&mut map, named(*b"foo", 42)));
+    check(rt, is_put(&mut map, named(*b"bar", 20)));
+    check(rt, is_put(&mut map, named(*b"baz", 1)));
+    map
 }
 
 // Whether a walk says that nothing is to come, and gives nothing, again and again.
@@ -69,6 +33,45 @@ where
     requires asked_freely { (at : W) → W.can_next at }
 {
     walk.len() == 0 && walk.next().is_none() && walk.next().is_none()
+}
+
+// Whether a walk counts and gives three items, and then nothing, again and again.
+fn gives_three<W: ExactSizeIterator>(walk: &mut W) -> bool
+where
+    W::Item: Drop,
+    requires asked_freely { (at : W) → W.can_next at }
+{
+    for left in [3, 2, 1] {
+        if walk.len() != left || walk.next().is_none() {
+            return false;
+        }
+    }
+    gives_none(walk)
+}
+
+// Whether the walks show the three items, and the walk that ends the map its first one, with two left.
+fn walks_in_order(map: IdOrdMap<Named>) -> bool {
+    let shows_three = gives_three(&mut map.iter());
+    let mut walk = map.into_iter();
+    shows_three && walk.next() == Some(named(*b"bar", 20)) && walk.len() == 2
+}
+
+fn walks_by_hash(map: IdHashMap<Named>) -> bool {
+    let shows_three = gives_three(&mut map.iter());
+    let mut walk = map.into_iter();
+    shows_three && walk.next().is_some() && walk.len() == 2
+}
+
+#[test]
+fn reading_walk(rt: HostRuntime) {
+    let map = filled(&rt, IdOrdMap::new(rt.alloc()));
+    check(&rt, walks_in_order(map));
+}
+
+#[test]
+fn hash_reading_walk(rt: HostRuntime) {
+    let map = filled(&rt, IdHashMap::new(rt.alloc()));
+    check(&rt, walks_by_hash(map));
 }
 
 // Whether neither walk over a map without items shows one, again and again.
