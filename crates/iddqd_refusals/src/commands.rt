@@ -1,8 +1,9 @@
 //! `run` with a request refused: the commands come back, or the replies are one of the rows that a refusal allows.
+use crate::errors::items;
 use crate::words::tell;
 use iddqd_commands::{Command, Reply};
 use iddqd_testing::heap::{arm, is_met};
-use iddqd_testing::kept::{Kept, make_kept};
+use iddqd_testing::kept::Kept;
 use iddqd_testing::tried::{AskedByKey, Commanded, by_hash, in_order};
 use iddqd_testing::visitors::Untouched;
 use std::alloc::{AllocError, Global};
@@ -10,14 +11,18 @@ use std::test::Fail;
 
 // Six commands, all of one name.
 fn commands(alloc: Global) -> Result<Vec<Command<Kept, u32, Untouched>>, AllocError> {
-    let mut commands = Vec::new(alloc);
-    commands.push(Command::InsertUnique(make_kept(alloc, 1)?))?;
-    commands.push(Command::InsertUnique(make_kept(alloc, 2)?))?;
-    commands.push(Command::Get(7))?;
-    commands.push(Command::InsertOverwrite(make_kept(alloc, 3)?))?;
-    commands.push(Command::Remove(7))?;
-    commands.push(Command::Len)?;
-    Ok(commands)
+    let (first, second, third) = items(alloc)?;
+    Ok(Vec::from_array(
+        alloc,
+        [
+            Command::InsertUnique(first),
+            Command::InsertUnique(second),
+            Command::Get(7),
+            Command::InsertOverwrite(third),
+            Command::Remove(7),
+            Command::Len,
+        ],
+    )?)
 }
 
 /// What a reply says, its items by their values; where memory was refused, the item that came back.

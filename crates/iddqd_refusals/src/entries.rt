@@ -8,7 +8,13 @@ use iddqd_testing::walked::Listed;
 use std::alloc::Global;
 use std::test::Fail;
 
-// Which insertion is tried.
+// An insertion that is tried.
+trait Tried<M>: Copy {
+    // What it answers for a new item.
+    fn put(self, map: &mut M, item: Coarse) -> Put;
+}
+
+// An insertion of either map.
 #[derive(Clone, Copy)]
 enum Call {
     Insert,
@@ -17,20 +23,40 @@ enum Call {
     OrInsertWith,
 }
 
+// Where the call is `insert_entry`, the item is taken out at once.
+impl<M: Entered> Tried<M> for Call {
+    fn put(self, map: &mut M, item: Coarse) -> Put {
+        let mut asked = 0;
+        match self {
+            Call::Insert => map.put_vacant(*b"xyz", item),
+            Call::InsertEntry => map.put_and_remove(item),
+            Call::OrInsert => map.double_or_put(item),
+            Call::OrInsertWith => map.find_or_put(item, &mut asked),
+        }
+    }
+}
+
+// An insertion of the ordered map alone, which shows its item.
+#[derive(Clone, Copy)]
+enum Shows {
+    InsertRef,
+    OrInsertRef,
+    OrInsertWithRef,
+}
+
+impl Tried<Ordered<Coarse>> for Shows {
+    fn put(self, map: &mut Ordered<Coarse>, item: Coarse) -> Put {
+        match self {
+            Shows::InsertRef => map.put_shown(item),
+            Shows::OrInsertRef => map.show_or_put(item),
+            Shows::OrInsertWithRef => map.show_or_put_made(item),
+        }
+    }
+}
+
 const NAMES: [[u8; 3]; 9] = [
     *b"abc", *b"bcd", *b"cde", *b"def", *b"efg", *b"fgh", *b"ghi", *b"hij", *b"ijk",
 ];
-
-// What the insertion of a new item answers; where the call is `insert_entry`, the item is taken out at once.
-fn put<M: Entered>(map: &mut M, call: Call, item: Coarse) -> Put {
-    let mut asked = 0;
-    match call {
-        Call::Insert => map.put_vacant(*b"xyz", item),
-        Call::InsertEntry => map.put_and_remove(item),
-        Call::OrInsert => map.double_or_put(item),
-        Call::OrInsertWith => map.find_or_put(item, &mut asked),
-    }
-}
 
 // Whether the map is sound and has these names, each with the value 5, and no other.
 fn holds<M: AskedByKey<Item = Coarse, Key = Caseless> + AskedForRoom>(
@@ -82,59 +108,38 @@ fn is_back(answer: &Put) -> bool {
 }
 
 // Fills the map with so many names, and then tries the insertion of a new one with a request refused: the word for what was seen.
-fn insertion<
-    M: AskedByKey<Item = Coarse, Key = Caseless> + AskedForRoom + Entered + Listed<Coarse> + Drop,
->(alloc: Global, mut map: M, call: Call, count: usize) -> Result<&'static str, Fail> {
+fn insertion<M: AskedByKey<Item = Coarse, Key = Caseless> + AskedForRoom + Listed<Coarse>>(
+    alloc: Global,
+    map: &mut M,
+    call: impl Tried<M>,
+    count: usize,
+) -> Result<&'static str, Fail> {
     let names = NAMES.get(..count).ok_or("too many names")?;
-    fill(&mut map, names)?;
+    fill(map, names)?;
     let walk = map.listed(alloc)?;
     arm(alloc);
-    let answer = put(&mut map, call, new_item());
+    let answer = call.put(map, new_item());
     let is_met = is_met(alloc);
     if is_shown(&answer) && !is_met {
         return Ok("inserted");
     }
-    let is_kept = is_back(&answer) && holds(&map, names) && map.lists(walk.as_slice());
-    if is_met && is_kept && is_shown(&put(&mut map, call, new_item())) {
+    let is_kept = is_back(&answer) && holds(map, names) && map.lists(walk.as_slice());
+    if is_met && is_kept && is_shown(&call.put(map, new_item())) {
         return Ok("entry_refused");
     }
     Err(Fail::from("the map or the item is not as it was, or an item was refused for nothing"))
 }
 
-// Which insertion is tried that shows its item.
-#[derive(Clone, Copy)]
-enum Shows {
-    InsertRef,
-    OrInsertRef,
-    OrInsertWithRef,
+fn ordered_insertion(alloc: Global, call: Call) -> Result<&'static str, Fail> {
+    insertion(alloc, &mut in_order(alloc), call, 4)
 }
 
-// What the insertion of a new item answers.
-fn show(map: &mut Ordered<Coarse>, call: Shows, item: Coarse) -> Put {
-    match call {
-        Shows::InsertRef => map.put_shown(item),
-        Shows::OrInsertRef => map.show_or_put(item),
-        Shows::OrInsertWithRef => map.show_or_put_made(item),
-    }
-}
-
-// The same of an insertion that shows its item, into an ordered map of four names.
 fn shown_insertion(alloc: Global, call: Shows) -> Result<&'static str, Fail> {
-    let mut map = in_order(alloc);
-    let names = NAMES.get(..4).ok_or("too many names")?;
-    fill(&mut map, names)?;
-    let walk = map.listed(alloc)?;
-    arm(alloc);
-    let answer = show(&mut map, call, new_item());
-    let is_met = is_met(alloc);
-    if is_shown(&answer) && !is_met {
-        return Ok("inserted");
-    }
-    let is_kept = is_back(&answer) && holds(&map, names) && map.lists(walk.as_slice());
-    if is_met && is_kept && is_shown(&show(&mut map, call, new_item())) {
-        return Ok("entry_refused");
-    }
-    Err(Fail::from("the map or the item is not as it was, or an item was refused for nothing"))
+    insertion(alloc, &mut in_order(alloc), call, 4)
+}
+
+fn hash_insertion(alloc: Global, call: Call) -> Result<&'static str, Fail> {
+    insertion(alloc, &mut by_hash(alloc), call, 9)
 }
 
 #[test]
@@ -154,48 +159,40 @@ fn or_insert_with_ref(rt: HostRuntime) -> Result<(), Fail> {
 
 #[test]
 fn vacant_insert(rt: HostRuntime) -> Result<(), Fail> {
-    let map = in_order(rt.alloc());
-    tell(&rt, insertion(rt.alloc(), map, Call::Insert, 4))
+    tell(&rt, ordered_insertion(rt.alloc(), Call::Insert))
 }
 
 #[test]
 fn hash_vacant_insert(rt: HostRuntime) -> Result<(), Fail> {
-    let map = by_hash(rt.alloc());
-    tell(&rt, insertion(rt.alloc(), map, Call::Insert, 9))
+    tell(&rt, hash_insertion(rt.alloc(), Call::Insert))
 }
 
 #[test]
 fn insert_entry(rt: HostRuntime) -> Result<(), Fail> {
-    let map = in_order(rt.alloc());
-    tell(&rt, insertion(rt.alloc(), map, Call::InsertEntry, 4))
+    tell(&rt, ordered_insertion(rt.alloc(), Call::InsertEntry))
 }
 
 #[test]
 fn hash_insert_entry(rt: HostRuntime) -> Result<(), Fail> {
-    let map = by_hash(rt.alloc());
-    tell(&rt, insertion(rt.alloc(), map, Call::InsertEntry, 9))
+    tell(&rt, hash_insertion(rt.alloc(), Call::InsertEntry))
 }
 
 #[test]
 fn or_insert(rt: HostRuntime) -> Result<(), Fail> {
-    let map = in_order(rt.alloc());
-    tell(&rt, insertion(rt.alloc(), map, Call::OrInsert, 4))
+    tell(&rt, ordered_insertion(rt.alloc(), Call::OrInsert))
 }
 
 #[test]
 fn hash_or_insert(rt: HostRuntime) -> Result<(), Fail> {
-    let map = by_hash(rt.alloc());
-    tell(&rt, insertion(rt.alloc(), map, Call::OrInsert, 9))
+    tell(&rt, hash_insertion(rt.alloc(), Call::OrInsert))
 }
 
 #[test]
 fn or_insert_with(rt: HostRuntime) -> Result<(), Fail> {
-    let map = in_order(rt.alloc());
-    tell(&rt, insertion(rt.alloc(), map, Call::OrInsertWith, 4))
+    tell(&rt, ordered_insertion(rt.alloc(), Call::OrInsertWith))
 }
 
 #[test]
 fn hash_or_insert_with(rt: HostRuntime) -> Result<(), Fail> {
-    let map = by_hash(rt.alloc());
-    tell(&rt, insertion(rt.alloc(), map, Call::OrInsertWith, 9))
+    tell(&rt, hash_insertion(rt.alloc(), Call::OrInsertWith))
 }

@@ -35,7 +35,7 @@ fn succeeds(lent: DuplicateItem<Kept, &Kept>) -> bool {
 }
 
 // Items of the values 1 to 3.
-fn items(alloc: Global) -> Result<(Kept, Kept, Kept), AllocError> {
+pub(crate) fn items(alloc: Global) -> Result<(Kept, Kept, Kept), AllocError> {
     Ok((
         make_kept(alloc, 1)?,
         make_kept(alloc, 2)?,

@@ -34,33 +34,29 @@ fn has_both<M: AskedByKey<Item = Named, Key = [u8; 3]> + AskedForRoom>(map: &M) 
 
 // The word for a map that an iterator lies to before and after it has two items: a request that is refused is one of theirs.
 fn lied_to<
-    M: AskedByKey<Item = Named, Key = [u8; 3]>
-        + AskedToInsert<Named>
-        + AskedForRoom
-        + Bulk<Named>
-        + Drop,
->(alloc: Global, mut map: M) -> Result<&'static str, Fail> {
+    M: AskedByKey<Item = Named, Key = [u8; 3]> + AskedToInsert<Named> + AskedForRoom + Bulk<Named>,
+>(alloc: Global, map: &mut M) -> Result<&'static str, Fail> {
     arm(alloc);
-    let is_empty_kept = is_not_taken_in(&mut map) && map.len() == 0;
-    let refused = (put_at_last(&mut map, FOO), put_at_last(&mut map, BAR));
-    let is_kept = is_empty_kept && is_not_taken_in(&mut map);
+    let is_empty_kept = is_not_taken_in(map) && map.len() == 0;
+    let refused = (put_at_last(map, FOO), put_at_last(map, BAR));
+    let is_kept = is_empty_kept && is_not_taken_in(map);
     let is_met = is_met(alloc);
     match refused {
-        (Some(false), Some(false)) if is_kept && !is_met && has_both(&map) => Ok("no_item_refused"),
+        (Some(false), Some(false)) if is_kept && !is_met && has_both(map) => Ok("no_item_refused"),
         (Some(true), Some(false)) | (Some(false), Some(true))
-            if is_kept && is_met && has_both(&map) => { Ok("hint_refused") }
+            if is_kept && is_met && has_both(map) => { Ok("hint_refused") }
         _ => Err(Fail::from("a hint was believed, or the map is not as it was")),
     }
 }
 
 #[test]
 fn lying_hints(rt: HostRuntime) -> Result<(), Fail> {
-    let map = in_order(rt.alloc());
-    tell(&rt, lied_to(rt.alloc(), map))
+    let mut map = in_order(rt.alloc());
+    tell(&rt, lied_to(rt.alloc(), &mut map))
 }
 
 #[test]
 fn hash_lying_hints(rt: HostRuntime) -> Result<(), Fail> {
-    let map = by_hash(rt.alloc());
-    tell(&rt, lied_to(rt.alloc(), map))
+    let mut map = by_hash(rt.alloc());
+    tell(&rt, lied_to(rt.alloc(), &mut map))
 }

@@ -103,20 +103,19 @@ fn insertion<
     M: AskedByKey<Item = Numbered, Key = u32>
         + AskedToInsert<Numbered>
         + AskedForRoom
-        + Listed<Numbered>
-        + Drop,
->(alloc: Global, mut map: M, call: impl Call<M>, count: u32) -> Result<&'static str, Fail> {
-    fill(&mut map, count)?;
+        + Listed<Numbered>,
+>(alloc: Global, map: &mut M, call: impl Call<M>, count: u32) -> Result<&'static str, Fail> {
+    fill(map, count)?;
     let walk = map.listed(alloc)?;
     let new = numbered(1000, 6);
     arm(alloc);
-    let outcome = call.put(&mut map, new);
+    let outcome = call.put(map, new);
     let is_met = is_met(alloc);
     match outcome {
-        Inserted::Done if !is_met && holds(&map, count, Some(6)) => Ok("inserted"),
+        Inserted::Done if !is_met && holds(map, count, Some(6)) => Ok("inserted"),
         Inserted::Refused(item, error) => {
             let is_memory = is_met && item == new && !error.is_capacity_overflow();
-            if is_memory && goes_in_again(&mut map, call, item, count, walk.as_slice()) {
+            if is_memory && goes_in_again(map, call, item, count, walk.as_slice()) {
                 return Ok("item_back");
             }
             Err(Fail::from("the map or the item is not as it was, or it refuses again"))
@@ -125,48 +124,52 @@ fn insertion<
     }
 }
 
+fn ordered_insertion(alloc: Global, count: u32) -> Result<&'static str, Fail> {
+    insertion(alloc, &mut in_order(alloc), ByUnique, count)
+}
+
+fn hash_insertion(alloc: Global, count: u32) -> Result<&'static str, Fail> {
+    insertion(alloc, &mut by_hash(alloc), ByUnique, count)
+}
+
 // A store is full with 4 and with 8 items, the ordered index too; a hash index first with 9.
 #[test]
 fn insert_unique(rt: HostRuntime) -> Result<(), Fail> {
-    let map = in_order(rt.alloc());
-    tell(&rt, insertion(rt.alloc(), map, ByUnique, 4))
+    tell(&rt, ordered_insertion(rt.alloc(), 4))
 }
 
 #[test]
 fn insert_unique_counted(rt: HostRuntime) -> Result<(), Fail> {
-    let map = in_order(rt.alloc());
-    tell(&rt, insertion(rt.alloc(), map, ByCounted, 4))
+    let mut map = in_order(rt.alloc());
+    tell(&rt, insertion(rt.alloc(), &mut map, ByCounted, 4))
 }
 
 // The 78th of ascending numbers gives the tree its third level, and no unused node is left.
 #[test]
 fn prepare_of_three_levels(rt: HostRuntime) -> Result<(), Fail> {
-    let map = in_order(rt.alloc());
-    tell(&rt, insertion(rt.alloc(), map, ByUnique, 78))
+    tell(&rt, ordered_insertion(rt.alloc(), 78))
 }
 
 #[test]
 fn insert_overwrite(rt: HostRuntime) -> Result<(), Fail> {
-    let map = in_order(rt.alloc());
-    tell(&rt, insertion(rt.alloc(), map, ByOverwrite, 4))
+    let mut map = in_order(rt.alloc());
+    tell(&rt, insertion(rt.alloc(), &mut map, ByOverwrite, 4))
 }
 
 #[test]
 fn hash_insert_unique(rt: HostRuntime) -> Result<(), Fail> {
-    let map = by_hash(rt.alloc());
-    tell(&rt, insertion(rt.alloc(), map, ByUnique, 8))
+    tell(&rt, hash_insertion(rt.alloc(), 8))
 }
 
 #[test]
 fn hash_insert_unique_into_full_index(rt: HostRuntime) -> Result<(), Fail> {
-    let map = by_hash(rt.alloc());
-    tell(&rt, insertion(rt.alloc(), map, ByUnique, 9))
+    tell(&rt, hash_insertion(rt.alloc(), 9))
 }
 
 #[test]
 fn hash_insert_overwrite(rt: HostRuntime) -> Result<(), Fail> {
-    let map = by_hash(rt.alloc());
-    tell(&rt, insertion(rt.alloc(), map, ByOverwrite, 9))
+    let mut map = by_hash(rt.alloc());
+    tell(&rt, insertion(rt.alloc(), &mut map, ByOverwrite, 9))
 }
 
 // Fills the map with so many numbers, puts each in again by both insertions, and clears the map: whether that went well, and met a request.
@@ -195,17 +198,19 @@ fn akin_insertions_without_memory(rt: HostRuntime) -> Result<(), Fail> {
     Ok(())
 }
 
+fn hash_akin_insertions(alloc: Global, count: u32) -> Result<(bool, bool), Fail> {
+    akin_insertions(alloc, by_hash(alloc), count)
+}
+
 #[test]
 fn hash_akin_insertions_without_memory(rt: HostRuntime) -> Result<(), Fail> {
-    let map = by_hash(rt.alloc());
-    check(&rt, akin_insertions(rt.alloc(), map, 8)? == (true, false));
+    check(&rt, hash_akin_insertions(rt.alloc(), 8)? == (true, false));
     Ok(())
 }
 
 #[test]
 fn hash_akin_insertions_into_full_index(rt: HostRuntime) -> Result<(), Fail> {
-    let map = by_hash(rt.alloc());
-    check(&rt, akin_insertions(rt.alloc(), map, 9)? == (true, false));
+    check(&rt, hash_akin_insertions(rt.alloc(), 9)? == (true, false));
     Ok(())
 }
 

@@ -39,20 +39,19 @@ fn reservation<
     M: AskedByKey<Item = Numbered, Key = u32>
         + AskedToInsert<Numbered>
         + AskedForRoom
-        + Listed<Numbered>
-        + Drop,
->(alloc: Global, mut map: M, call: impl Reserving<M>) -> Result<&'static str, Fail> {
-    fill(&mut map, 4)?;
+        + Listed<Numbered>,
+>(alloc: Global, map: &mut M, call: impl Reserving<M>) -> Result<&'static str, Fail> {
+    fill(map, 4)?;
     let walk = map.listed(alloc)?;
     let room = map.room();
     arm(alloc);
-    let made = call.reserve(&mut map);
+    let made = call.reserve(map);
     let is_met = is_met(alloc);
-    let is_kept = holds(&map, 4, None) && map.lists(walk.as_slice()) && map.room() >= room;
+    let is_kept = holds(map, 4, None) && map.lists(walk.as_slice()) && map.room() >= room;
     match made {
         Ok(()) if is_kept && !is_met => Ok("made"),
         Err(error) if is_kept && is_met && !error.is_capacity_overflow() => {
-            let _ = call.reserve(&mut map)?;
+            let _ = call.reserve(map)?;
             Ok("room_refused")
         }
         _ => Err(Fail::from("the map is not as it was, or room was refused for nothing")),
@@ -61,20 +60,20 @@ fn reservation<
 
 #[test]
 fn reserve(rt: HostRuntime) -> Result<(), Fail> {
-    let map = in_order(rt.alloc());
-    tell(&rt, reservation(rt.alloc(), map, ByReserve))
+    let mut map = in_order(rt.alloc());
+    tell(&rt, reservation(rt.alloc(), &mut map, ByReserve))
 }
 
 #[test]
 fn hash_reserve(rt: HostRuntime) -> Result<(), Fail> {
-    let map = by_hash(rt.alloc());
-    tell(&rt, reservation(rt.alloc(), map, ByReserve))
+    let mut map = by_hash(rt.alloc());
+    tell(&rt, reservation(rt.alloc(), &mut map, ByReserve))
 }
 
 #[test]
 fn hash_try_reserve(rt: HostRuntime) -> Result<(), Fail> {
-    let map = by_hash(rt.alloc());
-    tell(&rt, reservation(rt.alloc(), map, ByTryReserve))
+    let mut map = by_hash(rt.alloc());
+    tell(&rt, reservation(rt.alloc(), &mut map, ByTryReserve))
 }
 
 // The least room that a shrink leaves; `None` asks for no more than the items need.
@@ -86,18 +85,18 @@ fn shrink_by<M: AskedForRoom>(map: &mut M, min: Option<usize>) -> Result<(), Try
 }
 
 // The word for a shrink of a map of nine numbers, with vacant slots among them.
-fn shrink<M: AskedByKey<Item = Numbered, Key = u32> + AskedForRoom + Walked<Numbered> + Drop>(
+fn shrink<M: AskedByKey<Item = Numbered, Key = u32> + AskedForRoom + Walked<Numbered>>(
     alloc: Global,
-    mut map: M,
+    map: &mut M,
     min: Option<usize>,
 ) -> Result<&'static str, Fail> {
-    if !retain_nine(&mut map) {
+    if !retain_nine(map) {
         return Err(Fail::from("an item is not in"));
     }
     arm(alloc);
-    let shrunk = shrink_by(&mut map, min);
+    let shrunk = shrink_by(map, min);
     let is_met = is_met(alloc);
-    let is_kept = are_left(&map) && map.is_compact();
+    let is_kept = are_left(map) && map.is_compact();
     match shrunk {
         Ok(()) if is_kept => Ok(if is_met { "shrunk_without" } else { "shrunk" }),
         Err(error) if is_kept && is_met && !error.is_capacity_overflow() => Ok("shrink_refused"),
@@ -105,28 +104,32 @@ fn shrink<M: AskedByKey<Item = Numbered, Key = u32> + AskedForRoom + Walked<Numb
     }
 }
 
+fn ordered_shrink(alloc: Global, min: Option<usize>) -> Result<&'static str, Fail> {
+    shrink(alloc, &mut in_order(alloc), min)
+}
+
+fn hash_shrink(alloc: Global, min: Option<usize>) -> Result<&'static str, Fail> {
+    shrink(alloc, &mut by_hash(alloc), min)
+}
+
 #[test]
 fn shrink_to_fit(rt: HostRuntime) -> Result<(), Fail> {
-    let map = in_order(rt.alloc());
-    tell(&rt, shrink(rt.alloc(), map, None))
+    tell(&rt, ordered_shrink(rt.alloc(), None))
 }
 
 #[test]
 fn hash_shrink_to_fit(rt: HostRuntime) -> Result<(), Fail> {
-    let map = by_hash(rt.alloc());
-    tell(&rt, shrink(rt.alloc(), map, None))
+    tell(&rt, hash_shrink(rt.alloc(), None))
 }
 
 #[test]
 fn shrink_to(rt: HostRuntime) -> Result<(), Fail> {
-    let map = in_order(rt.alloc());
-    tell(&rt, shrink(rt.alloc(), map, Some(12)))
+    tell(&rt, ordered_shrink(rt.alloc(), Some(12)))
 }
 
 #[test]
 fn hash_shrink_to(rt: HostRuntime) -> Result<(), Fail> {
-    let map = by_hash(rt.alloc());
-    tell(&rt, shrink(rt.alloc(), map, Some(12)))
+    tell(&rt, hash_shrink(rt.alloc(), Some(12)))
 }
 
 // The numbers from the one up to the other, each with the value 5.
@@ -143,19 +146,18 @@ fn extension<
     M: AskedByKey<Item = Numbered, Key = u32>
         + AskedToInsert<Numbered>
         + AskedForRoom
-        + Bulk<Numbered>
-        + Drop,
->(alloc: Global, mut map: M) -> Result<&'static str, Fail> {
-    fill(&mut map, 5)?;
+        + Bulk<Numbered>,
+>(alloc: Global, map: &mut M) -> Result<&'static str, Fail> {
+    fill(map, 5)?;
     let items = numbers(alloc, 5, 25)?;
     arm(alloc);
     let extended = map.extend(items);
     let is_met = is_met(alloc);
     match extended {
-        Ok(()) if !is_met && holds(&map, 25, None) => Ok("extended"),
+        Ok(()) if !is_met && holds(map, 25, None) => Ok("extended"),
         Err(stopped) if is_met && !stopped.error.is_capacity_overflow() => match stopped.item {
-            None if holds(&map, 5, None) => Ok("none_taken"),
-            Some(item) if holds(&map, item.number, None) => Ok("item_back"),
+            None if holds(map, 5, None) => Ok("none_taken"),
+            Some(item) if holds(map, item.number, None) => Ok("item_back"),
             _ => Err(Fail::from("the map does not hold the items before the refused one")),
         },
         _ => Err(Fail::from("an item is gone, or was refused for nothing")),
@@ -164,12 +166,12 @@ fn extension<
 
 #[test]
 fn extend(rt: HostRuntime) -> Result<(), Fail> {
-    tell(&rt, extension(rt.alloc(), in_order(rt.alloc())))
+    tell(&rt, extension(rt.alloc(), &mut in_order(rt.alloc())))
 }
 
 #[test]
 fn hash_extend(rt: HostRuntime) -> Result<(), Fail> {
-    tell(&rt, extension(rt.alloc(), by_hash(rt.alloc())))
+    tell(&rt, extension(rt.alloc(), &mut by_hash(rt.alloc())))
 }
 
 // The word for the numbers 5 to 24 added to a map of five numbers.
@@ -177,20 +179,19 @@ fn addition<
     M: AskedByKey<Item = Numbered, Key = u32>
         + AskedToInsert<Numbered>
         + Adding<Numbered>
-        + AskedForRoom
-        + Drop,
->(alloc: Global, mut map: M) -> Result<&'static str, Fail> {
-    fill(&mut map, 5)?;
+        + AskedForRoom,
+>(alloc: Global, map: &mut M) -> Result<&'static str, Fail> {
+    fill(map, 5)?;
     let items = numbers(alloc, 5, 25)?;
     arm(alloc);
     let added = map.add_each(items);
     let is_met = is_met(alloc);
     let is_all = added == Added::All;
     match stop_of(added) {
-        None if is_all && !is_met && holds(&map, 25, None) => Ok("added"),
+        None if is_all && !is_met && holds(map, 25, None) => Ok("added"),
         Some(stopped) if is_met && !stopped.error.is_capacity_overflow() => match stopped.item {
-            None if holds(&map, 5, None) => Ok("none_added"),
-            Some(item) if holds(&map, item.number, None) => Ok("added_back"),
+            None if holds(map, 5, None) => Ok("none_added"),
+            Some(item) if holds(map, item.number, None) => Ok("added_back"),
             _ => Err(Fail::from("the map does not hold the items before the refused one")),
         },
         _ => Err(Fail::from("an item is gone, or was refused for nothing")),
@@ -207,10 +208,10 @@ fn stop_of(added: Added<Numbered>) -> Option<ExtendError<Numbered>> {
 
 #[test]
 fn extend_unique(rt: HostRuntime) -> Result<(), Fail> {
-    tell(&rt, addition(rt.alloc(), in_order(rt.alloc())))
+    tell(&rt, addition(rt.alloc(), &mut in_order(rt.alloc())))
 }
 
 #[test]
 fn hash_extend_unique(rt: HostRuntime) -> Result<(), Fail> {
-    tell(&rt, addition(rt.alloc(), by_hash(rt.alloc())))
+    tell(&rt, addition(rt.alloc(), &mut by_hash(rt.alloc())))
 }
