@@ -2,7 +2,7 @@
 use crate::calls::holds_the_same;
 use crate::draws::Draws;
 use crate::plain::{Plain, is_same};
-use iddqd::errors::FromIterError;
+use iddqd::errors::{DuplicateItem, FromIterError};
 use iddqd_testing::bulk::Bulk;
 use iddqd_testing::caseless::{Caseless, Coarse};
 use iddqd_testing::probed::{Copied, Probed};
@@ -96,18 +96,24 @@ pub(crate) fn collect_unique<
     let items = drawn(alloc, draws)?;
     let mut plain = Plain::new(alloc, 4_294_967_295);
     let repeat = first_repeat(&mut plain, items.as_slice())?;
-    match (M::collected_unique(alloc, items), repeat) {
-        (Ok(map), None) => {
+    match M::collected_unique(alloc, items) {
+        Ok(map) => {
             let walked = map.walked(alloc)?;
-            Ok(holds_the_same(&map, &plain, walked.as_slice()))
+            Ok(repeat.is_none() && holds_the_same(&map, &plain, walked.as_slice()))
         }
-        (Err(FromIterError::Duplicate(both)), Some((new, earlier))) => {
-            let is_new = is_same(Some(*both.new_item()), Some(new));
-            let is_earlier = is_same(both.duplicates().get(0).copied(), Some(earlier));
-            Ok(is_new && is_earlier && both.duplicates().len() == 1)
-        }
-        _ => Ok(false),
+        Err(FromIterError::Duplicate(both)) => Ok(is_told(&both, repeat)),
+        Err(FromIterError::Refused(_)) => Ok(false),
     }
+}
+
+// Whether these are the new item of the first repeat and the one that it came with.
+fn is_told(both: &DuplicateItem<Coarse>, repeat: Option<(Coarse, Coarse)>) -> bool {
+    let Some((new, earlier)) = repeat else {
+        return false;
+    };
+    let is_new = is_same(Some(*both.new_item()), Some(new));
+    let is_earlier = is_same(both.duplicates().get(0).copied(), Some(earlier));
+    is_new && is_earlier && both.duplicates().len() == 1
 }
 
 // A clone holds the same, equals the map as long as it is not written, and lets its items out.
@@ -117,21 +123,23 @@ pub(crate) fn copy<
     let Ok(mut copy) = map.copied() else {
         return Ok(false);
     };
-    if !map.equals(&copy) || !copy.equals(map) {
-        return Ok(false);
-    }
+    let is_equal = equals_unwritten(map, &mut copy, plain, draws);
+    let walked = copy.walked_out(alloc)?;
+    Ok(is_equal && holds_the_same(map, plain, walked.as_slice()))
+}
+
+// Whether the copy equals the map just as long as it is not written; then what was written is undone.
+fn equals_unwritten<M: Probed>(map: &M, copy: &mut M, plain: &Plain, draws: &mut Draws) -> bool {
+    let is_equal = map.equals(copy) && copy.equals(map);
     let (name, value) = (draws.name(), draws.below(1000));
     let old = plain.find(&name);
     let _ = copy.write_by_reborrow(&name, value);
     let is_changed = matches!(old, Some(item) if item.value != value);
-    if map.equals(&copy) == is_changed {
-        return Ok(false);
-    }
+    let is_told = map.equals(copy) != is_changed;
     if let Some(item) = old {
         let _ = copy.write_by_reborrow(&name, item.value);
     }
-    let walked = copy.walked_out(alloc)?;
-    Ok(holds_the_same(map, plain, walked.as_slice()))
+    is_equal && is_told
 }
 
 // An entry of a clone reads the item there, and shows what it wrote.

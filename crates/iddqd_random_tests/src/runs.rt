@@ -168,6 +168,16 @@ fn run_hashed<M: Callable>(
     Ok(())
 }
 
+// The same over the default hasher.
+fn run_default(
+    rt: &impl Abort,
+    alloc: Global,
+    run: Run,
+    map: Hashed<Coarse>,
+) -> Result<(), AllocError> {
+    run_hashed(rt, alloc, run, map)
+}
+
 /// What is called of an ordered map.
 #[derive(Clone, Copy, Debug)]
 enum OrderedCall {
@@ -280,8 +290,7 @@ fn ordered_calls_at_the_limit(rt: HostRuntime) -> Result<(), Fail> {
 fn hash_calls(rt: HostRuntime) -> Result<(), Fail> {
     for seed in [41, 42] {
         let run = announced(&rt, of_seed(seed, 20_000, 7, MAX_ITEMS))?;
-        let map = by_hash(rt.alloc());
-        run_hashed(&rt, rt.alloc(), run, map)?;
+        run_default(&rt, rt.alloc(), run, by_hash(rt.alloc()))?;
     }
     Ok(())
 }
@@ -292,7 +301,7 @@ fn hash_calls_at_the_limit(rt: HostRuntime) -> Result<(), Fail> {
         let run = announced(&rt, of_seed(seed, 10_000, 3, 14))?;
         let hasher = iddqd::DefaultHashBuilder::new();
         let map = Hashed::new(IdHashMap::with_limit(rt.alloc(), 14, hasher));
-        run_hashed(&rt, rt.alloc(), run, map)?;
+        run_default(&rt, rt.alloc(), run, map)?;
     }
     Ok(())
 }
