@@ -113,9 +113,9 @@ fn row_of(replies: &[Reply<Kept>]) -> Option<&'static str> {
 }
 
 // Runs the commands on a new map with a request refused: the row that came.
-fn swept_run<M: AskedByKey<Item = Kept, Key = u32> + Commanded<Kept, u32> + Drop>(
+fn swept_run<M: AskedByKey<Item = Kept, Key = u32> + Commanded<Kept, u32>>(
     alloc: Global,
-    mut map: M,
+    map: &mut M,
 ) -> Result<&'static str, Fail> {
     let commands = commands(alloc)?;
     arm(alloc);
@@ -141,12 +141,12 @@ fn swept_run<M: AskedByKey<Item = Kept, Key = u32> + Commanded<Kept, u32> + Drop
 
 #[test]
 fn run_of_commands(rt: HostRuntime) -> Result<(), Fail> {
-    let map = in_order(rt.alloc());
-    tell(&rt, swept_run(rt.alloc(), map))
+    let mut map = in_order(rt.alloc());
+    tell(&rt, swept_run(rt.alloc(), &mut map))
 }
 
 #[test]
 fn hash_run_of_commands(rt: HostRuntime) -> Result<(), Fail> {
-    let map = by_hash(rt.alloc());
-    tell(&rt, swept_run(rt.alloc(), map))
+    let mut map = by_hash(rt.alloc());
+    tell(&rt, swept_run(rt.alloc(), &mut map))
 }
