@@ -220,6 +220,17 @@ fn is_answered_in_order(
     }
 }
 
+// Whether the ordered map holds what the list does, in order.
+fn is_held_in_order(
+    alloc: Global,
+    map: &Ordered<Coarse>,
+    plain: &Plain,
+) -> Result<bool, AllocError> {
+    let walked = map.walked(alloc)?;
+    let held = calls::holds_the_same(map, plain, walked.as_slice());
+    Ok(held && ordered::ascends(walked.as_slice()) && ordered::ends(map, plain))
+}
+
 // Runs the calls on an ordered map.
 fn run_ordered(rt: &impl Abort, alloc: Global, run: Run) -> Result<(), AllocError> {
     let mut map = Ordered::new(IdOrdMap::with_limit(alloc, run.limit));
@@ -232,11 +243,8 @@ fn run_ordered(rt: &impl Abort, alloc: Global, run: Run) -> Result<(), AllocErro
             answered,
             "{run:?}: call {number}, {call:?}, is answered otherwise"
         );
-        let walked = map.walked(alloc)?;
-        let held = calls::holds_the_same(&map, &plain, walked.as_slice());
-        let in_order = ordered::ascends(walked.as_slice()) && ordered::ends(&map, &plain);
         assert!(rt;
-            held && in_order,
+            is_held_in_order(alloc, &map, &plain)?,
             "{run:?}: after call {number}, {call:?}, the contents differ"
         );
     }

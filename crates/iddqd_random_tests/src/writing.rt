@@ -45,14 +45,14 @@ pub(crate) fn write_first<M: Copied + Probed + Written + Drop>(
     map: &M,
     draws: &mut Draws,
 ) -> Result<bool, AllocError> {
+    let Ok(copy) = map.copied() else {
+        return Ok(false);
+    };
     let most = draws.below(40) as usize;
     let mut expected = map.walked(alloc)?;
     for item in expected.iter_mut().take(most) {
         raise(item);
     }
-    let Ok(copy) = map.copied() else {
-        return Ok(false);
-    };
     let (written, left) = copy.raised(alloc, most)?;
     let is_left = left == expected.len().saturating_sub(most);
     Ok(is_left && are_same(written.as_slice(), expected.as_slice()))
