@@ -261,9 +261,10 @@ fn are_taken_out<M: AskedByText<Item = Titled>>(map: &mut M, names: &[String]) -
 // Fills the map with a hundred names, and then finds and takes out each: whether that went well, and met a request.
 fn lookups<M: AskedByKey<Item = Titled> + AskedByText<Item = Titled> + Drop>(
     alloc: Global,
-    names: &[String],
     mut map: M,
 ) -> Result<(bool, bool), AllocError> {
+    let names = names(alloc)?;
+    let names = names.as_slice();
     fill_with_names(&mut map, names)?;
     arm(alloc);
     let is_well = are_found(&map, names) && are_taken_out(&mut map, names) && map.len() == 0;
@@ -272,22 +273,14 @@ fn lookups<M: AskedByKey<Item = Titled> + AskedByText<Item = Titled> + Drop>(
 
 #[test]
 fn lookups_without_memory(rt: HostRuntime) -> Result<(), Fail> {
-    let names = names(rt.alloc())?;
     let map = in_order(rt.alloc());
-    check(
-        &rt,
-        lookups(rt.alloc(), names.as_slice(), map)? == (true, false),
-    );
+    check(&rt, lookups(rt.alloc(), map)? == (true, false));
     Ok(())
 }
 
 #[test]
 fn hash_lookups_without_memory(rt: HostRuntime) -> Result<(), Fail> {
-    let names = names(rt.alloc())?;
     let map = by_hash(rt.alloc());
-    check(
-        &rt,
-        lookups(rt.alloc(), names.as_slice(), map)? == (true, false),
-    );
+    check(&rt, lookups(rt.alloc(), map)? == (true, false));
     Ok(())
 }
