@@ -39,14 +39,39 @@ loop-item-preserved g c =
       },
     )
 
-pub returns-in_err-add-clause-halted : goal.returns-in_err-add-clause-halted
-returns-in_err-add-clause-halted g c =
+pub returns-in-Err : goal.returns-in-Err
+returns-in-Err g c =
+    let kept = c.in-Err.ensures.kept in
+    record {
+      added = tt;
+      halted = search rules;
+      spare_first = tt;
+      fills = record { fills = fills_kept (held c.args.self.now) (held c.reserve.new.self) c.len.ensures.slots kept.keeps; keyed = kept.keyed; spare = kept.spare; hasher = kept.hasher };
+    }
+
+pub returns-in_err-add : goal.returns-in_err-add
+returns-in_err-add g c =
     let old = c.args.self.now in
     let inv = c.loop-item.invariant in
     let back = err_from_is_err_and c.from_residual.result c.from_residual.ensures.1 in
     let stopped = c.in_err-add.ensures in
     let gives = GivesThen g.U.IntoIterator.into_iter_gives g.U.IntoIter.Iterator.next_gives c.args.iter in
-    rw back.1 (halts_adding g.T.IdHashItem.key g.met.T.Key.Eq.laws gives (held old) (held c.loop-item.self) (held c.add.new.self) c.loop-item.yielded inv.2 inv.3.fills.limit stopped.kept.keeps c.in-Some.item (search rules) _ (rw back.2 stopped.halted))
+    rw back.1 (record {
+      added = tt;
+      halted = halts_adding g.T.IdHashItem.key g.met.T.Key.Eq.laws gives (held old) (held c.loop-item.self) (held c.add.new.self) c.loop-item.yielded inv.2 inv.3.fills.limit stopped.kept.keeps c.in-Some.item (search rules) _ (rw back.2 stopped.halted);
+      spare_first = search rules;
+      fills = search rules;
+    })
+
+pub returns : goal.returns
+returns g c =
+    let inv = c.loop-item.invariant in
+    record {
+      added = search rules;
+      halted = tt;
+      spare_first = tt;
+      fills = inv.3;
+    }
 
 pub loop-item-smaller : goal.loop-item-smaller
 loop-item-smaller g c = search rules

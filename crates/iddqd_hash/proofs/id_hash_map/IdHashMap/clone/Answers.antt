@@ -1,4 +1,5 @@
 use Rattle.std.proofs.Common.{◌∙◌, ap, arith, subst, sym, rules}
+use Rattle.std.proofs.lemmas.Result.{err_from_is_err_and}
 use Rattle.std.specs.List.{AllZip}
 use Rattle.iddqd_store.specs.Hashing.{hash_under}
 use Rattle.iddqd_hash.specs.HashItems.{Keyed}
@@ -46,3 +47,41 @@ returns-clause-keyed g c =
 
 pub returns-clause-vacant : goal.returns-clause-vacant
 returns-clause-vacant g c = search rules
+
+pub returns-in_err-index : goal.returns-in_err-index
+returns-in_err-index g c =
+    let back = err_from_is_err_and c.from_residual.result c.from_residual.ensures.1 in
+    rw back.1 (record {
+      items = tt;
+      slots = tt;
+      vacant = tt;
+      limit = tt;
+      hasher = tt;
+      spare = tt;
+      keyed = tt;
+      only_memory = search rules;
+    })
+
+pub returns-in_default : goal.returns-in_default
+returns-in_default g c = record {
+  items = tt;
+  slots = tt;
+  vacant = tt;
+  limit = tt;
+  hasher = tt;
+  spare = tt;
+  keyed = tt;
+  only_memory = search rules;
+}
+
+pub returns-in_default-try_clone : goal.returns-in_default-try_clone
+returns-in_default-try_clone g c = record {
+  items = tt;
+  slots = tt;
+  vacant = tt;
+  limit = tt;
+  hasher = tt;
+  spare = tt;
+  keyed = tt;
+  only_memory = search rules;
+}

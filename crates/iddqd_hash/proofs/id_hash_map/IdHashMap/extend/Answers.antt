@@ -1,7 +1,7 @@
-use Rattle.std.proofs.Common.{subst, ap, arith, ◌∙◌, rules}
+use Rattle.std.proofs.Common.{subst, ap, arith, ◌∙◌, length, rules}
 use Rattle.std.proofs.iter.Next.{on}
 use Rattle.iddqd_store.specs.Contents.{OverwritesItem}
-use Rattle.iddqd_store.proofs.CollectingLemmas.{fills_on, overwrites_last, overwritten}
+use Rattle.iddqd_store.proofs.CollectingLemmas.{fills_kept, fills_on, overwrites_last, overwritten}
 use Rattle.iddqd_store.specs.Hashing.{hash_under}
 use Rattle.iddqd_hash.specs.HashItems.{Keyed, held}
 use Rattle.iddqd_hash.proofs.CollectLemmas.{overwritten_hasher}
@@ -33,5 +33,46 @@ loop-item-preserved g c =
 pub loop-item-init : goal.loop-item-init
 loop-item-init g c = search rules
 
-pub returns-in-Err-insert_overwrite-clause-not_begun : goal.returns-in-Err-insert_overwrite-clause-not_begun
-returns-in-Err-insert_overwrite-clause-not_begun g c = search rules
+pub returns-in-Err : goal.returns-in-Err
+returns-in-Err g c =
+    let kept = c.in-Err.ensures.kept in
+    record {
+      taken = tt;
+      stopped = tt;
+      spare_first = tt;
+      not_begun = kept;
+      fills = fills_kept (held c.args.self.now) (held c.reserve.new.self) c.len.ensures.slots kept.keeps;
+      spare = kept.spare;
+      hasher = kept.hasher;
+      keyed = kept.keyed;
+    }
+
+pub returns-in-Err-insert_overwrite : goal.returns-in-Err-insert_overwrite
+returns-in-Err-insert_overwrite g c =
+    let inv = c.loop-item.invariant in
+    let told = c.in-Err-insert_overwrite.ensures in
+    let kept = told.kept in
+    record {
+      taken = tt;
+      stopped = search rules;
+      spare_first = omega (arith, inv.4.never_less, told.no_spare, ap length kept.keeps.items);
+      not_begun = tt;
+      fills = fills_on (held c.args.self.now) (held c.loop-item.self) (held c.insert_overwrite.new.self) inv.3 (fills_kept (held c.loop-item.self) (held c.insert_overwrite.new.self) inv.3.slots kept.keeps);
+      spare = record { never_less = omega (arith, inv.4.never_less, told.spare.never_less); in_limit = told.spare.in_limit };
+      hasher = kept.hasher ∙ inv.5;
+      keyed = told.keyed;
+    }
+
+pub returns : goal.returns
+returns g c =
+    let inv = c.loop-item.invariant in
+    record {
+      taken = search rules;
+      stopped = tt;
+      spare_first = tt;
+      not_begun = tt;
+      fills = inv.3;
+      spare = inv.4;
+      hasher = inv.5;
+      keyed = inv.6;
+    }

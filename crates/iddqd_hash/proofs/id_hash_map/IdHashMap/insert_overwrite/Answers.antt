@@ -1,4 +1,5 @@
-use Rattle.std.proofs.Common.{◌∙◌, ◌≡◌, Some, sym, ap, subst, arith}
+use Rattle.std.proofs.Common.{◌∙◌, ◌≡◌, Some, sym, ap, subst, arith, rules}
+use Rattle.std.proofs.lemmas.Result.{err_from_is_err_and}
 use Rattle.iddqd_store.specs.Contents.{find_item, replaced}
 use Rattle.iddqd_store.specs.Hashing.{hash_under}
 use Rattle.iddqd_hash.specs.HashItems.{Keyed}
@@ -64,3 +65,34 @@ returns-in-Some-clause-spare g c =
     let paired = c.exchange.ensures.paired in
     subst (λ old. KeepsSpare old (shown new m.index m.hasher)) c.self.view_is
     (keeps_spare g.T.IdHashItem.key g.T.Key.PartialEq.eq g.T.Key.Hash.hash_input (hash_under g.S.BuildHasher g.S.Hasher.Hasher) m.hasher m.store new m.index m.index c.self.invariant paired (omega (arith, c.self.invariant.counted, paired.counted)) (omega (arith, c.exchange.ensures.capacity)) c.exchange.ensures.limit)
+
+pub returns-in_err-insert_new-in-None : goal.returns-in_err-insert_new-in-None
+returns-in_err-insert_new-in-None g c =
+    let back = err_from_is_err_and c.from_residual.result c.from_residual.ensures.1 in
+    let told = c.in_err-insert_new-in-None.ensures in
+    rw back.1 (record {
+      found = tt;
+      replaced = tt;
+      inserted = tt;
+      item = search rules;
+      refused = search rules;
+      no_spare = told.no_spare;
+      kept = told.kept;
+      spare = told.kept.spare;
+      keyed = told.kept.keyed;
+    })
+
+pub returns-in_ok-insert_new-in-None : goal.returns-in_ok-insert_new-in-None
+returns-in_ok-insert_new-in-None g c =
+    let put = c.in_ok-insert_new-in-None.ensures.inserted in
+    record {
+      found = search rules;
+      replaced = tt;
+      inserted = put;
+      item = tt;
+      refused = tt;
+      no_spare = tt;
+      kept = tt;
+      spare = put.spare;
+      keyed = put.keyed;
+    }
