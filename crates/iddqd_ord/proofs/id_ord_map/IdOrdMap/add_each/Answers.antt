@@ -39,14 +39,41 @@ loop-item-preserved g c =
       record { fills = fills_on old between new inv.3.fills (fills_taken x between new put.inserted.takes); keyed = put.inserted.keyed },
     )
 
-pub returns-in_err-add-clause-halted : goal.returns-in_err-add-clause-halted
-returns-in_err-add-clause-halted g c =
+pub returns-in-Err : goal.returns-in-Err
+returns-in-Err g c =
     let old = c.args.self.now in
+    let new = c.reserve.new.self in
+    let rest = c.reserve.ensures.rest in
+    let kept : KeepsItems old new = record { items = ap (λ m. m.items) rest; slots = ap (λ m. m.slots) rest; vacant = ap (λ m. m.vacant) rest; capacity = c.reserve.ensures.capacity; limit = ap (λ m. m.limit) rest } in
+    record {
+      added = tt;
+      halted = search rules;
+      fills = record { fills = fills_kept old new c.len.ensures.slots kept; keyed = c.reserve.ensures.keyed };
+    }
+
+pub returns-in_err-add : goal.returns-in_err-add
+returns-in_err-add g c =
+    let old = c.args.self.now in
+    let between = c.loop-item.self in
+    let new = c.add.new.self in
     let inv = c.loop-item.invariant in
     let back = err_from_is_err_and c.from_residual.result c.from_residual.ensures.1 in
     let stopped = c.in_err-add.ensures in
     let gives = GivesThen g.U.IntoIterator.into_iter_gives g.U.IntoIter.Iterator.next_gives c.args.iter in
-    rw back.1 (halts_adding g.T.IdOrdItem.key g.met.T.Key.Eq.laws gives old c.loop-item.self c.add.new.self c.loop-item.yielded inv.2 inv.3.fills.limit stopped.kept.keeps c.in-Some.item (search rules) _ (rw back.2 stopped.halted))
+    rw back.1 (record {
+      added = tt;
+      halted = halts_adding g.T.IdOrdItem.key g.met.T.Key.Eq.laws gives old between new c.loop-item.yielded inv.2 inv.3.fills.limit stopped.kept.keeps c.in-Some.item (search rules) _ (rw back.2 stopped.halted);
+      fills = record { fills = fills_on old between new inv.3.fills (fills_kept between new inv.3.fills.slots stopped.kept.keeps); keyed = stopped.kept.keyed };
+    })
+
+pub returns : goal.returns
+returns g c =
+    let inv = c.loop-item.invariant in
+    record {
+      added = search rules;
+      halted = tt;
+      fills = inv.3;
+    }
 
 pub loop-item-smaller : goal.loop-item-smaller
 loop-item-smaller g c = search rules

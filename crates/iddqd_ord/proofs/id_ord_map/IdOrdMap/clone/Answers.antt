@@ -1,4 +1,5 @@
 use Rattle.std.proofs.Common.{sym, ap, subst, rules}
+use Rattle.std.proofs.lemmas.Result.{err_from_is_err_and}
 use Rattle.std.specs.List.{AllZip}
 use Rattle.iddqd_ord_index.specs.Listed.{listed_items}
 use Rattle.iddqd_store.proofs.CloneLemmas.{ascends_clones}
@@ -30,3 +31,25 @@ returns-in-Ok-clause-slots g c = search rules
 
 pub returns-in-Ok-clause-vacant : goal.returns-in-Ok-clause-vacant
 returns-in-Ok-clause-vacant g c = search rules
+
+pub returns-in_err-index : goal.returns-in_err-index
+returns-in_err-index g c =
+    let back = err_from_is_err_and c.from_residual.result c.from_residual.ensures.1 in
+    rw back.1 (record {
+      items = tt;
+      slots = tt;
+      vacant = tt;
+      limit = tt;
+      keyed = tt;
+      only_memory = search rules;
+    })
+
+pub returns-in-Err : goal.returns-in-Err
+returns-in-Err g c = record {
+  items = tt;
+  slots = tt;
+  vacant = tt;
+  limit = tt;
+  keyed = tt;
+  only_memory = search rules;
+}

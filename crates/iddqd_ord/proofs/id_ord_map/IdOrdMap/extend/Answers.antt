@@ -1,7 +1,8 @@
-use Rattle.std.proofs.Common.{subst, rules}
+use Rattle.std.proofs.Common.{ap, subst, rules}
 use Rattle.std.proofs.iter.Next.{on}
 use Rattle.iddqd_store.specs.Contents.{OverwritesItem}
-use Rattle.iddqd_store.proofs.CollectingLemmas.{fills_on, overwrites_last, overwritten}
+use Rattle.iddqd_store.specs.Holding.{KeepsItems}
+use Rattle.iddqd_store.proofs.CollectingLemmas.{fills_kept, fills_on, overwrites_last, overwritten}
 use Rattle.iddqd_ord.proofs.id_ord_map.IdOrdMap.extend.Goals as goal
 
 pub loop-item-preserved : goal.loop-item-preserved
@@ -28,5 +29,41 @@ loop-item-preserved g c =
 pub loop-item-init : goal.loop-item-init
 loop-item-init g c = search rules
 
-pub returns-in-Err-insert_overwrite-clause-not_begun : goal.returns-in-Err-insert_overwrite-clause-not_begun
-returns-in-Err-insert_overwrite-clause-not_begun g c = search rules
+pub returns-in-Err : goal.returns-in-Err
+returns-in-Err g c =
+    let old = c.args.self.now in
+    let new = c.reserve.new.self in
+    let rest = c.reserve.ensures.rest in
+    let kept : KeepsItems old new = record { items = ap (λ m. m.items) rest; slots = ap (λ m. m.slots) rest; vacant = ap (λ m. m.vacant) rest; capacity = c.reserve.ensures.capacity; limit = ap (λ m. m.limit) rest } in
+    record {
+      taken = tt;
+      stopped = tt;
+      not_begun = kept;
+      fills = fills_kept old new c.len.ensures.slots kept;
+      keyed = c.reserve.ensures.keyed;
+    }
+
+pub returns-in-Err-insert_overwrite : goal.returns-in-Err-insert_overwrite
+returns-in-Err-insert_overwrite g c =
+    let between = c.loop-item.self in
+    let new = c.insert_overwrite.new.self in
+    let inv = c.loop-item.invariant in
+    let told = c.in-Err-insert_overwrite.ensures in
+    record {
+      taken = tt;
+      stopped = search rules;
+      not_begun = tt;
+      fills = fills_on c.args.self.now between new inv.3 (fills_kept between new inv.3.slots told.kept.keeps);
+      keyed = told.keyed;
+    }
+
+pub returns : goal.returns
+returns g c =
+    let inv = c.loop-item.invariant in
+    record {
+      taken = search rules;
+      stopped = tt;
+      not_begun = tt;
+      fills = inv.3;
+      keyed = inv.4;
+    }

@@ -21,23 +21,44 @@ loop-item-preserved g c =
       put.keyed,
     )
 
-pub returns-in_err-insert_first-clause-repeat : goal.returns-in_err-insert_first-clause-repeat
-returns-in_err-insert_first-clause-repeat g c =
+pub returns-in-Err : goal.returns-in-Err
+returns-in-Err g c = record {
+  items = tt;
+  repeat = tt;
+  vacant = tt;
+  limit = tt;
+  keyed = tt;
+}
+
+pub returns-in_err-insert_first : goal.returns-in_err-insert_first
+returns-in_err-insert_first g c =
     let key = g.T.IdOrdItem.key in
     let inv = c.loop-item.invariant in
     let back = err_from_is_err_and c.from_residual.result c.from_residual.ensures.1 in
     let items = c.loop-item.map.items in
     let differ = differ_from_ascends key g.T.Key.Ord.cmp g.met.T.Key.Ord.matches_eq items inv.5 in
     let gives = GivesThen g.U.IntoIterator.into_iter_gives g.U.IntoIter.Iterator.next_gives c.args.iter in
-    rw back.1 (shows_first key g.met.T.Key.Eq.laws c.loop-item.yielded items inv.2 differ gives c.in-Some.item _ (search rules) (rw back.2 c.in_err-insert_first.ensures.akin))
+    rw back.1 (record {
+      items = tt;
+      repeat = shows_first key g.met.T.Key.Eq.laws c.loop-item.yielded items inv.2 differ gives c.in-Some.item _ (search rules) (rw back.2 c.in_err-insert_first.ensures.akin);
+      vacant = tt;
+      limit = tt;
+      keyed = tt;
+    })
 
-pub returns-clause-items : goal.returns-clause-items
-returns-clause-items g c =
+pub returns : goal.returns
+returns g c =
     let key = g.T.IdOrdItem.key in
     let inv = c.loop-item.invariant in
     let items = c.loop-item.map.items in
     let differ = differ_from_ascends key g.T.Key.Ord.cmp g.met.T.Key.Ord.matches_eq items inv.5 in
-    (c.loop-item.yielded, search rules, collected_differ key g.met.T.Key.Eq.laws c.loop-item.yielded items inv.2 differ, inv.2)
+    record {
+      items = (c.loop-item.yielded, search rules, collected_differ key g.met.T.Key.Eq.laws c.loop-item.yielded items inv.2 differ, inv.2);
+      repeat = tt;
+      vacant = inv.3;
+      limit = inv.4;
+      keyed = inv.5;
+    }
 
 pub loop-item-init : goal.loop-item-init
 loop-item-init g c = grind (arith, common_steps)
