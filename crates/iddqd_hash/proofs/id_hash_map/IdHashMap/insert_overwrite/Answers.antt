@@ -1,4 +1,4 @@
-use Rattle.std.proofs.Common.{◌∙◌, ◌≡◌, Some, sym, ap, subst, arith, rules}
+use Rattle.std.proofs.Common.{◌∙◌, ◌≡◌, None, Some, sym, ap, subst, arith}
 use Rattle.std.proofs.lemmas.Result.{err_from_is_err_and}
 use Rattle.iddqd_store.specs.Contents.{find_item, replaced}
 use Rattle.iddqd_store.specs.Hashing.{hash_under}
@@ -68,14 +68,17 @@ returns-in-Some-clause-spare g c =
 
 pub returns-in_err-insert_new-in-None : goal.returns-in_err-insert_new-in-None
 returns-in_err-insert_new-in-None g c =
+    let key = g.T.IdHashItem.key in
+    let eq = g.T.Key.PartialEq.eq in
+    let absent : find_item key (eq (key c.args.item)) c.args.self.now.items ≡ None = ap (λ v. find_item key (eq (key c.args.item)) v.items) (sym c.self.view_is) ∙ ap (λ k. find_item key (eq k) (items_in c.self.inside.store)) (sym c.key-2.ensures) ∙ sym c.in-None.ensures.item in
     let back = err_from_is_err_and c.from_residual.result c.from_residual.ensures.1 in
     let told = c.in_err-insert_new-in-None.ensures in
     rw back.1 (record {
       found = tt;
       replaced = tt;
       inserted = tt;
-      item = search rules;
-      refused = search rules;
+      item = rw back.2 told.item;
+      refused = rw back.2 (absent, told.kind);
       no_spare = told.no_spare;
       kept = told.kept;
       spare = told.kept.spare;
@@ -84,9 +87,12 @@ returns-in_err-insert_new-in-None g c =
 
 pub returns-in_ok-insert_new-in-None : goal.returns-in_ok-insert_new-in-None
 returns-in_ok-insert_new-in-None g c =
+    let key = g.T.IdHashItem.key in
+    let eq = g.T.Key.PartialEq.eq in
+    let absent : find_item key (eq (key c.args.item)) c.args.self.now.items ≡ None = ap (λ v. find_item key (eq (key c.args.item)) v.items) (sym c.self.view_is) ∙ ap (λ k. find_item key (eq k) (items_in c.self.inside.store)) (sym c.key-2.ensures) ∙ sym c.in-None.ensures.item in
     let put = c.in_ok-insert_new-in-None.ensures.inserted in
     record {
-      found = search rules;
+      found = sym absent;
       replaced = tt;
       inserted = put;
       item = tt;

@@ -1,32 +1,52 @@
 use Rattle.std.proofs.Common.{rules}
+use Rattle.std.proofs.lemmas.Result.{err_from_is_err_and}
 use Rattle.iddqd_hash.proofs.id_hash_map.IdHashMap.with_capacity_and_hasher.Goals as goal
-
-pub returns-in_err-index-clause-empty : goal.returns-in_err-index-clause-empty
-returns-in_err-index-clause-empty g c = search rules
-
-pub returns-in_err-index-clause-spare : goal.returns-in_err-index-clause-spare
-returns-in_err-index-clause-spare g c = search rules
-
-pub returns-in_err-index-clause-within_limit : goal.returns-in_err-index-clause-within_limit
-returns-in_err-index-clause-within_limit g c = search rules
-
-pub returns-in_err-index-clause-capacity : goal.returns-in_err-index-clause-capacity
-returns-in_err-index-clause-capacity g c = search rules
-
-pub returns-in_err-index-clause-hasher : goal.returns-in_err-index-clause-hasher
-returns-in_err-index-clause-hasher g c = search rules
-
-pub returns-in_err-index-clause-in_limit : goal.returns-in_err-index-clause-in_limit
-returns-in_err-index-clause-in_limit g c = search rules
-
-pub returns-in_err-index-clause-refused : goal.returns-in_err-index-clause-refused
-returns-in_err-index-clause-refused g c = search rules
-
-pub returns-in_err-index-clause-keyed : goal.returns-in_err-index-clause-keyed
-returns-in_err-index-clause-keyed g c = search rules
 
 pub returns-clause-spare : goal.returns-clause-spare
 returns-clause-spare g c = search rules
 
 pub overflow_cast-t-10 : goal.overflow_cast-t-10
 overflow_cast-t-10 g c = search rules
+
+pub returns-then-capacity : goal.returns-then-capacity
+returns-then-capacity g c = record {
+  empty = tt;
+  spare = tt;
+  within_limit = tt;
+  capacity = tt;
+  hasher = tt;
+  in_limit = tt;
+  refused = search rules;
+  asked = search rules;
+  keyed = tt;
+}
+
+pub returns-in_err-index : goal.returns-in_err-index
+returns-in_err-index g c =
+    let back = err_from_is_err_and c.from_residual.result c.from_residual.ensures.1 in
+    rw back.1 (record {
+      empty = tt;
+      spare = tt;
+      within_limit = tt;
+      capacity = tt;
+      hasher = tt;
+      in_limit = tt;
+      refused = search rules;
+      asked = search rules;
+      keyed = tt;
+    })
+
+pub returns-in_err-store : goal.returns-in_err-store
+returns-in_err-store g c =
+    let back = err_from_is_err_and c.from_residual-in_err-store.result c.from_residual-in_err-store.ensures.1 in
+    rw back.1 (record {
+      empty = tt;
+      spare = tt;
+      within_limit = tt;
+      capacity = tt;
+      hasher = tt;
+      in_limit = tt;
+      refused = search rules;
+      asked = search rules;
+      keyed = tt;
+    })
