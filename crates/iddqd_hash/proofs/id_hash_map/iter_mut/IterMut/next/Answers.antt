@@ -18,6 +18,15 @@ item_mut-requires g c =
     let found = c.in_ok-slot.ensures in
     there_listed m.slots (slots_below c.args.self.now.next m.slots) c.in_ok-slot.slot found.there m.items found.own
 
+pub invariant_of-self-then-self-len : goal.invariant_of-self-then-self-len
+invariant_of-self-then-self-len g c =
+    let walk = c.args.self.now in
+    let m = walk.map.now in
+    let slot = c.in_ok-slot.slot in
+    let found = c.in_ok-slot.ensures in
+    let below : slots_below walk.next m.slots ≡ walk.done = ap (λ n. slots_below n m.slots) walk.from ∙ found.rises walk.done (omega (arith, c.if-self-len.true, c.len.ensures.len, found.own.as_many)) in
+    record { from = behind_next m.slots walk.done slot (ap (slice_get m.slots) (sym below) ∙ found.there) }
+
 pub returns-in_ok-slot : goal.returns-in_ok-slot
 returns-in_ok-slot g c =
     let walk = c.args.self.now in
