@@ -1,4 +1,6 @@
 //! A hash map over an item store and a hash index.
+#![tactic(auto, unfolding(crate::specs::HashItems::IsKeyed))]
+
 ghost use Rattle.std.specs.Prelude.{◌≡◌, min, ◌↔◌, ◌+◌, ◌≤◌, [], length, IsTrue};
 ghost use Rattle.iddqd_store.specs.Hashing.{hash_under};
 ghost use Rattle.iddqd_store.specs.SlotItems.{HaveSlots};
@@ -81,9 +83,9 @@ pub trait Lookups {
 }
 
 impl<T: IdHashItem, S: BuildHasher> Lookups for IdHashMap<T, S> {
-    ghost use Rattle.iddqd_hash.specs.HashItems.{Keyed};
+    ghost use Rattle.iddqd_hash.specs.HashItems.{IsKeyed};
 
-    ghost keyed = { Keyed T.key T.Key.eq T.Key.hash_input (hash_under S.BuildHasher S.Hasher.Hasher) };
+    ghost keyed = { IsKeyed T.key T.Key.eq T.Key.hash_input (hash_under S.BuildHasher S.Hasher.Hasher) };
 }
 
 impl<T, S> IdHashMap<T, S> {

@@ -1,5 +1,6 @@
 pub mod AddingLemmas
 pub mod ChainLemmas
+pub mod ChangeLemmas
 pub mod CloneLemmas
 pub mod CollectingLemmas
 pub mod ContentsLemmas

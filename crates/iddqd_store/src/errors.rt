@@ -1,5 +1,6 @@
 //! What is answered where an item is not taken.
-ghost use Rattle.std.specs.Prelude.{◌≡◌, ◌↔◌, IsTrue, IfOk, IfErr, map, length, slice_get, option_copied};
+ghost use Rattle.std.specs.Prelude.{◌≡◌, ◌↔◌, IsTrue, IfOk, IfErr, Some, map, length, slice_get, option_copied};
+ghost use Rattle.std.specs.Iterator.{YieldsFirstRef, item_count};
 ghost use Rattle.iddqd_store.specs.declared.errors.TryReserveErrorKind.TheVariants.{CapacityOverflow, AllocError};
 ghost use Rattle.iddqd_store.specs.Contents.{ClonesAreEqual};
 ghost use Rattle.iddqd_store.specs.Errors.{new_item_of, duplicates_of, listed};
@@ -9,11 +10,14 @@ use std::error::Error;
 use std::fmt::{self, Debug, Display, Formatter, Write};
 use std::marker::Model;
 
-/// Why room was refused.
+/// Why room was refused, as contracts see a `TryReserveError`. Code asks `is_capacity_overflow`.
+#[doc(hidden)]
 #[derive(Clone, Copy, Debug, PartialEq, Eq, thiserror::Error)]
-pub(crate) enum TryReserveErrorKind {
+pub enum TryReserveErrorKind {
+    /// The map is full.
     #[error("capacity overflow")]
     CapacityOverflow,
+    /// Memory was refused.
     #[error("memory allocation failed")]
     AllocError,
 }
@@ -87,6 +91,15 @@ impl<D> Few<D> {
         }
     }
 
+    /// The first value.
+    pub fn first(&self) -> &D
+        ensures { slice_get (listed self.now) 0 ≡ Some result.now }
+    {
+        match self {
+            Few::One(a) | Few::Two(a, _) | Few::Three(a, _, _) => a,
+        }
+    }
+
     /// The one at the place, counted from 0; `None` past the end.
     pub fn get(&self, at: usize) -> Option<&D>
         ensures { option_copied result ≡ slice_get (listed self.now) at }
@@ -97,6 +110,57 @@ impl<D> Few<D> {
             (Few::Three(_, _, c), 2) => Some(c),
             _ => None,
         }
+    }
+}
+
+impl<D> Few<D> {
+    /// The values in order, each by a reference. Does not allocate.
+    pub fn iter(&self) -> FewIter<'_, D>
+        ensures { result ≡ listed self.now }
+    {
+        FewIter { few: self, at: 0 }
+    }
+}
+
+impl<'a, D> IntoIterator for &'a Few<D> {
+    type Item = &'a D;
+
+    type IntoIter = FewIter<'a, D>;
+
+    ghost into_iter_gives = { λ few it. it ≡ listed few.now };
+
+    fn into_iter(self) -> FewIter<'a, D> {
+        self.iter()
+    }
+}
+
+/// The values of a `Few`, lent one after the other. Contracts see the values that are still to come.
+#[derive(Drop)]
+pub struct FewIter<'a, D> {
+    few: &'a Few<D>,
+    at: usize,
+}
+
+impl<'a, D> Model for FewIter<'a, D> {
+    ghost use Rattle.std.specs.Prelude.{List, drop};
+    ghost use Rattle.iddqd_store.specs.Errors.{listed};
+
+    ghost Value = { List D };
+
+    ghost view = { λ it. drop it.at (listed it.few.now) };
+}
+
+impl<'a, D> Iterator for FewIter<'a, D> {
+    type Item = &'a D;
+
+    ghost next_gives = { YieldsFirstRef (λ rest. rest) };
+
+    ghost remaining = { item_count (λ rest. rest) };
+
+    fn next(&mut self) -> Option<&'a D> {
+        let value = self.few.get(self.at)?;
+        self.at += 1;
+        Some(value)
     }
 }
 

@@ -1,7 +1,7 @@
 //! Maps under test, one of each kind. Their calls are the maps', and say nothing of what they leave: a test shows that by what it
 //! finds, so that its proof carries no contract of the maps along.
 ghost use Rattle.iddqd.specs.Contents.{Ascends, ClonesAreEqual};
-ghost use Rattle.iddqd.specs.HashItems.{HashItems, Keyed};
+ghost use Rattle.iddqd.specs.HashItems.{HashItems, IsKeyed};
 ghost use Rattle.iddqd.specs.Hashing.{hash_under};
 ghost use Rattle.iddqd.specs.Holding.{Holding};
 
@@ -67,7 +67,7 @@ impl<T: IdHashItem, S: BuildHasher> Model for Hashed<T, S> {
 
     ghost view = { λ hashed. hashed.map };
 
-    ghost invariant = { λ hashed. Keyed T.key T.Key.eq T.Key.hash_input (hash_under S.BuildHasher S.Hasher.Hasher) hashed.map };
+    ghost invariant = { λ hashed. IsKeyed T.key T.Key.eq T.Key.hash_input (hash_under S.BuildHasher S.Hasher.Hasher) hashed.map };
 }
 
 /// An empty ordered map, under test.

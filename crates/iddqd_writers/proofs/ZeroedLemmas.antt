@@ -4,7 +4,7 @@ use Rattle.iddqd_writers.specs.Zeroed.{changed_to, zeroed}
 use Rattle.iddqd_writers.specs.declared.items.Pair.{Pair}
 use Rattle.std.specs.Hash.{HashWrites}
 use Rattle.std.specs.List.{IsDistinct}
-use Rattle.iddqd.specs.HashItems.{HashItems, Keyed}
+use Rattle.iddqd.specs.HashItems.{HashItems, IsKeyed}
 use Rattle.std.specs.List.Sorted.{IsStrictlySortedBy}
 use Rattle.std.specs.Ordering.{nat_cmp}
 use Rattle.iddqd.specs.Contents.{Ascends}
@@ -47,7 +47,8 @@ tells_zeroed : (tell : ℕ → ℕ) (xs : List Pair) → map (λ p. tell p.key) 
 tells_zeroed tell [] = refl
 tells_zeroed tell (x ∷ xs) = ap (λ l. tell x.key ∷ l) (tells_zeroed tell xs)
 
-pub keyed_zeroed : {S : Type 0} (eq : ℕ → ℕ → Bool) (input : ℕ → HashWrites) (hash : S → HashWrites → ℕ) (m : HashItems S Pair) → Keyed (λ p. p.key) eq input hash m → Keyed (λ p. p.key) eq input hash (record m { items = map zeroed m.items })
+pub keyed_zeroed : {S : Type 0} (eq : ℕ → ℕ → Bool) (input : ℕ → HashWrites) (hash : S → HashWrites → ℕ) (m : HashItems S Pair) → IsKeyed (λ p. p.key) eq input hash m → IsKeyed (λ p. p.key) eq input hash (record m { items = map zeroed m.items })
+unfolding IsKeyed
 keyed_zeroed eq input hash m keyed = record {
   differ = subst (IsDistinct eq) (sym (keys_zeroed m.items)) keyed.differ;
   stored = keyed.stored ∙ sym (tells_zeroed (λ k. hash m.hasher (input k)) m.items);

@@ -1,5 +1,5 @@
 //! The hash map, which visits its items in any order and keeps its spare.
-ghost use Rattle.iddqd.specs.HashItems.{Keyed};
+ghost use Rattle.iddqd.specs.HashItems.{IsKeyed};
 ghost use Rattle.iddqd.specs.Hashing.{hash_under};
 ghost use Rattle.iddqd_commands.specs.Step.{Hashed};
 
@@ -22,7 +22,7 @@ impl<T: IdHashItem, S: BuildHasher> KeyedMap for IdHashMap<T, S> {
 
     ghost rule = { Hashed };
 
-    ghost keyed = { Keyed T.key T.Key.eq T.Key.hash_input (hash_under S.BuildHasher S.Hasher.Hasher) };
+    ghost keyed = { IsKeyed T.key T.Key.eq T.Key.hash_input (hash_under S.BuildHasher S.Hasher.Hasher) };
 
     ghost differ = { λ m is. is.differ };
 

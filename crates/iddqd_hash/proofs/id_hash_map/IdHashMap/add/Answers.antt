@@ -4,7 +4,7 @@ use Rattle.iddqd_store.specs.Hashing.{hash_under}
 use Rattle.iddqd_store.specs.SlotItems.{item_of_slot}
 use Rattle.iddqd_store.specs.Store.{item_at}
 use Rattle.iddqd_store.proofs.StoreLemmas.{given}
-use Rattle.iddqd_hash.specs.HashItems.{Keyed}
+use Rattle.iddqd_hash.specs.HashItems.{IsKeyed, Keyed}
 use Rattle.iddqd_hash.specs.HashMap.{HashKeeps}
 use Rattle.iddqd_hash.specs.Paired.{items_in, shown}
 use Rattle.iddqd_hash.proofs.LentLemmas.{item_in_slot}
@@ -14,6 +14,7 @@ use Rattle.iddqd_hash.proofs.id_hash_map.IdHashMap.add.Given.{Over}
 use Rattle.iddqd_hash.proofs.id_hash_map.IdHashMap.add.Goals as goal
 
 keyed_inside : (g : Over) (c : goal.After-key-2 g) → Keyed g.T.IdHashItem.key g.T.Key.PartialEq.eq g.T.Key.Hash.hash_input (hash_under g.S.BuildHasher g.S.Hasher.Hasher) (shown c.self.inside.store c.self.inside.index c.self.inside.hasher)
+unfolding IsKeyed
 keyed_inside g c = subst (Keyed g.T.IdHashItem.key g.T.Key.PartialEq.eq g.T.Key.Hash.hash_input (hash_under g.S.BuildHasher g.S.Hasher.Hasher)) (sym c.self.view_is) c.requires.keyed
 
 pub find_slot-requires-clause-stored : goal.find_slot-requires-clause-stored
@@ -38,6 +39,7 @@ returns-in-Some-clause-halted g c =
     )
 
 pub returns-in-Some-clause-kept : goal.returns-in-Some-clause-kept
+unfolding IsKeyed
 returns-in-Some-clause-kept g c =
     let key = g.T.IdHashItem.key in
     let eq = g.T.Key.PartialEq.eq in

@@ -4,10 +4,11 @@ use Rattle.std.proofs.lemmas.Result.{err_from_is_err_and}
 use Rattle.iddqd_store.specs.Collecting.{AddsAll, GivesThen}
 use Rattle.iddqd_store.proofs.AddingLemmas.{adds_last, adds_none, halts_adding}
 use Rattle.iddqd_store.proofs.CollectingLemmas.{fills_kept, fills_on, fills_taken}
-use Rattle.iddqd_hash.specs.HashItems.{held}
+use Rattle.iddqd_hash.specs.HashItems.{held, IsKeyed}
 use Rattle.iddqd_hash.proofs.id_hash_map.IdHashMap.add_each.Goals as goal
 
 pub loop-item-init : goal.loop-item-init
+unfolding IsKeyed
 loop-item-init g c =
     let key = g.T.IdHashItem.key in
     let old = c.args.self.now in
@@ -20,6 +21,7 @@ loop-item-init g c =
     )
 
 pub loop-item-preserved : goal.loop-item-preserved
+unfolding IsKeyed
 loop-item-preserved g c =
     let old = c.args.self.now in
     let between = c.loop-item.self in
@@ -64,6 +66,7 @@ returns-in_err-add g c =
     })
 
 pub returns : goal.returns
+unfolding IsKeyed
 returns g c =
     let inv = c.loop-item.invariant in
     record {

@@ -4,6 +4,7 @@ use Rattle.iddqd_hash.specs.HashMap.{KeepsSpare}
 use Rattle.iddqd_hash.specs.Paired.{shown}
 use Rattle.iddqd_hash.proofs.MapLemmas.{emptied_keyed, emptied_spare}
 use Rattle.iddqd_hash.proofs.PairedLemmas.{paired_empty}
+use Rattle.iddqd_hash.specs.HashItems.{IsKeyed}
 use Rattle.iddqd_hash.proofs.id_hash_map.IdHashMap.clear.Goals as goal
 
 pub invariant_of-self : goal.invariant_of-self
@@ -19,4 +20,5 @@ returns-clause-spare g c =
     (emptied_spare g.T.IdHashItem.key g.T.Key.PartialEq.eq g.T.Key.Hash.hash_input (hash_under g.S.BuildHasher g.S.Hasher.Hasher) m.hasher m.store c.clear.new.self m.index c.clear-2.new.self c.self.invariant (paired_empty c.clear.new.self c.clear-2.new.self.pairs none c.clear-2.ensures.pairs) c.clear-2.ensures.spare none (omega (arith, capacity)) (ap (λ s. s.limit) c.clear.ensures))
 
 pub returns-clause-keyed : goal.returns-clause-keyed
+unfolding IsKeyed
 returns-clause-keyed g c = emptied_keyed _ _ _ _ _ c.clear.new.self c.clear-2.new.self (ap (λ s. s.slots) c.clear.ensures)

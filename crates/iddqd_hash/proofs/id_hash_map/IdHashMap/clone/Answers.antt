@@ -2,7 +2,7 @@ use Rattle.std.proofs.Common.{◌∙◌, ap, arith, subst, sym, rules}
 use Rattle.std.proofs.lemmas.Result.{err_from_is_err_and}
 use Rattle.std.specs.List.{AllZip}
 use Rattle.iddqd_store.specs.Hashing.{hash_under}
-use Rattle.iddqd_hash.specs.HashItems.{Keyed}
+use Rattle.iddqd_hash.specs.HashItems.{IsKeyed, Keyed}
 use Rattle.iddqd_hash.specs.HashMap.{CloneHashesAlike}
 use Rattle.iddqd_hash.specs.Paired.{items_in}
 use Rattle.iddqd_hash.proofs.CloneLemmas.{same_slots, cloned_items, paired_copied, copied_keyed}
@@ -34,6 +34,7 @@ pub returns-clause-spare : goal.returns-clause-spare
 returns-clause-spare g c = spare_fits c.in-Ok.hasher c.in-Ok-try_clone.store c.in_ok-index.index (invariant_of-result g c)
 
 pub returns-clause-keyed : goal.returns-clause-keyed
+unfolding IsKeyed
 returns-clause-keyed g c =
     let key = g.T.IdHashItem.key in
     let eq = g.T.Key.PartialEq.eq in

@@ -5,7 +5,7 @@ use Rattle.iddqd_store.specs.Hashing.{hash_under}
 use Rattle.iddqd_store.specs.SlotItems.{item_of_slot}
 use Rattle.iddqd_store.proofs.OrderLemmas.{found_answers}
 use Rattle.iddqd_store.proofs.WrittenLemmas.{others_found, written_found}
-use Rattle.iddqd_hash.specs.HashItems.{Keyed}
+use Rattle.iddqd_hash.specs.HashItems.{IsKeyed, Keyed}
 use Rattle.iddqd_hash.proofs.EntryLemmas.{told_listed}
 use Rattle.iddqd_hash.proofs.FoundLemmas.{replaced_absent, without_absent}
 use Rattle.iddqd_hash.proofs.LentLemmas.{item_in_slot}
@@ -15,6 +15,7 @@ use Rattle.iddqd_hash.proofs.id_hash_map.IdHashMap.entry.Given.{Over}
 use Rattle.iddqd_hash.proofs.id_hash_map.IdHashMap.entry.Goals as goal
 
 pub find_slot-requires-clause-stored : goal.find_slot-requires-clause-stored
+unfolding IsKeyed
 find_slot-requires-clause-stored g c =
     let input = g.T.Key.Hash.hash_input in
     let hash = hash_under g.S.BuildHasher g.S.Hasher.Hasher in
@@ -56,11 +57,13 @@ there g c =
     ap (λ v. is_some (item_of_slot v.slots v.items slot)) (sym c.self.view_is) ∙ ap is_some (item_in_slot m.store.slots slot) ∙ listed_occupied m.store m.index.pairs c.self.invariant c.hash_one-hash.result slot c.in-Some.ensures.listed
 
 pub returns-in-Some-clause-written : goal.returns-in-Some-clause-written
+unfolding IsKeyed
 returns-in-Some-clause-written g c w =
     let now = c.args.self.now in
     written_found g.T.IdHashItem.key g.met.T.Key.Eq.laws (g.Q.Equivalent.equivalent c.args.query.now) (g.met.Q.Equivalent.one_key c.args.query.now) now.slots now.items c.requires.keyed.differ c.in-Some.slot w (there g c) (sym (returns-in-Some-clause-found g c))
 
 pub returns-in-Some-clause-others : goal.returns-in-Some-clause-others
+unfolding IsKeyed
 returns-in-Some-clause-others g c =
     let now = c.args.self.now in
     others_found g.T.IdHashItem.key g.met.T.Key.Eq.laws (g.Q.Equivalent.equivalent c.args.query.now) (g.met.Q.Equivalent.one_key c.args.query.now) now.slots now.items c.requires.keyed.differ c.in-Some.slot (there g c) (sym (returns-in-Some-clause-found g c))

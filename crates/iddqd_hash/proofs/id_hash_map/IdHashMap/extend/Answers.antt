@@ -3,11 +3,12 @@ use Rattle.std.proofs.iter.Next.{on}
 use Rattle.iddqd_store.specs.Contents.{OverwritesItem}
 use Rattle.iddqd_store.proofs.CollectingLemmas.{fills_kept, fills_on, overwrites_last, overwritten}
 use Rattle.iddqd_store.specs.Hashing.{hash_under}
-use Rattle.iddqd_hash.specs.HashItems.{Keyed, held}
+use Rattle.iddqd_hash.specs.HashItems.{held, IsKeyed, Keyed}
 use Rattle.iddqd_hash.proofs.CollectLemmas.{overwritten_hasher}
 use Rattle.iddqd_hash.proofs.id_hash_map.IdHashMap.extend.Goals as goal
 
 pub loop-item-preserved : goal.loop-item-preserved
+unfolding IsKeyed
 loop-item-preserved g c =
     let key = g.T.IdHashItem.key in
     let eq = g.T.Key.PartialEq.eq in
@@ -31,6 +32,7 @@ loop-item-preserved g c =
     )
 
 pub loop-item-init : goal.loop-item-init
+unfolding IsKeyed
 loop-item-init g c = search rules
 
 pub returns-in-Err : goal.returns-in-Err
@@ -64,6 +66,7 @@ returns-in-Err-insert_overwrite g c =
     }
 
 pub returns : goal.returns
+unfolding IsKeyed
 returns g c =
     let inv = c.loop-item.invariant in
     record {

@@ -4,9 +4,11 @@ use Rattle.std.proofs.iter.Next.{on}
 use Rattle.std.proofs.lemmas.Result.{err_from_is_err_and}
 use Rattle.iddqd_store.specs.Collecting.{GivesThen}
 use Rattle.iddqd_store.proofs.CollectingLemmas.{collected_differ, collects_last, shows_first}
+use Rattle.iddqd_hash.specs.HashItems.{IsKeyed}
 use Rattle.iddqd_hash.proofs.id_hash_map.IdHashMap.from_iter_unique.Goals as goal
 
 pub loop-item-preserved : goal.loop-item-preserved
+unfolding IsKeyed
 loop-item-preserved g c =
     let x = c.in-Some.item in
     let inv = c.loop-item.invariant in
@@ -51,6 +53,7 @@ returns-in_err-insert_first g c =
     })
 
 pub returns : goal.returns
+unfolding IsKeyed
 returns g c =
     let key = g.T.IdHashItem.key in
     let inv = c.loop-item.invariant in
@@ -65,4 +68,5 @@ returns g c =
     }
 
 pub loop-item-init : goal.loop-item-init
+unfolding IsKeyed
 loop-item-init g c = grind (arith, common_steps)

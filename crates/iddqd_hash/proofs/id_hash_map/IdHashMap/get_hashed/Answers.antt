@@ -1,11 +1,12 @@
 use Rattle.std.proofs.Common.{sym, ap, subst, ◌∙◌, arith, rules}
 use Rattle.iddqd_store.specs.Hashing.{hash_under}
-use Rattle.iddqd_hash.specs.HashItems.{Keyed}
+use Rattle.iddqd_hash.specs.HashItems.{IsKeyed, Keyed}
 use Rattle.iddqd_hash.proofs.HashCountLemmas.{bound_of}
 use Rattle.iddqd_hash.proofs.MapLemmas.{listed_under_query}
 use Rattle.iddqd_hash.proofs.id_hash_map.IdHashMap.get_hashed.Goals as goal
 
 pub find_slot_counted-requires-clause-stored : goal.find_slot_counted-requires-clause-stored
+unfolding IsKeyed
 find_slot_counted-requires-clause-stored g c =
     let input = g.T.Key.Hash.hash_input in
     let hash = hash_under g.S.BuildHasher g.S.Hasher.Hasher in

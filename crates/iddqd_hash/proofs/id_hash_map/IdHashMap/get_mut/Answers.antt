@@ -3,7 +3,7 @@ use Rattle.iddqd_store.specs.Contents.{IsAbsent, find_item}
 use Rattle.iddqd_store.specs.Hashing.{hash_under}
 use Rattle.iddqd_store.specs.SlotItems.{item_of_slot}
 use Rattle.iddqd_store.proofs.WrittenLemmas.{written_found}
-use Rattle.iddqd_hash.specs.HashItems.{Keyed}
+use Rattle.iddqd_hash.specs.HashItems.{IsKeyed, Keyed}
 use Rattle.iddqd_hash.specs.HashMap.{SpareFits}
 use Rattle.iddqd_hash.proofs.LentLemmas.{item_in_slot, keyed_akin_written, keyed_written}
 use Rattle.iddqd_hash.proofs.MapLemmas.{listed_under_query, spare_fits}
@@ -11,6 +11,7 @@ use Rattle.iddqd_hash.proofs.PairedLemmas.{listed_occupied}
 use Rattle.iddqd_hash.proofs.id_hash_map.IdHashMap.get_mut.Goals as goal
 
 pub find_slot-requires-clause-stored : goal.find_slot-requires-clause-stored
+unfolding IsKeyed
 find_slot-requires-clause-stored g c =
     let input = g.T.Key.Hash.hash_input in
     let hash = hash_under g.S.BuildHasher g.S.Hasher.Hasher in
@@ -25,6 +26,7 @@ invariant_of-result g c =
     record { there = ap (λ v. is_some (item_of_slot v.slots v.items slot)) (sym c.self.view_is) ∙ ap is_some (item_in_slot m.store.slots slot) ∙ listed_occupied m.store m.index.pairs c.self.invariant c.hash_one-hash.result slot c.in_ok-slot.ensures.listed }
 
 pub returns : goal.returns
+unfolding IsKeyed
 returns g c =
     let m = c.self.inside in
     let now = c.args.self.now in

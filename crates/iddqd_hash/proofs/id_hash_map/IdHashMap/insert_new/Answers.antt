@@ -7,7 +7,7 @@ use Rattle.iddqd_store.specs.Refusal.{refusal_kind}
 use Rattle.iddqd_store.specs.SlotItems.{item_of_slot, written_to_slot}
 use Rattle.iddqd_store.proofs.RefusalLemmas.{kind_by_length}
 use Rattle.iddqd_store.proofs.WrittenLemmas.{told_of_slot}
-use Rattle.iddqd_hash.specs.HashItems.{Keyed}
+use Rattle.iddqd_hash.specs.HashItems.{IsKeyed, Keyed}
 use Rattle.iddqd_hash.specs.HashMap.{HashInserts, HashKeeps}
 use Rattle.iddqd_hash.specs.Paired.{items_in, shown, slots_in}
 use Rattle.iddqd_hash.proofs.EntryLemmas.{added_item, added_others, added_written}
@@ -23,6 +23,7 @@ returns-in-Err-clause-kind g c =
     ∙ ap (λ v. refusal_kind v.limit v.items) c.self.view_is
 
 pub returns-in-Err-clause-kept : goal.returns-in-Err-clause-kept
+unfolding IsKeyed
 returns-in-Err-clause-kept g c =
     let key = g.T.IdHashItem.key in
     let eq = g.T.Key.PartialEq.eq in
@@ -35,6 +36,7 @@ returns-in-Err-clause-kept g c =
     (map_kept key eq input hash m.hasher m.store room.store m.index room.index c.self.invariant c.reserve_one.ensures.paired keyed c.reserve_one.ensures.store c.reserve_one.ensures.capacity c.reserve_one.ensures.pairs c.reserve_one.ensures.spare)
 
 pub returns-clause-inserted : goal.returns-clause-inserted
+unfolding IsKeyed
 returns-clause-inserted g c =
     let key = g.T.IdHashItem.key in
     let eq = g.T.Key.PartialEq.eq in
@@ -63,6 +65,7 @@ returns-clause-there g c =
     added_item c.reserve_one.new.store c.put_in.new.store c.put_in.result c.args.item c.put_in.ensures.was_vacant c.put_in.ensures.updates
 
 pub returns-clause-listed : goal.returns-clause-listed
+unfolding IsKeyed
 returns-clause-listed g c =
     let key = g.T.IdHashItem.key in
     let input = g.T.Key.Hash.hash_input in

@@ -2,7 +2,7 @@ use Rattle.std.proofs.Common.{◌∙◌, ◌≡◌, None, Some, sym, ap, subst, 
 use Rattle.std.proofs.lemmas.Result.{err_from_is_err_and}
 use Rattle.iddqd_store.specs.Contents.{find_item, replaced}
 use Rattle.iddqd_store.specs.Hashing.{hash_under}
-use Rattle.iddqd_hash.specs.HashItems.{Keyed}
+use Rattle.iddqd_hash.specs.HashItems.{IsKeyed, Keyed}
 use Rattle.iddqd_hash.specs.HashMap.{KeepsSpare}
 use Rattle.iddqd_hash.specs.Paired.{hash_of_slot, hashes_in, items_in, shown, slots_in}
 use Rattle.iddqd_hash.proofs.FoundLemmas.{found_passes}
@@ -11,6 +11,7 @@ use Rattle.iddqd_hash.proofs.id_hash_map.IdHashMap.insert_overwrite.Given.{Over}
 use Rattle.iddqd_hash.proofs.id_hash_map.IdHashMap.insert_overwrite.Goals as goal
 
 keyed_inside : (g : Over) (c : goal.After-key-2 g) → Keyed g.T.IdHashItem.key g.T.Key.PartialEq.eq g.T.Key.Hash.hash_input (hash_under g.S.BuildHasher g.S.Hasher.Hasher) (shown c.self.inside.store c.self.inside.index c.self.inside.hasher)
+unfolding IsKeyed
 keyed_inside g c = subst (Keyed g.T.IdHashItem.key g.T.Key.PartialEq.eq g.T.Key.Hash.hash_input (hash_under g.S.BuildHasher g.S.Hasher.Hasher)) (sym c.self.view_is) c.requires.keyed
 
 pub find_slot-requires-clause-stored : goal.find_slot-requires-clause-stored
@@ -22,6 +23,7 @@ find_slot-requires-clause-stored g c =
     (λ k stands. ap (hash m.hasher) (sym (g.met.T.Key.Hash.respects_eq c.key-2.result.now k stands) ∙ ap input (c.key-2.ensures ∙ sym c.key.ensures)) ∙ sym c.hash_one-hash.ensures)
 
 pub returns-in-Some-clause-keyed : goal.returns-in-Some-clause-keyed
+unfolding IsKeyed
 returns-in-Some-clause-keyed g c =
     let key = g.T.IdHashItem.key in
     let eq = g.T.Key.PartialEq.eq in
@@ -36,6 +38,7 @@ returns-in-Some-clause-keyed g c =
     exchanged_keyed key eq input hash m.hasher m.store c.exchange.new.store m.index g.met.T.Key.Eq.laws keyed c.in-Some.slot x y c.exchange.ensures.item alike c.exchange.ensures.updates g.met.T.Key.Hash.respects_eq
 
 pub returns-in-Some-clause-replaced : goal.returns-in-Some-clause-replaced
+unfolding IsKeyed
 returns-in-Some-clause-replaced g c =
     let key = g.T.IdHashItem.key in
     let eq = g.T.Key.PartialEq.eq in

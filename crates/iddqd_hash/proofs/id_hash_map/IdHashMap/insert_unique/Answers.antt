@@ -5,7 +5,7 @@ use Rattle.iddqd_store.specs.Refusal.{IsLent}
 use Rattle.iddqd_store.specs.SlotItems.{item_of_slot}
 use Rattle.iddqd_store.specs.Store.{item_at}
 use Rattle.iddqd_store.proofs.StoreLemmas.{given}
-use Rattle.iddqd_hash.specs.HashItems.{Keyed}
+use Rattle.iddqd_hash.specs.HashItems.{IsKeyed, Keyed}
 use Rattle.iddqd_hash.specs.HashMap.{HashKeeps}
 use Rattle.iddqd_hash.specs.Paired.{items_in, shown}
 use Rattle.iddqd_hash.proofs.LentLemmas.{item_in_slot}
@@ -15,6 +15,7 @@ use Rattle.iddqd_hash.proofs.id_hash_map.IdHashMap.insert_unique.Given.{Over}
 use Rattle.iddqd_hash.proofs.id_hash_map.IdHashMap.insert_unique.Goals as goal
 
 keyed_inside : (g : Over) (c : goal.After-key-2 g) → Keyed g.T.IdHashItem.key g.T.Key.PartialEq.eq g.T.Key.Hash.hash_input (hash_under g.S.BuildHasher g.S.Hasher.Hasher) (shown c.self.inside.store c.self.inside.index c.self.inside.hasher)
+unfolding IsKeyed
 keyed_inside g c = subst (Keyed g.T.IdHashItem.key g.T.Key.PartialEq.eq g.T.Key.Hash.hash_input (hash_under g.S.BuildHasher g.S.Hasher.Hasher)) (sym c.self.view_is) c.requires.keyed
 
 pub find_slot-requires-clause-stored : goal.find_slot-requires-clause-stored
@@ -33,6 +34,7 @@ item_in-requires g c =
     subst IsSome (sym (ap (λ v. item_of_slot v.slots v.items slot) (sym c.self.view_is) ∙ item_in_slot m.store.slots slot ∙ there.1)) refl
 
 pub returns-in-Some : goal.returns-in-Some
+unfolding IsKeyed
 returns-in-Some g c =
     let key = g.T.IdHashItem.key in
     let eq = g.T.Key.PartialEq.eq in

@@ -2,7 +2,7 @@ use Rattle.std.proofs.Common.{◌∙◌, sym, ap, subst, slice_get, rules}
 use Rattle.std.specs.List.{remove}
 use Rattle.iddqd_store.specs.Contents.{IsAbsent, without}
 use Rattle.iddqd_store.specs.Hashing.{hash_under}
-use Rattle.iddqd_hash.specs.HashItems.{Keyed}
+use Rattle.iddqd_hash.specs.HashItems.{IsKeyed, Keyed}
 use Rattle.iddqd_hash.specs.HashMap.{KeepsSpare}
 use Rattle.iddqd_hash.specs.Paired.{items_in, shown}
 use Rattle.iddqd_hash.proofs.FoundLemmas.{found_passes, without_absent}
@@ -11,6 +11,7 @@ use Rattle.iddqd_hash.proofs.SlotItemLemmas.{slot_left}
 use Rattle.iddqd_hash.proofs.id_hash_map.IdHashMap.remove.Goals as goal
 
 pub find_slot-requires-clause-stored : goal.find_slot-requires-clause-stored
+unfolding IsKeyed
 find_slot-requires-clause-stored g c =
     let input = g.T.Key.Hash.hash_input in
     let hash = hash_under g.S.BuildHasher g.S.Hasher.Hasher in
@@ -30,6 +31,7 @@ returns-in_err-slot-clause-spare g c =
     subst (λ v. KeepsSpare v v) c.self.view_is (same_spare m.hasher m.store m.index c.self.invariant)
 
 pub returns-clause-items : goal.returns-clause-items
+unfolding IsKeyed
 returns-clause-items g c =
     let key = g.T.IdHashItem.key in
     let eq = g.T.Key.PartialEq.eq in
@@ -45,6 +47,7 @@ returns-clause-items g c =
     ∙ ap (λ v. without key test v.items) c.self.view_is
 
 pub returns-clause-spare : goal.returns-clause-spare
+unfolding IsKeyed
 returns-clause-spare g c =
     let key = g.T.IdHashItem.key in
     let eq = g.T.Key.PartialEq.eq in
@@ -60,6 +63,7 @@ returns-clause-spare g c =
     (taken_spare key eq input hash m.hasher m.store new.store m.index new.index c.self.invariant c.take_out.ensures.paired g.met.T.Key.Eq.laws test (g.met.Q.Equivalent.one_key c.args.query.now) keyed c.in_ok-slot.slot x c.take_out.ensures.item passes c.take_out.ensures.spare c.take_out.ensures.len c.take_out.ensures.capacity c.take_out.ensures.limit)
 
 pub returns-clause-keyed : goal.returns-clause-keyed
+unfolding IsKeyed
 returns-clause-keyed g c =
     let key = g.T.IdHashItem.key in
     let eq = g.T.Key.PartialEq.eq in

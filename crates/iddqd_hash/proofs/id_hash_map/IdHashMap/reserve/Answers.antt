@@ -1,7 +1,7 @@
 use Rattle.std.proofs.Common.{◌≡◌, ◌+◌, ◌≤◌, ◌∙◌, length, IfErr, OnOk, sym, subst}
 use Rattle.iddqd_store.specs.Hashing.{hash_under}
 use Rattle.iddqd_store.specs.Refusal.{reservation_kind}
-use Rattle.iddqd_hash.specs.HashItems.{Keyed}
+use Rattle.iddqd_hash.specs.HashItems.{IsKeyed, Keyed}
 use Rattle.iddqd_hash.specs.HashMap.{HashKeeps}
 use Rattle.iddqd_hash.specs.Paired.{shown}
 use Rattle.iddqd_hash.proofs.MapLemmas.{map_kept}
@@ -30,6 +30,7 @@ returns-clause-refused g c =
     (subst (λ n. IfErr room.result (λ e. e ≡ reservation_kind m.store.limit (n + c.args.additional))) (c.self.invariant.counted ∙ sym (length-items m.store.slots)) room.ensures.kind)
 
 pub returns-clause-kept : goal.returns-clause-kept
+unfolding IsKeyed
 returns-clause-kept g c =
     let key = g.T.IdHashItem.key in
     let eq = g.T.Key.PartialEq.eq in

@@ -8,9 +8,11 @@ use Rattle.iddqd_store.proofs.WrittenLemmas.{place_read}
 use Rattle.iddqd_hash.specs.SlotOrder.{slots_below}
 use Rattle.iddqd_hash.proofs.RisingLemmas.{below_gone, below_next, below_zero, there_listed}
 use Rattle.iddqd_hash.proofs.id_hash_map.IdHashMap.retain.Goals.{then-not-keep, else-not-keep}
+use Rattle.iddqd_hash.specs.HashItems.{IsKeyed}
 use Rattle.iddqd_hash.proofs.id_hash_map.IdHashMap.retain.Goals as goal
 
 pub loop-slot-init : goal.loop-slot-init
+unfolding IsKeyed
 loop-slot-init g c =
     let m = c.args.self.now in
     record {
@@ -30,6 +32,7 @@ item_in-requires g c =
     there_listed m.slots (slots_below c.loop-slot.next m.slots) c.in-Some.slot c.in-Some.ensures.there m.items c.in-Some.ensures.own
 
 pub loop-slot-preserved : goal.loop-slot-preserved
+unfolding IsKeyed
 loop-slot-preserved g c =
     let l = c.loop-slot in
     let m = l.self in

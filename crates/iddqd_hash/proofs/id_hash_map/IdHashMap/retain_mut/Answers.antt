@@ -10,9 +10,11 @@ use Rattle.iddqd_store.proofs.WrittenLemmas.{place_read}
 use Rattle.iddqd_hash.specs.SlotOrder.{slots_below}
 use Rattle.iddqd_hash.proofs.RisingLemmas.{below_gone, below_next, below_zero, there_listed}
 use Rattle.iddqd_hash.proofs.id_hash_map.IdHashMap.retain_mut.Goals.{then-not-visit_slot, else-not-visit_slot}
+use Rattle.iddqd_hash.specs.HashItems.{IsKeyed}
 use Rattle.iddqd_hash.proofs.id_hash_map.IdHashMap.retain_mut.Goals as goal
 
 pub loop-slot-init : goal.loop-slot-init
+unfolding IsKeyed
 loop-slot-init g c =
     let m = c.args.self.now in
     let visits = g.V.Visit.visits in
@@ -41,6 +43,7 @@ take_slot-requires-clause-there g c =
     rw (c.visit_slot.ensures.visited.4) (still_there m.slots m.items slot c.visit_slot.ensures.visited.1 some)
 
 pub loop-slot-preserved : goal.loop-slot-preserved
+unfolding IsKeyed
 loop-slot-preserved g c =
     let l = c.loop-slot in
     let m = l.self in

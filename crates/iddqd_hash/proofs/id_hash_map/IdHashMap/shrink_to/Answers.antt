@@ -4,7 +4,7 @@ use Rattle.iddqd_store.specs.Contents.{NoTwoAkin}
 use Rattle.iddqd_store.specs.Hashing.{hash_under}
 use Rattle.iddqd_store.specs.Store.{vacant}
 use Rattle.iddqd_store.proofs.OrderLemmas.{differ_moved}
-use Rattle.iddqd_hash.specs.HashItems.{Keyed}
+use Rattle.iddqd_hash.specs.HashItems.{IsKeyed, Keyed}
 use Rattle.iddqd_hash.specs.Paired.{items_in}
 use Rattle.iddqd_hash.proofs.MapLemmas.{keyed_under, make_keyed, spare_fits}
 use Rattle.iddqd_hash.proofs.PairedLemmas.{under_same}
@@ -12,6 +12,7 @@ use Rattle.iddqd_hash.proofs.SlotItemLemmas.{length-items, slots_apart}
 use Rattle.iddqd_hash.proofs.id_hash_map.IdHashMap.shrink_to.Goals as goal
 
 pub compact-requires-clause-under : goal.compact-requires-clause-under
+unfolding IsKeyed
 compact-requires-clause-under g c =
     let key = g.T.IdHashItem.key in
     let eq = g.T.Key.PartialEq.eq in
@@ -51,6 +52,7 @@ pub returns-clause-within_limit : goal.returns-clause-within_limit
 returns-clause-within_limit g c = spare_fits c.self.inside.hasher c.shrink_room.new.store c.shrink_room.new.index c.shrink_room.ensures.paired
 
 pub returns-clause-keyed : goal.returns-clause-keyed
+unfolding IsKeyed
 returns-clause-keyed g c =
     let key = g.T.IdHashItem.key in
     let eq = g.T.Key.PartialEq.eq in

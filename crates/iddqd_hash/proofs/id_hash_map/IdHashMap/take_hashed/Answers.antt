@@ -5,7 +5,7 @@ use Rattle.iddqd_store.specs.Hashing.{hash_under}
 use Rattle.iddqd_store.specs.SlotItems.{item_of_slot}
 use Rattle.iddqd_store.specs.Store.{item_at}
 use Rattle.iddqd_store.proofs.StoreLemmas.{updates-set}
-use Rattle.iddqd_hash.specs.HashItems.{Keyed}
+use Rattle.iddqd_hash.specs.HashItems.{IsKeyed, Keyed}
 use Rattle.iddqd_hash.specs.HashMap.{KeepsSpare}
 use Rattle.iddqd_hash.specs.Paired.{shown}
 use Rattle.iddqd_hash.proofs.FoundLemmas.{same_numbers}
@@ -45,6 +45,7 @@ returns-clause-gone g c at there =
     )
 
 pub returns-clause-spare : goal.returns-clause-spare
+unfolding IsKeyed
 returns-clause-spare g c =
     let key = g.T.IdHashItem.key in
     let eq = g.T.Key.PartialEq.eq in
@@ -59,6 +60,7 @@ returns-clause-spare g c =
     (taken_spare key eq input hash m.hasher m.store out.new.store m.index out.new.index c.self.invariant out.ensures.paired equivalence (eq (key x)) (equivalence.congr (key x)) keyed c.args.slot x out.ensures.item (equivalence.refl (key x)) out.ensures.spare out.ensures.len out.ensures.capacity out.ensures.limit)
 
 pub returns-clause-keyed : goal.returns-clause-keyed
+unfolding IsKeyed
 returns-clause-keyed g c =
     let key = g.T.IdHashItem.key in
     let eq = g.T.Key.PartialEq.eq in

@@ -1,9 +1,11 @@
 use Rattle.std.proofs.Common.{◌≡◌, ◌∙◌, sym, ap, true}
 use Rattle.iddqd_store.specs.Hashing.{hash_under}
 use Rattle.iddqd_hash.proofs.LentLemmas.{keyed_akin_written}
+use Rattle.iddqd_hash.specs.HashItems.{IsKeyed}
 use Rattle.iddqd_hash.proofs.id_hash_map.IdHashMap.visit_slot.Goals as goal
 
 pub returns-clause-keyed : goal.returns-clause-keyed
+unfolding IsKeyed
 returns-clause-keyed g c =
     let key = g.T.IdHashItem.key in
     let eq = g.T.Key.PartialEq.eq in

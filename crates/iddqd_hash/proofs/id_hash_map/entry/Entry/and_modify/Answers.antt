@@ -2,7 +2,7 @@ use Rattle.std.proofs.Common.{◌≡◌, ◌∙◌, Some, ap, subst, sym, true}
 use Rattle.std.specs.Option.{IfSome, option_map}
 use Rattle.iddqd_store.specs.Hashing.{hash_under}
 use Rattle.iddqd_store.proofs.WrittenLemmas.{others_written, read_back, written_twice}
-use Rattle.iddqd_hash.specs.HashItems.{Keyed}
+use Rattle.iddqd_hash.specs.HashItems.{IsKeyed, Keyed}
 use Rattle.iddqd_hash.proofs.LentLemmas.{keyed_akin_written}
 use Rattle.iddqd_hash.specs.Entry.{entry_item, entry_map, entry_others, entry_with}
 use Rattle.iddqd_hash.proofs.id_hash_map.entry.Entry.and_modify.Goals as goal
@@ -28,6 +28,7 @@ returns-in-Occupied-clause-others g c =
     others_written e.map.now.slots e.map.now.items e.slot c.visit.new.item ∙ ap entry_others (sym c.in-Occupied.is)
 
 pub returns-in-Occupied-clause-keyed : goal.returns-in-Occupied-clause-keyed
+unfolding IsKeyed
 returns-in-Occupied-clause-keyed g c =
     let e = c.in-Occupied.entry in
     let key = g.T.IdHashItem.key in

@@ -1,11 +1,12 @@
 use Rattle.std.proofs.Common.{◌≡◌, ◌∙◌, None, ap, is_some, refl, subst, sym, true≢false, rules}
 use Rattle.iddqd_store.specs.Hashing.{hash_under}
-use Rattle.iddqd_hash.specs.HashItems.{Keyed}
+use Rattle.iddqd_hash.specs.HashItems.{IsKeyed, Keyed}
 use Rattle.iddqd_hash.proofs.LentLemmas.{keyed_akin_written, keyed_written}
 use Rattle.iddqd_hash.specs.Entry.{entry_item, entry_map, entry_name, entry_with}
 use Rattle.iddqd_hash.proofs.id_hash_map.entry.Entry.or_insert.Goals as goal
 
 pub returns-in-Occupied : goal.returns-in-Occupied
+unfolding IsKeyed
 returns-in-Occupied g c =
     let e = c.in-Occupied.entry in
     let is = c.in-Occupied.is in

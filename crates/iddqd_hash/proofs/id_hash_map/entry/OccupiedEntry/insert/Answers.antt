@@ -3,6 +3,7 @@ use Rattle.std.specs.Option.{IfSome}
 use Rattle.iddqd_store.specs.Hashing.{hash_under}
 use Rattle.iddqd_store.proofs.WrittenLemmas.{others_written, read_back}
 use Rattle.iddqd_hash.proofs.LentLemmas.{keyed_akin_written}
+use Rattle.iddqd_hash.specs.HashItems.{IsKeyed}
 use Rattle.iddqd_hash.proofs.id_hash_map.entry.OccupiedEntry.insert.Goals as goal
 
 pub returns-clause-new : goal.returns-clause-new
@@ -16,6 +17,7 @@ returns-clause-others g c =
     others_written e.map.now.slots e.map.now.items e.slot c.replace.new.dest
 
 pub returns-clause-keyed : goal.returns-clause-keyed
+unfolding IsKeyed
 returns-clause-keyed g c =
     let e = c.args.self.now in
     let key = g.T.IdHashItem.key in

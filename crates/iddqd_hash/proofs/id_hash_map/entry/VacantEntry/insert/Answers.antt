@@ -1,9 +1,11 @@
 use Rattle.std.proofs.Common.{refl}
 use Rattle.iddqd_store.specs.Hashing.{hash_under}
 use Rattle.iddqd_hash.proofs.LentLemmas.{keyed_akin_written, keyed_written}
+use Rattle.iddqd_hash.specs.HashItems.{IsKeyed}
 use Rattle.iddqd_hash.proofs.id_hash_map.entry.VacantEntry.insert.Goals as goal
 
 pub returns-in-Ok : goal.returns-in-Ok
+unfolding IsKeyed
 returns-in-Ok g c =
     let new = c.insert_absent.new.self in
     let done = c.in-Ok.ensures in (
