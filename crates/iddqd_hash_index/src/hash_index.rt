@@ -10,7 +10,7 @@ ghost use Rattle.std.specs.Prelude.{min as least};
 ghost use Rattle.iddqd_hash_index.specs.HashPairs.{SamePairs, HasOneMore, HasInstead, HalfIsEnough, IsMatch, of_hash, of_slot};
 ghost use Rattle.iddqd_hash_index.specs.Groups.{room_for};
 ghost use Rattle.iddqd_store.specs.Store.{IsOccupied};
-ghost use Rattle.iddqd_store.specs.declared.errors.TryReserveErrorKind.TheVariants.{AllocError as OutOfMemory};
+ghost use Rattle.iddqd_store.specs.Refusal.{memory_refused};
 
 use change::{place, rename_in, take};
 use group::Group;
@@ -67,7 +67,7 @@ impl HashIndex {
     pub fn with_capacity(alloc: Global, capacity: usize) -> Result<Self, TryReserveError>
         ensures pairs { IfOk result (λ i. i.pairs ≡ []) }
         ensures spare { IfOk result (λ i. capacity ≤ i.spare) }
-        ensures only_memory { IfErr result (λ e. e ≡ OutOfMemory) }
+        ensures only_memory { IfErr result (λ e. e ≡ memory_refused) }
         ensures asked { OnErr result (0 < capacity) }
     {
         let mut index = HashIndex::new(alloc);
@@ -99,7 +99,7 @@ impl HashIndex {
     pub fn try_reserve(&mut self, additional: usize) -> Result<(), TryReserveError>
         ensures pairs { SamePairs self.old.pairs self.new.pairs }
         ensures ok { OnOk result (additional ≤ self.new.spare) }
-        ensures only_memory { IfErr result (λ e. e ≡ OutOfMemory) }
+        ensures only_memory { IfErr result (λ e. e ≡ memory_refused) }
         ensures needed { OnErr result (self.old.spare < additional) }
         ensures spare { self.old.spare ≤ self.new.spare }
     {
@@ -239,7 +239,7 @@ impl HashIndex {
     /// pair.
     pub fn shrink(&mut self, min: usize) -> Result<(), TryReserveError>
         ensures pairs { SamePairs self.old.pairs self.new.pairs }
-        ensures only_memory { IfErr result (λ e. e ≡ OutOfMemory) }
+        ensures only_memory { IfErr result (λ e. e ≡ memory_refused) }
         ensures needed { OnErr result (max min (length self.old.pairs) < self.old.spare + length self.old.pairs) }
         ensures gives_back { OnOk result (HalfIsEnough self.old min → self.new.spare + length self.new.pairs < self.old.spare + length self.old.pairs) }
         ensures room { least min (self.old.spare + length self.old.pairs) ≤ self.new.spare + length self.new.pairs }
@@ -258,7 +258,7 @@ impl HashIndex {
     /// An index of the same pairs. It copies each pair, and is refused only for want of memory.
     pub fn try_clone(&self) -> Result<Self, TryReserveError>
         ensures pairs { IfOk result (λ copy. SamePairs self.now.pairs copy.pairs) }
-        ensures only_memory { IfErr result (λ e. e ≡ OutOfMemory) }
+        ensures only_memory { IfErr result (λ e. e ≡ memory_refused) }
     {
         self.copy().map_err(|_| TryReserveError::alloc_error())
     }

@@ -1,7 +1,7 @@
 //! The ordered index: slots in an order that its caller keeps, searched by the keys of their items.
 ghost use Rattle.std.specs.Prelude.{◌≡◌, ◌-◌, ◌<◌, ◌≤◌, true, false, [], length, take, drop, insert, remove, slice_get, slice_set, nat_eq, IsTrue, OnOk, OnErr, IfOk, IfErr, Contains};
 ghost use Rattle.std.specs.List.{IsDistinct};
-ghost use Rattle.iddqd_store.specs.declared.errors.TryReserveErrorKind.TheVariants.{AllocError};
+ghost use Rattle.iddqd_store.specs.Refusal.{memory_refused};
 
 mod into_walk;
 mod lookups;
@@ -108,7 +108,7 @@ impl OrdIndex {
         requires { length self.old.slots < u32.MAX }
         ensures ok { OnOk result (self.new ≡ record self.old { prepared = true }) }
         ensures err { OnErr result (self.new ≡ self.old) }
-        ensures only_memory { IfErr result (λ e. e ≡ AllocError) }
+        ensures only_memory { IfErr result (λ e. e ≡ memory_refused) }
     {
         match self.spare.prepare(self.levels + 1, self.alloc) {
             Ok(()) => {
@@ -234,7 +234,7 @@ impl OrdIndex {
     /// An index of the same slots, not prepared. It is refused only for want of memory.
     pub fn try_clone(&self) -> Result<Self, TryReserveError>
         ensures ok { IfOk result (λ copy. copy ≡ record { slots = self.now.slots; prepared = false }) }
-        ensures only_memory { IfErr result (λ e. e ≡ AllocError) }
+        ensures only_memory { IfErr result (λ e. e ≡ memory_refused) }
     {
         let Ok(root) = self.root.try_clone(self.alloc) else {
             return Err(TryReserveError::alloc_error());

@@ -2,12 +2,13 @@
 --     find_inserted, find_beside_inserted      the item that was put in, and any other
 --     find_without, find_beside_without      the item that was taken out, and any other
 --     find_replaced, find_beside_replaced      the item that stands in the place of another, and any other
---     length_inserted, length_replaced, length_without      how many items there are then
+--     length_inserted, length_replaced, length_removed      how many items there are then
 --     after_changes      all of them, under one name
 use Rattle.std.proofs.Common.{◌≡◌, ℕ, zero, suc, ◌+◌, ◌≤◌, Bool, true, false, cond, not, List, [], ◌∷◌, Option, Some, None, is_some, length, map, filter, find, refl, sym, ap, ◌∙◌, arith, add-one, true≢false}
 use Rattle.std.proofs.lemmas.List.{length-map}
-use Rattle.std.proofs.lemmas.List.Edits.{length-insert}
-use Rattle.std.specs.List.{insert}
+use Rattle.std.proofs.lemmas.List.Edits.{length-insert, length-remove}
+use Rattle.std.proofs.lemmas.Option.{slice_get_within}
+use Rattle.std.specs.List.{insert, remove, slice_get}
 use Rattle.iddqd_store.specs.Contents.{AddsItem}
 
 module _ {T : Type 0} (p : T → Bool) where
@@ -74,3 +75,13 @@ module _ {T : Type 0} where
 
   pub length_replaced : (p : T → Bool) (y : T) (items : List T) → length (map (λ x. cond (p x) y x) items) ≡ length items
   length_replaced p y items = length-map items _
+
+  -- by the slots: an item has left its place, and its slot that of the slots
+  pub length_removed : (items left : List T) (slots slots_left : List ℕ) (place : ℕ) (x : T) → slice_get items place ≡ Some x → slots_left ≡ remove slots place → length slots ≡ length items → length slots_left ≡ length left → length left + 1 ≡ length items
+  length_removed items left slots slots_left place x there out as_many as_many_left =
+      let within = slice_get_within items place x there in
+      let fewer = length-remove slots place (omega arith) in
+      let same = ap length out in
+      omega arith
+
+pub ruleset after_changes = (find_inserted, find_beside_inserted, find_without, find_beside_without, find_replaced, find_beside_replaced, length_inserted, length_replaced, length_removed)

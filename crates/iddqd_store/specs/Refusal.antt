@@ -4,7 +4,7 @@ use Rattle.std.specs.Prelude.{◌≡◌, ℕ, Bool, List, [], ◌∷◌, Some, l
 use Rattle.std.specs.Borrow.{Bor}
 use Rattle.iddqd_store.specs.Contents.{find_item, IsAbsent}
 use Rattle.iddqd_store.specs.Errors.{new_item_of, duplicates_of}
-use Rattle.iddqd_store.specs.declared.errors.TryReserveErrorKind.{TryReserveErrorKind}
+use Rattle.iddqd_store.specs.declared.errors.TryReserveError.{TryReserveError}
 use Rattle.iddqd_store.specs.declared.errors.TryReserveErrorKind.TheVariants.{CapacityOverflow, AllocError}
 use Rattle.iddqd_store.specs.declared.errors.InsertError.{InsertError}
 use Rattle.iddqd_store.specs.declared.errors.InsertError.TheVariants.{Duplicate, Refused}
@@ -13,20 +13,23 @@ use Rattle.iddqd_store.specs.declared.errors.InsertError.TheVariants.{Duplicate,
 abbrev pub InsertionError : Type 0 → Type 0
 InsertionError T = InsertError T
 
--- why room was refused, and that it was for want of memory (`TryReserveError`)
+-- why room was refused: the map is full, or memory was refused (`TryReserveError`)
 abbrev pub RefusalKind : Type 0
-RefusalKind = TryReserveErrorKind
+RefusalKind = TryReserveError
+
+abbrev pub limit_refused : RefusalKind
+limit_refused = record { kind = CapacityOverflow }
 
 abbrev pub memory_refused : RefusalKind
-memory_refused = AllocError
+memory_refused = record { kind = AllocError }
 
 -- the kind of a refusal: a full map's where it is full, and else for want of memory (ours: the crate leaves open where a map is full)
 abbrev pub refusal_kind : {T : Type 0} → ℕ → List T → RefusalKind
-refusal_kind limit items = if length items == limit then CapacityOverflow else AllocError
+refusal_kind limit items = if length items == limit then limit_refused else memory_refused
 
 -- the kind of a refused reservation for so many items in all: the limit's where it is below them, and else for want of memory (`reserve`)
 abbrev pub reservation_kind : ℕ → ℕ → RefusalKind
-reservation_kind limit wanted = if nat_lt limit wanted then CapacityOverflow else AllocError
+reservation_kind limit wanted = if nat_lt limit wanted then limit_refused else memory_refused
 
 -- the one value that is lent
 abbrev pub IsLent : {T : Type 0} → List (Bor T) → T → Type 0

@@ -1,49 +1,37 @@
 //! What is answered where an item is not taken.
 ghost use Rattle.std.specs.Prelude.{◌≡◌, ◌↔◌, IsTrue, IfOk, IfErr, Some, map, length, slice_get, option_copied};
 ghost use Rattle.std.specs.Iterator.{YieldsFirstRef, item_count};
-ghost use Rattle.iddqd_store.specs.declared.errors.TryReserveErrorKind.TheVariants.{CapacityOverflow, AllocError};
 ghost use Rattle.iddqd_store.specs.Contents.{ClonesAreEqual};
 ghost use Rattle.iddqd_store.specs.Errors.{new_item_of, duplicates_of, listed};
+ghost use Rattle.iddqd_store.specs.Refusal.{limit_refused, memory_refused};
 
 use std::alloc;
 use std::error::Error;
 use std::fmt::{self, Debug, Display, Formatter, Write};
 use std::marker::Model;
 
-/// Why room was refused, as contracts see a `TryReserveError`. Code asks `is_capacity_overflow`.
-#[doc(hidden)]
+/// Why room was refused.
 #[derive(Clone, Copy, Debug, PartialEq, Eq, thiserror::Error)]
-pub enum TryReserveErrorKind {
-    /// The map is full.
+pub(crate) enum TryReserveErrorKind {
     #[error("capacity overflow")]
     CapacityOverflow,
-    /// Memory was refused.
     #[error("memory allocation failed")]
     AllocError,
 }
 
-/// Room that was refused: by the map's limit, or for want of memory. Contracts see its kind.
+/// Room that was refused: by the map's limit, or because memory was refused. Contracts say which by *limit_refused* and
+/// *memory_refused*.
 #[derive(Clone, Copy, Debug, PartialEq, Eq, thiserror::Error)]
 #[error(transparent)]
 pub struct TryReserveError {
     kind: TryReserveErrorKind,
 }
 
-impl Model for TryReserveError {
-    ghost use Rattle.iddqd_store.specs.declared.errors.TryReserveErrorKind.{TryReserveErrorKind};
-
-    ghost Value = { TryReserveErrorKind };
-
-    ghost view = { λ e. e.kind };
-
-    ghost inverse = { λ k. record { kind = k } };
-}
-
 impl TryReserveError {
     /// The refusal of a map that is full (ours: the crate's constructor is private).
     #[doc(hidden)]
     pub fn capacity_overflow() -> Self
-        ensures { result ≡ CapacityOverflow }
+        ensures { result ≡ limit_refused }
     {
         TryReserveError {
             kind: TryReserveErrorKind::CapacityOverflow,
@@ -53,7 +41,7 @@ impl TryReserveError {
     /// The refusal for want of memory (ours: the crate's constructor is private).
     #[doc(hidden)]
     pub fn alloc_error() -> Self
-        ensures { result ≡ AllocError }
+        ensures { result ≡ memory_refused }
     {
         TryReserveError {
             kind: TryReserveErrorKind::AllocError,
@@ -62,7 +50,7 @@ impl TryReserveError {
 
     /// Whether the map's limit refused it (ours: the crate's kind is private).
     pub fn is_capacity_overflow(&self) -> bool
-        ensures { IsTrue result ↔ (self.now ≡ CapacityOverflow) }
+        ensures { IsTrue result ↔ (self.now ≡ limit_refused) }
     {
         self.kind == TryReserveErrorKind::CapacityOverflow
     }

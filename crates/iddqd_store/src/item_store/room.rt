@@ -1,8 +1,7 @@
 //! Room for items: made, and given back.
 ghost use Rattle.std.specs.Prelude.{◌≡◌, ◌+◌, ◌<◌, ◌≤◌, ◌↔◌, [], IfOk, IfErr, OnOk, OnErr, Err, min, max};
-ghost use Rattle.iddqd_store.specs.Refusal.{reservation_kind};
+ghost use Rattle.iddqd_store.specs.Refusal.{limit_refused, memory_refused, reservation_kind};
 ghost use Rattle.iddqd_store.specs.Store.{store_len, vacant, HasRoomFor};
-ghost use Rattle.iddqd_store.specs.declared.errors.TryReserveErrorKind.TheVariants.{CapacityOverflow, AllocError as OutOfMemory};
 
 use super::ItemStore;
 use crate::errors::TryReserveError;
@@ -37,8 +36,8 @@ impl<T> ItemStore<T> {
     #[inline]
     pub fn try_reserve(&mut self, additional: usize) -> Result<(), TryReserveError>
         ensures ok { OnOk result (HasRoomFor self.new additional) }
-        ensures overflow { (result ≡ Err CapacityOverflow) ↔ (self.old.limit < store_len self.old + additional) }
-        ensures memory { result ≡ Err OutOfMemory → self.old.capacity < store_len self.old + additional }
+        ensures overflow { (result ≡ Err limit_refused) ↔ (self.old.limit < store_len self.old + additional) }
+        ensures memory { result ≡ Err memory_refused → self.old.capacity < store_len self.old + additional }
         ensures rest { self.new ≡ record self.old { capacity = self.new.capacity } }
         ensures capacity { self.old.capacity ≤ self.new.capacity }
     {
@@ -58,7 +57,7 @@ impl<T> ItemStore<T> {
         requires limit { store_len self.old + additional ≤ self.old.limit }
         requires needed { self.old.capacity < store_len self.old + additional }
         ensures ok { OnOk result (HasRoomFor self.new additional) }
-        ensures err { OnErr result (result ≡ Err OutOfMemory) }
+        ensures err { OnErr result (result ≡ Err memory_refused) }
         ensures rest { self.new ≡ record self.old { capacity = self.new.capacity } }
         ensures capacity { self.old.capacity ≤ self.new.capacity }
     {
@@ -74,7 +73,7 @@ impl<T> ItemStore<T> {
     /// to give back, and without items and without `min_capacity` it gives all of it back.
     pub fn shrink_to(&mut self, min_capacity: usize) -> Result<(), TryReserveError>
         requires { vacant self.old ≡ 0 }
-        ensures err { OnErr result (result ≡ Err OutOfMemory) }
+        ensures err { OnErr result (result ≡ Err memory_refused) }
         ensures needed { OnErr result (max min_capacity (store_len self.old) < self.old.capacity) }
         ensures frees { store_len self.old ≡ 0 → min_capacity ≡ 0 → OnOk result (self.new.capacity ≡ 0) }
         ensures rest { self.new ≡ record self.old { capacity = self.new.capacity } }
