@@ -1,6 +1,6 @@
+pub mod ChangeLemmas
 pub mod GuardLemmas
 pub use Rattle.iddqd_core.proofs.AddingLemmas
-pub use Rattle.iddqd_core.proofs.ChangeLemmas
 pub use Rattle.iddqd_core.proofs.DistinctLemmas
 pub use Rattle.iddqd_core.proofs.KeepsLemmas
 pub use Rattle.iddqd_core.proofs.MappedLemmas

@@ -4,14 +4,15 @@
 --     items_lent, numbers_lent      the items and their numbers after the write
 --     others_left      the items but for the slot's
 --     told_in_slot      what is told of each slot, at one that is occupied
---     keyed_written, keyed_akin_written      a write under an equal key leaves the map keyed
-use Rattle.std.proofs.Common.{◌≡◌, ℕ, zero, suc, ◌<◌, Bool, true, List, [], ◌∷◌, set, Option, Some, None, is_some, refl, sym, ap, ◌∙◌, arith, true≢false}
+--     keyed_written, keyed_akin_written, hash_key_kept      a write under an equal key leaves the map keyed
+use Rattle.std.proofs.Common.{◌≡◌, ℕ, zero, suc, ◌<◌, Bool, true, List, [], ◌∷◌, set, Option, Some, None, is_some, refl, sym, ap, ◌∙◌, arith, subst, true≢false}
 use Rattle.std.proofs.lemmas.Bool.{eq-eqb, ne_eqb}
 use Rattle.std.specs.Cmp.{IsEquivalence}
 use Rattle.std.specs.Hash.{HashWrites}
+use Rattle.std.specs.List.{IsDistinct}
 use Rattle.iddqd_store.specs.SlotItems.{item_of_slot, without_slot, written_to_slot}
 use Rattle.iddqd_store.proofs.WrittenLemmas.{akin_keys_differ, keys_written}
-use Rattle.iddqd_hash.specs.HashItems.{HashItems, Keyed}
+use Rattle.iddqd_hash.specs.HashItems.{HashItems, IsKeyed, Keyed}
 use Rattle.iddqd_hash.specs.Paired.{numbers_of}
 use Rattle.iddqd_hash.proofs.SlotItemLemmas.{at, items_of}
 
@@ -92,3 +93,11 @@ module _ {S T K : Type 0} (key : T → K) {eq : K → K → Bool} (input : K →
 
   pub keyed_written : IsEquivalence eq → ((a b : K) → eq a b ≡ true → input a ≡ input b) → key w ≡ key x → Keyed key eq input hash (record m { items = written_to_slot m.slots m.items slot w })
   keyed_written equivalence respects same = keyed_akin_written equivalence respects (ap (eq (key x)) same ∙ equivalence.refl (key x))
+
+-- a write under the same key leaves the map keyed, for callers
+pub hash_key_kept : {S T K : Type 0} (key : T → K) (eq : K → K → Bool) (input : K → HashWrites) (hash : S → HashWrites → ℕ) (m : HashItems S T) (slot : ℕ) (x w : T) → item_of_slot m.slots m.items slot ≡ Some x → key w ≡ key x → IsKeyed key eq input hash m → IsKeyed key eq input hash (record m { items = written_to_slot m.slots m.items slot w })
+unfolding IsKeyed
+hash_key_kept key eq input hash m slot x w there same keyed = record {
+  differ = subst (IsDistinct eq) (sym (keys_written key m.slots m.items slot x w there same)) keyed.differ;
+  stored = keyed.stored ∙ sym (keys_written (λ y. hash m.hasher (input (key y))) m.slots m.items slot x w there (ap (λ k. hash m.hasher (input k)) same));
+}

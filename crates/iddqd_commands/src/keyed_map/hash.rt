@@ -1,5 +1,5 @@
 //! The hash map, which visits its items in any order and keeps its spare.
-ghost use Rattle.iddqd.specs.HashItems.{IsKeyed};
+ghost use Rattle.iddqd.specs.HashItems.{IsKeyed, differ_from_keyed};
 ghost use Rattle.iddqd.specs.Hashing.{hash_under};
 ghost use Rattle.iddqd_commands.specs.Step.{Hashed};
 
@@ -24,7 +24,7 @@ impl<T: IdHashItem, S: BuildHasher> KeyedMap for IdHashMap<T, S> {
 
     ghost keyed = { IsKeyed T.key T.Key.eq T.Key.hash_input (hash_under S.BuildHasher S.Hasher.Hasher) };
 
-    ghost differ = { λ m is. is.differ };
+    ghost differ = { differ_from_keyed T.key T.Key.eq T.Key.hash_input (hash_under S.BuildHasher S.Hasher.Hasher) };
 
     fn insert_unique(&mut self, item: T) -> Result<&mut (), InsertError<'_, T>> {
         self.insert_unique(item)

@@ -63,6 +63,7 @@ impl<T: IdOrdItem> IdOrdMap<T> {
         ensures found { IfOk result (λ found. found ≡ find_item T.key (T.Key.eq (T.key item)) self.old.items) }
         ensures replaced { IfOk result (λ found. OnSome found (self.new ≡ record self.old { items = replaced T.key (T.Key.eq (T.key item)) item self.old.items })) }
         ensures inserted { IfOk result (λ found. IfNone found (OrdInserts T.key T.Key.cmp item self.old self.new)) }
+        ensures there { OnOk result (find_item T.key (T.Key.eq (T.key item)) self.new.items ≡ Some item) }
         ensures item { IfErr result (λ refused. refused.item ≡ item) }
         ensures refused { IfErr result (λ refused. FindsNoRoom T.key T.Key.eq self.old.limit self.old.items item refused.error) }
         ensures kept { OnErr result (OrdKeeps T.key T.Key.cmp self.old self.new) }

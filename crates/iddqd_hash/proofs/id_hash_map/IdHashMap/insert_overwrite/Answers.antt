@@ -1,5 +1,6 @@
-use Rattle.std.proofs.Common.{◌∙◌, ◌≡◌, None, Some, sym, ap, subst, arith}
+use Rattle.std.proofs.Common.{◌∙◌, ◌≡◌, None, Some, cond, refl, sym, ap, subst, arith}
 use Rattle.std.proofs.lemmas.Result.{err_from_is_err_and}
+use Rattle.iddqd_store.proofs.ChangeLemmas.{find_inserted, find_replaced}
 use Rattle.iddqd_store.specs.Contents.{find_item, replaced}
 use Rattle.iddqd_store.specs.Hashing.{hash_under}
 use Rattle.iddqd_hash.specs.HashItems.{IsKeyed, Keyed}
@@ -36,6 +37,22 @@ returns-in-Some-clause-keyed g c =
     let found : find_item key (eq (key y)) (items_in m.store) ≡ Some x = ap (λ k. find_item key (eq k) (items_in m.store)) (sym c.key-2.ensures) ∙ sym c.in-Some.ensures.item ∙ c.exchange.ensures.item in
     let alike = found_passes key (eq (key y)) (items_in m.store) x found in
     exchanged_keyed key eq input hash m.hasher m.store c.exchange.new.store m.index g.met.T.Key.Eq.laws keyed c.in-Some.slot x y c.exchange.ensures.item alike c.exchange.ensures.updates g.met.T.Key.Hash.respects_eq
+
+pub returns-in-Some-clause-there : goal.returns-in-Some-clause-there
+unfolding IsKeyed
+returns-in-Some-clause-there g c =
+    let key = g.T.IdHashItem.key in
+    let eq = g.T.Key.PartialEq.eq in
+    let input = g.T.Key.Hash.hash_input in
+    let hash = hash_under g.S.BuildHasher g.S.Hasher.Hasher in
+    let m = c.self.inside in
+    let y = c.args.item in
+    let x = c.exchange.result in
+    let keyed = subst (Keyed key eq input hash) (sym c.self.view_is) c.requires.keyed in
+    let found : find_item key (eq (key y)) (items_in m.store) ≡ Some x = ap (λ k. find_item key (eq k) (items_in m.store)) (sym c.key-2.ensures) ∙ sym c.in-Some.ensures.item ∙ c.exchange.ensures.item in
+    let alike = found_passes key (eq (key y)) (items_in m.store) x found in
+    let items : items_in c.exchange.new.store ≡ replaced key (eq (key y)) y c.args.self.now.items = exchanged_items key eq input hash m.hasher m.store c.exchange.new.store m.index g.met.T.Key.Eq.laws keyed c.in-Some.slot x y c.exchange.ensures.item alike c.exchange.ensures.updates ∙ ap (λ v. replaced key (eq (key y)) y v.items) c.self.view_is in
+    find_replaced (λ z. eq (key y) (key z)) (λ z. cond (eq (key y) (key z)) y z) c.args.self.now.items (items_in c.exchange.new.store) y x items refl (ap (λ v. find_item key (eq (key y)) v.items) (sym c.self.view_is) ∙ found) (g.met.T.Key.Eq.laws.refl (key y))
 
 pub returns-in-Some-clause-replaced : goal.returns-in-Some-clause-replaced
 unfolding IsKeyed
@@ -80,6 +97,7 @@ returns-in_err-insert_new-in-None g c =
       found = tt;
       replaced = tt;
       inserted = tt;
+      there = tt;
       item = rw back.2 told.item;
       refused = rw back.2 (absent, told.kind);
       no_spare = told.no_spare;
@@ -98,6 +116,7 @@ returns-in_ok-insert_new-in-None g c =
       found = sym absent;
       replaced = tt;
       inserted = put;
+      there = find_inserted (λ z. eq (key c.args.item) (key z)) _ _ c.args.item put.takes.added absent (g.met.T.Key.Eq.laws.refl (key c.args.item));
       item = tt;
       refused = tt;
       no_spare = tt;
