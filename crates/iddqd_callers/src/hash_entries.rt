@@ -1,78 +1,93 @@
 //! Entries of a hash map.
 ghost use Rattle.std.specs.Prelude.{◌≡◌, ◌==◌, IfNone, IfSome, IsTrue, OnSome, Some, false, is_some};
+ghost use Rattle.std.specs.Str.{bytes_eq};
+ghost use Rattle.std.specs.String.{string_bytes, string_eq};
 ghost use Rattle.iddqd.specs.Contents.{AddsItem, find_item, replaced, without};
+ghost use Rattle.iddqd.specs.HashItems.{IsKeyedByText};
 
 use iddqd::id_hash_map::Entry;
-use iddqd::{IdHashMap, Lookups};
-use iddqd_writers::items::{Pair, SetsValue};
+use iddqd::{IdHashMap, Lookups, Text};
+use iddqd_writers::items::{Named, Pair, SetsValue};
 use std::hash::BuildHasher;
 
-/// Adds the key with a value, and then writes another value.
-fn add_and_write<S: BuildHasher>(
-    map: &mut IdHashMap<Pair, S>,
-    key: u32,
-    first: u32,
-    then: u32,
-) -> bool
-    requires keyed { ⟦<IdHashMap<Pair, S> as Lookups>⟧.keyed map.old }
-    ensures added { IsTrue result → AddsItem (record { key = key; value = then }) map.old.items map.new.items }
+/// Adds the item, and then writes another value.
+#[tactic(auto, using(iddqd::proofs::GuardLemmas::hash_key_kept))]
+fn add_and_write(map: &mut IdHashMap<Named>, item: Named, then: u32) -> bool
+    requires keyed { IsKeyedByText (λ x. x.name) map.old }
+    ensures added { IsTrue result → AddsItem (record item { value = then }) map.old.items map.new.items }
     ensures kept { result ≡ false → map.new.items ≡ map.old.items }
+    ensures keyed { IsKeyedByText (λ x. x.name) map.new }
 {
-    match map.entry(&key) {
-        Entry::Vacant(entry) => match entry.insert(Pair { key, value: first }) {
-            Ok(mut pair) => {
-                pair.value = then;
-                pair.finish();
+    match map.entry(&item.name) {
+        Entry::Vacant(entry) => match entry.insert(item) {
+            Ok(mut added) => {
+                added.value = then;
+                added.finish();
                 true
             }
-            Err(_) => false,
+            Err(_refused) => false,
         },
         Entry::Occupied(_) => false,
     }
 }
 
-/// Puts another pair in the stead of the one of this key, which it answers.
-fn replace<S: BuildHasher>(map: &mut IdHashMap<Pair, S>, key: u32, value: u32) -> Option<Pair>
-    requires keyed { ⟦<IdHashMap<Pair, S> as Lookups>⟧.keyed map.old }
-    ensures found { result ≡ find_item (λ p. p.key) (λ k. key == k) map.old.items }
-    ensures replaced { IfSome (find_item (λ p. p.key) (λ k. key == k) map.old.items) (λ x. map.new.items ≡ replaced (λ p. p.key) (λ k. key == k) (record { key = key; value = value }) map.old.items) }
-    ensures absent { IfNone (find_item (λ p. p.key) (λ k. key == k) map.old.items) (map.new ≡ map.old) }
-    ensures keyed { ⟦<IdHashMap<Pair, S> as Lookups>⟧.keyed map.new }
+/// Puts the item in the place of the one of its name, which is returned.
+fn replace(map: &mut IdHashMap<Named>, item: Named) -> Option<Named>
+    requires keyed { IsKeyedByText (λ x. x.name) map.old }
+    ensures found { result ≡ find_item (λ x. x.name) (string_eq item.name) map.old.items }
+    ensures replaced { IfSome (find_item (λ x. x.name) (string_eq item.name) map.old.items) (λ x. map.new.items ≡ replaced (λ x. x.name) (string_eq item.name) item map.old.items) }
+    ensures keyed { IsKeyedByText (λ x. x.name) map.new }
 {
-    match map.entry(&key) {
-        Entry::Occupied(mut entry) => Some(entry.insert(Pair { key, value })),
+    match map.entry(&item.name) {
+        Entry::Occupied(mut entry) => Some(entry.insert(item)),
         Entry::Vacant(_) => None,
     }
 }
 
-/// Takes out the pair of this key.
-fn take<S: BuildHasher>(map: &mut IdHashMap<Pair, S>, key: u32) -> Option<Pair>
-    requires keyed { ⟦<IdHashMap<Pair, S> as Lookups>⟧.keyed map.old }
-    ensures found { result ≡ find_item (λ p. p.key) (λ k. key == k) map.old.items }
-    ensures left { map.new.items ≡ without (λ p. p.key) (λ k. key == k) map.old.items }
-    ensures keyed { ⟦<IdHashMap<Pair, S> as Lookups>⟧.keyed map.new }
+/// Removes the item of the name.
+fn take(map: &mut IdHashMap<Named>, name: &str) -> Option<Named>
+    requires keyed { IsKeyedByText (λ x. x.name) map.old }
+    ensures found { result ≡ find_item (λ x. x.name) (λ k. bytes_eq name.now (string_bytes k)) map.old.items }
+    ensures left { map.new.items ≡ without (λ x. x.name) (λ k. bytes_eq name.now (string_bytes k)) map.old.items }
+    ensures keyed { IsKeyedByText (λ x. x.name) map.new }
 {
-    match map.entry(&key) {
+    match map.entry(&Text(name)) {
         Entry::Occupied(entry) => Some(entry.remove()),
         Entry::Vacant(_) => None,
     }
 }
 
-/// Writes the value of the key, or adds the key with another one.
-fn set_or_add<S: BuildHasher>(map: &mut IdHashMap<Pair, S>, key: u32, set: u32, add: u32) -> bool
-    requires keyed { ⟦<IdHashMap<Pair, S> as Lookups>⟧.keyed map.old }
-    ensures set { IfSome (find_item (λ p. p.key) (λ k. key == k) map.old.items) (λ x. map.new.items ≡ replaced (λ p. p.key) (λ k. key == k) (record x { value = set }) map.old.items) }
-    ensures added { IfNone (find_item (λ p. p.key) (λ k. key == k) map.old.items) (IsTrue result → AddsItem (record { key = key; value = add }) map.old.items map.new.items) }
+/// Writes the value of the item of that name, or adds the item.
+fn set_or_add(map: &mut IdHashMap<Named>, set: u32, item: Named) -> bool
+    requires keyed { IsKeyedByText (λ x. x.name) map.old }
+    ensures set { IfSome (find_item (λ x. x.name) (string_eq item.name) map.old.items) (λ x. map.new.items ≡ replaced (λ x. x.name) (string_eq item.name) (record x { value = set }) map.old.items) }
+    ensures added { IfNone (find_item (λ x. x.name) (string_eq item.name) map.old.items) (IsTrue result → AddsItem item map.old.items map.new.items) }
     ensures kept { result ≡ false → map.new.items ≡ map.old.items }
-    ensures keyed { ⟦<IdHashMap<Pair, S> as Lookups>⟧.keyed map.new }
+    ensures keyed { IsKeyedByText (λ x. x.name) map.new }
 {
-    let entry = map.entry(&key).and_modify(&mut SetsValue { value: set });
-    match entry.or_insert(Pair { key, value: add }) {
-        Ok(pair) => {
-            pair.finish();
+    let entry = map.entry(&item.name).and_modify(&mut SetsValue { value: set });
+    match entry.or_insert(item) {
+        Ok(found) => {
+            found.finish();
             true
         }
-        Err(_) => false,
+        Err(_refused) => false,
+    }
+}
+
+/// The value of the item of that name, or of this one, which is added.
+fn value_or(map: &mut IdHashMap<Named>, item: Named) -> Option<u32>
+    requires keyed { IsKeyedByText (λ x. x.name) map.old }
+    ensures found { IfSome (find_item (λ x. x.name) (string_eq item.name) map.old.items) (λ x. (result ≡ Some x.value) × (map.new ≡ map.old)) }
+    ensures added { IfNone (find_item (λ x. x.name) (string_eq item.name) map.old.items) (OnSome result (AddsItem item map.old.items map.new.items)) }
+    ensures kept { IfNone result (map.new.items ≡ map.old.items) }
+{
+    match map.entry(&item.name).or_insert(item) {
+        Ok(found) => {
+            let shown = found.into_ref();
+            Some(shown.value)
+        }
+        Err(_refused) => None,
     }
 }
 

@@ -1,10 +1,14 @@
 //! Writing through the guard of a hash map.
 ghost use Rattle.std.specs.Prelude.{◌≡◌, ◌==◌, IfSome, IfNone, IsTrue, is_some, option_map};
+ghost use Rattle.std.specs.Str.{bytes_eq};
+ghost use Rattle.std.specs.String.{string_bytes};
 ghost use Rattle.iddqd.specs.Contents.{find_item, replaced};
+ghost use Rattle.iddqd.specs.HashItems.{IsKeyedByText};
 ghost use Rattle.iddqd.specs.Hashing.{HashesAs};
 
-use iddqd::{Equivalent, IdHashItem, IdHashMap, Lookups};
-use iddqd_writers::items::{Pair, write_value};
+use crate::items::Noted;
+use iddqd::{Equivalent, IdHashItem, IdHashMap, Lookups, Text};
+use iddqd_writers::items::{Named, Pair, write_value};
 use std::hash::{BuildHasher, Hash};
 
 /// Writes a whole item in the place of the one found; one of an equal key, however it is spelled, leaves the map keyed.
@@ -40,18 +44,52 @@ fn set_twice<S: BuildHasher>(map: &mut IdHashMap<Pair, S>, key: u32, first: u32,
 
 /// Writes, spends the guard, and reads what was written.
 #[tactic(auto, using(iddqd::proofs::GuardLemmas::read_back))]
-fn set_and_read<S: BuildHasher>(map: &mut IdHashMap<Pair, S>, key: u32, value: u32) -> Option<u32>
-    requires keyed { ⟦<IdHashMap<Pair, S> as Lookups>⟧.keyed map.old }
-    ensures value { result ≡ option_map (λ _. value) (find_item (λ p. p.key) (λ k. key == k) map.old.items) }
-    ensures written { IfSome (find_item (λ p. p.key) (λ k. key == k) map.old.items) (λ x. map.new.items ≡ replaced (λ p. p.key) (λ k. key == k) (record x { value = value }) map.old.items) }
+fn set_and_read(map: &mut IdHashMap<Named>, name: &str, value: u32) -> Option<u32>
+    requires keyed { IsKeyedByText (λ x. x.name) map.old }
+    ensures value { result ≡ option_map (λ _. value) (find_item (λ x. x.name) (λ k. bytes_eq name.now (string_bytes k)) map.old.items) }
 {
-    match map.get_mut(&key) {
+    match map.get_mut(&Text(name)) {
         Some(mut found) => {
             found.value = value;
             let shown = found.into_ref();
             Some(shown.value)
         }
         None => None,
+    }
+}
+
+/// Writes another value; the map is keyed still.
+#[tactic(auto, using(iddqd::proofs::GuardLemmas::hash_key_kept))]
+fn set_value(map: &mut IdHashMap<Named>, name: &str, value: u32) -> bool
+    requires keyed { IsKeyedByText (λ x. x.name) map.old }
+    ensures written { IfSome (find_item (λ x. x.name) (λ k. bytes_eq name.now (string_bytes k)) map.old.items) (λ x. map.new.items ≡ replaced (λ x. x.name) (λ k. bytes_eq name.now (string_bytes k)) (record x { value = value }) map.old.items) }
+    ensures absent { IfNone (find_item (λ x. x.name) (λ k. bytes_eq name.now (string_bytes k)) map.old.items) (map.new ≡ map.old) }
+    ensures keyed { IsKeyedByText (λ x. x.name) map.new }
+{
+    match map.get_mut(&Text(name)) {
+        Some(mut found) => {
+            found.value = value;
+            found.finish();
+            true
+        }
+        None => false,
+    }
+}
+
+/// Writes another note under the same number.
+#[tactic(auto, using(iddqd::proofs::GuardLemmas::hash_key_kept))]
+fn note(map: &mut IdHashMap<Noted>, number: u32, note: String) -> bool
+    requires keyed { ⟦<IdHashMap<Noted> as Lookups>⟧.keyed map.old }
+    ensures written { IfSome (find_item (λ x. x.number) (λ k. number == k) map.old.items) (λ x. map.new.items ≡ replaced (λ x. x.number) (λ k. number == k) (record x { note = note }) map.old.items) }
+    ensures keyed { ⟦<IdHashMap<Noted> as Lookups>⟧.keyed map.new }
+{
+    match map.get_mut(&number) {
+        Some(mut found) => {
+            found.note = note;
+            found.finish();
+            true
+        }
+        None => false,
     }
 }
 

@@ -1,11 +1,12 @@
 //! Walks that write and that retain, over a hash map.
 ghost use Rattle.std.specs.Prelude.{◌≡◌, ◌==◌, filter, is_some, nat_lt};
 ghost use Rattle.iddqd.specs.Contents.{find_item};
+ghost use Rattle.iddqd.specs.HashItems.{IsKeyedByText};
 ghost use Rattle.iddqd_writers.specs.Zeroed.{zeroed, changed_to};
 
 use iddqd::{IdHashMap, Lookups};
 use iddqd_writers::hash::zero_all;
-use iddqd_writers::items::Pair;
+use iddqd_writers::items::{Named, Pair};
 use std::hash::BuildHasher;
 
 /// Sets the first value to zero, and ends the walk there.
@@ -31,10 +32,10 @@ fn zero_and_ask<S: BuildHasher>(all: &mut IdHashMap<Pair, S>) -> bool
 }
 
 /// Keeps the items of greater value.
-fn keep_greater<S: BuildHasher>(all: &mut IdHashMap<Pair, S>, least: u32)
-    requires keyed { ⟦<IdHashMap<Pair, S> as Lookups>⟧.keyed all.old }
-    ensures kept { all.new.items ≡ filter (λ p. nat_lt least p.value) all.old.items }
-    ensures keyed { ⟦<IdHashMap<Pair, S> as Lookups>⟧.keyed all.new }
+fn keep_greater(all: &mut IdHashMap<Named>, least: u32)
+    requires keyed { IsKeyedByText (λ x. x.name) all.old }
+    ensures kept { all.new.items ≡ filter (λ x. nat_lt least x.value) all.old.items }
+    ensures keyed { IsKeyedByText (λ x. x.name) all.new }
 {
-    all.retain(|p| least < p.value);
+    all.retain(|x| least < x.value);
 }

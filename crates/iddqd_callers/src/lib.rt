@@ -4,10 +4,13 @@
 mod hash_adding;
 mod hash_entries;
 mod hash_guards;
+mod hash_insertions;
 mod hash_walks;
+mod items;
 mod lookups;
 mod ord_adding;
 mod ord_entries;
 mod ord_guards;
+mod ord_insertions;
 mod ord_walks;
 mod sums;

@@ -1,24 +1,35 @@
 //! Lookups in both maps.
 ghost use Rattle.std.specs.Prelude.{◌≡◌, ◌==◌, option_map};
-ghost use Rattle.std.specs.Ordering.{nat_cmp};
+ghost use Rattle.std.specs.Str.{bytes_eq};
+ghost use Rattle.std.specs.String.{string_bytes, string_cmp};
 ghost use Rattle.iddqd.specs.Contents.{Ascends, find_item};
+ghost use Rattle.iddqd.specs.HashItems.{IsKeyedByText};
 
-use iddqd::{IdHashMap, IdOrdMap, Lookups};
-use iddqd_writers::items::Pair;
+use crate::items::Noted;
+use iddqd::{IdHashMap, IdOrdMap, Lookups, Text};
+use iddqd_writers::items::Named;
 use std::hash::BuildHasher;
 
-/// The value of the key, in an ordered map.
-fn value_of(map: &IdOrdMap<Pair>, key: u32) -> Option<u32>
-    requires keyed { Ascends (λ p. p.key) nat_cmp map.now.items }
-    ensures { result ≡ option_map (λ p. p.value) (find_item (λ p. p.key) (λ k. key == k) map.now.items) }
+/// The value of the name, in an ordered map.
+fn value_of(map: &IdOrdMap<Named>, name: &str) -> Option<u32>
+    requires keyed { Ascends (λ x. x.name) string_cmp map.now.items }
+    ensures { result ≡ option_map (λ x. x.value) (find_item (λ x. x.name) (λ k. bytes_eq name.now (string_bytes k)) map.now.items) }
 {
-    Some(map.get(&key)?.value)
+    Some(map.get(&Text(name))?.value)
 }
 
-/// The value of the key, in a hash map.
-fn hash_value_of<S: BuildHasher>(map: &IdHashMap<Pair, S>, key: u32) -> Option<u32>
-    requires keyed { ⟦<IdHashMap<Pair, S> as Lookups>⟧.keyed map.now }
-    ensures { result ≡ option_map (λ p. p.value) (find_item (λ p. p.key) (λ k. key == k) map.now.items) }
+/// The value of the name, in a hash map.
+fn hash_value_of(map: &IdHashMap<Named>, name: &str) -> Option<u32>
+    requires keyed { IsKeyedByText (λ x. x.name) map.now }
+    ensures { result ≡ option_map (λ x. x.value) (find_item (λ x. x.name) (λ k. bytes_eq name.now (string_bytes k)) map.now.items) }
 {
-    Some(map.get(&key)?.value)
+    Some(map.get(&Text(name))?.value)
+}
+
+/// The note of the number, in a hash map under any hasher.
+fn note_of<S: BuildHasher>(map: &IdHashMap<Noted, S>, number: u32) -> Option<&String>
+    requires keyed { ⟦<IdHashMap<Noted, S> as Lookups>⟧.keyed map.now }
+    ensures { option_map (λ note. note.now) result ≡ option_map (λ x. x.note) (find_item (λ x. x.number) (λ k. number == k) map.now.items) }
+{
+    Some(&map.get(&number)?.note)
 }

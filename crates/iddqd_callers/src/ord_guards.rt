@@ -2,9 +2,10 @@
 ghost use Rattle.std.specs.Prelude.{◌≡◌, ◌==◌, IfSome, IfNone, IsTrue, is_some, option_map};
 ghost use Rattle.std.specs.Ordering.{nat_cmp};
 ghost use Rattle.std.specs.Str.{bytes_eq};
-ghost use Rattle.std.specs.String.{string_bytes};
+ghost use Rattle.std.specs.String.{string_bytes, string_cmp};
 ghost use Rattle.iddqd.specs.Contents.{Ascends, find_item, replaced};
 
+use crate::items::Noted;
 use iddqd::{Comparable, IdOrdItem, IdOrdMap, Text};
 use iddqd_writers::items::{Named, Pair, write_value};
 
@@ -36,18 +37,52 @@ fn set_twice(map: &mut IdOrdMap<Pair>, key: u32, first: u32, then: u32)
 
 /// Writes, spends the guard, and reads what was written.
 #[tactic(auto, using(iddqd::proofs::GuardLemmas::read_back))]
-fn set_and_read(map: &mut IdOrdMap<Pair>, key: u32, value: u32) -> Option<u32>
-    requires keyed { Ascends (λ p. p.key) nat_cmp map.old.items }
-    ensures value { result ≡ option_map (λ _. value) (find_item (λ p. p.key) (λ k. key == k) map.old.items) }
-    ensures written { IfSome (find_item (λ p. p.key) (λ k. key == k) map.old.items) (λ x. map.new.items ≡ replaced (λ p. p.key) (λ k. key == k) (record x { value = value }) map.old.items) }
+fn set_and_read(map: &mut IdOrdMap<Named>, name: &str, value: u32) -> Option<u32>
+    requires keyed { Ascends (λ x. x.name) string_cmp map.old.items }
+    ensures value { result ≡ option_map (λ _. value) (find_item (λ x. x.name) (λ k. bytes_eq name.now (string_bytes k)) map.old.items) }
 {
-    match map.get_mut(&key) {
+    match map.get_mut(&Text(name)) {
         Some(mut found) => {
             found.value = value;
             let shown = found.into_ref();
             Some(shown.value)
         }
         None => None,
+    }
+}
+
+/// Writes another value; the map is keyed still.
+#[tactic(auto, using(iddqd::proofs::GuardLemmas::same_key_kept))]
+fn set_value(map: &mut IdOrdMap<Named>, name: &str, value: u32) -> bool
+    requires keyed { Ascends (λ x. x.name) string_cmp map.old.items }
+    ensures written { IfSome (find_item (λ x. x.name) (λ k. bytes_eq name.now (string_bytes k)) map.old.items) (λ x. map.new.items ≡ replaced (λ x. x.name) (λ k. bytes_eq name.now (string_bytes k)) (record x { value = value }) map.old.items) }
+    ensures absent { IfNone (find_item (λ x. x.name) (λ k. bytes_eq name.now (string_bytes k)) map.old.items) (map.new ≡ map.old) }
+    ensures keyed { Ascends (λ x. x.name) string_cmp map.new.items }
+{
+    match map.get_mut(&Text(name)) {
+        Some(mut found) => {
+            found.value = value;
+            found.finish();
+            true
+        }
+        None => false,
+    }
+}
+
+/// Writes another note under the same number.
+#[tactic(auto, using(iddqd::proofs::GuardLemmas::same_key_kept))]
+fn note(map: &mut IdOrdMap<Noted>, number: u32, note: String) -> bool
+    requires keyed { Ascends (λ x. x.number) nat_cmp map.old.items }
+    ensures written { IfSome (find_item (λ x. x.number) (λ k. number == k) map.old.items) (λ x. map.new.items ≡ replaced (λ x. x.number) (λ k. number == k) (record x { note = note }) map.old.items) }
+    ensures keyed { Ascends (λ x. x.number) nat_cmp map.new.items }
+{
+    match map.get_mut(&number) {
+        Some(mut found) => {
+            found.note = note;
+            found.finish();
+            true
+        }
+        None => false,
     }
 }
 

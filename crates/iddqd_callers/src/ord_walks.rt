@@ -1,11 +1,12 @@
 //! Walks that write and that retain, over an ordered map.
 ghost use Rattle.std.specs.Prelude.{◌≡◌, ◌==◌, filter, is_some, nat_lt};
 ghost use Rattle.std.specs.Ordering.{nat_cmp};
+ghost use Rattle.std.specs.String.{string_cmp};
 ghost use Rattle.iddqd.specs.Contents.{Ascends, find_item};
 ghost use Rattle.iddqd_writers.specs.Zeroed.{zeroed, changed_to};
 
 use iddqd::IdOrdMap;
-use iddqd_writers::items::Pair;
+use iddqd_writers::items::{Named, Pair};
 use iddqd_writers::ord::zero_all;
 
 /// Sets the first value to zero, and ends the walk there.
@@ -32,10 +33,10 @@ fn zero_and_ask(all: &mut IdOrdMap<Pair>) -> bool
 }
 
 /// Keeps the items of greater value.
-fn keep_greater(all: &mut IdOrdMap<Pair>, least: u32)
-    requires keyed { Ascends (λ p. p.key) nat_cmp all.old.items }
-    ensures kept { all.new.items ≡ filter (λ p. nat_lt least p.value) all.old.items }
-    ensures keyed { Ascends (λ p. p.key) nat_cmp all.new.items }
+fn keep_greater(all: &mut IdOrdMap<Named>, least: u32)
+    requires keyed { Ascends (λ x. x.name) string_cmp all.old.items }
+    ensures kept { all.new.items ≡ filter (λ x. nat_lt least x.value) all.old.items }
+    ensures keyed { Ascends (λ x. x.name) string_cmp all.new.items }
 {
-    all.retain(|p| least < p.value);
+    all.retain(|x| least < x.value);
 }

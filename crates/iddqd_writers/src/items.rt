@@ -51,6 +51,16 @@ impl IdOrdItem for Named {
     }
 }
 
+impl IdHashItem for Named {
+    type Key = String;
+
+    ghost key = { λ item. item.name };
+
+    fn key(&self) -> &String {
+        &self.name
+    }
+}
+
 /// Writes the value of a pair that is handed in.
 pub fn write_value(pair: &mut Pair, value: u32)
     ensures { pair.new ≡ record pair.old { value = value } }
@@ -69,6 +79,15 @@ impl Visit<Pair> for SetsValue {
     ghost visits = { λ v x. (v, record x { value = v.value }, true) };
 
     fn visit(&mut self, item: &mut Pair) -> bool {
+        item.value = self.value;
+        true
+    }
+}
+
+impl Visit<Named> for SetsValue {
+    ghost visits = { λ v x. (v, record x { value = v.value }, true) };
+
+    fn visit(&mut self, item: &mut Named) -> bool {
         item.value = self.value;
         true
     }

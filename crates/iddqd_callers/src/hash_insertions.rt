@@ -1,0 +1,150 @@
+//! Insertions into a hash map, in each form in which their answer is matched.
+ghost use Rattle.std.specs.Prelude.{◌≡◌, ◌≢◌, ◌==◌, ◌+◌, IfNone, IfSome, IsTrue, None, OnOk, Some, false, is_some, length};
+ghost use Rattle.std.specs.Str.{bytes_eq};
+ghost use Rattle.std.specs.String.{string_bytes, string_eq};
+ghost use Rattle.iddqd.specs.Contents.{find_item};
+ghost use Rattle.iddqd.specs.HashItems.{IsKeyedByText};
+
+use crate::items::{Noted, Tagged, Titled};
+use iddqd::errors::{InsertError, TryReserveError};
+use iddqd::{IdHashMap, Lookups, Text};
+use iddqd_writers::items::Named;
+
+/// Three arms: the value of the item that is there, or of the one that was refused.
+fn add_or_show(all: &mut IdHashMap<Named>, item: Named) -> Option<u32>
+    requires keyed { IsKeyedByText (λ x. x.name) all.old }
+    ensures shown { IfSome result (λ value. IfSome (find_item (λ x. x.name) (string_eq item.name) all.old.items) (λ x. value ≡ x.value)) }
+    ensures keyed { IsKeyedByText (λ x. x.name) all.new }
+{
+    match all.insert_unique(item) {
+        Ok(()) => None,
+        Err(InsertError::Duplicate(both)) => Some(both.duplicates().first().value),
+        Err(InsertError::Refused(refused)) => Some(refused.item.value),
+    }
+}
+
+/// Joined arms; what was inserted is found.
+#[tactic(auto, using(iddqd::proofs::ChangeLemmas::after_changes))]
+fn add(all: &mut IdHashMap<Noted>, item: Noted) -> bool
+    requires keyed { ⟦<IdHashMap<Noted> as Lookups>⟧.keyed all.old }
+    ensures found { IsTrue result → find_item (λ x. x.number) (λ k. item.number == k) all.new.items ≡ Some item }
+    ensures keyed { ⟦<IdHashMap<Noted> as Lookups>⟧.keyed all.new }
+{
+    match all.insert_unique(item) {
+        Ok(()) => true,
+        Err(InsertError::Duplicate(_) | InsertError::Refused(_)) => false,
+    }
+}
+
+/// One arm for both errors.
+fn add_titled(all: &mut IdHashMap<Titled>, item: Titled) -> bool
+    requires keyed { IsKeyedByText (λ x. x.title) all.old }
+    ensures keyed { IsKeyedByText (λ x. x.title) all.new }
+{
+    match all.insert_unique(item) {
+        Ok(()) => true,
+        Err(_error) => false,
+    }
+}
+
+/// `let .. else`.
+fn add_tagged(all: &mut IdHashMap<Tagged>, item: Tagged) -> bool
+    requires keyed { ⟦<IdHashMap<Tagged> as Lookups>⟧.keyed all.old }
+    ensures keyed { ⟦<IdHashMap<Tagged> as Lookups>⟧.keyed all.new }
+{
+    let Ok(()) = all.insert_unique(item) else {
+        return false;
+    };
+    true
+}
+
+/// `is_ok()`; what was inserted is found by its text, and the number of items is one more.
+#[tactic(auto, using(iddqd::proofs::ChangeLemmas::after_changes))]
+pub(crate) fn add_named(all: &mut IdHashMap<Named>, item: Named) -> bool
+    requires keyed { IsKeyedByText (λ x. x.name) all.old }
+    ensures found { IsTrue result → find_item (λ x. x.name) (string_eq item.name) all.new.items ≡ Some item }
+    ensures longer { IsTrue result → length all.new.items ≡ length all.old.items + 1 }
+    ensures keyed { IsKeyedByText (λ x. x.name) all.new }
+{
+    all.insert_unique(item).is_ok()
+}
+
+/// `?`, behind a function that makes the error into one of the caller's.
+fn add_question(all: &mut IdHashMap<Noted>, item: Noted) -> Result<(), String>
+    requires keyed { ⟦<IdHashMap<Noted> as Lookups>⟧.keyed all.old }
+    ensures keyed { ⟦<IdHashMap<Noted> as Lookups>⟧.keyed all.new }
+{
+    all.insert_unique(item).map_err(note_of)?;
+    Ok(())
+}
+
+fn note_of(error: InsertError<'_, Noted>) -> String {
+    match error {
+        InsertError::Duplicate(both) => both.into_parts().0.note,
+        InsertError::Refused(refused) => refused.item.note,
+    }
+}
+
+/// Other items are found as before.
+#[tactic(auto, using(iddqd::proofs::ChangeLemmas::after_changes))]
+fn add_beside(all: &mut IdHashMap<Noted>, item: Noted, other: u32) -> bool
+    requires keyed { ⟦<IdHashMap<Noted> as Lookups>⟧.keyed all.old }
+    requires apart { (other == item.number) ≡ false }
+    ensures same { find_item (λ x. x.number) (λ k. other == k) all.new.items ≡ find_item (λ x. x.number) (λ k. other == k) all.old.items }
+{
+    all.insert_unique(item).is_ok()
+}
+
+/// What was overwritten is found.
+#[tactic(auto, using(iddqd::proofs::ChangeLemmas::after_changes))]
+fn put(all: &mut IdHashMap<Named>, item: Named) -> Result<Option<Named>, TryReserveError>
+    requires keyed { IsKeyedByText (λ x. x.name) all.old }
+    ensures found { OnOk result (find_item (λ x. x.name) (string_eq item.name) all.new.items ≡ Some item) }
+    ensures keyed { IsKeyedByText (λ x. x.name) all.new }
+{
+    let old = all.insert_overwrite(item).map_err(|refused| refused.error)?;
+    Ok(old)
+}
+
+/// What was removed is not found.
+#[tactic(auto, using(iddqd::proofs::ChangeLemmas::after_changes))]
+fn remove(all: &mut IdHashMap<Named>, name: &str) -> bool
+    requires keyed { IsKeyedByText (λ x. x.name) all.old }
+    ensures gone { find_item (λ x. x.name) (λ k. bytes_eq name.now (string_bytes k)) all.new.items ≡ None }
+    ensures keyed { IsKeyedByText (λ x. x.name) all.new }
+{
+    all.remove(&Text(name)).is_some()
+}
+
+/// All else is found as before.
+#[tactic(auto, using(iddqd::proofs::ChangeLemmas::after_changes))]
+fn remove_beside(all: &mut IdHashMap<Noted>, number: u32, other: u32) -> bool
+    requires keyed { ⟦<IdHashMap<Noted> as Lookups>⟧.keyed all.old }
+    requires apart { other ≢ number }
+    ensures kept { IfSome (find_item (λ x. x.number) (λ k. other == k) all.old.items) (λ x. find_item (λ x. x.number) (λ k. other == k) all.new.items ≡ Some x) }
+    ensures absent { IfNone (find_item (λ x. x.number) (λ k. other == k) all.old.items) (find_item (λ x. x.number) (λ k. other == k) all.new.items ≡ None) }
+{
+    all.remove(&number).is_some()
+}
+
+/// After a removal there is one item less: `len` before and after tell it.
+#[tactic(auto, using(iddqd::proofs::ChangeLemmas::after_changes))]
+fn left_after_removal(all: &mut IdHashMap<Noted>, number: u32) -> usize
+    requires keyed { ⟦<IdHashMap<Noted> as Lookups>⟧.keyed all.old }
+    requires there { IsTrue (is_some (find_item (λ x. x.number) (λ k. number == k) all.old.items)) }
+    ensures fewer { result + 1 ≡ length all.old.items }
+{
+    let _before = all.len();
+    let _removed = all.remove(&number);
+    all.len()
+}
+
+/// After `clear` nothing is found.
+fn clear(all: &mut IdHashMap<Named>, name: &str) -> usize
+    ensures none { find_item (λ x. x.name) (λ k. bytes_eq name.now (string_bytes k)) all.new.items ≡ None }
+    ensures len { result ≡ 0 }
+    ensures keyed { IsKeyedByText (λ x. x.name) all.new }
+{
+    all.clear();
+    all.len()
+}
