@@ -1,79 +1,101 @@
-//! Settings that come in lines, each named by a letter. It leans on two promises: `from_iter_unique` tells the first name that a
-//! line repeats, and `extend_unique` the first that an earlier line has; each shows both items, and nothing is overwritten.
+//! Settings that come in lines, each a name and a value. It leans on two promises: `from_iter_unique` reports the first name that a
+//! line has twice, and `insert_unique` a name that an earlier line has; each shows both items, and nothing is overwritten.
 #![tactic(auto)]
 
-ghost use Rattle.std.specs.Prelude.{List, IfOk, IfSome, nat_eq};
-ghost use Rattle.std.specs.Ordering.{nat_cmp};
-ghost use Rattle.iddqd.specs.Collecting.{AddsAll, IsFirstConflict};
-ghost use Rattle.iddqd.specs.Contents.{Ascends};
+ghost use Rattle.std.specs.Prelude.{◌≡◌, List, IfNone, IfOk, IfSome, option_map};
+ghost use Rattle.std.specs.Str.{bytes_eq};
+ghost use Rattle.std.specs.String.{string_bytes, string_eq};
+ghost use Rattle.iddqd.specs.Contents.{AddsItem, find_item};
+ghost use Rattle.iddqd.specs.HashItems.{IsKeyedByText};
 ghost use Rattle.settings.specs.declared.Setting.{Setting};
 
-use iddqd::errors::{ExtendUniqueError, TryReserveError};
-use iddqd::{IdOrdItem, IdOrdMap};
+use iddqd::errors::{FromIterError, InsertError, TryReserveError};
+use iddqd::{IdHashItem, IdHashMap, Text};
+use std::alloc::{AllocError, Global};
 use std::io;
 use std::marker::Model;
 
-#[derive(Clone, Copy, Debug, Drop)]
+#[derive(Debug, Drop)]
 struct Setting {
-    name: char,
+    name: String,
     value: u32,
 }
 
-impl IdOrdItem for Setting {
-    type Key = char;
+impl IdHashItem for Setting {
+    type Key = String;
 
     ghost key = { λ setting. setting.name };
 
-    fn key(&self) -> &char {
+    fn key(&self) -> &String {
         &self.name
     }
 }
 
-/// The settings, seen as a list that is sorted by their names.
+/// The settings, seen as a list in which no two names are equal.
 #[derive(Drop)]
-struct Settings(IdOrdMap<Setting>);
+struct Settings(IdHashMap<Setting>);
 
 impl Model for Settings {
     ghost Value = { List Setting };
 
     ghost view = { λ all. all.0.items };
 
-    ghost invariant = { λ all. Ascends (λ s. s.name) nat_cmp all.0.items };
+    ghost invariant = { λ all. IsKeyedByText (λ s. s.name) all.0 };
 }
 
-/// Adds settings up to the first whose name is there, and answers that one beside the one there. Its contract took no line of
-/// proof.
-fn add(
-    all: &mut Settings,
-    line: Vec<Setting>,
-) -> Result<Option<(Setting, Setting)>, TryReserveError>
-    ensures known { IfOk result (λ known. IfSome known (λ both. (before : List Setting) × IsFirstConflict (λ s. s.name) nat_eq all.old before both.0 both.1 × AddsAll (λ s. s.name) nat_eq before all.old all.new)) }
+/// Adds the setting. Where its name is there, returns the setting and the value that is there. Its contract took no line of proof.
+fn add(all: &mut Settings, setting: Setting) -> Result<Option<(Setting, u32)>, TryReserveError>
+    ensures added { IfOk result (λ known. IfNone known (AddsItem setting all.old all.new)) }
+    ensures new { IfOk result (λ known. IfSome known (λ both. both.0 ≡ setting)) }
+    ensures there { IfOk result (λ known. IfSome known (λ both. IfSome (find_item (λ s. s.name) (string_eq setting.name) all.old) (λ s. both.1 ≡ s.value))) }
 {
-    match all.0.extend_unique(line) {
+    match all.0.insert_unique(setting) {
         Ok(()) => Ok(None),
-        Err(ExtendUniqueError::Duplicate(both)) => {
-            let there = **both.duplicates().get(0).unwrap();
-            Ok(Some((*both.new_item(), there)))
+        Err(InsertError::Duplicate(both)) => {
+            let there = both.duplicates().first().value;
+            Ok(Some((both.into_parts().0, there)))
         }
-        Err(ExtendUniqueError::Refused(refused)) => Err(refused.error),
+        Err(InsertError::Refused(refused)) => Err(refused.error),
     }
+}
+
+/// The value of the name. Its contract took no line of proof.
+fn value_of(all: &Settings, name: &str) -> Option<u32>
+    ensures { result ≡ option_map (λ s. s.value) (find_item (λ s. s.name) (λ k. bytes_eq name.now (string_bytes k)) all.now) }
+{
+    Some(all.0.get(&Text(name))?.value)
+}
+
+fn parsed(alloc: Global, line: &str) -> Result<Vec<Setting>, AllocError> {
+    let mut settings = Vec::new(alloc);
+    for word in line.split_whitespace() {
+        let Some((name, value)) = word.split_once('=') else {
+            continue;
+        };
+        let Ok(value) = value.parse::<u32>() else {
+            continue;
+        };
+        settings.push(Setting {
+            name: String::from_str(alloc, name)?,
+            value,
+        })?;
+    }
+    Ok(settings)
 }
 
 fn main(rt: HostRuntime) -> io::Result<()> {
-    let mut all = Settings(IdOrdMap::new(rt.alloc()));
-    let lines = [
-        [('p', 80), ('s', 5)],
-        [('r', 3), ('r', 4)],
-        [('h', 1), ('p', 8080)],
-    ];
-    for line in lines {
-        let line = line.map(|(name, value)| Setting { name, value });
-        let items = Vec::from_array(rt.alloc(), line)?;
-        if let Err(repeat) = IdOrdMap::from_iter_unique(rt.alloc(), items) {
-            println!(rt; "{repeat:?}")?;
-            continue;
+    let mut all = Settings(IdHashMap::new(rt.alloc()));
+    for line in ["port=80 seats=5", "rate=3 rate=4", "host=1 port=8080"] {
+        match IdHashMap::<Setting>::from_iter_unique(rt.alloc(), parsed(rt.alloc(), line)?) {
+            Ok(settings) => {
+                for setting in settings {
+                    println!(rt; "{:?}", add(&mut all, setting))?;
+                }
+            }
+            Err(FromIterError::Duplicate(both)) => println!(rt; "{both:?}")?,
+            Err(FromIterError::Refused(error)) => println!(rt; "{error}")?,
         }
-        println!(rt; "{:?}", add(&mut all, Vec::from_array(rt.alloc(), line)?))?;
     }
-    println!(rt; "there are {}", all.0.len())
+    let (port, seats) = (value_of(&all, "port"), value_of(&all, "seats"));
+    println!(rt; "{port:?} and {seats:?} of {}", all.0.len())
 }
