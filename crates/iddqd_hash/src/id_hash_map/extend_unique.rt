@@ -23,6 +23,8 @@ impl<T: IdHashItem, S: BuildHasher> IdHashMap<T, S> {
     /// error has no item and the items are as they were. Else the first item that is refused comes back; as many new keys
     /// as were spare are taken before that. In each error the items before it stay, and the rest of the iterator is
     /// dropped. It hashes each item's key once and searches once for it.
+    /// In a caller's proof, match the error by a name, as in `Err(_error)`. `Err(_)` in the last `match` of a function leaves
+    /// nothing known of the map, if the items own memory.
     pub fn extend_unique<U: IntoIterator<Item = T>>(
         &mut self,
         iter: U,

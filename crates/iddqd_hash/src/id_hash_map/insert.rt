@@ -18,6 +18,8 @@ impl<T: IdHashItem, S: BuildHasher> IdHashMap<T, S> {
     /// then the map is as it was. A full map and refused memory hand the item back, and then the items are as they were
     /// (ours: the crate panics or aborts for want of room). Where `spare` is above 0 a new key is never refused. It hashes
     /// the key once and searches once; a growth reads each pair of the index.
+    /// In a caller's proof, match the error by a name, as in `Err(_error)`. `Err(_)` in the last `match` of a function leaves
+    /// nothing known of the map, if the items own memory.
     pub fn insert_unique(&mut self, item: T) -> Result<&mut (), InsertError<'_, T>>
         requires keyed { ⟦<IdHashMap<T, S> as Lookups>⟧.keyed self.old }
         ensures* after { sem 𝓛 (ends_hash_inserted S.row T.row ⟦<IdHashMap<T, S> as Lookups>⟧.keyed self.entry result item) }

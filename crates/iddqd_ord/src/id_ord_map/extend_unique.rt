@@ -20,6 +20,8 @@ impl<T: IdOrdItem> IdOrdMap<T> {
     /// refused, the error has no item and the items are as they were. Else the first item that is refused comes back. In
     /// each error the items before it stay, and the rest of the iterator is dropped. It makes as many comparisons as that
     /// many calls of `insert_unique`.
+    /// In a caller's proof, match the error by a name, as in `Err(_error)`. `Err(_)` in the last `match` of a function leaves
+    /// nothing known of the map, if the items own memory.
     pub fn extend_unique<U: IntoIterator<Item = T>>(
         &mut self,
         iter: U,

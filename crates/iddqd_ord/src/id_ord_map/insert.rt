@@ -17,6 +17,8 @@ impl<T: IdOrdItem> IdOrdMap<T> {
     /// Inserts the item where none of an equal key is there, by as many comparisons as `insert_unique_counted`. A duplicate
     /// needs no memory and lends the item that is there; then the map is as it was. A full map and refused memory hand the
     /// item back, and then the items are as they were (ours: the crate panics or aborts for want of room).
+    /// In a caller's proof, match the error by a name, as in `Err(_error)`. `Err(_)` in the last `match` of a function leaves
+    /// nothing known of the map, if the items own memory.
     #[inline]
     pub fn insert_unique(&mut self, item: T) -> Result<&mut (), InsertError<'_, T>>
         requires keyed { Ascends T.key T.Key.cmp self.old.items }

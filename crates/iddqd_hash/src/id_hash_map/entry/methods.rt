@@ -15,6 +15,8 @@ use std::hash::BuildHasher;
 impl<'a, T: IdHashItem, S: BuildHasher> Entry<'a, T, S> {
     /// Lends the item there and drops this one; where there is none, inserts this one as `VacantEntry::insert` does and lends
     /// it. The guard has to be spent.
+    /// Match the refusal by a name, as in `Err(_refused)`: beside a guard that is moved out of `Ok`, `Err(_)` gets no proof, if
+    /// the items are not `Copy`.
     pub fn or_insert(self, item: T) -> Result<RefMut<'a, T, S>, Refused<T>>
     where
         T: Drop,

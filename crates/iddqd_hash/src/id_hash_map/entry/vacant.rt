@@ -17,6 +17,8 @@ impl<'a, T: IdHashItem, S: BuildHasher> VacantEntry<'a, T, S> {
     /// and lends it. A full map and refused memory hand the item back, and then the items are as they were (ours: the crate
     /// panics or aborts for want of room). Where `spare` is above 0 it is never refused. It hashes the key once, and compares
     /// none; a growth reads each pair of the index. The guard has to be spent.
+    /// Match the refusal by a name, as in `Err(_refused)`: beside a guard that is moved out of `Ok`, `Err(_)` gets no proof, if
+    /// the items are not `Copy`.
     pub fn insert(self, item: T) -> Result<RefMut<'a, T, S>, Refused<T>>
         requires keyed { ⟦<IdHashMap<T, S> as Lookups>⟧.keyed (entry_map (Vacant self)) }
         requires absent { IsAbsent T.key (T.Key.eq (T.key item)) (entry_map (Vacant self)).items }

@@ -14,6 +14,8 @@ use iddqd_store::{IdOrdItem, Refused, Visit};
 impl<'a, T: IdOrdItem> Entry<'a, T> {
     /// Lends the item there and drops this one; where there is none, inserts this one as `VacantEntry::insert` does and lends
     /// it. The guard has to be spent.
+    /// Match the refusal by a name, as in `Err(_refused)`: beside a guard that is moved out of `Ok`, `Err(_)` gets no proof, if
+    /// the items are not `Copy`.
     pub fn or_insert(self, item: T) -> Result<RefMut<'a, T>, Refused<T>>
     where
         T: Drop,

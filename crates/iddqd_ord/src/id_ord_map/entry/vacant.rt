@@ -15,6 +15,8 @@ impl<'a, T: IdOrdItem> VacantEntry<'a, T> {
     /// Inserts the item at the place of its own key, which no item has and which need not be the one that was asked for, and
     /// lends it. A full map and refused memory hand the item back, and then the items are as they were (ours: the crate
     /// panics or aborts for want of room). It makes as many comparisons as `get`. The guard has to be spent.
+    /// Match the refusal by a name, as in `Err(_refused)`: beside a guard that is moved out of `Ok`, `Err(_)` gets no proof, if
+    /// the items are not `Copy`.
     pub fn insert(self, item: T) -> Result<RefMut<'a, T>, Refused<T>>
         requires keyed { Ascends T.key T.Key.cmp (entry_map (Vacant self)).items }
         requires absent { IsAbsent T.key (T.Key.eq (T.key item)) (entry_map (Vacant self)).items }
