@@ -65,7 +65,9 @@ fn set_or_add(map: &mut IdHashMap<Named>, set: u32, item: Named) -> bool
     ensures kept { result ≡ false → map.new.items ≡ map.old.items }
     ensures keyed { IsKeyedByText (λ x. x.name) map.new }
 {
-    let entry = map.entry(&item.name).and_modify(&mut SetsValue { value: set });
+    let entry = map
+        .entry(&item.name)
+        .and_modify(&mut SetsValue { value: set });
     match entry.or_insert(item) {
         Ok(found) => {
             found.finish();

@@ -1,6 +1,7 @@
 //! What callers of the maps learn of what they did: each function here proves its contract from the maps' alone. Nobody calls them.
 #![tactic(auto)]
 
+mod errors;
 mod hash_adding;
 mod hash_entries;
 mod hash_guards;

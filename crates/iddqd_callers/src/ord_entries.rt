@@ -64,7 +64,9 @@ fn set_or_add(map: &mut IdOrdMap<Named>, set: u32, item: Named) -> bool
     ensures kept { result ≡ false → map.new.items ≡ map.old.items }
     ensures keyed { Ascends (λ x. x.name) string_cmp map.new.items }
 {
-    let entry = map.entry(&item.name).and_modify(&mut SetsValue { value: set });
+    let entry = map
+        .entry(&item.name)
+        .and_modify(&mut SetsValue { value: set });
     match entry.or_insert(item) {
         Ok(found) => {
             found.finish();
