@@ -1,10 +1,14 @@
 use Rattle.std.proofs.Common.{◌++◌, ◌∙◌, ap, length, string_bytes, sym, rules}
 use Rattle.std.specs.Prelude.{codes, decimal}
 use Rattle.std.proofs.lemmas.List.{length-map}
+use Rattle.iddqd.specs.HashItems.{differ_from_keyed}
 use Rattle.iddqd_run.specs.Answer.{list_text}
 use Rattle.iddqd_run.specs.Shown.{all_lent, entries_of}
 use Rattle.iddqd_run.proofs.EndLemmas.{lists_items}
 use Rattle.iddqd_run.proofs.table.IdHashMapEntryTable.write_list.Goals as goal
+
+pub by_name-requires : goal.by_name-requires
+by_name-requires c = record { differ = differ_from_keyed _ _ _ _ _ c.requires.keyed }
 
 pub returns-in-Ok-write_sorted-clause-listed : goal.returns-in-Ok-write_sorted-clause-listed
 returns-in-Ok-write_sorted-clause-listed c =
