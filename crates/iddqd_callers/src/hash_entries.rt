@@ -1,9 +1,10 @@
 //! Entries of a hash map.
-ghost use Rattle.std.specs.Prelude.{◌≡◌, ◌==◌, IfNone, IfSome, IsTrue, OnSome, Some, false, is_some};
+ghost use Rattle.std.specs.Prelude.{◌≡◌, ◌==◌, IfNone, IfSome, IsTrue, OnSome, Some, false};
 ghost use Rattle.std.specs.Str.{bytes_eq};
-ghost use Rattle.std.specs.String.{string_bytes, string_eq};
+ghost use Rattle.std.specs.String.{string_bytes};
 ghost use Rattle.iddqd.specs.Contents.{AddsItem, find_item, replaced, without};
 ghost use Rattle.iddqd.specs.HashItems.{IsKeyedByText};
+ghost use Rattle.iddqd_callers.specs.Lookups.{of_key, of_name, put_at_key};
 
 use iddqd::id_hash_map::Entry;
 use iddqd::{IdHashMap, Lookups, Text};
@@ -14,7 +15,8 @@ use std::hash::BuildHasher;
 #[tactic(auto, using(iddqd::proofs::GuardLemmas::hash_key_kept))]
 fn add_and_write(map: &mut IdHashMap<Named>, item: Named, then: u32) -> bool
     requires keyed { IsKeyedByText (λ x. x.name) map.old }
-    ensures added { IsTrue result → AddsItem (record item { value = then }) map.old.items map.new.items }
+    ensures added { IsTrue result → AddsItem
+        (record item { value = then }) map.old.items map.new.items }
     ensures kept { result ≡ false → map.new.items ≡ map.old.items }
     ensures keyed { IsKeyedByText (λ x. x.name) map.new }
 {
@@ -34,8 +36,9 @@ fn add_and_write(map: &mut IdHashMap<Named>, item: Named, then: u32) -> bool
 /// Puts the item in the place of the one of its name, which is returned.
 fn replace(map: &mut IdHashMap<Named>, item: Named) -> Option<Named>
     requires keyed { IsKeyedByText (λ x. x.name) map.old }
-    ensures found { result ≡ find_item (λ x. x.name) (string_eq item.name) map.old.items }
-    ensures replaced { IfSome (find_item (λ x. x.name) (string_eq item.name) map.old.items) (λ x. map.new.items ≡ replaced (λ x. x.name) (string_eq item.name) item map.old.items) }
+    ensures found { result ≡ of_key item.name map.old.items }
+    ensures replaced { IfSome (of_key item.name map.old.items)
+        (λ x. map.new.items ≡ put_at_key item.name item map.old.items) }
     ensures keyed { IsKeyedByText (λ x. x.name) map.new }
 {
     match map.entry(&item.name) {
@@ -47,8 +50,9 @@ fn replace(map: &mut IdHashMap<Named>, item: Named) -> Option<Named>
 /// Removes the item of the name.
 fn take(map: &mut IdHashMap<Named>, name: &str) -> Option<Named>
     requires keyed { IsKeyedByText (λ x. x.name) map.old }
-    ensures found { result ≡ find_item (λ x. x.name) (λ k. bytes_eq name.now (string_bytes k)) map.old.items }
-    ensures left { map.new.items ≡ without (λ x. x.name) (λ k. bytes_eq name.now (string_bytes k)) map.old.items }
+    ensures found { result ≡ of_name name.now map.old.items }
+    ensures left { map.new.items ≡ without (λ x. x.name)
+        (λ k. bytes_eq name.now (string_bytes k)) map.old.items }
     ensures keyed { IsKeyedByText (λ x. x.name) map.new }
 {
     match map.entry(&Text(name)) {
@@ -60,8 +64,10 @@ fn take(map: &mut IdHashMap<Named>, name: &str) -> Option<Named>
 /// Writes the value of the item of that name, or adds the item.
 fn set_or_add(map: &mut IdHashMap<Named>, set: u32, item: Named) -> bool
     requires keyed { IsKeyedByText (λ x. x.name) map.old }
-    ensures set { IfSome (find_item (λ x. x.name) (string_eq item.name) map.old.items) (λ x. map.new.items ≡ replaced (λ x. x.name) (string_eq item.name) (record x { value = set }) map.old.items) }
-    ensures added { IfNone (find_item (λ x. x.name) (string_eq item.name) map.old.items) (IsTrue result → AddsItem item map.old.items map.new.items) }
+    ensures set { IfSome (of_key item.name map.old.items)
+        (λ x. map.new.items ≡ put_at_key item.name (record x { value = set }) map.old.items) }
+    ensures added { IfNone (of_key item.name map.old.items)
+        (IsTrue result → AddsItem item map.old.items map.new.items) }
     ensures kept { result ≡ false → map.new.items ≡ map.old.items }
     ensures keyed { IsKeyedByText (λ x. x.name) map.new }
 {
@@ -80,8 +86,10 @@ fn set_or_add(map: &mut IdHashMap<Named>, set: u32, item: Named) -> bool
 /// The value of the item of that name, or of this one, which is added.
 fn value_or(map: &mut IdHashMap<Named>, item: Named) -> Option<u32>
     requires keyed { IsKeyedByText (λ x. x.name) map.old }
-    ensures found { IfSome (find_item (λ x. x.name) (string_eq item.name) map.old.items) (λ x. (result ≡ Some x.value) × (map.new ≡ map.old)) }
-    ensures added { IfNone (find_item (λ x. x.name) (string_eq item.name) map.old.items) (OnSome result (AddsItem item map.old.items map.new.items)) }
+    ensures found { IfSome (of_key item.name map.old.items)
+        (λ x. (result ≡ Some x.value) × (map.new ≡ map.old)) }
+    ensures added { IfNone (of_key item.name map.old.items)
+        (OnSome result (AddsItem item map.old.items map.new.items)) }
     ensures kept { IfNone result (map.new.items ≡ map.old.items) }
 {
     match map.entry(&item.name).or_insert(item) {

@@ -1,10 +1,9 @@
 //! Writing through the guard of a hash map.
 ghost use Rattle.std.specs.Prelude.{◌≡◌, ◌==◌, IfSome, IfNone, IsTrue, is_some, option_map};
-ghost use Rattle.std.specs.Str.{bytes_eq};
-ghost use Rattle.std.specs.String.{string_bytes};
 ghost use Rattle.iddqd.specs.Contents.{find_item, replaced};
 ghost use Rattle.iddqd.specs.HashItems.{IsKeyedByText};
 ghost use Rattle.iddqd.specs.Hashing.{HashesAs};
+ghost use Rattle.iddqd_callers.specs.Lookups.{of_name, of_number, put_at_name, put_at_number};
 
 use crate::items::Noted;
 use iddqd::{Equivalent, IdHashItem, IdHashMap, Lookups, Text};
@@ -46,7 +45,7 @@ fn set_twice<S: BuildHasher>(map: &mut IdHashMap<Pair, S>, key: u32, first: u32,
 #[tactic(auto, using(iddqd::proofs::GuardLemmas::read_back))]
 fn set_and_read(map: &mut IdHashMap<Named>, name: &str, value: u32) -> Option<u32>
     requires keyed { IsKeyedByText (λ x. x.name) map.old }
-    ensures value { result ≡ option_map (λ _. value) (find_item (λ x. x.name) (λ k. bytes_eq name.now (string_bytes k)) map.old.items) }
+    ensures value { result ≡ option_map (λ _. value) (of_name name.now map.old.items) }
 {
     match map.get_mut(&Text(name)) {
         Some(mut found) => {
@@ -62,8 +61,9 @@ fn set_and_read(map: &mut IdHashMap<Named>, name: &str, value: u32) -> Option<u3
 #[tactic(auto, using(iddqd::proofs::GuardLemmas::hash_key_kept))]
 fn set_value(map: &mut IdHashMap<Named>, name: &str, value: u32) -> bool
     requires keyed { IsKeyedByText (λ x. x.name) map.old }
-    ensures written { IfSome (find_item (λ x. x.name) (λ k. bytes_eq name.now (string_bytes k)) map.old.items) (λ x. map.new.items ≡ replaced (λ x. x.name) (λ k. bytes_eq name.now (string_bytes k)) (record x { value = value }) map.old.items) }
-    ensures absent { IfNone (find_item (λ x. x.name) (λ k. bytes_eq name.now (string_bytes k)) map.old.items) (map.new ≡ map.old) }
+    ensures written { IfSome (of_name name.now map.old.items)
+        (λ x. map.new.items ≡ put_at_name name.now (record x { value = value }) map.old.items) }
+    ensures absent { IfNone (of_name name.now map.old.items) (map.new ≡ map.old) }
     ensures keyed { IsKeyedByText (λ x. x.name) map.new }
 {
     match map.get_mut(&Text(name)) {
@@ -80,7 +80,8 @@ fn set_value(map: &mut IdHashMap<Named>, name: &str, value: u32) -> bool
 #[tactic(auto, using(iddqd::proofs::GuardLemmas::hash_key_kept))]
 fn note(map: &mut IdHashMap<Noted>, number: u32, note: String) -> bool
     requires keyed { ⟦<IdHashMap<Noted> as Lookups>⟧.keyed map.old }
-    ensures written { IfSome (find_item (λ x. x.number) (λ k. number == k) map.old.items) (λ x. map.new.items ≡ replaced (λ x. x.number) (λ k. number == k) (record x { note = note }) map.old.items) }
+    ensures written { IfSome (of_number number map.old.items)
+        (λ x. map.new.items ≡ put_at_number number (record x { note = note }) map.old.items) }
     ensures keyed { ⟦<IdHashMap<Noted> as Lookups>⟧.keyed map.new }
 {
     match map.get_mut(&number) {

@@ -1,9 +1,7 @@
 //! Insertions into a hash map, in each form in which their answer is matched.
 ghost use Rattle.std.specs.Prelude.{◌≡◌, ◌≢◌, ◌==◌, ◌+◌, IfNone, IfSome, IsTrue, None, OnOk, Some, false, is_some, length};
-ghost use Rattle.std.specs.Str.{bytes_eq};
-ghost use Rattle.std.specs.String.{string_bytes, string_eq};
-ghost use Rattle.iddqd.specs.Contents.{find_item};
 ghost use Rattle.iddqd.specs.HashItems.{IsKeyedByText};
+ghost use Rattle.iddqd_callers.specs.Lookups.{of_key, of_name, of_number};
 
 use crate::items::{Noted, Tagged, Titled};
 use iddqd::errors::{InsertError, TryReserveError};
@@ -13,7 +11,8 @@ use iddqd_writers::items::Named;
 /// Three arms: the value of the item that is there, or of the one that was refused.
 fn add_or_show(all: &mut IdHashMap<Named>, item: Named) -> Option<u32>
     requires keyed { IsKeyedByText (λ x. x.name) all.old }
-    ensures shown { IfSome result (λ value. IfSome (find_item (λ x. x.name) (string_eq item.name) all.old.items) (λ x. value ≡ x.value)) }
+    ensures shown { IfSome result
+        (λ value. IfSome (of_key item.name all.old.items) (λ x. value ≡ x.value)) }
     ensures keyed { IsKeyedByText (λ x. x.name) all.new }
 {
     match all.insert_unique(item) {
@@ -27,7 +26,7 @@ fn add_or_show(all: &mut IdHashMap<Named>, item: Named) -> Option<u32>
 #[tactic(auto, using(iddqd::proofs::ChangeLemmas::after_changes))]
 fn add(all: &mut IdHashMap<Noted>, item: Noted) -> bool
     requires keyed { ⟦<IdHashMap<Noted> as Lookups>⟧.keyed all.old }
-    ensures found { IsTrue result → find_item (λ x. x.number) (λ k. item.number == k) all.new.items ≡ Some item }
+    ensures found { IsTrue result → of_number item.number all.new.items ≡ Some item }
     ensures keyed { ⟦<IdHashMap<Noted> as Lookups>⟧.keyed all.new }
 {
     match all.insert_unique(item) {
@@ -62,7 +61,7 @@ fn add_tagged(all: &mut IdHashMap<Tagged>, item: Tagged) -> bool
 #[tactic(auto, using(iddqd::proofs::ChangeLemmas::after_changes))]
 pub(crate) fn add_named(all: &mut IdHashMap<Named>, item: Named) -> bool
     requires keyed { IsKeyedByText (λ x. x.name) all.old }
-    ensures found { IsTrue result → find_item (λ x. x.name) (string_eq item.name) all.new.items ≡ Some item }
+    ensures found { IsTrue result → of_key item.name all.new.items ≡ Some item }
     ensures longer { IsTrue result → length all.new.items ≡ length all.old.items + 1 }
     ensures keyed { IsKeyedByText (λ x. x.name) all.new }
 {
@@ -90,7 +89,7 @@ fn note_of(error: InsertError<'_, Noted>) -> String {
 fn add_beside(all: &mut IdHashMap<Noted>, item: Noted, other: u32) -> bool
     requires keyed { ⟦<IdHashMap<Noted> as Lookups>⟧.keyed all.old }
     requires apart { (other == item.number) ≡ false }
-    ensures same { find_item (λ x. x.number) (λ k. other == k) all.new.items ≡ find_item (λ x. x.number) (λ k. other == k) all.old.items }
+    ensures same { of_number other all.new.items ≡ of_number other all.old.items }
 {
     all.insert_unique(item).is_ok()
 }
@@ -99,7 +98,7 @@ fn add_beside(all: &mut IdHashMap<Noted>, item: Noted, other: u32) -> bool
 #[tactic(auto, using(iddqd::proofs::ChangeLemmas::after_changes))]
 fn put(all: &mut IdHashMap<Named>, item: Named) -> Result<Option<Named>, TryReserveError>
     requires keyed { IsKeyedByText (λ x. x.name) all.old }
-    ensures found { OnOk result (find_item (λ x. x.name) (string_eq item.name) all.new.items ≡ Some item) }
+    ensures found { OnOk result (of_key item.name all.new.items ≡ Some item) }
     ensures keyed { IsKeyedByText (λ x. x.name) all.new }
 {
     let old = all.insert_overwrite(item).map_err(|refused| refused.error)?;
@@ -110,7 +109,7 @@ fn put(all: &mut IdHashMap<Named>, item: Named) -> Result<Option<Named>, TryRese
 #[tactic(auto, using(iddqd::proofs::ChangeLemmas::after_changes))]
 fn remove(all: &mut IdHashMap<Named>, name: &str) -> bool
     requires keyed { IsKeyedByText (λ x. x.name) all.old }
-    ensures gone { find_item (λ x. x.name) (λ k. bytes_eq name.now (string_bytes k)) all.new.items ≡ None }
+    ensures gone { of_name name.now all.new.items ≡ None }
     ensures keyed { IsKeyedByText (λ x. x.name) all.new }
 {
     all.remove(&Text(name)).is_some()
@@ -121,8 +120,9 @@ fn remove(all: &mut IdHashMap<Named>, name: &str) -> bool
 fn remove_beside(all: &mut IdHashMap<Noted>, number: u32, other: u32) -> bool
     requires keyed { ⟦<IdHashMap<Noted> as Lookups>⟧.keyed all.old }
     requires apart { other ≢ number }
-    ensures kept { IfSome (find_item (λ x. x.number) (λ k. other == k) all.old.items) (λ x. find_item (λ x. x.number) (λ k. other == k) all.new.items ≡ Some x) }
-    ensures absent { IfNone (find_item (λ x. x.number) (λ k. other == k) all.old.items) (find_item (λ x. x.number) (λ k. other == k) all.new.items ≡ None) }
+    ensures kept { IfSome (of_number other all.old.items)
+        (λ x. of_number other all.new.items ≡ Some x) }
+    ensures absent { IfNone (of_number other all.old.items) (of_number other all.new.items ≡ None) }
 {
     all.remove(&number).is_some()
 }
@@ -131,7 +131,7 @@ fn remove_beside(all: &mut IdHashMap<Noted>, number: u32, other: u32) -> bool
 #[tactic(auto, using(iddqd::proofs::ChangeLemmas::after_changes))]
 fn left_after_removal(all: &mut IdHashMap<Noted>, number: u32) -> usize
     requires keyed { ⟦<IdHashMap<Noted> as Lookups>⟧.keyed all.old }
-    requires there { IsTrue (is_some (find_item (λ x. x.number) (λ k. number == k) all.old.items)) }
+    requires there { IsTrue (is_some (of_number number all.old.items)) }
     ensures fewer { result + 1 ≡ length all.old.items }
 {
     let _before = all.len();
@@ -141,7 +141,7 @@ fn left_after_removal(all: &mut IdHashMap<Noted>, number: u32) -> usize
 
 /// After `clear` nothing is found.
 fn clear(all: &mut IdHashMap<Named>, name: &str) -> usize
-    ensures none { find_item (λ x. x.name) (λ k. bytes_eq name.now (string_bytes k)) all.new.items ≡ None }
+    ensures none { of_name name.now all.new.items ≡ None }
     ensures len { result ≡ 0 }
     ensures keyed { IsKeyedByText (λ x. x.name) all.new }
 {

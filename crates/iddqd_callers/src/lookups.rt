@@ -1,9 +1,9 @@
 //! Lookups in both maps.
-ghost use Rattle.std.specs.Prelude.{◌≡◌, ◌==◌, option_map};
-ghost use Rattle.std.specs.Str.{bytes_eq};
-ghost use Rattle.std.specs.String.{string_bytes, string_cmp};
-ghost use Rattle.iddqd.specs.Contents.{Ascends, find_item};
+ghost use Rattle.std.specs.Prelude.{◌≡◌, option_map};
+ghost use Rattle.std.specs.String.{string_cmp};
+ghost use Rattle.iddqd.specs.Contents.{Ascends};
 ghost use Rattle.iddqd.specs.HashItems.{IsKeyedByText};
+ghost use Rattle.iddqd_callers.specs.Lookups.{of_name, of_number};
 
 use crate::items::Noted;
 use iddqd::{IdHashMap, IdOrdMap, Lookups, Text};
@@ -13,7 +13,7 @@ use std::hash::BuildHasher;
 /// The value of the name, in an ordered map.
 fn value_of(map: &IdOrdMap<Named>, name: &str) -> Option<u32>
     requires keyed { Ascends (λ x. x.name) string_cmp map.now.items }
-    ensures { result ≡ option_map (λ x. x.value) (find_item (λ x. x.name) (λ k. bytes_eq name.now (string_bytes k)) map.now.items) }
+    ensures { result ≡ option_map (λ x. x.value) (of_name name.now map.now.items) }
 {
     Some(map.get(&Text(name))?.value)
 }
@@ -21,7 +21,7 @@ fn value_of(map: &IdOrdMap<Named>, name: &str) -> Option<u32>
 /// The value of the name, in a hash map.
 fn hash_value_of(map: &IdHashMap<Named>, name: &str) -> Option<u32>
     requires keyed { IsKeyedByText (λ x. x.name) map.now }
-    ensures { result ≡ option_map (λ x. x.value) (find_item (λ x. x.name) (λ k. bytes_eq name.now (string_bytes k)) map.now.items) }
+    ensures { result ≡ option_map (λ x. x.value) (of_name name.now map.now.items) }
 {
     Some(map.get(&Text(name))?.value)
 }
@@ -29,7 +29,8 @@ fn hash_value_of(map: &IdHashMap<Named>, name: &str) -> Option<u32>
 /// The note of the number, in a hash map under any hasher.
 fn note_of<S: BuildHasher>(map: &IdHashMap<Noted, S>, number: u32) -> Option<&String>
     requires keyed { ⟦<IdHashMap<Noted, S> as Lookups>⟧.keyed map.now }
-    ensures { option_map (λ note. note.now) result ≡ option_map (λ x. x.note) (find_item (λ x. x.number) (λ k. number == k) map.now.items) }
+    ensures { option_map (λ note. note.now) result ≡ option_map
+        (λ x. x.note) (of_number number map.now.items) }
 {
     Some(&map.get(&number)?.note)
 }

@@ -1,9 +1,10 @@
 //! Entries of an ordered map.
-ghost use Rattle.std.specs.Prelude.{◌≡◌, ◌==◌, IfNone, IfSome, IsTrue, OnSome, Some, false, is_some, slice_get, slice_set};
+ghost use Rattle.std.specs.Prelude.{◌≡◌, ◌==◌, IfNone, IfSome, IsTrue, OnSome, Some, false, slice_get, slice_set};
 ghost use Rattle.std.specs.Ordering.{nat_cmp};
 ghost use Rattle.std.specs.Str.{bytes_eq};
-ghost use Rattle.std.specs.String.{string_bytes, string_cmp, string_eq};
+ghost use Rattle.std.specs.String.{string_bytes, string_cmp};
 ghost use Rattle.iddqd.specs.Contents.{AddsItem, Ascends, find_item, replaced, without};
+ghost use Rattle.iddqd_callers.specs.Lookups.{of_key, of_name, put_at_key};
 
 use iddqd::id_ord_map::Entry;
 use iddqd::{IdOrdMap, Text};
@@ -13,7 +14,8 @@ use iddqd_writers::items::{Named, Pair, SetsValue};
 #[tactic(auto, using(iddqd::proofs::GuardLemmas::same_key_kept))]
 fn add_and_write(map: &mut IdOrdMap<Named>, item: Named, then: u32) -> bool
     requires keyed { Ascends (λ x. x.name) string_cmp map.old.items }
-    ensures added { IsTrue result → AddsItem (record item { value = then }) map.old.items map.new.items }
+    ensures added { IsTrue result → AddsItem
+        (record item { value = then }) map.old.items map.new.items }
     ensures kept { result ≡ false → map.new.items ≡ map.old.items }
     ensures keyed { Ascends (λ x. x.name) string_cmp map.new.items }
 {
@@ -33,8 +35,9 @@ fn add_and_write(map: &mut IdOrdMap<Named>, item: Named, then: u32) -> bool
 /// Puts the item in the place of the one of its name, which is returned.
 fn replace(map: &mut IdOrdMap<Named>, item: Named) -> Option<Named>
     requires keyed { Ascends (λ x. x.name) string_cmp map.old.items }
-    ensures found { result ≡ find_item (λ x. x.name) (string_eq item.name) map.old.items }
-    ensures replaced { IfSome (find_item (λ x. x.name) (string_eq item.name) map.old.items) (λ x. map.new.items ≡ replaced (λ x. x.name) (string_eq item.name) item map.old.items) }
+    ensures found { result ≡ of_key item.name map.old.items }
+    ensures replaced { IfSome (of_key item.name map.old.items)
+        (λ x. map.new.items ≡ put_at_key item.name item map.old.items) }
     ensures keyed { Ascends (λ x. x.name) string_cmp map.new.items }
 {
     match map.entry(&item.name) {
@@ -46,8 +49,9 @@ fn replace(map: &mut IdOrdMap<Named>, item: Named) -> Option<Named>
 /// Removes the item of the name.
 fn take(map: &mut IdOrdMap<Named>, name: &str) -> Option<Named>
     requires keyed { Ascends (λ x. x.name) string_cmp map.old.items }
-    ensures found { result ≡ find_item (λ x. x.name) (λ k. bytes_eq name.now (string_bytes k)) map.old.items }
-    ensures left { map.new.items ≡ without (λ x. x.name) (λ k. bytes_eq name.now (string_bytes k)) map.old.items }
+    ensures found { result ≡ of_name name.now map.old.items }
+    ensures left { map.new.items ≡ without (λ x. x.name)
+        (λ k. bytes_eq name.now (string_bytes k)) map.old.items }
     ensures keyed { Ascends (λ x. x.name) string_cmp map.new.items }
 {
     match map.entry(&Text(name)) {
@@ -59,8 +63,10 @@ fn take(map: &mut IdOrdMap<Named>, name: &str) -> Option<Named>
 /// Writes the value of the item of that name, or adds the item.
 fn set_or_add(map: &mut IdOrdMap<Named>, set: u32, item: Named) -> bool
     requires keyed { Ascends (λ x. x.name) string_cmp map.old.items }
-    ensures set { IfSome (find_item (λ x. x.name) (string_eq item.name) map.old.items) (λ x. map.new.items ≡ replaced (λ x. x.name) (string_eq item.name) (record x { value = set }) map.old.items) }
-    ensures added { IfNone (find_item (λ x. x.name) (string_eq item.name) map.old.items) (IsTrue result → AddsItem item map.old.items map.new.items) }
+    ensures set { IfSome (of_key item.name map.old.items)
+        (λ x. map.new.items ≡ put_at_key item.name (record x { value = set }) map.old.items) }
+    ensures added { IfNone (of_key item.name map.old.items)
+        (IsTrue result → AddsItem item map.old.items map.new.items) }
     ensures kept { result ≡ false → map.new.items ≡ map.old.items }
     ensures keyed { Ascends (λ x. x.name) string_cmp map.new.items }
 {
@@ -79,8 +85,10 @@ fn set_or_add(map: &mut IdOrdMap<Named>, set: u32, item: Named) -> bool
 /// The value of the item of that name, or of this one, which is added.
 fn value_or(map: &mut IdOrdMap<Named>, item: Named) -> Option<u32>
     requires keyed { Ascends (λ x. x.name) string_cmp map.old.items }
-    ensures found { IfSome (find_item (λ x. x.name) (string_eq item.name) map.old.items) (λ x. (result ≡ Some x.value) × (map.new ≡ map.old)) }
-    ensures added { IfNone (find_item (λ x. x.name) (string_eq item.name) map.old.items) (OnSome result (AddsItem item map.old.items map.new.items)) }
+    ensures found { IfSome (of_key item.name map.old.items)
+        (λ x. (result ≡ Some x.value) × (map.new ≡ map.old)) }
+    ensures added { IfNone (of_key item.name map.old.items)
+        (OnSome result (AddsItem item map.old.items map.new.items)) }
     ensures kept { IfNone result (map.new.items ≡ map.old.items) }
 {
     match map.entry(&item.name).or_insert(item) {

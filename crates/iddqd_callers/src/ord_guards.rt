@@ -4,6 +4,7 @@ ghost use Rattle.std.specs.Ordering.{nat_cmp};
 ghost use Rattle.std.specs.Str.{bytes_eq};
 ghost use Rattle.std.specs.String.{string_bytes, string_cmp};
 ghost use Rattle.iddqd.specs.Contents.{Ascends, find_item, replaced};
+ghost use Rattle.iddqd_callers.specs.Lookups.{of_name, of_number, put_at_name, put_at_number};
 
 use crate::items::Noted;
 use iddqd::{Comparable, IdOrdItem, IdOrdMap, Text};
@@ -39,7 +40,7 @@ fn set_twice(map: &mut IdOrdMap<Pair>, key: u32, first: u32, then: u32)
 #[tactic(auto, using(iddqd::proofs::GuardLemmas::read_back))]
 fn set_and_read(map: &mut IdOrdMap<Named>, name: &str, value: u32) -> Option<u32>
     requires keyed { Ascends (λ x. x.name) string_cmp map.old.items }
-    ensures value { result ≡ option_map (λ _. value) (find_item (λ x. x.name) (λ k. bytes_eq name.now (string_bytes k)) map.old.items) }
+    ensures value { result ≡ option_map (λ _. value) (of_name name.now map.old.items) }
 {
     match map.get_mut(&Text(name)) {
         Some(mut found) => {
@@ -55,8 +56,9 @@ fn set_and_read(map: &mut IdOrdMap<Named>, name: &str, value: u32) -> Option<u32
 #[tactic(auto, using(iddqd::proofs::GuardLemmas::same_key_kept))]
 fn set_value(map: &mut IdOrdMap<Named>, name: &str, value: u32) -> bool
     requires keyed { Ascends (λ x. x.name) string_cmp map.old.items }
-    ensures written { IfSome (find_item (λ x. x.name) (λ k. bytes_eq name.now (string_bytes k)) map.old.items) (λ x. map.new.items ≡ replaced (λ x. x.name) (λ k. bytes_eq name.now (string_bytes k)) (record x { value = value }) map.old.items) }
-    ensures absent { IfNone (find_item (λ x. x.name) (λ k. bytes_eq name.now (string_bytes k)) map.old.items) (map.new ≡ map.old) }
+    ensures written { IfSome (of_name name.now map.old.items)
+        (λ x. map.new.items ≡ put_at_name name.now (record x { value = value }) map.old.items) }
+    ensures absent { IfNone (of_name name.now map.old.items) (map.new ≡ map.old) }
     ensures keyed { Ascends (λ x. x.name) string_cmp map.new.items }
 {
     match map.get_mut(&Text(name)) {
@@ -73,7 +75,8 @@ fn set_value(map: &mut IdOrdMap<Named>, name: &str, value: u32) -> bool
 #[tactic(auto, using(iddqd::proofs::GuardLemmas::same_key_kept))]
 fn note(map: &mut IdOrdMap<Noted>, number: u32, note: String) -> bool
     requires keyed { Ascends (λ x. x.number) nat_cmp map.old.items }
-    ensures written { IfSome (find_item (λ x. x.number) (λ k. number == k) map.old.items) (λ x. map.new.items ≡ replaced (λ x. x.number) (λ k. number == k) (record x { note = note }) map.old.items) }
+    ensures written { IfSome (of_number number map.old.items)
+        (λ x. map.new.items ≡ put_at_number number (record x { note = note }) map.old.items) }
     ensures keyed { Ascends (λ x. x.number) nat_cmp map.new.items }
 {
     match map.get_mut(&number) {

@@ -1,9 +1,9 @@
 //! Insertions into an ordered map, in each form in which their answer is matched.
 ghost use Rattle.std.specs.Prelude.{◌≡◌, ◌≢◌, ◌==◌, ◌+◌, IfNone, IfSome, IsTrue, None, OnOk, Some, false, is_some, length};
 ghost use Rattle.std.specs.Ordering.{nat_cmp};
-ghost use Rattle.std.specs.Str.{bytes_eq};
-ghost use Rattle.std.specs.String.{string_bytes, string_cmp, string_eq};
-ghost use Rattle.iddqd.specs.Contents.{Ascends, find_item};
+ghost use Rattle.std.specs.String.{string_cmp};
+ghost use Rattle.iddqd.specs.Contents.{Ascends};
+ghost use Rattle.iddqd_callers.specs.Lookups.{of_key, of_name, of_number};
 
 use crate::items::{Noted, Tagged, Titled};
 use iddqd::errors::{InsertError, TryReserveError};
@@ -13,7 +13,8 @@ use iddqd_writers::items::Named;
 /// Three arms: the value of the item that is there, or of the one that was refused.
 fn add_or_show(all: &mut IdOrdMap<Named>, item: Named) -> Option<u32>
     requires keyed { Ascends (λ x. x.name) string_cmp all.old.items }
-    ensures shown { IfSome result (λ value. IfSome (find_item (λ x. x.name) (string_eq item.name) all.old.items) (λ x. value ≡ x.value)) }
+    ensures shown { IfSome result
+        (λ value. IfSome (of_key item.name all.old.items) (λ x. value ≡ x.value)) }
     ensures keyed { Ascends (λ x. x.name) string_cmp all.new.items }
 {
     match all.insert_unique(item) {
@@ -27,7 +28,7 @@ fn add_or_show(all: &mut IdOrdMap<Named>, item: Named) -> Option<u32>
 #[tactic(auto, using(iddqd::proofs::ChangeLemmas::after_changes))]
 fn add(all: &mut IdOrdMap<Noted>, item: Noted) -> bool
     requires keyed { Ascends (λ x. x.number) nat_cmp all.old.items }
-    ensures found { IsTrue result → find_item (λ x. x.number) (λ k. item.number == k) all.new.items ≡ Some item }
+    ensures found { IsTrue result → of_number item.number all.new.items ≡ Some item }
     ensures keyed { Ascends (λ x. x.number) nat_cmp all.new.items }
 {
     match all.insert_unique(item) {
@@ -62,7 +63,7 @@ fn add_tagged(all: &mut IdOrdMap<Tagged>, item: Tagged) -> bool
 #[tactic(auto, using(iddqd::proofs::ChangeLemmas::after_changes))]
 pub(crate) fn add_named(all: &mut IdOrdMap<Named>, item: Named) -> bool
     requires keyed { Ascends (λ x. x.name) string_cmp all.old.items }
-    ensures found { IsTrue result → find_item (λ x. x.name) (string_eq item.name) all.new.items ≡ Some item }
+    ensures found { IsTrue result → of_key item.name all.new.items ≡ Some item }
     ensures longer { IsTrue result → length all.new.items ≡ length all.old.items + 1 }
     ensures keyed { Ascends (λ x. x.name) string_cmp all.new.items }
 {
@@ -90,7 +91,7 @@ fn note_of(error: InsertError<'_, Noted>) -> String {
 fn add_beside(all: &mut IdOrdMap<Noted>, item: Noted, other: u32) -> bool
     requires keyed { Ascends (λ x. x.number) nat_cmp all.old.items }
     requires apart { (other == item.number) ≡ false }
-    ensures same { find_item (λ x. x.number) (λ k. other == k) all.new.items ≡ find_item (λ x. x.number) (λ k. other == k) all.old.items }
+    ensures same { of_number other all.new.items ≡ of_number other all.old.items }
 {
     all.insert_unique(item).is_ok()
 }
@@ -99,7 +100,7 @@ fn add_beside(all: &mut IdOrdMap<Noted>, item: Noted, other: u32) -> bool
 #[tactic(auto, using(iddqd::proofs::ChangeLemmas::after_changes))]
 fn put(all: &mut IdOrdMap<Named>, item: Named) -> Result<Option<Named>, TryReserveError>
     requires keyed { Ascends (λ x. x.name) string_cmp all.old.items }
-    ensures found { OnOk result (find_item (λ x. x.name) (string_eq item.name) all.new.items ≡ Some item) }
+    ensures found { OnOk result (of_key item.name all.new.items ≡ Some item) }
     ensures keyed { Ascends (λ x. x.name) string_cmp all.new.items }
 {
     let old = all.insert_overwrite(item).map_err(|refused| refused.error)?;
@@ -110,7 +111,7 @@ fn put(all: &mut IdOrdMap<Named>, item: Named) -> Result<Option<Named>, TryReser
 #[tactic(auto, using(iddqd::proofs::ChangeLemmas::after_changes))]
 fn remove(all: &mut IdOrdMap<Named>, name: &str) -> bool
     requires keyed { Ascends (λ x. x.name) string_cmp all.old.items }
-    ensures gone { find_item (λ x. x.name) (λ k. bytes_eq name.now (string_bytes k)) all.new.items ≡ None }
+    ensures gone { of_name name.now all.new.items ≡ None }
     ensures keyed { Ascends (λ x. x.name) string_cmp all.new.items }
 {
     all.remove(&Text(name)).is_some()
@@ -121,8 +122,9 @@ fn remove(all: &mut IdOrdMap<Named>, name: &str) -> bool
 fn remove_beside(all: &mut IdOrdMap<Noted>, number: u32, other: u32) -> bool
     requires keyed { Ascends (λ x. x.number) nat_cmp all.old.items }
     requires apart { other ≢ number }
-    ensures kept { IfSome (find_item (λ x. x.number) (λ k. other == k) all.old.items) (λ x. find_item (λ x. x.number) (λ k. other == k) all.new.items ≡ Some x) }
-    ensures absent { IfNone (find_item (λ x. x.number) (λ k. other == k) all.old.items) (find_item (λ x. x.number) (λ k. other == k) all.new.items ≡ None) }
+    ensures kept { IfSome (of_number other all.old.items)
+        (λ x. of_number other all.new.items ≡ Some x) }
+    ensures absent { IfNone (of_number other all.old.items) (of_number other all.new.items ≡ None) }
 {
     all.remove(&number).is_some()
 }
@@ -131,7 +133,7 @@ fn remove_beside(all: &mut IdOrdMap<Noted>, number: u32, other: u32) -> bool
 #[tactic(auto, using(iddqd::proofs::ChangeLemmas::after_changes))]
 fn left_after_removal(all: &mut IdOrdMap<Noted>, number: u32) -> usize
     requires keyed { Ascends (λ x. x.number) nat_cmp all.old.items }
-    requires there { IsTrue (is_some (find_item (λ x. x.number) (λ k. number == k) all.old.items)) }
+    requires there { IsTrue (is_some (of_number number all.old.items)) }
     ensures fewer { result + 1 ≡ length all.old.items }
 {
     let _before = all.len();
@@ -141,7 +143,7 @@ fn left_after_removal(all: &mut IdOrdMap<Noted>, number: u32) -> usize
 
 /// After `clear` nothing is found.
 fn clear(all: &mut IdOrdMap<Named>, name: &str) -> usize
-    ensures none { find_item (λ x. x.name) (λ k. bytes_eq name.now (string_bytes k)) all.new.items ≡ None }
+    ensures none { of_name name.now all.new.items ≡ None }
     ensures len { result ≡ 0 }
     ensures keyed { Ascends (λ x. x.name) string_cmp all.new.items }
 {

@@ -3,10 +3,9 @@
 #![tactic(auto)]
 
 ghost use Rattle.std.specs.Prelude.{◌≡◌, List, IfNone, IfOk, IfSome, option_map};
-ghost use Rattle.std.specs.Str.{bytes_eq};
-ghost use Rattle.std.specs.String.{string_bytes, string_eq};
-ghost use Rattle.iddqd.specs.Contents.{AddsItem, find_item};
+ghost use Rattle.iddqd.specs.Contents.{AddsItem};
 ghost use Rattle.iddqd.specs.HashItems.{IsKeyedByText};
+ghost use Rattle.settings.specs.Settings.{setting_at, setting_named};
 ghost use Rattle.settings.specs.declared.Setting.{Setting};
 
 use iddqd::errors::{FromIterError, InsertError, TryReserveError};
@@ -47,7 +46,8 @@ impl Model for Settings {
 fn add(all: &mut Settings, setting: Setting) -> Result<Option<(Setting, u32)>, TryReserveError>
     ensures added { IfOk result (λ known. IfNone known (AddsItem setting all.old all.new)) }
     ensures new { IfOk result (λ known. IfSome known (λ both. both.0 ≡ setting)) }
-    ensures there { IfOk result (λ known. IfSome known (λ both. IfSome (find_item (λ s. s.name) (string_eq setting.name) all.old) (λ s. both.1 ≡ s.value))) }
+    ensures there { IfOk result (λ known. IfSome known (λ both.
+        IfSome (setting_named setting.name all.old) (λ s. both.1 ≡ s.value))) }
 {
     match all.0.insert_unique(setting) {
         Ok(()) => Ok(None),
@@ -61,7 +61,7 @@ fn add(all: &mut Settings, setting: Setting) -> Result<Option<(Setting, u32)>, T
 
 /// The value of the name. Its contract took no line of proof.
 fn value_of(all: &Settings, name: &str) -> Option<u32>
-    ensures { result ≡ option_map (λ s. s.value) (find_item (λ s. s.name) (λ k. bytes_eq name.now (string_bytes k)) all.now) }
+    ensures { result ≡ option_map (λ s. s.value) (setting_at name.now all.now) }
 {
     Some(all.0.get(&Text(name))?.value)
 }
