@@ -6,6 +6,7 @@ ghost use Rattle.iddqd.specs.Contents.{AddsItem, find_item, replaced, without};
 ghost use Rattle.iddqd.specs.HashItems.{IsKeyedByText};
 ghost use Rattle.iddqd_callers.specs.Lookups.{of_key, of_name, put_at_key};
 
+use iddqd::errors::Refused;
 use iddqd::id_hash_map::Entry;
 use iddqd::{IdHashMap, Lookups, Text};
 use iddqd_writers::items::{Named, Pair, SetsValue};
@@ -115,4 +116,25 @@ fn show_or_add<S: BuildHasher>(map: &mut IdHashMap<Pair, S>, key: u32, value: u3
         }
         Err(_) => None,
     }
+}
+
+/// Adds the item if its name is not there: `let .. else`.
+fn add_or_leave(map: &mut IdHashMap<Named>, item: Named) -> bool
+    requires keyed { IsKeyedByText (λ x. x.name) map.old }
+    ensures keyed { IsKeyedByText (λ x. x.name) map.new }
+{
+    let Ok(found) = map.entry(&item.name).or_insert(item) else {
+        return false;
+    };
+    found.finish();
+    true
+}
+
+/// The same, by `?`.
+fn add_or_pass_on(map: &mut IdHashMap<Named>, item: Named) -> Result<(), Refused<Named>>
+    requires keyed { IsKeyedByText (λ x. x.name) map.old }
+    ensures keyed { IsKeyedByText (λ x. x.name) map.new }
+{
+    map.entry(&item.name).or_insert(item)?.finish();
+    Ok(())
 }

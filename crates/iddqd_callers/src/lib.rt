@@ -14,4 +14,5 @@ mod ord_entries;
 mod ord_guards;
 mod ord_insertions;
 mod ord_walks;
+mod registry;
 mod sums;

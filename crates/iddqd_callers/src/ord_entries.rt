@@ -6,6 +6,7 @@ ghost use Rattle.std.specs.String.{string_bytes, string_cmp};
 ghost use Rattle.iddqd.specs.Contents.{AddsItem, Ascends, find_item, replaced, without};
 ghost use Rattle.iddqd_callers.specs.Lookups.{of_key, of_name, put_at_key};
 
+use iddqd::errors::Refused;
 use iddqd::id_ord_map::Entry;
 use iddqd::{IdOrdMap, Text};
 use iddqd_writers::items::{Named, Pair, SetsValue};
@@ -121,4 +122,25 @@ fn set_first(map: &mut IdOrdMap<Pair>, value: u32)
     if let Some(mut entry) = map.first_entry() {
         entry.get_mut().value = value;
     }
+}
+
+/// Adds the item if its name is not there: `let .. else`.
+fn add_or_leave(map: &mut IdOrdMap<Named>, item: Named) -> bool
+    requires keyed { Ascends (λ x. x.name) string_cmp map.old.items }
+    ensures keyed { Ascends (λ x. x.name) string_cmp map.new.items }
+{
+    let Ok(found) = map.entry(&item.name).or_insert(item) else {
+        return false;
+    };
+    found.finish();
+    true
+}
+
+/// The same, by `?`.
+fn add_or_pass_on(map: &mut IdOrdMap<Named>, item: Named) -> Result<(), Refused<Named>>
+    requires keyed { Ascends (λ x. x.name) string_cmp map.old.items }
+    ensures keyed { Ascends (λ x. x.name) string_cmp map.new.items }
+{
+    map.entry(&item.name).or_insert(item)?.finish();
+    Ok(())
 }
