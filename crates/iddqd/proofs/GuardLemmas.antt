@@ -1,7 +1,7 @@
--- What a caller of a guard may name for its own proof, of either map.
---     read_back      what was written is there
+-- What a caller of a guard or an entry may name for its own proof, of either map.
+--     read_back, others_written      what was written is there, and the other items are as they were
 --     written_twice      a second write leaves what it alone would
 --     keys_written, same_key_kept      a write under the same key leaves the keys, and the items of an ordered map ascend still
 --     hash_key_kept      ... and a hash map is keyed still
-pub use Rattle.iddqd_core.proofs.WrittenLemmas.{keys_written, read_back, same_key_kept, written_twice}
+pub use Rattle.iddqd_core.proofs.WrittenLemmas.{keys_written, others_written, read_back, same_key_kept, written_twice}
 pub use Rattle.iddqd_hash.proofs.LentLemmas.{hash_key_kept}

@@ -1,4 +1,5 @@
 pub mod ChangeLemmas
+pub mod GivenLemmas
 pub mod GuardLemmas
 pub use Rattle.iddqd_core.proofs.AddingLemmas
 pub use Rattle.iddqd_core.proofs.DistinctLemmas

@@ -1,3 +1,5 @@
+pub mod IdHashMap
+pub mod IdOrdMap
 pub use Rattle.iddqd_core.specs.Adding
 pub use Rattle.iddqd_core.specs.Collecting
 pub use Rattle.iddqd_core.specs.Contents
@@ -9,10 +11,3 @@ pub use Rattle.iddqd_core.specs.Query
 pub use Rattle.iddqd_core.specs.Refusal
 pub use Rattle.iddqd_core.specs.SlotItems
 pub use Rattle.iddqd_core.specs.Visiting
-pub use Rattle.iddqd_hash.specs.Entry
-pub use Rattle.iddqd_hash.specs.Guard
-pub use Rattle.iddqd_hash.specs.HashItems
-pub use Rattle.iddqd_hash.specs.HashMap
-pub use Rattle.iddqd_hash.specs.SlotOrder
-pub use Rattle.iddqd_hash.specs.Walked
-pub use Rattle.iddqd_hash.specs.WritingWalk

@@ -24,3 +24,7 @@ of_number number items = find_item (λ x. x.number) (λ k. number == k) items
 
 abbrev pub put_at_number : ℕ → Noted → List Noted → List Noted
 put_at_number number y items = replaced (λ x. x.number) (λ k. number == k) y items
+
+-- the item, once the value is written to it
+abbrev pub with_value : ℕ → Named → Named
+with_value value x = record x { value = value }

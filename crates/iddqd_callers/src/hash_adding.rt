@@ -1,7 +1,7 @@
 //! Adding many items to a hash map.
 ghost use Rattle.std.specs.Prelude.{List, IfSome, nat_eq};
 ghost use Rattle.iddqd.specs.Collecting.{AddsAll, IsFirstConflict};
-ghost use Rattle.iddqd.specs.HashItems.{IsKeyedByText};
+ghost use Rattle.iddqd.specs.IdHashMap.{IsKeyedByText};
 
 use crate::hash_insertions;
 use iddqd::errors::ExtendUniqueError;

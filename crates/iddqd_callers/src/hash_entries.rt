@@ -1,10 +1,10 @@
 //! Entries of a hash map.
-ghost use Rattle.std.specs.Prelude.{◌≡◌, ◌==◌, IfNone, IfSome, IsTrue, OnSome, Some, false};
+ghost use Rattle.std.specs.Prelude.{◌≡◌, ◌==◌, IfNone, IfSome, IsTrue, OnSome, Some, false, option_map};
 ghost use Rattle.std.specs.Str.{bytes_eq};
 ghost use Rattle.std.specs.String.{string_bytes};
 ghost use Rattle.iddqd.specs.Contents.{AddsItem, find_item, replaced, without};
-ghost use Rattle.iddqd.specs.HashItems.{IsKeyedByText};
-ghost use Rattle.iddqd_callers.specs.Lookups.{of_key, of_name, put_at_key};
+ghost use Rattle.iddqd.specs.IdHashMap.{IsKeyedByText};
+ghost use Rattle.iddqd_callers.specs.Lookups.{of_key, of_name, put_at_key, with_value};
 
 use iddqd::errors::Refused;
 use iddqd::id_hash_map::Entry;
@@ -137,4 +137,73 @@ fn add_or_pass_on(map: &mut IdHashMap<Named>, item: Named) -> Result<(), Refused
 {
     map.entry(&item.name).or_insert(item)?.finish();
     Ok(())
+}
+
+/// Writes the value through the entry, and then removes the item.
+#[tactic(auto, using(iddqd::proofs::GuardLemmas::read_back, iddqd::proofs::GuardLemmas::others_written))]
+fn write_and_take(map: &mut IdHashMap<Named>, name: &str, value: u32) -> Option<Named>
+    requires keyed { IsKeyedByText (λ x. x.name) map.old }
+    ensures taken { result ≡ option_map (with_value value)
+        (of_name name.now map.old.items) }
+    ensures left { map.new.items ≡ without (λ x. x.name)
+        (λ k. bytes_eq name.now (string_bytes k)) map.old.items }
+    ensures keyed { IsKeyedByText (λ x. x.name) map.new }
+{
+    match map.entry(&Text(name)) {
+        Entry::Occupied(mut entry) => {
+            entry.get_mut().value = value;
+            Some(entry.remove())
+        }
+        Entry::Vacant(_) => None,
+    }
+}
+
+/// Writes the value through the entry, and then puts the item in the place of what is there, which is returned.
+#[tactic(auto, using(iddqd::proofs::GuardLemmas::read_back))]
+fn write_and_replace(map: &mut IdHashMap<Named>, item: Named, value: u32) -> Option<Named>
+    requires keyed { IsKeyedByText (λ x. x.name) map.old }
+    ensures found { result ≡ option_map (with_value value)
+        (of_key item.name map.old.items) }
+    ensures keyed { IsKeyedByText (λ x. x.name) map.new }
+{
+    match map.entry(&item.name) {
+        Entry::Occupied(mut entry) => {
+            entry.get_mut().value = value;
+            Some(entry.insert(item))
+        }
+        Entry::Vacant(_) => None,
+    }
+}
+
+/// Writes a value through the entry, and another one through its guard.
+#[tactic(auto, using(iddqd::proofs::GuardLemmas::hash_key_kept))]
+fn write_and_lend(map: &mut IdHashMap<Named>, name: &str, value: u32, then: u32)
+    requires keyed { IsKeyedByText (λ x. x.name) map.old }
+    ensures keyed { IsKeyedByText (λ x. x.name) map.new }
+{
+    match map.entry(&Text(name)) {
+        Entry::Occupied(mut entry) => {
+            entry.get_mut().value = value;
+            let mut found = entry.into_mut();
+            found.value = then;
+            found.finish();
+        }
+        Entry::Vacant(_) => {}
+    }
+}
+
+/// Adds the item by its entry, and removes it again, unless its name is there.
+fn add_and_take(map: &mut IdHashMap<Named>, item: Named) -> Option<Named>
+    requires keyed { IsKeyedByText (λ x. x.name) map.old }
+    ensures taken { OnSome result (result ≡ Some item) }
+    ensures left { map.new.items ≡ map.old.items }
+    ensures keyed { IsKeyedByText (λ x. x.name) map.new }
+{
+    match map.entry(&item.name) {
+        Entry::Vacant(entry) => match entry.insert_entry(item) {
+            Ok(added) => Some(added.remove()),
+            Err(_refused) => None,
+        },
+        Entry::Occupied(_) => None,
+    }
 }

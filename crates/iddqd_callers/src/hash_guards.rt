@@ -1,7 +1,7 @@
 //! Writing through the guard of a hash map.
 ghost use Rattle.std.specs.Prelude.{◌≡◌, ◌==◌, IfSome, IfNone, IsTrue, is_some, option_map};
 ghost use Rattle.iddqd.specs.Contents.{find_item, replaced};
-ghost use Rattle.iddqd.specs.HashItems.{IsKeyedByText};
+ghost use Rattle.iddqd.specs.IdHashMap.{IsKeyedByText};
 ghost use Rattle.iddqd.specs.Hashing.{HashesAs};
 ghost use Rattle.iddqd_callers.specs.Lookups.{of_name, of_number, put_at_name, put_at_number};
 

@@ -1,6 +1,6 @@
 //! Insertions into a hash map, in each form in which their answer is matched.
 ghost use Rattle.std.specs.Prelude.{◌≡◌, ◌≢◌, ◌==◌, ◌+◌, IfNone, IfSome, IsTrue, None, OnOk, Some, false, is_some, length};
-ghost use Rattle.iddqd.specs.HashItems.{IsKeyedByText};
+ghost use Rattle.iddqd.specs.IdHashMap.{IsKeyedByText};
 ghost use Rattle.iddqd_callers.specs.Lookups.{of_key, of_name, of_number};
 
 use crate::items::{Noted, Tagged, Titled};

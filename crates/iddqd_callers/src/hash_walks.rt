@@ -1,7 +1,7 @@
 //! Walks that write and that retain, over a hash map.
 ghost use Rattle.std.specs.Prelude.{◌≡◌, ◌==◌, filter, is_some, nat_lt};
 ghost use Rattle.iddqd.specs.Contents.{find_item};
-ghost use Rattle.iddqd.specs.HashItems.{IsKeyedByText};
+ghost use Rattle.iddqd.specs.IdHashMap.{IsKeyedByText};
 ghost use Rattle.iddqd_writers.specs.Zeroed.{zeroed, changed_to};
 
 use iddqd::{IdHashMap, Lookups};

@@ -2,7 +2,7 @@
 ghost use Rattle.std.specs.Prelude.{◌≡◌, option_map};
 ghost use Rattle.std.specs.String.{string_cmp};
 ghost use Rattle.iddqd.specs.Contents.{Ascends};
-ghost use Rattle.iddqd.specs.HashItems.{IsKeyedByText};
+ghost use Rattle.iddqd.specs.IdHashMap.{IsKeyedByText};
 ghost use Rattle.iddqd_callers.specs.Lookups.{of_name, of_number};
 
 use crate::items::Noted;

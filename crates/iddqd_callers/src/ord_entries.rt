@@ -1,10 +1,10 @@
 //! Entries of an ordered map.
-ghost use Rattle.std.specs.Prelude.{◌≡◌, ◌==◌, IfNone, IfSome, IsTrue, OnSome, Some, false, slice_get, slice_set};
+ghost use Rattle.std.specs.Prelude.{◌≡◌, ◌-◌, ◌==◌, IfNone, IfSome, IsTrue, OnSome, Some, false, length, option_map, slice_get, slice_set, take};
 ghost use Rattle.std.specs.Ordering.{nat_cmp};
 ghost use Rattle.std.specs.Str.{bytes_eq};
 ghost use Rattle.std.specs.String.{string_bytes, string_cmp};
 ghost use Rattle.iddqd.specs.Contents.{AddsItem, Ascends, find_item, replaced, without};
-ghost use Rattle.iddqd_callers.specs.Lookups.{of_key, of_name, put_at_key};
+ghost use Rattle.iddqd_callers.specs.Lookups.{of_key, of_name, put_at_key, with_value};
 
 use iddqd::errors::Refused;
 use iddqd::id_ord_map::Entry;
@@ -117,7 +117,9 @@ fn show_or_add(map: &mut IdOrdMap<Pair>, key: u32, value: u32) -> Option<u32>
 /// Writes the first pair's value.
 fn set_first(map: &mut IdOrdMap<Pair>, value: u32)
     requires keyed { Ascends (λ p. p.key) nat_cmp map.old.items }
-    ensures { IfSome (slice_get map.old.items 0) (λ x. map.new.items ≡ slice_set map.old.items 0 (record x { value = value })) }
+    ensures set { IfSome (slice_get map.old.items 0)
+        (λ x. map.new.items ≡ slice_set map.old.items 0 (record x { value = value })) }
+    ensures keyed { Ascends (λ p. p.key) nat_cmp map.new.items }
 {
     if let Some(mut entry) = map.first_entry() {
         entry.get_mut().value = value;
@@ -143,4 +145,88 @@ fn add_or_pass_on(map: &mut IdOrdMap<Named>, item: Named) -> Result<(), Refused<
 {
     map.entry(&item.name).or_insert(item)?.finish();
     Ok(())
+}
+
+/// Writes the value through the entry, and then removes the item.
+#[tactic(auto, using(iddqd::proofs::GuardLemmas::read_back, iddqd::proofs::GuardLemmas::others_written))]
+fn write_and_take(map: &mut IdOrdMap<Named>, name: &str, value: u32) -> Option<Named>
+    requires keyed { Ascends (λ x. x.name) string_cmp map.old.items }
+    ensures taken { result ≡ option_map (with_value value)
+        (of_name name.now map.old.items) }
+    ensures left { map.new.items ≡ without (λ x. x.name)
+        (λ k. bytes_eq name.now (string_bytes k)) map.old.items }
+    ensures keyed { Ascends (λ x. x.name) string_cmp map.new.items }
+{
+    match map.entry(&Text(name)) {
+        Entry::Occupied(mut entry) => {
+            entry.get_mut().value = value;
+            Some(entry.remove())
+        }
+        Entry::Vacant(_) => None,
+    }
+}
+
+/// Writes the value through the entry, and then puts the item in the place of what is there, which is returned.
+#[tactic(auto, using(iddqd::proofs::GuardLemmas::read_back))]
+fn write_and_replace(map: &mut IdOrdMap<Named>, item: Named, value: u32) -> Option<Named>
+    requires keyed { Ascends (λ x. x.name) string_cmp map.old.items }
+    ensures found { result ≡ option_map (with_value value)
+        (of_key item.name map.old.items) }
+    ensures keyed { Ascends (λ x. x.name) string_cmp map.new.items }
+{
+    match map.entry(&item.name) {
+        Entry::Occupied(mut entry) => {
+            entry.get_mut().value = value;
+            Some(entry.insert(item))
+        }
+        Entry::Vacant(_) => None,
+    }
+}
+
+/// Writes a value through the entry, and another one through its guard.
+#[tactic(auto, using(iddqd::proofs::GuardLemmas::same_key_kept))]
+fn write_and_lend(map: &mut IdOrdMap<Named>, name: &str, value: u32, then: u32)
+    requires keyed { Ascends (λ x. x.name) string_cmp map.old.items }
+    ensures keyed { Ascends (λ x. x.name) string_cmp map.new.items }
+{
+    if let Entry::Occupied(mut entry) = map.entry(&Text(name)) {
+        entry.get_mut().value = value;
+        let mut found = entry.into_mut();
+        found.value = then;
+        found.finish();
+    }
+}
+
+/// Adds the item by its entry, and removes it again, unless its name is there.
+fn add_and_take(map: &mut IdOrdMap<Named>, item: Named) -> Option<Named>
+    requires keyed { Ascends (λ x. x.name) string_cmp map.old.items }
+    ensures taken { OnSome result (result ≡ Some item) }
+    ensures left { map.new.items ≡ map.old.items }
+    ensures keyed { Ascends (λ x. x.name) string_cmp map.new.items }
+{
+    match map.entry(&item.name) {
+        Entry::Vacant(entry) => match entry.insert_entry(item) {
+            Ok(added) => Some(added.remove()),
+            Err(_refused) => None,
+        },
+        Entry::Occupied(_) => None,
+    }
+}
+
+/// Removes the item of the greatest name, if its value is this one.
+fn take_last_of(map: &mut IdOrdMap<Named>, value: u32) -> Option<Named>
+    requires keyed { Ascends (λ x. x.name) string_cmp map.old.items }
+    ensures taken { IfSome result
+        (λ x. (slice_get map.old.items (length map.old.items - 1) ≡ Some x) × (x.value ≡ value)) }
+    ensures left { OnSome result
+        (map.new.items ≡ take (length map.old.items - 1) map.old.items) }
+    ensures kept { IfNone result (map.new ≡ map.old) }
+    ensures keyed { Ascends (λ x. x.name) string_cmp map.new.items }
+{
+    let entry = map.last_entry()?;
+    if entry.get().value == value {
+        Some(entry.remove())
+    } else {
+        None
+    }
 }

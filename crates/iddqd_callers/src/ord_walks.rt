@@ -22,7 +22,6 @@ fn zero_first(all: &mut IdOrdMap<Pair>)
 }
 
 /// Sets each value to zero, and then asks the map, which is keyed still.
-#[tactic(auto, using(iddqd_writers::proofs::ZeroedLemmas::ascends_zeroed))]
 fn zero_and_ask(all: &mut IdOrdMap<Pair>) -> bool
     requires keyed { Ascends (λ p. p.key) nat_cmp all.old.items }
     ensures told { result ≡ is_some (find_item (λ p. p.key) (λ k. 4 == k) all.new.items) }

@@ -1,7 +1,7 @@
 //! A map of either kind behind a trait whose ghost member says that it is keyed; another name for an item.
 ghost use Rattle.std.specs.String.{string_cmp};
 ghost use Rattle.iddqd.specs.Contents.{Ascends};
-ghost use Rattle.iddqd.specs.HashItems.{IsKeyedByText};
+ghost use Rattle.iddqd.specs.IdHashMap.{IsKeyedByText};
 
 use iddqd::errors::InsertError;
 use iddqd::{IdHashMap, IdOrdMap, Text};

@@ -4,9 +4,10 @@
 --     entry_with e w      the map once w stands in the entry's place; where there is none, the map
 --     entry_others e      the items but for the entry's
 --     entry_follows      the entry ends with the last value written to its item
+--     EntryKeeps, EntryKeepsAkin      an item of the same key, or of an equal one, may be written
 --     rests_if_refused      what the map is where an item was refused
 pub use Rattle.iddqd_hash.specs.declared.id_hash_map.entry.Entry.TheVariants.{Vacant, Occupied}
-use Rattle.std.specs.Prelude.{ℕ, [], List, Option, None, Result}
+use Rattle.std.specs.Prelude.{◌≡◌, ℕ, [], Bool, IsTrue, List, Option, None, Result}
 use Rattle.std.specs.Borrow.{Fml, GName, RattleType, MutBor, RestsIfErr, follows}
 use mir.Syntax.{named}
 use Rattle.iddqd_store.specs.SlotItems.{item_of_slot, still_there, without_slot}
@@ -53,6 +54,16 @@ module _ {S T : Type 0} where
     there = still_there e.map.now.slots e.map.now.items e.slot w e.there;
     listed = e.listed;
   }
+
+-- in a keyed map an item of the same key, or of an equal one, may be written to the entry: the map is keyed then
+module _ {S T K : Type 0} (key : T → K) (IsKeyed : HashItems S T → Type 0) where
+  abbrev pub EntryKeeps : OccupiedEntry T S → MutBor T → Type 0
+  EntryKeeps e lent =
+      IsKeyed (entry_map (Occupied e)) → (w : T) → key w ≡ key lent.now → IsKeyed (entry_with (Occupied e) w)
+
+  abbrev pub EntryKeepsAkin : (K → K → Bool) → OccupiedEntry T S → MutBor T → Type 0
+  EntryKeepsAkin eq e lent =
+      IsKeyed (entry_map (Occupied e)) → (w : T) → IsTrue (eq (key lent.now) (key w)) → IsKeyed (entry_with (Occupied e) w)
 
 module _ (S T : RattleType) where
   -- the entry's lifetime is the second of the signature

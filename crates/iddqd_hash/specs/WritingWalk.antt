@@ -1,7 +1,9 @@
 -- What a contract sees of a walk that lends the items of a hash map for writing (the crate's `IterMut`).
 --     walk_map, walk_name, walk_done      the map as the walk holds it, the name of the reference to it, how many items it has lent
+--     walk_with w x      the map once x is written to the item that the walk lends next
 --     walk_lends      the walk ends with the last value written to the item, and one item further
-use Rattle.std.specs.Prelude.{ℕ, ◌+◌, [], Option, slice_set}
+--     WalkKeeps, WalkKeepsAkin      an item of the same key, or of an equal one, may be written
+use Rattle.std.specs.Prelude.{◌≡◌, ℕ, ◌+◌, [], Bool, IfSome, IsTrue, Option, slice_set}
 use Rattle.std.specs.Borrow.{Fml, GName, RattleType, MutBor, LendsIf}
 use Rattle.std.proofs.Common.{refl}
 use mir.Syntax.{named}
@@ -20,10 +22,13 @@ module _ {S T : Type 0} where
   abbrev pub walk_done : IterMut T S → ℕ
   walk_done w = w.done
 
+  abbrev pub walk_with : IterMut T S → T → HashItems S T
+  walk_with w x = record w.map.now { items = slice_set w.map.now.items w.done x }
+
   -- the walk once x is written to the item that it lent
   abbrev pub with_next : IterMut T S → T → IterMut T S
   with_next w x = record {
-    map = record w.map { now = record w.map.now { items = slice_set w.map.now.items w.done x } };
+    map = record w.map { now = walk_with w x };
     done = w.done + 1;
     next = behind w.map.now.slots (w.done + 1);
     from = refl;
@@ -33,3 +38,13 @@ module _ (S T : RattleType) where
   -- the walk's lifetime is the second of the signature
   abbrev pub walk_lends : MutBor (IterMut T.Denot S.Denot) → Option (MutBor T.Denot) → Fml
   walk_lends w r = LendsIf (walk.the_row (record { mir = named 1; lft = [] }) T S) T w r (with_next w.now) w.now
+
+-- in a keyed map an item of the same key, or of an equal one, may be written in the place of the one lent: the map is keyed then
+module _ {S T K : Type 0} (key : T → K) (IsKeyed : HashItems S T → Type 0) where
+  abbrev pub WalkKeeps : IterMut T S → Option (MutBor T) → Type 0
+  WalkKeeps walk result =
+      IsKeyed (walk_map walk) → IfSome result (λ lent. (w : T) → key w ≡ key lent.now → IsKeyed (walk_with walk w))
+
+  abbrev pub WalkKeepsAkin : (K → K → Bool) → IterMut T S → Option (MutBor T) → Type 0
+  WalkKeepsAkin eq walk result =
+      IsKeyed (walk_map walk) → IfSome result (λ lent. (w : T) → IsTrue (eq (key lent.now) (key w)) → IsKeyed (walk_with walk w))

@@ -5,9 +5,9 @@ mod probe;
 mod regroup;
 mod walk;
 
-ghost use Rattle.std.specs.Prelude.{◌≡◌, ℕ, ◌+◌, ◌-◌, ◌<◌, ◌≤◌, [], length, max, OnOk, OnErr, IfOk, IfErr, IfSome, IfNone, Contains};
+ghost use Rattle.std.specs.Prelude.{◌≡◌, ℕ, ◌+◌, ◌*◌, ◌-◌, ◌<◌, ◌≤◌, [], length, max, OnOk, OnErr, IfOk, IfErr, IfSome, IfNone, Contains};
 ghost use Rattle.std.specs.Prelude.{min as least};
-ghost use Rattle.iddqd_hash_index.specs.HashPairs.{SamePairs, HasOneMore, HasInstead, HalfIsEnough, IsMatch, of_hash, of_slot};
+ghost use Rattle.iddqd_hash_index.specs.HashPairs.{SamePairs, HasOneMore, HasInstead, HalfIsEnough, IsMatch, index_room, of_hash, of_slot};
 ghost use Rattle.iddqd_hash_index.specs.Groups.{room_for};
 ghost use Rattle.iddqd_store.specs.Store.{IsOccupied};
 ghost use Rattle.iddqd_store.specs.Refusal.{memory_refused};
@@ -102,6 +102,7 @@ impl HashIndex {
         ensures only_memory { IfErr result (λ e. e ≡ memory_refused) }
         ensures needed { OnErr result (self.old.spare < additional) }
         ensures spare { self.old.spare ≤ self.new.spare }
+        ensures doubles { OnOk result (self.old.spare < additional → least (2 * index_room self.old) u32.MAX ≤ index_room self.new) }
     {
         if additional <= self.room - self.len {
             return Ok(());
@@ -117,6 +118,7 @@ impl HashIndex {
         ensures pairs { SamePairs self.old.pairs self.new.pairs }
         ensures ok { OnOk result (additional ≤ self.new.spare) }
         ensures spare { self.old.spare ≤ self.new.spare }
+        ensures doubles { OnOk result (least (2 * index_room self.old) u32.MAX ≤ index_room self.new) }
     {
         if additional > MOST_ROOM - self.len {
             return Err(AllocError);

@@ -72,11 +72,13 @@ fn by_visitor<
     is_respelled(rt, map)
 }
 
-// Writes by a writing walk what the others write.
-fn respell(item: &mut Coarse) {
-    if item.name == RESPELLED.name {
-        *item = RESPELLED;
-    }
+fn by_walk<M: AskedByKey<Item = Coarse, Key = Caseless> + AskedToInsert<Coarse> + Respelled + Drop>(
+    rt: &impl Abort,
+    map: M,
+) -> M {
+    let mut map = of_bar_and_foo(rt, map);
+    check(rt, map.respell_by_walk(RESPELLED));
+    is_respelled(rt, map)
 }
 
 // Whether the walk shows bar 1, and fOO 7 behind it.
@@ -109,9 +111,8 @@ fn coarse_writes_by_visitor(rt: HostRuntime) {
 
 #[test]
 fn coarse_writes_by_walk(rt: HostRuntime) {
-    let map = of_bar_and_foo(&rt, in_order(rt.alloc()));
-    let (map, _) = map.written(2, respell);
-    check(&rt, is_in_order(&map));
+    let map = by_walk(&rt, in_order(rt.alloc()));
+    check(&rt, is_in_order(map.map()));
 }
 
 // Whether the walk shows bar 1 and fOO 7, in whatever order.
@@ -124,9 +125,8 @@ fn has_both(map: &IdHashMap<Coarse>) -> bool {
 
 #[test]
 fn hash_coarse_writes_by_walk(rt: HostRuntime) {
-    let map = of_bar_and_foo(&rt, by_hash(rt.alloc()));
-    let (map, _) = map.written(2, respell);
-    check(&rt, has_both(&map));
+    let map = by_walk(&rt, by_hash(rt.alloc()));
+    check(&rt, has_both(map.map()));
 }
 
 fn numbered(number: u32, value: u32) -> Numbered {

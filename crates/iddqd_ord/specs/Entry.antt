@@ -4,12 +4,14 @@
 --     entry_with e w      the map once w stands in the entry's place; where there is none, the map
 --     entry_others e      the items but for the entry's
 --     entry_follows      the entry ends with the last value written to its item
+--     EntryKeeps, EntryKeepsAkin      an item of the same key, or of an equal one, may be written
 --     rests_if_refused, rests_without_entry      what the map is where no guard and no entry holds it
 pub use Rattle.iddqd_ord.specs.declared.id_ord_map.entry.Entry.TheVariants.{Vacant, Occupied}
-use Rattle.std.specs.Prelude.{◌≡◌, ℕ, [], List, Option, None, Result}
+use Rattle.std.specs.Prelude.{◌≡◌, ℕ, [], Bool, IsTrue, List, Option, None, Result}
 use Rattle.std.specs.Borrow.{Fml, GName, RattleType, MutBor, RestsIfErr, RestsIfNone, follows}
 use Rattle.std.specs.declared.cmp.Ordering.{Ordering}
 use mir.Syntax.{named}
+use Rattle.iddqd_store.specs.Contents.{Ascends}
 use Rattle.iddqd_store.specs.Holding.{Holding}
 use Rattle.iddqd_store.specs.SlotItems.{item_of_slot, still_there, without_slot}
 use Rattle.iddqd_ord.specs.declared.id_ord_map.entry.Entry.{Entry}
@@ -54,6 +56,18 @@ module _ {T : Type 0} where
     there = still_there e.map.now.slots e.map.now.items e.slot w e.there;
     placed = e.placed;
   }
+
+-- in a keyed map an item of the same key, or of an equal one, may be written to the entry: the map is keyed then
+module _ {T K : Type 0} (key : T → K) (cmp : K → K → Ordering) where
+  abbrev pub EntryKeeps : OccupiedEntry T → MutBor T → Type 0
+  EntryKeeps e lent =
+      Ascends key cmp (entry_map (Occupied e)).items
+      → (w : T) → key w ≡ key lent.now → Ascends key cmp (entry_with (Occupied e) w).items
+
+  abbrev pub EntryKeepsAkin : (K → K → Bool) → OccupiedEntry T → MutBor T → Type 0
+  EntryKeepsAkin eq e lent =
+      Ascends key cmp (entry_map (Occupied e)).items
+      → (w : T) → IsTrue (eq (key lent.now) (key w)) → Ascends key cmp (entry_with (Occupied e) w).items
 
 module _ (T : RattleType) where
   -- the entry's lifetime is the second of the signature

@@ -3,7 +3,7 @@ ghost use Rattle.std.specs.Prelude.{◌≡◌, ℕ, ◌+◌, ◌-◌, ◌*◌, �
 ghost use Rattle.std.specs.Hash as fed;
 ghost use Rattle.iddqd.specs.Contents.{find_item, without};
 ghost use Rattle.iddqd.specs.Digits.{digits};
-ghost use Rattle.iddqd.specs.HashItems.{of_stored_hash};
+ghost use Rattle.iddqd.specs.IdHashMap.{of_stored_hash};
 ghost use Rattle.iddqd.specs.Hashing.{hash_under};
 ghost use Rattle.iddqd.specs.Visiting.{VisitsKeepKeys};
 ghost use Rattle.iddqd_commands.specs.KeyedMap.{StaysKeyed};

@@ -2,7 +2,7 @@
 use crate::caseless::{Caseless, Coarse};
 use crate::tried::{Hashed, Ordered};
 use iddqd::{Visit, id_hash_map, id_ord_map};
-use iddqd_coarse::writes::{hash_put, put};
+use iddqd_coarse::writes::{hash_put, hash_put_in_walk, put, put_in_walk};
 use std::hash::BuildHasher;
 
 /// Puts its item in the place of each whose key is equal, and keeps all.
@@ -33,6 +33,9 @@ pub trait Respelled {
 
     /// By `retain_mut`.
     fn respell_by_visitor(&mut self, item: Coarse);
+
+    /// By a walk that lends items for writing.
+    fn respell_by_walk(&mut self, item: Coarse) -> bool;
 }
 
 impl Respelled for Ordered<Coarse> {
@@ -56,6 +59,10 @@ impl Respelled for Ordered<Coarse> {
     fn respell_by_visitor(&mut self, item: Coarse) {
         self.map.retain_mut(&mut Respells(item));
     }
+
+    fn respell_by_walk(&mut self, item: Coarse) -> bool {
+        put_in_walk(&mut self.map, item)
+    }
 }
 
 impl<S: BuildHasher> Respelled for Hashed<Coarse, S> {
@@ -78,5 +85,9 @@ impl<S: BuildHasher> Respelled for Hashed<Coarse, S> {
     #[tactic(auto, using(crate::proofs::RespelledLemmas::respelled_keeps_key))]
     fn respell_by_visitor(&mut self, item: Coarse) {
         self.map.retain_mut(&mut Respells(item));
+    }
+
+    fn respell_by_walk(&mut self, item: Coarse) -> bool {
+        hash_put_in_walk(&mut self.map, item)
     }
 }

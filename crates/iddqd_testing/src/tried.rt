@@ -1,7 +1,7 @@
 //! Maps under test, one of each kind. Their calls are the maps', and say nothing of what they leave: a test shows that by what it
 //! finds, so that its proof carries no contract of the maps along.
 ghost use Rattle.iddqd.specs.Contents.{Ascends, ClonesAreEqual};
-ghost use Rattle.iddqd.specs.HashItems.{HashItems, IsKeyed};
+ghost use Rattle.iddqd.specs.IdHashMap.{HashItems, IsKeyed};
 ghost use Rattle.iddqd.specs.Hashing.{hash_under};
 ghost use Rattle.iddqd.specs.Holding.{Holding};
 

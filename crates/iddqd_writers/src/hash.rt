@@ -42,7 +42,8 @@ pub fn looks<S: BuildHasher>(map: &mut IdHashMap<Pair, S>, key: u32) -> bool
 #[tactic(auto, using(crate::proofs::ZeroedLemmas::changed_none, crate::proofs::ZeroedLemmas::length_changed, crate::proofs::ZeroedLemmas::changed_step, crate::proofs::ZeroedLemmas::changed_all))]
 pub fn zero_all<S: BuildHasher>(all: &mut IdHashMap<Pair, S>)
     requires keyed { ⟦<IdHashMap<Pair, S> as Lookups>⟧.keyed all.old }
-    ensures { all.new ≡ record all.old { items = map zeroed all.old.items } }
+    ensures zeroed { all.new ≡ record all.old { items = map zeroed all.old.items } }
+    ensures keyed { ⟦<IdHashMap<Pair, S> as Lookups>⟧.keyed all.new }
 {
     let mut walk = all.iter_mut();
     while let Some(pair) = walk.next() {

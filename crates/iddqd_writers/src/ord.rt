@@ -42,7 +42,8 @@ pub fn looks(map: &mut IdOrdMap<Pair>, key: u32) -> bool
 #[tactic(auto, using(crate::proofs::ZeroedLemmas::changed_none, crate::proofs::ZeroedLemmas::length_changed, crate::proofs::ZeroedLemmas::changed_step, crate::proofs::ZeroedLemmas::changed_all))]
 pub fn zero_all(all: &mut IdOrdMap<Pair>)
     requires keyed { Ascends (λ p. p.key) nat_cmp all.old.items }
-    ensures { all.new ≡ record all.old { items = map zeroed all.old.items } }
+    ensures zeroed { all.new ≡ record all.old { items = map zeroed all.old.items } }
+    ensures keyed { Ascends (λ p. p.key) nat_cmp all.new.items }
 {
     let mut walk = all.iter_mut();
     while let Some(pair) = walk.next() {

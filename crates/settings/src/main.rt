@@ -4,7 +4,7 @@
 
 ghost use Rattle.std.specs.Prelude.{◌≡◌, List, IfNone, IfOk, IfSome, option_map};
 ghost use Rattle.iddqd.specs.Contents.{AddsItem};
-ghost use Rattle.iddqd.specs.HashItems.{IsKeyedByText};
+ghost use Rattle.iddqd.specs.IdHashMap.{IsKeyedByText};
 ghost use Rattle.settings.specs.Settings.{setting_at, setting_named};
 ghost use Rattle.settings.specs.declared.Setting.{Setting};
 

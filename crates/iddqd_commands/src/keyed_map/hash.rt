@@ -1,5 +1,5 @@
 //! The hash map, which visits its items in any order and keeps its spare.
-ghost use Rattle.iddqd.specs.HashItems.{IsKeyed, differ_from_keyed};
+ghost use Rattle.iddqd.specs.IdHashMap.{IsKeyed, differ_from_keyed};
 ghost use Rattle.iddqd.specs.Hashing.{hash_under};
 ghost use Rattle.iddqd_commands.specs.Step.{Hashed};
 

@@ -3,7 +3,7 @@ ghost use Rattle.std.specs.Prelude.{◌≡◌, ◌-◌, ◌<◌, ◌↔◌, IsSo
 ghost use Rattle.std.specs.Borrow.{sem};
 ghost use Rattle.std.specs.Option.{option_copied_mut};
 ghost use Rattle.iddqd_store.specs.Contents.{Ascends};
-ghost use Rattle.iddqd_ord.specs.WritingWalk.{walk_map, walk_name, walk_done, walk_lends};
+ghost use Rattle.iddqd_ord.specs.WritingWalk.{WalkKeeps, WalkKeepsAkin, walk_done, walk_lends, walk_map, walk_name};
 
 use super::IdOrdMap;
 use iddqd_store::IdOrdItem;
@@ -18,8 +18,8 @@ pub struct IterMut<'a, T> {
 }
 
 impl<T: IdOrdItem> IdOrdMap<T> {
-    /// A walk over the items, ascending, that lends each once. It compares no keys; whoever writes keeps each key, or the
-    /// map is not keyed any more.
+    /// A walk over the items, ascending, that lends each once. It compares no keys and does not allocate. The map stays keyed
+    /// unless you change an item's key.
     #[inline]
     pub fn iter_mut(&mut self) -> IterMut<'_, T>
         requires keyed { Ascends T.key T.Key.cmp self.old.items }
@@ -32,19 +32,24 @@ impl<T: IdOrdItem> IdOrdMap<T> {
 }
 
 impl<T> IterMut<'_, T> {
-    /// How many items are to come.
+    /// The number of items to come.
     #[inline]
     pub fn len(&self) -> usize
         ensures { result ≡ length (walk_map self.now).items - walk_done self.now }
     {
         self.map.len().saturating_sub(self.done)
     }
+}
 
-    /// The next item, for writing, or `None` for good where each was lent. It goes down the index once.
+impl<T: IdOrdItem> IterMut<'_, T> {
+    /// Returns the next item, for writing, or `None` for good after the last one. It goes down the index once. A keyed map
+    /// stays keyed if the key written is equal to the item's.
     pub fn next(&mut self) -> Option<&mut T>
         ensures* writes_back { sem 𝓛 (walk_lends T.row self.entry result) }
         ensures value { option_copied_mut result ≡ slice_get (walk_map self.old).items (walk_done self.old) }
         ensures found { IsSome result ↔ (walk_done self.old < length (walk_map self.old).items) }
+        ensures keyed { WalkKeeps T.key T.Key.cmp self.old result }
+        ensures keyed_akin { WalkKeepsAkin T.key T.Key.cmp T.Key.eq self.old result }
     {
         let at = self.done;
         if at < self.map.len() {

@@ -55,11 +55,11 @@ impl<T: IdOrdItem> IdOrdMap<T> {
         self.shrink_to(0)
     }
 
-    /// Closes up the slots, and gives memory back, in the store, but for room for `min` items and for those that are there;
-    /// the index keeps its nodes. It is refused only for want of memory, and only where the store has some to give back:
-    /// what is smaller is made beside what there is. Refused or not, the items stay and no slot is vacant then (the crate
-    /// says that it does nothing where `min` is above the capacity, and closes up all the same). Each item that moves into
-    /// a vacant slot costs one search; no other is touched.
+    /// Closes up the slots, and gives back memory of the store, except room for `min` items and for those in the map. The
+    /// index keeps its nodes. If the heap refuses a smaller block, the store keeps its memory, and the call returns `Ok`. An
+    /// `Err` is reserved for a store that reports this. In every case the items stay, and no slot is vacant (the crate says
+    /// that it does nothing if `min` is above the capacity, and closes up all the same). Each item that moves into a vacant
+    /// slot costs one search; no other is touched.
     pub fn shrink_to(&mut self, min: usize) -> Result<(), TryReserveError>
         requires keyed { Ascends T.key T.Key.cmp self.old.items }
         ensures items { self.new.items ≡ self.old.items }

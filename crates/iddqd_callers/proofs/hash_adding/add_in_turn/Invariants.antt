@@ -1,4 +1,4 @@
-use Rattle.iddqd.specs.HashItems.{IsKeyedByText}
+use Rattle.iddqd.specs.IdHashMap.{IsKeyedByText}
 use Rattle.iddqd_callers.proofs.hash_adding.add_in_turn.Given as goal
 
 abbrev pub invariant-loop-item : goal.invariant-loop-item

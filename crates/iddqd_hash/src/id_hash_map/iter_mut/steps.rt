@@ -2,7 +2,7 @@
 ghost use Rattle.std.specs.Prelude.{◌≡◌, ◌-◌, ◌<◌, ◌↔◌, IsSome, length, slice_get};
 ghost use Rattle.std.specs.Borrow.{sem};
 ghost use Rattle.std.specs.Option.{option_copied_mut};
-ghost use Rattle.iddqd_hash.specs.WritingWalk.{walk_map, walk_name, walk_done, walk_lends};
+ghost use Rattle.iddqd_hash.specs.WritingWalk.{WalkKeeps, WalkKeepsAkin, walk_done, walk_lends, walk_map, walk_name};
 
 use super::IterMut;
 use crate::id_hash_map::{IdHashMap, Lookups};
@@ -10,8 +10,8 @@ use iddqd_store::IdHashItem;
 use std::hash::BuildHasher;
 
 impl<T: IdHashItem, S: BuildHasher> IdHashMap<T, S> {
-    /// A walk over the items that lends each once. It hashes nothing and compares no keys; whoever writes keeps each key,
-    /// or the map is not keyed any more.
+    /// A walk over the items that lends each once. It hashes nothing, compares no keys and does not allocate. The map stays
+    /// keyed unless you change an item's key.
     #[inline]
     pub fn iter_mut(&mut self) -> IterMut<'_, T, S>
         requires keyed { ⟦<IdHashMap<T, S> as Lookups>⟧.keyed self.old }
@@ -28,19 +28,24 @@ impl<T: IdHashItem, S: BuildHasher> IdHashMap<T, S> {
 }
 
 impl<T, S> IterMut<'_, T, S> {
-    /// How many items are to come.
+    /// The number of items to come.
     #[inline]
     pub fn len(&self) -> usize
         ensures { result ≡ length (walk_map self.now).items - walk_done self.now }
     {
         self.map.len().saturating_sub(self.done)
     }
+}
 
-    /// The next item, for writing, or `None` for good where each was lent. It looks at each slot on its way.
+impl<T: IdHashItem, S: BuildHasher> IterMut<'_, T, S> {
+    /// Returns the next item, for writing, or `None` for good after the last one. It looks at each slot on its way. A keyed
+    /// map stays keyed if the key written is equal to the item's.
     pub fn next(&mut self) -> Option<&mut T>
         ensures* writes_back { sem 𝓛 (walk_lends S.row T.row self.entry result) }
         ensures value { option_copied_mut result ≡ slice_get (walk_map self.old).items (walk_done self.old) }
         ensures found { IsSome result ↔ (walk_done self.old < length (walk_map self.old).items) }
+        ensures keyed { WalkKeeps T.key ⟦<IdHashMap<T, S> as Lookups>⟧.keyed self.old result }
+        ensures keyed_akin { WalkKeepsAkin T.key ⟦<IdHashMap<T, S> as Lookups>⟧.keyed T.Key.eq self.old result }
     {
         if self.done < self.map.len() {
             let slot = self.map.slot_from(self.next)?;

@@ -3,7 +3,7 @@ ghost use Rattle.std.specs.Prelude.{◌≡◌, ◌+◌, IfSome, IsTrue, Some};
 ghost use Rattle.std.specs.Borrow.{sem};
 ghost use Rattle.iddqd_store.specs.Contents.{Ascends};
 ghost use Rattle.iddqd_store.specs.Holding.{LeavesSlot};
-ghost use Rattle.iddqd_ord.specs.Entry.{Occupied, entry_follows, entry_item, entry_map, entry_name, entry_others, entry_slot, entry_with};
+ghost use Rattle.iddqd_ord.specs.Entry.{EntryKeeps, EntryKeepsAkin, Occupied, entry_follows, entry_item, entry_map, entry_name, entry_others, entry_slot, entry_with};
 ghost use Rattle.iddqd_ord.specs.Guard.{lent_item, lent_map, lent_name, lent_slot, lent_with, shown_item, shown_map, shown_name};
 
 use super::OccupiedEntry;
@@ -18,17 +18,6 @@ impl<'a, T> OccupiedEntry<'a, T> {
         ensures { entry_item (Occupied self.now) ≡ Some result.now }
     {
         self.map.item_in(self.slot)
-    }
-
-    /// The item, for writing while the entry is lent (ours: the crate's answers a guard). Whoever writes keeps the key, or
-    /// the map behind the entry is not keyed any more.
-    #[inline]
-    pub fn get_mut(&mut self) -> &mut T
-        ensures* writes_back { sem 𝓛 (entry_follows T.row self.entry result) }
-        ensures value { entry_item (Occupied self.old) ≡ Some result.now }
-    {
-        let slot = self.slot;
-        self.map.item_mut(slot)
     }
 
     /// Shows the item for as long as the map is lent (ours: the crate's answers a plain reference).
@@ -48,6 +37,19 @@ impl<'a, T> OccupiedEntry<'a, T> {
 }
 
 impl<'a, T: IdOrdItem> OccupiedEntry<'a, T> {
+    /// Returns the item, for writing while the entry is borrowed (the crate returns a guard). A keyed map stays keyed if the
+    /// key written is equal to the entry's.
+    #[inline]
+    pub fn get_mut(&mut self) -> &mut T
+        ensures* writes_back { sem 𝓛 (entry_follows T.row self.entry result) }
+        ensures value { entry_item (Occupied self.old) ≡ Some result.now }
+        ensures keyed { EntryKeeps T.key T.Key.cmp self.old result }
+        ensures keyed_akin { EntryKeepsAkin T.key T.Key.cmp T.Key.eq self.old result }
+    {
+        let slot = self.slot;
+        self.map.item_mut(slot)
+    }
+
     /// Lends the item for as long as the map is lent. The guard has to be spent.
     #[inline]
     pub fn into_mut(self) -> RefMut<'a, T>

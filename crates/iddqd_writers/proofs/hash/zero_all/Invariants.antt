@@ -1,11 +1,16 @@
 use Rattle.std.proofs.Common.{◌≡◌, ◌-◌, length}
+use Rattle.std.specs.Hash as fed
+use Rattle.std.specs.Prelude.{◌==◌}
+use Rattle.iddqd.specs.Hashing.{hash_under}
+use Rattle.iddqd.specs.IdHashMap.{IsKeyed, walk_done, walk_map, walk_name}
 use Rattle.iddqd_writers.specs.Zeroed.{zeroed, changed_to}
 use Rattle.iddqd_writers.proofs.hash.zero_all.Given as goal
 
 abbrev pub invariant-loop-pair : goal.invariant-loop-pair
 invariant-loop-pair g l =
-    (l.walk.map.ghost_name ≡ l.initial.walk.map.ghost_name)
-    × (l.walk.map.now ≡ record l.fn.all { items = changed_to zeroed l.fn.all.items l.walk.done })
+    (walk_name l.walk ≡ walk_name l.initial.walk)
+    × (walk_map l.walk ≡ record l.fn.all { items = changed_to zeroed l.fn.all.items (walk_done l.walk) })
+    × IsKeyed (λ p. p.key) ◌==◌ fed.u32 (hash_under g.S.BuildHasher g.S.Hasher.Hasher) (walk_map l.walk)
 
 abbrev pub decreases-loop-pair : goal.decreases-loop-pair
-decreases-loop-pair g l = length l.fn.all.items - l.walk.done
+decreases-loop-pair g l = length l.fn.all.items - walk_done l.walk

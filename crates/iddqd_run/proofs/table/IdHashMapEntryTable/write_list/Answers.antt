@@ -1,7 +1,7 @@
 use Rattle.std.proofs.Common.{◌++◌, ◌∙◌, ap, length, string_bytes, sym, rules}
 use Rattle.std.specs.Prelude.{codes, decimal}
 use Rattle.std.proofs.lemmas.List.{length-map}
-use Rattle.iddqd.specs.HashItems.{differ_from_keyed}
+use Rattle.iddqd.specs.IdHashMap.{differ_from_keyed}
 use Rattle.iddqd_run.specs.Answer.{list_text}
 use Rattle.iddqd_run.specs.Shown.{all_lent, entries_of}
 use Rattle.iddqd_run.proofs.EndLemmas.{lists_items}

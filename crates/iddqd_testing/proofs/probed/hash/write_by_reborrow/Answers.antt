@@ -1,5 +1,5 @@
 use Rattle.std.proofs.Common.{rules, refl, subst, ◌≡◌, Some}
-use Rattle.iddqd.specs.Guard.{lent_item}
+use Rattle.iddqd.specs.IdHashMap.{lent_item}
 use Rattle.iddqd_testing.proofs.probed.hash.write_by_reborrow.Goals as goal
 
 pub returns-in-Some : goal.returns-in-Some

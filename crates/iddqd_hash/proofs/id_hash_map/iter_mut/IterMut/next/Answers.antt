@@ -1,10 +1,13 @@
-use Rattle.std.proofs.Common.{ℕ, ◌≡◌, ◌+◌, ◌∙◌, sym, arith, Some, slice_get, ap, rules, inl, inr, refl}
+use Rattle.std.proofs.Common.{ℕ, ◌≡◌, ◌+◌, ◌∙◌, sym, subst, arith, Some, slice_get, ap, rules, inl, inr, refl}
 use mathlib.Core.HLevel.{is_prop→PathP}
 use Rattle.std.proofs.Math.Nat.{ℕ_set}
 use Rattle.std.proofs.lemmas.Option.{slice_get_past}
+use Rattle.iddqd_store.specs.Hashing.{hash_under}
 use Rattle.iddqd_store.specs.SlotItems.{written_to_slot}
 use Rattle.iddqd_store.proofs.WrittenLemmas.{place_read}
+use Rattle.iddqd_hash.specs.HashItems.{IsKeyed}
 use Rattle.iddqd_hash.specs.SlotOrder.{behind, slots_below}
+use Rattle.iddqd_hash.proofs.LentLemmas.{keyed_akin_written, keyed_written}
 use Rattle.iddqd_hash.proofs.RisingLemmas.{behind_next, there_listed}
 use Rattle.iddqd_hash.proofs.id_hash_map.iter_mut.IterMut.next.Goals as goal
 
@@ -28,6 +31,7 @@ invariant_of-self-then-self-len g c =
     record { from = behind_next m.slots walk.done slot (ap (slice_get m.slots) (sym below) ∙ found.there) }
 
 pub returns-in_ok-slot : goal.returns-in_ok-slot
+unfolding IsKeyed
 returns-in_ok-slot g c =
     let walk = c.args.self.now in
     let m = walk.map.now in
@@ -36,6 +40,11 @@ returns-in_ok-slot g c =
     let below : slots_below walk.next m.slots ≡ walk.done = ap (λ n. slots_below n m.slots) walk.from ∙ found.rises walk.done (omega (arith, c.if-self-len.true, c.len.ensures.len, found.own.as_many)) in
     let there : slice_get m.slots walk.done ≡ Some slot = ap (slice_get m.slots) (sym below) ∙ found.there in
     let read = place_read m.slots m.items walk.done slot found.own there in
+    let x = c.item_mut.result.now in
+    let at = c.item_mut.ensures.value in
+    let key = g.T.IdHashItem.key in
+    let input = g.T.Key.Hash.hash_input in
+    let hash = hash_under g.S.BuildHasher g.S.Hasher.Hasher in
     let next : slot + 1 ≡ behind m.slots (walk.done + 1) = behind_next m.slots walk.done slot there in (
       ap (λ q. inl (
         c.item_mut.result.ghost_name,
@@ -59,6 +68,8 @@ returns-in_ok-slot g c =
         writes_back = tt;
         value = sym c.item_mut.ensures.value ∙ read.item;
         found = (λ _. omega (arith, c.if-self-len.true, c.len.ensures.len), λ _. refl);
+        keyed = λ keyed w same. subst (λ items. IsKeyed key g.T.Key.PartialEq.eq input hash (record m { items = items })) (read.written w) (keyed_written key input hash m keyed slot x w at g.met.T.Key.Eq.laws g.met.T.Key.Hash.respects_eq same);
+        keyed_akin = λ keyed w akin. subst (λ items. IsKeyed key g.T.Key.PartialEq.eq input hash (record m { items = items })) (read.written w) (keyed_akin_written key input hash m keyed slot x w at g.met.T.Key.Eq.laws g.met.T.Key.Hash.respects_eq akin);
       },
     )
 
@@ -70,6 +81,8 @@ returns-else-self-len g c =
         writes_back = tt;
         value = sym (slice_get_past (walk.map.now.items) walk.done (omega (arith, c.if-self-len.false, c.len.ensures.len)));
         found = search rules;
+        keyed = λ _. tt;
+        keyed_akin = λ _. tt;
       },
     )
 

@@ -1,5 +1,40 @@
-use Rattle.std.proofs.Common.{rules}
+use Rattle.std.proofs.Common.{◌+◌, ◌∙◌, arith, inl, refl, rules, subst, sym}
+use Rattle.std.proofs.lemmas.Option.{slice_get_past}
+use Rattle.iddqd_store.specs.Contents.{Ascends}
+use Rattle.iddqd_store.proofs.WrittenLemmas.{akin_key_kept, same_key_kept}
 use Rattle.iddqd_ord.proofs.id_ord_map.iter_mut.IterMut.next.Goals as goal
+
+pub returns-then-at-len : goal.returns-then-at-len
+returns-then-at-len g c =
+    let walk = c.args.self.now in
+    let m = walk.map.now in
+    let slot = c.slot_of-slot.result in
+    let lent = c.item_mut.result in
+    let at = c.item_mut.ensures.value in
+    let written = c.slot_of-slot.ensures.written in
+    let key = g.T.IdOrdItem.key in
+    let cmp = g.T.Key.Ord.cmp in (
+      λ j. inl (lent.ghost_name, λ w. record { map = record walk.map { now = record m { items = written w j } }; done = walk.done + 1 }),
+      record {
+        writes_back = tt;
+        value = sym at ∙ c.slot_of-slot.ensures.item;
+        found = (λ _. omega (arith, c.if-at-len.true, c.len.ensures.len), λ _. refl);
+        keyed = λ sorted w same. subst (Ascends key cmp) (written w) (same_key_kept key m.slots m.items slot lent.now w at cmp same sorted);
+        keyed_akin = λ sorted w akin. subst (Ascends key cmp) (written w) (akin_key_kept key m.slots m.items slot lent.now w at g.met.T.Key.Eq.laws akin g.met.T.Key.Ord.total g.met.T.Key.Ord.matches_eq sorted);
+      },
+    )
+
+pub returns-else-at-len : goal.returns-else-at-len
+returns-else-at-len g c = (
+  refl,
+  record {
+    writes_back = tt;
+    value = sym (slice_get_past c.args.self.now.map.now.items c.args.self.now.done (omega (arith, c.if-at-len.false, c.len.ensures.len)));
+    found = search rules;
+    keyed = λ _. tt;
+    keyed_akin = λ _. tt;
+  },
+)
 
 pub overflow_add-self : goal.overflow_add-self
 overflow_add-self g c = search rules
