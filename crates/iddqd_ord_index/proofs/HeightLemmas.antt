@@ -1,11 +1,11 @@
 -- At four comparisons a level, a search takes at most 4 + 2 d comparisons; and a tree has at most twelve levels.
 use Rattle.std.proofs.Common.{◌≡◌, ℕ, zero, suc, ◌+◌, ◌-◌, ◌*◌, ◌^◌, ◌<◌, ◌≤◌, length, refl, ap, ◌∙◌, inl, inr, arith}
-use Rattle.std.proofs.Math.Nat.{pow-suc, mul-le-mul_right}
+use Rattle.std.proofs.Math.Nat.{pow-suc, pow-le-pow_right, mul-le-mul_right}
 use Rattle.std.proofs.Math.Pow.{pow_mono}
 use Rattle.std.proofs.lemmas.Bool.{cases_lt}
 use Rattle.iddqd_ord_index.specs.Digits.{digits}
-use Rattle.iddqd_ord_index.specs.Shape.{Subtree, IsDense}
-use Rattle.iddqd_ord_index.proofs.DigitLemmas.{digits_least, below_digits_within}
+use Rattle.iddqd_ord_index.specs.Shape.{Subtree, IsDense, most_levels}
+use Rattle.iddqd_ord_index.proofs.DigitLemmas.{below_digits_within}
 
 -- four to a power is at most a bit less than twice six to it
 four_six : (m : ℕ) → 4 ^ m + 1 ≤ 2 * 6 ^ m
@@ -41,5 +41,14 @@ height_bound t d w =
       | inr h ↦ omega (arith, d.low)
     ]
 
-pub height_most : (t : Subtree) → IsDense t → (1 < t.height → 1 ≤ t.width) → length t.slots < 2 ^ 32 → t.height ≤ 17
-height_most t d w lt = omega (arith, height_bound t d w, digits_least 32 (length t.slots) lt)
+-- a tree of more levels holds at least 2 · 6 ^ 12 - 1 slots
+pub higher_holds : (t : Subtree) → IsDense t → (1 < t.height → 1 ≤ t.width) → most_levels < t.height → 4353564671 ≤ length t.slots
+higher_holds t d w lt =
+    omega (arith, many t d (w (omega arith)), pow-le-pow_right {n = 6} (omega arith) {i = most_levels} {j = t.height - 1} (omega arith))
+
+pub height_most : (t : Subtree) → IsDense t → (1 < t.height → 1 ≤ t.width) → length t.slots < 2 ^ 32 → t.height ≤ most_levels
+height_most t d w few =
+    elim (cases_lt most_levels t.height) [
+      | inl h ↦ absurd (omega (arith, higher_holds t d w h))
+      | inr h ↦ h
+    ]

@@ -45,6 +45,10 @@ pub record IsDense (t : Subtree) : Type 0 where
   pub low : 1 ≤ t.height
   pub many : (t.width + 1) * 6 ^ (t.height - 1) ≤ length t.slots + 1
 
+-- a tree has at most so many levels: one of 13 holds more slots than there are numbers of 32 bits (HeightLemmas)
+abbrev pub most_levels : ℕ
+most_levels = 12
+
 -- a branch of a node of height h: one level less, and at least 5 slots in its node
 pub record IsBranch (h : ℕ) (t : Subtree) : Type 0 where
   pub height : t.height + 1 ≡ h

@@ -207,7 +207,7 @@ impl OrdIndex {
         self.root.rename(place.position, new);
     }
 
-    /// Takes every slot out, and gives the memory of the nodes back. It takes none.
+    /// Removes every slot. It drops the nodes of the tree and keeps the unused ones, and does not allocate.
     pub fn clear(&mut self)
         ensures { self.new ≡ record { slots = []; prepared = false } }
     {

@@ -1,6 +1,6 @@
 //! The root of a tree: it rises a level where it is split, and falls one where it has no slot of its own.
 ghost use Rattle.std.specs.Prelude.{◌≡◌, ◌+◌, ◌^◌, ◌<◌, ◌≤◌, length, insert, remove, slice_index};
-ghost use Rattle.iddqd_ord_index.specs.Shape.{IsDense};
+ghost use Rattle.iddqd_ord_index.specs.Shape.{IsDense, most_levels};
 
 use super::node::Node;
 use super::spare::Spare;
@@ -16,7 +16,7 @@ pub(crate) fn add(
     spare: &mut Spare,
 ) -> usize
     requires levels { levels ≡ root.old.height }
-    requires low { levels < 100 }
+    requires low { levels ≤ most_levels }
     requires len { len ≡ length root.old.slots }
     requires place { at ≤ len }
     requires room { len + 1 < 2 ^ 32 }
