@@ -6,6 +6,8 @@ mod checks;
 #[cfg(test)]
 mod hash_index;
 #[cfg(test)]
+mod ord_index;
+#[cfg(test)]
 mod queries;
 #[cfg(test)]
 mod store;

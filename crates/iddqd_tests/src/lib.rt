@@ -22,6 +22,8 @@ mod insertions;
 #[cfg(test)]
 mod limits;
 #[cfg(test)]
+mod loops;
+#[cfg(test)]
 mod queries;
 #[cfg(test)]
 mod visits;
