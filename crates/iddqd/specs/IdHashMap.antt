@@ -3,7 +3,7 @@
 --     differ_from_keyed, default_hash, text_writes      what that tells, and what the default hasher returns
 --     HashItems, held, of_stored_hash      what contracts see of a map
 --     HashInserts, HashKeeps      an item was inserted; nothing has changed but the room, which may have grown
---     HashFills, HashExtends      items were inserted, and all that came were
+--     HashFills      items were inserted
 --     IsEmptyMap, SpareFits, KeepsSpare      no item and no room; the room fits the limit; the spare stays
 --     ends_hash_inserted, ends_hash_extended, lends_nothing      what the map is once the result of such a call is dropped
 --     HaveEqualItems, FindsEqual, CloneHashesAlike      what `eq` returns, and what `clone` asks of the hasher
@@ -16,7 +16,7 @@
 --     WalkKeeps, WalkKeepsAkin, walk_lends      what a step of such a walk leaves
 unfoldable pub use Rattle.iddqd_hash.specs.HashItems.{IsKeyed}
 pub use Rattle.iddqd_hash.specs.HashItems.{HashItems, IsKeyedByText, default_hash, differ_from_keyed, held, of_stored_hash, text_writes}
-pub use Rattle.iddqd_hash.specs.HashMap.{CloneHashesAlike, FindsEqual, HashExtends, HashFills, HashInserts, HashKeeps, HaveEqualItems, IsEmptyMap, KeepsSpare, SpareFits, ends_hash_extended, ends_hash_inserted, lends_nothing}
+pub use Rattle.iddqd_hash.specs.HashMap.{CloneHashesAlike, FindsEqual, HashFills, HashInserts, HashKeeps, HaveEqualItems, IsEmptyMap, KeepsSpare, SpareFits, ends_hash_extended, ends_hash_inserted, lends_nothing}
 pub use Rattle.iddqd_hash.specs.Guard.{guard_follows, item_follows, lends_item, lent_item, lent_map, lent_name, lent_slot, lent_with, rests_at_none, shown_item, shown_map, shown_name, with_item_in}
 pub use Rattle.iddqd_hash.specs.declared.id_hash_map.entry.Entry.TheVariants.{Occupied, Vacant}
 pub use Rattle.iddqd_hash.specs.Entry.{EntryKeeps, EntryKeepsAkin, entry_follows, entry_item, entry_map, entry_name, entry_others, entry_slot, entry_with, rests_if_refused}

@@ -1,6 +1,6 @@
 -- What contracts of an ordered map say, for callers who cite them. That its items ascend by key is `Ascends`, of `Contents`.
 --     OrdInserts, OrdKeeps      an item was inserted; nothing has changed but the room, which may have grown
---     OrdFills, OrdExtends      items were inserted, and all that came were
+--     OrdFills      items were inserted
 --     ends_ord_inserted, ends_ord_extended, lends_nothing      what the map is once the result of such a call is dropped
 --     have_equal_items      what `==` of two maps returns
 --     lent_map, lent_slot, lent_item, lent_name, lent_with      what a guard lends
@@ -10,7 +10,7 @@
 --     EntryKeeps, EntryKeepsAkin, entry_follows, rests_if_refused, rests_without_entry      what an entry leaves
 --     walk_map, walk_name, walk_done, walk_with      what a walk that lends items for writing holds
 --     WalkKeeps, WalkKeepsAkin, walk_lends      what a step of such a walk leaves
-pub use Rattle.iddqd_ord.specs.OrdMap.{OrdExtends, OrdFills, OrdInserts, OrdKeeps, ends_ord_extended, ends_ord_inserted, have_equal_items, lends_nothing}
+pub use Rattle.iddqd_ord.specs.OrdMap.{OrdFills, OrdInserts, OrdKeeps, ends_ord_extended, ends_ord_inserted, have_equal_items, lends_nothing}
 pub use Rattle.iddqd_ord.specs.Guard.{guard_follows, item_follows, lends_item, lent_item, lent_map, lent_name, lent_slot, lent_with, rests_at_none, shown_item, shown_map, shown_name, with_item_in}
 pub use Rattle.iddqd_ord.specs.declared.id_ord_map.entry.Entry.TheVariants.{Occupied, Vacant}
 pub use Rattle.iddqd_ord.specs.Entry.{EntryKeeps, EntryKeepsAkin, entry_follows, entry_item, entry_map, entry_name, entry_others, entry_slot, entry_with, rests_if_refused, rests_without_entry}

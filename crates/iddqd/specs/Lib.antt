@@ -1,3 +1,4 @@
+pub mod Given
 pub mod IdHashMap
 pub mod IdOrdMap
 pub use Rattle.iddqd_core.specs.Adding

@@ -1,12 +1,16 @@
 //! Adding many items to a hash map.
-ghost use Rattle.std.specs.Prelude.{List, IfSome, nat_eq};
-ghost use Rattle.iddqd.specs.Collecting.{AddsAll, IsFirstConflict};
+ghost use Rattle.std.specs.Prelude.{◌≡◌, ◌≤◌, ◌++◌, List, [], IfSome, IsTrue, nat_eq};
+ghost use Rattle.std.specs.String.{string_eq};
+ghost use Rattle.iddqd.specs.Given.{BeginsWith};
+ghost use Rattle.iddqd.specs.Collecting.{AddsAll, IsFirstConflict, OverwritesAll};
+ghost use Rattle.iddqd.specs.Contents.{NoTwoAkin, SameInAnyOrder};
 ghost use Rattle.iddqd.specs.IdHashMap.{IsKeyedByText};
 
 use crate::hash_insertions;
 use iddqd::errors::ExtendUniqueError;
-use iddqd::{IdHashMap, Lookups};
+use iddqd::{IdHashMap, Lookups, MAX_ITEMS};
 use iddqd_writers::items::{Named, Pair};
+use std::alloc::Global;
 use std::hash::BuildHasher;
 
 /// Adds pairs up to the first whose key is there, and shows that one and the one that is there.
@@ -15,7 +19,12 @@ fn add_and_show<S: BuildHasher>(
     pairs: Vec<Pair>,
 ) -> Option<(Pair, Pair)>
     requires keyed { ⟦<IdHashMap<Pair, S> as Lookups>⟧.keyed map.old }
-    ensures conflict { IfSome result (λ shown. (before : List Pair) × IsFirstConflict (λ p. p.key) nat_eq map.old.items before shown.0 shown.1 × AddsAll (λ p. p.key) nat_eq before map.old.items map.new.items) }
+    ensures conflict { IfSome result (λ shown. (before : List Pair)
+        × IsFirstConflict (λ p. p.key) nat_eq map.old.items before shown.0 shown.1
+        × AddsAll (λ p. p.key) nat_eq before map.old.items map.new.items) }
+    ensures given { IfSome result (λ shown. (before : List Pair)
+        × BeginsWith before shown.0 pairs.items
+        × NoTwoAkin (λ p. p.key) nat_eq (map.old.items ++ before)) }
     ensures keyed { ⟦<IdHashMap<Pair, S> as Lookups>⟧.keyed map.new }
 {
     match map.extend_unique(pairs) {
@@ -50,4 +59,63 @@ fn add_in_turn(all: &mut IdHashMap<Named>, items: Vec<Named>) -> bool
         all_added &= hash_insertions::add_named(all, item);
     }
     all_added
+}
+
+/// Adds all items, and tells whether all are in.
+fn add_all(all: &mut IdHashMap<Named>, items: Vec<Named>) -> bool
+    requires keyed { IsKeyedByText (λ x. x.name) all.old }
+    ensures added { IsTrue result → SameInAnyOrder
+        (all.old.items ++ items.items) all.new.items }
+    ensures keyed { IsKeyedByText (λ x. x.name) all.new }
+{
+    match all.extend_unique(items) {
+        Ok(()) => true,
+        Err(_error) => false,
+    }
+}
+
+/// Puts all items in, each in the place of one of its name, and tells whether all are in.
+fn put_all(all: &mut IdHashMap<Named>, items: Vec<Named>) -> bool
+    requires keyed { IsKeyedByText (λ x. x.name) all.old }
+    ensures put { IsTrue result → OverwritesAll (λ x. x.name) string_eq
+        all.old.limit items.items all.old.items all.new.items }
+    ensures keyed { IsKeyedByText (λ x. x.name) all.new }
+{
+    match all.extend(items) {
+        Ok(()) => true,
+        Err(_error) => false,
+    }
+}
+
+/// Collects the items, of each name the last one.
+fn collect(alloc: Global, items: Vec<Named>) -> Option<IdHashMap<Named>>
+    ensures { IfSome result (λ m. OverwritesAll (λ x. x.name) string_eq
+        MAX_ITEMS items.items [] m.items) }
+{
+    match IdHashMap::from_iter(alloc, items) {
+        Ok(map) => Some(map),
+        Err(_error) => None,
+    }
+}
+
+/// Collects the items, if each has a name of its own.
+fn collect_unique(alloc: Global, items: Vec<Named>) -> Option<IdHashMap<Named>>
+    ensures differ { IfSome result (λ _. NoTwoAkin (λ x. x.name) string_eq items.items) }
+    ensures same { IfSome result (λ m. SameInAnyOrder items.items m.items) }
+{
+    match IdHashMap::from_iter_unique(alloc, items) {
+        Ok(map) => Some(map),
+        Err(_error) => None,
+    }
+}
+
+/// Gives back the memory that is not needed for the items, or for eight of them.
+fn trim(all: &mut IdHashMap<Named>) -> bool
+    requires keyed { IsKeyedByText (λ x. x.name) all.old }
+    ensures same { SameInAnyOrder all.old.items all.new.items }
+    ensures closed { all.new.vacant ≡ 0 }
+    ensures lower { all.new.capacity ≤ all.old.capacity }
+    ensures keyed { IsKeyedByText (λ x. x.name) all.new }
+{
+    all.shrink_to(8).is_ok()
 }

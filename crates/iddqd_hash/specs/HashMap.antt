@@ -4,7 +4,7 @@
 --     KeepsSpare      the spare stays (SpareStays of the core)
 --     HashInserts      the item was put in
 --     HashKeeps      nothing has changed but the room, which may have grown
---     HashFills, HashExtends      items were put in, and all that came were
+--     HashFills      items were inserted
 --     HaveEqualItems      what `eq` of two maps says
 --     CloneHashesAlike      a hasher's clone hashes as it does
 use Rattle.std.specs.Prelude.{◌≡◌, ℕ, ◌+◌, ◌≤◌, [], List, length, Bool, true, All, IfErr, IsSomeAnd, Result}
@@ -48,14 +48,6 @@ module _ {S T : Type 0} where
       pub spare : KeepsSpare old new
       pub hasher : new.hasher ≡ old.hasher
 
-    -- all items that came were put in
-    pub record HashExtends {K : Type 0} (key : T → K) (eq : K → K → Bool) (gives : List T → Type 0) (old new : HashItems S T) : Type 0 where
-      pub given : AddsGiven key eq gives old.items new.items
-      pub fills : FillsSlots (held old) (held new)
-      pub keyed : IsKeyed new
-      pub spare : KeepsSpare old new
-      pub hasher : new.hasher ≡ old.hasher
-
 module _ {S T K : Type 0} (key : T → K) (key_eq : K → K → Bool) (eq : T → T → Bool) where
   -- the item's key finds an item that is equal to it
   abbrev pub FindsEqual : HashItems S T → T → Type 0
@@ -86,5 +78,5 @@ lends_nothing S T map result = Lends (the_row T S) unit map result (λ _. map.no
 abbrev pub ends_hash_extended : (S T : RattleType) {K : Type 0} (key : T.Denot → K) (eq : K → K → Bool) (IsKeyed : HashItems S.Denot T.Denot → Type 0) (gives_all : List T.Denot → Type 0) (gives_then : List T.Denot → T.Denot → Type 0) → MutBor (HashItems S.Denot T.Denot) → Result (MutBor unit.Denot) (ExtendUniqueError T.Denot) → Fml
 ends_hash_extended S T key eq IsKeyed gives_all gives_then map result =
     LendsSoOk (the_row T S) unit map result
-    (λ new _. HashExtends IsKeyed key eq gives_all map.now new)
+    (λ new _. AddsGiven key eq gives_all map.now.items new.items × HashFills IsKeyed map.now new)
     (λ new. HashFills IsKeyed map.now new × IfErr result (StopsAdding key eq gives_then (held map.now) (held new)) × IfErr result (OnItemRefused (map.now.spare + length map.now.items ≤ length new.items)))

@@ -3,14 +3,17 @@
 --     collects_last      so does the list of the items of different keys that were inserted
 --     fills_kept, fills_taken, fills_on      what a reservation, one new item, and two calls after one another leave besides the items
 --     overwritten      one item is put in
+--     gives_all, gives_then      an iterator that gave these items, and then none or one more
 --     collected_differ, shows_first      what the items in a map say of those that were collected
 use Rattle.std.proofs.Common.{◌≡◌, ℕ, Bool, List, [], ◌∷◌, ◌++◌, Option, Some, None, IfNone, OnSome, length, nat_eq, refl, sym, ap, ◌∙◌, subst, arith}
 use Rattle.std.proofs.lemmas.List.{length-map}
 use Rattle.std.proofs.lemmas.List.Edits.{length-insert}
 use Rattle.std.proofs.lemmas.List.Sorted.{IsPermutation-cons, IsPermutation-insert, IsPermutation-sym, IsPermutation-to_front, IsPermutation-trans}
+use Rattle.std.proofs.iter.runs.Consumers.{total_runs}
 use Rattle.std.specs.Cmp.{IsEquivalence}
+use Rattle.std.specs.Iterator.{Drains, YieldsThen}
 use Rattle.std.specs.List.{IsDistinct}
-use Rattle.iddqd_store.specs.Collecting.{IsFirstRepeat, OverwritesAll, ShowsAkin, ShowsFirstRepeat}
+use Rattle.iddqd_store.specs.Collecting.{GivesAll, GivesThen, IsFirstRepeat, OverwritesAll, ShowsAkin, ShowsFirstRepeat}
 use Rattle.iddqd_store.specs.Contents.{AddsItem, NoTwoAkin, OverwritesItem, SameInAnyOrder, find_item, replaced}
 use Rattle.iddqd_store.specs.Holding.{FillsSlots, Holding, KeepsItems, TakesItem}
 use Rattle.iddqd_store.specs.SlotItems.{HaveSlots}
@@ -28,6 +31,13 @@ collects_last x xs items new same added =
     IsPermutation-trans (xs ++ x ∷ []) (x ∷ xs) new (IsPermutation-to_front xs x)
     (IsPermutation-trans (x ∷ xs) (x ∷ items) new (IsPermutation-cons x xs items same)
     (subst (λ l. SameInAnyOrder (x ∷ items) l) (sym added.put) (IsPermutation-insert items added.place x)))
+
+pub gives_all : {U S T : Type 0} (becomes : U → S → Type 0) (steps : S → Option T → S → Type 0) (iter : U) (xs : List T) → (it : S) × becomes iter it × Drains steps it xs → GivesAll becomes steps iter xs
+gives_all becomes steps iter xs gave = (gave.0, gave.1, total_runs steps gave.0 Unit (λ ys. ys ≡ xs) (xs, (λ _. gave.2), refl) tt)
+
+pub gives_then : {U S T : Type 0} (becomes : U → S → Type 0) (steps : S → Option T → S → Type 0) (iter : U) (xs : List T) (x : T) → (it : S) × (rest : S) × becomes iter it × YieldsThen steps it xs (Some x) rest → GivesThen becomes steps iter xs x
+unfolding GivesThen
+gives_then becomes steps iter xs x gave = gave
 
 module _ {T K : Type 0} (key : T → K) {eq : K → K → Bool} (equivalence : IsEquivalence eq) (xs items : List T) (same : SameInAnyOrder xs items) (differ : NoTwoAkin key eq items) where
   pub collected_differ : NoTwoAkin key eq xs

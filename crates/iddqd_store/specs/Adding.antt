@@ -20,10 +20,8 @@ use Rattle.iddqd_store.specs.declared.halts.Halt.TheVariants.{Akin, NoRoom}
 -- gives tells which items came before one
 module _ {T K : Type 0} (key : T → K) (eq : K → K → Bool) where
   -- all items that came are in
-  pub record AddsGiven (gives : List T → Type 0) (old new : List T) : Type 0 where
-    pub items : List T
-    pub came : gives items
-    pub adds : AddsAll key eq items old new
+  abbrev pub AddsGiven : (gives : List T → Type 0) (old new : List T) → Type 0
+  AddsGiven gives old new = (items : List T) × gives items × AddsAll key eq items old new
 
   -- the first conflict is shown: its item as new, and the one that is there alone as its duplicate
   abbrev pub ShowsFirstConflict : (gives : List T → T → Type 0) (old : List T) → ExtendUniqueError T → Type 0

@@ -8,7 +8,8 @@
 --     IsFirstConflict      the first item that is akin to one that is there by then, and that one (ours)
 --     ShowsAkin      one step of it
 use Rattle.std.specs.Prelude.{◌≡◌, ℕ, ◌+◌, ◌/◌, ◌==◌, if◌then◌else◌, Bool, List, [], ◌∷◌, ◌++◌, Option, Some}
-use Rattle.std.specs.Iterator.{Drains, YieldsThen}
+use Rattle.std.specs.Iterator.{YieldsThen}
+use Rattle.std.specs.Iterator.Runs.{WholeRun}
 use Rattle.iddqd_store.specs.Contents.{NoTwoAkin, OverwritesItem, SameInAnyOrder, find_item}
 use Rattle.iddqd_store.specs.Errors.{new_item_of, duplicates_of}
 use Rattle.iddqd_store.specs.declared.errors.FromIterError.{FromIterError}
@@ -20,9 +21,10 @@ likely_new there coming = if there == 0 then coming else (coming + 1) / 2
 
 module _ {U S T : Type 0} (becomes : U → S → Type 0) (steps : S → Option T → S → Type 0) where
   abbrev pub GivesAll : U → List T → Type 0
-  GivesAll iter xs = (it : S) × becomes iter it × Drains steps it xs
+  GivesAll iter xs = (it : S) × becomes iter it × WholeRun steps it (λ run. run.items ≡ xs)
 
-  abbrev pub GivesThen : U → List T → T → Type 0
+  -- closed, so that a caller's search takes it whole
+  unfoldable pub GivesThen : U → List T → T → Type 0
   GivesThen iter xs x = (it : S) × (rest : S) × becomes iter it × YieldsThen steps it xs (Some x) rest
 
 module _ {T K : Type 0} (key : T → K) (eq : K → K → Bool) where

@@ -3,7 +3,7 @@ use Rattle.std.proofs.iter.Next.{on}
 use Rattle.std.proofs.lemmas.Result.{err_from_is_err_and}
 use Rattle.iddqd_store.specs.Collecting.{AddsAll, GivesThen}
 use Rattle.iddqd_store.proofs.AddingLemmas.{adds_last, adds_none, halts_adding}
-use Rattle.iddqd_store.proofs.CollectingLemmas.{fills_kept, fills_on, fills_taken}
+use Rattle.iddqd_store.proofs.CollectingLemmas.{fills_kept, fills_on, fills_taken, gives_all, gives_then}
 use Rattle.iddqd_hash.specs.HashItems.{held, IsKeyed}
 use Rattle.iddqd_hash.proofs.id_hash_map.IdHashMap.add_each.Goals as goal
 
@@ -60,7 +60,7 @@ returns-in_err-add g c =
     let gives = GivesThen g.U.IntoIterator.into_iter_gives g.U.IntoIter.Iterator.next_gives c.args.iter in
     rw back.1 (record {
       added = tt;
-      halted = halts_adding g.T.IdHashItem.key g.met.T.Key.Eq.laws gives (held old) (held c.loop-item.self) (held c.add.new.self) c.loop-item.yielded inv.2 inv.3.fills.limit stopped.kept.keeps c.in-Some.item (search rules) _ (rw back.2 stopped.halted);
+      halted = halts_adding g.T.IdHashItem.key g.met.T.Key.Eq.laws gives (held old) (held c.loop-item.self) (held c.add.new.self) c.loop-item.yielded inv.2 inv.3.fills.limit stopped.kept.keeps c.in-Some.item (gives_then g.U.IntoIterator.into_iter_gives g.U.IntoIter.Iterator.next_gives c.args.iter c.loop-item.yielded c.in-Some.item (search rules)) _ (rw back.2 stopped.halted);
       spare_first = search rules;
       fills = search rules;
     })
@@ -70,7 +70,7 @@ unfolding IsKeyed
 returns g c =
     let inv = c.loop-item.invariant in
     record {
-      added = search rules;
+      added = (c.loop-item.yielded, gives_all g.U.IntoIterator.into_iter_gives g.U.IntoIter.Iterator.next_gives c.args.iter c.loop-item.yielded (search rules), inv.2);
       halted = tt;
       spare_first = tt;
       fills = inv.3;

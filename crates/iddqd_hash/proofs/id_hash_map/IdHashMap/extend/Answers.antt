@@ -1,7 +1,7 @@
 use Rattle.std.proofs.Common.{subst, ap, arith, ◌∙◌, length, rules}
 use Rattle.std.proofs.iter.Next.{on}
 use Rattle.iddqd_store.specs.Contents.{OverwritesItem}
-use Rattle.iddqd_store.proofs.CollectingLemmas.{fills_kept, fills_on, overwrites_last, overwritten}
+use Rattle.iddqd_store.proofs.CollectingLemmas.{fills_kept, fills_on, gives_all, gives_then, overwrites_last, overwritten}
 use Rattle.iddqd_store.specs.Hashing.{hash_under}
 use Rattle.iddqd_hash.specs.HashItems.{held, IsKeyed, Keyed}
 use Rattle.iddqd_hash.proofs.CollectLemmas.{overwritten_hasher}
@@ -56,7 +56,7 @@ returns-in-Err-insert_overwrite g c =
     let kept = told.kept in
     record {
       taken = tt;
-      stopped = search rules;
+      stopped = (let gave = gives_then g.U.IntoIterator.into_iter_gives g.U.IntoIter.Iterator.next_gives c.args.iter c.loop-item.yielded c.in-Some.item (search rules) in search rules);
       spare_first = omega (arith, inv.4.never_less, told.no_spare, ap length kept.keeps.items);
       not_begun = tt;
       fills = fills_on (held c.args.self.now) (held c.loop-item.self) (held c.insert_overwrite.new.self) inv.3 (fills_kept (held c.loop-item.self) (held c.insert_overwrite.new.self) inv.3.slots kept.keeps);
@@ -70,7 +70,7 @@ unfolding IsKeyed
 returns g c =
     let inv = c.loop-item.invariant in
     record {
-      taken = search rules;
+      taken = (c.loop-item.yielded, gives_all g.U.IntoIterator.into_iter_gives g.U.IntoIter.Iterator.next_gives c.args.iter c.loop-item.yielded (search rules), inv.2);
       stopped = tt;
       spare_first = tt;
       not_begun = tt;

@@ -5,7 +5,7 @@ use Rattle.iddqd_store.specs.Collecting.{AddsAll, GivesThen}
 use Rattle.iddqd_store.specs.Holding.{KeepsItems}
 use Rattle.iddqd_store.specs.Query.{differ_from_ascends}
 use Rattle.iddqd_store.proofs.AddingLemmas.{adds_last, adds_none, halts_adding}
-use Rattle.iddqd_store.proofs.CollectingLemmas.{fills_kept, fills_on, fills_taken}
+use Rattle.iddqd_store.proofs.CollectingLemmas.{fills_kept, fills_on, fills_taken, gives_all, gives_then}
 use Rattle.iddqd_ord.proofs.id_ord_map.IdOrdMap.add_each.Goals as goal
 
 pub loop-item-init : goal.loop-item-init
@@ -62,7 +62,7 @@ returns-in_err-add g c =
     let gives = GivesThen g.U.IntoIterator.into_iter_gives g.U.IntoIter.Iterator.next_gives c.args.iter in
     rw back.1 (record {
       added = tt;
-      halted = halts_adding g.T.IdOrdItem.key g.met.T.Key.Eq.laws gives old between new c.loop-item.yielded inv.2 inv.3.fills.limit stopped.kept.keeps c.in-Some.item (search rules) _ (rw back.2 stopped.halted);
+      halted = halts_adding g.T.IdOrdItem.key g.met.T.Key.Eq.laws gives old between new c.loop-item.yielded inv.2 inv.3.fills.limit stopped.kept.keeps c.in-Some.item (gives_then g.U.IntoIterator.into_iter_gives g.U.IntoIter.Iterator.next_gives c.args.iter c.loop-item.yielded c.in-Some.item (search rules)) _ (rw back.2 stopped.halted);
       fills = record { fills = fills_on old between new inv.3.fills (fills_kept between new inv.3.fills.slots stopped.kept.keeps); keyed = stopped.kept.keyed };
     })
 
@@ -70,7 +70,7 @@ pub returns : goal.returns
 returns g c =
     let inv = c.loop-item.invariant in
     record {
-      added = search rules;
+      added = (c.loop-item.yielded, gives_all g.U.IntoIterator.into_iter_gives g.U.IntoIter.Iterator.next_gives c.args.iter c.loop-item.yielded (search rules), inv.2);
       halted = tt;
       fills = inv.3;
     }

@@ -2,7 +2,7 @@ use Rattle.std.proofs.Common.{ap, subst, rules}
 use Rattle.std.proofs.iter.Next.{on}
 use Rattle.iddqd_store.specs.Contents.{OverwritesItem}
 use Rattle.iddqd_store.specs.Holding.{KeepsItems}
-use Rattle.iddqd_store.proofs.CollectingLemmas.{fills_kept, fills_on, overwrites_last, overwritten}
+use Rattle.iddqd_store.proofs.CollectingLemmas.{fills_kept, fills_on, gives_all, gives_then, overwrites_last, overwritten}
 use Rattle.iddqd_ord.proofs.id_ord_map.IdOrdMap.extend.Goals as goal
 
 pub loop-item-preserved : goal.loop-item-preserved
@@ -51,7 +51,7 @@ returns-in-Err-insert_overwrite g c =
     let told = c.in-Err-insert_overwrite.ensures in
     record {
       taken = tt;
-      stopped = search rules;
+      stopped = (let gave = gives_then g.U.IntoIterator.into_iter_gives g.U.IntoIter.Iterator.next_gives c.args.iter c.loop-item.yielded c.in-Some.item (search rules) in search rules);
       not_begun = tt;
       fills = fills_on c.args.self.now between new inv.3 (fills_kept between new inv.3.slots told.kept.keeps);
       keyed = told.keyed;
@@ -61,7 +61,7 @@ pub returns : goal.returns
 returns g c =
     let inv = c.loop-item.invariant in
     record {
-      taken = search rules;
+      taken = (c.loop-item.yielded, gives_all g.U.IntoIterator.into_iter_gives g.U.IntoIter.Iterator.next_gives c.args.iter c.loop-item.yielded (search rules), inv.2);
       stopped = tt;
       not_begun = tt;
       fills = inv.3;
