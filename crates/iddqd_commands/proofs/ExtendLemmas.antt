@@ -35,15 +35,15 @@ use Rattle.iddqd_commands.specs.declared.commands.Reply.TheVariants.{Extended, C
 not_below : {a b : ℕ} → (a < b → ⊥) → b ≤ a
 not_below {a} {b} never = let more : b < suc a = lt_of_not-le never in omega (arith, more)
 
-pub stays_on : {M T : Type 0} (state : M → MapState T) (limit_of : M → ℕ) (rule : MapRule) (IsKeyed : M → Type 0) (old middle new : M) → StaysKeyed state limit_of rule IsKeyed old middle → StaysKeyed state limit_of rule IsKeyed middle new → StaysKeyed state limit_of rule IsKeyed old new
+pub stays_on : {M T K : Type 0} (state : M → MapState T) (limit_of : M → ℕ) (rule : MapRule K) (IsKeyed : M → Type 0) (old middle new : M) → StaysKeyed state limit_of rule IsKeyed old middle → StaysKeyed state limit_of rule IsKeyed middle new → StaysKeyed state limit_of rule IsKeyed old new
 stays_on state limit_of rule IsKeyed old middle new one other = record {
   keyed = other.keyed;
   limit = other.limit ∙ one.limit;
   room = room_on rule (limit_of old) (limit_of middle) (state old) (state middle) (state new) one.limit one.room other.room;
 }
   where
-    room_on : {T : Type 0} (rule : MapRule) (limit between : ℕ) (old middle new : MapState T) → between ≡ limit → KeepsRoom rule limit old middle → KeepsRoom rule between middle new → KeepsRoom rule limit old new
-    room_on Ordered limit between old middle new e a b = (a.0, b.1)
+    room_on : {T K : Type 0} (rule : MapRule K) (limit between : ℕ) (old middle new : MapState T) → between ≡ limit → KeepsRoom rule limit old middle → KeepsRoom rule between middle new → KeepsRoom rule limit old new
+    room_on (Ordered compare) limit between old middle new e a b = (a.0, b.1)
     room_on Hashed limit between old middle new e a b = record { at_least = omega (arith, a.at_least, b.at_least); in_limit = omega (arith, b.in_limit, e) }
 
 module _ {T : Type 0} where
@@ -107,12 +107,12 @@ module _ {T K : Type 0} (key : T → K) {eq : K → K → Bool} (equivalence : I
         let stops = stops_here front rest xs old new x is takes in
         record { stops = stops; first = conflicts_first key equivalence (take (length front) xs) old new stops.taken.added x there found }
 
-    pub spare_first : (rule : MapRule) (xs : List T) (old new : MapState T) → TakesAll key eq limit xs old.items new.items → KeepsRoom rule limit old new → new.spare ≡ 0 → old.spare ≤ length xs
-    spare_first Ordered xs old new takes room none = omega (arith, room.0)
+    pub spare_first : (rule : MapRule K) (xs : List T) (old new : MapState T) → TakesAll key eq limit xs old.items new.items → KeepsRoom rule limit old new → new.spare ≡ 0 → old.spare ≤ length xs
+    spare_first (Ordered compare) xs old new takes room none = omega (arith, room.0)
     spare_first Hashed xs old new takes room none = omega (arith, room.at_least, none, as_many xs old.items new.items takes.added)
 
     -- why the item after those that were put in was not
-    pub refuses_among : (rule : MapRule) (front rest xs : List T) (x : T) → xs ≡ front ++ x ∷ rest → (old middle : MapState T) (new : List T) → new ≡ middle.items → TakesAll key eq limit front old.items middle.items → KeepsRoom rule limit old middle → (e : NotTaken T) → RefusesOne key eq limit middle x e → RefusesAmong key eq limit xs old new e
+    pub refuses_among : (rule : MapRule K) (front rest xs : List T) (x : T) → xs ≡ front ++ x ∷ rest → (old middle : MapState T) (new : List T) → new ≡ middle.items → TakesAll key eq limit front old.items middle.items → KeepsRoom rule limit old middle → (e : NotTaken T) → RefusesOne key eq limit middle x e → RefusesAmong key eq limit xs old new e
     refuses_among rule front rest xs x is old middle new same takes room (Akin back) (itself, y, found) =
         let there : find_item key (eq (key x)) new ≡ Some y = ap (find_item key (eq (key x))) same ∙ found in
         let meets = meets_here front rest xs old.items new x y is (subst (TakesAll key eq limit front old.items) (sym same) takes) there in
@@ -150,7 +150,7 @@ module _ {T K : Type 0} (key : T → K) {eq : K → K → Bool} (equivalence : I
           by (Some x) some none = (counted x some.1 some.2.stops).0
           by None some none = omega (arith, b, n, ap length none.1)
 
-      pub refused_answered : {V : Type 0} (visits : V → T → V × T × Bool) (rule : MapRule) (items : Vec T) → items.items ≡ xs → (item : Option T) (kind : _) → IfSome item (λ x. FitsLikely key eq limit xs old.items × (after : ℕ) × FindsFull key eq limit xs x kind after old new) → IfNone item (RefusesRoom limit (likely_new (length old.items) (length xs)) old kind × (new ≡ old.items)) → Answers key eq visits limit rule (ExtendUnique items) old (Stopped item kind (now - before)) new
+      pub refused_answered : {V : Type 0} (visits : V → T → V × T × Bool) (rule : MapRule K) (items : Vec T) → items.items ≡ xs → (item : Option T) (kind : _) → IfSome item (λ x. FitsLikely key eq limit xs old.items × (after : ℕ) × FindsFull key eq limit xs x kind after old new) → IfNone item (RefusesRoom limit (likely_new (length old.items) (length xs)) old kind × (new ≡ old.items)) → Answers key eq visits limit rule (ExtendUnique items) old (Stopped item kind (now - before)) new
       refused_answered visits rule items is (Some x) kind some none =
           let told = subst (λ m. FindsFull key eq limit xs x kind m old new) (sym (counted x some.1 some.2.stops).1) some.2 in
           (subst (λ zs. FitsLikely key eq limit zs old.items) (sym is) some.0, subst (λ zs. FindsFull key eq limit zs x kind (now - before) old new) (sym is) told)
@@ -170,7 +170,7 @@ module _ {T K : Type 0} (key : T → K) {eq : K → K → Bool} (equivalence : I
     pub added : AddsAll key eq (take after xs) old new
     pub told : ((after ≡ length xs) × (reply ≡ Extended after)) ⊎ ((x y : T) × (slice_get xs after ≡ Some x) × (find_item key (eq (key x)) (old ++ take after xs) ≡ Some y) × (reply ≡ Conflict x (Some y) after))
 
-  module _ {V : Type 0} (visits : V → T → V × T × Bool) (limit : ℕ) (rule : MapRule) (xs : _) (old : MapState T) (new : List T) where
+  module _ {V : Type 0} (visits : V → T → V × T × Bool) (limit : ℕ) (rule : MapRule K) (xs : _) (old : MapState T) (new : List T) where
     pub extended_ends : (reply : Reply T) → Answers key eq visits limit rule (ExtendUnique xs) old reply new → IsUnrefused reply → Ends xs.items old.items reply new
     extended_ends (Extended n) a u = record {
       after = length xs.items;

@@ -1,4 +1,6 @@
+pub mod AscendLemmas
 pub mod ExtendLemmas
+pub mod SameCommandLemmas
 pub mod SameItemsLemmas
 pub mod SameRepliesLemmas
 pub mod StepLemmas

@@ -19,6 +19,7 @@ use Rattle.iddqd_commands.specs.declared.commands.Reply.TheVariants.{Inserted, D
 use Rattle.iddqd.proofs.KeepsLemmas.{differ_filter, differ_insert}
 use Rattle.iddqd.proofs.OrderLemmas.{Tells, differ_moved, find_moved, find_tells}
 use Rattle.iddqd_commands.proofs.ExtendLemmas.{extended_ends, extended_same}
+use Rattle.iddqd_commands.proofs.SameCommandLemmas.{run_of_same}
 use Rattle.iddqd_commands.proofs.SameItemsLemmas.{filter_permutation, differ_replaced}
 
 module _ {T K V : Type 0} (key : T → K) (eq : K → K → Bool) (visits : V → T → V × T × Bool) where
@@ -91,7 +92,7 @@ module _ {T K V : Type 0} (key : T → K) (eq : K → K → Bool) (visits : V �
   put_in : (x : T) (old new : List T) → AddsItem x old new → IsPermutation (x ∷ old) new
   put_in x old new a = subst (λ l. IsPermutation (x ∷ old) l) (sym a.put) (IsPermutation-insert old a.place x)
 
-  module _ (limit : ℕ) (rule : MapRule) (old : MapState T) (new : List T) where
+  module _ (limit : ℕ) (rule : MapRule K) (old : MapState T) (new : List T) where
     unique_plain : (x : T) (reply : Reply T) → Answers key eq visits limit rule (InsertUnique x) old reply new → IsUnrefused reply → IsPlain (InsertUnique x) old.items reply new
     unique_plain x Inserted a u = plain_where (InsertUnique x) old.items None Inserted new a.0 refl (put_in x old.items new a.2)
     unique_plain x (Duplicate back (Some e)) a u = plain_where (InsertUnique x) old.items (Some a.1) (Duplicate back (Some e)) new a.2 (ap₂ (λ b y. Duplicate b (Some y)) a.0 a.3) (now old.items new a.4)
@@ -207,7 +208,7 @@ module _ {T K V : Type 0} (key : T → K) (eq : K → K → Bool) (visits : V �
         },
       )
 
-  module _ (limit1 limit2 : ℕ) (rule1 rule2 : MapRule) (old1 old2 : MapState T) (new1 new2 : List T) (h : HoldSameItems key eq old1.items old2.items) (r s : Reply T) where
+  module _ (limit1 limit2 : ℕ) (rule1 rule2 : MapRule K) (old1 old2 : MapState T) (new1 new2 : List T) (h : HoldSameItems key eq old1.items old2.items) (r s : Reply T) where
     alike_plain : (command : Command T K V) → IsSingle key eq visits command → IsOrderless command → Answers key eq visits limit1 rule1 command old1 r new1 → IsUnrefused r → Answers key eq visits limit2 rule2 command old2 s new2 → IsUnrefused s → (r ≡ s) × HoldSameItems key eq new1 new2
     alike_plain command i o a u b v = step_same command old1.items old2.items r s new1 new2 h (step_plain key eq visits limit1 rule1 old1 new1 command r i o a u) (step_plain key eq visits limit2 rule2 old2 new2 command s i o b v)
 
@@ -225,7 +226,7 @@ module _ {T K V : Type 0} (key : T → K) (eq : K → K → Bool) (visits : V �
     step_alike (ExtendUnique xs) o a u b v =
         extended_same key equivalence xs.items old1.items old2.items r s new1 new2 h (extended_ends key equivalence visits limit1 rule1 xs old1 new1 r a u) (extended_ends key equivalence visits limit2 rule2 xs old2 new2 s b v)
 
-  module _ (limit1 limit2 : ℕ) (rule1 rule2 : MapRule) where
+  module _ (limit1 limit2 : ℕ) (rule1 rule2 : MapRule K) where
     run_same : (commands : List (Command T K V)) (replies1 replies2 : List (Reply T)) (old1 old2 new1 new2 : MapState T) → All IsOrderless commands → HoldSameItems key eq old1.items old2.items → RunUnrefused key eq visits limit1 rule1 old1 commands replies1 new1 → RunUnrefused key eq visits limit2 rule2 old2 commands replies2 new2 → (replies1 ≡ replies2) × HoldSameItems key eq new1.items new2.items
     run_same [] [] [] old1 old2 new1 new2 o h a b = (refl, subst (λ s. HoldSameItems key eq s.items new2.items) (sym a.0) (subst (λ s. HoldSameItems key eq old1.items s.items) (sym b.0) h))
     run_same [] [] (s ∷ ss) old1 old2 new1 new2 o h a b = absurd b.0
@@ -233,9 +234,11 @@ module _ {T K V : Type 0} (key : T → K) (eq : K → K → Bool) (visits : V �
     run_same (c ∷ cs) [] replies2 old1 old2 new1 new2 o h a b = absurd a.0
     run_same (c ∷ cs) (r ∷ rs) [] old1 old2 new1 new2 o h a b = absurd b.0
     run_same (c ∷ cs) (r ∷ rs) (s ∷ ss) old1 old2 new1 new2 o h ((middle1, one1, rest1), u1) ((middle2, one2, rest2), u2) =
-        let first = step_alike limit1 limit2 rule1 rule2 old1 old2 middle1.items middle2.items h r s c (All-head IsOrderless c cs o) one1.answers (All-head IsUnrefused r rs u1) one2.answers (All-head IsUnrefused s ss u2) in
+        let first = step_alike limit1 limit2 rule1 rule2 old1 old2 middle1.items middle2.items h r s c (All-head IsOrderless c cs o) one1.does.answers (All-head IsUnrefused r rs u1) one2.does.answers (All-head IsUnrefused s ss u2) in
         let rest = run_same cs rs ss middle1 middle2 new1 new2 (All-tail IsOrderless c cs o) first.1 (rest1, All-tail IsUnrefused r rs u1) (rest2, All-tail IsUnrefused s ss u2) in
         (ap₂ (λ t ts. t ∷ ts) first.0 rest.0, rest.1)
 
 pub same_replies : {T K V : Type 0} → SameReplies T K V
-same_replies key eq equivalence visits keeps limit1 limit2 rule1 rule2 old1 old2 new1 new2 commands replies1 replies2 o h a b = run_same key eq visits equivalence keeps limit1 limit2 rule1 rule2 commands replies1 replies2 old1 old2 new1 new2 o h a b
+same_replies key eq equivalence visits keeps limit1 limit2 rule1 rule2 old1 old2 new1 new2 commands1 commands2 replies1 replies2 same o h a b =
+    let again = run_of_same key eq visits limit2 rule2 commands1 commands2 same old2 replies2 new2 b.0 in
+    run_same key eq visits equivalence keeps limit1 limit2 rule1 rule2 commands1 replies1 replies2 old1 old2 new1 new2 o h a (again, b.1)

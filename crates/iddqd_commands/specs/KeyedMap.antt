@@ -1,7 +1,7 @@
 -- What the trait `KeyedMap` tells of a map, and what the calls on one leave.
 --     state      the map's items and its spare
 --     limit_of      the most items that it ever holds
---     rule      whether it keeps a spare, and in which order it visits its items
+--     rule      whether it keeps a spare, how its items lie, and in which order it visits them
 --     IsKeyed      its items lie as its lookups expect them
 --     StopsExtension      why not all of many items were put in, and what is in then
 use Rattle.std.specs.Prelude.{◌≡◌, ℕ, Bool, List, length, Some, None, IfErr, IfNone, IfSome, Result}
@@ -16,7 +16,7 @@ use Rattle.iddqd_commands.specs.Step.{MapRule, MapState, FindsFull, FitsLikely, 
 use Rattle.iddqd_commands.specs.declared.keyed_map.extend.NotTaken.{NotTaken}
 use Rattle.iddqd_commands.specs.declared.keyed_map.extend.NotTaken.TheVariants as not_taken
 
-module _ {M T : Type 0} (state : M → MapState T) (limit_of : M → ℕ) (rule : MapRule) (IsKeyed : M → Type 0) where
+module _ {M T K : Type 0} (state : M → MapState T) (limit_of : M → ℕ) (rule : MapRule K) (IsKeyed : M → Type 0) where
   -- what each call leaves, whatever it answers: the map can be searched, under the same limit, and keeps its room
   pub record StaysKeyed (old new : M) : Type 0 where
     pub keyed : IsKeyed new
@@ -36,12 +36,12 @@ module _ {M T : Type 0} (state : M → MapState T) (limit_of : M → ℕ) (rule 
     pub room : LeavesRoom rule (limit_of old) 0 (state old) (state new)
 
   -- the item was put in where its key was absent and the map was not full
-  pub record InsertsItem {K : Type 0} (key : T → K) (eq : K → K → Bool) (x : T) (old new : M) : Type 0 where
+  pub record InsertsItem (key : T → K) (eq : K → K → Bool) (x : T) (old new : M) : Type 0 where
     pub inserted : OverwritesItem key eq x (limit_of old) (state old).items None (state new).items
     pub stays : StaysKeyed old new
 
 -- what the map is once what an insertion shows is let go: at `Ok` the item is in; at `Err` the items are as they were, and beside a duplicate all is
-abbrev pub ends_inserted : (M : RattleType) {T K : Type 0} (state : M.Denot → MapState T) (limit_of : M.Denot → ℕ) (rule : MapRule) (IsKeyed : M.Denot → Type 0) (key : T → K) (eq : K → K → Bool) → MutBor M.Denot → Result (MutBor unit.Denot) (InsertionError T) → T → Fml
+abbrev pub ends_inserted : (M : RattleType) {T K : Type 0} (state : M.Denot → MapState T) (limit_of : M.Denot → ℕ) (rule : MapRule K) (IsKeyed : M.Denot → Type 0) (key : T → K) (eq : K → K → Bool) → MutBor M.Denot → Result (MutBor unit.Denot) (InsertionError T) → T → Fml
 ends_inserted M state limit_of rule IsKeyed key eq map result x =
     LendsSoOk M unit map result
     (λ new _. InsertsItem state limit_of rule IsKeyed key eq x map.now new)
@@ -64,7 +64,7 @@ module _ {T K : Type 0} (key : T → K) (eq : K → K → Bool) (limit : ℕ) wh
   RefusesAmong xs old new (not_taken.Refused r) = (after : ℕ) × FindsFull key eq limit xs r.item r.error after old new
 
 -- what the map is once what an extension shows is let go: at `Ok` all items are in; at `Err` the error tells why not all are, and which
-abbrev pub ends_extended : (M : RattleType) {T K : Type 0} (state : M.Denot → MapState T) (limit_of : M.Denot → ℕ) (rule : MapRule) (IsKeyed : M.Denot → Type 0) (key : T → K) (eq : K → K → Bool) → MutBor M.Denot → Result (MutBor unit.Denot) (ExtendUniqueError T) → List T → Fml
+abbrev pub ends_extended : (M : RattleType) {T K : Type 0} (state : M.Denot → MapState T) (limit_of : M.Denot → ℕ) (rule : MapRule K) (IsKeyed : M.Denot → Type 0) (key : T → K) (eq : K → K → Bool) → MutBor M.Denot → Result (MutBor unit.Denot) (ExtendUniqueError T) → List T → Fml
 ends_extended M state limit_of rule IsKeyed key eq map result xs =
     LendsSoOk M unit map result
     (λ new _. StaysKeyed state limit_of rule IsKeyed map.now new × FitsLikely key eq (limit_of map.now) xs (state map.now).items × TakesAll key eq (limit_of map.now) xs (state map.now).items (state new).items)

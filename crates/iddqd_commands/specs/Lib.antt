@@ -1,3 +1,4 @@
 pub mod KeyedMap
+pub mod OrderedSteps
 pub mod SameReplies
 pub mod Step

@@ -1,6 +1,7 @@
 -- What a map answers to a command, and what it holds then (the crate's calls). No pair of a command and a reply occurs but those with a case of their own.
 --     MapState      the items of a map, and its spare: how many new items it takes without a refusal
---     MapRule      what the two kinds of map differ in: whether a map keeps a spare, and in which order it visits its items
+--     MapRule      what the two kinds of map differ in: whether a map keeps a spare, how its items lie, and in which order it visits them
+--     LieByRule      how the items of such a map lie
 --     room_left, LeavesRoom      how much room a command leaves at least to a map that keeps a spare
 --     MakesRoom, RefusesRoom      room is made, or refused
 --     IsVisitOrder      in which order the items of a map are visited
@@ -8,10 +9,11 @@
 --     TakesAll, StopsAt      items are put in one after the other; so many are, and the next one is not
 --     MeetsAkin, FindsFull      why it is not
 --     Answers      what a command is answered, and the items then
---     Step, Run      one command and its reply; a list of commands and their replies
+--     Does, Step, Run      one command and its reply; with how the items lie; a list of commands and their replies
+use Rattle.std.specs.declared.cmp.Ordering.{Ordering}
 use Rattle.std.specs.Prelude.{◌≡◌, ℕ, ◌+◌, ◌/◌, ◌<◌, ◌≤◌, ◌==◌, if◌then◌else◌, max, Bool, List, [], ◌∷◌, length, take, slice_get, Option, Some, None, IfSome}
 use Rattle.iddqd.specs.Collecting.{AddsAll, IsFirstConflict, likely_new}
-use Rattle.iddqd.specs.Contents.{find_item, IsAbsent, replaced, SameInAnyOrder, without, OverwritesItem}
+use Rattle.iddqd.specs.Contents.{Ascends, find_item, IsAbsent, NoTwoAkin, replaced, SameInAnyOrder, without, OverwritesItem}
 use Rattle.iddqd.specs.Visiting.{kept_by, visitor_after}
 use Rattle.iddqd.specs.Refusal.{FindsNoRoom, RefusalKind, memory_refused, reservation_kind}
 use Rattle.iddqd_commands.specs.declared.commands.Command.{Command}
@@ -24,9 +26,14 @@ pub record MapState (T : Type 0) : Type 0 where
   pub spare : ℕ
 
 -- an ordered map visits its items in the order in which it has them, and its spare is 0 throughout; a hash map visits its items in any order, keeps a spare, and loses room by a shrink alone (`reserve`; the number is ours)
-pub data MapRule : Type 0 where
-  Ordered : MapRule
-  Hashed : MapRule
+pub data MapRule (K : Type 0) : Type 0 where
+  Ordered : (compare : K → K → Ordering) → MapRule K
+  Hashed : MapRule K
+
+-- the items of an ordered map ascend strictly by key, and of a hash map no two have equal keys
+abbrev pub LieByRule : {T K : Type 0} → (T → K) → (K → K → Bool) → MapRule K → List T → Type 0
+LieByRule key eq (Ordered compare) items = Ascends key compare items
+LieByRule key eq Hashed items = NoTwoAkin key eq items
 
 -- a map with these items that keeps no spare
 abbrev pub spareless : {T : Type 0} → List T → MapState T
@@ -42,17 +49,17 @@ pub record HasRoom {T : Type 0} (limit least : ℕ) (m : MapState T) : Type 0 wh
   pub in_limit : room_of m ≤ limit
 
 -- after a call that may lower the room to so much, and no further
-abbrev pub LeavesRoom : {T : Type 0} → MapRule → (limit least : ℕ) → (old new : MapState T) → Type 0
-LeavesRoom Ordered limit least old new = (old.spare ≡ 0) × (new.spare ≡ 0)
+abbrev pub LeavesRoom : {T K : Type 0} → MapRule K → (limit least : ℕ) → (old new : MapState T) → Type 0
+LeavesRoom (Ordered compare) limit least old new = (old.spare ≡ 0) × (new.spare ≡ 0)
 LeavesRoom Hashed limit least old new = HasRoom limit least new
 
 -- what a call that only reads tells of the room: it fits the limit
-abbrev pub FitsRoom : {T : Type 0} → MapRule → (limit : ℕ) → MapState T → Type 0
-FitsRoom Ordered limit m = m.spare ≡ 0
+abbrev pub FitsRoom : {T K : Type 0} → MapRule K → (limit : ℕ) → MapState T → Type 0
+FitsRoom (Ordered compare) limit m = m.spare ≡ 0
 FitsRoom Hashed limit m = room_of m ≤ limit
 
 -- after a call that lowers no room
-abbrev pub KeepsRoom : {T : Type 0} → MapRule → (limit : ℕ) → (old new : MapState T) → Type 0
+abbrev pub KeepsRoom : {T K : Type 0} → MapRule K → (limit : ℕ) → (old new : MapState T) → Type 0
 KeepsRoom rule limit old new = LeavesRoom rule limit (room_of old) old new
 
 -- how much room there is at least after a command: a reservation makes it, a shrink may give all of it back, and no other command lowers it
@@ -62,7 +69,7 @@ room_left Shrink _ old = 0
 room_left _ _ old = room_of old
 
 -- there is room for so many more items: the limit has it, and a map that keeps a spare has so much (`reserve`)
-pub record MakesRoom {T : Type 0} (rule : MapRule) (limit n : ℕ) (old new : MapState T) : Type 0 where
+pub record MakesRoom {T K : Type 0} (rule : MapRule K) (limit n : ℕ) (old new : MapState T) : Type 0 where
   pub in_limit : length old.items + n ≤ limit
   pub room : LeavesRoom rule limit (length old.items + n) old new
 
@@ -101,8 +108,8 @@ module _ {T K : Type 0} (key : T → K) (eq : K → K → Bool) (limit : ℕ) wh
     pub spare_first : old.spare ≤ after
 
 -- the order in which a map with these items visits them
-abbrev pub IsVisitOrder : {T : Type 0} → MapRule → (items order : List T) → Type 0
-IsVisitOrder Ordered items order = order ≡ items
+abbrev pub IsVisitOrder : {T K : Type 0} → MapRule K → (items order : List T) → Type 0
+IsVisitOrder (Ordered compare) items order = order ≡ items
 IsVisitOrder Hashed items order = SameInAnyOrder items order
 
 module _ {T K V : Type 0} (key : T → K) (visits : V → T → V × T × Bool) where
@@ -111,10 +118,10 @@ module _ {T K V : Type 0} (key : T → K) (visits : V → T → V × T × Bool) 
   VisitsItem test v w answer old new = (x y : T) × (find_item key test old ≡ Some x) × (visits v x ≡ (w, y, answer)) × (new ≡ replaced key test y old)
 
   -- each item is visited once, in the order in which the map visits them, and those answered true stay (`retain_mut`, ours)
-  abbrev pub RetainsVisited : MapRule → (old_visitor new_visitor : V) → (old new : List T) → Type 0
+  abbrev pub RetainsVisited : MapRule K → (old_visitor new_visitor : V) → (old new : List T) → Type 0
   RetainsVisited rule v w old new = (order : List T) × IsVisitOrder rule old order × (w ≡ visitor_after visits v order) × (new ≡ kept_by visits v order)
 
-module _ {T K V : Type 0} (key : T → K) (eq : K → K → Bool) (visits : V → T → V × T × Bool) (limit : ℕ) (rule : MapRule) where
+module _ {T K V : Type 0} (key : T → K) (eq : K → K → Bool) (visits : V → T → V × T × Bool) (limit : ℕ) (rule : MapRule K) where
   -- what each command is answered, and the items then; no other pair of a command and a reply occurs
   abbrev pub Answers : Command T K V → MapState T → Reply T → List T → Type 0
   -- the item is put in where its key is absent and the map is not full
@@ -152,9 +159,14 @@ module _ {T K V : Type 0} (key : T → K) (eq : K → K → Bool) (visits : V �
   Answers _ _ _ _ = ⊥
 
   -- one command: the reply and the items then, and the room that is left
-  pub record Step (old : MapState T) (command : Command T K V) (reply : Reply T) (new : MapState T) : Type 0 where
+  pub record Does (old : MapState T) (command : Command T K V) (reply : Reply T) (new : MapState T) : Type 0 where
     pub answers : Answers command old reply new.items
     pub room : LeavesRoom rule limit (room_left command reply old) old new
+
+  -- the same, and the items then lie as the map keeps them
+  pub record Step (old : MapState T) (command : Command T K V) (reply : Reply T) (new : MapState T) : Type 0 where
+    pub does : Does old command reply new
+    pub lie : LieByRule key eq rule new.items
 
   -- a reply for each command, in order, each from where the one before ended
   abbrev pub Run : MapState T → List (Command T K V) → List (Reply T) → MapState T → Type 0

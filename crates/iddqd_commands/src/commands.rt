@@ -2,7 +2,7 @@
 use iddqd::errors::TryReserveError;
 
 /// One call on a map of items `T` with keys `K`, where visitors are a `V` (ours).
-#[derive(Debug, PartialEq, Eq, Drop)]
+#[derive(Clone, Debug, PartialEq, Eq, Drop)]
 pub enum Command<T, K, V> {
     /// `insert_unique`.
     InsertUnique(T),

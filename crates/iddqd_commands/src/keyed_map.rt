@@ -5,7 +5,7 @@ ghost use Rattle.iddqd.specs.Contents.{NoTwoAkin, OverwritesItem, find_item, wit
 ghost use Rattle.iddqd.specs.Refusal.{OnRefused, RefusesInsertion, memory_refused};
 ghost use Rattle.iddqd_commands.specs.KeyedMap.{ShrinksMap, StaysKeyed, ends_extended, ends_inserted};
 ghost use Rattle.iddqd.specs.Visiting.{VisitsKeepKeys};
-ghost use Rattle.iddqd_commands.specs.Step.{MapRule, MapState, FitsRoom, MakesRoom, RefusesItem, RefusesRoom, RetainsVisited, VisitsItem};
+ghost use Rattle.iddqd_commands.specs.Step.{MapRule, MapState, FitsRoom, LieByRule, MakesRoom, RefusesItem, RefusesRoom, RetainsVisited, VisitsItem};
 
 mod extend;
 mod hash;
@@ -34,8 +34,8 @@ pub trait KeyedMap {
     // The most items that the map ever holds.
     ghost limit: { Self → ℕ };
 
-    // Whether the map keeps a spare, and in which order it visits its items.
-    ghost rule: { MapRule };
+    // Whether the map keeps a spare, how its items lie, and in which order it visits them.
+    ghost rule: { MapRule Self.Key };
 
     // The items lie as the map's lookups expect them.
     ghost keyed: { Self → Type 0 };
@@ -156,4 +156,7 @@ pub trait KeyedMap {
 
     // No two items of a keyed map are akin.
     ghost differ: { (m : Self) → keyed m → NoTwoAkin key Self.Key.eq (state m).items };
+
+    // The items of a keyed map lie as its rule says.
+    ghost lie: { (m : Self) → keyed m → LieByRule key Self.Key.eq rule (state m).items };
 }

@@ -6,7 +6,7 @@ ghost use Rattle.iddqd.specs.Refusal.{IsLent};
 ghost use Rattle.iddqd.specs.Visiting.{VisitsKeepKeys};
 ghost use Rattle.iddqd_commands.specs.KeyedMap.{StaysKeyed};
 ghost use Rattle.iddqd_commands.specs.declared.commands.Command.TheVariants.{InsertUnique, InsertOverwrite, Get, Visit, RetainMut, Reserve, Shrink, ExtendUnique};
-ghost use Rattle.iddqd_commands.specs.Step.{Answers, FitsRoom, Step, Run};
+ghost use Rattle.iddqd_commands.specs.Step.{Answers, Does, FitsRoom, Run};
 
 use crate::commands::{Command, Reply, RunStop};
 use crate::keyed_map::KeyedMap;
@@ -58,7 +58,7 @@ where
     requires keyed { M.keyed map.old }
     requires clones { ClonesAreEqual M.Item.is_clone }
     requires keeps_keys { VisitsKeepKeys M.key M.Key.eq V.visits }
-    ensures step { Step M.key M.Key.eq V.visits (M.limit map.old) M.rule (M.state map.old) command result (M.state map.new) }
+    ensures does { Does M.key M.Key.eq V.visits (M.limit map.old) M.rule (M.state map.old) command result (M.state map.new) }
     ensures keyed { M.keyed map.new }
     ensures limit { M.limit map.new ≡ M.limit map.old }
 {
@@ -170,7 +170,7 @@ where
 #[tactic(auto, using(crate::proofs::StepLemmas::room_both))]
 fn reserve<M: KeyedMap, V: Visit<M::Item>>(map: &mut M, additional: usize) -> Reply<M::Item>
     requires keyed { M.keyed map.old }
-    ensures step { Step M.key M.Key.eq V.visits (M.limit map.old) M.rule (M.state map.old) (Reserve additional) result (M.state map.new) }
+    ensures does { Does M.key M.Key.eq V.visits (M.limit map.old) M.rule (M.state map.old) (Reserve additional) result (M.state map.new) }
     ensures stays { StaysKeyed M.state M.limit M.rule M.keyed map.old map.new }
 {
     match map.reserve(additional) {
@@ -182,7 +182,7 @@ fn reserve<M: KeyedMap, V: Visit<M::Item>>(map: &mut M, additional: usize) -> Re
 // `Shrink`.
 fn shrink<M: KeyedMap, V: Visit<M::Item>>(map: &mut M) -> Reply<M::Item>
     requires keyed { M.keyed map.old }
-    ensures step { Step M.key M.Key.eq V.visits (M.limit map.old) M.rule (M.state map.old) Shrink result (M.state map.new) }
+    ensures does { Does M.key M.Key.eq V.visits (M.limit map.old) M.rule (M.state map.old) Shrink result (M.state map.new) }
     ensures keyed { M.keyed map.new }
     ensures limit { M.limit map.new ≡ M.limit map.old }
 {

@@ -1,15 +1,19 @@
-//! The rows of insertions as commands, through `run`, on a map of each kind.
+//! The rows of commands, through `run`, on a map of each kind.
+ghost use Rattle.std.specs.Prelude.{nat_eq};
 ghost use Rattle.iddqd.specs.Contents.{ClonesAreEqual};
+ghost use Rattle.iddqd.specs.Visiting.{VisitsKeepKeys};
 
 use crate::checks::check;
 use crate::insertions::{BAR, FOO, OTHER_FOO, wide_item};
 use iddqd::errors::TryReserveError;
-use iddqd::{DefaultHashBuilder, IdHashMap, IdOrdMap};
-use iddqd_commands::{Command, Reply};
-use iddqd_testing::items::{Named, Wide};
-use iddqd_testing::tried::{Commanded, Hashed, Ordered, by_hash, in_order};
+use iddqd::{DefaultHashBuilder, IdHashMap, IdOrdMap, Visit};
+use iddqd_commands::{Command, KeyedMap, Reply, run};
+use iddqd_testing::items::{Named, Numbered, Wide};
+use iddqd_testing::tried::{AskedForRoom, Commanded, Hashed, Ordered, by_hash, in_order};
 use iddqd_testing::visitors::Untouched;
 use std::alloc::{AllocError, Global};
+use std::process::Abort;
+use std::test::Fail;
 
 /// Whether there was memory for the commands, and the map gives these replies to them.
 fn answers_with<T: Clone + PartialEq + Drop, K: Drop, M: Commanded<T, K> + Drop>(
@@ -241,4 +245,118 @@ fn extend_unique_commands(rt: HostRuntime) {
         &rt,
         answers_with(alloc, hashed, full_commands(alloc), &expected),
     );
+}
+
+// Writes to each item how many it has seen before, and keeps the first ones, so many.
+#[derive(Clone, Copy, PartialEq, Eq)]
+struct KeepsFirst {
+    many: u32,
+    seen: u32,
+}
+
+impl Visit<Numbered> for KeepsFirst {
+    ghost use Rattle.std.specs.Prelude.{◌+◌, ◌%◌, ◌^◌, nat_lt};
+
+    ghost visits = { λ v x. (record v { seen = (v.seen + 1) % 2 ^ 32 }, record x { value = v.seen }, nat_lt v.seen v.many) };
+
+    fn visit(&mut self, item: &mut Numbered) -> bool {
+        item.value = self.seen;
+        self.seen = self.seen.wrapping_add(1);
+        item.value < self.many
+    }
+}
+
+fn numbered(number: u32, value: u32) -> Numbered {
+    Numbered { number, value }
+}
+
+// Of three numbers the first two that are visited stay.
+fn first_two_kept<M: KeyedMap<Item = Numbered, Key = u32>>(
+    rt: &impl Abort,
+    alloc: Global,
+    map: &mut M,
+) -> Result<(), Fail>
+    requires keyed { M.keyed map.old }
+    requires keeps_keys { VisitsKeepKeys M.key nat_eq ⟦<KeepsFirst as Visit<Numbered>>⟧.visits }
+    ensures keyed { M.keyed map.new }
+{
+    let commands = Vec::from_array(
+        alloc,
+        [
+            Command::InsertUnique(numbered(3, 30)),
+            Command::InsertUnique(numbered(1, 10)),
+            Command::InsertUnique(numbered(2, 20)),
+            Command::RetainMut(KeepsFirst { many: 2, seen: 0 }),
+        ],
+    )?;
+    let Ok(replies) = run(alloc, map, commands) else {
+        return Err(Fail::from("the commands came back"));
+    };
+    let expected = [
+        Reply::Inserted,
+        Reply::Inserted,
+        Reply::Inserted,
+        Reply::Kept(2),
+    ];
+    check(rt, replies.as_slice() == expected.as_slice());
+    Ok(())
+}
+
+#[test]
+fn retain_mut_by_commands(rt: HostRuntime) -> Result<(), Fail> {
+    let mut map = IdOrdMap::new(rt.alloc());
+    first_two_kept(&rt, rt.alloc(), &mut map)?;
+    check(&rt, map.iter().eq(&[numbered(1, 0), numbered(2, 1)]));
+    Ok(())
+}
+
+// Whether these are two of the numbers 1 to 3, of which one was visited first and the other second.
+fn are_first_two(one: Numbered, other: Numbered) -> bool {
+    let are_of_three = (1..=3).contains(&one.number) && (1..=3).contains(&other.number);
+    are_of_three && one.number != other.number && one.value + other.value == 1
+}
+
+#[test]
+fn hash_retain_mut_by_commands(rt: HostRuntime) -> Result<(), Fail> {
+    let mut map = IdHashMap::new(rt.alloc());
+    first_two_kept(&rt, rt.alloc(), &mut map)?;
+    let mut walk = map.iter();
+    let (one, other) = (walk.next().copied(), walk.next().copied());
+    check(&rt, walk.next().is_none());
+    check(
+        &rt,
+        matches!((one, other), (Some(one), Some(other)) if are_first_two(one, other)),
+    );
+    Ok(())
+}
+
+// A reservation makes room, and a shrink gives back what two items do not need.
+fn room_told<M: Commanded<Named, [u8; 3]> + AskedForRoom>(
+    rt: &impl Abort,
+    alloc: Global,
+    map: &mut M,
+) -> Result<(), Fail> {
+    let commands = [
+        Command::InsertUnique(FOO),
+        Command::InsertUnique(BAR),
+        Command::Reserve(100),
+    ];
+    let Ok(replies) = map.run(alloc, Vec::from_array(alloc, commands)?) else {
+        return Err(Fail::from("the commands came back"));
+    };
+    let expected = [Reply::Inserted, Reply::Inserted, Reply::Done];
+    check(rt, replies.as_slice() == expected.as_slice());
+    check(rt, map.capacity() >= 102);
+    let Ok(replies) = map.run(alloc, Vec::from_array(alloc, [Command::Shrink])?) else {
+        return Err(Fail::from("the commands came back"));
+    };
+    check(rt, replies.as_slice() == [Reply::Done].as_slice());
+    check(rt, map.capacity() < 102);
+    Ok(())
+}
+
+#[test]
+fn room_by_commands(rt: HostRuntime) -> Result<(), Fail> {
+    room_told(&rt, rt.alloc(), &mut in_order(rt.alloc()))?;
+    room_told(&rt, rt.alloc(), &mut by_hash(rt.alloc()))
 }

@@ -26,6 +26,8 @@ impl<T: IdHashItem, S: BuildHasher> KeyedMap for IdHashMap<T, S> {
 
     ghost differ = { differ_from_keyed T.key T.Key.eq T.Key.hash_input (hash_under S.BuildHasher S.Hasher.Hasher) };
 
+    ghost lie = { differ_from_keyed T.key T.Key.eq T.Key.hash_input (hash_under S.BuildHasher S.Hasher.Hasher) };
+
     fn insert_unique(&mut self, item: T) -> Result<&mut (), InsertError<'_, T>> {
         self.insert_unique(item)
     }

@@ -19,11 +19,13 @@ impl<T: IdOrdItem> KeyedMap for IdOrdMap<T> {
 
     ghost limit = { λ m. m.limit };
 
-    ghost rule = { Ordered };
+    ghost rule = { Ordered T.Key.cmp };
 
     ghost keyed = { λ m. Ascends T.key T.Key.cmp m.items };
 
     ghost differ = { λ m ascends. differ_from_ascends T.key T.Key.cmp T.Key.matches_eq m.items ascends };
+
+    ghost lie = { λ m ascends. ascends };
 
     fn insert_unique(&mut self, item: T) -> Result<&mut (), InsertError<'_, T>> {
         self.insert_unique(item)

@@ -1,5 +1,5 @@
 use Rattle.std.proofs.Common.{◌∙◌, ◌++◌, ◌∷◌, [], length-append, arith, subst, sym, rules}
-use Rattle.iddqd_commands.specs.Step.{Step, Run}
+use Rattle.iddqd_commands.specs.Step.{Does, Run, Step}
 use Rattle.iddqd_commands.proofs.StepLemmas.{run_more}
 use Rattle.iddqd_commands.proofs.running.run.Goals as goal
 
@@ -14,7 +14,8 @@ loop-command-preserved g c =
     let middle = g.M.KeyedMap.state c.loop-command.map in
     let last = g.M.KeyedMap.state c.answer.new.map in
     let kept = c.loop-command.invariant in
-    let step = subst (λ n. Step key eq visits n rule middle c.in-Some.command c.answer.result last) kept.limit c.answer.ensures.step in
+    let does = subst (λ n. Does key eq visits n rule middle c.in-Some.command c.answer.result last) kept.limit c.answer.ensures.does in
+    let step : Step key eq visits limit rule middle c.in-Some.command c.answer.result last = record { does = does; lie = g.met.M.KeyedMap.lie c.answer.new.map c.answer.ensures.keyed } in
     let ran = run_more key eq visits rule limit c.loop-command.yielded c.loop-command.replies.items c.in-Some.command c.answer.result first middle last kept.ran step in
     record {
       ran = subst (λ replies. Run key eq visits limit rule first (c.loop-command.yielded ++ c.in-Some.command ∷ []) replies last) (sym c.push_reserved.ensures.items) ran;
