@@ -1,7 +1,7 @@
 -- Lists that ascend by key: their order is told by their elements.
 --     same_ascending      lists of the same elements that ascend are the same
 --     ordered_steps      so a shrink of an ordered map leaves the same list, and an insertion puts the item at its place
-use Rattle.std.proofs.Common.{◌≡◌, ℕ, zero, suc, ◌<◌, ◌≤◌, List, [], ◌∷◌, length, map, get_or, refl, sym, ap, ◌∙◌, subst, arith, inl, inr, ◌⊎◌, ⊎_elim, Ordering, Less, suc-le-suc, IsPermutation}
+use Rattle.std.proofs.Common.{◌≡◌, ℕ, zero, suc, ◌<◌, List, [], ◌∷◌, length, map, get_or, refl, sym, ap, ◌∙◌, subst, arith, inl, inr, ◌⊎◌, ⊎_elim, Ordering, Less, suc-le-suc, IsPermutation}
 use Rattle.std.proofs.Math.Nat.{le_of_suc-le-suc}
 use Rattle.std.proofs.lemmas.List.Sorted.{Contains-permutation, IsPermutation-sym}
 use Rattle.std.specs.Cmp.{IsTotalOrder}
@@ -11,7 +11,7 @@ use Rattle.std.specs.Ordering.{ordering_reverse}
 use Rattle.iddqd.specs.Contents.{Ascends}
 use Rattle.iddqd.proofs.PlacedLemmas.{added_placed}
 use Rattle.iddqd_commands.specs.OrderedSteps.{OrderedSteps}
-use Rattle.iddqd_commands.specs.Step.{Answers, MapState, Ordered}
+use Rattle.iddqd_commands.specs.Step.{Answers, Ordered}
 use Rattle.iddqd_commands.specs.declared.commands.Command.TheVariants.{Shrink}
 use Rattle.iddqd_commands.specs.declared.commands.Reply.{Reply}
 use Rattle.iddqd_commands.specs.declared.commands.Reply.TheVariants.{Done, Refused}

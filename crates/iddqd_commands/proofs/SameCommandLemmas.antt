@@ -1,7 +1,7 @@
 -- The same commands, as clones are, are answered alike.
 --     run_of_same      a run of commands is one of the same commands
 --     clones_are_same      clones of commands are the same commands
-use Rattle.std.proofs.Common.{◌≡◌, ℕ, Bool, List, [], ◌∷◌, length, Option, Some, None, subst}
+use Rattle.std.proofs.Common.{◌≡◌, ℕ, Bool, List, [], ◌∷◌, length, Some, None, subst}
 use Rattle.std.specs.Global.{Vec}
 use Rattle.std.specs.List.{AllZip}
 use Rattle.std.specs.Prelude.{IfSome}

@@ -11,7 +11,7 @@
 --     Answers      what a command is answered, and the items then
 --     Does, Step, Run      one command and its reply; with how the items lie; a list of commands and their replies
 use Rattle.std.specs.declared.cmp.Ordering.{Ordering}
-use Rattle.std.specs.Prelude.{◌≡◌, ℕ, ◌+◌, ◌/◌, ◌<◌, ◌≤◌, ◌==◌, if◌then◌else◌, max, Bool, List, [], ◌∷◌, length, take, slice_get, Option, Some, None, IfSome}
+use Rattle.std.specs.Prelude.{◌≡◌, ℕ, ◌+◌, ◌<◌, ◌≤◌, max, Bool, List, [], ◌∷◌, length, take, slice_get, Option, Some, None, IfSome}
 use Rattle.iddqd.specs.Collecting.{AddsAll, IsFirstConflict, likely_new}
 use Rattle.iddqd.specs.Contents.{Ascends, find_item, IsAbsent, NoTwoAkin, replaced, SameInAnyOrder, without, OverwritesItem}
 use Rattle.iddqd.specs.Visiting.{kept_by, visitor_after}
