@@ -15,4 +15,5 @@ mod ord_guards;
 mod ord_insertions;
 mod ord_walks;
 mod registry;
+mod runs;
 mod sums;

@@ -53,9 +53,15 @@ fn run_both(
 {
     laws::same_replies::<Pair, u32, Sets>();
     laws::clones_are_same::<Pair, u32, Sets>();
-    let clones = commands.clone().ok()?;
-    let of_hashed = run(alloc, hashed, commands).ok()?;
-    let of_ordered = run(alloc, ordered, clones).ok()?;
+    let Ok(clones) = commands.clone() else {
+        return None;
+    };
+    let Ok(of_hashed) = run(alloc, hashed, commands) else {
+        return None;
+    };
+    let Ok(of_ordered) = run(alloc, ordered, clones) else {
+        return None;
+    };
     Some(BothReplies {
         hashed: of_hashed,
         ordered: of_ordered,

@@ -1,4 +1,5 @@
 //! Laws of the definitions that contracts cite. They run nothing.
+ghost use Rattle.std.specs.List.{AllZip};
 ghost use Rattle.iddqd.specs.Contents.{ClonesAreEqual};
 ghost use Rattle.iddqd_commands.specs.OrderedSteps.{OrderedSteps};
 ghost use Rattle.iddqd_commands.specs.SameReplies.{SameCommand, SameReplies};
@@ -17,7 +18,7 @@ pub fn same_replies<T, K, V>()
 /// made of (ours).
 pub fn clones_are_same<T: Clone, K: Clone, V: Clone>()
     ensures { ClonesAreEqual T.is_clone → ClonesAreEqual K.is_clone → ClonesAreEqual V.is_clone
-        → (one other : _) → ⟦<Command<T, K, V> as Clone>⟧.is_clone one other → SameCommand one other }
+        → (ones others : _) → AllZip ⟦<Command<T, K, V> as Clone>⟧.is_clone ones others → AllZip SameCommand ones others }
 {}
 
 /// A shrink of an ordered map leaves the list of its items as it was, refused or not, and an insertion puts the item at its place.
