@@ -313,7 +313,8 @@ fn retain_mut_by_commands(rt: HostRuntime) -> Result<(), Fail> {
 // Whether these are two of the numbers 1 to 3, of which one was visited first and the other second.
 fn are_first_two(one: Numbered, other: Numbered) -> bool {
     let are_of_three = (1..=3).contains(&one.number) && (1..=3).contains(&other.number);
-    are_of_three && one.number != other.number && one.value + other.value == 1
+    let are_in_turn = matches!((one.value, other.value), (0, 1) | (1, 0));
+    are_of_three && one.number != other.number && are_in_turn
 }
 
 #[test]
