@@ -1,6 +1,6 @@
 //! A key that counts its own comparisons shows the number that `Steps` shows, so no comparison goes past it.
 use crate::checks::check;
-use iddqd::{IdHashItem, IdHashMap, IdOrdItem, Steps};
+use iddqd::{IdHashItem, IdHashMap, IdOrdItem};
 use iddqd_testing::counted::Outcome;
 use iddqd_testing::counting::{CountingKey, Tallied};
 use iddqd_testing::hashers::ZeroHasher;
@@ -11,7 +11,7 @@ use std::hash::{BuildHasher, BuildHasherDefault, FoldHasher};
 use std::test::Fail;
 
 // So many items, of every second number from the first on.
-fn tallied(
+pub(crate) fn tallied(
     alloc: Global,
     first: u32,
     count: u32,
@@ -28,7 +28,7 @@ fn tallied(
 }
 
 // How many comparisons the keys have counted since they were last asked.
-fn since(compared: &Cell<u32>) -> u32 {
+pub(crate) fn since(compared: &Cell<u32>) -> u32 {
     let count = compared.get();
     compared.set(0);
     count
@@ -227,46 +227,5 @@ fn plain_calls_keep_the_bound(rt: HostRuntime) -> Result<(), Fail> {
         let most = most_of_numbers(rt.alloc(), count, &compared)?.ok_or("a call went wrong")?;
         check(&rt, most <= bound);
     }
-    Ok(())
-}
-
-// A lookup that walks the items and counts, and that compares the item that it finds once more, past its steps.
-fn find_past_steps<T: IdOrdItem>(map: &Ordered<T>, key: &T::Key) -> Outcome {
-    let mut steps = Steps::new();
-    let mut is_done = false;
-    for item in map.iter() {
-        if steps.equal(key, item.key()) && item.key() == key {
-            is_done = true;
-        }
-    }
-    Outcome {
-        is_done,
-        steps: steps.count(),
-    }
-}
-
-// Whether the wrong lookup answers rightly of each item in a map of them, and its steps are never the comparisons.
-fn past_steps<T: IdOrdItem + Copy>(alloc: Global, items: &[T], compared: &Cell<u32>) -> bool {
-    let mut map = in_order(alloc);
-    let _ = are_put(&mut map, items, compared);
-    for item in items {
-        let outcome = find_past_steps(&map, item.key());
-        if !outcome.is_done || outcome.steps == since(compared) {
-            return false;
-        }
-    }
-    true
-}
-
-fn past_steps_of_numbers(alloc: Global, compared: &Cell<u32>) -> Result<bool, AllocError> {
-    let items = tallied(alloc, 0, 12, compared)?;
-    Ok(past_steps(alloc, items.as_slice(), compared))
-}
-
-// The wrong lookup answers rightly, and is told by the count of its keys.
-#[test]
-fn compares_past_steps(rt: HostRuntime) -> Result<(), Fail> {
-    let compared = Cell::new(0);
-    check(&rt, past_steps_of_numbers(rt.alloc(), &compared)?);
     Ok(())
 }

@@ -2,11 +2,15 @@
 #![tactic(auto)]
 
 #[cfg(test)]
+mod alike;
+#[cfg(test)]
 mod checks;
 #[cfg(test)]
 mod counting;
 #[cfg(test)]
 mod numbers;
+#[cfg(test)]
+mod plain;
 #[cfg(test)]
 mod rows;
 #[cfg(test)]

@@ -19,9 +19,13 @@ pub enum Added<T> {
 /// A map of either kind, by its calls on many items.
 pub trait Bulk<T>: Sized {
     /// `from_iter`.
-    fn collected(alloc: Global, items: Vec<T>) -> Result<Self, TryReserveError>
+    fn collected<U: IntoIterator<Item = T>>(
+        alloc: Global,
+        items: U,
+    ) -> Result<Self, TryReserveError>
     where
-        T: Drop;
+        T: Drop,
+        requires ends { IsFiniteIterable U.into_iter_gives U.IntoIter.can_next U.IntoIter.remaining items };
 
     /// `from_iter_unique`.
     fn collected_unique<U: IntoIterator<Item = T>>(
@@ -40,7 +44,10 @@ pub trait Bulk<T>: Sized {
 }
 
 impl<T: IdOrdItem> Bulk<T> for Ordered<T> {
-    fn collected(alloc: Global, items: Vec<T>) -> Result<Ordered<T>, TryReserveError>
+    fn collected<U: IntoIterator<Item = T>>(
+        alloc: Global,
+        items: U,
+    ) -> Result<Ordered<T>, TryReserveError>
     where
         T: Drop,
     {
@@ -66,7 +73,10 @@ impl<T: IdOrdItem> Bulk<T> for Ordered<T> {
 }
 
 impl<T: IdHashItem, S: BuildHasher + Default + Drop> Bulk<T> for Hashed<T, S> {
-    fn collected(alloc: Global, items: Vec<T>) -> Result<Hashed<T, S>, TryReserveError>
+    fn collected<U: IntoIterator<Item = T>>(
+        alloc: Global,
+        items: U,
+    ) -> Result<Hashed<T, S>, TryReserveError>
     where
         T: Drop,
     {
