@@ -1,6 +1,10 @@
 //! The texts of errors.
 use crate::checks::check;
+use iddqd::IdOrdMap;
 use iddqd::errors::{DuplicateItem, Few, TryReserveError};
+use iddqd::internal::ValidateCompact;
+use iddqd_testing::items::Numbered;
+use iddqd_testing::tried::is_put;
 use std::test::Fail;
 
 #[test]
@@ -44,5 +48,47 @@ fn duplicates_in_a_list(rt: HostRuntime) -> Result<(), Fail> {
         &rt,
         two.to_string(alloc)?.as_str() == "new item: 'n' conflicts with existing: ['a', 'b']",
     );
+    Ok(())
+}
+
+// The two kinds of refusal differ, and each equals itself.
+#[test]
+fn kinds_differ(rt: HostRuntime) {
+    let full = TryReserveError::capacity_overflow();
+    let no_memory = TryReserveError::alloc_error();
+    check(&rt, full != no_memory && no_memory != full);
+    check(&rt, full == full && no_memory == no_memory);
+}
+
+// As derived: the names of the fields, each with its value.
+#[test]
+fn duplicate_for_debugging(rt: HostRuntime) -> Result<(), Fail> {
+    let duplicate = DuplicateItem::internal_new(5, Few::One(7));
+    let text = format!(in rt.alloc(); "{duplicate:?}")?;
+    let expected = "DuplicateItem { new: 5, duplicates: One(7) }";
+    check(&rt, text.as_str() == expected);
+    Ok(())
+}
+
+// The error of a map whose one item is gone.
+#[test]
+fn text_of_vacant_slots(rt: HostRuntime) -> Result<(), Fail> {
+    let mut map = IdOrdMap::new(rt.alloc());
+    check(
+        &rt,
+        is_put(
+            &mut map,
+            Numbered {
+                number: 1,
+                value: 1,
+            },
+        ),
+    );
+    check(&rt, map.remove(&1).is_some());
+    let Err(error) = map.validate(ValidateCompact::Compact) else {
+        return Err(Fail::from("a slot is vacant"));
+    };
+    let text = error.to_string(rt.alloc())?;
+    check(&rt, text.as_str() == "there are vacant slots");
     Ok(())
 }

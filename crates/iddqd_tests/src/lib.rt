@@ -12,6 +12,8 @@ mod collecting;
 #[cfg(test)]
 mod commands;
 #[cfg(test)]
+mod drops;
+#[cfg(test)]
 mod ends;
 #[cfg(test)]
 mod entries;

@@ -3,7 +3,7 @@ use crate::checks::check;
 use crate::insertions::{BAR, FOO, OTHER_FOO};
 use iddqd::errors::TryReserveError;
 use iddqd::{DefaultHashBuilder, IdHashMap, IdOrdMap};
-use iddqd_testing::items::Named;
+use iddqd_testing::items::{Named, Numbered};
 use iddqd_testing::tried::{
     AskedByKey, AskedForRoom, AskedToInsert, Hashed, Inserted, Ordered, by_hash, in_order,
 };
@@ -83,13 +83,14 @@ fn limit_four(rt: HostRuntime) {
     );
 }
 
-// With memory at hand a map is made with the room that is asked for.
+// With memory at hand a map is made with the room that is asked for, and with no more in the store.
 #[test]
 fn made_with_room(rt: HostRuntime) -> Result<(), Fail> {
     let ordered: IdOrdMap<Named> = IdOrdMap::with_capacity(rt.alloc(), 100)?;
-    check(&rt, ordered.capacity() >= 100);
+    check(&rt, ordered.capacity() == 100);
     let hashed: IdHashMap<Named> = IdHashMap::with_capacity(rt.alloc(), 100)?;
-    check(&rt, hashed.spare() >= 100);
+    check(&rt, hashed.capacity() == 100);
+    check(&rt, hashed.spare() >= 100 && hashed.spare() < 200);
     Ok(())
 }
 
@@ -98,27 +99,26 @@ fn has_both<M: AskedByKey<Item = Named, Key = [u8; 3]>>(map: &M) -> bool {
     map.get(b"foo") == Some(&FOO) && map.get(b"bar") == Some(&BAR)
 }
 
-// Shrinks a map that was made with room for 100. The least room that is left after each shrink is told apart.
+// Shrinks a map that was made with room for 100. The store keeps room for what is asked for or there, and for no more. How
+// much room is left for ten at least is told apart.
 fn shrunk<M: AskedByKey<Item = Named, Key = [u8; 3]> + AskedForRoom + Drop>(
     rt: &impl Abort,
     mut map: M,
     room_of_ten: usize,
 ) {
     check(rt, map.is_put(FOO) && map.is_put(BAR));
-    let capacity = map.capacity();
-    check(rt, capacity >= 100);
     check(rt, map.shrink_to(usize::MAX) == Ok(()));
     check(
         rt,
-        map.capacity() == capacity && map.vacant() == 0 && has_both(&map),
+        map.capacity() == 100 && map.vacant() == 0 && has_both(&map),
     );
-    check(rt, map.shrink_to(10) == Ok(()));
-    check(
-        rt,
-        map.capacity() >= 10 && map.room() >= room_of_ten && has_both(&map),
-    );
+    for min in [60, 10] {
+        check(rt, map.shrink_to(min) == Ok(()));
+        check(rt, map.capacity() == min && has_both(&map));
+    }
+    check(rt, map.room() >= room_of_ten);
     check(rt, map.shrink_to(0) == Ok(()));
-    check(rt, map.capacity() >= 2 && has_both(&map));
+    check(rt, map.capacity() == 2 && has_both(&map));
 }
 
 #[test]
@@ -144,4 +144,31 @@ fn of_nothing<M: AskedByKey<Item = Named, Key = [u8; 3]> + AskedForRoom + Drop>(
 fn empty_map(rt: HostRuntime) {
     of_nothing(&rt, in_order(rt.alloc()));
     of_nothing(&rt, by_hash(rt.alloc()));
+}
+
+// Room for ten is full but for four vacant slots. They serve a reservation of four, and four of a reservation of fourteen.
+fn reserves_beside_vacant<M: AskedByKey<Item = Numbered, Key = u32> + AskedForRoom + Drop>(
+    rt: &impl Abort,
+    mut map: M,
+) {
+    for number in 0..10 {
+        check(rt, map.is_put(Numbered { number, value: 0 }));
+    }
+    for number in 3..7 {
+        check(rt, map.remove(&number).is_some());
+    }
+    check(rt, map.capacity() == 10 && map.vacant() == 4);
+    check(rt, map.reserve(4) == Ok(()));
+    check(rt, map.capacity() == 10);
+    check(rt, map.reserve(14) == Ok(()));
+    check(rt, map.capacity() == 20);
+}
+
+#[test]
+fn reserve_beside_vacant_slots(rt: HostRuntime) -> Result<(), Fail> {
+    let ordered = IdOrdMap::with_capacity(rt.alloc(), 10)?;
+    reserves_beside_vacant(&rt, Ordered::new(ordered));
+    let hashed = IdHashMap::with_capacity(rt.alloc(), 10)?;
+    reserves_beside_vacant(&rt, Hashed::new(hashed));
+    Ok(())
 }
