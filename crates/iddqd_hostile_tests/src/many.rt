@@ -224,3 +224,22 @@ fn numbers_after_a_removal(rt: HostRuntime) {
     count_the_one_left!(rt, hashed);
     check(&rt, hashed.spare() >= 1);
 }
+
+// Six hundred thousand items go in, more than 65,536 groups of nine hold.
+fn go_in_by_number<M: AskedByKey<Item = Numbered, Key = u32> + Drop>(rt: &impl Abort, mut map: M) {
+    for number in 0..600_000 {
+        check(rt, map.is_put(numbered(number)));
+    }
+    check(rt, map.len() == 600_000);
+    check(rt, map.get(&599_999) == Some(&numbered(599_999)));
+}
+
+#[test]
+fn six_hundred_thousand_in_order(rt: HostRuntime) {
+    go_in_by_number(&rt, in_order(rt.alloc()));
+}
+
+#[test]
+fn six_hundred_thousand_by_hash(rt: HostRuntime) {
+    go_in_by_number(&rt, by_hash(rt.alloc()));
+}
