@@ -5,10 +5,11 @@
      ARM bytes   from here on requests are counted, and the one numbered REFUSE_AT (of the environment) is refused
      END bytes   the count ends; the request is granted (by a block of one byte, which is not to be touched) exactly where
                  one was refused since it began
+     LEAK bytes  granted likewise exactly where more or fewer blocks are held than when the count began
 
-   Without this heap both are refused, so the same test learns that it met no refusal. What happens is written to the file
-   descriptor REFUSE_TELLS (of the environment), a line each: 'armed', 'refused', 'ended'. The five functions below are the
-   C library's calls by which the tests' heap asks for memory; free stays as it is. No header is needed. */
+   Without this heap all three are refused, so the same test learns that it met no refusal. What happens is written to the file
+   descriptor REFUSE_TELLS (of the environment), a line each: 'armed', 'refused', 'ended'. The functions below
+   are the C library's calls by which the tests' heap asks for memory and gives it back. No header is needed. */
 
 typedef unsigned long size;
 
@@ -19,11 +20,14 @@ extern long write(int, const void *, size);
 
 #define ARM ((size)1 << 48)
 #define END (((size)1 << 49) + 1)
+#define LEAK (((size)1 << 49) + 2)
 #define NEXT ((void *)-1) /* dlsym's RTLD_NEXT: the C library's function of the name */
 #define OUT_OF_MEMORY 12  /* ENOMEM, which posix_memalign answers */
 
 static size left; /* how many requests there are up to the one to refuse; 0: none is counted */
 static int met;   /* whether one was refused since the count began */
+static long held; /* how many blocks were given out and not taken back */
+static long held_first; /* how many of them there were when the count began */
 
 static size given(const char *name) {
     const char *number = getenv(name);
@@ -37,6 +41,7 @@ static void tell(const char *line, size length) {
 static void *arm(void) {
     left = given("REFUSE_AT");
     met = 0;
+    held_first = held;
     tell("armed\n", 6);
     return 0;
 }
@@ -49,6 +54,12 @@ static int refuses(void) {
     return 1;
 }
 
+/* Counts the block that the C library gave, if it gave one. */
+static void *counted(void *block) {
+    if (block) held++;
+    return block;
+}
+
 void *malloc(size bytes) {
     static void *(*next)(size);
     if (!next) next = (void *(*)(size))dlsym(NEXT, "malloc");
@@ -56,31 +67,44 @@ void *malloc(size bytes) {
     if (bytes == END) {
         left = 0;
         tell("ended\n", 6);
-        return met ? next(1) : 0;
+        return met ? counted(next(1)) : 0;
     }
-    return refuses() ? 0 : next(bytes);
+    if (bytes == LEAK) return held != held_first ? counted(next(1)) : 0;
+    return refuses() ? 0 : counted(next(bytes));
+}
+
+void free(void *block) {
+    static void (*next)(void *);
+    if (!next) next = (void (*)(void *))dlsym(NEXT, "free");
+    if (block) held--;
+    next(block);
 }
 
 void *realloc(void *block, size bytes) {
     static void *(*next)(void *, size);
     if (!next) next = (void *(*)(void *, size))dlsym(NEXT, "realloc");
-    return refuses() ? 0 : next(block, bytes);
+    if (refuses()) return 0;
+    void *moved = next(block, bytes);
+    return block ? moved : counted(moved);
 }
 
 void *calloc(size count, size bytes) {
     static void *(*next)(size, size);
     if (!next) next = (void *(*)(size, size))dlsym(NEXT, "calloc");
-    return refuses() ? 0 : next(count, bytes);
+    return refuses() ? 0 : counted(next(count, bytes));
 }
 
 void *aligned_alloc(size alignment, size bytes) {
     static void *(*next)(size, size);
     if (!next) next = (void *(*)(size, size))dlsym(NEXT, "aligned_alloc");
-    return refuses() ? 0 : next(alignment, bytes);
+    return refuses() ? 0 : counted(next(alignment, bytes));
 }
 
 int posix_memalign(void **block, size alignment, size bytes) {
     static int (*next)(void **, size, size);
     if (!next) next = (int (*)(void **, size, size))dlsym(NEXT, "posix_memalign");
-    return refuses() ? OUT_OF_MEMORY : next(block, alignment, bytes);
+    if (refuses()) return OUT_OF_MEMORY;
+    int error = next(block, alignment, bytes);
+    if (!error) held++;
+    return error;
 }

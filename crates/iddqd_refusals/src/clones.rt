@@ -2,8 +2,9 @@
 use crate::maps::{fill, holds};
 use crate::words::tell;
 use iddqd::errors::TryReserveError;
-use iddqd_testing::heap::{arm, is_met};
+use iddqd_testing::heap::{arm, has_leaked, is_met};
 use iddqd_testing::items::Numbered;
+use iddqd_testing::kept::Kept;
 use iddqd_testing::tried::{AskedByKey, AskedForRoom, Hashed, Ordered, by_hash, in_order};
 use std::alloc::Global;
 use std::test::Fail;
@@ -58,4 +59,89 @@ fn clone(rt: HostRuntime) -> Result<(), Fail> {
 fn hash_clone(rt: HostRuntime) -> Result<(), Fail> {
     let map = by_hash(rt.alloc());
     tell(&rt, clone_by_hash(rt.alloc(), map))
+}
+
+// What an item shows that has memory of its own.
+fn shown(kept: &Kept) -> (u32, u32) {
+    (kept.name, *kept.value)
+}
+
+// Puts in four items, each of whose clones asks for memory.
+fn fill_with_kept<M: AskedByKey<Item = Kept, Key = u32>>(
+    alloc: Global,
+    map: &mut M,
+) -> Result<(), Fail> {
+    for name in 0..4u32 {
+        let value = Box::new(alloc, name + 5)?;
+        if !map.is_put(Kept { name, value }) {
+            return Err(Fail::from("an item is not in"));
+        }
+    }
+    Ok(())
+}
+
+// Whether the map is sound and has those four, and no other.
+fn holds_kept<M: AskedByKey<Item = Kept, Key = u32> + AskedForRoom>(map: &M) -> bool {
+    for name in 0..4u32 {
+        if map.get(&name).map(shown) != Some((name, name + 5)) {
+            return false;
+        }
+    }
+    map.len() == 4 && map.is_sound()
+}
+
+// Whether what was copied is whole, or was refused because a request was. It is dropped.
+fn is_copy<M: AskedByKey<Item = Kept, Key = u32> + AskedForRoom + Drop>(
+    copy: Result<M, TryReserveError>,
+    is_met: bool,
+) -> bool {
+    match copy {
+        Ok(copy) => !is_met && holds_kept(&copy),
+        Err(error) => is_met && !error.is_capacity_overflow(),
+    }
+}
+
+// The word for a copy of those four that is dropped: the map is as it was, and no memory is held that was not held before.
+fn row_of_kept<M: AskedByKey<Item = Kept, Key = u32> + AskedForRoom + Drop>(
+    alloc: Global,
+    map: &M,
+    copy: Result<M, TryReserveError>,
+) -> Result<&'static str, Fail> {
+    let is_met = is_met(alloc);
+    if !is_copy(copy, is_met) || !holds_kept(map) || has_leaked(alloc) {
+        return Err(Fail::from("the copy differs, was refused for nothing, or holds memory on"));
+    }
+    Ok(if is_met { "nothing_made" } else { "cloned" })
+}
+
+fn clone_kept_in_order(alloc: Global, map: &mut Ordered<Kept>) -> Result<&'static str, Fail> {
+    fill_with_kept(alloc, map)?;
+    arm(alloc);
+    let copy = match map.copied() {
+        Ok(copy) => Ok(Ordered::new(copy)),
+        Err(error) => Err(error),
+    };
+    row_of_kept(alloc, map, copy)
+}
+
+fn clone_kept_by_hash(alloc: Global, map: &mut Hashed<Kept>) -> Result<&'static str, Fail> {
+    fill_with_kept(alloc, map)?;
+    arm(alloc);
+    let copy = match map.copied() {
+        Ok(copy) => Ok(Hashed::new(copy)),
+        Err(error) => Err(error),
+    };
+    row_of_kept(alloc, map, copy)
+}
+
+#[test]
+fn clone_of_kept(rt: HostRuntime) -> Result<(), Fail> {
+    let mut map = in_order(rt.alloc());
+    tell(&rt, clone_kept_in_order(rt.alloc(), &mut map))
+}
+
+#[test]
+fn hash_clone_of_kept(rt: HostRuntime) -> Result<(), Fail> {
+    let mut map = by_hash(rt.alloc());
+    tell(&rt, clone_kept_by_hash(rt.alloc(), &mut map))
 }

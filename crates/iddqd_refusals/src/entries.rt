@@ -107,7 +107,8 @@ fn is_back(answer: &Put) -> bool {
     }
 }
 
-// Fills the map with so many names, and then tries the insertion of a new one with a request refused: the word for what was seen.
+// Fills the map with so many names, so that no slot is vacant, and then tries the insertion of a new one with a request refused: the word
+// for what was seen.
 fn insertion<M: AskedByKey<Item = Coarse, Key = Caseless> + AskedForRoom + Listed<Coarse>>(
     alloc: Global,
     map: &mut M,
@@ -123,8 +124,8 @@ fn insertion<M: AskedByKey<Item = Coarse, Key = Caseless> + AskedForRoom + Liste
     if is_shown(&answer) && !is_met {
         return Ok("inserted");
     }
-    let is_kept = is_back(&answer) && holds(map, names) && map.lists(walk.as_slice());
-    if is_met && is_kept && is_shown(&call.put(map, new_item())) {
+    let is_kept = holds(map, names) && map.lists(walk.as_slice()) && map.vacant() == 0;
+    if is_met && is_kept && is_back(&answer) && is_shown(&call.put(map, new_item())) {
         return Ok("entry_refused");
     }
     Err(Fail::from("the map or the item is not as it was, or an item was refused for nothing"))

@@ -18,14 +18,14 @@ fn walks(map: &Ordered<Numbered>, end: u32) -> bool {
 }
 
 // Puts in the number after those that are there, and answers whether it was refused. Then it comes back, the walk has still
-// those before it, and now it goes in.
+// those before it, no slot is vacant, and now it goes in.
 fn grow(map: &mut Ordered<Numbered>, number: u32) -> Result<bool, Fail> {
     let new = Numbered { number, value: 5 };
     match map.insert(new) {
         Inserted::Done => Ok(false),
         Inserted::Refused(item, error) => {
             let is_back = item == new && !error.is_capacity_overflow();
-            let is_kept = walks(map, number) && map.is_sound();
+            let is_kept = walks(map, number) && map.vacant() == 0 && map.is_sound();
             if is_back && is_kept && map.insert(item) == Inserted::Done {
                 return Ok(true);
             }

@@ -21,7 +21,9 @@ const BAR: Named = Named {
 fn put_at_last<M: AskedToInsert<Named>>(map: &mut M, item: Named) -> Option<bool> {
     match map.insert(item) {
         Inserted::Done => Some(false),
-        Inserted::Refused(_, _) if map.insert(item) == Inserted::Done => Some(true),
+        Inserted::Refused(back, _) if back == item && map.insert(item) == Inserted::Done => Some(
+            true,
+        ),
         _ => None,
     }
 }

@@ -13,9 +13,13 @@ mod entries;
 #[cfg(test)]
 mod errors;
 #[cfg(test)]
+mod full;
+#[cfg(test)]
 mod growth;
 #[cfg(test)]
 mod hints;
+#[cfg(test)]
+mod leaks;
 #[cfg(test)]
 mod lines;
 #[cfg(test)]
@@ -26,5 +30,7 @@ mod maps;
 mod reservations;
 #[cfg(test)]
 mod rooms;
+#[cfg(test)]
+mod walks;
 #[cfg(test)]
 mod words;

@@ -107,27 +107,18 @@ fn hash_lines(rt: HostRuntime) -> Result<(), Fail> {
     tell(&rt, row_of_lines(rt.alloc(), Kind::Hash))
 }
 
-// How many lines of the text say that memory was refused.
-fn refused_lines(text: &[u8]) -> usize {
-    text.split(|byte| *byte == b'\n')
-        .filter(|line| *line == b"refused memory".as_slice())
-        .count()
-}
-
-// The name of the row that four lines are answered by: some were refused, or all were answered, or nothing was written.
+// The row that four lines are answered by: one was refused, or all were answered, or nothing was written.
 fn row_of_served(alloc: Global, kind: Kind) -> Result<&'static str, Fail> {
-    let (text, outcome, is_met) = served(alloc, kind, b"put a 1\nadd b 2\nput c 3\nlen\n")?;
-    let lines = text.iter().filter(|byte| **byte == b'\n').count();
-    match outcome {
-        Ok(refusals) if refused_lines(text.as_slice()) as u64 == refusals && lines == 4 => {
-            if (refusals > 0) != is_met {
-                return Err(Fail::from("a refusal is not told, or none was met"));
-            }
-            Ok(if is_met { "lines_refused" } else { "answered" })
-        }
-        Err(Fault::Memory) if is_met && text.is_empty() => Ok("no_memory"),
-        _ => Err(Fail::from("the answer is no row")),
-    }
+    let lines = b"put a 1\nadd b 2\nput c 3\nlen\n";
+    let (text, outcome, is_met) = served(alloc, kind, lines)?;
+    let rows = [
+        answered("answered", b"new\nadded\nnew\n3\n"),
+        refused("line_refused", b"refused memory\nadded\nnew\n2\n"),
+        refused("line_refused", b"new\nrefused memory\nnew\n2\n"),
+        refused("line_refused", b"new\nadded\nrefused memory\n2\n"),
+        NO_MEMORY,
+    ];
+    Ok(row_of(&rows, text.as_slice(), outcome, is_met).ok_or("the answer is no row")?)
 }
 
 #[test]
@@ -147,13 +138,11 @@ fn row_of_list(alloc: Global) -> Result<&'static str, Fail> {
     let rows = [
         answered("listed", b"added\nadded\nlist 2 a=2 b=1\n2\n"),
         refused("list_refused", b"added\nadded\nrefused memory\n2\n"),
+        refused("item_refused", b"refused memory\nadded\nlist 1 a=2\n1\n"),
+        refused("item_refused", b"added\nrefused memory\nlist 1 b=1\n1\n"),
         NO_MEMORY,
     ];
-    let row = row_of(&rows, text.as_slice(), outcome, is_met);
-    if row.is_none() && is_met && outcome == Ok(1) && refused_lines(text.as_slice()) == 1 {
-        return Ok("item_refused");
-    }
-    Ok(row.ok_or("the answer is no row")?)
+    Ok(row_of(&rows, text.as_slice(), outcome, is_met).ok_or("the answer is no row")?)
 }
 
 // Memory to put the entries of a hash map in order is refused in some run, and the line that asks for the list says so.
@@ -184,4 +173,73 @@ fn added_pairs(rt: HostRuntime) -> Result<(), Fail> {
 #[test]
 fn hash_added_pairs(rt: HostRuntime) -> Result<(), Fail> {
     tell(&rt, row_of_added(rt.alloc(), Kind::Hash))
+}
+
+// One name, and twenty more that are added at once: more than there is room for then, so that room is refused to one of them when
+// others are in.
+const MANY: &[u8] =
+    b"add z 0\naddall a 1 b 2 c 3 d 4 e 5 f 6 g 7 h 8 i 9 j 10 k 11 l 12 m 13 n 14 o 15 p 16 q 17 r 18 s 19 t 20\nlen\n";
+
+// Whether the text says that the second line was refused, and that so many names are in.
+fn says_some_added(alloc: Global, text: &[u8], len: u32) -> Result<bool, Fail> {
+    let wanted = format!(in alloc; "added\nrefused memory\n{len}\n")?;
+    Ok(text == wanted.as_bytes())
+}
+
+// The row that those lines are answered by.
+fn row_of_many(alloc: Global, kind: Kind) -> Result<&'static str, Fail> {
+    let (text, outcome, is_met) = served(alloc, kind, MANY)?;
+    let text = text.as_slice();
+    for len in 2..21 {
+        if is_met && outcome == Ok(1) && says_some_added(alloc, text, len)? {
+            return Ok("some_added");
+        }
+    }
+    let rows = [
+        answered("added", b"added\nadded 20\n21\n"),
+        refused("first_refused", b"refused memory\nadded 20\n20\n"),
+        refused("none_added", b"added\nrefused memory\n1\n"),
+        NO_MEMORY,
+    ];
+    Ok(row_of(&rows, text, outcome, is_met).ok_or("the answer is no row")?)
+}
+
+#[test]
+fn many_pairs(rt: HostRuntime) -> Result<(), Fail> {
+    tell(&rt, row_of_many(rt.alloc(), Kind::Ord))
+}
+
+#[test]
+fn hash_many_pairs(rt: HostRuntime) -> Result<(), Fail> {
+    tell(&rt, row_of_many(rt.alloc(), Kind::Hash))
+}
+
+// The row that an item, room for a hundred more, and its return are answered by. The store keeps its room where a shrink meets a
+// refusal there, and the reply does not say so.
+fn row_of_room(alloc: Global, kind: Kind) -> Result<&'static str, Fail> {
+    let lines = b"add a 1\nreserve 100\nshrink\nget a\n";
+    let (text, outcome, is_met) = served(alloc, kind, lines)?;
+    let kept = Row {
+        is_met: true,
+        ..answered("shrunk_without", b"added\nok\nok\n1\n")
+    };
+    let rows = [
+        kept,
+        answered("answered", b"added\nok\nok\n1\n"),
+        refused("item_refused", b"refused memory\nok\nok\nnone\n"),
+        refused("reserve_refused", b"added\nrefused memory\nok\n1\n"),
+        refused("shrink_refused", b"added\nok\nrefused memory\n1\n"),
+        NO_MEMORY,
+    ];
+    Ok(row_of(&rows, text.as_slice(), outcome, is_met).ok_or("the answer is no row")?)
+}
+
+#[test]
+fn room_lines(rt: HostRuntime) -> Result<(), Fail> {
+    tell(&rt, row_of_room(rt.alloc(), Kind::Ord))
+}
+
+#[test]
+fn hash_room_lines(rt: HostRuntime) -> Result<(), Fail> {
+    tell(&rt, row_of_room(rt.alloc(), Kind::Hash))
 }

@@ -10,7 +10,7 @@ use iddqd_testing::walked::Listed;
 use std::alloc::{AllocError, Global};
 use std::test::Fail;
 
-fn numbered(number: u32, value: u32) -> Numbered {
+pub(crate) fn numbered(number: u32, value: u32) -> Numbered {
     Numbered { number, value }
 }
 
@@ -73,7 +73,7 @@ impl<M: AskedByKey<Item = Numbered, Key = u32>> Call<M> for ByOverwrite {
     }
 }
 
-fn overwrite<M: AskedByKey<Item = Numbered, Key = u32>>(
+pub(crate) fn overwrite<M: AskedByKey<Item = Numbered, Key = u32>>(
     map: &mut M,
     item: Numbered,
 ) -> Inserted<Numbered> {
@@ -84,7 +84,7 @@ fn overwrite<M: AskedByKey<Item = Numbered, Key = u32>>(
     }
 }
 
-// Whether nothing has changed, the walk neither, and an item that was refused goes in now.
+// Whether nothing has changed, the walk and the vacant slots neither, and an item that was refused goes in now.
 fn goes_in_again<M: AskedByKey<Item = Numbered, Key = u32> + AskedForRoom + Listed<Numbered>>(
     map: &mut M,
     call: impl Call<M>,
@@ -94,11 +94,13 @@ fn goes_in_again<M: AskedByKey<Item = Numbered, Key = u32> + AskedForRoom + List
 ) -> bool {
     holds(map, count, None)
         && map.lists(walk)
+        && map.vacant() == 0
         && call.put(map, item) == Inserted::Done
         && holds(map, count, Some(6))
 }
 
-// Fills the map with so many numbers, and then tries the insertion of a new one with a request refused: the word for what was seen.
+// Fills the map with so many numbers, none of which goes again, so that no slot is vacant, and then tries the insertion of a new one
+// with a request refused: the word for what was seen.
 fn insertion<
     M: AskedByKey<Item = Numbered, Key = u32>
         + AskedToInsert<Numbered>
@@ -205,6 +207,14 @@ fn hash_akin_insertions(alloc: Global, count: u32) -> Result<(bool, bool), Fail>
 #[test]
 fn hash_akin_insertions_without_memory(rt: HostRuntime) -> Result<(), Fail> {
     check(&rt, hash_akin_insertions(rt.alloc(), 8)? == (true, false));
+    Ok(())
+}
+
+// The tree has no unused node, as in `prepare_of_three_levels`: an insertion of a new key would ask for some.
+#[test]
+fn akin_insertions_without_nodes(rt: HostRuntime) -> Result<(), Fail> {
+    let map = in_order(rt.alloc());
+    check(&rt, akin_insertions(rt.alloc(), map, 78)? == (true, false));
     Ok(())
 }
 

@@ -1,6 +1,6 @@
 //! Copies of maps under test.
 ghost use Rattle.std.specs.Prelude.{IfOk};
-ghost use Rattle.iddqd.specs.Contents.{ClonesKeepKeys};
+ghost use Rattle.iddqd.specs.Contents.{Ascends, ClonesKeepKeys};
 
 use crate::tried::{Hashed, Ordered};
 use iddqd::errors::TryReserveError;
@@ -10,6 +10,7 @@ impl<T: IdOrdItem + Clone> Ordered<T> {
     /// `clone`.
     pub fn copied(&self) -> Result<IdOrdMap<T>, TryReserveError>
         requires keeps_keys { ClonesKeepKeys T.key T.Key.eq T.is_clone }
+        ensures keyed { IfOk result (λ copy. Ascends T.key T.Key.cmp copy.items) }
     {
         self.map.clone()
     }

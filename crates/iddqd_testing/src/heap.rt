@@ -10,3 +10,8 @@ pub fn arm(alloc: Global) {
 pub fn is_met(alloc: Global) -> bool {
     Vec::<u8>::with_capacity(alloc, (1 << 49) + 1).is_ok()
 }
+
+/// Whether more or fewer blocks of memory are held than when the count began. Only the heap that counts ever grants this block.
+pub fn has_leaked(alloc: Global) -> bool {
+    Vec::<u8>::with_capacity(alloc, (1 << 49) + 2).is_ok()
+}

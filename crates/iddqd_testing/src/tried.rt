@@ -92,6 +92,11 @@ impl<T: IdOrdItem> Ordered<T> {
     pub fn map(&self) -> &IdOrdMap<T> {
         &self.map
     }
+
+    /// The map itself.
+    pub fn into_map(self) -> IdOrdMap<T> {
+        self.map
+    }
 }
 
 impl<T: IdHashItem, S: BuildHasher> Hashed<T, S> {
@@ -105,6 +110,11 @@ impl<T: IdHashItem, S: BuildHasher> Hashed<T, S> {
     /// The map, for calls that take any.
     pub fn map(&self) -> &IdHashMap<T, S> {
         &self.map
+    }
+
+    /// The map itself.
+    pub fn into_map(self) -> IdHashMap<T, S> {
+        self.map
     }
 
     /// `try_reserve`, which an ordered map lacks.
