@@ -134,6 +134,36 @@ fn one_byte_at_a_time(rt: HostRuntime) {
     serve_in_parts(&rt, rt.alloc(), 7, Failure::Interruptions);
 }
 
+// More bytes than 16 bits number, each read and each written by a call of its own: lines of one letter, which are bad.
+fn lines_of_letters(alloc: Global) -> Result<Vec<u8>, AllocError> {
+    let mut lines = Vec::new(alloc);
+    for _ in 0..35_000 {
+        lines.extend_from_slice(b"x\n")?;
+    }
+    Ok(lines)
+}
+
+#[test]
+fn many_bytes_one_at_a_time(rt: HostRuntime) -> Result<(), Fail> {
+    let lines = lines_of_letters(rt.alloc())?;
+    for kind in [Kind::Hash, Kind::Ord] {
+        let mut reader = PartReader::new(lines.as_slice(), 1, Failure::Never);
+        let mut writer = PartWriter::new(Vec::new(rt.alloc()), 1, Failure::Never);
+        let outcome = serve(rt.alloc(), kind, &mut reader, &mut writer);
+        check(&rt, outcome == Ok(0));
+        check(&rt, (reader.reads(), writer.writes()) == (70_001, 140_000));
+        check(&rt, writer.taken().len() == 140_000);
+        check(
+            &rt,
+            writer
+                .taken()
+                .chunks(4)
+                .all(|line| line == b"bad\n".as_slice()),
+        );
+    }
+    Ok(())
+}
+
 #[test]
 fn writer_that_takes_no_byte(rt: HostRuntime) {
     for kind in [Kind::Hash, Kind::Ord] {
