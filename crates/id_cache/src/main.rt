@@ -1,11 +1,12 @@
-//! A cache of three entries, found by id over a hasher that strangers cannot foresee; the oldest makes room for a new one. It
-//! leans on this promise: an insertion answers `CapacityOverflow` exactly where the map is full, and then nothing has changed.
+//! A cache of three entries, found by id over a hasher that strangers cannot foresee; a new one replaces the oldest. It leans on
+//! this promise: an insertion that is refused leaves the map as it was, so that an entry is in both maps or in neither.
 #![tactic(auto)]
 
-ghost use Rattle.std.specs.Prelude.{List, ◌≡◌, ◌==◌, IfSome, slice_get, drop};
-ghost use Rattle.iddqd.specs.Contents.{Ascends, without};
+ghost use Rattle.std.specs.Prelude.{List, ◌≡◌, ◌==◌, IfSome, IsTrue, slice_get, drop, false};
+ghost use Rattle.iddqd.specs.Contents.{AddsItem, Ascends, without};
 ghost use Rattle.id_cache.specs.declared.Entry.{Entry};
 
+use iddqd::id_ord_map::Entry as Place;
 use iddqd::{IdHashItem, IdHashMap, IdOrdItem, IdOrdMap, Lookups};
 use std::collections::hash_map::RandomState;
 
@@ -57,17 +58,46 @@ fn drop_oldest(all: &mut Cache)
     }
 }
 
-// Puts the entry in, over one of its id or in the place of the oldest; `None` where memory was refused.
-fn put(all: &mut Cache, entry: Entry) -> Option<()> {
-    let mut placed = all.0.insert_overwrite(entry);
-    if matches!(&placed, Err(refused) if refused.error.is_capacity_overflow()) {
-        drop_oldest(all);
-        placed = all.0.insert_overwrite(entry);
+/// Puts the entry in both maps, or in neither: an insertion that is refused leaves a map as it was.
+fn add(
+    by_id: &mut IdHashMap<Entry, RandomState>,
+    by_age: &mut IdOrdMap<Entry>,
+    entry: Entry,
+) -> bool
+    requires ids { ⟦<IdHashMap<Entry, RandomState> as Lookups>⟧.keyed by_id.old }
+    requires ages { Ascends (λ e. e.born) ⟦<u32 as Ord>⟧.cmp by_age.old.items }
+    ensures both { IsTrue result → AddsItem entry by_id.old.items by_id.new.items
+        × AddsItem entry by_age.old.items by_age.new.items }
+    ensures neither { result ≡ false → (by_id.new.items ≡ by_id.old.items)
+        × (by_age.new.items ≡ by_age.old.items) }
+    ensures ids { ⟦<IdHashMap<Entry, RandomState> as Lookups>⟧.keyed by_id.new }
+    ensures ages { Ascends (λ e. e.born) ⟦<u32 as Ord>⟧.cmp by_age.new.items }
+{
+    match by_age.entry(&entry.born) {
+        Place::Vacant(place) => match place.insert_entry(entry) {
+            Ok(added) => match by_id.insert_unique(entry) {
+                Ok(()) => true,
+                Err(_error) => {
+                    let _ = added.remove();
+                    false
+                }
+            },
+            Err(_refused) => false,
+        },
+        Place::Occupied(_) => false,
     }
-    if let Some(old) = placed.ok()? {
+}
+
+/// Puts the entry in over one of its id, and over the oldest if the cache is full. False if memory was refused, or if
+/// another entry is as old.
+fn put(all: &mut Cache, entry: Entry) -> bool {
+    if let Some(old) = all.0.remove(&entry.id) {
         let _ = all.1.remove(&old.born);
     }
-    all.1.insert_overwrite(entry).ok().map(|_| ())
+    if all.0.len() >= all.0.limit() as usize {
+        drop_oldest(all);
+    }
+    add(&mut all.0, &mut all.1, entry)
 }
 
 fn main(rt: HostRuntime) -> std::io::Result<()> {

@@ -6,6 +6,7 @@ ghost use Rattle.iddqd.specs.Hashing.{HashesAs};
 ghost use Rattle.iddqd_callers.specs.Lookups.{of_name, of_number, put_at_name, put_at_number};
 
 use crate::items::Noted;
+use iddqd::errors::InsertError;
 use iddqd::{Equivalent, IdHashItem, IdHashMap, Lookups, Text};
 use iddqd_writers::items::{Named, Pair, write_value};
 use std::hash::{BuildHasher, Hash};
@@ -152,4 +153,25 @@ fn put_and_ask<T: IdHashItem + Drop, S: BuildHasher, Q: Hash + Equivalent<T::Key
 {
     put(map, query, item);
     map.contains_key(query)
+}
+
+/// Removes the item of the name, and inserts it under another one, if no item has that. An item that is refused comes back.
+fn rename(all: &mut IdHashMap<Named>, name: &str, to: String) -> Result<bool, Named>
+    requires keyed { IsKeyedByText (λ x. x.name) all.old }
+    ensures keyed { IsKeyedByText (λ x. x.name) all.new }
+{
+    if all.contains_key(&to) {
+        return Ok(false);
+    }
+    match all.remove(&Text(name)) {
+        Some(mut item) => {
+            item.name = to;
+            match all.insert_unique(item) {
+                Ok(()) => Ok(true),
+                Err(InsertError::Duplicate(both)) => Err(both.into_parts().0),
+                Err(InsertError::Refused(refused)) => Err(refused.item),
+            }
+        }
+        None => Ok(false),
+    }
 }

@@ -14,6 +14,7 @@ mod ord_entries;
 mod ord_guards;
 mod ord_insertions;
 mod ord_walks;
+mod parts;
 mod registry;
 mod runs;
 mod sums;

@@ -1,5 +1,6 @@
 //! Lookups in both maps.
-ghost use Rattle.std.specs.Prelude.{◌≡◌, option_map};
+ghost use Rattle.std.specs.Prelude.{◌≡◌, ◌∷◌, [], IfNone, IfSome, option_copied, option_map};
+ghost use Rattle.std.specs.Ordering.{nat_cmp};
 ghost use Rattle.std.specs.String.{string_cmp};
 ghost use Rattle.iddqd.specs.Contents.{Ascends};
 ghost use Rattle.iddqd.specs.IdHashMap.{IsKeyedByText};
@@ -33,4 +34,22 @@ fn note_of<S: BuildHasher>(map: &IdHashMap<Noted, S>, number: u32) -> Option<&St
         (λ x. x.note) (of_number number map.now.items) }
 {
     Some(&map.get(&number)?.note)
+}
+
+/// The item of the number, in an ordered map.
+fn read(log: &IdOrdMap<Noted>, number: u32) -> Option<&Noted>
+    requires keyed { Ascends (λ x. x.number) nat_cmp log.now.items }
+    ensures { option_copied result ≡ of_number number log.now.items }
+{
+    log.get(&number)
+}
+
+/// Removes the item of the least number.
+fn remove_oldest(log: &mut IdOrdMap<Noted>) -> Option<Noted>
+    requires keyed { Ascends (λ x. x.number) nat_cmp log.old.items }
+    ensures oldest { IfSome result (λ x. log.old.items ≡ x ∷ log.new.items) }
+    ensures empty { IfNone result (log.old.items ≡ []) }
+    ensures keyed { Ascends (λ x. x.number) nat_cmp log.new.items }
+{
+    log.pop_first()
 }

@@ -1,7 +1,6 @@
 use Rattle.std.proofs.Common.{◌≡◌, ℕ, nat_eq, rules}
 use Rattle.std.specs.Cmp.{nat_eq_equiv}
 use Rattle.std.specs.List.{AllZip}
-use Rattle.iddqd.specs.Visiting.{VisitsKeepKeys}
 use Rattle.iddqd_commands.specs.SameReplies.{HoldSameItems, SameCommand, SameReplies}
 use Rattle.iddqd_callers.specs.Runs.{AreUnrefused}
 use Rattle.iddqd_callers.specs.declared.runs.Sets.{Sets}
