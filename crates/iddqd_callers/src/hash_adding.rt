@@ -1,5 +1,6 @@
 //! Adding many items to a hash map.
 ghost use Rattle.std.specs.Prelude.{◌≡◌, ◌≤◌, ◌++◌, List, [], IfSome, IsTrue, nat_eq};
+ghost use Rattle.std.specs.List.{AllZip};
 ghost use Rattle.std.specs.String.{string_eq};
 ghost use Rattle.iddqd.specs.Given.{BeginsWith};
 ghost use Rattle.iddqd.specs.Collecting.{AddsAll, IsFirstConflict, OverwritesAll};
@@ -118,4 +119,16 @@ fn trim(all: &mut IdHashMap<Named>) -> bool
     ensures keyed { IsKeyedByText (λ x. x.name) all.new }
 {
     all.shrink_to(8).is_ok()
+}
+
+/// A map of the same pairs.
+fn copied(map: &IdHashMap<Pair>) -> Option<IdHashMap<Pair>>
+    requires keyed { ⟦<IdHashMap<Pair> as Lookups>⟧.keyed map.now }
+    ensures same { IfSome result (λ copy. AllZip (λ x y. y ≡ x) map.now.items copy.items) }
+    ensures keyed { IfSome result (λ copy. ⟦<IdHashMap<Pair> as Lookups>⟧.keyed copy) }
+{
+    match map.clone() {
+        Ok(copy) => Some(copy),
+        Err(_error) => None,
+    }
 }

@@ -1,5 +1,6 @@
 //! Adding many items to an ordered map.
 ghost use Rattle.std.specs.Prelude.{◌≡◌, ◌≤◌, ◌++◌, List, [], IfSome, IsTrue, nat_eq};
+ghost use Rattle.std.specs.List.{AllZip};
 ghost use Rattle.std.specs.Ordering.{nat_cmp};
 ghost use Rattle.std.specs.String.{string_cmp, string_eq};
 ghost use Rattle.iddqd.specs.Given.{BeginsWith};
@@ -114,4 +115,16 @@ fn trim(all: &mut IdOrdMap<Named>) -> bool
     ensures keyed { Ascends (λ x. x.name) string_cmp all.new.items }
 {
     all.shrink_to(8).is_ok()
+}
+
+/// A map of the same pairs.
+fn copied(map: &IdOrdMap<Pair>) -> Option<IdOrdMap<Pair>>
+    requires keyed { Ascends (λ p. p.key) nat_cmp map.now.items }
+    ensures same { IfSome result (λ copy. AllZip (λ x y. y ≡ x) map.now.items copy.items) }
+    ensures keyed { IfSome result (λ copy. Ascends (λ p. p.key) nat_cmp copy.items) }
+{
+    match map.clone() {
+        Ok(copy) => Some(copy),
+        Err(_error) => None,
+    }
 }
