@@ -11,7 +11,6 @@ use crate::items::{BenchKey, Item};
 use crate::phases::{Plan, Times, timed};
 use crate::report::write_times;
 use crate::subjects::Subject;
-use iddqd_testing::tried::{Hashed, Ordered};
 use std::alloc::Global;
 use std::collections::{BTreeMap, HashMap};
 use std::env::Env;
@@ -19,6 +18,7 @@ use std::io::Write;
 use std::process::ExitCode;
 use std::time::Clock;
 use std::{env, io};
+use test_support::maps::{Hashed, Ordered};
 
 /// Which sizes are measured, and whether times are printed.
 #[derive(Clone, Copy)]

@@ -1,9 +1,9 @@
 //! The maps that are timed, under one trait: ours, and std's with each key beside its item.
 use crate::items::{BenchKey, Item, item_of};
 use iddqd::{IdHashMap, IdOrdMap};
-use iddqd_testing::tried::{AskedByKey, Hashed, Ordered};
 use std::alloc::{AllocError, Global};
 use std::collections::{BTreeMap, HashMap};
+use test_support::maps::{AskedByKey, Hashed, Ordered};
 
 /// A map that is timed.
 pub(crate) trait Subject: Drop {

@@ -6,4 +6,4 @@
 --     found_passes      what is found passes the test
 --     same_text      a text equals itself
 --     length_inserted, length_replaced, length_removed      how many items there are
-pub use Rattle.iddqd_core.proofs.ChangeLemmas.{after_changes, find_beside_inserted, find_inserted, find_removed, find_replaced, found_passes, length_inserted, length_removed, length_replaced, same_text, still_absent_removed, still_found_removed}
+pub use Rattle.iddqd_store.proofs.ChangeLemmas.{after_changes, find_beside_inserted, find_inserted, find_removed, find_replaced, found_passes, length_inserted, length_removed, length_replaced, same_text, still_absent_removed, still_found_removed}

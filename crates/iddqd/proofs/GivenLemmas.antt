@@ -5,7 +5,7 @@ use Rattle.std.proofs.Common.{◌≡◌, List, [], ◌∷◌, ◌++◌, ◌∙�
 use Rattle.std.specs.Iterator.{Yields}
 use Rattle.std.specs.Vec.Iter.{into_iter_items, into_iter_steps}
 use Rattle.std.specs.declared.vec.IntoIter.{IntoIter}
-use Rattle.iddqd_core.specs.Collecting.{GivesThen}
+use Rattle.iddqd_store.specs.Collecting.{GivesThen}
 use Rattle.iddqd.specs.Given.{BeginsWith}
 
 -- what a vector's iterator gave before it came to a state, and what is still to come

@@ -3,5 +3,5 @@
 --     written_twice      a second write leaves what it alone would
 --     keys_written, same_key_kept      a write under the same key leaves the keys, and the items of an ordered map ascend still
 --     hash_key_kept      ... and a hash map is keyed still
-pub use Rattle.iddqd_core.proofs.WrittenLemmas.{keys_written, others_written, read_back, same_key_kept, written_twice}
-pub use Rattle.iddqd_hash.proofs.LentLemmas.{hash_key_kept}
+pub use Rattle.iddqd_store.proofs.WrittenLemmas.{keys_written, others_written, read_back, same_key_kept, written_twice}
+pub use Rattle.iddqd_hash.proofs.GetMutLemmas.{hash_key_kept}

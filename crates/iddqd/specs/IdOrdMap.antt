@@ -3,15 +3,15 @@
 --     OrdFills      items were inserted
 --     ends_ord_inserted, ends_ord_extended, lends_nothing      what the map is once the result of such a call is dropped
 --     have_equal_items      what `==` of two maps returns
---     lent_map, lent_slot, lent_item, lent_name, lent_with      what a guard lends
---     shown_map, shown_item, shown_name      what `into_ref` shows
+--     lent_map, lent_slot, lent_item, guard_lender, lent_with      what a guard lends
+--     shown_map, shown_item, shown_lender      what `into_ref` shows
 --     lends_item, item_follows, guard_follows, rests_at_none, with_item_in      what a guard leaves
---     Occupied, Vacant, entry_map, entry_name, entry_item, entry_slot, entry_with, entry_others      what an entry holds
+--     Occupied, Vacant, entry_map, entry_lender, entry_item, entry_slot, entry_with, entry_others      what an entry holds
 --     EntryKeeps, EntryKeepsAkin, entry_follows, rests_if_refused, rests_without_entry      what an entry leaves
---     walk_map, walk_name, walk_done, walk_with      what a walk that lends items for writing holds
+--     walk_map, walk_lender, walk_done, walk_with      what a walk that lends items for writing holds
 --     WalkKeeps, WalkKeepsAkin, walk_lends      what a step of such a walk leaves
 pub use Rattle.iddqd_ord.specs.OrdMap.{OrdFills, OrdInserts, OrdKeeps, ends_ord_extended, ends_ord_inserted, have_equal_items, lends_nothing}
-pub use Rattle.iddqd_ord.specs.Guard.{guard_follows, item_follows, lends_item, lent_item, lent_map, lent_name, lent_slot, lent_with, rests_at_none, shown_item, shown_map, shown_name, with_item_in}
+pub use Rattle.iddqd_ord.specs.Guard.{guard_follows, item_follows, lends_item, lent_item, lent_map, guard_lender, lent_slot, lent_with, rests_at_none, shown_item, shown_map, shown_lender, with_item_in}
 pub use Rattle.iddqd_ord.specs.declared.id_ord_map.entry.Entry.TheVariants.{Occupied, Vacant}
-pub use Rattle.iddqd_ord.specs.Entry.{EntryKeeps, EntryKeepsAkin, entry_follows, entry_item, entry_map, entry_name, entry_others, entry_slot, entry_with, rests_if_refused, rests_without_entry}
-pub use Rattle.iddqd_ord.specs.WritingWalk.{WalkKeeps, WalkKeepsAkin, walk_done, walk_lends, walk_map, walk_name, walk_with}
+pub use Rattle.iddqd_ord.specs.Entry.{EntryKeeps, EntryKeepsAkin, entry_follows, entry_item, entry_map, entry_lender, entry_others, entry_slot, entry_with, rests_if_refused, rests_without_entry}
+pub use Rattle.iddqd_ord.specs.WritingWalk.{WalkKeeps, WalkKeepsAkin, walk_done, walk_lends, walk_map, walk_lender, walk_with}

@@ -1,5 +1,5 @@
 //! The errors of both maps.
-pub use iddqd_core::{
+pub use iddqd_store::{
     DuplicateItem, ExtendError, ExtendUniqueError, Few, FromIterError, InsertError, Refused,
     TryReserveError,
 };

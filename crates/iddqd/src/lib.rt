@@ -4,6 +4,6 @@
 pub mod errors;
 pub mod internal;
 
-pub use iddqd_core::{Comparable, Equivalent, Steps, Text, Visit};
-pub use iddqd_hash::{DefaultHashBuilder, IdHashItem, IdHashMap, Lookups, id_hash_map};
+pub use iddqd_hash::{DefaultHashBuilder, IdHashItem, IdHashMap, Keyed, id_hash_map};
 pub use iddqd_ord::{IdOrdItem, IdOrdMap, MAX_ITEMS, id_ord_map};
+pub use iddqd_store::{Comparable, Equivalent, Steps, Text, Visit};

@@ -12,5 +12,5 @@ pub use iddqd_hash_index::HashIndex;
 pub use iddqd_ord_index::{IntoWalk, OrdIndex, Place, Walk};
 pub use iddqd_store::{
     Comparable, Equivalent, Halt, IdHashItem, IdOrdItem, ItemStore, Steps, Text, ValidateCompact,
-    ValidationError, Visit, likely_new,
+    ValidationError, Visit, room_to_reserve,
 };

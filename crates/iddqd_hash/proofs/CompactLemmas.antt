@@ -2,18 +2,17 @@
 --     paired_same, under_kept      each slot has what it had
 --     last_listed      the slot of an item is listed under the hash that is told of it
 --     moved_paired, moved_under, moved_items      the item of one slot stands in another, which is listed in its stead
-use Rattle.std.proofs.Common.{◌≡◌, ℕ, ◌+◌, ⊎_elim, List, ◌∷◌, Some, None, is_some, cond, remove, set, refl, sym, ap, ◌∙◌, arith, subst}
+use Rattle.std.proofs.Common.{◌≡◌, ℕ, ◌+◌, ⊎_elim, List, ◌∷◌, Some, None, is_some, cond, remove, set, refl, sym, ap, ◌∙◌, arith, subst, IsPermutation}
 use Rattle.std.proofs.lemmas.Bool.{cases_eq}
 use Rattle.std.proofs.lemmas.List.Sorted.{IsPermutation-insert, IsPermutation-trans}
 use Rattle.std.proofs.lemmas.List.Sums.{sum_by-remove}
 use Rattle.std.specs.List.{Contains, sum_by}
-use Rattle.iddqd_store.specs.Contents.{SameInAnyOrder}
 use Rattle.iddqd_hash_index.specs.HashPairs.{HasInstead, HasOneMore}
 use Rattle.iddqd_store.specs.Store.{Store, item_at, store_len, MovesLast, SameItems, Updates}
 use Rattle.iddqd_store.proofs.StoreLemmas.{len_left, updates-set}
-use Rattle.iddqd_hash.specs.Paired.{AreListedUnder, PairsOccupied, items_in}
+use Rattle.iddqd_hash.specs.StoreAndIndex.{AreListedUnder, PairsOccupied, items_in}
 use Rattle.iddqd_hash.proofs.PairLemmas.{listed_hash}
-use Rattle.iddqd_hash.proofs.PairedLemmas.{occupied_listed, paired_added, paired_removed, under_added, under_removed}
+use Rattle.iddqd_hash.proofs.StoreAndIndexLemmas.{occupied_listed, paired_added, paired_removed, under_added, under_removed}
 use Rattle.iddqd_hash.proofs.SlotItemLemmas.{item_added, item_left}
 
 module _ {T : Type 0} (old new : Store T) (ps : List (ℕ × ℕ)) (same : SameItems old new) where
@@ -53,12 +52,12 @@ module _ {T : Type 0} (tell : T → ℕ) (old new : Store T) (ps qs : List (ℕ 
   hole_vacant : item_at between hole ≡ None
   hole_vacant = left.others hole (λ e. omega (arith, moves.lower, e)) ∙ moves.was_vacant
 
-  pub moved_items : SameInAnyOrder (items_in old) (items_in new)
+  pub moved_items : IsPermutation (items_in old) (items_in new)
   moved_items =
       let added = item_added between.slots new.slots hole x hole_vacant put.changed put.others in
       IsPermutation-trans (items_in old) (x ∷ items_in between) (items_in new)
       (item_left old.slots between.slots last x there left.changed left.others)
-      (subst (λ xs. SameInAnyOrder (x ∷ items_in between) xs) (sym added.put) (IsPermutation-insert (items_in between) added.place x))
+      (subst (λ xs. IsPermutation (x ∷ items_in between) xs) (sym added.put) (IsPermutation-insert (items_in between) added.place x))
 
   module _ (instead : HasInstead ps qs (tell x, last) (tell x, hole)) (len : store_len new ≡ store_len old) (capacity : new.capacity ≡ old.capacity) (limit : new.limit ≡ old.limit) where
     listed : Contains ps (tell x, last)

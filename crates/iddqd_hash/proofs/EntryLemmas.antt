@@ -12,11 +12,11 @@ use Rattle.iddqd_store.specs.Contents.{AddsItem}
 use Rattle.iddqd_store.specs.SlotItems.{item_of_slot, without_slot, written_to_slot}
 use Rattle.iddqd_store.specs.Store.{Store, item_at, IsOccupied, Updates}
 use Rattle.iddqd_store.proofs.StoreLemmas.{updates-set}
-use Rattle.iddqd_hash.specs.Paired.{PairsOccupied, hash_of_slot, hashes_in, items_in, slots_in}
+use Rattle.iddqd_hash.specs.StoreAndIndex.{PairsOccupied, hash_of_slot, hashes_in, items_in, slots_in}
 use Rattle.iddqd_hash.specs.declared.id_hash_map.entry.OccupiedEntry.{OccupiedEntry}
-use Rattle.iddqd_hash.proofs.LentLemmas.{item_in_slot, items_lent, others_left, told_in_slot}
+use Rattle.iddqd_hash.proofs.GetMutLemmas.{item_in_slot, items_lent, others_left, told_in_slot}
 use Rattle.iddqd_hash.proofs.PairLemmas.{hash_listed, listed_hash}
-use Rattle.iddqd_hash.proofs.PairedLemmas.{listed_occupied, occupied_listed}
+use Rattle.iddqd_hash.proofs.StoreAndIndexLemmas.{listed_occupied, occupied_listed}
 use Rattle.iddqd_hash.proofs.SlotItemLemmas.{item_added, same_items}
 
 module _ {T : Type 0} (old new : Store T) (slot : ℕ) (x : T) (vacant : item_at old slot ≡ None) (updates : Updates old new slot (Some x)) where

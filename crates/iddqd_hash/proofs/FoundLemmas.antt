@@ -11,11 +11,11 @@ use Rattle.std.proofs.lemmas.List.{get_or-map}
 use Rattle.std.proofs.lemmas.Option.{get_or_from_slice_get, slice_get_within}
 use Rattle.std.specs.Cmp.{IsEquivalence}
 use Rattle.std.specs.List.{HoldsAt}
-use Rattle.iddqd_store.specs.Contents.{AddsItem, IsAbsent, IsKeyTest, NoTwoAkin, find_item, replaced, without}
+use Rattle.iddqd_store.specs.Contents.{AddsItem, IsAbsent, IsKeyTest, NoTwoAkin, find_item, items_overwritten, items_without}
 use Rattle.iddqd_store.proofs.ContentsLemmas.{IsOnlyPlace, only_place, find_at, filter_at, map_at}
 use Rattle.iddqd_store.proofs.KeepsLemmas.{differ_filter, differ_insert, differ_set}
 use Rattle.iddqd_store.proofs.OrderLemmas.{Tells, find_tells}
-use Rattle.iddqd_hash.specs.Paired.{numbers_of}
+use Rattle.iddqd_hash.specs.StoreAndIndex.{numbers_of}
 use Rattle.iddqd_hash.proofs.SlotItemLemmas.{PlaceOf, at, items_of, place_of}
 
 module _ {T K : Type 0} (key : T → K) where
@@ -23,19 +23,19 @@ module _ {T K : Type 0} (key : T → K) where
   pub found_passes : (test : K → Bool) (items : List T) (x : T) → find_item key test items ≡ Some x → test (key x) ≡ true
   found_passes test items x found = (subst (Tells (λ y. test (key y)) items) found (find_tells (λ y. test (key y)) items)).1
 
-  pub without_absent : (test : K → Bool) (items : List T) → IsAbsent key test items → items ≡ without key test items
+  pub without_absent : (test : K → Bool) (items : List T) → IsAbsent key test items → items ≡ items_without key test items
   without_absent test [] absent = refl
   without_absent test (y ∷ ys) absent = by (test (key y)) refl (without_absent test ys)
     where
-      by : (b : Bool) → test (key y) ≡ b → (IsAbsent key test ys → ys ≡ without key test ys) → y ∷ ys ≡ without key test (y ∷ ys)
+      by : (b : Bool) → test (key y) ≡ b → (IsAbsent key test ys → ys ≡ items_without key test ys) → y ∷ ys ≡ items_without key test (y ∷ ys)
       by true e rest = (let first = sym (ap (λ b. cond b (Some y) (find_item key test ys)) e) ∙ absent in cc)
       by false e rest = rw e (ap (λ zs. y ∷ zs) (rest (sym (ap (λ b. cond b (Some y) (find_item key test ys)) e) ∙ absent)))
 
-  pub replaced_absent : (test : K → Bool) (y : T) (items : List T) → IsAbsent key test items → items ≡ replaced key test y items
+  pub replaced_absent : (test : K → Bool) (y : T) (items : List T) → IsAbsent key test items → items ≡ items_overwritten key test y items
   replaced_absent test y [] absent = refl
   replaced_absent test y (z ∷ zs) absent = by (test (key z)) refl (replaced_absent test y zs)
     where
-      by : (b : Bool) → test (key z) ≡ b → (IsAbsent key test zs → zs ≡ replaced key test y zs) → z ∷ zs ≡ replaced key test y (z ∷ zs)
+      by : (b : Bool) → test (key z) ≡ b → (IsAbsent key test zs → zs ≡ items_overwritten key test y zs) → z ∷ zs ≡ items_overwritten key test y (z ∷ zs)
       by true e rest = (let first = sym (ap (λ b. cond b (Some z) (find_item key test zs)) e) ∙ absent in cc)
       by false e rest = rw e (ap (λ vs. z ∷ vs) (rest (sym (ap (λ b. cond b (Some z) (find_item key test zs)) e) ∙ absent)))
 
@@ -57,13 +57,13 @@ module _ {T K : Type 0} (key : T → K) where
     pub item_found : find_item key test (items_of old) ≡ Some x
     item_found = find_at (λ y. test (key y)) (items_of old) placed.place only ∙ placed.there
 
-    pub item_taken : at new slot ≡ None → items_of new ≡ without key test (items_of old)
+    pub item_taken : at new slot ≡ None → items_of new ≡ items_without key test (items_of old)
     item_taken none = placed.removed none ∙ sym (filter_at (λ y. test (key y)) (items_of old) placed.place only)
 
     pub differ_taken : at new slot ≡ None → NoTwoAkin key eq (items_of new)
     differ_taken none = subst (NoTwoAkin key eq) (sym (item_taken none)) (differ_filter key eq (λ y. not (test (key y))) (items_of old) differ)
 
-    pub item_exchanged : (y : T) → at new slot ≡ Some y → items_of new ≡ replaced key test y (items_of old)
+    pub item_exchanged : (y : T) → at new slot ≡ Some y → items_of new ≡ items_overwritten key test y (items_of old)
     item_exchanged y some = placed.replaced y some ∙ sym (map_at (λ z. test (key z)) y (items_of old) placed.place only)
 
     pub differ_exchanged : (y : T) → eq (key y) (key x) ≡ true → at new slot ≡ Some y → NoTwoAkin key eq (items_of new)

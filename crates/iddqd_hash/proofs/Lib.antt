@@ -4,10 +4,10 @@ mod CollectLemmas
 mod CompactLemmas
 pub mod FoundLemmas
 pub mod HashCountLemmas
-pub mod LentLemmas
+pub mod GetMutLemmas
 pub mod MapLemmas
 pub mod PairLemmas
-pub mod PairedLemmas
+pub mod StoreAndIndexLemmas
 pub mod RisingLemmas
 pub mod SlotItemLemmas
 pub mod WalkedLemmas

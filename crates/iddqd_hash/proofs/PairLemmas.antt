@@ -9,7 +9,7 @@ use Rattle.std.proofs.lemmas.Bool.{eqb-true, eq-eqb}
 use Rattle.std.proofs.lemmas.List.Sums.{sum_by-cons}
 use Rattle.std.specs.List.{Contains, sum_by}
 use Rattle.iddqd_hash_index.specs.HashPairs.{of_slot}
-use Rattle.iddqd_hash.specs.Paired.{hash_of_slot}
+use Rattle.iddqd_hash.specs.StoreAndIndex.{hash_of_slot}
 
 pub length-weight : {X : Type 0} (xs : List X) → sum_by (λ _. 1) xs ≡ length xs
 length-weight [] = refl

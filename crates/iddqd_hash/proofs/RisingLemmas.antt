@@ -9,9 +9,9 @@ use Rattle.std.proofs.lemmas.Option.{get_or_from_slice_get, slice_get_within}
 use Rattle.std.specs.List.{remove, slice_get}
 use Rattle.iddqd_store.specs.SlotItems.{HaveSlots, item_of_slot}
 use Rattle.iddqd_store.proofs.WrittenLemmas.{listed_slot}
-use Rattle.iddqd_hash.specs.Paired.{numbers_of}
+use Rattle.iddqd_hash.specs.StoreAndIndex.{numbers_of}
 use Rattle.iddqd_hash.specs.SlotOrder.{behind, slots_below}
-use Rattle.iddqd_hash.proofs.LentLemmas.{Rises, rises_on}
+use Rattle.iddqd_hash.proofs.GetMutLemmas.{Rises, rises_on}
 use Rattle.iddqd_hash.proofs.SlotItemLemmas.{at, items_of}
 
 module _ {T : Type 0} where

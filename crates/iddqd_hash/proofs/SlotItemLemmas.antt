@@ -7,7 +7,7 @@
 --     number_at, numbers_agree      a number for each slot, told by its item
 --     slots_apart      each item has a slot of its own
 --     slot_left      an item that is taken out leaves its place and its slot
-use Rattle.std.proofs.Common.{append_assoc, ◌≡◌, ◌≢◌, ℕ, zero, suc, ◌≤◌, List, [], ◌∷◌, ◌++◌, length, map, set, get_or, drop, ◌<◌, nat_eq, false, Option, Some, None, is_some, cond, refl, sym, ap, ◌∙◌, arith, subst, count_by}
+use Rattle.std.proofs.Common.{append_assoc, ◌≡◌, ◌≢◌, ℕ, zero, suc, ◌≤◌, List, [], ◌∷◌, ◌++◌, length, map, set, get_or, drop, ◌<◌, nat_eq, false, Option, Some, None, is_some, cond, refl, sym, ap, ◌∙◌, arith, subst, count_by, IsPermutation}
 use Rattle.std.proofs.lemmas.List.{length-map}
 use Rattle.std.proofs.lemmas.List.Sorted.{IsPermutation-middle}
 use Rattle.std.proofs.lemmas.List.Sums.{sum_by-cons}
@@ -15,10 +15,10 @@ use Rattle.std.proofs.lemmas.Bool.{ne_eqb}
 use Rattle.std.proofs.lemmas.Option.{slice_get-map}
 use Rattle.std.specs.List.{AllByRecursion, IsDistinct, filter_map, cons_option, insert, remove, slice_get}
 use Rattle.std.specs.Option.{option_map}
-use Rattle.iddqd_store.specs.Contents.{AddsItem, SameInAnyOrder}
+use Rattle.iddqd_store.specs.Contents.{AddsItem}
 use Rattle.iddqd_store.specs.SlotItems.{HaveSlots}
 use Rattle.iddqd_store.proofs.MappedLemmas.{remove-map}
-use Rattle.iddqd_hash.specs.Paired.{numbers_of}
+use Rattle.iddqd_hash.specs.StoreAndIndex.{numbers_of}
 
 -- an element in the middle
 module _ {T : Type 0} where
@@ -110,7 +110,7 @@ module _ {T : Type 0} where
       }
 
   -- a slot that had an item is vacant
-  pub item_left : (old new : List (Option T)) (slot : ℕ) (x : T) → at old slot ≡ Some x → at new slot ≡ None → ((other : ℕ) → other ≢ slot → at new other ≡ at old other) → SameInAnyOrder (items_of old) (x ∷ items_of new)
+  pub item_left : (old new : List (Option T)) (slot : ℕ) (x : T) → at old slot ≡ Some x → at new slot ≡ None → ((other : ℕ) → other ≢ slot → at new other ≡ at old other) → IsPermutation (items_of old) (x ∷ items_of new)
   item_left old new slot x there none others =
       let s = split new old slot others in
       let was : items_of old ≡ s.before ++ x ∷ s.behind = s.second ∙ ap (λ o. s.before ++ (one o ++ s.behind)) there in

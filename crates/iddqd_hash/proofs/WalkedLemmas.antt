@@ -11,7 +11,7 @@ use Rattle.std.specs.Prelude.{⊤}
 use Rattle.std.specs.Iterator.{YieldsFirstRef, MakesProgress, item_count}
 use Rattle.std.specs.List.{cons_option}
 use Rattle.iddqd_store.specs.Store.{Store, item_at, Updates}
-use Rattle.iddqd_hash.specs.Paired.{items_in}
+use Rattle.iddqd_hash.specs.StoreAndIndex.{items_in}
 use Rattle.iddqd_hash.specs.Walked.{items_from, AreVacant, IsFirstOccupied}
 use Rattle.iddqd_hash.proofs.SlotItemLemmas.{at, items_of, same_items}
 

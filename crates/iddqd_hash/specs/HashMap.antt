@@ -12,11 +12,11 @@ use Rattle.std.specs.Borrow.{Fml, RattleType, MutBor, Lends, LendsSoOk, unit}
 use Rattle.std.specs.Hash.{HashWrites}
 use Rattle.iddqd_store.specs.Adding.{AddsGiven, OnItemRefused, StopsAdding}
 use Rattle.iddqd_store.specs.Contents.{find_item}
-use Rattle.iddqd_store.specs.Holding.{FillsSlots, TakesItem, KeepsItems, SpareStays}
+use Rattle.iddqd_store.specs.Holding.{FillsSlots, InsertsItem, KeepsItems, SpareStays}
 use Rattle.iddqd_store.specs.Refusal.{OnDuplicate}
 use Rattle.iddqd_store.specs.declared.errors.ExtendUniqueError.{ExtendUniqueError}
 use Rattle.iddqd_store.specs.declared.errors.InsertError.{InsertError}
-use Rattle.iddqd_hash.specs.HashItems.{HashItems, held}
+use Rattle.iddqd_hash.specs.HashItems.{HashItems, holding_of}
 use Rattle.iddqd_hash.specs.contracts.id_hash_map.IdHashMap.{the_row}
 
 module _ {S T : Type 0} where
@@ -31,19 +31,19 @@ module _ {S T : Type 0} where
 
   module _ (IsKeyed : HashItems S T → Type 0) where
     pub record HashInserts (x : T) (old new : HashItems S T) : Type 0 where
-      pub takes : TakesItem x (held old) (held new)
+      pub takes : InsertsItem x (holding_of old) (holding_of new)
       pub keyed : IsKeyed new
       pub spare : KeepsSpare old new
       pub hasher : new.hasher ≡ old.hasher
 
     pub record HashKeeps (old new : HashItems S T) : Type 0 where
-      pub keeps : KeepsItems (held old) (held new)
+      pub keeps : KeepsItems (holding_of old) (holding_of new)
       pub keyed : IsKeyed new
       pub spare : KeepsSpare old new
       pub hasher : new.hasher ≡ old.hasher
 
     pub record HashFills (old new : HashItems S T) : Type 0 where
-      pub fills : FillsSlots (held old) (held new)
+      pub fills : FillsSlots (holding_of old) (holding_of new)
       pub keyed : IsKeyed new
       pub spare : KeepsSpare old new
       pub hasher : new.hasher ≡ old.hasher
@@ -79,4 +79,4 @@ abbrev pub ends_hash_extended : (S T : RattleType) {K : Type 0} (key : T.Denot �
 ends_hash_extended S T key eq IsKeyed gives_all gives_then map result =
     LendsSoOk (the_row T S) unit map result
     (λ new _. AddsGiven key eq gives_all map.now.items new.items × HashFills IsKeyed map.now new)
-    (λ new. HashFills IsKeyed map.now new × IfErr result (StopsAdding key eq gives_then (held map.now) (held new)) × IfErr result (OnItemRefused (map.now.spare + length map.now.items ≤ length new.items)))
+    (λ new. HashFills IsKeyed map.now new × IfErr result (StopsAdding key eq gives_then (holding_of map.now) (holding_of new)) × IfErr result (OnItemRefused (map.now.spare + length map.now.items ≤ length new.items)))

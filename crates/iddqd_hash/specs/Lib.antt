@@ -2,7 +2,7 @@ pub mod Entry
 pub mod Guard
 pub mod HashItems
 pub mod HashMap
-pub mod Paired
+pub mod StoreAndIndex
 pub mod Walked
 pub mod SlotOrder
 pub mod WritingWalk

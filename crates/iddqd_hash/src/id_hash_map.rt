@@ -11,17 +11,17 @@ mod compact;
 pub mod entry;
 mod equality;
 mod extend_unique;
+mod get_mut;
 mod imp;
 mod insert;
 mod into_iter;
 mod iter;
 pub mod iter_mut;
-mod lent;
-mod paired;
 pub mod ref_mut;
 mod retain;
 mod room;
 mod slots;
+mod store_and_index;
 mod validate;
 
 pub use entry::{Entry, OccupiedEntry, VacantEntry};
@@ -65,24 +65,24 @@ impl<T: Drop, S: Drop> Drop for IdHashMap<T, S> {
 
 impl<T, S> Model for IdHashMap<T, S> {
     ghost use Rattle.iddqd_hash.specs.HashItems.{HashItems, hash_items_code};
-    ghost use Rattle.iddqd_hash.specs.Paired.{PairsOccupied, shown};
+    ghost use Rattle.iddqd_hash.specs.StoreAndIndex.{PairsOccupied, hash_items_of};
 
     ghost Value = { HashItems S T };
 
     ghost coded = { hash_items_code S.code T.code };
 
-    ghost view = { λ m. shown m.store m.index m.hasher };
+    ghost view = { λ m. hash_items_of m.store m.index m.hasher };
 
     ghost invariant = { λ m. PairsOccupied m.store m.index.pairs };
 }
 
 /// What a map asks of its items before they can be looked for (ours). It has no code: contracts cite it.
-pub trait Lookups {
+pub trait Keyed {
     // The items lie as lookups expect them.
     ghost keyed: { Self → Type 0 };
 }
 
-impl<T: IdHashItem, S: BuildHasher> Lookups for IdHashMap<T, S> {
+impl<T: IdHashItem, S: BuildHasher> Keyed for IdHashMap<T, S> {
     ghost use Rattle.iddqd_hash.specs.HashItems.{IsKeyed};
 
     ghost keyed = { IsKeyed T.key T.Key.eq T.Key.hash_input (hash_under S.BuildHasher S.Hasher.Hasher) };
@@ -153,7 +153,7 @@ impl<T: IdHashItem> IdHashMap<T> {
     /// A map without items, over the default hasher. It takes no memory.
     pub fn new(alloc: Global) -> Self
         ensures empty { IsEmptyMap MAX_ITEMS result }
-        ensures keyed { ⟦<IdHashMap<T> as Lookups>⟧.keyed result }
+        ensures keyed { ⟦<IdHashMap<T> as Keyed>⟧.keyed result }
     {
         IdHashMap::with_hasher(alloc, DefaultHashBuilder::new())
     }
@@ -166,7 +166,7 @@ impl<T: IdHashItem, S: BuildHasher> IdHashMap<T, S> {
     pub fn with_hasher(alloc: Global, hasher: S) -> Self
         ensures empty { IsEmptyMap MAX_ITEMS result }
         ensures hasher { result.hasher ≡ hasher }
-        ensures keyed { ⟦<IdHashMap<T, S> as Lookups>⟧.keyed result }
+        ensures keyed { ⟦<IdHashMap<T, S> as Keyed>⟧.keyed result }
     {
         IdHashMap::with_limit(alloc, MAX_ITEMS, hasher)
     }
@@ -176,7 +176,7 @@ impl<T: IdHashItem, S: BuildHasher> IdHashMap<T, S> {
     pub fn with_limit(alloc: Global, limit: u32, hasher: S) -> Self
         ensures empty { IsEmptyMap limit result }
         ensures hasher { result.hasher ≡ hasher }
-        ensures keyed { ⟦<IdHashMap<T, S> as Lookups>⟧.keyed result }
+        ensures keyed { ⟦<IdHashMap<T, S> as Keyed>⟧.keyed result }
     {
         IdHashMap::over(ItemStore::new(alloc, limit), HashIndex::new(alloc), hasher)
     }
@@ -186,7 +186,7 @@ impl<T: IdHashItem, S: BuildHasher> IdHashMap<T, S> {
         requires no_slot { store.slots ≡ [] }
         requires no_pair { index.pairs ≡ [] }
         ensures empty { result ≡ record { items = []; slots = []; hashes = []; hasher = hasher; spare = min index.spare (min store.capacity store.limit); vacant = 0; capacity = store.capacity; limit = store.limit } }
-        ensures keyed { ⟦<IdHashMap<T, S> as Lookups>⟧.keyed result }
+        ensures keyed { ⟦<IdHashMap<T, S> as Keyed>⟧.keyed result }
     {
         IdHashMap {
             store,
@@ -207,7 +207,7 @@ impl<T: IdHashItem, S: BuildHasher> IdHashMap<T, S> {
         ensures capacity { self.new.capacity ≡ self.old.capacity }
         ensures limit { self.new.limit ≡ self.old.limit }
         ensures hasher { self.new.hasher ≡ self.old.hasher }
-        ensures keyed { ⟦<IdHashMap<T, S> as Lookups>⟧.keyed self.new }
+        ensures keyed { ⟦<IdHashMap<T, S> as Keyed>⟧.keyed self.new }
     {
         self.store.clear();
         self.index.clear();

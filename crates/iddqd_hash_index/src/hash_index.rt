@@ -163,7 +163,7 @@ impl HashIndex {
         ensures found { IfSome result (IsMatch store.now self.now.pairs hash (λ x. Q.equivalent query.now (T.key x))) }
         ensures absent { IfNone result ((slot : ℕ) → ¬ IsMatch store.now self.now.pairs hash (λ x. Q.equivalent query.now (T.key x)) slot) }
         ensures steps { steps.new ≤ steps.old + of_hash self.now.pairs hash }
-        ensures counts_on { steps.old ≤ steps.new }
+        ensures never_resets { steps.old ≤ steps.new }
     {
         find_among(
             self.groups.as_slice(),

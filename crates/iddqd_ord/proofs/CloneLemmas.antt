@@ -6,7 +6,7 @@ use Rattle.std.specs.List.{AllZip}
 use Rattle.iddqd_ord_index.specs.Listed.{listed_items}
 use Rattle.iddqd_store.specs.Store.{Store, item_at, store_len, IsStoreClone}
 use Rattle.iddqd_store.proofs.CloneLemmas.{clones_on, occupied_both, clone_at}
-use Rattle.iddqd_ord.specs.Paired.{ListsOccupied}
+use Rattle.iddqd_ord.specs.StoreAndIndex.{ListsOccupied}
 
 module _ {T : Type 0} (is_clone : T → T → Type 0) (store copy : Store T) (clones : IsStoreClone is_clone store copy) where
   same_slots : (slot : ℕ) → is_some (item_at copy slot) ≡ is_some (item_at store slot)

@@ -20,8 +20,8 @@ use Rattle.iddqd_store.proofs.DistinctLemmas.{absent_apart, distinct_set}
 use Rattle.iddqd_ord_index.proofs.ListedLemmas.{length-listed, listed-same, read-listed}
 use Rattle.iddqd_store.proofs.QueryLemmas.{none_at, only_at, own_query}
 use Rattle.iddqd_store.proofs.StoreLemmas.{last_moves}
-use Rattle.iddqd_ord.specs.Paired.{ListsOccupied}
-use Rattle.iddqd_ord.proofs.PairedLemmas.{vacant_absent}
+use Rattle.iddqd_ord.specs.StoreAndIndex.{ListsOccupied}
+use Rattle.iddqd_ord.proofs.StoreAndIndexLemmas.{vacant_absent}
 
 module _ {T K : Type 0} (key : T → K) {eq : K → K → Bool} {cmp : K → K → Ordering} (equivalence : IsEquivalence eq) (total : IsTotalOrder cmp) (ties : (x y : K) → eq x y ≡ is_eq (cmp x y)) (store : Store T) (slots : List ℕ) (paired : ListsOccupied store slots) (sorted : Ascends key cmp (listed_items store slots)) (slot : ℕ) (x : T) (there : item_at store slot ≡ Some x) where
   listed : Contains slots slot

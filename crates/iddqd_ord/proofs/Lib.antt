@@ -2,6 +2,6 @@ mod CloneLemmas
 mod CompactLemmas
 mod EndLemmas
 mod EntryLemmas
-pub mod LentLemmas
-pub mod PairedLemmas
+pub mod GetMutLemmas
+pub mod StoreAndIndexLemmas
 mod WalkLemmas

@@ -6,7 +6,7 @@ use Rattle.std.specs.List.{IsDistinct, cons_option}
 use Rattle.iddqd_ord_index.specs.Listed.{listed_items, AreOccupied}
 use Rattle.iddqd_store.specs.Store.{Store, item_at, Updates}
 use Rattle.iddqd_ord_index.proofs.ListedLemmas.{listed-same}
-use Rattle.iddqd_ord.proofs.PairedLemmas.{all-removed}
+use Rattle.iddqd_ord.proofs.StoreAndIndexLemmas.{all-removed}
 
 module _ {T : Type 0} where
   -- the slots that are left are occupied still

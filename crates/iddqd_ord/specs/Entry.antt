@@ -1,5 +1,5 @@
 -- What a contract sees of an entry of an ordered map.
---     entry_map, entry_name      the map as the entry holds it, the name of the reference to the map
+--     entry_map, entry_lender      the map as the entry holds it, the name of the reference to the map
 --     entry_item, entry_slot      the item there, if there is one, and the slot of an occupied entry
 --     entry_with e w      the map once w stands in the entry's place; where there is none, the map
 --     entry_others e      the items but for the entry's
@@ -29,8 +29,8 @@ module _ {T : Type 0} where
   abbrev pub entry_map : Entry T → Holding T
   entry_map e = (entry_map_ref e).now
 
-  abbrev pub entry_name : Entry T → GName
-  entry_name e = (entry_map_ref e).ghost_name
+  abbrev pub entry_lender : Entry T → GName
+  entry_lender e = (entry_map_ref e).ghost_name
 
   abbrev pub entry_item : Entry T → Option T
   entry_item (Occupied e) = item_of_slot e.map.now.slots e.map.now.items e.slot

@@ -1,8 +1,8 @@
 -- What a contract sees of a guard of an ordered map.
 --     with_item_in m slot w      the map, once w stands in the slot
---     lent_map, lent_slot, lent_item, lent_name      the map as the guard holds it, the slot, its item, the name of the reference to the map
+--     lent_map, lent_slot, lent_item, guard_lender      the map as the guard holds it, the slot, its item, the name of the reference to the map
 --     lent_with r w      the map once w is written through the guard
---     shown_map, shown_item, shown_name      the same of what `into_ref` answers
+--     shown_map, shown_item, shown_lender      the same of what `into_ref` answers
 --     lends_item, item_follows, guard_follows      the map, or the guard, ends with the last value written
 --     rests_at_none      with no guard the map stays as it is
 use Rattle.std.specs.Prelude.{◌≡◌, ℕ, [], Option}
@@ -28,8 +28,8 @@ module _ {T : Type 0} where
   abbrev pub lent_item : RefMut T → Option T
   lent_item r = item_of_slot r.map.now.slots r.map.now.items r.slot
 
-  abbrev pub lent_name : RefMut T → GName
-  lent_name r = r.map.ghost_name
+  abbrev pub guard_lender : RefMut T → GName
+  guard_lender r = r.map.ghost_name
 
   abbrev pub lent_with : RefMut T → T → Holding T
   lent_with r w = with_item_in r.map.now r.slot w
@@ -49,15 +49,15 @@ module _ {T : Type 0} where
   abbrev pub shown_item : Shown T → Option T
   shown_item s = item_of_slot s.map.now.slots s.map.now.items s.slot
 
-  abbrev pub shown_name : Shown T → GName
-  shown_name s = s.map.ghost_name
+  abbrev pub shown_lender : Shown T → GName
+  shown_lender s = s.map.ghost_name
 
 module _ (T : RattleType) where
   abbrev pub lends_item : MutBor (Holding T.Denot) → ℕ → MutBor T.Denot → Fml
   lends_item m slot r = Lends (map.the_row T) T m r (with_item_in m.now slot)
 
   abbrev pub rests_at_none : MutBor (Holding T.Denot) → Option (RefMut T.Denot) → Fml
-  rests_at_none m r = RestsIfNone (map.the_row T) m lent_name r (λ n. n ≡ m.now)
+  rests_at_none m r = RestsIfNone (map.the_row T) m guard_lender r (λ n. n ≡ m.now)
 
   abbrev pub item_follows : RefMut T.Denot → MutBor T.Denot → Fml
   item_follows r x = follows (map.the_row T) T r.map.ghost_name x.ghost_name (with_item_in r.map.now r.slot)

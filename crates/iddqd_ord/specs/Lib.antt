@@ -1,7 +1,7 @@
 pub mod Entry
 pub mod Guard
 pub mod OrdMap
-pub mod Paired
+pub mod StoreAndIndex
 pub mod WritingWalk
 pub use Rattle.iddqd_store.specs.Adding
 pub use Rattle.iddqd_store.specs.Collecting

@@ -1,5 +1,5 @@
 -- What a contract sees of a walk that lends the items of an ordered map for writing (the crate's `IterMut`).
---     walk_map, walk_name, walk_done      the map as the walk holds it, the name of the reference to it, how many items it has lent
+--     walk_map, walk_lender, walk_done      the map as the walk holds it, the name of the reference to it, how many items it has lent
 --     walk_with w x      the map once x is written to the item that the walk lends next
 --     walk_lends      the walk ends with the last value written to the item, and one item further
 --     WalkKeeps, WalkKeepsAkin      an item of the same key, or of an equal one, may be written
@@ -16,8 +16,8 @@ module _ {T : Type 0} where
   abbrev pub walk_map : IterMut T → Holding T
   walk_map w = w.map.now
 
-  abbrev pub walk_name : IterMut T → GName
-  walk_name w = w.map.ghost_name
+  abbrev pub walk_lender : IterMut T → GName
+  walk_lender w = w.map.ghost_name
 
   abbrev pub walk_done : IterMut T → ℕ
   walk_done w = w.done

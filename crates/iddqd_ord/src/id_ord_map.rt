@@ -6,20 +6,20 @@ ghost use Rattle.iddqd_store.specs.SlotItems.{HaveSlots};
 mod clone;
 mod collect;
 mod compact;
-mod ends;
 pub mod entry;
 mod equality;
 mod extend_unique;
+mod first_last;
+mod get_mut;
 mod imp;
 mod insert;
 mod into_iter;
 mod iter;
 pub mod iter_mut;
-mod lent;
-mod paired;
 pub mod ref_mut;
 mod retain;
 mod room;
+mod store_and_index;
 mod validate;
 
 pub use entry::{Entry, OccupiedEntry, VacantEntry};
@@ -58,7 +58,7 @@ impl<T> Model for IdOrdMap<T> {
     ghost use Rattle.iddqd_store.specs.Holding.{Holding, holding_code};
     ghost use Rattle.iddqd_ord_index.specs.Listed.{listed_items};
     ghost use Rattle.iddqd_store.specs.Store.{vacant};
-    ghost use Rattle.iddqd_ord.specs.Paired.{ListsOccupied};
+    ghost use Rattle.iddqd_ord.specs.StoreAndIndex.{ListsOccupied};
 
     ghost Value = { Holding T };
 

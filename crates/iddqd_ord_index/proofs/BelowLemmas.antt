@@ -2,7 +2,7 @@
 use Rattle.std.proofs.Common.{◌≡◌, ℕ, ◌+◌, ◌<◌, List, [], length, map, take, drop, set, get_or, ap, sym, ◌∙◌, subst, arith, Option, Some, None, Box, Global}
 use Rattle.std.specs.List.{insert, remove}
 use Rattle.std.proofs.lemmas.List.{get_or-map, length-map, map-set, take-map, drop-map}
-use Rattle.iddqd_ord_index.specs.Cells.{held, IsPacked}
+use Rattle.iddqd_ord_index.specs.Cells.{items_present, IsPacked}
 use Rattle.iddqd_ord_index.specs.Nodes.{below, subtrees, AreBranches}
 use Rattle.iddqd_ord_index.specs.Shape.{Subtree, lists, starts, unused}
 use Rattle.iddqd_ord_index.specs.declared.tree.node.Branches.{Branches}
@@ -11,27 +11,27 @@ use Rattle.iddqd_ord_index.proofs.PackedLemmas.{cell_at, map-insert, map-remove}
 use Rattle.iddqd_ord_index.proofs.WeaveLemmas.{starts_take, starts_drop}
 use Rattle.iddqd_ord_index.proofs.EditLemmas.{put_packed, put_subtrees}
 
-pub length-subtrees : (os : List (Option (Box Node Global))) → length (subtrees os) ≡ length (held os)
-length-subtrees os = length-map (held os) (λ b. b.value)
+pub length-subtrees : (os : List (Option (Box Node Global))) → length (subtrees os) ≡ length (items_present os)
+length-subtrees os = length-map (items_present os) (λ b. b.value)
 
-pub box_at : (os : List (Option (Box Node Global))) (i : ℕ) (b : Box Node Global) (d : Subtree) → i < length (subtrees os) → b ≡ get_or (held os) i b → b.value ≡ get_or (subtrees os) i d
+pub box_at : (os : List (Option (Box Node Global))) (i : ℕ) (b : Box Node Global) (d : Subtree) → i < length (subtrees os) → b ≡ get_or (items_present os) i b → b.value ≡ get_or (subtrees os) i d
 box_at os i b d lt e =
     let n = length-subtrees os in
-    ap (λ b. b.value) e ∙ sym (get_or-map (λ b. b.value) (held os) i b d (omega arith))
+    ap (λ b. b.value) e ∙ sym (get_or-map (λ b. b.value) (items_present os) i b d (omega arith))
 
 -- the box in a cell in front is the branch there
 pub subtree_at : (os : List (Option (Box Node Global))) (i : ℕ) (o : Option (Box Node Global)) (b : Box Node Global) (d : Subtree) → IsPacked os → i < length (subtrees os) → o ≡ get_or os i o → o ≡ Some b → get_or (subtrees os) i d ≡ b.value
 subtree_at os i o b d p lt e s =
     let n = length-subtrees os in
     let c = cell_at os i o b p (omega arith) e in
-    let f : b ≡ get_or (held os) i b = cc in
-    get_or-map (λ b. b.value) (held os) i b d (omega arith) ∙ ap (λ b. b.value) (sym f)
+    let f : b ≡ get_or (items_present os) i b = cc in
+    get_or-map (λ b. b.value) (items_present os) i b d (omega arith) ∙ ap (λ b. b.value) (sym f)
 
 module _ (bs : Branches) (a : AreBranches bs) where
   pub length-counts : length bs.counts.items ≡ length (below bs)
   length-counts = ap length a.counted ∙ length-map (below bs) (λ t. length t.slots)
 
-  pub length-nodes : length (held bs.nodes) ≡ length (below bs)
+  pub length-nodes : length (items_present bs.nodes) ≡ length (below bs)
   length-nodes = sym (length-subtrees bs.nodes)
 
   pub count_at : (i d : ℕ) → i < length (below bs) → get_or bs.counts.items i d ≡ length (get_or (below bs) i unused).slots
@@ -60,23 +60,23 @@ module _ (bs : Branches) (a : AreBranches bs) (cs : List ℕ) (same : cs ≡ bs.
 
 -- a branch more or less
 module _ (os ps : List (Option (Box Node Global))) (i : ℕ) where
-  pub below_insert : (b : Box Node Global) → held ps ≡ insert (held os) i b → subtrees ps ≡ insert (subtrees os) i b.value
-  below_insert b e = ap (λ l. map (λ b. b.value) l) e ∙ map-insert (λ b. b.value) (held os) i b
+  pub below_insert : (b : Box Node Global) → items_present ps ≡ insert (items_present os) i b → subtrees ps ≡ insert (subtrees os) i b.value
+  below_insert b e = ap (λ l. map (λ b. b.value) l) e ∙ map-insert (λ b. b.value) (items_present os) i b
 
-  pub below_remove : held ps ≡ remove (held os) i → subtrees ps ≡ remove (subtrees os) i
-  below_remove e = ap (λ l. map (λ b. b.value) l) e ∙ map-remove (λ b. b.value) (held os) i
+  pub below_remove : items_present ps ≡ remove (items_present os) i → subtrees ps ≡ remove (subtrees os) i
+  below_remove e = ap (λ l. map (λ b. b.value) l) e ∙ map-remove (λ b. b.value) (items_present os) i
 
-  pub below_take : held ps ≡ take i (held os) → subtrees ps ≡ take i (subtrees os)
-  below_take e = ap (λ l. map (λ b. b.value) l) e ∙ sym (take-map (λ b. b.value) i (held os))
+  pub below_take : items_present ps ≡ take i (items_present os) → subtrees ps ≡ take i (subtrees os)
+  below_take e = ap (λ l. map (λ b. b.value) l) e ∙ sym (take-map (λ b. b.value) i (items_present os))
 
-  pub below_drop : held ps ≡ drop i (held os) → subtrees ps ≡ drop i (subtrees os)
-  below_drop e = ap (λ l. map (λ b. b.value) l) e ∙ sym (drop-map (λ b. b.value) i (held os))
+  pub below_drop : items_present ps ≡ drop i (items_present os) → subtrees ps ≡ drop i (subtrees os)
+  below_drop e = ap (λ l. map (λ b. b.value) l) e ∙ sym (drop-map (λ b. b.value) i (items_present os))
 
 -- a branch that was taken out of its cell, and one that was put there
 pub branches_put : (old new : Branches) (i count : ℕ) (b : Box Node Global) → AreBranches old → i < length (below old) → new.nodes ≡ set (set old.nodes i None) i (Some b) → new.counts.items ≡ set old.counts.items i count → count ≡ length b.value.slots
     → AreBranches new × (below new ≡ set (below old) i b.value)
 branches_put old new i count b a lt n c k =
-    let w : i < length (held old.nodes) = omega (arith, length-nodes old a) in
+    let w : i < length (items_present old.nodes) = omega (arith, length-nodes old a) in
     let e : below new ≡ set (below old) i b.value = ap subtrees n ∙ put_subtrees old.nodes i b a.packed w in
     let p : IsPacked new.nodes = subst (λ l. IsPacked l) (sym n) (put_packed old.nodes i b a.packed w) in
     let f : set old.counts.items i count ≡ set old.counts.items i (length b.value.slots) = ap (λ x. set old.counts.items i x) k in

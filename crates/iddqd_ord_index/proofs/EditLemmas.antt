@@ -5,7 +5,7 @@ use Rattle.std.proofs.lemmas.List.{length-map, length-take-le, map-set, set-set,
 use Rattle.std.proofs.Math.Seq.{drop-append-add}
 use Rattle.std.proofs.lemmas.List.Elements.{All-set}
 use Rattle.std.proofs.lemmas.List.Edits.{insert-append_left, insert-append_right}
-use Rattle.iddqd_ord_index.specs.Cells.{held, filled, IsPacked}
+use Rattle.iddqd_ord_index.specs.Cells.{items_present, filled, IsPacked}
 use Rattle.iddqd_ord_index.specs.Shape.{Subtree, behind, weave, starts, lists, levels, IsAim, IsForked, IsBranch}
 use Rattle.iddqd_ord_index.specs.Nodes.{subtrees}
 use Rattle.iddqd_ord_index.specs.declared.tree.node.Node.{Node}
@@ -111,24 +111,24 @@ module _ (ls : List (List ℕ)) (ss : List ℕ) (at i rest : ℕ) (aim : IsAim l
       ∙ (ap (λ l. before ++ (get_or ls i [] ++ l)) f ∙ sym x))
 
 -- a branch that was taken out and put back
-module _ (os : List (Option (Box Node Global))) (i : ℕ) (b : Box Node Global) (p : IsPacked os) (lt : i < length (held os)) where
-  put_back : set (set os i None) i (Some b) ≡ filled (set (held os) i b)
+module _ (os : List (Option (Box Node Global))) (i : ℕ) (b : Box Node Global) (p : IsPacked os) (lt : i < length (items_present os)) where
+  put_back : set (set os i None) i (Some b) ≡ filled (set (items_present os) i b)
   put_back =
-      let n = length-set (held os) i b in
-      let m = length-map (held os) Some in
+      let n = length-set (items_present os) i b in
+      let m = length-map (items_present os) Some in
       set-set os i None (Some b)
       ∙ (ap (λ l. set l i (Some b)) p.cells
-      ∙ (set-append_left (map Some (held os)) _ i (Some b) (omega (arith, m, lt))
-      ∙ (rw (← map-set Some (held os) i b, n))))
+      ∙ (set-append_left (map Some (items_present os)) _ i (Some b) (omega (arith, m, lt))
+      ∙ (rw (← map-set Some (items_present os) i b, n))))
 
   pub put_packed : IsPacked (set (set os i None) i (Some b))
-  put_packed = packed_is _ (set (held os) i b) put_back (omega (arith, length-set (held os) i b, p.at_most_12))
+  put_packed = packed_is _ (set (items_present os) i b) put_back (omega (arith, length-set (items_present os) i b, p.at_most_12))
 
-  pub put_held : held (set (set os i None) i (Some b)) ≡ set (held os) i b
-  put_held = held_is _ (set (held os) i b) put_back
+  pub put_held : items_present (set (set os i None) i (Some b)) ≡ set (items_present os) i b
+  put_held = held_is _ (set (items_present os) i b) put_back
 
   pub put_subtrees : subtrees (set (set os i None) i (Some b)) ≡ set (subtrees os) i b.value
-  put_subtrees = ap (λ hs. map (λ b. b.value) hs) put_held ∙ map-set (λ b. b.value) (held os) i b
+  put_subtrees = ap (λ hs. map (λ b. b.value) hs) put_held ∙ map-set (λ b. b.value) (items_present os) i b
 
   pub put_lists : lists (subtrees (set (set os i None) i (Some b))) ≡ set (lists (subtrees os)) i b.value.slots
   put_lists = ap lists put_subtrees ∙ map-set (λ k. k.slots) (subtrees os) i b.value

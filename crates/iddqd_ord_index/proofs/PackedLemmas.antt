@@ -4,28 +4,28 @@ use Rattle.std.specs.List.{insert, remove}
 use Rattle.std.proofs.lemmas.List.{append-nil, length-map, length-replicate, length-take-le, map-append, take-map, drop-map, take-append-le, drop-append-le, replicate-append-replicate, set_at, replicate_more, take_at, drop_at, get_or-map, get_or_append_left, get_or-set_same, take-set, drop-set-lt, drop-drop, take_rest, take-replicate, drop-replicate, drop_all}
 use Rattle.std.proofs.lemmas.List.Edits.{insert-append_left, remove-append_left, length-insert, length-remove}
 use borrow.Rule.Slice.PartMut.{put_mid}
-use Rattle.iddqd_ord_index.specs.Cells.{held, filled, IsPacked}
+use Rattle.iddqd_ord_index.specs.Cells.{items_present, filled, IsPacked}
 
 module _ {T : Type 0} where
   abbrev none : Option T
   none = None
 
-  pub held_some : (xs : List T) (os : List (Option T)) → held (map Some xs ++ os) ≡ xs ++ held os
+  pub held_some : (xs : List T) (os : List (Option T)) → items_present (map Some xs ++ os) ≡ xs ++ items_present os
   held_some [] os = refl
   held_some (x ∷ xs) os = ap (λ ys. x ∷ ys) (held_some xs os)
 
-  pub held_none : (n : ℕ) → held (replicate n none) ≡ []
+  pub held_none : (n : ℕ) → items_present (replicate n none) ≡ []
   held_none zero = refl
   held_none (suc n) = held_none n
 
-  pub held_filled : (xs : List T) → held (filled xs) ≡ xs
+  pub held_filled : (xs : List T) → items_present (filled xs) ≡ xs
   held_filled xs = held_some xs _ ∙ (ap (λ ys. xs ++ ys) (held_none (12 - length xs)) ∙ append-nil xs)
 
   -- cells that are a filled list hold that list
   pub packed_is : (os : List (Option T)) (xs : List T) → os ≡ filled xs → length xs ≤ 12 → IsPacked os
   packed_is os xs e le = rw e (record { cells = ap filled (sym (held_filled xs)); at_most_12 = rw held_filled le })
 
-  pub held_is : (os : List (Option T)) (xs : List T) → os ≡ filled xs → held os ≡ xs
+  pub held_is : (os : List (Option T)) (xs : List T) → os ≡ filled xs → items_present os ≡ xs
   held_is os xs e = rw e (held_filled xs)
 
   pub map-insert : {B : Type 0} (f : T → B) (xs : List T) (i : ℕ) (x : T) → map f (insert xs i x) ≡ insert (map f xs) i (f x)
@@ -115,63 +115,63 @@ module _ {T : Type 0} where
   pub length_filled : (xs : List T) → length xs ≤ 12 → length (filled xs) ≡ 12
   length_filled xs le = length-append (map Some xs) _ ∙ (rw (length-map xs Some, length-replicate (12 - length xs) none) (omega arith))
 
-  empty_cells : (us : List (Option T)) → IsPacked us → held us ≡ [] → us ≡ replicate 12 none
+  empty_cells : (us : List (Option T)) → IsPacked us → items_present us ≡ [] → us ≡ replicate 12 none
   empty_cells us p z = p.cells ∙ ap filled z
 
   -- what `move_tail` leaves
-  pub moved_lower : (os us mid : List (Option T)) (at : ℕ) → IsPacked os → IsPacked us → held us ≡ [] → at ≤ length (held os)
-      → mid ≡ take (12 - at) us → put_mid at (length os - at) os mid ≡ filled (take at (held os))
+  pub moved_lower : (os us mid : List (Option T)) (at : ℕ) → IsPacked os → IsPacked us → items_present us ≡ [] → at ≤ length (items_present os)
+      → mid ≡ take (12 - at) us → put_mid at (length os - at) os mid ≡ filled (take at (items_present os))
   moved_lower os us mid at p q z le m =
-      let n : length os ≡ 12 = ap length p.cells ∙ length_filled (held os) p.at_most_12 in
+      let n : length os ≡ 12 = ap length p.cells ∙ length_filled (items_present os) p.at_most_12 in
       let d : drop (length os - at) (drop at os) ≡ [] = drop-drop (length os - at) at os ∙ drop_all _ os (omega (arith, p.at_most_12)) in
       let r = take-replicate (12 - at) 12 none (omega arith) in
       let k : mid ≡ replicate (12 - at) none = m ∙ (ap (λ l. take (12 - at) l) (empty_cells us q z) ∙ r) in
-      ap (λ l. take at os ++ (mid ++ l)) d ∙ (ap (λ l. take at os ++ l) (append-nil mid ∙ k) ∙ cut_lower os (held os) at p.cells le p.at_most_12)
+      ap (λ l. take at os ++ (mid ++ l)) d ∙ (ap (λ l. take at os ++ l) (append-nil mid ∙ k) ∙ cut_lower os (items_present os) at p.cells le p.at_most_12)
 
-  pub moved_upper : (os us mid : List (Option T)) (at : ℕ) → IsPacked os → IsPacked us → held us ≡ [] → at ≤ length (held os)
-      → mid ≡ take (length os - at) (drop at os) → mid ++ drop (12 - at) us ≡ filled (drop at (held os))
+  pub moved_upper : (os us mid : List (Option T)) (at : ℕ) → IsPacked os → IsPacked us → items_present us ≡ [] → at ≤ length (items_present os)
+      → mid ≡ take (length os - at) (drop at os) → mid ++ drop (12 - at) us ≡ filled (drop at (items_present os))
   moved_upper os us mid at p q z le m =
       let t : mid ≡ drop at os = m ∙ take_rest os at in
       let k : 12 - (12 - at) ≡ at = omega (arith, p.at_most_12) in
       let r : drop (12 - at) us ≡ replicate at none = ap (λ l. drop (12 - at) l) (empty_cells us q z) ∙ (drop-replicate (12 - at) 12 none ∙ ap (λ j. replicate j none) k) in
-      ap (λ l. l ++ drop (12 - at) us) t ∙ (ap (λ l. drop at os ++ l) r ∙ cut_upper os (held os) at p.cells le p.at_most_12)
+      ap (λ l. l ++ drop (12 - at) us) t ∙ (ap (λ l. drop at os ++ l) r ∙ cut_upper os (items_present os) at p.cells le p.at_most_12)
 
   -- what `append` leaves
-  pub joined_lower : (os us mid : List (Option T)) (len more : ℕ) → IsPacked os → IsPacked us → len ≡ length (held os) → more ≡ length (held us) → len + more ≤ 12
-      → mid ≡ take more us → put_mid len ((len + more) - len) os mid ≡ filled (held os ++ held us)
+  pub joined_lower : (os us mid : List (Option T)) (len more : ℕ) → IsPacked os → IsPacked us → len ≡ length (items_present os) → more ≡ length (items_present us) → len + more ≤ 12
+      → mid ≡ take more us → put_mid len ((len + more) - len) os mid ≡ filled (items_present os ++ items_present us)
   joined_lower os us mid len more p q a b le m =
       let k : (len + more) - len ≡ more = omega arith in
-      rw (k, m, a, b) (join_lower os us (held os) (held us) p.cells q.cells (omega arith))
+      rw (k, m, a, b) (join_lower os us (items_present os) (items_present us) p.cells q.cells (omega arith))
 
-  pub joined_upper : (os us mid : List (Option T)) (len more : ℕ) → IsPacked os → IsPacked us → len ≡ length (held os) → more ≡ length (held us) → len + more ≤ 12
+  pub joined_upper : (os us mid : List (Option T)) (len more : ℕ) → IsPacked os → IsPacked us → len ≡ length (items_present os) → more ≡ length (items_present us) → len + more ≤ 12
       → mid ≡ take ((len + more) - len) (drop len os) → mid ++ drop more us ≡ filled []
   joined_upper os us mid len more p q a b le m =
       let k : (len + more) - len ≡ more = omega arith in
-      rw (m, k, a, b) (join_upper os us (held os) (held us) p.cells q.cells (omega arith))
+      rw (m, k, a, b) (join_upper os us (items_present os) (items_present us) p.cells q.cells (omega arith))
 
   -- what `remove` leaves
-  pub removed : (os new : List (Option T)) (o : Option T) (i : ℕ) → IsPacked os → i < length (held os) → o ≡ none
+  pub removed : (os new : List (Option T)) (o : Option T) (i : ℕ) → IsPacked os → i < length (items_present os) → o ≡ none
       → ((d : Option T) → new ≡ remove (set os i o) i ++ get_or (set os i o) i d ∷ [])
-      → new ≡ filled (remove (held os) i)
+      → new ≡ filled (remove (items_present os) i)
   removed os new o i p lt z h =
-      let n : length os ≡ 12 = ap length p.cells ∙ length_filled (held os) p.at_most_12 in
+      let n : length os ≡ 12 = ap length p.cells ∙ length_filled (items_present os) p.at_most_12 in
       let g = get_or-set_same os i o none (omega (arith, p.at_most_12)) in
       let t = take-set os i o in
       let d = drop-set-lt (suc i) os i o (omega arith) in
-      take_out os new (held os) i p.cells lt p.at_most_12
+      take_out os new (items_present os) i p.cells lt p.at_most_12
       (h none ∙ (ap (λ l. (l ++ drop (suc i) (set os i o)) ++ get_or (set os i o) i none ∷ []) t ∙ (ap (λ l. (take i os ++ l) ++ get_or (set os i o) i none ∷ []) d ∙ ap (λ x. remove os i ++ x ∷ []) (g ∙ z))))
 
   -- a cell in front holds the item there
-  pub cell_at : (os : List (Option T)) (i : ℕ) (o : Option T) (d : T) → IsPacked os → i < length (held os) → o ≡ get_or os i o → o ≡ Some (get_or (held os) i d)
+  pub cell_at : (os : List (Option T)) (i : ℕ) (o : Option T) (d : T) → IsPacked os → i < length (items_present os) → o ≡ get_or os i o → o ≡ Some (get_or (items_present os) i d)
   cell_at os i o d p lt e =
-      let n : length (map Some (held os)) ≡ length (held os) = length-map (held os) Some in
-      e ∙ (ap (λ l. get_or l i o) p.cells ∙ (get_or_append_left (map Some (held os)) _ o i (omega arith) ∙ get_or-map Some (held os) i d o lt))
+      let n : length (map Some (items_present os)) ≡ length (items_present os) = length-map (items_present os) Some in
+      e ∙ (ap (λ l. get_or l i o) p.cells ∙ (get_or_append_left (map Some (items_present os)) _ o i (omega arith) ∙ get_or-map Some (items_present os) i d o lt))
 
   first_of : (xs : List T) (i : ℕ) → i < length xs → T
   first_of [] i lt = absurd (omega arith)
   first_of (x ∷ xs) i lt = x
 
-  pub held_cell : (os : List (Option T)) (i : ℕ) (o : Option T) → IsPacked os → i < length (held os) → o ≡ get_or os i o → get_or os i o ≡ none → ⊥
+  pub held_cell : (os : List (Option T)) (i : ℕ) (o : Option T) → IsPacked os → i < length (items_present os) → o ≡ get_or os i o → get_or os i o ≡ none → ⊥
   held_cell os i o p lt e z =
-      let s = cell_at os i o (first_of (held os) i lt) p lt e in
+      let s = cell_at os i o (first_of (items_present os) i lt) p lt e in
       cc

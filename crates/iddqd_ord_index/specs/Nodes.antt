@@ -1,7 +1,7 @@
 -- What the fields of a node show. No public clause cites this module.
 use Rattle.std.specs.Prelude.{◌≡◌, List, length, map, Option}
 use Rattle.std.proofs.Common.{Box, Global}
-use Rattle.iddqd_ord_index.specs.Cells.{held, IsPacked}
+use Rattle.iddqd_ord_index.specs.Cells.{items_present, IsPacked}
 use Rattle.iddqd_ord_index.specs.Shape.{Subtree, tree, IsForked}
 use Rattle.iddqd_ord_index.specs.declared.tree.node.Branches.{Branches}
 use Rattle.iddqd_ord_index.specs.declared.tree.node.Node.{Node}
@@ -9,7 +9,7 @@ use Rattle.iddqd_ord_index.specs.declared.tree.node.Node.TheInside.{Inside}
 
 -- the subtrees in these cells
 abbrev pub subtrees : List (Option (Box Node Global)) → List Subtree
-subtrees os = map (λ b. b.value) (held os)
+subtrees os = map (λ b. b.value) (items_present os)
 
 -- the subtrees below a node with these branches
 abbrev pub below : Branches → List Subtree

@@ -16,24 +16,24 @@ use Rattle.std.proofs.lemmas.List.{drop_all, length-append, length-map, length-t
 use Rattle.std.proofs.lemmas.Option.{slice_get_within}
 use Rattle.std.proofs.lemmas.List.Splits.{length-slice_split}
 use Rattle.std.proofs.lemmas.List.Sorted.{IsPermutation-append_left, IsPermutation-sym, IsPermutation-to_front, IsPermutation-trans}
-use Rattle.iddqd.specs.Collecting.{likely_new}
-use Rattle.iddqd.specs.Contents.{find_item, placed}
+use Rattle.iddqd.specs.Collecting.{room_to_reserve}
+use Rattle.iddqd.specs.Contents.{find_item, items_with}
 use Rattle.iddqd.specs.Errors.{duplicates_of, new_item_of}
 use Rattle.iddqd.specs.Holding.{max_items}
-use Rattle.iddqd.specs.Refusal.{FindsNoRoom, IsLent, RefusalKind, refusal_kind, reservation_kind}
+use Rattle.iddqd.specs.Refusal.{FindsNoRoom, IsOnly, RefusalKind, refusal_kind, reservation_kind}
 use Rattle.iddqd.proofs.OrderLemmas.{differ_moved, find_moved}
 use Rattle.iddqd_run.specs.Answer as answer
 use Rattle.iddqd_run.specs.Answer.{added_text, all_placed, entry_named, how_many_added, how_many_fit, is_full, lacks_room, name_cmp, name_of}
 use Rattle.iddqd.specs.declared.errors.ExtendUniqueError.TheVariants.{Duplicate, Refused}
-use Rattle.iddqd_commands.specs.KeyedMap.{StopsExtension}
-use Rattle.iddqd_lines.specs.Lines.{AddAll, is_name, onto_pairs, paired_request, pairs_of, value_of, words_of}
-use Rattle.iddqd_run.specs.Shown.{AnswersPlainly, AnswersRequest, LeavesRefused, ShowsEntries, entries_of, entry_of, no_room_reply, no_space_reply, shown}
-use Rattle.iddqd_commands.specs.Step.{FindsFull, FitsLikely, MapState, RefusesRoom, StopsAt, TakesAll}
-use Rattle.iddqd_lines.specs.declared.arguments.Kind.{Kind}
+use Rattle.idtable_commands.specs.KeyedMap.{StopsExtension}
+use Rattle.idtable_lines.specs.Lines.{AddAll, is_name, onto_pairs, paired_request, pairs_of, value_of, words_of}
+use Rattle.iddqd_run.specs.Shown.{AnswersPlainly, AnswersRequest, LeavesRefused, ShowsEntries, entries_of, entry_of, no_room_reply, no_space_reply, reply_text}
+use Rattle.idtable_commands.specs.Step.{FindsFull, FitsLikely, MapState, RefusesRoom, StopsAt, InsertsAll}
+use Rattle.idtable_lines.specs.declared.arguments.Kind.{Kind}
 use Rattle.iddqd_run.specs.declared.entries.Entry.{Entry}
 use Rattle.iddqd_run.specs.declared.entries.LineReply.TheVariants.{AddedAll, Bad, DuplicateAfter, RefusedCapacity, RefusedMemory}
 use Rattle.iddqd_run.specs.declared.entries.LineReply.{LineReply}
-use Rattle.iddqd_commands.proofs.ExtendLemmas.{absent_before, as_many, counted, cut_at}
+use Rattle.idtable_commands.proofs.ExtendLemmas.{absent_before, as_many, counted, cut_at}
 use Rattle.iddqd_run.proofs.ShownLemmas.{absent_shown, asks_room, by_name, has_room, length_shown, moved_shown, placed_shown, there_shown}
 
 abbrev pub after_pairs : List (List ℕ × ℕ) → Option (List (List ℕ × ℕ)) → Option (List (List ℕ × ℕ))
@@ -41,7 +41,7 @@ after_pairs front None = None
 after_pairs front (Some pairs) = Some (front ++ pairs)
 
 -- more items are put in beside x, which is
-next_taken : (x : Entry) (xs items new : List Entry) → TakesAll by_name string_eq max_items (x ∷ xs) items new → TakesAll by_name string_eq max_items xs (x ∷ items) new
+next_taken : (x : Entry) (xs items new : List Entry) → InsertsAll by_name string_eq max_items (x ∷ xs) items new → InsertsAll by_name string_eq max_items xs (x ∷ items) new
 next_taken x xs items new takes =
     let front : IsPermutation ((items ++ x ∷ []) ++ xs) ((x ∷ items) ++ xs) = IsPermutation-append_left xs (items ++ x ∷ []) (x ∷ items) (IsPermutation-to_front items x) in
     let moved : IsPermutation (items ++ x ∷ xs) ((x ∷ items) ++ xs) = subst (λ l. IsPermutation l ((x ∷ items) ++ xs)) (append_assoc items (x ∷ []) xs) front in
@@ -59,7 +59,7 @@ record IsThrough (xs items new : List Entry) (entries : List answer.Entry) : Typ
   fits : (more : List answer.Entry) → how_many_fit (entries_of xs ++ more) entries ≡ length xs + how_many_fit more (all_placed (entries_of xs) entries)
 
 module _ (kind : Kind) where
-  through : (xs items new : List Entry) → TakesAll by_name string_eq max_items xs items new → (entries : List answer.Entry) → ShowsEntries items entries → IsThrough xs items new entries
+  through : (xs items new : List Entry) → InsertsAll by_name string_eq max_items xs items new → (entries : List answer.Entry) → ShowsEntries items entries → IsThrough xs items new entries
   through [] items new takes entries shows = record {
     shows = moved_shown kind items new (subst (λ l. IsPermutation l new) (append-nil items) takes.added.same) entries shows;
     fits = λ more. omega arith;
@@ -67,7 +67,7 @@ module _ (kind : Kind) where
   through (x ∷ xs) items new takes entries shows =
       let absent : find_item by_name (string_eq x.name) items ≡ None = absent_before by_name string_eq_equiv items xs x takes.added.differ in
       let few : length items < max_items = omega (arith, takes.room (omega arith), as_many by_name string_eq_equiv (x ∷ xs) items new takes.added) in
-      let next = placed name_of name_cmp (entry_of x) entries in
+      let next = items_with name_of name_cmp (entry_of x) entries in
       let shown_next : ShowsEntries (x ∷ items) next = placed_shown kind x items (string_bytes x.name) refl (x ∷ items) absent entries shows (record { place = 0; within = omega arith; put = refl }) in
       let rest = through xs (x ∷ items) new (next_taken x xs items new takes) next shown_next in
       record {
@@ -78,13 +78,13 @@ module _ (kind : Kind) where
             omega (arith, step, rest.fits more);
       }
 
-  likely_room : (xs items : List Entry) (entries : List answer.Entry) → ShowsEntries items entries → length items + likely_new (length items) (length xs) ≤ max_items → lacks_room (entries_of xs) entries ≡ false
+  likely_room : (xs items : List Entry) (entries : List answer.Entry) → ShowsEntries items entries → length items + room_to_reserve (length items) (length xs) ≤ max_items → lacks_room (entries_of xs) entries ≡ false
   likely_room xs items entries shows fits =
-      let below : nat_lt max_items (length items + likely_new (length items) (length xs)) ≡ false = search (rules, fits) in
-      ap₂ (λ m n. nat_lt max_items (m + likely_new m n)) (length_shown items entries shows) (length-map xs entry_of) ∙ below
+      let below : nat_lt max_items (length items + room_to_reserve (length items) (length xs)) ≡ false = search (rules, fits) in
+      ap₂ (λ m n. nat_lt max_items (m + room_to_reserve m n)) (length_shown items entries shows) (length-map xs entry_of) ∙ below
 
   -- all are in
-  pub all_answered : (xs items new : List Entry) → FitsLikely by_name string_eq max_items xs items → TakesAll by_name string_eq max_items xs items new → (count : ℕ) → count ≡ length xs → AnswersRequest kind (AddAll (entries_of xs)) items (AddedAll count) new
+  pub all_answered : (xs items new : List Entry) → FitsLikely by_name string_eq max_items xs items → InsertsAll by_name string_eq max_items xs items new → (count : ℕ) → count ≡ length xs → AnswersRequest kind (AddAll (entries_of xs)) items (AddedAll count) new
   all_answered xs items new fits takes count e = λ entries shows.
       let ps = entries_of xs in
       let thr = through xs items new takes entries shows in
@@ -99,7 +99,7 @@ module _ (kind : Kind) where
       }
 
   -- the first ones are in, and x comes next
-  module _ (front rest : List Entry) (x : Entry) (items new : List Entry) (takes : TakesAll by_name string_eq max_items front items new) (entries : List answer.Entry) (shows : ShowsEntries items entries) (fits : length items + likely_new (length items) (length (front ++ x ∷ rest)) ≤ max_items) where
+  module _ (front rest : List Entry) (x : Entry) (items new : List Entry) (takes : InsertsAll by_name string_eq max_items front items new) (entries : List answer.Entry) (shows : ShowsEntries items entries) (fits : length items + room_to_reserve (length items) (length (front ++ x ∷ rest)) ≤ max_items) where
     abbrev given : List answer.Entry
     given = entries_of (front ++ x ∷ rest)
 
@@ -148,21 +148,21 @@ module _ (kind : Kind) where
       after = thr.shows;
     }
 
-    conflict_here : (y : Entry) → find_item by_name (string_eq x.name) new ≡ Some y → (told : Bor (List ℕ)) (value count : ℕ) → told.now ≡ string_bytes x.name → value ≡ y.value → count ≡ length front → AnswersPlainly kind (AddAll given) entries (shown (DuplicateAfter told value count)) new
+    conflict_here : (y : Entry) → find_item by_name (string_eq x.name) new ≡ Some y → (told : Bor (List ℕ)) (value count : ℕ) → told.now ≡ string_bytes x.name → value ≡ y.value → count ≡ length front → AnswersPlainly kind (AddAll given) entries (reply_text (DuplicateAfter told value count)) new
     conflict_here y found told value count e f h =
         let there : entry_named (string_bytes x.name) end ≡ Some (entry_of y) = there_shown (string_bytes x.name) new end thr.shows y found in
         let on_old : answer.Entry → List ℕ = λ old. codes "duplicate " ++ string_bytes x.name ++ codes " " ++ decimal old.1 ++ codes " after " ++ decimal (length front) in
-        stuck_plainly (shown (DuplicateAfter told value count)) (rw there refl)
+        stuck_plainly (reply_text (DuplicateAfter told value count)) (rw there refl)
         (ap (λ n. codes "duplicate " ++ n ++ codes " " ++ decimal value ++ codes " after " ++ decimal count) e
         ∙ ap (λ v. codes "duplicate " ++ string_bytes x.name ++ codes " " ++ decimal v ++ codes " after " ++ decimal count) f
         ∙ ap (λ n. codes "duplicate " ++ string_bytes x.name ++ codes " " ++ decimal y.value ++ codes " after " ++ decimal n) h
         ∙ sym (ap (λ o. option_map_or on_old o (codes "refused capacity")) there))
 
-    full_here : find_item by_name (string_eq x.name) new ≡ None → length new ≡ max_items → AnswersPlainly kind (AddAll given) entries (shown RefusedCapacity) new
+    full_here : find_item by_name (string_eq x.name) new ≡ None → length new ≡ max_items → AnswersPlainly kind (AddAll given) entries (reply_text RefusedCapacity) new
     full_here absent full =
         let none : entry_named (string_bytes x.name) end ≡ None = absent_shown (string_bytes x.name) new end thr.shows absent in
         let at_limit : is_full end ≡ true = eq-eqb (length end) max_items (length_shown new end thr.shows ∙ full) in
-        stuck_plainly (shown RefusedCapacity)
+        stuck_plainly (reply_text RefusedCapacity)
         (rw none (rw at_limit refl))
         (rw none refl)
 
@@ -170,8 +170,8 @@ module _ (kind : Kind) where
     cut : (rest : List Entry) × (xs ≡ take after xs ++ x ∷ rest)
     cut = let at = cut_at xs after (length xs) x stops.next (slice_get_within xs after x stops.next) in (at.0, sym (take-length xs) ∙ at.1)
 
-    fits_cut : length items + likely_new (length items) (length (take after xs ++ x ∷ cut.0)) ≤ max_items
-    fits_cut = subst (λ zs. length items + likely_new (length items) (length zs) ≤ max_items) cut.1 fits
+    fits_cut : length items + room_to_reserve (length items) (length (take after xs ++ x ∷ cut.0)) ≤ max_items
+    fits_cut = subst (λ zs. length items + room_to_reserve (length items) (length zs) ≤ max_items) cut.1 fits
 
     so_many : length (take after xs) ≡ after
     so_many = length-take-le after xs (let within = slice_get_within xs after x stops.next in omega (arith, within))
@@ -195,15 +195,15 @@ module _ (kind : Kind) where
         by false e = λ entries shows. refused_here (take after xs) cut.0 x items new stops.taken entries shows fits_cut
 
   -- room for as many as are likely new was refused
-  pub no_room_told : (xs : List Entry) (old : MapState Entry) (new : List Entry) (error : RefusalKind) → RefusesRoom max_items (likely_new (length old.items) (length xs)) old error → new ≡ old.items → (reply : LineReply) → (error ≡ reservation_kind max_items (length old.items + likely_new (length old.items) (length xs)) → reply ≡ no_space_reply (length old.items + likely_new (length old.items) (length xs))) → AnswersRequest kind (AddAll (entries_of xs)) old.items reply new
+  pub no_room_told : (xs : List Entry) (old : MapState Entry) (new : List Entry) (error : RefusalKind) → RefusesRoom max_items (room_to_reserve (length old.items) (length xs)) old error → new ≡ old.items → (reply : LineReply) → (error ≡ reservation_kind max_items (length old.items + room_to_reserve (length old.items) (length xs)) → reply ≡ no_space_reply (length old.items + room_to_reserve (length old.items) (length xs))) → AnswersRequest kind (AddAll (entries_of xs)) old.items reply new
   no_room_told xs old new error refuses same reply told =
-      let wanted = length old.items + likely_new (length old.items) (length xs) in
+      let wanted = length old.items + room_to_reserve (length old.items) (length xs) in
       subst (λ r. AnswersRequest kind (AddAll (entries_of xs)) old.items r new) (sym (told refuses.0)) (by (nat_lt max_items wanted) refl)
     where
-      same_room : (entries : List answer.Entry) → ShowsEntries old.items entries → lacks_room (entries_of xs) entries ≡ nat_lt max_items (length old.items + likely_new (length old.items) (length xs))
-      same_room entries shows = ap₂ (λ m n. nat_lt max_items (m + likely_new m n)) (length_shown old.items entries shows) (length-map xs entry_of)
+      same_room : (entries : List answer.Entry) → ShowsEntries old.items entries → lacks_room (entries_of xs) entries ≡ nat_lt max_items (length old.items + room_to_reserve (length old.items) (length xs))
+      same_room entries shows = ap₂ (λ m n. nat_lt max_items (m + room_to_reserve m n)) (length_shown old.items entries shows) (length-map xs entry_of)
 
-      some : (zs : List Entry) → old.spare < likely_new (length old.items) (length zs) → 0 < length zs
+      some : (zs : List Entry) → old.spare < room_to_reserve (length old.items) (length zs) → 0 < length zs
       some [] below = absurd (none (eqb (length old.items) 0) below)
         where
           none : (b : Bool) → old.spare < cond b 0 0 → ⊥
@@ -211,7 +211,7 @@ module _ (kind : Kind) where
           none false lt = omega (arith, lt)
       some (z ∷ zs) below = omega arith
 
-      by : (b : Bool) → nat_lt max_items (length old.items + likely_new (length old.items) (length xs)) ≡ b → AnswersRequest kind (AddAll (entries_of xs)) old.items (cond b RefusedCapacity RefusedMemory) new
+      by : (b : Bool) → nat_lt max_items (length old.items + room_to_reserve (length old.items) (length xs)) ≡ b → AnswersRequest kind (AddAll (entries_of xs)) old.items (cond b RefusedCapacity RefusedMemory) new
       by true e = λ entries shows.
           let lacks : lacks_room (entries_of xs) entries ≡ true = same_room entries shows ∙ e in
           record { text = rw lacks refl; after = rw lacks (subst (λ is. ShowsEntries is entries) (sym same) shows) }
@@ -230,11 +230,11 @@ module _ (kind : Kind) where
     here : (P : (Entry → String Global) → ℕ → Type 0) → P key limit → P by_name max_items
     here P p = subst (P by_name) most (subst (λ k. P k limit) names p)
 
-    pub all_sent : FitsLikely key string_eq limit xs old.items → TakesAll key string_eq limit xs old.items new → (count : ℕ) → count ≡ length xs → AnswersRequest kind (AddAll (entries_of xs)) old.items (AddedAll count) new
+    pub all_sent : FitsLikely key string_eq limit xs old.items → InsertsAll key string_eq limit xs old.items new → (count : ℕ) → count ≡ length xs → AnswersRequest kind (AddAll (entries_of xs)) old.items (AddedAll count) new
     all_sent fits takes count e =
-        all_answered xs old.items new (here (λ k n. FitsLikely k string_eq n xs old.items) fits) (here (λ k n. TakesAll k string_eq n xs old.items new) takes) count e
+        all_answered xs old.items new (here (λ k n. FitsLikely k string_eq n xs old.items) fits) (here (λ k n. InsertsAll k string_eq n xs old.items new) takes) count e
 
-    pub conflict_sent : (d : _) → StopsExtension key string_eq limit xs old new (Duplicate d) → (before now : ℕ) → before ≡ length old.items → now ≡ length new → (told : Bor (List ℕ)) (value : ℕ) → told.now ≡ string_bytes (new_item_of d).name → ((y : Entry) → IsLent (duplicates_of d) y → value ≡ y.value)
+    pub conflict_sent : (d : _) → StopsExtension key string_eq limit xs old new (Duplicate d) → (before now : ℕ) → before ≡ length old.items → now ≡ length new → (told : Bor (List ℕ)) (value : ℕ) → told.now ≡ string_bytes (new_item_of d).name → ((y : Entry) → IsOnly (duplicates_of d) y → value ≡ y.value)
         → AnswersRequest kind (AddAll (entries_of xs)) old.items (DuplicateAfter told value (now - before)) new
     conflict_sent d stopped before now b n told value e shows_value =
         let (y, lent, fits, after, meets) = here (λ k m. StopsExtension k string_eq m xs old new (Duplicate d)) stopped in
@@ -245,9 +245,9 @@ module _ (kind : Kind) where
         → AnswersRequest kind (AddAll (entries_of xs)) old.items reply new
     refused_sent e stopped reply full space = (let told = here (λ k m. StopsExtension k string_eq m xs old new (Refused e)) stopped in by e.item told.0 told.1)
       where
-        by : (item : Option Entry) → IfSome item (λ x. FitsLikely by_name string_eq max_items xs old.items × (after : ℕ) × FindsFull by_name string_eq max_items xs x e.error after old new) → IfNone item (RefusesRoom max_items (likely_new (length old.items) (length xs)) old e.error × (new ≡ old.items)) → AnswersRequest kind (AddAll (entries_of xs)) old.items reply new
+        by : (item : Option Entry) → IfSome item (λ x. FitsLikely by_name string_eq max_items xs old.items × (after : ℕ) × FindsFull by_name string_eq max_items xs x e.error after old new) → IfNone item (RefusesRoom max_items (room_to_reserve (length old.items) (length xs)) old e.error × (new ≡ old.items)) → AnswersRequest kind (AddAll (entries_of xs)) old.items reply new
         by (Some x) some none = full_told xs old.items x some.1 new some.0 some.2.stops e.error some.2.refused reply (full new)
-        by None some none = no_room_told xs old new e.error none.0 none.1 reply (space (length old.items + likely_new (length old.items) (length xs)))
+        by None some none = no_room_told xs old new e.error none.0 none.1 reply (space (length old.items + room_to_reserve (length old.items) (length xs)))
 
 -- fields that follow the form are one pair at least
 some_pair : (fields : List ℕ) (pairs : List answer.Entry) → pairs_of (words_of fields) ≡ Some pairs → 0 < length pairs

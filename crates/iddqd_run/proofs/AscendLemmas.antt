@@ -2,7 +2,7 @@
 --     entries_are      the entries of items that ascend by name are those that are shown
 --     by_name_of      where the names ascend, so do the entries
 --     by_name_sorted      what a sort by names leaves, where the names differ
-use Rattle.std.proofs.Common.{◌≡◌, ℕ, ◌+◌, ◌<◌, false, List, [], ◌∷◌, length, map, get_or, refl, ap, ◌∙◌, arith, Ordering, Less, Equal, Greater, String, Global, string_bytes}
+use Rattle.std.proofs.Common.{◌≡◌, ℕ, ◌+◌, ◌<◌, false, List, [], ◌∷◌, length, map, get_or, refl, ap, ◌∙◌, arith, Ordering, Less, Equal, Greater, String, Global, string_bytes, IsPermutation}
 use Rattle.std.proofs.lemmas.List.Sorted.{IsPermutation-map, IsPermutation-sym, IsPermutation-trans}
 use Rattle.std.specs.Cmp.Lexicographic.{nat_list_cmp_total, texts_ties}
 use Rattle.std.specs.List.{AllByRecursion}
@@ -14,15 +14,15 @@ use Rattle.std.proofs.Common.{Bor}
 use Rattle.std.proofs.lemmas.List.{get_or-map, length-map}
 use Rattle.std.proofs.lemmas.Map.Keys.{apart_from_distinct, sorted_from_all_adjacent}
 use Rattle.std.specs.List.Sorted.{IsSortedBy}
-use Rattle.iddqd.specs.Contents.{Ascends, NoTwoAkin, SameInAnyOrder}
-use Rattle.iddqd_commands.proofs.AscendLemmas.{same_ascending}
+use Rattle.iddqd.specs.Contents.{Ascends, NoTwoAkin}
+use Rattle.idtable_commands.proofs.AscendLemmas.{same_ascending}
 use Rattle.iddqd_run.specs.Answer as answer
 use Rattle.iddqd_run.specs.Answer.{name_of, name_cmp}
 use Rattle.iddqd_run.specs.Shown.{AreByName, ShowsEntries, all_lent, entries_of, entry_of}
 use Rattle.iddqd_run.specs.declared.entries.Entry.{Entry}
 
 -- the items, in the order of their names, are what the entries show
-pub entries_are : (items sorted : List Entry) (entries : List answer.Entry) → SameInAnyOrder items sorted → AreByName sorted → ShowsEntries items entries → entries ≡ entries_of sorted
+pub entries_are : (items sorted : List Entry) (entries : List answer.Entry) → IsPermutation items sorted → AreByName sorted → ShowsEntries items entries → entries ≡ entries_of sorted
 entries_are items sorted entries same ascending shows =
     let one = IsPermutation-map entry_of items sorted same in
     let there = IsPermutation-trans entries (entries_of items) (entries_of sorted) (IsPermutation-sym (entries_of items) entries shows.same) one in

@@ -2,22 +2,21 @@
 --     unsupported_end, plain_end      `first` and `last`
 --     unsupported_pop, plain_pop      `popfirst` and `poplast`
 --     lists_items      `list`
-use Rattle.std.proofs.Common.{◌≡◌, ℕ, suc, ◌-◌, List, [], ◌∷◌, ◌++◌, length, drop, take, Option, sym, ap, ◌∙◌, subst, arith, append-nil, append_assoc}
+use Rattle.std.proofs.Common.{◌≡◌, ℕ, suc, ◌-◌, List, [], ◌∷◌, ◌++◌, length, drop, take, Option, sym, ap, ◌∙◌, subst, arith, append-nil, append_assoc, IsPermutation}
 use Rattle.std.specs.Prelude.{codes, decimal}
 use Rattle.std.proofs.lemmas.List.{drop_all, length-map}
 use Rattle.std.proofs.lemmas.List.Sorted.{IsPermutation-refl}
 use Rattle.std.proofs.lemmas.Option.{slice_get-map}
 use Rattle.std.specs.List.{remove, slice_get}
 use Rattle.std.specs.Option.{option_map}
-use Rattle.iddqd.specs.Contents.{SameInAnyOrder}
 use Rattle.iddqd.proofs.KeepsLemmas.{ascends_remove}
 use Rattle.iddqd.proofs.MappedLemmas.{remove-map}
 use Rattle.iddqd_run.specs.Answer as answer
 use Rattle.iddqd_run.specs.Answer.{by_ends, end_text, entries_after, line_reply, list_text, name_of, name_cmp}
-use Rattle.iddqd_lines.specs.Lines.{Request, First, Last, PopFirst, PopLast}
-use Rattle.iddqd_run.specs.Shown.{AnswersPlainly, AnswersRequest, AreByName, HasEnds, ListsItems, ShowsEntries, entries_of, entry_of, refusals_of, shown}
-use Rattle.iddqd_lines.specs.declared.arguments.Kind.{Kind}
-use Rattle.iddqd_lines.specs.declared.arguments.Kind.TheVariants.{Hash, Ord}
+use Rattle.idtable_lines.specs.Lines.{Request, First, Last, PopFirst, PopLast}
+use Rattle.iddqd_run.specs.Shown.{AnswersPlainly, AnswersRequest, AreByName, HasEnds, ListsItems, ShowsEntries, entries_of, entry_of, refusals_of, reply_text}
+use Rattle.idtable_lines.specs.declared.arguments.Kind.{Kind}
+use Rattle.idtable_lines.specs.declared.arguments.Kind.TheVariants.{Hash, Ord}
 use Rattle.iddqd_run.specs.declared.entries.Entry.{Entry}
 use Rattle.iddqd_run.specs.declared.entries.LineReply.{LineReply}
 use Rattle.iddqd_run.specs.declared.entries.LineReply.TheVariants.{RefusedMemory, Unsupported}
@@ -41,7 +40,7 @@ module _ (items : List Entry) (ascending : AreByName items) (entries : List answ
   left_shown i =
       let left : entries_of (remove items i) ≡ remove entries i = remove-map entry_of items i ∙ ap (λ es. remove es i) (sym are) in
       record {
-        same = subst (λ es. SameInAnyOrder (entries_of (remove items i)) es) left (IsPermutation-refl (entries_of (remove items i)));
+        same = subst (λ es. IsPermutation (entries_of (remove items i)) es) left (IsPermutation-refl (entries_of (remove items i)));
         ascending = ascends_remove name_of name_cmp entries i shows.ascending;
       }
 
@@ -53,7 +52,7 @@ module _ (kind : Kind) where
   without_ends endless ended e = ap (λ k. by_ends k endless ended) e
 
   -- a reply that is no refusal for want of memory
-  pub plainly : (request : Request) (old new : List Entry) (reply : LineReply) → refusals_of reply ≡ 0 → ((entries : List answer.Entry) → ShowsEntries old entries → AnswersPlainly kind request entries (shown reply) new) → AnswersRequest kind request old reply new
+  pub plainly : (request : Request) (old new : List Entry) (reply : LineReply) → refusals_of reply ≡ 0 → ((entries : List answer.Entry) → ShowsEntries old entries → AnswersPlainly kind request entries (reply_text reply) new) → AnswersRequest kind request old reply new
   plainly request old new RefusedMemory none answers = absurd (omega (arith, none))
   plainly request old new reply none answers = answers
 
@@ -74,9 +73,9 @@ module _ (kind : Kind) where
       pub pop_last_unsupported : AnswersRequest kind PopLast items Unsupported new
       pop_last_unsupported = λ entries shows. record { text = sym (without_ends _ _ e); after = stay_shown entries _ shows }
 
-    module _ (ends : HasEnds kind items) (found : Option Entry) (reply : LineReply) (told : shown reply ≡ end_text (option_map entry_of found)) (none : refusals_of reply ≡ 0) where
+    module _ (ends : HasEnds kind items) (found : Option Entry) (reply : LineReply) (told : reply_text reply ≡ end_text (option_map entry_of found)) (none : refusals_of reply ≡ 0) where
       module _ (first : found ≡ slice_get items 0) where
-        first_text : (entries : List answer.Entry) → ShowsEntries items entries → shown reply ≡ by_ends kind (codes "unsupported") (end_text (slice_get entries 0))
+        first_text : (entries : List answer.Entry) → ShowsEntries items entries → reply_text reply ≡ by_ends kind (codes "unsupported") (end_text (slice_get entries 0))
         first_text entries shows = told ∙ ap (λ o. end_text (option_map entry_of o)) first ∙ end_shown items ends.1 entries shows 0 ∙ sym (with_ends _ _ ends.0)
 
         pub first_answered : AnswersRequest kind First items reply items
@@ -89,7 +88,7 @@ module _ (kind : Kind) where
         })
 
       module _ (last : found ≡ slice_get items (length items - 1)) where
-        last_text : (entries : List answer.Entry) → ShowsEntries items entries → shown reply ≡ by_ends kind (codes "unsupported") (end_text (slice_get entries (length entries - 1)))
+        last_text : (entries : List answer.Entry) → ShowsEntries items entries → reply_text reply ≡ by_ends kind (codes "unsupported") (end_text (slice_get entries (length entries - 1)))
         last_text entries shows =
             told ∙ ap (λ o. end_text (option_map entry_of o)) last ∙ end_shown items ends.1 entries shows (length items - 1)
             ∙ ap (λ n. end_text (slice_get entries (n - 1))) (sym (as_many items ends.1 entries shows)) ∙ sym (with_ends _ _ ends.0)
@@ -107,7 +106,7 @@ module _ (kind : Kind) where
             })
 
 -- the items were written, in the order of their names
-pub lists_items : (items sorted : List Entry) (before after : List ℕ) → SameInAnyOrder items sorted → AreByName sorted → after ≡ before ++ (codes "list " ++ decimal (length sorted) ++ list_text (entries_of sorted)) → ListsItems items before after
+pub lists_items : (items sorted : List Entry) (before after : List ℕ) → IsPermutation items sorted → AreByName sorted → after ≡ before ++ (codes "list " ++ decimal (length sorted) ++ list_text (entries_of sorted)) → ListsItems items before after
 lists_items items sorted before after same ascending written = record {
   listed = codes "list " ++ decimal (length sorted) ++ list_text (entries_of sorted);
   written = written;

@@ -8,14 +8,14 @@ use Rattle.std.specs.Cmp.{IsEquivalence, IsTotalOrder}
 use Rattle.std.specs.List.{AllByRecursion, insert}
 use Rattle.std.specs.List.Sorted.{IsStrictlySortedBy}
 use Rattle.std.specs.Ordering.{is_eq, ordering_reverse}
-use Rattle.iddqd.specs.Contents.{AddsItem, Ascends, IsAbsent, IsKeyTest, find_item, placed, replaced, without}
+use Rattle.iddqd.specs.Contents.{AddsItem, Ascends, IsAbsent, IsKeyTest, find_item, items_with, items_overwritten, items_without}
 use Rattle.iddqd.proofs.DistinctLemmas.{all_insert, weaken}
 use Rattle.iddqd.proofs.KeepsLemmas.{ascends_filter}
 use Rattle.iddqd.proofs.MappedLemmas.{insert-map}
 use Rattle.iddqd.proofs.OrderLemmas.{find_moved}
 use Rattle.iddqd.proofs.PlacedLemmas.{insert_placed}
 use Rattle.iddqd.specs.Query.{differ_from_ascends}
-use Rattle.iddqd_commands.proofs.SameItemsLemmas.{filter_permutation}
+use Rattle.idtable_commands.proofs.SameItemsLemmas.{filter_permutation}
 
 module _ {T K : Type 0} (key : T → K) {eq : K → K → Bool} {cmp : K → K → Ordering} (equivalence : IsEquivalence eq) (total : IsTotalOrder cmp) (ties : (x y : K) → eq x y ≡ is_eq (cmp x y)) where
   -- the items in the order of their keys
@@ -43,20 +43,20 @@ module _ {T K : Type 0} (key : T → K) {eq : K → K → Bool} {cmp : K → K �
             let below : cmp (key y) (key x) ≡ Less = total.antisymm (key y) (key x) ∙ ap ordering_reverse e in
             (suc rest.0, (subst (AllByRecursion (λ k. cmp (key y) k ≡ Less)) (sym (insert-map key ys rest.0 x)) (all_insert (λ k. cmp (key y) k ≡ Less) (map key ys) rest.0 (key x) below s.0), rest.1))
 
-    pub placed_in_order : (old new ordered : List T) → AddsItem x old new → IsAbsent key (eq (key x)) ordered → AreInOrder old ordered → AreInOrder new (placed key cmp x ordered)
+    pub placed_in_order : (old new ordered : List T) → AddsItem x old new → IsAbsent key (eq (key x)) ordered → AreInOrder old ordered → AreInOrder new (items_with key cmp x ordered)
     placed_in_order old new ordered adds absent are =
         let place = place_for ordered absent are.ascending in
         let put = insert_placed key total x ordered place.0 place.1 in
         let more : IsPermutation new (x ∷ old) = subst (λ items. IsPermutation items (x ∷ old)) (sym adds.put) (IsPermutation-sym (x ∷ old) (insert old adds.place x) (IsPermutation-insert old adds.place x)) in
         record {
-          same = IsPermutation-trans new (x ∷ old) (placed key cmp x ordered) more
-              (IsPermutation-trans (x ∷ old) (x ∷ ordered) (placed key cmp x ordered) (IsPermutation-cons x old ordered are.same)
+          same = IsPermutation-trans new (x ∷ old) (items_with key cmp x ordered) more
+              (IsPermutation-trans (x ∷ old) (x ∷ ordered) (items_with key cmp x ordered) (IsPermutation-cons x old ordered are.same)
               (subst (IsPermutation (x ∷ ordered)) put (IsPermutation-insert ordered place.0 x)));
           ascending = subst (Ascends key cmp) put place.1;
         }
 
     -- x has the very key of each item that it replaces
-    pub replaced_in_order : ((k : K) → eq (key x) k ≡ true → key x ≡ k) → (items ordered : List T) → AreInOrder items ordered → AreInOrder (replaced key (eq (key x)) x items) (replaced key (eq (key x)) x ordered)
+    pub replaced_in_order : ((k : K) → eq (key x) k ≡ true → key x ≡ k) → (items ordered : List T) → AreInOrder items ordered → AreInOrder (items_overwritten key (eq (key x)) x items) (items_overwritten key (eq (key x)) x ordered)
     replaced_in_order decides items ordered are = record {
       same = IsPermutation-map (λ w. cond (eq (key x) (key w)) x w) items ordered are.same;
       ascending = subst (λ ks. IsStrictlySortedBy cmp ks) (sym (same_keys ordered)) are.ascending;
@@ -66,11 +66,11 @@ module _ {T K : Type 0} (key : T → K) {eq : K → K → Bool} {cmp : K → K �
         same_key w true e = decides (key w) e
         same_key w false e = refl
 
-        same_keys : (ws : List T) → map key (replaced key (eq (key x)) x ws) ≡ map key ws
+        same_keys : (ws : List T) → map key (items_overwritten key (eq (key x)) x ws) ≡ map key ws
         same_keys [] = refl
         same_keys (w ∷ ws) = rw (same_key w (eq (key x) (key w)) refl) (ap (λ ks. key w ∷ ks) (same_keys ws))
 
-  pub without_in_order : (test : K → Bool) (items ordered : List T) → AreInOrder items ordered → AreInOrder (without key test items) (without key test ordered)
+  pub without_in_order : (test : K → Bool) (items ordered : List T) → AreInOrder items ordered → AreInOrder (items_without key test items) (items_without key test ordered)
   without_in_order test items ordered are = record {
     same = filter_permutation (λ w. not (test (key w))) items ordered are.same;
     ascending = ascends_filter key cmp (λ w. not (test (key w))) ordered are.ascending;

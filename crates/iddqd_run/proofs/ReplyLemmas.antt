@@ -2,9 +2,9 @@
 use Rattle.std.proofs.Common.{◌≡◌, ◌≤◌, ℕ, ◌+◌, List, [], ◌∷◌, ◌++◌, refl, sym, ap, ◌∙◌, subst, arith, inl, inr, ⊎_elim, Result, Ok, Err, IfOk, OnOk}
 use Rattle.iddqd_run.specs.Answer as answer
 use Rattle.iddqd_run.specs.Answer.{RepliesWithRefusals, replies, line_reply, entries_after}
-use Rattle.iddqd_lines.specs.Lines.{Request, request_of}
-use Rattle.iddqd_run.specs.Shown.{shown, refusals_of, AnswersInText, AnswersRequest, ShowsEntries, WritesReply}
-use Rattle.iddqd_lines.specs.declared.arguments.Kind.{Kind}
+use Rattle.idtable_lines.specs.Lines.{Request, request_of}
+use Rattle.iddqd_run.specs.Shown.{reply_text, refusals_of, AnswersInText, AnswersRequest, ShowsEntries, WritesReply}
+use Rattle.idtable_lines.specs.declared.arguments.Kind.{Kind}
 use Rattle.iddqd_run.specs.declared.entries.Entry.{Entry}
 use Rattle.iddqd_run.specs.declared.entries.LineReply.{LineReply}
 use Rattle.iddqd_run.specs.declared.entries.LineReply.TheVariants.{RefusedMemory}
@@ -34,13 +34,13 @@ module _ (kind : Kind) (line : List ℕ) (lines : List (List ℕ)) (old new : Li
       (answers entries shows)
 
 module _ (kind : Kind) (request : Request) (old new : List Entry) where
-  pub in_text : (reply : LineReply) → AnswersRequest kind request old reply new → AnswersInText kind request old (refusals_of reply) (shown reply) new
+  pub in_text : (reply : LineReply) → AnswersRequest kind request old reply new → AnswersInText kind request old (refusals_of reply) (reply_text reply) new
   in_text RefusedMemory answers = λ entries shows. inr (refl, refl, answers entries shows)
   in_text reply answers = λ entries shows. inl (refl, answers entries shows)
 
   -- a reply that was written as a line
-  pub written : {E : Type 0} (reply : LineReply) (before after : List ℕ) (result : Result ℕ E) → AnswersRequest kind request old reply new → IfOk result (λ refusals. refusals ≡ refusals_of reply) → OnOk result (after ≡ before ++ (shown reply ++ 10 ∷ [])) → IfOk result (λ refusals. WritesReply kind request old refusals new before after)
-  written reply before after (Ok refusals) answers count line = record { reply = shown reply; written = line; answers = subst (λ n. AnswersInText kind request old n (shown reply) new) (sym count) (in_text reply answers) }
+  pub written : {E : Type 0} (reply : LineReply) (before after : List ℕ) (result : Result ℕ E) → AnswersRequest kind request old reply new → IfOk result (λ refusals. refusals ≡ refusals_of reply) → OnOk result (after ≡ before ++ (reply_text reply ++ 10 ∷ [])) → IfOk result (λ refusals. WritesReply kind request old refusals new before after)
+  written reply before after (Ok refusals) answers count line = record { reply = reply_text reply; written = line; answers = subst (λ n. AnswersInText kind request old n (reply_text reply) new) (sym count) (in_text reply answers) }
   written reply before after (Err e) answers count line = tt
 
 -- without a refusal the replies are the plain ones

@@ -10,18 +10,18 @@ use Rattle.std.specs.List.Sorted.{IsStrictlySortedBy}
 use Rattle.std.proofs.Common.{String, Global}
 use Rattle.iddqd_run.specs.Answer as answer
 use Rattle.iddqd_run.specs.Answer.{greater, name_of, name_cmp, entry_named, is_full, line_reply, entries_after, RefusedLeaves}
-use Rattle.iddqd.specs.Contents.{AddsItem, SameInAnyOrder, find_item, without, replaced, placed}
-use Rattle.iddqd_lines.specs.Lines.{Request, Add, Put, Get, Del, Set, Keep, Reserve, Shrink, Len}
-use Rattle.iddqd_run.specs.Shown.{entry_of, entries_of, shown, AnswersPlainly, AnswersRequest, ShowsEntries, no_room_reply, no_space_reply}
+use Rattle.iddqd.specs.Contents.{AddsItem, find_item, items_without, items_overwritten, items_with}
+use Rattle.idtable_lines.specs.Lines.{Request, Add, Put, Get, Del, Set, Keep, Reserve, Shrink, Len}
+use Rattle.iddqd_run.specs.Shown.{entry_of, entries_of, reply_text, AnswersPlainly, AnswersRequest, ShowsEntries, no_room_reply, no_space_reply}
 use Rattle.iddqd.specs.Holding.{max_items}
-use Rattle.iddqd_lines.specs.declared.arguments.Kind.{Kind}
+use Rattle.idtable_lines.specs.declared.arguments.Kind.{Kind}
 use Rattle.iddqd_run.specs.declared.entries.Entry.{Entry}
 use Rattle.iddqd_run.specs.declared.entries.LineReply.{LineReply}
 use Rattle.iddqd_run.specs.declared.entries.LineReply.TheVariants.{Added, Duplicate, New, Replaced, Found, Removed, Absent, Set as Written, Kept, Length, Done, RefusedCapacity, RefusedMemory}
 use Rattle.iddqd.proofs.KeepsLemmas.{ascends_filter}
 use Rattle.iddqd.proofs.MappedLemmas.{filter-map, find_item-map, insert-map, without-map, replaced-map}
 use Rattle.iddqd.proofs.OrderLemmas.{Tells, find_tells}
-use Rattle.iddqd_commands.proofs.SameItemsLemmas.{filter_permutation}
+use Rattle.idtable_commands.proofs.SameItemsLemmas.{filter_permutation}
 use Rattle.iddqd_run.proofs.NameOrderLemmas.{AreInOrder, found_in_order, placed_in_order, replaced_in_order, without_in_order}
 
 abbrev pub by_name : Entry → String Global
@@ -60,10 +60,10 @@ module _ (name : List ℕ) (items : List Entry) (entries : List answer.Entry) (s
   pub there_shown : (y : Entry) → found ≡ Some y → entry_named name entries ≡ Some (entry_of y)
   there_shown y e = found_shown ∙ ap (option_map entry_of) e
 
-  without_shown : (new : List Entry) → new ≡ without by_name (λ k. bytes_eq name (string_bytes k)) items → ShowsEntries new (without name_of (bytes_eq name) entries)
+  without_shown : (new : List Entry) → new ≡ items_without by_name (λ k. bytes_eq name (string_bytes k)) items → ShowsEntries new (items_without name_of (bytes_eq name) entries)
   without_shown new e =
-      shown_by new (without name_of (bytes_eq name) entries)
-      (subst (λ es. InOrder es (without name_of (bytes_eq name) entries)) (sym (ap entries_of e ∙ without-map entry_of name_of (bytes_eq name) items))
+      shown_by new (items_without name_of (bytes_eq name) entries)
+      (subst (λ es. InOrder es (items_without name_of (bytes_eq name) entries)) (sym (ap entries_of e ∙ without-map entry_of name_of (bytes_eq name) items))
       (without_in_order name_of nat_list_eq_equiv nat_list_cmp_total texts_ties (bytes_eq name) (entries_of items) entries (order items entries shows)))
 
 module _ (kind : Kind) where
@@ -101,7 +101,7 @@ module _ (kind : Kind) where
       }
 
   -- what `shrink` leaves: the entries of the same items in whatever order
-  module _ (items new : List Entry) (same : SameInAnyOrder items new) where
+  module _ (items new : List Entry) (same : IsPermutation items new) where
     pub moved_shown : (entries : List answer.Entry) → ShowsEntries items entries → ShowsEntries new entries
     moved_shown entries shows = record {
       same = IsPermutation-trans (entries_of new) (entries_of items) entries (IsPermutation-sym (entries_of items) (entries_of new) (IsPermutation-map entry_of items new same)) shows.same;
@@ -130,7 +130,7 @@ module _ (kind : Kind) where
     get_absent e = λ entries shows. record { text = rw (absent_shown name items entries shows (sym e)) refl; after = shows }
 
     -- what `del` answers
-    module _ (new : List Entry) (taken : new ≡ without by_name (λ k. bytes_eq name (string_bytes k)) items) where
+    module _ (new : List Entry) (taken : new ≡ items_without by_name (λ k. bytes_eq name (string_bytes k)) items) where
       pub delete_found : (y : Entry) → Some y ≡ named → AnswersRequest kind (Del name) items (Removed y.value) new
       delete_found y e = λ entries shows. record { text = rw (there_shown name items entries shows y (sym e)) refl; after = without_shown name items entries shows new taken }
 
@@ -147,7 +147,7 @@ module _ (kind : Kind) where
           ascending = ascends_filter name_of name_cmp (λ entry. nat_lt value entry.1) entries shows.ascending;
         }))
 
-    pub kept_answered : (count dropped : ℕ) → count ≡ length new → dropped ≡ length items - length new → AnswersPlainly kind (Keep value) entries (shown (Kept count dropped)) new
+    pub kept_answered : (count dropped : ℕ) → count ≡ length new → dropped ≡ length items - length new → AnswersPlainly kind (Keep value) entries (reply_text (Kept count dropped)) new
     kept_answered count dropped e f =
         let many = length_shown items entries shows in
         let left = length_shown new (greater value entries) kept_shown in
@@ -161,12 +161,12 @@ module _ (kind : Kind) (name : List ℕ) (value : ℕ) where
   abbrev pub MakesEntry : Request → List ℕ → Type 0
   MakesEntry request made = (entries : List answer.Entry)
       → ((on_old : answer.Entry → List ℕ) × (line_reply kind request entries ≡ option_map_or on_old (entry_named name entries) (cond (is_full entries) (codes "refused capacity") made)))
-      × ((on_old : answer.Entry → List answer.Entry) × (entries_after kind request entries ≡ option_map_or on_old (entry_named name entries) (cond (is_full entries) entries (placed name_of name_cmp (name, value) entries))))
+      × ((on_old : answer.Entry → List answer.Entry) × (entries_after kind request entries ≡ option_map_or on_old (entry_named name entries) (cond (is_full entries) entries (items_with name_of name_cmp (name, value) entries))))
 
-  pub add_makes : MakesEntry (Add name value) (shown Added)
+  pub add_makes : MakesEntry (Add name value) (reply_text Added)
   add_makes entries = ((_, refl), (_, refl))
 
-  pub put_makes : MakesEntry (Put name value) (shown New)
+  pub put_makes : MakesEntry (Put name value) (reply_text New)
   put_makes entries = ((_, refl), (_, refl))
 
 -- x is an entry of the name
@@ -188,26 +188,26 @@ module _ (kind : Kind) (x : Entry) (items : List Entry) (name : List ℕ) (same 
     has_no_room : length items ≡ max_items → is_full entries ≡ true
     has_no_room full = eq-eqb (length entries) max_items (length_shown items entries shows ∙ full)
 
-    pub placed_shown : AddsItem x items new → ShowsEntries new (placed name_of name_cmp (name, x.value) entries)
+    pub placed_shown : AddsItem x items new → ShowsEntries new (items_with name_of name_cmp (name, x.value) entries)
     placed_shown adds =
         let adds_entry : AddsItem (entry_of x) (entries_of items) (entries_of new) = record {
           place = adds.place;
           within = omega (arith, adds.within, length-map items entry_of);
           put = ap entries_of adds.put ∙ insert-map entry_of items adds.place x;
         } in
-        subst (λ n. ShowsEntries new (placed name_of name_cmp (n, x.value) entries)) same
+        subst (λ n. ShowsEntries new (items_with name_of name_cmp (n, x.value) entries)) same
         (shown_by new _ (placed_in_order name_of nat_list_eq_equiv nat_list_cmp_total texts_ties (entry_of x) (entries_of items) (entries_of new) entries adds_entry (absent_shown (string_bytes x.name) items entries shows absent) (order items entries shows)))
 
-  module _ (absent : akin ≡ None) (request : Request) (made : LineReply) (makes : MakesEntry kind name x.value request (shown made)) (entries : List answer.Entry) (shows : ShowsEntries items entries) where
+  module _ (absent : akin ≡ None) (request : Request) (made : LineReply) (makes : MakesEntry kind name x.value request (reply_text made)) (entries : List answer.Entry) (shows : ShowsEntries items entries) where
     -- the entry is in
-    pub made_plainly : length items < max_items → AddsItem x items new → AnswersPlainly kind request entries (shown made) new
+    pub made_plainly : length items < max_items → AddsItem x items new → AnswersPlainly kind request entries (reply_text made) new
     made_plainly few adds = let (text, after) = makes entries in let room = has_room absent entries shows few in record {
       text = sym (text.1 ∙ asks_room absent entries shows text.0 _ _ false room);
       after = subst (ShowsEntries new) (sym (after.1 ∙ asks_room absent entries shows after.0 _ _ false room)) (placed_shown absent entries shows adds);
     }
 
     -- the map is full
-    pub full_plainly : length items ≡ max_items → new ≡ items → AnswersPlainly kind request entries (shown RefusedCapacity) new
+    pub full_plainly : length items ≡ max_items → new ≡ items → AnswersPlainly kind request entries (reply_text RefusedCapacity) new
     full_plainly full stays = let (text, after) = makes entries in let none = has_no_room absent entries shows full in record {
       text = sym (text.1 ∙ asks_room absent entries shows text.0 _ _ true none);
       after = subst (ShowsEntries new) (sym (after.1 ∙ asks_room absent entries shows after.0 _ _ true none)) (subst (λ is. ShowsEntries is entries) (sym stays) shows);
@@ -223,12 +223,12 @@ module _ (kind : Kind) (x : Entry) (items : List Entry) (name : List ℕ) (same 
       after = rw (one_named entries shows) (subst (λ is. ShowsEntries is entries) (sym stays) shows);
     }
 
-    put_shown : new ≡ replaced by_name (λ k. bytes_eq (string_bytes x.name) (string_bytes k)) x items → (entries : List answer.Entry) → ShowsEntries items entries → ShowsEntries new (replaced name_of (bytes_eq name) (name, x.value) entries)
-    put_shown after entries shows = subst (λ n. ShowsEntries new (replaced name_of (bytes_eq n) (n, x.value) entries)) same
-        (shown_by new _ (subst (λ es. InOrder es (replaced name_of (bytes_eq (string_bytes x.name)) (entry_of x) entries)) (sym (ap entries_of after ∙ replaced-map entry_of name_of (bytes_eq (string_bytes x.name)) x items))
+    put_shown : new ≡ items_overwritten by_name (λ k. bytes_eq (string_bytes x.name) (string_bytes k)) x items → (entries : List answer.Entry) → ShowsEntries items entries → ShowsEntries new (items_overwritten name_of (bytes_eq name) (name, x.value) entries)
+    put_shown after entries shows = subst (λ n. ShowsEntries new (items_overwritten name_of (bytes_eq n) (n, x.value) entries)) same
+        (shown_by new _ (subst (λ es. InOrder es (items_overwritten name_of (bytes_eq (string_bytes x.name)) (entry_of x) entries)) (sym (ap entries_of after ∙ replaced-map entry_of name_of (bytes_eq (string_bytes x.name)) x items))
         (replaced_in_order name_of nat_list_eq_equiv nat_list_cmp_total texts_ties (entry_of x) (λ k alike. (bytes_decides (string_bytes x.name) k).0 alike) (entries_of items) entries (order items entries shows))))
 
-    pub replaced_answered : new ≡ replaced by_name (λ k. bytes_eq (string_bytes x.name) (string_bytes k)) x items → AnswersRequest kind (Put name x.value) items (Replaced y.value) new
+    pub replaced_answered : new ≡ items_overwritten by_name (λ k. bytes_eq (string_bytes x.name) (string_bytes k)) x items → AnswersRequest kind (Put name x.value) items (Replaced y.value) new
     replaced_answered after = λ entries shows. record {
       text = rw (one_named entries shows) refl;
       after = rw (one_named entries shows) (put_shown after entries shows);
@@ -242,13 +242,13 @@ module _ (kind : Kind) (name : List ℕ) (value : ℕ) (items new : List Entry) 
     after = rw (absent_shown name items entries shows absent) (subst (λ is. ShowsEntries is entries) (sym stays) shows);
   }
 
-  pub set_found : (x : Entry) → find_item by_name (λ k. bytes_eq name (string_bytes k)) items ≡ Some x → new ≡ replaced by_name (λ k. bytes_eq name (string_bytes k)) (record x { value = value }) items → AnswersRequest kind (Set name value) items (Written x.value) new
+  pub set_found : (x : Entry) → find_item by_name (λ k. bytes_eq name (string_bytes k)) items ≡ Some x → new ≡ items_overwritten by_name (λ k. bytes_eq name (string_bytes k)) (record x { value = value }) items → AnswersRequest kind (Set name value) items (Written x.value) new
   set_found x found after =
       let test : Entry → Bool = λ entry. bytes_eq name (string_bytes entry.name) in
       let same : string_bytes x.name ≡ name = sym ((bytes_decides name (string_bytes x.name)).0 (subst (Tells test items) found (find_tells test items)).1) in
       let written : Entry = record x { value = value } in
       let there = subst (λ n. find_item by_name (λ k. bytes_eq n (string_bytes k)) items ≡ Some x) (sym same) found in
-      let put = subst (λ n. new ≡ replaced by_name (λ k. bytes_eq n (string_bytes k)) written items) (sym same) after in
+      let put = subst (λ n. new ≡ items_overwritten by_name (λ k. bytes_eq n (string_bytes k)) written items) (sym same) after in
       λ entries shows. record {
         text = rw (there_shown name items entries shows x found) refl;
         after = rw (there_shown name items entries shows x found) (put_shown kind written items name same new x there put entries shows);

@@ -7,12 +7,12 @@ use Rattle.std.specs.declared.cmp.Ordering.{Ordering}
 use Rattle.std.specs.Ordering.{nat_cmp}
 use Rattle.std.specs.Option.{option_map_or}
 use Rattle.std.specs.Cmp.Lexicographic.{slice_cmp}
-use Rattle.iddqd.specs.Contents.{find_item, without, replaced, placed}
-use Rattle.iddqd_lines.specs.Lines.{Request, Add, Put, Get, Del, Cost, Len, ListAll, First, Last, PopFirst, PopLast, Bad, lines_of, request_of, Set, Keep, Reserve, Shrink, AddAll}
+use Rattle.iddqd.specs.Contents.{find_item, items_without, items_overwritten, items_with}
+use Rattle.idtable_lines.specs.Lines.{Request, Add, Put, Get, Del, Cost, Len, ListAll, First, Last, PopFirst, PopLast, Bad, lines_of, request_of, Set, Keep, Reserve, Shrink, AddAll}
 use Rattle.iddqd.specs.Holding.{max_items}
-use Rattle.iddqd.specs.Collecting.{likely_new}
-use Rattle.iddqd_lines.specs.declared.arguments.Kind.{Kind}
-use Rattle.iddqd_lines.specs.declared.arguments.Kind.TheVariants.{Hash, Ord}
+use Rattle.iddqd.specs.Collecting.{room_to_reserve}
+use Rattle.idtable_lines.specs.declared.arguments.Kind.{Kind}
+use Rattle.idtable_lines.specs.declared.arguments.Kind.TheVariants.{Hash, Ord}
 
 -- a name and its value; entries ascend by name, whose bytes are compared
 abbrev pub Entry : Type 0
@@ -37,16 +37,16 @@ greater value entries = filter (λ entry. nat_lt value entry.1) entries
 -- the entries with each pair at its place, one after the other
 abbrev pub all_placed : List Entry → List Entry → List Entry
 all_placed [] entries = entries
-all_placed (pair ∷ pairs) entries = all_placed pairs (placed name_of name_cmp pair entries)
+all_placed (pair ∷ pairs) entries = all_placed pairs (items_with name_of name_cmp pair entries)
 
 -- how many of the pairs are put in, one after the other, up to one whose name is there by then, or a full map
 abbrev pub how_many_fit : List Entry → List Entry → ℕ
 how_many_fit [] entries = 0
-how_many_fit (pair ∷ pairs) entries = option_map_or (λ _. 0) (entry_named (name_of pair) entries) (if is_full entries then 0 else suc (how_many_fit pairs (placed name_of name_cmp pair entries)))
+how_many_fit (pair ∷ pairs) entries = option_map_or (λ _. 0) (entry_named (name_of pair) entries) (if is_full entries then 0 else suc (how_many_fit pairs (items_with name_of name_cmp pair entries)))
 
 -- a map never has room for as many of the pairs as are likely new: for all in a map without entries, and for half of them, rounded up, in another
 abbrev pub lacks_room : List Entry → List Entry → Bool
-lacks_room pairs entries = nat_lt max_items (length entries + likely_new (length entries) (length pairs))
+lacks_room pairs entries = nat_lt max_items (length entries + room_to_reserve (length entries) (length pairs))
 
 -- how many of the pairs `addall` puts in
 abbrev pub how_many_added : List Entry → List Entry → ℕ
@@ -78,7 +78,7 @@ module _ (kind : Kind) where
   -- the reply, without the byte that ends it
   abbrev pub line_reply : Request → List Entry → List ℕ
   line_reply (Add name value) entries = option_map_or (λ old. codes "duplicate " ++ name ++ codes " " ++ decimal old.1) (entry_named name entries) (if is_full entries then codes "refused capacity" else codes "added")
-  line_reply (Put name value) entries = option_map_or (λ old. codes "replaced " ++ decimal old.1) (entry_named name entries) (if is_full entries then codes "refused capacity" else codes "new")
+  line_reply (Put name value) entries = option_map_or (λ old. codes "items_overwritten " ++ decimal old.1) (entry_named name entries) (if is_full entries then codes "refused capacity" else codes "new")
   line_reply (Get name) entries = option_map_or (λ old. decimal old.1) (entry_named name entries) (codes "none")
   line_reply (Del name) entries = option_map_or (λ old. codes "removed " ++ decimal old.1) (entry_named name entries) (codes "none")
   line_reply (Cost name) entries = codes "within"
@@ -97,12 +97,12 @@ module _ (kind : Kind) where
 
   -- `add` leaves the entry of a name that is there, `put` replaces it; a full map takes no other. `set` writes one that is there
   abbrev pub entries_after : Request → List Entry → List Entry
-  entries_after (Add name value) entries = option_map_or (λ _. entries) (entry_named name entries) (if is_full entries then entries else placed name_of name_cmp (name, value) entries)
-  entries_after (Put name value) entries = option_map_or (λ _. replaced name_of (bytes_eq name) (name, value) entries) (entry_named name entries) (if is_full entries then entries else placed name_of name_cmp (name, value) entries)
+  entries_after (Add name value) entries = option_map_or (λ _. entries) (entry_named name entries) (if is_full entries then entries else items_with name_of name_cmp (name, value) entries)
+  entries_after (Put name value) entries = option_map_or (λ _. items_overwritten name_of (bytes_eq name) (name, value) entries) (entry_named name entries) (if is_full entries then entries else items_with name_of name_cmp (name, value) entries)
   entries_after (Get name) entries = entries
-  entries_after (Del name) entries = without name_of (bytes_eq name) entries
+  entries_after (Del name) entries = items_without name_of (bytes_eq name) entries
   entries_after (Cost name) entries = entries
-  entries_after (Set name value) entries = option_map_or (λ _. replaced name_of (bytes_eq name) (name, value) entries) (entry_named name entries) entries
+  entries_after (Set name value) entries = option_map_or (λ _. items_overwritten name_of (bytes_eq name) (name, value) entries) (entry_named name entries) entries
   entries_after (Keep value) entries = greater value entries
   entries_after (Reserve value) entries = entries
   entries_after Shrink entries = entries

@@ -2,9 +2,9 @@ pub mod Answer
 pub mod Served
 pub mod Shown
 pub mod Words
-pub use Rattle.iddqd_streams.specs.Failing
-pub use Rattle.iddqd_lines.specs.Arguments
-pub use Rattle.iddqd_lines.specs.Lines
-pub use Rattle.iddqd_commands.specs.KeyedMap
-pub use Rattle.iddqd_commands.specs.SameReplies
-pub use Rattle.iddqd_commands.specs.Step
+pub use Rattle.idtable_lines.specs.Failing
+pub use Rattle.idtable_lines.specs.Arguments
+pub use Rattle.idtable_lines.specs.Lines
+pub use Rattle.idtable_commands.specs.KeyedMap
+pub use Rattle.idtable_commands.specs.SameReplies
+pub use Rattle.idtable_commands.specs.Step

@@ -3,7 +3,7 @@ use Rattle.std.specs.Prelude.{ℕ, List, Option}
 use Rattle.std.specs.Io.{StartsWith}
 use Rattle.std.specs.Io.KnownBytes.{Appends, Consumes, IsAtEnd}
 use Rattle.iddqd_run.specs.Answer.{AnswersWithRefusals}
-use Rattle.iddqd_lines.specs.declared.arguments.Kind.{Kind}
+use Rattle.idtable_lines.specs.declared.arguments.Kind.{Kind}
 
 -- all bytes that a reader had left were read, and the text answers them
 pub record AnswersAll (kind : Kind) (old new : Option (List ℕ)) (refusals : ℕ) (text : List ℕ) : Type 0 where

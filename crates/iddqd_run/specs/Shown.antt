@@ -1,14 +1,14 @@
 -- What the program's own types for an entry and a reply stand for.
-use Rattle.std.specs.Prelude.{◌≡◌, ℕ, Bool, List, [], ◌∷◌, length, map, ◌++◌, ◌⊎◌, ◌==◌, nat_lt, if◌then◌else◌, decimal, codes, bytes_eq, string_bytes, String}
+use Rattle.std.specs.Prelude.{◌≡◌, ℕ, Bool, List, [], ◌∷◌, length, map, ◌++◌, ◌⊎◌, ◌==◌, nat_lt, if◌then◌else◌, decimal, codes, bytes_eq, string_bytes, String, IsPermutation}
 use Rattle.std.specs.Borrow.{Bor}
 use Rattle.std.specs.Global.{Global}
 use Rattle.iddqd_run.specs.Answer as answer
-use Rattle.iddqd.specs.Contents.{Ascends, SameInAnyOrder}
+use Rattle.iddqd.specs.Contents.{Ascends}
 use Rattle.iddqd.specs.Holding.{max_items}
-use Rattle.iddqd_lines.specs.Lines.{Request}
-use Rattle.iddqd_commands.specs.Step.{MapState}
-use Rattle.iddqd_lines.specs.declared.arguments.Kind.{Kind}
-use Rattle.iddqd_lines.specs.declared.arguments.Kind.TheVariants.{Ord}
+use Rattle.idtable_lines.specs.Lines.{Request}
+use Rattle.idtable_commands.specs.Step.{MapState}
+use Rattle.idtable_lines.specs.declared.arguments.Kind.{Kind}
+use Rattle.idtable_lines.specs.declared.arguments.Kind.TheVariants.{Ord}
 use Rattle.iddqd_run.specs.declared.entries.Entry.{Entry}
 use Rattle.iddqd_run.specs.declared.entries.LineReply.{LineReply}
 use Rattle.iddqd_run.specs.declared.entries.LineReply.TheVariants.{Added, Duplicate, New, Replaced, Found, Removed, Named, Absent, Within, Length, Unsupported, Bad, RefusedCapacity, RefusedMemory, Set, Kept, Done, AddedAll, DuplicateAfter}
@@ -24,26 +24,26 @@ abbrev pub all_lent : List (Bor Entry) → List Entry
 all_lent lent = map (λ one. one.now) lent
 
 -- the text of a reply
-abbrev pub shown : LineReply → List ℕ
-shown Added = codes "added"
-shown (Duplicate name value) = codes "duplicate " ++ name.now ++ codes " " ++ decimal value
-shown New = codes "new"
-shown (Replaced value) = codes "replaced " ++ decimal value
-shown (Found value) = decimal value
-shown (Removed value) = codes "removed " ++ decimal value
-shown (Named name value) = name.now ++ codes " " ++ decimal value
-shown (AddedAll count) = codes "added " ++ decimal count
-shown (DuplicateAfter name value count) = codes "duplicate " ++ name.now ++ codes " " ++ decimal value ++ codes " after " ++ decimal count
-shown Absent = codes "none"
-shown Within = codes "within"
-shown (Set value) = codes "set " ++ decimal value
-shown (Kept kept dropped) = codes "kept " ++ decimal kept ++ codes " dropped " ++ decimal dropped
-shown (Length count) = decimal count
-shown Done = codes "ok"
-shown Unsupported = codes "unsupported"
-shown Bad = codes "bad"
-shown RefusedCapacity = codes "refused capacity"
-shown RefusedMemory = codes "refused memory"
+abbrev pub reply_text : LineReply → List ℕ
+reply_text Added = codes "added"
+reply_text (Duplicate name value) = codes "duplicate " ++ name.now ++ codes " " ++ decimal value
+reply_text New = codes "new"
+reply_text (Replaced value) = codes "replaced " ++ decimal value
+reply_text (Found value) = decimal value
+reply_text (Removed value) = codes "removed " ++ decimal value
+reply_text (Named name value) = name.now ++ codes " " ++ decimal value
+reply_text (AddedAll count) = codes "added " ++ decimal count
+reply_text (DuplicateAfter name value count) = codes "duplicate " ++ name.now ++ codes " " ++ decimal value ++ codes " after " ++ decimal count
+reply_text Absent = codes "none"
+reply_text Within = codes "within"
+reply_text (Set value) = codes "set " ++ decimal value
+reply_text (Kept kept dropped) = codes "kept " ++ decimal kept ++ codes " dropped " ++ decimal dropped
+reply_text (Length count) = decimal count
+reply_text Done = codes "ok"
+reply_text Unsupported = codes "unsupported"
+reply_text Bad = codes "bad"
+reply_text RefusedCapacity = codes "refused capacity"
+reply_text RefusedMemory = codes "refused memory"
 
 -- the reply to a line whose new entry finds no room among these
 abbrev pub no_room_reply : {T : Type 0} → List T → LineReply
@@ -60,7 +60,7 @@ refusals_of reply = 0
 
 -- the entries are those of the items, which may lie in whatever order
 pub record ShowsEntries (items : List Entry) (entries : List answer.Entry) : Type 0 where
-  pub same : SameInAnyOrder (entries_of items) entries
+  pub same : IsPermutation (entries_of items) entries
   pub ascending : Ascends answer.name_of answer.name_cmp entries
 
 -- the items ascend by name
@@ -99,7 +99,7 @@ module _ (kind : Kind) (request : Request) where
 
   abbrev pub AnswersFrom : List answer.Entry → LineReply → List Entry → Type 0
   AnswersFrom entries RefusedMemory new = LeavesRefused entries new
-  AnswersFrom entries reply new = AnswersPlainly entries (shown reply) new
+  AnswersFrom entries reply new = AnswersPlainly entries (reply_text reply) new
 
   -- the reply, and the items then, of a map that held the old ones
   abbrev pub AnswersRequest : List Entry → LineReply → List Entry → Type 0
@@ -108,7 +108,7 @@ module _ (kind : Kind) (request : Request) where
   -- the same, of a reply's text and of how many refusals for want of memory it tells
   abbrev pub AnswersInText : List Entry → ℕ → List ℕ → List Entry → Type 0
   AnswersInText old refusals text new = (entries : List answer.Entry) → ShowsEntries old entries
-      → ((refusals ≡ 0) × AnswersPlainly entries text new) ⊎ ((refusals ≡ 1) × (text ≡ shown RefusedMemory) × LeavesRefused entries new)
+      → ((refusals ≡ 0) × AnswersPlainly entries text new) ⊎ ((refusals ≡ 1) × (text ≡ reply_text RefusedMemory) × LeavesRefused entries new)
 
   -- the line that answers the request was written to the end of a text
   pub record WritesReply (old : List Entry) (refusals : ℕ) (new : List Entry) (before after : List ℕ) : Type 0 where

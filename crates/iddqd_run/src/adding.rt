@@ -1,7 +1,7 @@
 //! The line that adds many entries, and its reply.
 ghost use Rattle.std.specs.Prelude.{◌≡◌, IfOk, is_some, if◌then◌else◌, string_bytes};
 ghost use Rattle.std.specs.Option.{option_map};
-ghost use Rattle.iddqd_lines.specs.Lines.{AddAll, paired_request, pairs_of, words_of};
+ghost use Rattle.idtable_lines.specs.Lines.{AddAll, paired_request, pairs_of, words_of};
 ghost use Rattle.iddqd_run.specs.Shown.{IsTable, WritesReply, entries_of};
 ghost use Rattle.iddqd_run.specs.declared.entries.LineReply.TheVariants.{RefusedMemory, Bad};
 
@@ -9,7 +9,7 @@ use crate::entries::{Entry, LineReply, write_reply};
 use crate::requests::{no_room, value_of};
 use crate::table::Table;
 use iddqd::errors::ExtendUniqueError;
-use iddqd_lines::{Pair, first_pair};
+use idtable_lines::{Pair, first_pair};
 use std::alloc::{AllocError, Global};
 
 /// `addall`: makes all entries, and then puts them in one after the other.

@@ -1,15 +1,15 @@
 //! The answer to a text, line by line, over a map of either kind.
 ghost use Rattle.std.specs.Prelude.{◌≡◌, ◌≢◌, [], IfOk, string_bytes};
 ghost use Rattle.iddqd_run.specs.Answer.{AnswersWithRefusals};
-ghost use Rattle.iddqd_lines.specs.Asked.{asked};
-ghost use Rattle.iddqd_lines.specs.declared.lines.Line.TheVariants.{AddAll, ListAll, First, Last, PopFirst, PopLast};
+ghost use Rattle.idtable_lines.specs.Asked.{asked};
+ghost use Rattle.idtable_lines.specs.declared.lines.Line.TheVariants.{AddAll, ListAll, First, Last, PopFirst, PopLast};
 ghost use Rattle.iddqd_run.specs.Shown.{AnswersRequest, IsTable, WritesReply};
 
 use crate::entries::{Entry, LineReply, write_reply};
 use crate::table::Table;
 use crate::{adding, ends, requests};
 use iddqd::Steps;
-use iddqd_lines::{Line, first_line, parse};
+use idtable_lines::{Line, first_line, parse};
 use std::alloc::{AllocError, Global};
 
 /// The answer to a text from a map without entries, and how many of its lines were refused for want of memory.

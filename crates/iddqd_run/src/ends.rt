@@ -1,8 +1,8 @@
 //! What a line asks of the whole table or of its ends, and its reply.
 ghost use Rattle.std.specs.Prelude.{◌≡◌, IfOk, option_copied, option_map, string_bytes};
 ghost use Rattle.iddqd_run.specs.Answer.{end_text};
-ghost use Rattle.iddqd_lines.specs.Lines.{ListAll, First, Last, PopFirst, PopLast};
-ghost use Rattle.iddqd_run.specs.Shown.{AnswersRequest, IsTable, WritesReply, entry_of, refusals_of, shown};
+ghost use Rattle.idtable_lines.specs.Lines.{ListAll, First, Last, PopFirst, PopLast};
+ghost use Rattle.iddqd_run.specs.Shown.{AnswersRequest, IsTable, WritesReply, entry_of, refusals_of, reply_text};
 
 use crate::entries::{Entry, LineReply, write_reply};
 use crate::table::{ListStop, NoEnds, Table};
@@ -81,7 +81,7 @@ pub(crate) fn pop_last<M: Table<Item = Entry, Key = String>>(
 
 // The reply that shows the entry at an end, if there is one.
 fn end_reply(end: Option<&Entry>) -> LineReply<'_>
-    ensures text { shown result ≡ end_text (option_map entry_of (option_copied end.entry)) }
+    ensures text { reply_text result ≡ end_text (option_map entry_of (option_copied end.entry)) }
     ensures plain { refusals_of result ≡ 0 }
 {
     match end {

@@ -1,7 +1,7 @@
 //! What the lines of a text put into a map, and what they are answered.
 ghost use Rattle.std.specs.Prelude.{◌≡◌, ◌++◌, ◌∷◌, [], IfOk, OnOk, Some, true, nat_lt, codes, decimal, string_bytes};
 ghost use Rattle.iddqd_run.specs.Answer.{list_text};
-ghost use Rattle.iddqd_run.specs.Shown.{entry_of, refusals_of, shown};
+ghost use Rattle.iddqd_run.specs.Shown.{entry_of, refusals_of, reply_text};
 
 use crate::table::Keeps;
 use iddqd::{IdHashItem, IdOrdItem, Visit};
@@ -115,7 +115,7 @@ impl LineReply<'_> {
 }
 
 impl Display for LineReply<'_> {
-    ghost output = { λ reply. Some (shown reply) };
+    ghost output = { λ reply. Some (reply_text reply) };
 
     fn fmt<W: Write>(&self, f: &mut Formatter<W>) -> fmt::Result {
         match self {
@@ -147,7 +147,7 @@ impl Display for LineReply<'_> {
 /// Writes the reply as a line of its own, and answers how many refusals for want of memory it tells.
 pub(crate) fn write_reply(text: &mut String, reply: LineReply<'_>) -> Result<u64, AllocError>
     ensures refusals { IfOk result (λ refusals. refusals ≡ refusals_of reply.entry) }
-    ensures line { OnOk result (string_bytes text.new ≡ string_bytes text.old ++ (shown reply.entry ++ 10 ∷ [])) }
+    ensures line { OnOk result (string_bytes text.new ≡ string_bytes text.old ++ (reply_text reply.entry ++ 10 ∷ [])) }
 {
     writeln!(text, "{reply}")?;
     Ok(reply.refusals())

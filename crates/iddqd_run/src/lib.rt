@@ -12,8 +12,7 @@ mod table;
 
 pub use iddqd::errors::{DuplicateItem, Few, InsertError, Refused, TryReserveError};
 pub use iddqd::{IdHashItem, IdHashMap, IdOrdItem, IdOrdMap, MAX_ITEMS};
-pub use iddqd_commands::{Command, KeyedMap, Reply, RunStop, laws, run};
-pub use iddqd_lines::{Kind, after_name, kind_of};
-pub use iddqd_streams::{FailingReader, FailingWriter};
+pub use idtable_commands::{Command, KeyedMap, Reply, RunStop, laws, run};
+pub use idtable_lines::{FailingReader, FailingWriter, Kind, after_name, kind_of};
 pub use serving::{Fault, fault_text, serve};
 pub use statuses::{Stop, exit_status};

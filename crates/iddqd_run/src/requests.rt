@@ -1,8 +1,8 @@
 //! What a line asks of a table, and its reply.
 ghost use Rattle.std.specs.Prelude.{◌≡◌, ◌≢◌, ℕ, ◌+◌, ◌≤◌, List, length, string_bytes};
-ghost use Rattle.iddqd.specs.Errors.{listed};
-ghost use Rattle.iddqd.specs.Refusal.{IsLent, refusal_kind, reservation_kind};
-ghost use Rattle.iddqd_lines.specs.Lines.{Add, Put, Get, Del, Cost, Set, Keep, Reserve, Shrink, Len};
+ghost use Rattle.iddqd.specs.Errors.{values_of};
+ghost use Rattle.iddqd.specs.Refusal.{IsOnly, refusal_kind, reservation_kind};
+ghost use Rattle.idtable_lines.specs.Lines.{Add, Put, Get, Del, Cost, Set, Keep, Reserve, Shrink, Len};
 ghost use Rattle.iddqd_run.specs.Shown.{AnswersRequest, IsTable, no_room_reply, no_space_reply};
 ghost use Rattle.iddqd_run.specs.declared.entries.Entry.{Entry};
 ghost use Rattle.iddqd_run.specs.declared.entries.LineReply.TheVariants.{RefusedMemory};
@@ -207,7 +207,7 @@ pub(crate) fn no_room<'a>(error: TryReserveError) -> LineReply<'a>
 
 /// The value of the one entry that is lent.
 pub(crate) fn value_of(shown: &Few<&Entry>) -> u64
-    ensures { (entry : _) → IsLent (listed shown.now) entry → result ≡ entry.value }
+    ensures { (entry : _) → IsOnly (values_of shown.now) entry → result ≡ entry.value }
 {
     match shown {
         Few::One(entry) | Few::Two(entry, _) | Few::Three(entry, _, _) => entry.value,

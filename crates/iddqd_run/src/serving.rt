@@ -6,7 +6,7 @@ ghost use Rattle.iddqd_run.specs.Words.{text_for};
 
 use crate::answering::answer;
 use iddqd::{IdHashMap, IdOrdMap};
-use iddqd_lines::Kind;
+use idtable_lines::Kind;
 use std::alloc::Global;
 use std::io::{ErrorKind, Read, Write};
 

@@ -1,25 +1,25 @@
 //! A map of entries that is asked by texts.
 ghost use Rattle.std.specs.Prelude.{◌≡◌, ℕ, ◌+◌, ◌-◌, ◌*◌, ◌≤◌, ◌++◌, codes, decimal, Bool, List, length, drop, take, IfErr, IfOk, OnErr, OnOk, option_copied, slice_get, bytes_eq, string_bytes, IfNone, IfSome, None, filter};
 ghost use Rattle.std.specs.Hash as fed;
-ghost use Rattle.iddqd.specs.Contents.{find_item, without};
+ghost use Rattle.iddqd.specs.Contents.{find_item, items_without};
 ghost use Rattle.iddqd.specs.Digits.{digits};
 ghost use Rattle.iddqd.specs.IdHashMap.{of_stored_hash};
 ghost use Rattle.iddqd.specs.Hashing.{hash_under};
 ghost use Rattle.iddqd.specs.Visiting.{VisitsKeepKeys};
-ghost use Rattle.iddqd_commands.specs.KeyedMap.{StaysKeyed};
-ghost use Rattle.iddqd_commands.specs.Step.{VisitsItem};
+ghost use Rattle.idtable_commands.specs.KeyedMap.{StaysKeyed};
+ghost use Rattle.idtable_commands.specs.Step.{VisitsItem};
 ghost use Rattle.iddqd_run.specs.Answer.{list_text};
 ghost use Rattle.iddqd_run.specs.Shown.{HasEnds, ListsItems, all_lent, entries_of};
-ghost use Rattle.iddqd_lines.specs.declared.arguments.Kind.{Kind};
+ghost use Rattle.idtable_lines.specs.declared.arguments.Kind.{Kind};
 ghost use Rattle.iddqd_run.specs.declared.entries.Entry.{Entry};
-ghost use Rattle.iddqd_lines.specs.declared.arguments.Kind.TheVariants.{Hash, Ord};
+ghost use Rattle.idtable_lines.specs.declared.arguments.Kind.TheVariants.{Hash, Ord};
 ghost use Rattle.iddqd_run.specs.declared.table.ListStop.TheVariants.{Entries};
 
 mod sorted;
 
 use crate::entries::{Entry, begin_list, write_entry};
 use iddqd::{DefaultHashBuilder, IdHashMap, IdOrdMap, Steps, Text, Visit};
-use iddqd_commands::KeyedMap;
+use idtable_commands::KeyedMap;
 use sorted::by_name;
 use std::alloc::{AllocError, Global};
 use std::hash::{BuildHasher, FoldHasher, Hasher};
@@ -93,7 +93,7 @@ pub(crate) trait Table: KeyedMap {
     fn take_out(&mut self, name: &str) -> Option<Self::Item>
         requires keyed { Self.keyed self.old }
         ensures value { result ≡ find_item Self.key (is_text name.now) (Self.state self.old).items }
-        ensures items { (Self.state self.new).items ≡ without Self.key (is_text name.now) (Self.state self.old).items }
+        ensures items { (Self.state self.new).items ≡ items_without Self.key (is_text name.now) (Self.state self.old).items }
         ensures stays { StaysKeyed Self.state Self.limit Self.rule Self.keyed self.old self.new };
 
     /// The entry of the least name, or `None`.

@@ -3,13 +3,13 @@
 --     adds_last      one item more, whose key no item there has
 --     conflicts_first      an item whose key one has that is there by then
 --     halts_adding      one is not put in
-use Rattle.std.proofs.Common.{◌≡◌, ◌∙◌, Bool, List, [], ◌∷◌, ◌++◌, Some, ap, sym, subst}
+use Rattle.std.proofs.Common.{◌≡◌, ◌∙◌, Bool, List, [], ◌∷◌, ◌++◌, Some, ap, sym, subst, IsPermutation}
 use Rattle.std.proofs.lemmas.List.{append-nil, append_assoc}
 use Rattle.std.proofs.lemmas.List.Sorted.{IsPermutation-refl, IsPermutation-sym}
 use Rattle.std.specs.Cmp.{IsEquivalence}
 use Rattle.iddqd_store.specs.Adding.{HaltsAdding, HaltsAt}
 use Rattle.iddqd_store.specs.Collecting.{AddsAll, IsFirstConflict}
-use Rattle.iddqd_store.specs.Contents.{AddsItem, IsAbsent, NoTwoAkin, SameInAnyOrder, find_item}
+use Rattle.iddqd_store.specs.Contents.{AddsItem, IsAbsent, NoTwoAkin, find_item}
 use Rattle.iddqd_store.specs.Holding.{Holding, KeepsItems}
 use Rattle.iddqd_store.specs.Refusal.{refusal_kind}
 use Rattle.iddqd_store.specs.declared.halts.Halt.{Halt}
@@ -22,7 +22,7 @@ module _ {T K : Type 0} (key : T → K) {eq : K → K → Bool} where
   pub adds_none : (old : List T) → NoTwoAkin key eq old → AddsAll key eq [] old old
   adds_none old differ = record {
     differ = subst (NoTwoAkin key eq) (sym (append-nil old)) differ;
-    same = subst (λ l. SameInAnyOrder l old) (sym (append-nil old)) (IsPermutation-refl old);
+    same = subst (λ l. IsPermutation l old) (sym (append-nil old)) (IsPermutation-refl old);
   }
 
   module _ (equivalence : IsEquivalence eq) (xs old middle : List T) (adds : AddsAll key eq xs old middle) (x : T) where
@@ -32,8 +32,8 @@ module _ {T K : Type 0} (key : T → K) {eq : K → K → Bool} where
 
     pub adds_last : (new : List T) → IsAbsent key (eq (key x)) middle → AddsItem x middle new → AddsAll key eq (xs ++ x ∷ []) old new
     adds_last new absent added =
-        let same : SameInAnyOrder (old ++ (xs ++ x ∷ [])) new =
-        subst (λ l. SameInAnyOrder l new) (append_assoc old xs (x ∷ [])) (collects_last x (old ++ xs) middle new adds.same added) in
+        let same : IsPermutation (old ++ (xs ++ x ∷ [])) new =
+        subst (λ l. IsPermutation l new) (append_assoc old xs (x ∷ [])) (collects_last x (old ++ xs) middle new adds.same added) in
         let differ : NoTwoAkin key eq new = subst (NoTwoAkin key eq) (sym added.put) (differ_insert key equivalence x middle added.place absent added_differ) in
         record {
           differ = differ_moved key equivalence new (old ++ (xs ++ x ∷ [])) (IsPermutation-sym (old ++ (xs ++ x ∷ [])) new same) differ;

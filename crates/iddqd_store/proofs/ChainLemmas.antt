@@ -2,7 +2,7 @@
 use Rattle.std.proofs.Common.{◌≡◌, ◌≢◌, ◌⊎◌, ℕ, zero, suc, ◌+◌, ◌<◌, cond, eqb, Option, Some, None, IsSome, refl, sym, ap, subst, ◌∙◌, inl, inr, arith}
 use Rattle.std.proofs.lemmas.Bool.{cases_eq}
 use Rattle.std.proofs.lemmas.Bool.{eq-eqb, ne_eqb}
-use Rattle.iddqd_store.specs.Slots.{no_slot, without, IsChained}
+use Rattle.iddqd_store.specs.Slots.{no_slot, links_without, IsChained}
 
 -- one slot has one pair of links
 pub same_links : (o : Option (ℕ × ℕ)) (a b c d : ℕ) → o ≡ Some (a, b) → o ≡ Some (c, d) → (a ≡ c) × (b ≡ d)
@@ -27,10 +27,10 @@ unfolding at_place
 at_place-other rank at value s other = ap (λ t. cond t value (rank s)) (ne_eqb s at other)
 
 -- the links of all slots but one, at that slot and at another
-pub without-same : (links : ℕ → Option (ℕ × ℕ)) (at : ℕ) → without links at at ≡ None
+pub without-same : (links : ℕ → Option (ℕ × ℕ)) (at : ℕ) → links_without links at at ≡ None
 without-same links at = ap (λ t. cond t None (links at)) (eq-eqb at at refl)
 
-pub without-other : (links : ℕ → Option (ℕ × ℕ)) (at s : ℕ) → s ≢ at → without links at s ≡ links s
+pub without-other : (links : ℕ → Option (ℕ × ℕ)) (at s : ℕ) → s ≢ at → links_without links at s ≡ links s
 without-other links at s other = ap (λ t. cond t None (links s)) (ne_eqb s at other)
 
 -- where a slot is vacant the chain has a first
@@ -355,21 +355,21 @@ pub taken_by_writes : (links links₁ links₂ : ℕ → Option (ℕ × ℕ)) (f
     → (n ≢ no_slot → (a m : ℕ) → links n ≡ Some (a, m) → links₁ n ≡ Some (p, m)) → ((s : ℕ) → (n ≢ no_slot → s ≢ n) → links₁ s ≡ links s)
     → (p ≢ no_slot → (q b : ℕ) → links₁ p ≡ Some (q, b) → links₂ p ≡ Some (q, n)) → ((s : ℕ) → (p ≢ no_slot → s ≢ p) → links₂ s ≡ links₁ s)
     → (p ≡ no_slot → first' ≡ n) → (p ≢ no_slot → first' ≡ first)
-    → IsChained (without links₂ at) first'
+    → IsChained (links_without links₂ at) first'
 taken_by_writes links links₁ links₂ first first' at p n chained is at_next keep₁ at_previous keep₂ start later =
     let far = apart links first at p n chained is in
-    IsChained-taken links (without links₂ at) first first' at p n is (without-same links₂ at)
+    IsChained-taken links (links_without links₂ at) first first' at p n is (without-same links₂ at)
     (λ ne m link. without-other links₂ at n (far.1 ne).2 ∙ keep₂ n (λ ne'. far.3 ne ne') ∙ at_next ne at m link)
     (λ ne q link. without-other links₂ at p (far.2 ne).2 ∙ at_previous ne q at (keep₁ p (λ ne' e. far.3 ne' ne (sym e)) ∙ link))
     (λ s a b c. without-other links₂ at s a ∙ keep₂ s c ∙ keep₁ s b)
     start later chained
 
 -- what `set_previous` of the old first leaves
-pub put_by_write : (links links' : ℕ → Option (ℕ × ℕ)) (first at : ℕ) → links at ≡ Some (no_slot, first) → IsChained (without links at) first → at ≢ no_slot
+pub put_by_write : (links links' : ℕ → Option (ℕ × ℕ)) (first at : ℕ) → links at ≡ Some (no_slot, first) → IsChained (links_without links at) first → at ≢ no_slot
     → (first ≢ no_slot → (p n : ℕ) → links first ≡ Some (p, n) → links' first ≡ Some (at, n)) → ((s : ℕ) → (first ≢ no_slot → s ≢ first) → links' s ≡ links s) → IsChained links' at
 put_by_write links links' first at is chained number write others =
-    let far : first ≢ no_slot → first ≢ at = λ ne e. let h = chained.head ne in some_not_none (without links at first) (no_slot, h.0) (ap (without links at) e ∙ without-same links at) h.1 in
-    IsChained-put (without links at) links' first at (without-same links at) number (others at (λ ne e. far ne (sym e)) ∙ is)
+    let far : first ≢ no_slot → first ≢ at = λ ne e. let h = chained.head ne in some_not_none (links_without links at first) (no_slot, h.0) (ap (links_without links at) e ∙ without-same links at) h.1 in
+    IsChained-put (links_without links at) links' first at (without-same links at) number (others at (λ ne e. far ne (sym e)) ∙ is)
     (λ ne n link. write ne no_slot n (sym (without-other links at first (far ne)) ∙ link))
     (λ s away b. others s b ∙ sym (without-other links at s away))
     chained
@@ -381,13 +381,13 @@ head_links links first p n chained some is =
     head.1 ∙ ap (λ m. Some (no_slot, m)) (sym (same_links (links first) p n no_slot head.0 is head.1).1)
 
 -- the second of the chain is vacant still, once the first is filled
-pub second_stays : (links links₁ : ℕ → Option (ℕ × ℕ)) (first n : ℕ) → IsChained links first → links first ≡ Some (no_slot, n) → ((s : ℕ) → links₁ s ≡ without links first s) → n ≢ no_slot → IsSome (links₁ n)
+pub second_stays : (links links₁ : ℕ → Option (ℕ × ℕ)) (first n : ℕ) → IsChained links first → links first ≡ Some (no_slot, n) → ((s : ℕ) → links₁ s ≡ links_without links first s) → n ≢ no_slot → IsSome (links₁ n)
 second_stays links links₁ first n chained is filled some =
     let second = (apart links first first no_slot n chained is).1 some in
     rw (filled n ∙ without-other links first n second.2 ∙ second.1) refl
 
 -- what filling the first and `set_previous` of the second leave
-pub first_filled : (links links₁ links₂ : ℕ → Option (ℕ × ℕ)) (first n : ℕ) → IsChained links first → links first ≡ Some (no_slot, n) → ((s : ℕ) → links₁ s ≡ without links first s)
+pub first_filled : (links links₁ links₂ : ℕ → Option (ℕ × ℕ)) (first n : ℕ) → IsChained links first → links first ≡ Some (no_slot, n) → ((s : ℕ) → links₁ s ≡ links_without links first s)
     → (n ≢ no_slot → (p m : ℕ) → links₁ n ≡ Some (p, m) → links₂ n ≡ Some (no_slot, m)) → ((s : ℕ) → (n ≢ no_slot → s ≢ n) → links₂ s ≡ links₁ s) → IsChained links₂ n
 first_filled links links₁ links₂ first n chained is filled write others =
     let far = apart links first first no_slot n chained is in

@@ -5,7 +5,7 @@
 --     overwritten      one item is put in
 --     gives_all, gives_then      an iterator that gave these items, and then none or one more
 --     collected_differ, shows_first      what the items in a map say of those that were collected
-use Rattle.std.proofs.Common.{◌≡◌, ℕ, Bool, List, [], ◌∷◌, ◌++◌, Option, Some, None, IfNone, OnSome, length, nat_eq, refl, sym, ap, ◌∙◌, subst, arith}
+use Rattle.std.proofs.Common.{◌≡◌, ℕ, Bool, List, [], ◌∷◌, ◌++◌, Option, Some, None, IfNone, OnSome, length, nat_eq, refl, sym, ap, ◌∙◌, subst, arith, IsPermutation}
 use Rattle.std.proofs.lemmas.List.{length-map}
 use Rattle.std.proofs.lemmas.List.Edits.{length-insert}
 use Rattle.std.proofs.lemmas.List.Sorted.{IsPermutation-cons, IsPermutation-insert, IsPermutation-sym, IsPermutation-to_front, IsPermutation-trans}
@@ -14,8 +14,8 @@ use Rattle.std.specs.Cmp.{IsEquivalence}
 use Rattle.std.specs.Iterator.{Drains, YieldsThen}
 use Rattle.std.specs.List.{IsDistinct}
 use Rattle.iddqd_store.specs.Collecting.{GivesAll, GivesThen, IsFirstRepeat, OverwritesAll, ShowsAkin, ShowsFirstRepeat}
-use Rattle.iddqd_store.specs.Contents.{AddsItem, NoTwoAkin, OverwritesItem, SameInAnyOrder, find_item, replaced}
-use Rattle.iddqd_store.specs.Holding.{FillsSlots, Holding, KeepsItems, TakesItem}
+use Rattle.iddqd_store.specs.Contents.{AddsItem, NoTwoAkin, OverwritesItem, find_item, items_overwritten}
+use Rattle.iddqd_store.specs.Holding.{FillsSlots, Holding, KeepsItems, InsertsItem}
 use Rattle.iddqd_store.specs.SlotItems.{HaveSlots}
 use Rattle.iddqd_store.specs.declared.errors.FromIterError.{FromIterError}
 use Rattle.iddqd_store.specs.declared.errors.FromIterError.TheVariants.{Duplicate, Refused}
@@ -26,11 +26,11 @@ module _ {T K : Type 0} (key : T → K) (eq : K → K → Bool) (limit : ℕ) (x
   overwrites_last [] old between back new same last = (new, back, subst (λ ys. OverwritesItem key eq x limit ys back new) same last, refl)
   overwrites_last (y ∷ xs) old between back new all last = (all.0, all.1, all.2, overwrites_last xs all.0 between back new all.3 last)
 
-pub collects_last : {T : Type 0} (x : T) (xs items new : List T) → SameInAnyOrder xs items → AddsItem x items new → SameInAnyOrder (xs ++ x ∷ []) new
+pub collects_last : {T : Type 0} (x : T) (xs items new : List T) → IsPermutation xs items → AddsItem x items new → IsPermutation (xs ++ x ∷ []) new
 collects_last x xs items new same added =
     IsPermutation-trans (xs ++ x ∷ []) (x ∷ xs) new (IsPermutation-to_front xs x)
     (IsPermutation-trans (x ∷ xs) (x ∷ items) new (IsPermutation-cons x xs items same)
-    (subst (λ l. SameInAnyOrder (x ∷ items) l) (sym added.put) (IsPermutation-insert items added.place x)))
+    (subst (λ l. IsPermutation (x ∷ items) l) (sym added.put) (IsPermutation-insert items added.place x)))
 
 pub gives_all : {U S T : Type 0} (becomes : U → S → Type 0) (steps : S → Option T → S → Type 0) (iter : U) (xs : List T) → (it : S) × becomes iter it × Drains steps it xs → GivesAll becomes steps iter xs
 gives_all becomes steps iter xs gave = (gave.0, gave.1, total_runs steps gave.0 Unit (λ ys. ys ≡ xs) (xs, (λ _. gave.2), refl) tt)
@@ -39,7 +39,7 @@ pub gives_then : {U S T : Type 0} (becomes : U → S → Type 0) (steps : S → 
 unfolding GivesThen
 gives_then becomes steps iter xs x gave = gave
 
-module _ {T K : Type 0} (key : T → K) {eq : K → K → Bool} (equivalence : IsEquivalence eq) (xs items : List T) (same : SameInAnyOrder xs items) (differ : NoTwoAkin key eq items) where
+module _ {T K : Type 0} (key : T → K) {eq : K → K → Bool} (equivalence : IsEquivalence eq) (xs items : List T) (same : IsPermutation xs items) (differ : NoTwoAkin key eq items) where
   pub collected_differ : NoTwoAkin key eq xs
   collected_differ = differ_moved key equivalence items xs (IsPermutation-sym xs items same) differ
 
@@ -72,7 +72,7 @@ module _ {T : Type 0} where
     limit = other.limit ∙ one.limit;
   }
 
-  pub fills_taken : (x : T) (old new : Holding T) → TakesItem x old new → FillsSlots old new
+  pub fills_taken : (x : T) (old new : Holding T) → InsertsItem x old new → FillsSlots old new
   fills_taken x old new took =
       let longer = length-insert old.items took.added.place x took.added.within in
       record {
@@ -84,7 +84,7 @@ module _ {T : Type 0} where
       }
 
 -- Same and Takes are what a call says where an akin item was there, and where none was
-module _ {T K Same Takes : Type 0} (key : T → K) (eq : K → K → Bool) (x : T) (old new : Holding T) (own : HaveSlots old.slots old.items) (swaps : Same → new ≡ record old { items = replaced key (eq (key x)) x old.items }) (takes : Takes → TakesItem x old new) where
+module _ {T K Same Takes : Type 0} (key : T → K) (eq : K → K → Bool) (x : T) (old new : Holding T) (own : HaveSlots old.slots old.items) (swaps : Same → new ≡ record old { items = items_overwritten key (eq (key x)) x old.items }) (takes : Takes → InsertsItem x old new) where
   pub overwritten : (found : Option T) → found ≡ find_item key (eq (key x)) old.items → OnSome found Same → IfNone found Takes → OverwritesItem key eq x old.limit old.items found new.items × FillsSlots old new
   overwritten None told some none =
       let took = takes none in

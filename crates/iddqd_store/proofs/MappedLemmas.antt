@@ -4,7 +4,7 @@ use Rattle.std.proofs.lemmas.List.{map-append}
 use Rattle.std.specs.List.{insert, remove}
 use Rattle.std.specs.Option.{option_map}
 use Rattle.std.specs.Ordering.{is_lt}
-use Rattle.iddqd_store.specs.Contents.{find_item, without, replaced, placed}
+use Rattle.iddqd_store.specs.Contents.{find_item, items_without, items_overwritten, items_with}
 
 choose : {A B : Type 0} (f : A → B) (b : Bool) (x y : A) → cond b (f x) (f y) ≡ f (cond b x y)
 choose f true x y = refl
@@ -34,16 +34,16 @@ module _ {T U K : Type 0} (shown : T → U) (key : U → K) where
       let rest = filter (λ y. p (shown y)) xs in
       ap (λ ys. cond (p (shown x)) (shown x ∷ ys) ys) (filter-map p xs) ∙ choose (map shown) (p (shown x)) (x ∷ rest) rest
 
-  pub without-map : (test : K → Bool) (xs : List T) → map shown (without (λ x. key (shown x)) test xs) ≡ without key test (map shown xs)
+  pub without-map : (test : K → Bool) (xs : List T) → map shown (items_without (λ x. key (shown x)) test xs) ≡ items_without key test (map shown xs)
   without-map test xs = sym (filter-map (λ y. not (test (key y))) xs)
 
-  pub placed-map : (cmp : K → K → Ordering) (x : T) (xs : List T) → map shown (placed (λ y. key (shown y)) cmp x xs) ≡ placed key cmp (shown x) (map shown xs)
+  pub placed-map : (cmp : K → K → Ordering) (x : T) (xs : List T) → map shown (items_with (λ y. key (shown y)) cmp x xs) ≡ items_with key cmp (shown x) (map shown xs)
   placed-map cmp x xs =
       map-append shown (filter (λ y. is_lt (cmp (key (shown y)) (key (shown x)))) xs) (x ∷ filter (λ y. is_lt (cmp (key (shown x)) (key (shown y)))) xs)
       ∙ sym (rw (filter-map (λ y. is_lt (cmp (key y) (key (shown x)))) xs) (rw (filter-map (λ y. is_lt (cmp (key (shown x)) (key y))) xs) refl))
 
-  pub replaced-map : (test : K → Bool) (y : T) (xs : List T) → map shown (replaced (λ x. key (shown x)) test y xs) ≡ replaced key test (shown y) (map shown xs)
+  pub replaced-map : (test : K → Bool) (y : T) (xs : List T) → map shown (items_overwritten (λ x. key (shown x)) test y xs) ≡ items_overwritten key test (shown y) (map shown xs)
   replaced-map test y [] = refl
   replaced-map test y (x ∷ xs) =
-      ap (λ z. z ∷ map shown (replaced (λ w. key (shown w)) test y xs)) (sym (choose shown (test (key (shown x))) y x))
+      ap (λ z. z ∷ map shown (items_overwritten (λ w. key (shown w)) test y xs)) (sym (choose shown (test (key (shown x))) y x))
       ∙ ap (λ zs. cond (test (key (shown x))) (shown y) (shown x) ∷ zs) (replaced-map test y xs)

@@ -4,7 +4,7 @@ use Rattle.std.specs.Cmp.{IsTotalOrder}
 use Rattle.std.specs.List.{AllByRecursion, insert}
 use Rattle.std.specs.List.Sorted.{IsStrictlySortedBy}
 use Rattle.std.specs.Ordering.{is_lt, ordering_reverse}
-use Rattle.iddqd_store.specs.Contents.{AddsItem, Ascends, placed}
+use Rattle.iddqd_store.specs.Contents.{AddsItem, Ascends, items_with}
 
 module _ {T K : Type 0} (key : T → K) {cmp : K → K → Ordering} (o : IsTotalOrder cmp) (x : T) where
   turned : (a b : K) → cmp a b ≡ Less → cmp b a ≡ Greater
@@ -38,9 +38,9 @@ module _ {T K : Type 0} (key : T → K) {cmp : K → K → Ordering} (o : IsTota
   behind_place [] (suc i) s = refl
   behind_place (y ∷ ys) (suc i) s = rw (turned (key y) (key x) (of_inserted (λ k. cmp (key y) k ≡ Less) ys i s.0)) (behind_place ys i s.1)
 
-  pub insert_placed : (items : List T) (i : ℕ) → Ascends key cmp (insert items i x) → insert items i x ≡ placed key cmp x items
+  pub insert_placed : (items : List T) (i : ℕ) → Ascends key cmp (insert items i x) → insert items i x ≡ items_with key cmp x items
   insert_placed items i s = rw (before_place items i s, behind_place items i s) refl
 
   -- an item added to the items, which then ascend, stands at its place
-  pub added_placed : (old new : List T) → AddsItem x old new → Ascends key cmp new → new ≡ placed key cmp x old
+  pub added_placed : (old new : List T) → AddsItem x old new → Ascends key cmp new → new ≡ items_with key cmp x old
   added_placed old new adds s = adds.put ∙ insert_placed old adds.place (subst (Ascends key cmp) adds.put s)

@@ -12,7 +12,7 @@ use Rattle.std.specs.Cmp.{IsEquivalence, IsTotalOrder}
 use Rattle.std.specs.List.{AllWithin, HoldsAt, remove, slice_get}
 use Rattle.std.specs.Ordering.{is_eq, is_lt, is_le, is_ge}
 use Rattle.iddqd_store.specs.Query.{differ_from_ascends, le_then_less, ge_then_greater}
-use Rattle.iddqd_store.specs.Contents.{IsKeyTest, find_item, without, replaced, Ascends}
+use Rattle.iddqd_store.specs.Contents.{IsKeyTest, find_item, items_without, items_overwritten, Ascends}
 use Rattle.iddqd_store.proofs.ContentsLemmas.{IsOnlyPlace, NonePasses, only_place, find_at, find_none, filter_at, filter_none, map_at, map_none}
 use Rattle.iddqd_store.proofs.SearchLemmas.{greater_in_front, less_at_back, find_from}
 
@@ -49,10 +49,10 @@ module _ {T K : Type 0} (key : T → K) {eq : K → K → Bool} {cmp : K → K �
   pub find_there : (i : ℕ) (x : T) → i < length (map key items) → HoldsAt (λ k. compare k ≡ Equal) (map key items) i → x ≡ get_or items i x → Some x ≡ find_item key test items
   find_there i x h at e = sym (place_there i h at ∙ slice_get_read items (length items) i x refl (omega (arith, length-map items key)) e)
 
-  pub without_there : (i : ℕ) → i < length (map key items) → HoldsAt (λ k. compare k ≡ Equal) (map key items) i → remove items i ≡ without key test items
+  pub without_there : (i : ℕ) → i < length (map key items) → HoldsAt (λ k. compare k ≡ Equal) (map key items) i → remove items i ≡ items_without key test items
   without_there i h at = sym (filter_at (λ y. test (key y)) items i (only_at i h at))
 
-  pub replaced_there : (i : ℕ) (y : T) → i < length (map key items) → HoldsAt (λ k. compare k ≡ Equal) (map key items) i → set items i y ≡ replaced key test y items
+  pub replaced_there : (i : ℕ) (y : T) → i < length (map key items) → HoldsAt (λ k. compare k ≡ Equal) (map key items) i → set items i y ≡ items_overwritten key test y items
   replaced_there i y h at = sym (map_at (λ x. test (key x)) y items i (only_at i h at))
 
   pub none_at : (i : ℕ) → AllWithin (λ k. compare k ≡ Greater) (map key items) 0 i → AllWithin (λ k. compare k ≡ Less) (map key items) i (length (map key items)) → NonePasses (λ x. test (key x)) items
@@ -64,10 +64,10 @@ module _ {T K : Type 0} (key : T → K) {eq : K → K → Bool} {cmp : K → K �
   pub find_nowhere : (i : ℕ) → AllWithin (λ k. compare k ≡ Greater) (map key items) 0 i → AllWithin (λ k. compare k ≡ Less) (map key items) i (length (map key items)) → None ≡ find_item key test items
   find_nowhere i before behind = sym (find_none (λ y. test (key y)) items (none_at i before behind))
 
-  pub without_nowhere : (i : ℕ) → AllWithin (λ k. compare k ≡ Greater) (map key items) 0 i → AllWithin (λ k. compare k ≡ Less) (map key items) i (length (map key items)) → items ≡ without key test items
+  pub without_nowhere : (i : ℕ) → AllWithin (λ k. compare k ≡ Greater) (map key items) 0 i → AllWithin (λ k. compare k ≡ Less) (map key items) i (length (map key items)) → items ≡ items_without key test items
   without_nowhere i before behind = sym (filter_none (λ y. test (key y)) items (none_at i before behind))
 
-  pub replaced_nowhere : (i : ℕ) (y : T) → AllWithin (λ k. compare k ≡ Greater) (map key items) 0 i → AllWithin (λ k. compare k ≡ Less) (map key items) i (length (map key items)) → items ≡ replaced key test y items
+  pub replaced_nowhere : (i : ℕ) (y : T) → AllWithin (λ k. compare k ≡ Greater) (map key items) 0 i → AllWithin (λ k. compare k ≡ Less) (map key items) i (length (map key items)) → items ≡ items_overwritten key test y items
   replaced_nowhere i y before behind = sym (map_none (λ x. test (key x)) y items (none_at i before behind))
 
   -- the first item whose key is above the query stands behind the one found, or where the query belongs

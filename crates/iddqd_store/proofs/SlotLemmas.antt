@@ -9,7 +9,7 @@ use Rattle.iddqd_store.specs.declared.item_store.chain.Links.{Links}
 use Rattle.iddqd_store.specs.Store.{Store, MovesLast, Updates, EndsOccupied, IsItemClone}
 use Rattle.std.specs.List.{AllZip}
 use Rattle.std.proofs.lemmas.List.Elements.{length_all_zip}
-use Rattle.iddqd_store.specs.Slots.{no_slot, item_of, links_of, items_of, links_at, without, IsChained, SameSlots, IsSound, IsSlotClone}
+use Rattle.iddqd_store.specs.Slots.{no_slot, item_of, links_of, items_of, links_at, links_without, IsChained, SameSlots, IsSound, IsSlotClone}
 use Rattle.iddqd_store.proofs.ChainLemmas.{without-same, without-other, IsChained-along, first_exists, same_links, head_links, apart}
 
 module _ {T : Type 0} where
@@ -117,13 +117,13 @@ module _ {T : Type 0} where
       head_links (links_at es) first links.previous links.next chained some (links_at-read es first d (Vacant links) within read)
 
   -- the links after a slot is filled, vacated, replaced
-  pub links-filled : (es : List (Slot T)) (at : ℕ) (item : T) → at < length es → (s : ℕ) → links_at (set es at (Occupied item)) s ≡ without (links_at es) at s
+  pub links-filled : (es : List (Slot T)) (at : ℕ) (item : T) → at < length es → (s : ℕ) → links_at (set es at (Occupied item)) s ≡ links_without (links_at es) at s
   links-filled es at item within s = elim (cases_eq s at) [
     | inl e ↦ rw e (links_at-set_same es at (Occupied item) within ∙ sym (without-same (links_at es) at))
     | inr other ↦ links_at-set_other es at (Occupied item) s other ∙ sym (without-other (links_at es) at s other)
   ]
 
-  pub links-vacated : (es : List (Slot T)) (at : ℕ) (g : Links) → links_at es at ≡ None → (s : ℕ) → without (links_at (set es at (Vacant g))) at s ≡ links_at es s
+  pub links-vacated : (es : List (Slot T)) (at : ℕ) (g : Links) → links_at es at ≡ None → (s : ℕ) → links_without (links_at (set es at (Vacant g))) at s ≡ links_at es s
   links-vacated es at g none s = elim (cases_eq s at) [
     | inl e ↦ rw e (without-same (links_at (set es at (Vacant g))) at ∙ sym none)
     | inr other ↦ without-other (links_at (set es at (Vacant g))) at s other ∙ links_at-set_other es at (Vacant g) s other
@@ -150,7 +150,7 @@ module _ {T : Type 0} where
   ]
 
   -- the last slot leaves
-  pub links-front : (es : List (Slot T)) (n : ℕ) → length es ≡ suc n → (s : ℕ) → links_at (take n es) s ≡ without (links_at es) n s
+  pub links-front : (es : List (Slot T)) (n : ℕ) → length es ≡ suc n → (s : ℕ) → links_at (take n es) s ≡ links_without (links_at es) n s
   links-front es n long s = elim (cases_eq s n) [
     | inl e ↦ rw e (get_or_past (map links_of (take n es)) n None (omega (arith, length-map (take n es) links_of, length-take n es)) ∙ sym (without-same (links_at es) n))
     | inr other ↦ front_other links_of es n long s other ∙ sym (without-other (links_at es) n s other)

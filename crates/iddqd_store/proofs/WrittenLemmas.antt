@@ -19,7 +19,7 @@ use Rattle.std.specs.List.Sorted.{IsStrictlySortedBy}
 use Rattle.std.specs.Option.{option_map}
 use Rattle.std.specs.Ordering.{is_eq}
 use Rattle.std.specs.List.{AllByRecursion, Contains, IsDistinct, remove, slice_get}
-use Rattle.iddqd_store.specs.Contents.{Ascends, IsKeyTest, NoTwoAkin, find_item, replaced, without}
+use Rattle.iddqd_store.specs.Contents.{Ascends, IsKeyTest, NoTwoAkin, find_item, items_overwritten, items_without}
 use Rattle.iddqd_store.specs.SlotItems.{HaveSlots, item_of_slot, without_slot, written_to_slot}
 use Rattle.iddqd_store.proofs.ContentsLemmas.{filter_at, map_at, only_place}
 use Rattle.iddqd_store.proofs.KeepsLemmas.{ascends_set, differ_set}
@@ -130,30 +130,30 @@ module _ {T : Type 0} where
   listed_slot slots items slot many = (occupied_listed slots items slot, λ c. listed_occupied slots items slot many c.0 c.1 c.2)
 
 -- the slot's item is the one that a query finds
-pub others_without : {T K : Type 0} (key : T → K) {eq : K → K → Bool} → IsEquivalence eq → (test : K → Bool) → IsKeyTest eq test → (slots : List ℕ) (items : List T) → NoTwoAkin key eq items → (slot : ℕ) (x : T) → item_of_slot slots items slot ≡ Some x → test (key x) ≡ true → without_slot slots items slot ≡ without key test items
+pub others_without : {T K : Type 0} (key : T → K) {eq : K → K → Bool} → IsEquivalence eq → (test : K → Bool) → IsKeyTest eq test → (slots : List ℕ) (items : List T) → NoTwoAkin key eq items → (slot : ℕ) (x : T) → item_of_slot slots items slot ≡ Some x → test (key x) ≡ true → without_slot slots items slot ≡ items_without key test items
 others_without key equivalence test tests slots items differ slot x there passes =
     let p = slot_place slots items slot x there in
     let only = only_place key equivalence test tests items differ p.place (slice_get_within items p.place x p.item_there) (λ d. ap (λ y. test (key y)) (get_or_from_slice_get items p.place x d p.item_there) ∙ passes) in
     p.others ∙ sym (filter_at (λ y. test (key y)) items p.place only)
 
-pub written_replaced : {T K : Type 0} (key : T → K) {eq : K → K → Bool} → IsEquivalence eq → (test : K → Bool) → IsKeyTest eq test → (slots : List ℕ) (items : List T) → NoTwoAkin key eq items → (slot : ℕ) (x w : T) → item_of_slot slots items slot ≡ Some x → test (key x) ≡ true → written_to_slot slots items slot w ≡ replaced key test w items
+pub written_replaced : {T K : Type 0} (key : T → K) {eq : K → K → Bool} → IsEquivalence eq → (test : K → Bool) → IsKeyTest eq test → (slots : List ℕ) (items : List T) → NoTwoAkin key eq items → (slot : ℕ) (x w : T) → item_of_slot slots items slot ≡ Some x → test (key x) ≡ true → written_to_slot slots items slot w ≡ items_overwritten key test w items
 written_replaced key equivalence test tests slots items differ slot x w there passes =
     let p = slot_place slots items slot x there in
     let only = only_place key equivalence test tests items differ p.place (slice_get_within items p.place x p.item_there) (λ d. ap (λ y. test (key y)) (get_or_from_slice_get items p.place x d p.item_there) ∙ passes) in
     p.written w ∙ sym (map_at (λ y. test (key y)) w items p.place only)
 
-pub written_found : {T K : Type 0} (key : T → K) {eq : K → K → Bool} → IsEquivalence eq → (test : K → Bool) → IsKeyTest eq test → (slots : List ℕ) (items : List T) → NoTwoAkin key eq items → (slot : ℕ) (w : T) → is_some (item_of_slot slots items slot) ≡ true → find_item key test items ≡ item_of_slot slots items slot → written_to_slot slots items slot w ≡ replaced key test w items
+pub written_found : {T K : Type 0} (key : T → K) {eq : K → K → Bool} → IsEquivalence eq → (test : K → Bool) → IsKeyTest eq test → (slots : List ℕ) (items : List T) → NoTwoAkin key eq items → (slot : ℕ) (w : T) → is_some (item_of_slot slots items slot) ≡ true → find_item key test items ≡ item_of_slot slots items slot → written_to_slot slots items slot w ≡ items_overwritten key test w items
 written_found {T} key equivalence test tests slots items differ slot w some found = by (item_of_slot slots items slot) refl some
   where
-    by : (o : Option T) → item_of_slot slots items slot ≡ o → is_some o ≡ true → written_to_slot slots items slot w ≡ replaced key test w items
+    by : (o : Option T) → item_of_slot slots items slot ≡ o → is_some o ≡ true → written_to_slot slots items slot w ≡ items_overwritten key test w items
     by None e none = absurd (true≢false (sym none))
     by (Some x) e there =
         written_replaced key equivalence test tests slots items differ slot x w e (subst (Tells (λ y. test (key y)) items) (found ∙ e) (find_tells (λ y. test (key y)) items)).1
 
-pub others_found : {T K : Type 0} (key : T → K) {eq : K → K → Bool} → IsEquivalence eq → (test : K → Bool) → IsKeyTest eq test → (slots : List ℕ) (items : List T) → NoTwoAkin key eq items → (slot : ℕ) → is_some (item_of_slot slots items slot) ≡ true → find_item key test items ≡ item_of_slot slots items slot → without_slot slots items slot ≡ without key test items
+pub others_found : {T K : Type 0} (key : T → K) {eq : K → K → Bool} → IsEquivalence eq → (test : K → Bool) → IsKeyTest eq test → (slots : List ℕ) (items : List T) → NoTwoAkin key eq items → (slot : ℕ) → is_some (item_of_slot slots items slot) ≡ true → find_item key test items ≡ item_of_slot slots items slot → without_slot slots items slot ≡ items_without key test items
 others_found {T} key equivalence test tests slots items differ slot some found = by (item_of_slot slots items slot) refl some
   where
-    by : (o : Option T) → item_of_slot slots items slot ≡ o → is_some o ≡ true → without_slot slots items slot ≡ without key test items
+    by : (o : Option T) → item_of_slot slots items slot ≡ o → is_some o ≡ true → without_slot slots items slot ≡ items_without key test items
     by None e none = absurd (true≢false (sym none))
     by (Some x) e there =
         others_without key equivalence test tests slots items differ slot x e (subst (Tells (λ y. test (key y)) items) (found ∙ e) (find_tells (λ y. test (key y)) items)).1

@@ -9,7 +9,7 @@ use Rattle.iddqd_store.specs.Collecting.{AddsAll, IsFirstConflict}
 use Rattle.iddqd_store.specs.Contents.{find_item}
 use Rattle.iddqd_store.specs.Errors.{new_item_of, duplicates_of}
 use Rattle.iddqd_store.specs.Holding.{Holding, KeepsItems}
-use Rattle.iddqd_store.specs.Refusal.{FindsNoRoom, IsLent}
+use Rattle.iddqd_store.specs.Refusal.{FindsNoRoom, IsOnly}
 use Rattle.iddqd_store.specs.SlotItems.{item_of_slot}
 use Rattle.iddqd_store.specs.declared.errors.ExtendError.{ExtendError}
 use Rattle.iddqd_store.specs.declared.errors.ExtendUniqueError.{ExtendUniqueError}
@@ -25,7 +25,7 @@ module _ {T K : Type 0} (key : T → K) (eq : K → K → Bool) where
 
   -- the first conflict is shown: its item as new, and the one that is there alone as its duplicate
   abbrev pub ShowsFirstConflict : (gives : List T → T → Type 0) (old : List T) → ExtendUniqueError T → Type 0
-  ShowsFirstConflict gives old (Duplicate d) = (before : List T) × (there : T) × gives before (new_item_of d) × IsFirstConflict key eq old before (new_item_of d) there × IsLent (duplicates_of d) there
+  ShowsFirstConflict gives old (Duplicate d) = (before : List T) × (there : T) × gives before (new_item_of d) × IsFirstConflict key eq old before (new_item_of d) there × IsOnly (duplicates_of d) there
   ShowsFirstConflict gives old (Refused e) = Unit
 
   -- an item found no room and comes back, and those before it are in; without an item, none was asked for, and nothing has changed but the room
@@ -36,7 +36,7 @@ module _ {T K : Type 0} (key : T → K) (eq : K → K → Bool) where
 
   -- the first conflict is shown, and the items before it are in; or there was no room
   abbrev pub StopsAdding : (gives : List T → T → Type 0) (old new : Holding T) → ExtendUniqueError T → Type 0
-  StopsAdding gives old new (Duplicate d) = (before : List T) × (there : T) × gives before (new_item_of d) × IsFirstConflict key eq old.items before (new_item_of d) there × IsLent (duplicates_of d) there × AddsAll key eq before old.items new.items
+  StopsAdding gives old new (Duplicate d) = (before : List T) × (there : T) × gives before (new_item_of d) × IsFirstConflict key eq old.items before (new_item_of d) there × IsOnly (duplicates_of d) there × AddsAll key eq before old.items new.items
   StopsAdding gives old new (Refused e) = RefusesAdding gives old new e
 
   -- the same, with the slot of the item that is there

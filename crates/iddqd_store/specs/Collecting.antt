@@ -1,5 +1,5 @@
 -- What it is to put the items of an iterator into a map, one after the other.
---     likely_new      for how many items room is made before they are put in (as the crate's `Extend` does)
+--     room_to_reserve      for how many items room is made before they are put in (as the crate's `Extend` does)
 --     GivesAll, GivesThen      what an iterator gives: these items and no more, or these and then one
 --     OverwritesAll      each item stands in the stead of the akin one, or beside the others where there is none (the crate's `extend`)
 --     IsFirstRepeat      the first item that is akin to an earlier one, and that one (the crate's `from_iter_unique`)
@@ -7,17 +7,17 @@
 --     AddsAll      each item stands beside the others, and none has the key of another (`extend_unique`, ours)
 --     IsFirstConflict      the first item that is akin to one that is there by then, and that one (ours)
 --     ShowsAkin      one step of it
-use Rattle.std.specs.Prelude.{◌≡◌, ℕ, ◌+◌, ◌/◌, ◌==◌, if◌then◌else◌, Bool, List, [], ◌∷◌, ◌++◌, Option, Some}
+use Rattle.std.specs.Prelude.{◌≡◌, ℕ, ◌+◌, ◌/◌, ◌==◌, if◌then◌else◌, Bool, List, [], ◌∷◌, ◌++◌, Option, Some, IsPermutation}
 use Rattle.std.specs.Iterator.{YieldsThen}
 use Rattle.std.specs.Iterator.Runs.{WholeRun}
-use Rattle.iddqd_store.specs.Contents.{NoTwoAkin, OverwritesItem, SameInAnyOrder, find_item}
+use Rattle.iddqd_store.specs.Contents.{NoTwoAkin, OverwritesItem, find_item}
 use Rattle.iddqd_store.specs.Errors.{new_item_of, duplicates_of}
 use Rattle.iddqd_store.specs.declared.errors.FromIterError.{FromIterError}
 use Rattle.iddqd_store.specs.declared.errors.FromIterError.TheVariants.{Duplicate, Refused}
 
 -- for how many items room is made where so many are there and so many are to come: for all of them in a map without items, and for half of them, rounded up, in another
-abbrev pub likely_new : (there coming : ℕ) → ℕ
-likely_new there coming = if there == 0 then coming else (coming + 1) / 2
+abbrev pub room_to_reserve : (there coming : ℕ) → ℕ
+room_to_reserve there coming = if there == 0 then coming else (coming + 1) / 2
 
 module _ {U S T : Type 0} (becomes : U → S → Type 0) (steps : S → Option T → S → Type 0) where
   abbrev pub GivesAll : U → List T → Type 0
@@ -45,7 +45,7 @@ module _ {T K : Type 0} (key : T → K) (eq : K → K → Bool) where
   -- the items xs are in beside the old ones, in whatever order, and no two of them all are akin
   pub record AddsAll (xs old new : List T) : Type 0 where
     pub differ : NoTwoAkin key eq (old ++ xs)
-    pub same : SameInAnyOrder (old ++ xs) new
+    pub same : IsPermutation (old ++ xs) new
 
   -- of items that are put in beside the old ones, those before x are akin to none that is there, and x is akin to one: an old one, or one of them
   abbrev pub IsFirstConflict : (old before : List T) → (x there : T) → Type 0

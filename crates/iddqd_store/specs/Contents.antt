@@ -17,10 +17,6 @@ pub record AddsItem {T : Type 0} (x : T) (old new : List T) : Type 0 where
   pub within : place ≤ length old
   pub put : new ≡ insert old place x
 
--- the same items, in whatever order (an `IdHashMap` promises none)
-abbrev pub SameInAnyOrder : {T : Type 0} → List T → List T → Type 0
-SameInAnyOrder one other = IsPermutation one other
-
 -- each clone is the value that it was made of (ours, a premise of each call that shows a clone)
 abbrev pub ClonesAreEqual : {T : Type 0} → (T → T → Type 0) → Type 0
 ClonesAreEqual is_clone = (x y : _) → is_clone x y → y ≡ x
@@ -43,12 +39,12 @@ module _ {T K : Type 0} (key : T → K) where
   IsAbsent test items = find_item test items ≡ None
 
   -- the items but for the one whose key passes the test (`remove`)
-  abbrev pub without : (K → Bool) → List T → List T
-  without test items = filter (λ x. not (test (key x))) items
+  abbrev pub items_without : (K → Bool) → List T → List T
+  items_without test items = filter (λ x. not (test (key x))) items
 
   -- the items with y in the place of the one whose key passes the test (`insert_overwrite`)
-  abbrev pub replaced : (K → Bool) → T → List T → List T
-  replaced test y items = map (λ x. if test (key x) then y else x) items
+  abbrev pub items_overwritten : (K → Bool) → T → List T → List T
+  items_overwritten test y items = map (λ x. if test (key x) then y else x) items
 
   -- no two items are akin: their keys differ
   abbrev pub NoTwoAkin : (K → K → Bool) → List T → Type 0
@@ -59,10 +55,10 @@ module _ {T K : Type 0} (key : T → K) where
   Ascends cmp items = IsStrictlySortedBy cmp (keys items)
 
   -- x at its place among items that ascend: the lesser ones before it, the greater ones behind it
-  abbrev pub placed : (K → K → Ordering) → T → List T → List T
-  placed cmp x items = filter (λ y. is_lt (cmp (key y) (key x))) items ++ x ∷ filter (λ y. is_lt (cmp (key x) (key y))) items
+  abbrev pub items_with : (K → K → Ordering) → T → List T → List T
+  items_with cmp x items = filter (λ y. is_lt (cmp (key y) (key x))) items ++ x ∷ filter (λ y. is_lt (cmp (key x) (key y))) items
 
   -- an akin item comes back, and x stands whole in its place; or there is none, the map is not full, and x is put in (`insert_overwrite`)
   abbrev pub OverwritesItem : (K → K → Bool) → T → ℕ → List T → Option T → List T → Type 0
-  OverwritesItem eq x limit old (Some y) new = (find_item (eq (key x)) old ≡ Some y) × (new ≡ replaced (eq (key x)) x old)
+  OverwritesItem eq x limit old (Some y) new = (find_item (eq (key x)) old ≡ Some y) × (new ≡ items_overwritten (eq (key x)) x old)
   OverwritesItem eq x limit old None new = IsAbsent (eq (key x)) old × (length old < limit) × AddsItem x old new

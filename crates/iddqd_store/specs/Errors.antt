@@ -7,10 +7,10 @@ use Rattle.iddqd_store.specs.declared.errors.Few.TheVariants.{One, Two, Three}
 use Rattle.iddqd_store.specs.declared.errors.DuplicateItem.{DuplicateItem}
 
 -- the values, in order; ours, for the crate's vector
-abbrev pub listed : {D : Type 0} → Few D → List D
-listed (One a) = a ∷ []
-listed (Two a b) = a ∷ b ∷ []
-listed (Three a b c) = a ∷ b ∷ c ∷ []
+abbrev pub values_of : {D : Type 0} → Few D → List D
+values_of (One a) = a ∷ []
+values_of (Two a b) = a ∷ b ∷ []
+values_of (Three a b c) = a ∷ b ∷ c ∷ []
 
 module _ {T D : Type 0} where
   -- the item that was handed in (the crate's `new_item`)
@@ -19,4 +19,4 @@ module _ {T D : Type 0} where
 
   -- the items that have its key (the crate's `duplicates`)
   abbrev pub duplicates_of : DuplicateItem T D → List D
-  duplicates_of d = listed d.duplicates
+  duplicates_of d = values_of d.duplicates

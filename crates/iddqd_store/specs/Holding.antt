@@ -1,5 +1,5 @@
 -- What either map holds, and what a call does to it, whatever the keys are.
-use Rattle.std.specs.Prelude.{◌≡◌, ℕ, ◌+◌, ◌-◌, ◌<◌, ◌≤◌, List, length, remove, slice_get, Some, refl}
+use Rattle.std.specs.Prelude.{◌≡◌, ℕ, ◌+◌, ◌-◌, ◌<◌, ◌≤◌, List, length, remove, slice_get, Option, Some, IfNone, IfSome, OnSome, refl}
 use Rattle.std.specs.Prelude.{min as least}
 use Rattle.std.specs.Coded.{Coded, code_by, coded×, coded_ℕ, coded_list}
 use Rattle.iddqd_store.specs.Contents.{AddsItem}
@@ -29,7 +29,7 @@ holding_code {T} code =
     (λ _. refl)
 
 -- the item was put in where the map was not full; it took a vacant slot where there was one
-pub record TakesItem {T : Type 0} (x : T) (old new : Holding T) : Type 0 where
+pub record InsertsItem {T : Type 0} (x : T) (old new : Holding T) : Type 0 where
   pub room : length old.items < old.limit
   pub added : AddsItem x old.items new.items
   pub slots : HaveSlots new.slots new.items
@@ -50,6 +50,14 @@ pub record LeavesSlot {T : Type 0} (y : T) (old new : Holding T) : Type 0 where
   pub place : ℕ
   pub there : slice_get old.items place ≡ Some y
   pub slots : new.slots ≡ remove old.slots place
+
+-- what a removal leaves that found this, besides the items: its slot is vacant, and if nothing was found, nothing has changed (`remove`)
+pub record Removes {T : Type 0} (found : Option T) (old new : Holding T) : Type 0 where
+  pub slots : IfSome found (λ y. LeavesSlot y old new)
+  pub vacant : OnSome found (new.vacant ≡ old.vacant + 1)
+  pub unchanged : IfNone found (new ≡ old)
+  pub capacity : new.capacity ≡ old.capacity
+  pub limit : new.limit ≡ old.limit
 
 -- what retaining leaves besides the items: each item that went has left a vacant slot (`retain`)
 pub record LeavesSlots {T : Type 0} (old new : Holding T) : Type 0 where

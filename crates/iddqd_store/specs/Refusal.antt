@@ -32,10 +32,10 @@ abbrev pub reservation_kind : ℕ → ℕ → RefusalKind
 reservation_kind limit wanted = if nat_lt limit wanted then limit_refused else memory_refused
 
 -- the one value that is lent
-abbrev pub IsLent : {T : Type 0} → List (Bor T) → T → Type 0
-IsLent [] x = ⊥
-IsLent (d ∷ []) x = d.now ≡ x
-IsLent (d ∷ e ∷ more) x = ⊥
+abbrev pub IsOnly : {T : Type 0} → List (Bor T) → T → Type 0
+IsOnly [] x = ⊥
+IsOnly (d ∷ []) x = d.now ≡ x
+IsOnly (d ∷ e ∷ more) x = ⊥
 
 module _ {T K : Type 0} (key : T → K) (eq : K → K → Bool) (limit : ℕ) where
   -- x finds no room: its key is absent, and the kind is told by the limit (ours: the crate panics or aborts)
@@ -44,7 +44,7 @@ module _ {T K : Type 0} (key : T → K) (eq : K → K → Bool) (limit : ℕ) wh
 
   -- x comes back: beside the akin item that is there, which is shown alone (`DuplicateItem`), or for want of room
   abbrev pub RefusesInsertion : List T → T → InsertError T → Type 0
-  RefusesInsertion items x (Duplicate d) = (new_item_of d ≡ x) × (y : T) × IsLent (duplicates_of d) y × (find_item key (eq (key x)) items ≡ Some y)
+  RefusesInsertion items x (Duplicate d) = (new_item_of d ≡ x) × (y : T) × IsOnly (duplicates_of d) y × (find_item key (eq (key x)) items ≡ Some y)
   RefusesInsertion items x (Refused r) = (r.item ≡ x) × FindsNoRoom items x r.error
 
 -- what holds where the item comes back for want of room

@@ -38,8 +38,8 @@ module _ {T : Type 0} where
     pub count : count_by is_some new ≡ count_by is_some old
 
 -- the links of all slots but one
-abbrev pub without : (ℕ → Option (ℕ × ℕ)) → ℕ → ℕ → Option (ℕ × ℕ)
-without links at slot = if slot == at then None else links slot
+abbrev pub links_without : (ℕ → Option (ℕ × ℕ)) → ℕ → ℕ → Option (ℕ × ℕ)
+links_without links at slot = if slot == at then None else links slot
 
 -- the links (previous, next) of the vacant slots form one chain from `first`. A rank falls along it, so it ends
 pub record IsChained (links : ℕ → Option (ℕ × ℕ)) (first : ℕ) : Type 0 where

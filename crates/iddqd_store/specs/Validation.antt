@@ -4,6 +4,6 @@ use Rattle.iddqd_store.specs.declared.validation.ValidateCompact.{ValidateCompac
 use Rattle.iddqd_store.specs.declared.validation.ValidateCompact.TheVariants.{Compact, NonCompact}
 
 -- slots are vacant, and none may be
-abbrev pub HasNeedlessSlots : ValidateCompact → ℕ → Type 0
-HasNeedlessSlots Compact vacant = 0 < vacant
-HasNeedlessSlots NonCompact vacant = ⊥
+abbrev pub IsNotCompact : ValidateCompact → ℕ → Type 0
+IsNotCompact Compact vacant = 0 < vacant
+IsNotCompact NonCompact vacant = ⊥

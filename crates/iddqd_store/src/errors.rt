@@ -2,7 +2,7 @@
 ghost use Rattle.std.specs.Prelude.{◌≡◌, ◌↔◌, IsTrue, IfOk, IfErr, Some, map, length, slice_get, option_copied};
 ghost use Rattle.std.specs.Iterator.{YieldsFirstRef, item_count};
 ghost use Rattle.iddqd_store.specs.Contents.{ClonesAreEqual};
-ghost use Rattle.iddqd_store.specs.Errors.{new_item_of, duplicates_of, listed};
+ghost use Rattle.iddqd_store.specs.Errors.{new_item_of, duplicates_of, values_of};
 ghost use Rattle.iddqd_store.specs.Refusal.{limit_refused, memory_refused};
 
 use std::alloc;
@@ -70,7 +70,7 @@ pub enum Few<D> {
 impl<D> Few<D> {
     /// How many there are.
     pub fn len(&self) -> usize
-        ensures { result ≡ length (listed self.now) }
+        ensures { result ≡ length (values_of self.now) }
     {
         match self {
             Few::One(_) => 1,
@@ -81,7 +81,7 @@ impl<D> Few<D> {
 
     /// The first value.
     pub fn first(&self) -> &D
-        ensures { slice_get (listed self.now) 0 ≡ Some result.now }
+        ensures { slice_get (values_of self.now) 0 ≡ Some result.now }
     {
         match self {
             Few::One(a) | Few::Two(a, _) | Few::Three(a, _, _) => a,
@@ -90,7 +90,7 @@ impl<D> Few<D> {
 
     /// The one at the place, counted from 0; `None` past the end.
     pub fn get(&self, at: usize) -> Option<&D>
-        ensures { option_copied result ≡ slice_get (listed self.now) at }
+        ensures { option_copied result ≡ slice_get (values_of self.now) at }
     {
         match (self, at) {
             (Few::One(a) | Few::Two(a, _) | Few::Three(a, _, _), 0) => Some(a),
@@ -104,7 +104,7 @@ impl<D> Few<D> {
 impl<D> Few<D> {
     /// The values in order, each by a reference. Does not allocate.
     pub fn iter(&self) -> FewIter<'_, D>
-        ensures { result ≡ listed self.now }
+        ensures { result ≡ values_of self.now }
     {
         FewIter { few: self, at: 0 }
     }
@@ -115,7 +115,7 @@ impl<'a, D> IntoIterator for &'a Few<D> {
 
     type IntoIter = FewIter<'a, D>;
 
-    ghost into_iter_gives = { λ few it. it ≡ listed few.now };
+    ghost into_iter_gives = { λ few it. it ≡ values_of few.now };
 
     fn into_iter(self) -> FewIter<'a, D> {
         self.iter()
@@ -131,11 +131,11 @@ pub struct FewIter<'a, D> {
 
 impl<'a, D> Model for FewIter<'a, D> {
     ghost use Rattle.std.specs.Prelude.{List, drop};
-    ghost use Rattle.iddqd_store.specs.Errors.{listed};
+    ghost use Rattle.iddqd_store.specs.Errors.{values_of};
 
     ghost Value = { List D };
 
-    ghost view = { λ it. drop it.at (listed it.few.now) };
+    ghost view = { λ it. drop it.at (values_of it.few.now) };
 }
 
 impl<'a, D> Iterator for FewIter<'a, D> {
@@ -164,7 +164,7 @@ impl<T, D> DuplicateItem<T, D> {
     #[doc(hidden)]
     pub fn internal_new(new: T, duplicates: Few<D>) -> Self
         ensures new { new_item_of result ≡ new }
-        ensures duplicates { duplicates_of result ≡ listed duplicates }
+        ensures duplicates { duplicates_of result ≡ values_of duplicates }
     {
         DuplicateItem { new, duplicates }
     }
@@ -178,7 +178,7 @@ impl<T, D> DuplicateItem<T, D> {
 
     /// The items that have its key.
     pub fn duplicates(&self) -> &Few<D>
-        ensures { listed result.now ≡ duplicates_of self.now }
+        ensures { values_of result.now ≡ duplicates_of self.now }
     {
         &self.duplicates
     }
@@ -186,7 +186,7 @@ impl<T, D> DuplicateItem<T, D> {
     /// The item that was handed in, and the items that have its key.
     pub fn into_parts(self) -> (T, Few<D>)
         ensures new { result.0 ≡ new_item_of self }
-        ensures duplicates { listed result.1 ≡ duplicates_of self }
+        ensures duplicates { values_of result.1 ≡ duplicates_of self }
     {
         let DuplicateItem { new, duplicates } = self;
         (new, duplicates)
@@ -216,7 +216,7 @@ impl<T: Clone> Few<&T> {
     // A clone of each value.
     fn cloned(&self) -> Result<Few<T>, alloc::AllocError>
         requires clones { ClonesAreEqual T.is_clone }
-        ensures { IfOk result (λ few. listed few ≡ map (λ lent. lent.now) (listed self.now)) }
+        ensures { IfOk result (λ few. values_of few ≡ map (λ lent. lent.now) (values_of self.now)) }
     {
         match self {
             Few::One(a) => Ok(Few::One((**a).clone()?)),

@@ -6,8 +6,8 @@ ghost use Rattle.iddqd_store.specs.Collecting as collecting;
 /// without items, and for half of them, rounded up, in another, which may have their keys already (as the crate's `Extend`
 /// does).
 #[doc(hidden)]
-pub fn likely_new(there: usize, announced: usize) -> usize
-    ensures { result ≡ collecting.likely_new there announced }
+pub fn room_to_reserve(there: usize, announced: usize) -> usize
+    ensures { result ≡ collecting.room_to_reserve there announced }
 {
     if there == 0 {
         announced

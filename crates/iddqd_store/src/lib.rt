@@ -18,7 +18,7 @@ pub use errors::{
     TryReserveError,
 };
 pub use halts::Halt;
-pub use hints::likely_new;
+pub use hints::room_to_reserve;
 pub use item_store::{ItemStore, MAX_ITEMS};
 pub use items::{IdHashItem, IdOrdItem};
 pub use queries::{Comparable, Equivalent};

@@ -36,7 +36,7 @@ impl Steps {
 
     fn add_one(&mut self)
         ensures step { self.new ≡ min (self.old + 1) u32.MAX }
-        ensures counts_on { self.old ≤ self.new }
+        ensures never_resets { self.old ≤ self.new }
     {
         self.count = self.count.saturating_add(1);
     }
@@ -45,7 +45,7 @@ impl Steps {
     pub fn compare<K: Ord, Q: Comparable<K>>(&mut self, query: &Q, key: &K) -> Ordering
         ensures value { result ≡ Q.compare query.now key.now }
         ensures step { self.new ≡ min (self.old + 1) u32.MAX }
-        ensures counts_on { self.old ≤ self.new }
+        ensures never_resets { self.old ≤ self.new }
     {
         self.add_one();
         query.compare(key)
@@ -55,7 +55,7 @@ impl Steps {
     pub fn equal<K: Eq, Q: Equivalent<K>>(&mut self, query: &Q, key: &K) -> bool
         ensures value { result ≡ Q.equivalent query.now key.now }
         ensures step { self.new ≡ min (self.old + 1) u32.MAX }
-        ensures counts_on { self.old ≤ self.new }
+        ensures never_resets { self.old ≤ self.new }
     {
         self.add_one();
         query.equivalent(key)

@@ -1,6 +1,6 @@
 //! What the structure of a map is asked.
 ghost use Rattle.std.specs.Prelude.{◌↔◌, IsErr};
-ghost use Rattle.iddqd_store.specs.Validation.{HasNeedlessSlots};
+ghost use Rattle.iddqd_store.specs.Validation.{IsNotCompact};
 
 /// Whether slots may be vacant (the crate's `ValidateCompact`).
 #[derive(Clone, Copy, Debug, PartialEq, Eq)]
@@ -30,7 +30,7 @@ impl ValidateCompact {
     /// Whether so many vacant slots are allowed (ours: the part of `validate` that both maps share).
     #[doc(hidden)]
     pub fn internal_check(self, vacant: u32) -> Result<(), ValidationError>
-        ensures { IsErr result ↔ HasNeedlessSlots self vacant }
+        ensures { IsErr result ↔ IsNotCompact self vacant }
     {
         match self {
             ValidateCompact::Compact if vacant > 0 => Err(ValidationError::internal_not_compact()),

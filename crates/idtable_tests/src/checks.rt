@@ -4,8 +4,8 @@ ghost use Rattle.std.specs.Prelude.{IsTrue};
 use std::process::Abort;
 
 /// Ends the test as failed where it is not so. The proof of a call takes a third of that of an `assert!` in its place.
-pub(crate) fn check(rt: &impl Abort, is_so: bool)
-    ensures { IsTrue is_so }
+pub(crate) fn check(rt: &impl Abort, condition: bool)
+    ensures { IsTrue condition }
 {
-    assert!(rt; is_so);
+    assert!(rt; condition);
 }

@@ -1,22 +1,22 @@
 //! Many items at once, from an iterator.
-ghost use Rattle.std.specs.Prelude.{◌≡◌, ◌+◌, ◌≤◌, [], List, length, IfOk, IfErr, IfNone, IfSome, OnOk};
+ghost use Rattle.std.specs.Prelude.{◌≡◌, ◌+◌, ◌≤◌, [], List, length, IfOk, IfErr, IfNone, IfSome, OnOk, IsPermutation};
 ghost use Rattle.std.specs.Iterator.{IsFiniteIterable};
 ghost use Rattle.iddqd_store.specs.Collecting.{GivesAll, GivesThen, OverwritesAll, ShowsAkin, ShowsFirstRepeat};
-ghost use Rattle.iddqd_store.specs.Contents.{IsAbsent, NoTwoAkin, SameInAnyOrder};
+ghost use Rattle.iddqd_store.specs.Contents.{IsAbsent, NoTwoAkin};
 ghost use Rattle.iddqd_store.specs.Holding.{FillsSlots};
 ghost use Rattle.iddqd_store.specs.Refusal.{FindsNoRoom};
 
-use super::paired::{find_slot, take_out};
-use super::{IdHashMap, Lookups};
+use super::store_and_index::{find_slot, take_out};
+use super::{IdHashMap, Keyed};
 use iddqd_store::{
     DuplicateItem, ExtendError, Few, FromIterError, IdHashItem, MAX_ITEMS, TryReserveError,
-    likely_new,
+    room_to_reserve,
 };
 use std::alloc::Global;
 use std::hash::BuildHasher;
 
 impl<T: IdHashItem, S: BuildHasher> IdHashMap<T, S> {
-    ghost use Rattle.iddqd_hash.specs.HashItems.{held};
+    ghost use Rattle.iddqd_hash.specs.HashItems.{holding_of};
     ghost use Rattle.iddqd_hash.specs.HashMap.{HashInserts, HashKeeps, KeepsSpare, SpareFits};
 
     /// Puts in the items one after the other, each in the stead of one of an equal key (the crate's `Extend`, a function
@@ -28,19 +28,19 @@ impl<T: IdHashItem, S: BuildHasher> IdHashMap<T, S> {
     pub fn extend<U: IntoIterator<Item = T>>(&mut self, iter: U) -> Result<(), ExtendError<T>>
     where
         T: Drop,
-        requires keyed { ⟦<IdHashMap<T, S> as Lookups>⟧.keyed self.old }
+        requires keyed { ⟦<IdHashMap<T, S> as Keyed>⟧.keyed self.old }
         requires ends { IsFiniteIterable U.into_iter_gives U.IntoIter.can_next U.IntoIter.remaining iter }
         ensures taken { OnOk result ((xs : List T) × GivesAll U.into_iter_gives U.IntoIter.next_gives iter xs × OverwritesAll T.key T.Key.eq self.old.limit xs self.old.items self.new.items) }
         ensures stopped { IfErr result (λ e. IfSome e.item (λ x. (xs : List T) × GivesThen U.into_iter_gives U.IntoIter.next_gives iter xs x × OverwritesAll T.key T.Key.eq self.old.limit xs self.old.items self.new.items × FindsNoRoom T.key T.Key.eq self.old.limit self.new.items x e.error)) }
         ensures spare_first { IfErr result (λ e. IfSome e.item (λ x. self.old.spare + length self.old.items ≤ length self.new.items)) }
-        ensures not_begun { IfErr result (λ e. IfNone e.item (HashKeeps ⟦<IdHashMap<T, S> as Lookups>⟧.keyed self.old self.new)) }
-        ensures fills { FillsSlots (held self.old) (held self.new) }
+        ensures not_begun { IfErr result (λ e. IfNone e.item (HashKeeps ⟦<IdHashMap<T, S> as Keyed>⟧.keyed self.old self.new)) }
+        ensures fills { FillsSlots (holding_of self.old) (holding_of self.new) }
         ensures spare { KeepsSpare self.old self.new }
         ensures hasher { self.new.hasher ≡ self.old.hasher }
-        ensures keyed { ⟦<IdHashMap<T, S> as Lookups>⟧.keyed self.new }
+        ensures keyed { ⟦<IdHashMap<T, S> as Keyed>⟧.keyed self.new }
     {
         let items = iter.into_iter();
-        let room = likely_new(self.len(), items.size_hint().0);
+        let room = room_to_reserve(self.len(), items.size_hint().0);
         if let Err(error) = self.reserve(room) {
             return Err(ExtendError { item: None, error });
         }
@@ -74,7 +74,7 @@ impl<T: IdHashItem, S: BuildHasher> IdHashMap<T, S> {
         ensures limit { IfOk result (λ m. m.limit ≡ MAX_ITEMS) }
         ensures spare { IfOk result SpareFits }
         ensures hasher { IfOk result (λ m. S.is_default m.hasher) }
-        ensures keyed { IfOk result ⟦<IdHashMap<T, S> as Lookups>⟧.keyed }
+        ensures keyed { IfOk result ⟦<IdHashMap<T, S> as Keyed>⟧.keyed }
     {
         let mut map = IdHashMap::with_hasher(alloc, S::default());
         match map.extend(iter) {
@@ -96,13 +96,13 @@ impl<T: IdHashItem, S: BuildHasher> IdHashMap<T, S> {
         T: Drop,
         S: Default + Drop,
         requires ends { IsFiniteIterable U.into_iter_gives U.IntoIter.can_next U.IntoIter.remaining iter }
-        ensures items { IfOk result (λ m. (xs : List T) × GivesAll U.into_iter_gives U.IntoIter.next_gives iter xs × NoTwoAkin T.key T.Key.eq xs × SameInAnyOrder xs m.items) }
+        ensures items { IfOk result (λ m. (xs : List T) × GivesAll U.into_iter_gives U.IntoIter.next_gives iter xs × NoTwoAkin T.key T.Key.eq xs × IsPermutation xs m.items) }
         ensures repeat { IfErr result (ShowsFirstRepeat T.key T.Key.eq (GivesThen U.into_iter_gives U.IntoIter.next_gives iter)) }
         ensures vacant { IfOk result (λ m. m.vacant ≡ 0) }
         ensures limit { IfOk result (λ m. m.limit ≡ MAX_ITEMS) }
         ensures spare { IfOk result SpareFits }
         ensures hasher { IfOk result (λ m. S.is_default m.hasher) }
-        ensures keyed { IfOk result ⟦<IdHashMap<T, S> as Lookups>⟧.keyed }
+        ensures keyed { IfOk result ⟦<IdHashMap<T, S> as Keyed>⟧.keyed }
     {
         let items = iter.into_iter();
         let announced = items.size_hint().0;
@@ -120,8 +120,8 @@ impl<T: IdHashItem, S: BuildHasher> IdHashMap<T, S> {
     fn insert_first(&mut self, item: T) -> Result<(), FromIterError<T>>
     where
         T: Drop,
-        requires keyed { ⟦<IdHashMap<T, S> as Lookups>⟧.keyed self.old }
-        ensures inserted { OnOk result (HashInserts ⟦<IdHashMap<T, S> as Lookups>⟧.keyed item self.old self.new) }
+        requires keyed { ⟦<IdHashMap<T, S> as Keyed>⟧.keyed self.old }
+        ensures inserted { OnOk result (HashInserts ⟦<IdHashMap<T, S> as Keyed>⟧.keyed item self.old self.new) }
         ensures absent { OnOk result (IsAbsent T.key (T.Key.eq (T.key item)) self.old.items) }
         ensures akin { IfErr result (ShowsAkin T.key T.Key.eq self.old.items item) }
     {

@@ -1,9 +1,8 @@
 //! Closing up the slots, so that none is vacant (the crate's `compact`).
-ghost use Rattle.std.specs.Prelude.{◌≡◌, ◌<◌};
-ghost use Rattle.iddqd_store.specs.Contents.{SameInAnyOrder};
+ghost use Rattle.std.specs.Prelude.{◌≡◌, ◌<◌, IsPermutation};
 ghost use Rattle.iddqd_store.specs.Hashing.{hash_under};
 ghost use Rattle.iddqd_store.specs.Store.{EndsOccupied, store_len, vacant};
-ghost use Rattle.iddqd_hash.specs.Paired.{AreListedUnder, PairsOccupied, items_in};
+ghost use Rattle.iddqd_hash.specs.StoreAndIndex.{AreListedUnder, PairsOccupied, items_in};
 
 use iddqd_hash_index::HashIndex;
 use iddqd_store::{IdHashItem, ItemStore};
@@ -19,7 +18,7 @@ pub(super) fn compact<T: IdHashItem, S: BuildHasher>(
     requires under { AreListedUnder (λ x. hash_under S.BuildHasher S.Hasher.Hasher hasher.now (T.Key.hash_input (T.key x))) store.old index.old.pairs }
     ensures paired { PairsOccupied store.new index.new.pairs }
     ensures under { AreListedUnder (λ x. hash_under S.BuildHasher S.Hasher.Hasher hasher.now (T.Key.hash_input (T.key x))) store.new index.new.pairs }
-    ensures items { SameInAnyOrder (items_in store.old) (items_in store.new) }
+    ensures items { IsPermutation (items_in store.old) (items_in store.new) }
     ensures vacant { vacant store.new ≡ 0 }
     ensures len { store_len store.new ≡ store_len store.old }
     ensures spare { index.new.spare ≡ index.old.spare }
@@ -44,7 +43,7 @@ fn move_last<T: IdHashItem, S: BuildHasher>(
     requires some { 0 < vacant store.old }
     ensures paired { PairsOccupied store.new index.new.pairs }
     ensures under { AreListedUnder (λ x. hash_under S.BuildHasher S.Hasher.Hasher hasher.now (T.Key.hash_input (T.key x))) store.new index.new.pairs }
-    ensures items { SameInAnyOrder (items_in store.old) (items_in store.new) }
+    ensures items { IsPermutation (items_in store.old) (items_in store.new) }
     ensures cut { EndsOccupied store.new.slots }
     ensures fewer { vacant store.new < vacant store.old }
     ensures len { store_len store.new ≡ store_len store.old }

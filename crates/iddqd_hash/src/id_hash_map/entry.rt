@@ -1,6 +1,6 @@
 //! Entries: the place of an item in a map, or a map that lacks one.
 ghost use Rattle.std.specs.Prelude.{◌≡◌, IfSome, IsSome, IsTrue, Some};
-ghost use Rattle.iddqd_store.specs.Contents.{find_item, replaced, without};
+ghost use Rattle.iddqd_store.specs.Contents.{find_item, items_overwritten, items_without};
 ghost use Rattle.iddqd_store.specs.Hashing.{HashesAs};
 ghost use Rattle.iddqd_store.specs.SlotItems.{item_of_slot};
 
@@ -9,8 +9,8 @@ mod methods;
 mod occupied;
 mod vacant;
 
-use super::paired::find_slot;
-use super::{DefaultHashBuilder, IdHashMap, Lookups};
+use super::store_and_index::find_slot;
+use super::{DefaultHashBuilder, IdHashMap, Keyed};
 use iddqd_store::{Equivalent, IdHashItem};
 use std::hash::{BuildHasher, Hash};
 
@@ -40,19 +40,19 @@ pub struct OccupiedEntry<'a, T, S = DefaultHashBuilder> {
 }
 
 impl<T: IdHashItem, S: BuildHasher> IdHashMap<T, S> {
-    ghost use Rattle.iddqd_hash.specs.Entry.{entry_item, entry_map, entry_name, entry_others, entry_with};
+    ghost use Rattle.iddqd_hash.specs.Entry.{entry_item, entry_map, entry_lender, entry_others, entry_with};
 
     /// The entry of the query: occupied where it finds an item. It hashes the query once, makes as many comparisons as `get`,
     /// takes no memory, and changes nothing.
     pub fn entry<Q: Hash + Equivalent<T::Key>>(&mut self, query: &Q) -> Entry<'_, T, S>
-        requires keyed { ⟦<IdHashMap<T, S> as Lookups>⟧.keyed self.old }
+        requires keyed { ⟦<IdHashMap<T, S> as Keyed>⟧.keyed self.old }
         requires hashes { HashesAs (Q.equivalent query.now) (Q.hash_input query.now) T.Key.hash_input }
-        ensures same_map { entry_name result ≡ self.entry.ghost_name }
+        ensures same_map { entry_lender result ≡ self.entry.ghost_name }
         ensures unchanged { entry_map result ≡ self.old }
         ensures found { entry_item result ≡ find_item T.key (Q.equivalent query.now) self.old.items }
         ensures answers { IfSome (entry_item result) (λ x. IsTrue (Q.equivalent query.now (T.key x))) }
-        ensures written { (w : T) → (entry_with result w).items ≡ replaced T.key (Q.equivalent query.now) w self.old.items }
-        ensures others { entry_others result ≡ without T.key (Q.equivalent query.now) self.old.items }
+        ensures written { (w : T) → (entry_with result w).items ≡ items_overwritten T.key (Q.equivalent query.now) w self.old.items }
+        ensures others { entry_others result ≡ items_without T.key (Q.equivalent query.now) self.old.items }
     {
         let hash = self.hasher.hash_one(query);
         match find_slot(&self.store, &self.index, hash, query) {

@@ -1,7 +1,7 @@
 //! Equality of two maps.
 ghost use Rattle.std.specs.Prelude.{◌↔◌, IsTrue};
 
-use super::{IdHashMap, Lookups};
+use super::{IdHashMap, Keyed};
 use iddqd_store::IdHashItem;
 use std::hash::BuildHasher;
 
@@ -14,7 +14,7 @@ impl<T: IdHashItem, S: BuildHasher> IdHashMap<T, S> {
     pub fn eq(&self, other: &Self) -> bool
     where
         T: PartialEq,
-        requires keyed { ⟦<IdHashMap<T, S> as Lookups>⟧.keyed other.now }
+        requires keyed { ⟦<IdHashMap<T, S> as Keyed>⟧.keyed other.now }
         ensures { IsTrue result ↔ HaveEqualItems T.key T.Key.eq T.eq self.now other.now }
     {
         if self.len() != other.len() {
@@ -32,7 +32,7 @@ impl<T: IdHashItem, S: BuildHasher> IdHashMap<T, S> {
     fn has_equal(&self, item: &T) -> bool
     where
         T: PartialEq,
-        requires keyed { ⟦<IdHashMap<T, S> as Lookups>⟧.keyed self.now }
+        requires keyed { ⟦<IdHashMap<T, S> as Keyed>⟧.keyed self.now }
         ensures { IsTrue result ↔ FindsEqual T.key T.Key.eq T.eq self.now item.now }
     {
         match self.get(item.key()) {

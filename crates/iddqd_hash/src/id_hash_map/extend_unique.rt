@@ -6,15 +6,15 @@ ghost use Rattle.iddqd_store.specs.Adding.{HaltsAdding, HaltsAt, OnItemBack, Sho
 ghost use Rattle.iddqd_store.specs.Collecting.{AddsAll, GivesAll, GivesThen};
 ghost use Rattle.iddqd_store.specs.Contents.{IsAbsent};
 
-use super::paired::find_slot;
-use super::{IdHashMap, Lookups};
+use super::store_and_index::find_slot;
+use super::{IdHashMap, Keyed};
 use iddqd_store::{
-    DuplicateItem, ExtendError, ExtendUniqueError, Few, Halt, IdHashItem, likely_new,
+    DuplicateItem, ExtendError, ExtendUniqueError, Few, Halt, IdHashItem, room_to_reserve,
 };
 use std::hash::BuildHasher;
 
 impl<T: IdHashItem, S: BuildHasher> IdHashMap<T, S> {
-    ghost use Rattle.iddqd_hash.specs.HashItems.{held};
+    ghost use Rattle.iddqd_hash.specs.HashItems.{holding_of};
     ghost use Rattle.iddqd_hash.specs.HashMap.{HashFills, HashInserts, HashKeeps, ends_hash_extended};
 
     /// Inserts the items one after the other, up to the first whose key is there, from before or from the iterator (ours).
@@ -31,15 +31,15 @@ impl<T: IdHashItem, S: BuildHasher> IdHashMap<T, S> {
     ) -> Result<&mut (), ExtendUniqueError<'_, T>>
     where
         T: Drop,
-        requires keyed { ⟦<IdHashMap<T, S> as Lookups>⟧.keyed self.old }
+        requires keyed { ⟦<IdHashMap<T, S> as Keyed>⟧.keyed self.old }
         requires ends { IsFiniteIterable U.into_iter_gives U.IntoIter.can_next U.IntoIter.remaining iter }
-        ensures* after { sem 𝓛 (ends_hash_extended S.row T.row T.key T.Key.eq ⟦<IdHashMap<T, S> as Lookups>⟧.keyed (GivesAll U.into_iter_gives U.IntoIter.next_gives iter) (GivesThen U.into_iter_gives U.IntoIter.next_gives iter) self.entry result) }
+        ensures* after { sem 𝓛 (ends_hash_extended S.row T.row T.key T.Key.eq ⟦<IdHashMap<T, S> as Keyed>⟧.keyed (GivesAll U.into_iter_gives U.IntoIter.next_gives iter) (GivesThen U.into_iter_gives U.IntoIter.next_gives iter) self.entry result) }
         ensures conflict { IfErr result (ShowsFirstConflict T.key T.Key.eq (GivesThen U.into_iter_gives U.IntoIter.next_gives iter) self.old.items) }
     {
         match self.add_each(iter) {
             Ok(()) => Ok(&mut self.done),
             Err(Halt::Akin(item, slot)) => {
-                let there = Few::One(self.item_in(slot));
+                let there = Few::One(self.item_in_slot(slot));
                 Err(ExtendUniqueError::Duplicate(DuplicateItem::internal_new(item, there)))
             }
             Err(Halt::NoRoom(refused)) => Err(ExtendUniqueError::Refused(refused)),
@@ -50,15 +50,15 @@ impl<T: IdHashItem, S: BuildHasher> IdHashMap<T, S> {
     fn add_each<U: IntoIterator<Item = T>>(&mut self, iter: U) -> Result<(), Halt<T>>
     where
         T: Drop,
-        requires keyed { ⟦<IdHashMap<T, S> as Lookups>⟧.keyed self.old }
+        requires keyed { ⟦<IdHashMap<T, S> as Keyed>⟧.keyed self.old }
         requires ends { IsFiniteIterable U.into_iter_gives U.IntoIter.can_next U.IntoIter.remaining iter }
         ensures added { OnOk result ((xs : List T) × GivesAll U.into_iter_gives U.IntoIter.next_gives iter xs × AddsAll T.key T.Key.eq xs self.old.items self.new.items) }
-        ensures halted { IfErr result (HaltsAdding T.key T.Key.eq (GivesThen U.into_iter_gives U.IntoIter.next_gives iter) (held self.old) (held self.new)) }
+        ensures halted { IfErr result (HaltsAdding T.key T.Key.eq (GivesThen U.into_iter_gives U.IntoIter.next_gives iter) (holding_of self.old) (holding_of self.new)) }
         ensures spare_first { IfErr result (OnItemBack (self.old.spare + length self.old.items ≤ length self.new.items)) }
-        ensures fills { HashFills ⟦<IdHashMap<T, S> as Lookups>⟧.keyed self.old self.new }
+        ensures fills { HashFills ⟦<IdHashMap<T, S> as Keyed>⟧.keyed self.old self.new }
     {
         let items = iter.into_iter();
-        let room = likely_new(self.len(), items.size_hint().0);
+        let room = room_to_reserve(self.len(), items.size_hint().0);
         if let Err(error) = self.reserve(room) {
             return Err(Halt::NoRoom(ExtendError { item: None, error }));
         }
@@ -70,12 +70,12 @@ impl<T: IdHashItem, S: BuildHasher> IdHashMap<T, S> {
 
     // Inserts the item where none of an equal key is there, and else answers that one's slot.
     fn add(&mut self, item: T) -> Result<(), Halt<T>>
-        requires keyed { ⟦<IdHashMap<T, S> as Lookups>⟧.keyed self.old }
-        ensures inserted { OnOk result (HashInserts ⟦<IdHashMap<T, S> as Lookups>⟧.keyed item self.old self.new) }
+        requires keyed { ⟦<IdHashMap<T, S> as Keyed>⟧.keyed self.old }
+        ensures inserted { OnOk result (HashInserts ⟦<IdHashMap<T, S> as Keyed>⟧.keyed item self.old self.new) }
         ensures absent { OnOk result (IsAbsent T.key (T.Key.eq (T.key item)) self.old.items) }
-        ensures halted { IfErr result (HaltsAt T.key T.Key.eq item (held self.old)) }
+        ensures halted { IfErr result (HaltsAt T.key T.Key.eq item (holding_of self.old)) }
         ensures no_spare { IfErr result (OnItemBack (self.old.spare ≡ 0)) }
-        ensures kept { OnErr result (HashKeeps ⟦<IdHashMap<T, S> as Lookups>⟧.keyed self.old self.new) }
+        ensures kept { OnErr result (HashKeeps ⟦<IdHashMap<T, S> as Keyed>⟧.keyed self.old self.new) }
     {
         let hash = self.hasher.hash_one(item.key());
         match find_slot(&self.store, &self.index, hash, item.key()) {

@@ -21,7 +21,7 @@ pub struct IntoIter<T> {
 
 impl<T> Model for IntoIter<T> {
     ghost use Rattle.std.specs.Prelude.{List};
-    ghost use Rattle.iddqd_hash.specs.Paired.{items_in};
+    ghost use Rattle.iddqd_hash.specs.StoreAndIndex.{items_in};
     ghost use Rattle.iddqd_hash.specs.Walked.{AreVacant};
 
     ghost Value = { List T };

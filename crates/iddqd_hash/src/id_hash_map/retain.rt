@@ -6,14 +6,14 @@ ghost use Rattle.iddqd_store.specs.Holding.{LeavesSlots};
 ghost use Rattle.iddqd_store.specs.SlotItems.{item_of_slot};
 ghost use Rattle.iddqd_store.specs.Visiting.{VisitsKeepKeys, kept_by, visitor_after};
 
-use super::paired::take_out;
-use super::{IdHashMap, Lookups};
+use super::store_and_index::take_out;
+use super::{IdHashMap, Keyed};
 use iddqd_store::{IdHashItem, Visit};
 use std::hash::BuildHasher;
 
 impl<T: IdHashItem, S: BuildHasher> IdHashMap<T, S> {
     ghost use Rattle.iddqd_hash.specs.Guard.{with_item_in};
-    ghost use Rattle.iddqd_hash.specs.HashItems.{held};
+    ghost use Rattle.iddqd_hash.specs.HashItems.{holding_of};
     ghost use Rattle.iddqd_hash.specs.HashMap.{KeepsSpare};
 
     /// Asks once about each item, in no order that a caller may rely on, and takes out each that is answered false (the
@@ -23,16 +23,16 @@ impl<T: IdHashItem, S: BuildHasher> IdHashMap<T, S> {
     where
         T: Drop,
         requires callable { F.IsAlwaysCallable keep }
-        requires keyed { ⟦<IdHashMap<T, S> as Lookups>⟧.keyed self.old }
+        requires keyed { ⟦<IdHashMap<T, S> as Keyed>⟧.keyed self.old }
         ensures filtered { IsFiltered (CalledAt F.FnMut) keep self.old.items self.new.items }
-        ensures leaves { LeavesSlots (held self.old) (held self.new) }
+        ensures leaves { LeavesSlots (holding_of self.old) (holding_of self.new) }
         ensures spare { KeepsSpare self.old self.new }
         ensures hasher { self.new.hasher ≡ self.old.hasher }
-        ensures keyed { ⟦<IdHashMap<T, S> as Lookups>⟧.keyed self.new }
+        ensures keyed { ⟦<IdHashMap<T, S> as Keyed>⟧.keyed self.new }
     {
         let mut next = 0;
         while let Some(slot) = self.slot_from(next) {
-            if !keep(self.item_in(slot)) {
+            if !keep(self.item_in_slot(slot)) {
                 self.take_slot(slot);
             }
             next = slot + 1;
@@ -44,14 +44,14 @@ impl<T: IdHashItem, S: BuildHasher> IdHashMap<T, S> {
     pub fn retain_mut<V: Visit<T>>(&mut self, visitor: &mut V)
     where
         T: Drop,
-        requires keyed { ⟦<IdHashMap<T, S> as Lookups>⟧.keyed self.old }
+        requires keyed { ⟦<IdHashMap<T, S> as Keyed>⟧.keyed self.old }
         requires keeps_keys { VisitsKeepKeys T.key T.Key.eq V.visits }
         ensures items { self.new.items ≡ kept_by V.visits visitor.old self.old.items }
         ensures visitor { visitor.new ≡ visitor_after V.visits visitor.old self.old.items }
-        ensures leaves { LeavesSlots (held self.old) (held self.new) }
+        ensures leaves { LeavesSlots (holding_of self.old) (holding_of self.new) }
         ensures spare { KeepsSpare self.old self.new }
         ensures hasher { self.new.hasher ≡ self.old.hasher }
-        ensures keyed { ⟦<IdHashMap<T, S> as Lookups>⟧.keyed self.new }
+        ensures keyed { ⟦<IdHashMap<T, S> as Keyed>⟧.keyed self.new }
     {
         let mut next = 0;
         while let Some(slot) = self.slot_from(next) {
@@ -64,18 +64,18 @@ impl<T: IdHashItem, S: BuildHasher> IdHashMap<T, S> {
 
     // Visits the item of the slot.
     fn visit_slot<V: Visit<T>>(&mut self, slot: u32, visitor: &mut V) -> bool
-        requires keyed { ⟦<IdHashMap<T, S> as Lookups>⟧.keyed self.old }
+        requires keyed { ⟦<IdHashMap<T, S> as Keyed>⟧.keyed self.old }
         requires keeps_keys { VisitsKeepKeys T.key T.Key.eq V.visits }
         requires there { IsSome (item_of_slot self.old.slots self.old.items slot) }
         ensures visited { (x y : T) × (item_of_slot self.old.slots self.old.items slot ≡ Some x) × (V.visits visitor.old x ≡ (visitor.new, y, result)) × (self.new ≡ with_item_in self.old slot y) }
-        ensures keyed { ⟦<IdHashMap<T, S> as Lookups>⟧.keyed self.new }
+        ensures keyed { ⟦<IdHashMap<T, S> as Keyed>⟧.keyed self.new }
     {
-        visitor.visit(self.item_mut(slot))
+        visitor.visit(self.item_in_slot_mut(slot))
     }
 
     // Takes out the item of the slot. It hashes its key once.
     fn take_slot(&mut self, slot: u32) -> T
-        requires keyed { ⟦<IdHashMap<T, S> as Lookups>⟧.keyed self.old }
+        requires keyed { ⟦<IdHashMap<T, S> as Keyed>⟧.keyed self.old }
         requires there { IsSome (item_of_slot self.old.slots self.old.items slot) }
         ensures gone { (at : ℕ) → slice_get self.old.slots at ≡ Some slot → (self.new.items ≡ remove self.old.items at) × (self.new.slots ≡ remove self.old.slots at) }
         ensures vacant { self.new.vacant ≡ self.old.vacant + 1 }
@@ -83,15 +83,15 @@ impl<T: IdHashItem, S: BuildHasher> IdHashMap<T, S> {
         ensures limit { self.new.limit ≡ self.old.limit }
         ensures hasher { self.new.hasher ≡ self.old.hasher }
         ensures spare { KeepsSpare self.old self.new }
-        ensures keyed { ⟦<IdHashMap<T, S> as Lookups>⟧.keyed self.new }
+        ensures keyed { ⟦<IdHashMap<T, S> as Keyed>⟧.keyed self.new }
     {
-        let hash = self.hasher.hash_one(self.item_in(slot).key());
+        let hash = self.hasher.hash_one(self.item_in_slot(slot).key());
         self.take_hashed(hash, slot)
     }
 
     // The same, where the hash that is stored for the slot is known.
     pub(super) fn take_hashed(&mut self, hash: u64, slot: u32) -> T
-        requires keyed { ⟦<IdHashMap<T, S> as Lookups>⟧.keyed self.old }
+        requires keyed { ⟦<IdHashMap<T, S> as Keyed>⟧.keyed self.old }
         requires there { IsSome (item_of_slot self.old.slots self.old.items slot) }
         requires listed { item_of_slot self.old.slots self.old.hashes slot ≡ Some hash }
         ensures value { item_of_slot self.old.slots self.old.items slot ≡ Some result }
@@ -101,7 +101,7 @@ impl<T: IdHashItem, S: BuildHasher> IdHashMap<T, S> {
         ensures limit { self.new.limit ≡ self.old.limit }
         ensures hasher { self.new.hasher ≡ self.old.hasher }
         ensures spare { KeepsSpare self.old self.new }
-        ensures keyed { ⟦<IdHashMap<T, S> as Lookups>⟧.keyed self.new }
+        ensures keyed { ⟦<IdHashMap<T, S> as Keyed>⟧.keyed self.new }
     {
         take_out(&mut self.store, &mut self.index, hash, slot)
     }

@@ -1,8 +1,8 @@
 //! What the structure is asked.
 ghost use Rattle.std.specs.Prelude.{◌↔◌, IsErr};
-ghost use Rattle.iddqd_store.specs.Validation.{HasNeedlessSlots};
+ghost use Rattle.iddqd_store.specs.Validation.{IsNotCompact};
 
-use super::{IdHashMap, Lookups};
+use super::{IdHashMap, Keyed};
 use iddqd_store::{IdHashItem, ValidateCompact, ValidationError};
 use std::hash::BuildHasher;
 
@@ -11,8 +11,8 @@ impl<T: IdHashItem, S: BuildHasher> IdHashMap<T, S> {
     /// up again). It takes no memory.
     #[doc(hidden)]
     pub fn validate(&self, compact: ValidateCompact) -> Result<(), ValidationError>
-        requires keyed { ⟦<IdHashMap<T, S> as Lookups>⟧.keyed self.now }
-        ensures { IsErr result ↔ HasNeedlessSlots compact self.now.vacant }
+        requires keyed { ⟦<IdHashMap<T, S> as Keyed>⟧.keyed self.now }
+        ensures { IsErr result ↔ IsNotCompact compact self.now.vacant }
     {
         self.validate_structural(compact)
     }
@@ -22,7 +22,7 @@ impl<T, S> IdHashMap<T, S> {
     /// The same of a map that need not be keyed.
     #[doc(hidden)]
     pub fn validate_structural(&self, compact: ValidateCompact) -> Result<(), ValidationError>
-        ensures { IsErr result ↔ HasNeedlessSlots compact self.now.vacant }
+        ensures { IsErr result ↔ IsNotCompact compact self.now.vacant }
     {
         compact.internal_check(self.vacant())
     }

@@ -26,7 +26,7 @@ fn find_at<T: IdHashItem, Q: Equivalent<T::Key>>(
     ensures found { IfSome result (IsMatch store.now (pairs_of groups.now hashes.now) hash (λ x. Q.equivalent query.now (T.key x))) }
     ensures missed { IfNone result ((k : ℕ) → k < 12 → tag_in (group_at groups.now at) k ≡ tag_of (mixed hash) → slice_index hashes.now (12 * at + k) ≡ hash → ¬ IsSomeAnd (item_at store.now (slot_in (group_at groups.now at) k)) (λ x. Q.equivalent query.now (T.key x) ≡ true)) }
     ensures compared { Compared (12 * length groups.now) (tag_at groups.now) (pair_at groups.now hashes.now) hash (λ c. c / 12 ≡ at) steps.old steps.new }
-    ensures counts_on { steps.old ≤ steps.new }
+    ensures never_resets { steps.old ≤ steps.new }
 {
     let group = &groups[at];
     let mut lanes = group.matching(tag(hash));
@@ -59,7 +59,7 @@ pub(super) fn find_among<T: IdHashItem, Q: Equivalent<T::Key>>(
     ensures found { IfSome result (IsMatch store.now (pairs_of groups.now hashes.now) hash (λ x. Q.equivalent query.now (T.key x))) }
     ensures absent { IfNone result ((slot : ℕ) → ¬ IsMatch store.now (pairs_of groups.now hashes.now) hash (λ x. Q.equivalent query.now (T.key x)) slot) }
     ensures steps { steps.new ≤ steps.old + of_hash (pairs_of groups.now hashes.now) hash }
-    ensures counts_on { steps.old ≤ steps.new }
+    ensures never_resets { steps.old ≤ steps.new }
 {
     let count = groups.len();
     if count == 0 {

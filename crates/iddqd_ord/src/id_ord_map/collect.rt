@@ -1,16 +1,16 @@
 //! Many items at once, from an iterator.
-ghost use Rattle.std.specs.Prelude.{◌≡◌, [], List, IfOk, IfErr, IfNone, IfSome, OnOk};
+ghost use Rattle.std.specs.Prelude.{◌≡◌, [], List, IfOk, IfErr, IfNone, IfSome, OnOk, IsPermutation};
 ghost use Rattle.std.specs.Iterator.{IsFiniteIterable};
 ghost use Rattle.iddqd_store.specs.Collecting.{GivesAll, GivesThen, OverwritesAll, ShowsAkin, ShowsFirstRepeat};
-ghost use Rattle.iddqd_store.specs.Contents.{Ascends, IsAbsent, NoTwoAkin, SameInAnyOrder};
+ghost use Rattle.iddqd_store.specs.Contents.{Ascends, IsAbsent, NoTwoAkin};
 ghost use Rattle.iddqd_store.specs.Holding.{FillsSlots, KeepsItems};
 ghost use Rattle.iddqd_store.specs.Refusal.{FindsNoRoom};
 
 use super::IdOrdMap;
-use super::paired::take_out;
+use super::store_and_index::take_out;
 use iddqd_store::{
     DuplicateItem, ExtendError, Few, FromIterError, IdOrdItem, MAX_ITEMS, Steps, TryReserveError,
-    likely_new,
+    room_to_reserve,
 };
 use std::alloc::Global;
 
@@ -35,7 +35,7 @@ impl<T: IdOrdItem> IdOrdMap<T> {
         ensures keyed { Ascends T.key T.Key.cmp self.new.items }
     {
         let items = iter.into_iter();
-        let room = likely_new(self.len(), items.size_hint().0);
+        let room = room_to_reserve(self.len(), items.size_hint().0);
         if let Err(error) = self.reserve(room) {
             return Err(ExtendError { item: None, error });
         }
@@ -86,7 +86,7 @@ impl<T: IdOrdItem> IdOrdMap<T> {
     where
         T: Drop,
         requires ends { IsFiniteIterable U.into_iter_gives U.IntoIter.can_next U.IntoIter.remaining iter }
-        ensures items { IfOk result (λ m. (xs : List T) × GivesAll U.into_iter_gives U.IntoIter.next_gives iter xs × NoTwoAkin T.key T.Key.eq xs × SameInAnyOrder xs m.items) }
+        ensures items { IfOk result (λ m. (xs : List T) × GivesAll U.into_iter_gives U.IntoIter.next_gives iter xs × NoTwoAkin T.key T.Key.eq xs × IsPermutation xs m.items) }
         ensures repeat { IfErr result (ShowsFirstRepeat T.key T.Key.eq (GivesThen U.into_iter_gives U.IntoIter.next_gives iter)) }
         ensures vacant { IfOk result (λ m. m.vacant ≡ 0) }
         ensures limit { IfOk result (λ m. m.limit ≡ MAX_ITEMS) }

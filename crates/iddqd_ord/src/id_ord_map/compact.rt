@@ -3,7 +3,7 @@ ghost use Rattle.std.specs.Prelude.{◌≡◌, ◌-◌, ◌<◌, length, Some, s
 ghost use Rattle.iddqd_store.specs.Contents.{Ascends};
 ghost use Rattle.iddqd_ord_index.specs.Listed.{listed_items};
 ghost use Rattle.iddqd_store.specs.Store.{EndsOccupied, IsOccupied, vacant};
-ghost use Rattle.iddqd_ord.specs.Paired.{ListsOccupied};
+ghost use Rattle.iddqd_ord.specs.StoreAndIndex.{ListsOccupied};
 
 use iddqd_ord_index::{OrdIndex, Place};
 use iddqd_store::{IdOrdItem, ItemStore, Steps};

@@ -8,7 +8,7 @@ ghost use Rattle.iddqd_store.specs.Contents.{Ascends, IsAbsent};
 
 use super::IdOrdMap;
 use iddqd_store::{
-    DuplicateItem, ExtendError, ExtendUniqueError, Few, Halt, IdOrdItem, Steps, likely_new,
+    DuplicateItem, ExtendError, ExtendUniqueError, Few, Halt, IdOrdItem, Steps, room_to_reserve,
 };
 
 impl<T: IdOrdItem> IdOrdMap<T> {
@@ -36,7 +36,7 @@ impl<T: IdOrdItem> IdOrdMap<T> {
         match self.add_each(iter) {
             Ok(()) => Ok(&mut self.done),
             Err(Halt::Akin(item, slot)) => {
-                let there = Few::One(self.item_in(slot));
+                let there = Few::One(self.item_in_slot(slot));
                 Err(ExtendUniqueError::Duplicate(DuplicateItem::internal_new(item, there)))
             }
             Err(Halt::NoRoom(refused)) => Err(ExtendUniqueError::Refused(refused)),
@@ -54,7 +54,7 @@ impl<T: IdOrdItem> IdOrdMap<T> {
         ensures fills { OrdFills T.key T.Key.cmp self.old self.new }
     {
         let items = iter.into_iter();
-        let room = likely_new(self.len(), items.size_hint().0);
+        let room = room_to_reserve(self.len(), items.size_hint().0);
         if let Err(error) = self.reserve(room) {
             return Err(Halt::NoRoom(ExtendError { item: None, error }));
         }

@@ -1,11 +1,11 @@
 //! Lookups and removals.
 ghost use Rattle.std.specs.Prelude.{◌≡◌, ◌+◌, ◌*◌, ◌<◌, ◌≤◌, length, IfNone, IfSome, OnSome, Some, option_copied, is_some, slice_get};
-ghost use Rattle.iddqd_store.specs.Contents.{Ascends, find_item, without};
+ghost use Rattle.iddqd_store.specs.Contents.{Ascends, find_item, items_without};
 ghost use Rattle.iddqd_ord_index.specs.Digits.{digits};
 ghost use Rattle.iddqd_store.specs.Holding.{LeavesSlot};
 
 use super::IdOrdMap;
-use super::paired::take_out;
+use super::store_and_index::take_out;
 use iddqd_ord_index::Place;
 use iddqd_store::{Comparable, IdOrdItem, Steps};
 
@@ -26,7 +26,7 @@ impl<T: IdOrdItem> IdOrdMap<T> {
         requires keyed { Ascends T.key T.Key.cmp self.now.items }
         ensures found { option_copied result ≡ find_item T.key (Q.equivalent query.now) self.now.items }
         ensures steps { steps.new ≤ steps.old + 4 + 2 * digits (length self.now.items) }
-        ensures counts_on { steps.old ≤ steps.new }
+        ensures never_resets { steps.old ≤ steps.new }
     {
         let slot = self.index.get(&self.store, query, steps)?;
         self.store.get(slot)
@@ -34,7 +34,7 @@ impl<T: IdOrdItem> IdOrdMap<T> {
 
     // The item at the place.
     #[inline]
-    pub(super) fn item(&self, place: Place) -> &T
+    pub(super) fn item_at_place(&self, place: Place) -> &T
         requires { place < length self.now.items }
         ensures { slice_get self.now.items place ≡ Some result.now }
     {
@@ -56,7 +56,7 @@ impl<T: IdOrdItem> IdOrdMap<T> {
     pub fn remove<Q: Comparable<T::Key>>(&mut self, query: &Q) -> Option<T>
         requires keyed { Ascends T.key T.Key.cmp self.old.items }
         ensures value { result ≡ find_item T.key (Q.equivalent query.now) self.old.items }
-        ensures items { self.new.items ≡ without T.key (Q.equivalent query.now) self.old.items }
+        ensures items { self.new.items ≡ items_without T.key (Q.equivalent query.now) self.old.items }
         ensures slots { IfSome result (λ taken. LeavesSlot taken self.old self.new) }
         ensures vacant { OnSome result (self.new.vacant ≡ self.old.vacant + 1) }
         ensures unchanged { IfNone result (self.new ≡ self.old) }
@@ -76,7 +76,7 @@ impl<T: IdOrdItem> IdOrdMap<T> {
     ) -> Option<T>
         requires keyed { Ascends T.key T.Key.cmp self.old.items }
         ensures value { result ≡ find_item T.key (Q.equivalent query.now) self.old.items }
-        ensures items { self.new.items ≡ without T.key (Q.equivalent query.now) self.old.items }
+        ensures items { self.new.items ≡ items_without T.key (Q.equivalent query.now) self.old.items }
         ensures slots { IfSome result (λ taken. LeavesSlot taken self.old self.new) }
         ensures vacant { OnSome result (self.new.vacant ≡ self.old.vacant + 1) }
         ensures unchanged { IfNone result (self.new ≡ self.old) }
@@ -84,7 +84,7 @@ impl<T: IdOrdItem> IdOrdMap<T> {
         ensures limit { self.new.limit ≡ self.old.limit }
         ensures keyed { Ascends T.key T.Key.cmp self.new.items }
         ensures steps { steps.new ≤ steps.old + 4 + 2 * digits (length self.old.items) }
-        ensures counts_on { steps.old ≤ steps.new }
+        ensures never_resets { steps.old ≤ steps.new }
     {
         match self.index.find(&self.store, query, steps) {
             Ok(place) => Some(take_out(&mut self.store, &mut self.index, place)),

@@ -1,13 +1,13 @@
 //! Insertions. An akin item is looked for first, then the limit, then memory, and only then is anything changed.
 ghost use Rattle.std.specs.Prelude.{◌≡◌, ◌+◌, ◌*◌, ◌≤◌, length, insert, IfOk, IfErr, IfNone, OnOk, OnErr, OnSome, Err, Some, slice_get};
 ghost use Rattle.std.specs.Borrow.{sem};
-ghost use Rattle.iddqd_store.specs.Contents.{Ascends, IsAbsent, find_item, keys, replaced};
+ghost use Rattle.iddqd_store.specs.Contents.{Ascends, IsAbsent, find_item, keys, items_overwritten};
 ghost use Rattle.iddqd_ord_index.specs.Digits.{digits};
 ghost use Rattle.iddqd_store.specs.Refusal.{FindsNoRoom, RefusesInsertion, refusal_kind};
 ghost use Rattle.iddqd_ord_index.specs.Search.{IsPlaceAmong};
 
 use super::IdOrdMap;
-use super::paired::{exchange, put_in, reserve_one};
+use super::store_and_index::{exchange, put_in, reserve_one};
 use iddqd_ord_index::Place;
 use iddqd_store::{DuplicateItem, Few, IdOrdItem, InsertError, Refused, Steps};
 
@@ -41,11 +41,11 @@ impl<T: IdOrdItem> IdOrdMap<T> {
         ensures absent { OnOk result (IsAbsent T.key (T.Key.eq (T.key item)) self.old.items) }
         ensures refused { IfErr result (RefusesInsertion T.key T.Key.eq self.old.limit self.old.items item) }
         ensures steps { steps.new ≤ steps.old + 4 + 2 * digits (length self.old.items) }
-        ensures counts_on { steps.old ≤ steps.new }
+        ensures never_resets { steps.old ≤ steps.new }
     {
         let place = match self.index.find(&self.store, item.key(), steps) {
             Ok(place) => {
-                let existing = Few::One(self.item(place));
+                let existing = Few::One(self.item_at_place(place));
                 return Err(InsertError::Duplicate(DuplicateItem::internal_new(item, existing)));
             }
             Err(place) => place,
@@ -63,7 +63,7 @@ impl<T: IdOrdItem> IdOrdMap<T> {
     pub fn insert_overwrite(&mut self, item: T) -> Result<Option<T>, Refused<T>>
         requires keyed { Ascends T.key T.Key.cmp self.old.items }
         ensures found { IfOk result (λ found. found ≡ find_item T.key (T.Key.eq (T.key item)) self.old.items) }
-        ensures replaced { IfOk result (λ found. OnSome found (self.new ≡ record self.old { items = replaced T.key (T.Key.eq (T.key item)) item self.old.items })) }
+        ensures replaced { IfOk result (λ found. OnSome found (self.new ≡ record self.old { items = items_overwritten T.key (T.Key.eq (T.key item)) item self.old.items })) }
         ensures inserted { IfOk result (λ found. IfNone found (OrdInserts T.key T.Key.cmp item self.old self.new)) }
         ensures there { OnOk result (find_item T.key (T.Key.eq (T.key item)) self.new.items ≡ Some item) }
         ensures item { IfErr result (λ refused. refused.item ≡ item) }

@@ -3,7 +3,7 @@ ghost use Rattle.std.specs.Prelude.{◌≡◌, ◌-◌, ◌<◌, ◌↔◌, IsSo
 ghost use Rattle.std.specs.Borrow.{sem};
 ghost use Rattle.std.specs.Option.{option_copied_mut};
 ghost use Rattle.iddqd_store.specs.Contents.{Ascends};
-ghost use Rattle.iddqd_ord.specs.WritingWalk.{WalkKeeps, WalkKeepsAkin, walk_done, walk_lends, walk_map, walk_name};
+ghost use Rattle.iddqd_ord.specs.WritingWalk.{WalkKeeps, WalkKeepsAkin, walk_done, walk_lends, walk_map, walk_lender};
 
 use super::IdOrdMap;
 use iddqd_store::IdOrdItem;
@@ -23,7 +23,7 @@ impl<T: IdOrdItem> IdOrdMap<T> {
     #[inline]
     pub fn iter_mut(&mut self) -> IterMut<'_, T>
         requires keyed { Ascends T.key T.Key.cmp self.old.items }
-        ensures same_map { walk_name result ≡ self.entry.ghost_name }
+        ensures same_map { walk_lender result ≡ self.entry.ghost_name }
         ensures unchanged { walk_map result ≡ self.old }
         ensures start { walk_done result ≡ 0 }
     {
@@ -53,9 +53,9 @@ impl<T: IdOrdItem> IterMut<'_, T> {
     {
         let at = self.done;
         if at < self.map.len() {
-            let slot = self.map.slot_of(at);
+            let slot = self.map.slot_at_position(at);
             self.done = at + 1;
-            Some(self.map.item_mut(slot))
+            Some(self.map.item_in_slot_mut(slot))
         } else {
             None
         }

@@ -8,7 +8,7 @@ ghost use Rattle.iddqd_store.specs.SlotItems.{HaveSlots};
 ghost use Rattle.iddqd_store.specs.Visiting.{VisitsKeepKeys, kept_by, visitor_after};
 
 use super::IdOrdMap;
-use super::paired::take_out;
+use super::store_and_index::take_out;
 use iddqd_ord_index::Place;
 use iddqd_store::{IdOrdItem, Visit};
 
@@ -27,8 +27,8 @@ impl<T: IdOrdItem> IdOrdMap<T> {
     {
         let mut at = 0;
         while at < self.len() {
-            let slot = self.slot_of(at);
-            if keep(self.item_in(slot)) {
+            let slot = self.slot_at_position(at);
+            if keep(self.item_in_slot(slot)) {
                 at += 1;
             } else {
                 self.take_at(at);
@@ -66,8 +66,8 @@ impl<T: IdOrdItem> IdOrdMap<T> {
         ensures visited { (x y : T) × (slice_get self.old.items at ≡ Some x) × (V.visits visitor.old x ≡ (visitor.new, y, result)) × (self.new ≡ record self.old { items = slice_set self.old.items at y }) }
         ensures keyed { Ascends T.key T.Key.cmp self.new.items }
     {
-        let slot = self.slot_of(at);
-        visitor.visit(self.item_mut(slot))
+        let slot = self.slot_at_position(at);
+        visitor.visit(self.item_in_slot_mut(slot))
     }
 
     // Takes out the item at the place.

@@ -6,7 +6,7 @@ ghost use Rattle.iddqd_store.specs.Refusal.{memory_refused, reservation_kind};
 
 use super::IdOrdMap;
 use super::compact::compact;
-use super::paired::reserve_slots;
+use super::store_and_index::reserve_slots;
 use iddqd_store::{IdOrdItem, ItemStore, MAX_ITEMS, TryReserveError};
 use std::alloc::Global;
 

@@ -1,7 +1,7 @@
 //! What the structure is asked.
 ghost use Rattle.std.specs.Prelude.{◌↔◌, IsErr};
 ghost use Rattle.iddqd_store.specs.Contents.{Ascends};
-ghost use Rattle.iddqd_store.specs.Validation.{HasNeedlessSlots};
+ghost use Rattle.iddqd_store.specs.Validation.{IsNotCompact};
 
 use super::IdOrdMap;
 use iddqd_store::{IdOrdItem, ValidateCompact, ValidationError};
@@ -12,7 +12,7 @@ impl<T: IdOrdItem> IdOrdMap<T> {
     #[doc(hidden)]
     pub fn validate(&self, compact: ValidateCompact) -> Result<(), ValidationError>
         requires keyed { Ascends T.key T.Key.cmp self.now.items }
-        ensures { IsErr result ↔ HasNeedlessSlots compact self.now.vacant }
+        ensures { IsErr result ↔ IsNotCompact compact self.now.vacant }
     {
         self.validate_structural(compact)
     }
@@ -22,7 +22,7 @@ impl<T> IdOrdMap<T> {
     /// The same of a map that need not be keyed.
     #[doc(hidden)]
     pub fn validate_structural(&self, compact: ValidateCompact) -> Result<(), ValidationError>
-        ensures { IsErr result ↔ HasNeedlessSlots compact self.now.vacant }
+        ensures { IsErr result ↔ IsNotCompact compact self.now.vacant }
     {
         compact.internal_check(self.vacant())
     }

@@ -25,7 +25,7 @@ impl OrdIndex {
         ensures place { IsPlaceAmong (Q.compare query.now) (keys T.key (listed_items store.now self.now.slots)) result }
         ensures in_list { MatchResult result (λ p. p < length self.now.slots) (λ p. p ≤ length self.now.slots) }
         ensures steps { steps.new ≤ steps.old + 4 + 2 * digits (length self.now.slots) }
-        ensures counts_on { steps.old ≤ steps.new }
+        ensures never_resets { steps.old ≤ steps.new }
     {
         match self.root.find(store, query, steps) {
             Ok(position) => Ok(Place { position }),
@@ -45,7 +45,7 @@ impl OrdIndex {
         ensures item { option_and_then (item_at store.now) result ≡ find_item T.key (Q.equivalent query.now) (listed_items store.now self.now.slots) }
         ensures slot { IfSome result (Contains self.now.slots) }
         ensures steps { steps.new ≤ steps.old + 4 + 2 * digits (length self.now.slots) }
-        ensures counts_on { steps.old ≤ steps.new }
+        ensures never_resets { steps.old ≤ steps.new }
     {
         self.root.get(store, query, steps)
     }
@@ -63,7 +63,7 @@ impl OrdIndex {
         ensures item { option_and_then (item_at store.now) result ≡ find_item T.key (λ k. is_lt (Q.compare query.now k)) (listed_items store.now self.now.slots) }
         ensures slot { IfSome result (Contains self.now.slots) }
         ensures steps { steps.new ≤ steps.old + 4 + 2 * digits (length self.now.slots) }
-        ensures counts_on { steps.old ≤ steps.new }
+        ensures never_resets { steps.old ≤ steps.new }
     {
         let next = match self.find(store, query, steps) {
             Ok(place) => place.position as usize + 1,

@@ -1,14 +1,14 @@
 //! A fixed array of twelve cells that holds a list: the items stand in front, the cells behind them are empty.
 ghost use Rattle.std.specs.Prelude.{◌≡◌, ◌+◌, ◌-◌, ◌<◌, ◌≤◌, List, [], ◌∷◌, ◌++◌, length, take, drop, insert, remove, slice_index_or, slice_set, nat_le, if◌then◌else◌};
-ghost use Rattle.iddqd_ord_index.specs.Cells.{held, IsPacked};
+ghost use Rattle.iddqd_ord_index.specs.Cells.{items_present, IsPacked};
 
 // Puts `item` at place `i`, and moves the later items up.
 pub(crate) fn insert<T: Drop>(cells: &mut [Option<T>], i: usize, item: T)
     requires packed { IsPacked cells.old }
-    requires in_bounds { i ≤ length (held cells.old) }
-    requires room { length (held cells.old) < 12 }
+    requires in_bounds { i ≤ length (items_present cells.old) }
+    requires room { length (items_present cells.old) < 12 }
     ensures packed { IsPacked cells.new }
-    ensures items { held cells.new ≡ insert (held cells.old) i item }
+    ensures items { items_present cells.new ≡ insert (items_present cells.old) i item }
 {
     cells[11] = Some(item);
     last_to(cells, i);
@@ -24,10 +24,10 @@ fn last_to<T>(cells: &mut [T], i: usize)
 // Takes the item at place `i` out, and moves the later items down.
 pub(crate) fn remove<T: Drop>(cells: &mut [Option<T>], i: usize) -> T
     requires packed { IsPacked cells.old }
-    requires in_bounds { i < length (held cells.old) }
+    requires in_bounds { i < length (items_present cells.old) }
     ensures packed { IsPacked cells.new }
-    ensures items { held cells.new ≡ remove (held cells.old) i }
-    ensures value { result ≡ slice_index_or (held cells.old) i result }
+    ensures items { items_present cells.new ≡ remove (items_present cells.old) i }
+    ensures value { result ≡ slice_index_or (items_present cells.old) i result }
 {
     let item = cells[i].take();
     to_last(cells, i);
@@ -47,9 +47,9 @@ fn to_last<T>(cells: &mut [T], i: usize)
 // Takes the item at place `i` out, and leaves its cell empty.
 pub(crate) fn take<T>(cells: &mut [Option<T>], i: usize) -> T
     requires packed { IsPacked cells.old }
-    requires in_bounds { i < length (held cells.old) }
+    requires in_bounds { i < length (items_present cells.old) }
     ensures cells { cells.new ≡ slice_set cells.old i None }
-    ensures value { result ≡ slice_index_or (held cells.old) i result }
+    ensures value { result ≡ slice_index_or (items_present cells.old) i result }
 {
     match cells[i].take() {
         Some(item) => item,
@@ -68,12 +68,12 @@ pub(crate) fn put<T: Drop>(cells: &mut [Option<T>], i: usize, item: T)
 pub(crate) fn move_tail<T>(cells: &mut [Option<T>], at: usize, upper: &mut [Option<T>])
     requires packed { IsPacked cells.old }
     requires upper_packed { IsPacked upper.old }
-    requires upper_empty { held upper.old ≡ [] }
-    requires in_bounds { at ≤ length (held cells.old) }
+    requires upper_empty { items_present upper.old ≡ [] }
+    requires in_bounds { at ≤ length (items_present cells.old) }
     ensures packed { IsPacked cells.new }
     ensures upper_packed { IsPacked upper.new }
-    ensures items { held cells.new ≡ take at (held cells.old) }
-    ensures upper_items { held upper.new ≡ drop at (held cells.old) }
+    ensures items { items_present cells.new ≡ take at (items_present cells.old) }
+    ensures upper_items { items_present upper.new ≡ drop at (items_present cells.old) }
 {
     cells[at..].swap_with_slice(&mut upper[..12 - at]);
 }
@@ -82,13 +82,13 @@ pub(crate) fn move_tail<T>(cells: &mut [Option<T>], at: usize, upper: &mut [Opti
 pub(crate) fn append<T>(cells: &mut [Option<T>], len: usize, upper: &mut [Option<T>], more: usize)
     requires packed { IsPacked cells.old }
     requires upper_packed { IsPacked upper.old }
-    requires len { len ≡ length (held cells.old) }
-    requires more { more ≡ length (held upper.old) }
+    requires len { len ≡ length (items_present cells.old) }
+    requires more { more ≡ length (items_present upper.old) }
     requires fits { len + more ≤ 12 }
     ensures packed { IsPacked cells.new }
     ensures upper_packed { IsPacked upper.new }
-    ensures items { held cells.new ≡ held cells.old ++ held upper.old }
-    ensures upper_items { held upper.new ≡ [] }
+    ensures items { items_present cells.new ≡ items_present cells.old ++ items_present upper.old }
+    ensures upper_items { items_present upper.new ≡ [] }
 {
     cells[len..len + more].swap_with_slice(&mut upper[..more]);
 }

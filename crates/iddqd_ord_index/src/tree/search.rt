@@ -19,7 +19,7 @@ pub fn search<T: IdOrdItem, Q: Comparable<T::Key>>(
     requires monotone { IsMonotone (slot_standing T.key (Q.compare query.now) store.now) slots.now }
     ensures place { IsPlace (slot_standing T.key (Q.compare query.now) store.now) slots.now result }
     ensures steps { steps.new ≤ steps.old + digits (length slots.now) }
-    ensures counts_on { steps.old ≤ steps.new }
+    ensures never_resets { steps.old ≤ steps.new }
 {
     // The greatest count is known of the counter's own fields alone.
     prove!(steps.count() <= u32::MAX);

@@ -1,6 +1,6 @@
 //! The entries of a hash map in the order of their names.
-ghost use Rattle.std.specs.Prelude.{◌≡◌, IfOk, string_eq};
-ghost use Rattle.iddqd.specs.Contents.{NoTwoAkin, SameInAnyOrder};
+ghost use Rattle.std.specs.Prelude.{◌≡◌, IfOk, string_eq, IsPermutation};
+ghost use Rattle.iddqd.specs.Contents.{NoTwoAkin};
 ghost use Rattle.iddqd_run.specs.Shown.{AreByName, all_lent};
 
 use crate::entries::Entry;
@@ -10,7 +10,7 @@ use std::alloc::{AllocError, Global};
 /// The map's entries, by ascending name.
 pub(super) fn by_name(alloc: Global, map: &IdHashMap<Entry>) -> Result<Vec<&Entry>, AllocError>
     requires differ { NoTwoAkin (λ entry. entry.name) string_eq map.now.items }
-    ensures same { IfOk result (λ sorted. SameInAnyOrder map.now.items (all_lent sorted.items)) }
+    ensures same { IfOk result (λ sorted. IsPermutation map.now.items (all_lent sorted.items)) }
     ensures ascending { IfOk result (λ sorted. AreByName (all_lent sorted.items)) }
 {
     let mut sorted = references(alloc, map)?;

@@ -1,6 +1,6 @@
 //! Slots, and the chain that links the vacant ones both ways.
 ghost use Rattle.std.specs.Prelude.{◌≡◌, ◌≢◌, ℕ, ◌<◌, IsSome, Some, None, slice_index_or, slice_set};
-ghost use Rattle.iddqd_store.specs.Slots.{no_slot, item_of, items_of, links_at, without, IsChained};
+ghost use Rattle.iddqd_store.specs.Slots.{no_slot, item_of, items_of, links_at, links_without, IsChained};
 ghost use Rattle.std.specs.Borrow.{Lends, sem};
 
 use std::alloc::AllocError;
@@ -91,7 +91,7 @@ pub(super) fn unlink<T>(slots: &mut [Slot<T>], first: u32, at: usize) -> u32
     requires chained { IsChained (links_at slots.old) first }
     ensures items { items_of slots.new ≡ items_of slots.old }
     ensures vacant { IsSome (links_at slots.new at) }
-    ensures chained { IsChained (without (links_at slots.new) at) result }
+    ensures chained { IsChained (links_without (links_at slots.new) at) result }
 {
     let Slot::Vacant(links) = &slots[at] else {
         unreachable!()

@@ -2,13 +2,13 @@
 ghost use Rattle.std.specs.Prelude.{◌≡◌, ◌+◌, IfSome, IsTrue, Some};
 ghost use Rattle.std.specs.Borrow.{sem};
 ghost use Rattle.iddqd_store.specs.Holding.{LeavesSlot};
-ghost use Rattle.iddqd_hash.specs.Entry.{EntryKeeps, EntryKeepsAkin, Occupied, entry_follows, entry_item, entry_map, entry_name, entry_others, entry_slot, entry_with};
-ghost use Rattle.iddqd_hash.specs.Guard.{lent_item, lent_map, lent_name, lent_slot, lent_with, shown_item, shown_map, shown_name};
-ghost use Rattle.iddqd_hash.specs.HashItems.{held};
+ghost use Rattle.iddqd_hash.specs.Entry.{EntryKeeps, EntryKeepsAkin, Occupied, entry_follows, entry_item, entry_map, entry_lender, entry_others, entry_slot, entry_with};
+ghost use Rattle.iddqd_hash.specs.Guard.{lent_item, lent_map, guard_lender, lent_slot, lent_with, shown_item, shown_map, shown_lender};
+ghost use Rattle.iddqd_hash.specs.HashItems.{holding_of};
 ghost use Rattle.iddqd_hash.specs.HashMap.{KeepsSpare};
 
 use super::OccupiedEntry;
-use crate::id_hash_map::{IdHashMap, Lookups, RefMut, Shown};
+use crate::id_hash_map::{IdHashMap, Keyed, RefMut, Shown};
 use iddqd_store::IdHashItem;
 use std::hash::BuildHasher;
 use std::mem;
@@ -19,13 +19,13 @@ impl<'a, T, S> OccupiedEntry<'a, T, S> {
     pub fn get(&self) -> &T
         ensures { entry_item (Occupied self.now) ≡ Some result.now }
     {
-        self.map.item_in(self.slot)
+        self.map.item_in_slot(self.slot)
     }
 
     /// Shows the item for as long as the map is lent (ours: the crate's answers a plain reference).
     #[inline]
     pub fn into_ref(self) -> Shown<'a, T, S>
-        ensures same_map { shown_name result ≡ entry_name (Occupied self.entry) }
+        ensures same_map { shown_lender result ≡ entry_lender (Occupied self.entry) }
         ensures map { shown_map result ≡ entry_map (Occupied self.entry) }
         ensures item { shown_item result ≡ entry_item (Occupied self.entry) }
     {
@@ -41,22 +41,22 @@ impl<'a, T: IdHashItem, S: BuildHasher> OccupiedEntry<'a, T, S> {
     pub fn get_mut(&mut self) -> &mut T
         ensures* writes_back { sem 𝓛 (entry_follows S.row T.row self.entry result) }
         ensures value { entry_item (Occupied self.old) ≡ Some result.now }
-        ensures keyed { EntryKeeps T.key ⟦<IdHashMap<T, S> as Lookups>⟧.keyed self.old result }
-        ensures keyed_akin { EntryKeepsAkin T.key ⟦<IdHashMap<T, S> as Lookups>⟧.keyed T.Key.eq self.old result }
+        ensures keyed { EntryKeeps T.key ⟦<IdHashMap<T, S> as Keyed>⟧.keyed self.old result }
+        ensures keyed_akin { EntryKeepsAkin T.key ⟦<IdHashMap<T, S> as Keyed>⟧.keyed T.Key.eq self.old result }
     {
         let slot = self.slot;
-        self.map.item_mut(slot)
+        self.map.item_in_slot_mut(slot)
     }
 
     /// Lends the item for as long as the map is lent. The guard has to be spent.
     #[inline]
     pub fn into_mut(self) -> RefMut<'a, T, S>
-        requires keyed { ⟦<IdHashMap<T, S> as Lookups>⟧.keyed (entry_map (Occupied self)) }
-        ensures same_map { lent_name result ≡ entry_name (Occupied self.entry) }
+        requires keyed { ⟦<IdHashMap<T, S> as Keyed>⟧.keyed (entry_map (Occupied self)) }
+        ensures same_map { guard_lender result ≡ entry_lender (Occupied self.entry) }
         ensures lent { lent_map result ≡ entry_map (Occupied self.entry) }
         ensures slot { lent_slot result ≡ entry_slot self.entry }
-        ensures keyed { (x w : T) → lent_item result ≡ Some x → T.key w ≡ T.key x → ⟦<IdHashMap<T, S> as Lookups>⟧.keyed (lent_with result w) }
-        ensures keyed_akin { (x w : T) → lent_item result ≡ Some x → IsTrue (T.Key.eq (T.key x) (T.key w)) → ⟦<IdHashMap<T, S> as Lookups>⟧.keyed (lent_with result w) }
+        ensures keyed { (x w : T) → lent_item result ≡ Some x → T.key w ≡ T.key x → ⟦<IdHashMap<T, S> as Keyed>⟧.keyed (lent_with result w) }
+        ensures keyed_akin { (x w : T) → lent_item result ≡ Some x → IsTrue (T.Key.eq (T.key x) (T.key w)) → ⟦<IdHashMap<T, S> as Keyed>⟧.keyed (lent_with result w) }
     {
         let OccupiedEntry { map, slot, hash: _ } = self;
         RefMut {
@@ -69,31 +69,31 @@ impl<'a, T: IdHashItem, S: BuildHasher> OccupiedEntry<'a, T, S> {
     /// Puts the item, whose key is equal to the entry's, in the stead of the one there, which it answers: the whole item,
     /// its key's spelling too. It hashes and compares no keys.
     pub fn insert(&mut self, item: T) -> T
-        requires keyed { ⟦<IdHashMap<T, S> as Lookups>⟧.keyed (entry_map (Occupied self.old)) }
+        requires keyed { ⟦<IdHashMap<T, S> as Keyed>⟧.keyed (entry_map (Occupied self.old)) }
         requires akin { IfSome (entry_item (Occupied self.old)) (λ x. IsTrue (T.Key.eq (T.key item) (T.key x))) }
         ensures old { entry_item (Occupied self.old) ≡ Some result }
         ensures new { entry_item (Occupied self.new) ≡ Some item }
-        ensures same_map { entry_name (Occupied self.new) ≡ entry_name (Occupied self.old) }
+        ensures same_map { entry_lender (Occupied self.new) ≡ entry_lender (Occupied self.old) }
         ensures map { entry_map (Occupied self.new) ≡ entry_with (Occupied self.old) item }
         ensures slot { entry_slot self.new ≡ entry_slot self.old }
         ensures others { entry_others (Occupied self.new) ≡ entry_others (Occupied self.old) }
-        ensures keyed { ⟦<IdHashMap<T, S> as Lookups>⟧.keyed (entry_map (Occupied self.new)) }
+        ensures keyed { ⟦<IdHashMap<T, S> as Keyed>⟧.keyed (entry_map (Occupied self.new)) }
     {
         mem::replace(self.get_mut(), item)
     }
 
     /// Takes the item out, and answers it. Its slot is vacant then, and its room is spare. It hashes and compares no keys.
     pub fn remove(self) -> T
-        requires keyed { ⟦<IdHashMap<T, S> as Lookups>⟧.keyed (entry_map (Occupied self)) }
+        requires keyed { ⟦<IdHashMap<T, S> as Keyed>⟧.keyed (entry_map (Occupied self)) }
         ensures value { entry_item (Occupied self.entry) ≡ Some result }
         ensures items { self.exit.0.now.items ≡ entry_others (Occupied self.entry) }
-        ensures slots { LeavesSlot result (held (entry_map (Occupied self.entry))) (held self.exit.0.now) }
+        ensures slots { LeavesSlot result (holding_of (entry_map (Occupied self.entry))) (holding_of self.exit.0.now) }
         ensures vacant { self.exit.0.now.vacant ≡ (entry_map (Occupied self.entry)).vacant + 1 }
         ensures spare { KeepsSpare (entry_map (Occupied self.entry)) self.exit.0.now }
         ensures capacity { self.exit.0.now.capacity ≡ (entry_map (Occupied self.entry)).capacity }
         ensures limit { self.exit.0.now.limit ≡ (entry_map (Occupied self.entry)).limit }
         ensures hasher { self.exit.0.now.hasher ≡ (entry_map (Occupied self.entry)).hasher }
-        ensures keyed { ⟦<IdHashMap<T, S> as Lookups>⟧.keyed self.exit.0.now }
+        ensures keyed { ⟦<IdHashMap<T, S> as Keyed>⟧.keyed self.exit.0.now }
     {
         let slot = self.slot;
         let hash = self.hash;

@@ -2,10 +2,10 @@
 ghost use Rattle.std.specs.Prelude.{◌≡◌, ◌-◌, ◌<◌, ◌↔◌, IsSome, length, slice_get};
 ghost use Rattle.std.specs.Borrow.{sem};
 ghost use Rattle.std.specs.Option.{option_copied_mut};
-ghost use Rattle.iddqd_hash.specs.WritingWalk.{WalkKeeps, WalkKeepsAkin, walk_done, walk_lends, walk_map, walk_name};
+ghost use Rattle.iddqd_hash.specs.WritingWalk.{WalkKeeps, WalkKeepsAkin, walk_done, walk_lends, walk_map, walk_lender};
 
 use super::IterMut;
-use crate::id_hash_map::{IdHashMap, Lookups};
+use crate::id_hash_map::{IdHashMap, Keyed};
 use iddqd_store::IdHashItem;
 use std::hash::BuildHasher;
 
@@ -14,8 +14,8 @@ impl<T: IdHashItem, S: BuildHasher> IdHashMap<T, S> {
     /// keyed unless you change an item's key.
     #[inline]
     pub fn iter_mut(&mut self) -> IterMut<'_, T, S>
-        requires keyed { ⟦<IdHashMap<T, S> as Lookups>⟧.keyed self.old }
-        ensures same_map { walk_name result ≡ self.entry.ghost_name }
+        requires keyed { ⟦<IdHashMap<T, S> as Keyed>⟧.keyed self.old }
+        ensures same_map { walk_lender result ≡ self.entry.ghost_name }
         ensures unchanged { walk_map result ≡ self.old }
         ensures start { walk_done result ≡ 0 }
     {
@@ -44,14 +44,14 @@ impl<T: IdHashItem, S: BuildHasher> IterMut<'_, T, S> {
         ensures* writes_back { sem 𝓛 (walk_lends S.row T.row self.entry result) }
         ensures value { option_copied_mut result ≡ slice_get (walk_map self.old).items (walk_done self.old) }
         ensures found { IsSome result ↔ (walk_done self.old < length (walk_map self.old).items) }
-        ensures keyed { WalkKeeps T.key ⟦<IdHashMap<T, S> as Lookups>⟧.keyed self.old result }
-        ensures keyed_akin { WalkKeepsAkin T.key ⟦<IdHashMap<T, S> as Lookups>⟧.keyed T.Key.eq self.old result }
+        ensures keyed { WalkKeeps T.key ⟦<IdHashMap<T, S> as Keyed>⟧.keyed self.old result }
+        ensures keyed_akin { WalkKeepsAkin T.key ⟦<IdHashMap<T, S> as Keyed>⟧.keyed T.Key.eq self.old result }
     {
         if self.done < self.map.len() {
             let slot = self.map.slot_from(self.next)?;
             self.done += 1;
             self.next = slot + 1;
-            Some(self.map.item_mut(slot))
+            Some(self.map.item_in_slot_mut(slot))
         } else {
             None
         }

@@ -1,6 +1,6 @@
 //! Reading an item that a guard was spent on.
 ghost use Rattle.std.specs.Prelude.{◌≡◌, Some};
-ghost use Rattle.iddqd_hash.specs.Guard.{lent_map, lent_item, lent_name, shown_map, shown_item, shown_name};
+ghost use Rattle.iddqd_hash.specs.Guard.{lent_map, lent_item, guard_lender, shown_map, shown_item, shown_lender};
 
 use super::{RefMut, Shown};
 use std::ops::Deref;
@@ -9,7 +9,7 @@ impl<'a, T, S> RefMut<'a, T, S> {
     /// Spends the guard, and goes on showing the item.
     #[inline]
     pub fn into_ref(self) -> Shown<'a, T, S>
-        ensures same_map { shown_name result ≡ lent_name self.entry }
+        ensures same_map { shown_lender result ≡ guard_lender self.entry }
         ensures map { shown_map result ≡ lent_map self.entry }
         ensures item { shown_item result ≡ lent_item self.entry }
     {
@@ -31,6 +31,6 @@ impl<T, S> Deref for Shown<'_, T, S> {
     fn deref(&self) -> &T
         ensures { shown_item self.now ≡ Some result.now }
     {
-        self.map.item_in(self.slot)
+        self.map.item_in_slot(self.slot)
     }
 }

@@ -3,8 +3,8 @@ ghost use Rattle.std.specs.Prelude.{◌≡◌, IfErr, IfNone, IfOk, IfSome, IsSo
 ghost use Rattle.std.specs.Borrow.{sem};
 ghost use Rattle.iddqd_store.specs.Contents.{AddsItem, Ascends, IsAbsent};
 ghost use Rattle.iddqd_store.specs.Refusal.{FindsNoRoom};
-ghost use Rattle.iddqd_ord.specs.Entry.{entry_item, entry_map, entry_name, entry_others, entry_with, rests_if_refused};
-ghost use Rattle.iddqd_ord.specs.Guard.{lent_item, lent_map, lent_name, lent_with, shown_item, shown_map, shown_name};
+ghost use Rattle.iddqd_ord.specs.Entry.{entry_item, entry_map, entry_lender, entry_others, entry_with, rests_if_refused};
+ghost use Rattle.iddqd_ord.specs.Guard.{lent_item, lent_map, guard_lender, lent_with, shown_item, shown_map, shown_lender};
 ghost use Rattle.iddqd_ord.specs.OrdMap.{OrdInserts};
 
 use super::{Entry, OccupiedEntry};
@@ -21,8 +21,8 @@ impl<'a, T: IdOrdItem> Entry<'a, T> {
         T: Drop,
         requires keyed { Ascends T.key T.Key.cmp (entry_map self).items }
         requires absent { entry_item self ≡ None → IsAbsent T.key (T.Key.eq (T.key item)) (entry_map self).items }
-        ensures* kept { sem 𝓛 (rests_if_refused T.row T.key T.Key.cmp lent_name self.entry result) }
-        ensures same_map { IfOk result (λ r. lent_name r ≡ entry_name self.entry) }
+        ensures* kept { sem 𝓛 (rests_if_refused T.row T.key T.Key.cmp guard_lender self.entry result) }
+        ensures same_map { IfOk result (λ r. guard_lender r ≡ entry_lender self.entry) }
         ensures found { IfOk result (λ r. IsSome (entry_item self.entry) → (lent_map r ≡ entry_map self.entry) × (lent_item r ≡ entry_item self.entry)) }
         ensures found_written { IfOk result (λ r. IsSome (entry_item self.entry) → (w : T) → lent_with r w ≡ entry_with self.entry w) }
         ensures inserted { IfOk result (λ r. entry_item self.entry ≡ None → OrdInserts T.key T.Key.cmp item (entry_map self.entry) (lent_map r) × (lent_item r ≡ Some item)) }
@@ -55,8 +55,8 @@ impl<'a, T: IdOrdItem> Entry<'a, T> {
         requires keyed { Ascends T.key T.Key.cmp (entry_map self).items }
         requires callable { entry_item self ≡ None → F.pre make }
         requires absent { entry_item self ≡ None → (x : T) → F.post make x → IsAbsent T.key (T.Key.eq (T.key x)) (entry_map self).items }
-        ensures* kept { sem 𝓛 (rests_if_refused T.row T.key T.Key.cmp lent_name self.entry result) }
-        ensures same_map { IfOk result (λ r. lent_name r ≡ entry_name self.entry) }
+        ensures* kept { sem 𝓛 (rests_if_refused T.row T.key T.Key.cmp guard_lender self.entry result) }
+        ensures same_map { IfOk result (λ r. guard_lender r ≡ entry_lender self.entry) }
         ensures found { IfOk result (λ r. IsSome (entry_item self.entry) → (lent_map r ≡ entry_map self.entry) × (lent_item r ≡ entry_item self.entry)) }
         ensures found_written { IfOk result (λ r. IsSome (entry_item self.entry) → (w : T) → lent_with r w ≡ entry_with self.entry w) }
         ensures inserted { IfOk result (λ r. entry_item self.entry ≡ None → (x : T) × F.post make x × OrdInserts T.key T.Key.cmp x (entry_map self.entry) (lent_map r) × (lent_item r ≡ Some x)) }
@@ -90,8 +90,8 @@ impl<'a, T: IdOrdItem> Entry<'a, T> {
         T: Drop,
         requires keyed { Ascends T.key T.Key.cmp (entry_map self).items }
         requires absent { entry_item self ≡ None → IsAbsent T.key (T.Key.eq (T.key item)) (entry_map self).items }
-        ensures* kept { sem 𝓛 (rests_if_refused T.row T.key T.Key.cmp shown_name self.entry result) }
-        ensures same_map { IfOk result (λ s. shown_name s ≡ entry_name self.entry) }
+        ensures* kept { sem 𝓛 (rests_if_refused T.row T.key T.Key.cmp shown_lender self.entry result) }
+        ensures same_map { IfOk result (λ s. shown_lender s ≡ entry_lender self.entry) }
         ensures found { IfOk result (λ s. IsSome (entry_item self.entry) → (shown_map s ≡ entry_map self.entry) × (shown_item s ≡ entry_item self.entry)) }
         ensures inserted { IfOk result (λ s. entry_item self.entry ≡ None → OrdInserts T.key T.Key.cmp item (entry_map self.entry) (shown_map s) × (shown_item s ≡ Some item)) }
         ensures absent { IfErr result (λ refused. entry_item self.entry ≡ None) }
@@ -116,8 +116,8 @@ impl<'a, T: IdOrdItem> Entry<'a, T> {
         requires keyed { Ascends T.key T.Key.cmp (entry_map self).items }
         requires callable { entry_item self ≡ None → F.pre make }
         requires absent { entry_item self ≡ None → (x : T) → F.post make x → IsAbsent T.key (T.Key.eq (T.key x)) (entry_map self).items }
-        ensures* kept { sem 𝓛 (rests_if_refused T.row T.key T.Key.cmp shown_name self.entry result) }
-        ensures same_map { IfOk result (λ s. shown_name s ≡ entry_name self.entry) }
+        ensures* kept { sem 𝓛 (rests_if_refused T.row T.key T.Key.cmp shown_lender self.entry result) }
+        ensures same_map { IfOk result (λ s. shown_lender s ≡ entry_lender self.entry) }
         ensures found { IfOk result (λ s. IsSome (entry_item self.entry) → (shown_map s ≡ entry_map self.entry) × (shown_item s ≡ entry_item self.entry)) }
         ensures inserted { IfOk result (λ s. entry_item self.entry ≡ None → (x : T) × F.post make x × OrdInserts T.key T.Key.cmp x (entry_map self.entry) (shown_map s) × (shown_item s ≡ Some x)) }
         ensures absent { IfErr result (λ refused. entry_item self.entry ≡ None) }
@@ -142,7 +142,7 @@ impl<'a, T: IdOrdItem> Entry<'a, T> {
     pub fn and_modify<V: Visit<T>>(self, visitor: &mut V) -> Entry<'a, T>
         requires keyed { Ascends T.key T.Key.cmp (entry_map self).items }
         requires keeps_key { IfSome (entry_item self) (λ x. IsTrue (T.Key.eq (T.key x) (T.key (V.visits visitor.old x).1))) }
-        ensures same_map { entry_name result ≡ entry_name self.entry }
+        ensures same_map { entry_lender result ≡ entry_lender self.entry }
         ensures item { entry_item result ≡ option_map (λ x. (V.visits visitor.old x).1) (entry_item self.entry) }
         ensures map { IfSome (entry_item self.entry) (λ x. entry_map result ≡ entry_with self.entry (V.visits visitor.old x).1) }
         ensures visitor { IfSome (entry_item self.entry) (λ x. visitor.new ≡ (V.visits visitor.old x).0) }

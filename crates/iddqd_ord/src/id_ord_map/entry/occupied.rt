@@ -3,8 +3,8 @@ ghost use Rattle.std.specs.Prelude.{◌≡◌, ◌+◌, IfSome, IsTrue, Some};
 ghost use Rattle.std.specs.Borrow.{sem};
 ghost use Rattle.iddqd_store.specs.Contents.{Ascends};
 ghost use Rattle.iddqd_store.specs.Holding.{LeavesSlot};
-ghost use Rattle.iddqd_ord.specs.Entry.{EntryKeeps, EntryKeepsAkin, Occupied, entry_follows, entry_item, entry_map, entry_name, entry_others, entry_slot, entry_with};
-ghost use Rattle.iddqd_ord.specs.Guard.{lent_item, lent_map, lent_name, lent_slot, lent_with, shown_item, shown_map, shown_name};
+ghost use Rattle.iddqd_ord.specs.Entry.{EntryKeeps, EntryKeepsAkin, Occupied, entry_follows, entry_item, entry_map, entry_lender, entry_others, entry_slot, entry_with};
+ghost use Rattle.iddqd_ord.specs.Guard.{lent_item, lent_map, guard_lender, lent_slot, lent_with, shown_item, shown_map, shown_lender};
 
 use super::OccupiedEntry;
 use crate::id_ord_map::{RefMut, Shown};
@@ -17,13 +17,13 @@ impl<'a, T> OccupiedEntry<'a, T> {
     pub fn get(&self) -> &T
         ensures { entry_item (Occupied self.now) ≡ Some result.now }
     {
-        self.map.item_in(self.slot)
+        self.map.item_in_slot(self.slot)
     }
 
     /// Shows the item for as long as the map is lent (ours: the crate's answers a plain reference).
     #[inline]
     pub fn into_ref(self) -> Shown<'a, T>
-        ensures same_map { shown_name result ≡ entry_name (Occupied self.entry) }
+        ensures same_map { shown_lender result ≡ entry_lender (Occupied self.entry) }
         ensures map { shown_map result ≡ entry_map (Occupied self.entry) }
         ensures item { shown_item result ≡ entry_item (Occupied self.entry) }
     {
@@ -47,14 +47,14 @@ impl<'a, T: IdOrdItem> OccupiedEntry<'a, T> {
         ensures keyed_akin { EntryKeepsAkin T.key T.Key.cmp T.Key.eq self.old result }
     {
         let slot = self.slot;
-        self.map.item_mut(slot)
+        self.map.item_in_slot_mut(slot)
     }
 
     /// Lends the item for as long as the map is lent. The guard has to be spent.
     #[inline]
     pub fn into_mut(self) -> RefMut<'a, T>
         requires keyed { Ascends T.key T.Key.cmp (entry_map (Occupied self)).items }
-        ensures same_map { lent_name result ≡ entry_name (Occupied self.entry) }
+        ensures same_map { guard_lender result ≡ entry_lender (Occupied self.entry) }
         ensures lent { lent_map result ≡ entry_map (Occupied self.entry) }
         ensures slot { lent_slot result ≡ entry_slot self.entry }
         ensures keyed { (x w : T) → lent_item result ≡ Some x → T.key w ≡ T.key x → Ascends T.key T.Key.cmp (lent_with result w).items }
@@ -79,7 +79,7 @@ impl<'a, T: IdOrdItem> OccupiedEntry<'a, T> {
         requires akin { IfSome (entry_item (Occupied self.old)) (λ x. IsTrue (T.Key.eq (T.key item) (T.key x))) }
         ensures old { entry_item (Occupied self.old) ≡ Some result }
         ensures new { entry_item (Occupied self.new) ≡ Some item }
-        ensures same_map { entry_name (Occupied self.new) ≡ entry_name (Occupied self.old) }
+        ensures same_map { entry_lender (Occupied self.new) ≡ entry_lender (Occupied self.old) }
         ensures map { entry_map (Occupied self.new) ≡ entry_with (Occupied self.old) item }
         ensures slot { entry_slot self.new ≡ entry_slot self.old }
         ensures others { entry_others (Occupied self.new) ≡ entry_others (Occupied self.old) }

@@ -3,8 +3,8 @@ ghost use Rattle.std.specs.Prelude.{◌≡◌, IfErr, IfOk, IsTrue, Some};
 ghost use Rattle.std.specs.Borrow.{sem};
 ghost use Rattle.iddqd_store.specs.Contents.{AddsItem, Ascends, IsAbsent};
 ghost use Rattle.iddqd_store.specs.Refusal.{FindsNoRoom};
-ghost use Rattle.iddqd_ord.specs.Entry.{Occupied, Vacant, entry_item, entry_map, entry_name, entry_others, entry_with, rests_if_refused};
-ghost use Rattle.iddqd_ord.specs.Guard.{lent_item, lent_map, lent_name, lent_with, shown_item, shown_map, shown_name};
+ghost use Rattle.iddqd_ord.specs.Entry.{Occupied, Vacant, entry_item, entry_map, entry_lender, entry_others, entry_with, rests_if_refused};
+ghost use Rattle.iddqd_ord.specs.Guard.{lent_item, lent_map, guard_lender, lent_with, shown_item, shown_map, shown_lender};
 ghost use Rattle.iddqd_ord.specs.OrdMap.{OrdInserts};
 
 use super::{OccupiedEntry, VacantEntry};
@@ -20,8 +20,8 @@ impl<'a, T: IdOrdItem> VacantEntry<'a, T> {
     pub fn insert(self, item: T) -> Result<RefMut<'a, T>, Refused<T>>
         requires keyed { Ascends T.key T.Key.cmp (entry_map (Vacant self)).items }
         requires absent { IsAbsent T.key (T.Key.eq (T.key item)) (entry_map (Vacant self)).items }
-        ensures* kept { sem 𝓛 (rests_if_refused T.row T.key T.Key.cmp lent_name (Vacant self.entry) result) }
-        ensures same_map { IfOk result (λ r. lent_name r ≡ entry_name (Vacant self.entry)) }
+        ensures* kept { sem 𝓛 (rests_if_refused T.row T.key T.Key.cmp guard_lender (Vacant self.entry) result) }
+        ensures same_map { IfOk result (λ r. guard_lender r ≡ entry_lender (Vacant self.entry)) }
         ensures inserted { IfOk result (λ r. OrdInserts T.key T.Key.cmp item (entry_map (Vacant self.entry)) (lent_map r)) }
         ensures lent { IfOk result (λ r. lent_item r ≡ Some item) }
         ensures written { IfOk result (λ r. (w : T) → AddsItem w (entry_map (Vacant self.entry)).items (lent_with r w).items) }
@@ -45,8 +45,8 @@ impl<'a, T: IdOrdItem> VacantEntry<'a, T> {
     pub fn insert_ref(self, item: T) -> Result<Shown<'a, T>, Refused<T>>
         requires keyed { Ascends T.key T.Key.cmp (entry_map (Vacant self)).items }
         requires absent { IsAbsent T.key (T.Key.eq (T.key item)) (entry_map (Vacant self)).items }
-        ensures* kept { sem 𝓛 (rests_if_refused T.row T.key T.Key.cmp shown_name (Vacant self.entry) result) }
-        ensures same_map { IfOk result (λ s. shown_name s ≡ entry_name (Vacant self.entry)) }
+        ensures* kept { sem 𝓛 (rests_if_refused T.row T.key T.Key.cmp shown_lender (Vacant self.entry) result) }
+        ensures same_map { IfOk result (λ s. shown_lender s ≡ entry_lender (Vacant self.entry)) }
         ensures inserted { IfOk result (λ s. OrdInserts T.key T.Key.cmp item (entry_map (Vacant self.entry)) (shown_map s)) }
         ensures shown { IfOk result (λ s. shown_item s ≡ Some item) }
         ensures item { IfErr result (λ refused. refused.item ≡ item) }
@@ -63,8 +63,8 @@ impl<'a, T: IdOrdItem> VacantEntry<'a, T> {
     pub fn insert_entry(self, item: T) -> Result<OccupiedEntry<'a, T>, Refused<T>>
         requires keyed { Ascends T.key T.Key.cmp (entry_map (Vacant self)).items }
         requires absent { IsAbsent T.key (T.Key.eq (T.key item)) (entry_map (Vacant self)).items }
-        ensures* kept { sem 𝓛 (rests_if_refused T.row T.key T.Key.cmp (λ e. entry_name (Occupied e)) (Vacant self.entry) result) }
-        ensures same_map { IfOk result (λ e. entry_name (Occupied e) ≡ entry_name (Vacant self.entry)) }
+        ensures* kept { sem 𝓛 (rests_if_refused T.row T.key T.Key.cmp (λ e. entry_lender (Occupied e)) (Vacant self.entry) result) }
+        ensures same_map { IfOk result (λ e. entry_lender (Occupied e) ≡ entry_lender (Vacant self.entry)) }
         ensures inserted { IfOk result (λ e. OrdInserts T.key T.Key.cmp item (entry_map (Vacant self.entry)) (entry_map (Occupied e))) }
         ensures found { IfOk result (λ e. entry_item (Occupied e) ≡ Some item) }
         ensures written { IfOk result (λ e. (w : T) → AddsItem w (entry_map (Vacant self.entry)).items (entry_with (Occupied e) w).items) }

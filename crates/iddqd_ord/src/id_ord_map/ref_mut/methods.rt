@@ -40,7 +40,7 @@ impl<'a, T> RefMut<'a, T> {
             slot,
             spent: _,
         } = self;
-        map.item_mut(slot)
+        map.item_in_slot_mut(slot)
     }
 }
 
@@ -53,7 +53,7 @@ impl<T> Deref for RefMut<'_, T> {
     fn deref(&self) -> &T
         ensures { lent_item self.now ≡ Some result.now }
     {
-        self.map.item_in(self.slot)
+        self.map.item_in_slot(self.slot)
     }
 }
 
@@ -66,6 +66,6 @@ impl<T> DerefMut for RefMut<'_, T> {
         ensures value { lent_item self.old ≡ Some result.now }
     {
         let slot = self.slot;
-        self.map.item_mut(slot)
+        self.map.item_in_slot_mut(slot)
     }
 }

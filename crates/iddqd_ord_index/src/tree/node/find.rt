@@ -20,7 +20,7 @@ impl Node {
         requires room { length self.now.slots < 2 ^ 32 }
         ensures place { IsPlace (slot_standing T.key (Q.compare query.now) store.now) self.now.slots result }
         ensures steps { steps.new ≤ steps.old + 4 * self.now.height }
-        ensures counts_on { steps.old ≤ steps.new }
+        ensures never_resets { steps.old ≤ steps.new }
     {
         let mut node = self;
         let mut base = 0;
@@ -50,7 +50,7 @@ impl Node {
         requires monotone { IsMonotone (slot_standing T.key (Q.compare query.now) store.now) self.now.slots }
         ensures found { IsAmong (slot_standing T.key (Q.compare query.now) store.now) self.now.slots result }
         ensures steps { steps.new ≤ steps.old + 4 * self.now.height }
-        ensures counts_on { steps.old ≤ steps.new }
+        ensures never_resets { steps.old ≤ steps.new }
     {
         let mut node = self;
         'down: while !node.branches.is_empty() {

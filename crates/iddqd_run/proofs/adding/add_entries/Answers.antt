@@ -1,12 +1,12 @@
 use Rattle.std.proofs.Common.{rules, ◌≡◌, ◌∙◌, length, sym, ap, subst, string_bytes, IfOk}
 use Rattle.std.specs.Result.{IsOk}
 use Rattle.std.specs.String.{string_eq_equiv}
-use Rattle.iddqd.specs.Refusal.{IsLent}
-use Rattle.iddqd_lines.specs.Lines.{AddAll}
+use Rattle.iddqd.specs.Refusal.{IsOnly}
+use Rattle.idtable_lines.specs.Lines.{AddAll}
 use Rattle.iddqd_run.specs.Shown.{WritesReply, entries_of}
 use Rattle.iddqd_run.specs.declared.entries.LineReply.TheVariants.{AddedAll, DuplicateAfter}
 use Rattle.iddqd_run.proofs.AddAllLemmas.{all_sent, conflict_sent, refused_sent}
-use Rattle.iddqd_commands.proofs.ExtendLemmas.{conflict_more}
+use Rattle.idtable_commands.proofs.ExtendLemmas.{conflict_more}
 use Rattle.iddqd_run.proofs.ReplyLemmas.{written}
 use Rattle.iddqd_run.proofs.adding.add_entries.Goals as goal
 
@@ -40,7 +40,7 @@ returns-in-Err-Duplicate-clause-answered g c =
     let reply = DuplicateAfter c.as_str-name.result c.value_of-value.result _ in
     let answered = conflict_sent kind g.M.KeyedMap.key c.requires.table.names (g.M.KeyedMap.limit c.args.map.now) c.requires.table.limit c.args.entries.items old new c.in-Err-Duplicate.duplicate told.1 c.len-before.result c.len.result c.len-before.ensures.len now c.as_str-name.result c.value_of-value.result
     (c.as_str-name.ensures.value ∙ ap (λ entry. string_bytes entry.name) c.into_parts-new.ensures.new)
-    (λ y lent. c.value_of-value.ensures y (subst (λ ds. IsLent ds y) (sym c.into_parts-new.ensures.duplicates) lent)) in
+    (λ y lent. c.value_of-value.ensures y (subst (λ ds. IsOnly ds y) (sym c.into_parts-new.ensures.duplicates) lent)) in
     subst (λ items. IfOk c.write_reply-in-Err-Duplicate.result (λ refusals. WritesReply kind request old.items refusals items (string_bytes c.args.text.now) (string_bytes c.write_reply-in-Err-Duplicate.new.text))) (search rules)
     (written kind request old.items new reply (string_bytes c.args.text.now) (string_bytes c.write_reply-in-Err-Duplicate.new.text) c.write_reply-in-Err-Duplicate.result answered c.write_reply-in-Err-Duplicate.ensures.refusals c.write_reply-in-Err-Duplicate.ensures.line)
 

@@ -1,6 +1,6 @@
 use Rattle.std.proofs.Common.{◌≡◌}
-use Rattle.iddqd_lines.specs.Asked.{length_behind, pairs_behind}
-use Rattle.iddqd_lines.specs.Lines.{pairs_of, words_of}
+use Rattle.idtable_lines.specs.Asked.{length_behind, pairs_behind}
+use Rattle.idtable_lines.specs.Lines.{pairs_of, words_of}
 use Rattle.iddqd_run.specs.Shown.{entries_of}
 use Rattle.iddqd_run.proofs.AddAllLemmas.{after_pairs}
 use Rattle.iddqd_run.proofs.adding.entries_in.Given as goal

@@ -1,6 +1,6 @@
 use Rattle.std.proofs.Common.{◌≡◌, is_some}
-use Rattle.iddqd_lines.specs.Asked.{length_behind, pairs_behind}
-use Rattle.iddqd_lines.specs.Lines.{pairs_of, words_of}
+use Rattle.idtable_lines.specs.Asked.{length_behind, pairs_behind}
+use Rattle.idtable_lines.specs.Lines.{pairs_of, words_of}
 use Rattle.iddqd_run.proofs.adding.not_made.Given as goal
 
 -- the fields follow the form if those that are left do

@@ -2,7 +2,7 @@ use Rattle.std.proofs.Common.{◌≡◌, ℕ, ◌+◌, List, [], ◌∷◌, ◌+
 use Rattle.std.proofs.lemmas.Bool.{eqb-true}
 use Rattle.std.proofs.lemmas.List.{nil_from_length}
 use Rattle.iddqd_run.specs.Answer.{RepliesWithRefusals}
-use Rattle.iddqd_lines.specs.Lines.{lines_of}
+use Rattle.idtable_lines.specs.Lines.{lines_of}
 use Rattle.iddqd_run.specs.Shown.{WritesReply}
 use Rattle.iddqd_run.proofs.ReplyLemmas.{line_step, plain_replies}
 use Rattle.iddqd_run.proofs.ShownLemmas.{nothing_shown}

@@ -1,7 +1,7 @@
 use Rattle.std.proofs.Common.{ℕ, ◌+◌, ◌≤◌, List, [], ◌++◌, length, string_bytes}
 use Rattle.iddqd_run.specs.Answer as answer
 use Rattle.iddqd_run.specs.Answer.{RepliesWithRefusals}
-use Rattle.iddqd_lines.specs.Lines.{lines_of}
+use Rattle.idtable_lines.specs.Lines.{lines_of}
 use Rattle.iddqd_run.specs.Shown.{IsTable, ShowsEntries}
 use Rattle.iddqd_run.proofs.answering.answer.Given as goal
 

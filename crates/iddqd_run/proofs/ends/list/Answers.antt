@@ -1,6 +1,6 @@
 use Rattle.std.proofs.Common.{◌≡◌, ◌++◌, ◌∷◌, [], OnOk, refl, ap, ◌∙◌, subst, arith, append_assoc, inl, string_bytes}
-use Rattle.iddqd_lines.specs.Lines.{ListAll}
-use Rattle.iddqd_run.specs.Shown.{ListsItems, shown}
+use Rattle.idtable_lines.specs.Lines.{ListAll}
+use Rattle.iddqd_run.specs.Shown.{ListsItems, reply_text}
 use Rattle.iddqd_run.specs.declared.entries.LineReply.TheVariants.{RefusedMemory}
 use Rattle.iddqd_run.proofs.ReplyLemmas.{written}
 use Rattle.iddqd_run.proofs.ShownLemmas.{refused_answered}
@@ -24,4 +24,4 @@ returns-in-Err-Entries g c =
     let refused = c.in-Err-Entries.ensures.refused c.in-Err-Entries.field-0-is in
     written kind ListAll items items RefusedMemory (string_bytes c.args.text.now) (string_bytes c.write_reply.new.text) c.write_reply.result
     (refused_answered kind ListAll items items (λ entries. (refused.0, refl)) refl) c.write_reply.ensures.refusals
-    (subst (λ before. OnOk c.write_reply.result (string_bytes c.write_reply.new.text ≡ before ++ (shown RefusedMemory ++ 10 ∷ []))) refused.1 c.write_reply.ensures.line)
+    (subst (λ before. OnOk c.write_reply.result (string_bytes c.write_reply.new.text ≡ before ++ (reply_text RefusedMemory ++ 10 ∷ []))) refused.1 c.write_reply.ensures.line)

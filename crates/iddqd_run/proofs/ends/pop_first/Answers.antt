@@ -1,5 +1,5 @@
 use Rattle.std.proofs.Common.{◌∙◌, ap, drop, slice_get, string_bytes, subst, sym}
-use Rattle.iddqd_lines.specs.Lines.{PopFirst}
+use Rattle.idtable_lines.specs.Lines.{PopFirst}
 use Rattle.iddqd_run.specs.Shown.{HasEnds}
 use Rattle.iddqd_run.specs.declared.entries.LineReply.TheVariants.{Unsupported}
 use Rattle.iddqd_run.proofs.EndLemmas.{pop_first_answered, pop_first_unsupported}

@@ -1,5 +1,5 @@
 use Rattle.std.proofs.Common.{◌∙◌, ◌-◌, ap, length, slice_get, string_bytes, subst, sym, take}
-use Rattle.iddqd_lines.specs.Lines.{PopLast}
+use Rattle.idtable_lines.specs.Lines.{PopLast}
 use Rattle.iddqd_run.specs.Shown.{HasEnds}
 use Rattle.iddqd_run.specs.declared.entries.LineReply.TheVariants.{Unsupported}
 use Rattle.iddqd_run.proofs.EndLemmas.{pop_last_answered, pop_last_unsupported}

@@ -1,7 +1,7 @@
 use Rattle.std.proofs.Common.{sym, refl, subst, rules, arith}
 use Rattle.std.specs.Result.{IsOk}
-use Rattle.iddqd.specs.Refusal.{IsLent}
-use Rattle.iddqd_lines.specs.Lines.{Add}
+use Rattle.iddqd.specs.Refusal.{IsOnly}
+use Rattle.idtable_lines.specs.Lines.{Add}
 use Rattle.iddqd_run.specs.declared.entries.LineReply.TheVariants.{Added}
 use Rattle.iddqd_run.proofs.ShownLemmas.{add_makes, made_plainly, full_plainly, duplicate_answered, no_room_answered}
 use Rattle.iddqd_run.proofs.requests.add_entry.Goals as goal
@@ -15,7 +15,7 @@ returns-in-Ok-clause-answered g c =
 pub returns-in-Err-Duplicate-clause-answered : goal.returns-in-Err-Duplicate-clause-answered
 returns-in-Err-Duplicate-clause-answered g c =
     let refused = rw (c.in-Err-Duplicate.field-0-is, c.requires.table.names) at c.in-Err-Duplicate.ensures.refused in
-    let lent = subst (λ ds. IsLent ds refused.1) (sym c.duplicates.ensures) refused.2 in
+    let lent = subst (λ ds. IsOnly ds refused.1) (sym c.duplicates.ensures) refused.2 in
     duplicate_answered g.M.Table.kind c.args.entry (g.M.KeyedMap.state c.args.map.now).items c.args.name.now c.requires.name _ refused.1 refused.3 c.args.name c.value_of.result refl (c.value_of.ensures refused.1 lent) (search rules)
 
 pub returns-in-Err-Refused-clause-answered : goal.returns-in-Err-Refused-clause-answered

@@ -1,5 +1,5 @@
 use Rattle.std.proofs.Common.{refl, arith, string_bytes}
-use Rattle.iddqd_lines.specs.Lines.{Put}
+use Rattle.idtable_lines.specs.Lines.{Put}
 use Rattle.iddqd_run.specs.declared.entries.LineReply.TheVariants.{New}
 use Rattle.iddqd_run.proofs.ShownLemmas.{put_makes, made_plainly, full_plainly, replaced_answered, no_room_answered}
 use Rattle.iddqd_run.proofs.requests.put_entry.Goals as goal

@@ -1,7 +1,7 @@
 use Rattle.std.proofs.Common.{◌≡◌, ◌∙◌, Bool, Some, sym, ap, subst, String, Global}
 use Rattle.std.specs.Prelude.{bytes_eq, string_bytes}
-use Rattle.iddqd.specs.Contents.{find_item, replaced}
-use Rattle.iddqd_lines.specs.Lines.{Set}
+use Rattle.iddqd.specs.Contents.{find_item, items_overwritten}
+use Rattle.idtable_lines.specs.Lines.{Set}
 use Rattle.iddqd_run.specs.Shown.{AnswersRequest}
 use Rattle.iddqd_run.specs.declared.entries.Entry.{Entry}
 use Rattle.iddqd_run.specs.declared.entries.LineReply.TheVariants.{Set as Written}
@@ -17,8 +17,8 @@ returns-in-Some-clause-answered g c =
     let test : String Global → Bool = λ k. bytes_eq c.args.name.now (string_bytes k) in
     let name : Entry → String Global = λ entry. entry.name in
     let found : find_item name test items ≡ Some x = rw (c.requires.table.names, c.requires.table.texts) at saw.2 in
-    let made : new ≡ replaced name test saw.1 items = rw (c.requires.table.names, c.requires.table.texts) at saw.4 in
-    let after : new ≡ replaced name test (record x { value = c.args.value }) items = made ∙ ap (λ p. replaced name test p.1 items) (sym saw.3) in
+    let made : new ≡ items_overwritten name test saw.1 items = rw (c.requires.table.names, c.requires.table.texts) at saw.4 in
+    let after : new ≡ items_overwritten name test (record x { value = c.args.value }) items = made ∙ ap (λ p. items_overwritten name test p.1 items) (sym saw.3) in
     subst (λ v. AnswersRequest g.M.Table.kind (Set c.args.name.now c.args.value) items (Written v) new) (ap (λ p. p.0.value) saw.3)
     (set_found g.M.Table.kind c.args.name.now c.args.value items new x found after)
 

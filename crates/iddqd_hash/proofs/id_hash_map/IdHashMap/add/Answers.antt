@@ -4,18 +4,18 @@ use Rattle.iddqd_store.specs.Hashing.{hash_under}
 use Rattle.iddqd_store.specs.SlotItems.{item_of_slot}
 use Rattle.iddqd_store.specs.Store.{item_at}
 use Rattle.iddqd_store.proofs.StoreLemmas.{given}
-use Rattle.iddqd_hash.specs.HashItems.{IsKeyed, Keyed}
+use Rattle.iddqd_hash.specs.HashItems.{IsKeyed, KeyedItems}
 use Rattle.iddqd_hash.specs.HashMap.{HashKeeps}
-use Rattle.iddqd_hash.specs.Paired.{items_in, shown}
-use Rattle.iddqd_hash.proofs.LentLemmas.{item_in_slot}
+use Rattle.iddqd_hash.specs.StoreAndIndex.{items_in, hash_items_of}
+use Rattle.iddqd_hash.proofs.GetMutLemmas.{item_in_slot}
 use Rattle.iddqd_hash.proofs.MapLemmas.{listed_under_query, unchanged}
-use Rattle.iddqd_hash.proofs.PairedLemmas.{listed_occupied}
+use Rattle.iddqd_hash.proofs.StoreAndIndexLemmas.{listed_occupied}
 use Rattle.iddqd_hash.proofs.id_hash_map.IdHashMap.add.Given.{Over}
 use Rattle.iddqd_hash.proofs.id_hash_map.IdHashMap.add.Goals as goal
 
-keyed_inside : (g : Over) (c : goal.After-key-2 g) → Keyed g.T.IdHashItem.key g.T.Key.PartialEq.eq g.T.Key.Hash.hash_input (hash_under g.S.BuildHasher g.S.Hasher.Hasher) (shown c.self.inside.store c.self.inside.index c.self.inside.hasher)
+keyed_inside : (g : Over) (c : goal.After-key-2 g) → KeyedItems g.T.IdHashItem.key g.T.Key.PartialEq.eq g.T.Key.Hash.hash_input (hash_under g.S.BuildHasher g.S.Hasher.Hasher) (hash_items_of c.self.inside.store c.self.inside.index c.self.inside.hasher)
 unfolding IsKeyed
-keyed_inside g c = subst (Keyed g.T.IdHashItem.key g.T.Key.PartialEq.eq g.T.Key.Hash.hash_input (hash_under g.S.BuildHasher g.S.Hasher.Hasher)) (sym c.self.view_is) c.requires.keyed
+keyed_inside g c = subst (KeyedItems g.T.IdHashItem.key g.T.Key.PartialEq.eq g.T.Key.Hash.hash_input (hash_under g.S.BuildHasher g.S.Hasher.Hasher)) (sym c.self.view_is) c.requires.keyed
 
 pub find_slot-requires-clause-stored : goal.find_slot-requires-clause-stored
 find_slot-requires-clause-stored g c =
@@ -46,5 +46,5 @@ returns-in-Some-clause-kept g c =
     let input = g.T.Key.Hash.hash_input in
     let hash = hash_under g.S.BuildHasher g.S.Hasher.Hasher in
     let m = c.self.inside in
-    let keyed = subst (Keyed key eq input hash) (sym c.self.view_is) c.requires.keyed in
-    subst (λ v. HashKeeps (Keyed key eq input hash) v v) c.self.view_is (unchanged key eq input hash m.hasher m.store m.index c.self.invariant keyed)
+    let keyed = subst (KeyedItems key eq input hash) (sym c.self.view_is) c.requires.keyed in
+    subst (λ v. HashKeeps (KeyedItems key eq input hash) v v) c.self.view_is (unchanged key eq input hash m.hasher m.store m.index c.self.invariant keyed)

@@ -4,7 +4,7 @@ use Rattle.std.proofs.lemmas.Result.{err_from_is_err_and}
 use Rattle.iddqd_store.specs.Collecting.{AddsAll, GivesThen}
 use Rattle.iddqd_store.proofs.AddingLemmas.{adds_last, adds_none, halts_adding}
 use Rattle.iddqd_store.proofs.CollectingLemmas.{fills_kept, fills_on, fills_taken, gives_all, gives_then}
-use Rattle.iddqd_hash.specs.HashItems.{held, IsKeyed}
+use Rattle.iddqd_hash.specs.HashItems.{holding_of, IsKeyed}
 use Rattle.iddqd_hash.proofs.id_hash_map.IdHashMap.add_each.Goals as goal
 
 pub loop-item-init : goal.loop-item-init
@@ -17,7 +17,7 @@ loop-item-init g c =
       search rules,
       search rules,
       subst (AddsAll key g.T.Key.PartialEq.eq [] old.items) (sym kept.keeps.items) (adds_none key old.items c.requires.keyed.differ),
-      record { fills = fills_kept (held old) (held new) c.len.ensures.slots kept.keeps; keyed = kept.keyed; spare = kept.spare; hasher = kept.hasher },
+      record { fills = fills_kept (holding_of old) (holding_of new) c.len.ensures.slots kept.keeps; keyed = kept.keyed; spare = kept.spare; hasher = kept.hasher },
     )
 
 pub loop-item-preserved : goal.loop-item-preserved
@@ -34,7 +34,7 @@ loop-item-preserved g c =
       goes.1,
       adds_last g.T.IdHashItem.key g.met.T.Key.Eq.laws c.loop-item.yielded old.items between.items inv.2 x new.items put.absent put.inserted.takes.added,
       record {
-        fills = fills_on (held old) (held between) (held new) inv.3.fills (fills_taken x (held between) (held new) put.inserted.takes);
+        fills = fills_on (holding_of old) (holding_of between) (holding_of new) inv.3.fills (fills_taken x (holding_of between) (holding_of new) put.inserted.takes);
         keyed = put.inserted.keyed;
         spare = record { never_less = omega (arith, inv.3.spare.never_less, put.inserted.spare.never_less); in_limit = put.inserted.spare.in_limit };
         hasher = put.inserted.hasher ∙ inv.3.hasher;
@@ -48,7 +48,7 @@ returns-in-Err g c =
       added = tt;
       halted = search rules;
       spare_first = tt;
-      fills = record { fills = fills_kept (held c.args.self.now) (held c.reserve.new.self) c.len.ensures.slots kept.keeps; keyed = kept.keyed; spare = kept.spare; hasher = kept.hasher };
+      fills = record { fills = fills_kept (holding_of c.args.self.now) (holding_of c.reserve.new.self) c.len.ensures.slots kept.keeps; keyed = kept.keyed; spare = kept.spare; hasher = kept.hasher };
     }
 
 pub returns-in_err-add : goal.returns-in_err-add
@@ -60,7 +60,7 @@ returns-in_err-add g c =
     let gives = GivesThen g.U.IntoIterator.into_iter_gives g.U.IntoIter.Iterator.next_gives c.args.iter in
     rw back.1 (record {
       added = tt;
-      halted = halts_adding g.T.IdHashItem.key g.met.T.Key.Eq.laws gives (held old) (held c.loop-item.self) (held c.add.new.self) c.loop-item.yielded inv.2 inv.3.fills.limit stopped.kept.keeps c.in-Some.item (gives_then g.U.IntoIterator.into_iter_gives g.U.IntoIter.Iterator.next_gives c.args.iter c.loop-item.yielded c.in-Some.item (search rules)) _ (rw back.2 stopped.halted);
+      halted = halts_adding g.T.IdHashItem.key g.met.T.Key.Eq.laws gives (holding_of old) (holding_of c.loop-item.self) (holding_of c.add.new.self) c.loop-item.yielded inv.2 inv.3.fills.limit stopped.kept.keeps c.in-Some.item (gives_then g.U.IntoIterator.into_iter_gives g.U.IntoIter.Iterator.next_gives c.args.iter c.loop-item.yielded c.in-Some.item (search rules)) _ (rw back.2 stopped.halted);
       spare_first = search rules;
       fills = search rules;
     })

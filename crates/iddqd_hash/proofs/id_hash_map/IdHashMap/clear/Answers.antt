@@ -1,9 +1,9 @@
 use Rattle.std.proofs.Common.{ap, subst, arith}
 use Rattle.iddqd_store.specs.Hashing.{hash_under}
 use Rattle.iddqd_hash.specs.HashMap.{KeepsSpare}
-use Rattle.iddqd_hash.specs.Paired.{shown}
+use Rattle.iddqd_hash.specs.StoreAndIndex.{hash_items_of}
 use Rattle.iddqd_hash.proofs.MapLemmas.{emptied_keyed, emptied_spare}
-use Rattle.iddqd_hash.proofs.PairedLemmas.{paired_empty}
+use Rattle.iddqd_hash.proofs.StoreAndIndexLemmas.{paired_empty}
 use Rattle.iddqd_hash.specs.HashItems.{IsKeyed}
 use Rattle.iddqd_hash.proofs.id_hash_map.IdHashMap.clear.Goals as goal
 
@@ -13,7 +13,7 @@ invariant_of-self g c = paired_empty c.clear.new.self c.clear-2.new.self.pairs (
 pub returns-clause-spare : goal.returns-clause-spare
 returns-clause-spare g c =
     let m = c.self.inside in
-    let new = shown c.clear.new.self c.clear-2.new.self m.hasher in
+    let new = hash_items_of c.clear.new.self c.clear-2.new.self m.hasher in
     let none = ap (λ s. s.slots) c.clear.ensures in
     let capacity = ap (λ s. s.capacity) c.clear.ensures in
     subst (λ old. KeepsSpare old new) c.self.view_is

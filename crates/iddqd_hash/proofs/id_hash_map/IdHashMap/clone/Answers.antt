@@ -2,9 +2,9 @@ use Rattle.std.proofs.Common.{◌∙◌, ap, arith, subst, sym, rules}
 use Rattle.std.proofs.lemmas.Result.{err_from_is_err_and}
 use Rattle.std.specs.List.{AllZip}
 use Rattle.iddqd_store.specs.Hashing.{hash_under}
-use Rattle.iddqd_hash.specs.HashItems.{IsKeyed, Keyed}
+use Rattle.iddqd_hash.specs.HashItems.{IsKeyed, KeyedItems}
 use Rattle.iddqd_hash.specs.HashMap.{CloneHashesAlike}
-use Rattle.iddqd_hash.specs.Paired.{items_in}
+use Rattle.iddqd_hash.specs.StoreAndIndex.{items_in}
 use Rattle.iddqd_hash.proofs.CloneLemmas.{same_slots, cloned_items, paired_copied, copied_keyed}
 use Rattle.iddqd_hash.proofs.FoundLemmas.{same_numbers}
 use Rattle.iddqd_hash.proofs.MapLemmas.{spare_fits}
@@ -44,7 +44,7 @@ returns-clause-keyed g c =
     let copy = c.in-Ok-try_clone.store in
     copied_keyed g.T.Clone.is_clone m.store copy c.in-Ok-try_clone.ensures.clones m.index c.in_ok-index.index c.in_ok-index.ensures.pairs
     key input hash g.met.T.Key.Eq.laws g.met.T.Key.Hash.respects_eq c.requires.keeps_keys m.hasher c.in-Ok.hasher (subst (λ v. CloneHashesAlike g.S.Clone.is_clone hash v.hasher) (sym c.self.view_is) c.requires.hashes_alike c.in-Ok.hasher c.in-Ok.ensures.cases)
-    (subst (Keyed key eq input hash) (sym c.self.view_is) c.requires.keyed)
+    (subst (KeyedItems key eq input hash) (sym c.self.view_is) c.requires.keyed)
 
 pub returns-clause-vacant : goal.returns-clause-vacant
 returns-clause-vacant g c = search rules

@@ -5,12 +5,12 @@ use Rattle.iddqd_store.specs.Hashing.{hash_under}
 use Rattle.iddqd_store.specs.SlotItems.{item_of_slot}
 use Rattle.iddqd_store.proofs.OrderLemmas.{found_answers}
 use Rattle.iddqd_store.proofs.WrittenLemmas.{others_found, written_found}
-use Rattle.iddqd_hash.specs.HashItems.{IsKeyed, Keyed}
+use Rattle.iddqd_hash.specs.HashItems.{IsKeyed, KeyedItems}
 use Rattle.iddqd_hash.proofs.EntryLemmas.{told_listed}
 use Rattle.iddqd_hash.proofs.FoundLemmas.{replaced_absent, without_absent}
-use Rattle.iddqd_hash.proofs.LentLemmas.{item_in_slot}
+use Rattle.iddqd_hash.proofs.GetMutLemmas.{item_in_slot}
 use Rattle.iddqd_hash.proofs.MapLemmas.{listed_under_query}
-use Rattle.iddqd_hash.proofs.PairedLemmas.{listed_occupied}
+use Rattle.iddqd_hash.proofs.StoreAndIndexLemmas.{listed_occupied}
 use Rattle.iddqd_hash.proofs.id_hash_map.IdHashMap.entry.Given.{Over}
 use Rattle.iddqd_hash.proofs.id_hash_map.IdHashMap.entry.Goals as goal
 
@@ -20,7 +20,7 @@ find_slot-requires-clause-stored g c =
     let input = g.T.Key.Hash.hash_input in
     let hash = hash_under g.S.BuildHasher g.S.Hasher.Hasher in
     let m = c.self.inside in
-    listed_under_query g.T.IdHashItem.key g.T.Key.PartialEq.eq input hash m.hasher m.store m.index (subst (Keyed g.T.IdHashItem.key g.T.Key.PartialEq.eq input hash) (sym c.self.view_is) c.requires.keyed) (g.Q.Equivalent.equivalent c.args.query.now) c.hash_one-hash.result
+    listed_under_query g.T.IdHashItem.key g.T.Key.PartialEq.eq input hash m.hasher m.store m.index (subst (KeyedItems g.T.IdHashItem.key g.T.Key.PartialEq.eq input hash) (sym c.self.view_is) c.requires.keyed) (g.Q.Equivalent.equivalent c.args.query.now) c.hash_one-hash.result
     (λ k stands. ap (hash m.hasher) (sym (c.requires.hashes k stands)) ∙ sym c.hash_one-hash.ensures)
 
 pub invariant_of-result : goal.invariant_of-result

@@ -3,7 +3,7 @@ use Rattle.std.proofs.iter.Next.{on}
 use Rattle.iddqd_store.specs.Contents.{OverwritesItem}
 use Rattle.iddqd_store.proofs.CollectingLemmas.{fills_kept, fills_on, gives_all, gives_then, overwrites_last, overwritten}
 use Rattle.iddqd_store.specs.Hashing.{hash_under}
-use Rattle.iddqd_hash.specs.HashItems.{held, IsKeyed, Keyed}
+use Rattle.iddqd_hash.specs.HashItems.{holding_of, IsKeyed, KeyedItems}
 use Rattle.iddqd_hash.proofs.CollectLemmas.{overwritten_hasher}
 use Rattle.iddqd_hash.proofs.id_hash_map.IdHashMap.extend.Goals as goal
 
@@ -20,14 +20,14 @@ loop-item-preserved g c =
     let told = c.in-Ok.ensures in
     let inv = c.loop-item.invariant in
     let goes = on x c.in-Some.is c.next.ensures.goes inv.1 in
-    let put = overwritten key eq x (held between) (held new) inv.3.slots (λ h. ap held h) (λ h. h.takes) back told.found told.replaced told.inserted in (
+    let put = overwritten key eq x (holding_of between) (holding_of new) inv.3.slots (λ h. ap holding_of h) (λ h. h.takes) back told.found told.replaced told.inserted in (
       goes.0,
       goes.1,
       overwrites_last key eq old.limit x c.loop-item.yielded old.items between.items back new.items inv.2
           (subst (λ limit. OverwritesItem key eq x limit between.items back new.items) inv.3.limit put.0),
-      fills_on (held old) (held between) (held new) inv.3 put.1,
+      fills_on (holding_of old) (holding_of between) (holding_of new) inv.3 put.1,
       record { never_less = omega (arith, inv.4.never_less, told.spare.never_less); in_limit = told.spare.in_limit },
-      overwritten_hasher key eq (Keyed key eq g.T.Key.Hash.hash_input (hash_under g.S.BuildHasher g.S.Hasher.Hasher)) x between new back told.replaced told.inserted ∙ inv.5,
+      overwritten_hasher key eq (KeyedItems key eq g.T.Key.Hash.hash_input (hash_under g.S.BuildHasher g.S.Hasher.Hasher)) x between new back told.replaced told.inserted ∙ inv.5,
       told.keyed,
     )
 
@@ -43,7 +43,7 @@ returns-in-Err g c =
       stopped = tt;
       spare_first = tt;
       not_begun = kept;
-      fills = fills_kept (held c.args.self.now) (held c.reserve.new.self) c.len.ensures.slots kept.keeps;
+      fills = fills_kept (holding_of c.args.self.now) (holding_of c.reserve.new.self) c.len.ensures.slots kept.keeps;
       spare = kept.spare;
       hasher = kept.hasher;
       keyed = kept.keyed;
@@ -59,7 +59,7 @@ returns-in-Err-insert_overwrite g c =
       stopped = (let gave = gives_then g.U.IntoIterator.into_iter_gives g.U.IntoIter.Iterator.next_gives c.args.iter c.loop-item.yielded c.in-Some.item (search rules) in search rules);
       spare_first = omega (arith, inv.4.never_less, told.no_spare, ap length kept.keeps.items);
       not_begun = tt;
-      fills = fills_on (held c.args.self.now) (held c.loop-item.self) (held c.insert_overwrite.new.self) inv.3 (fills_kept (held c.loop-item.self) (held c.insert_overwrite.new.self) inv.3.slots kept.keeps);
+      fills = fills_on (holding_of c.args.self.now) (holding_of c.loop-item.self) (holding_of c.insert_overwrite.new.self) inv.3 (fills_kept (holding_of c.loop-item.self) (holding_of c.insert_overwrite.new.self) inv.3.slots kept.keeps);
       spare = record { never_less = omega (arith, inv.4.never_less, told.spare.never_less); in_limit = told.spare.in_limit };
       hasher = kept.hasher ∙ inv.5;
       keyed = told.keyed;

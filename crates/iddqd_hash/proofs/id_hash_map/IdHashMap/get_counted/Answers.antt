@@ -11,5 +11,5 @@ returns-clause-spare g c =
 pub returns-clause-steps : goal.returns-clause-steps
 returns-clause-steps g c = search rules
 
-pub returns-clause-counts_on : goal.returns-clause-counts_on
-returns-clause-counts_on g c = search rules
+pub returns-clause-never_resets : goal.returns-clause-never_resets
+returns-clause-never_resets g c = search rules

@@ -3,11 +3,11 @@ use Rattle.iddqd_store.specs.Contents.{IsAbsent, find_item}
 use Rattle.iddqd_store.specs.Hashing.{hash_under}
 use Rattle.iddqd_store.specs.SlotItems.{item_of_slot}
 use Rattle.iddqd_store.proofs.WrittenLemmas.{written_found}
-use Rattle.iddqd_hash.specs.HashItems.{IsKeyed, Keyed}
+use Rattle.iddqd_hash.specs.HashItems.{IsKeyed, KeyedItems}
 use Rattle.iddqd_hash.specs.HashMap.{SpareFits}
-use Rattle.iddqd_hash.proofs.LentLemmas.{item_in_slot, keyed_akin_written, keyed_written}
+use Rattle.iddqd_hash.proofs.GetMutLemmas.{item_in_slot, keyed_akin_written, keyed_written}
 use Rattle.iddqd_hash.proofs.MapLemmas.{listed_under_query, spare_fits}
-use Rattle.iddqd_hash.proofs.PairedLemmas.{listed_occupied}
+use Rattle.iddqd_hash.proofs.StoreAndIndexLemmas.{listed_occupied}
 use Rattle.iddqd_hash.proofs.id_hash_map.IdHashMap.get_mut.Goals as goal
 
 pub find_slot-requires-clause-stored : goal.find_slot-requires-clause-stored
@@ -16,7 +16,7 @@ find_slot-requires-clause-stored g c =
     let input = g.T.Key.Hash.hash_input in
     let hash = hash_under g.S.BuildHasher g.S.Hasher.Hasher in
     let m = c.self.inside in
-    listed_under_query g.T.IdHashItem.key g.T.Key.PartialEq.eq input hash m.hasher m.store m.index (subst (Keyed g.T.IdHashItem.key g.T.Key.PartialEq.eq input hash) (sym c.self.view_is) c.requires.keyed) (g.Q.Equivalent.equivalent c.args.query.now) c.hash_one-hash.result
+    listed_under_query g.T.IdHashItem.key g.T.Key.PartialEq.eq input hash m.hasher m.store m.index (subst (KeyedItems g.T.IdHashItem.key g.T.Key.PartialEq.eq input hash) (sym c.self.view_is) c.requires.keyed) (g.Q.Equivalent.equivalent c.args.query.now) c.hash_one-hash.result
     (λ k stands. ap (hash m.hasher) (sym (c.requires.hashes k stands)) ∙ sym c.hash_one-hash.ensures)
 
 pub invariant_of-result : goal.invariant_of-result

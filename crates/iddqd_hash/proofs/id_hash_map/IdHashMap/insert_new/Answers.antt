@@ -7,9 +7,9 @@ use Rattle.iddqd_store.specs.Refusal.{refusal_kind}
 use Rattle.iddqd_store.specs.SlotItems.{item_of_slot, written_to_slot}
 use Rattle.iddqd_store.proofs.RefusalLemmas.{kind_by_length}
 use Rattle.iddqd_store.proofs.WrittenLemmas.{told_of_slot}
-use Rattle.iddqd_hash.specs.HashItems.{IsKeyed, Keyed}
+use Rattle.iddqd_hash.specs.HashItems.{IsKeyed, KeyedItems}
 use Rattle.iddqd_hash.specs.HashMap.{HashInserts, HashKeeps}
-use Rattle.iddqd_hash.specs.Paired.{items_in, shown, slots_in}
+use Rattle.iddqd_hash.specs.StoreAndIndex.{items_in, hash_items_of, slots_in}
 use Rattle.iddqd_hash.proofs.EntryLemmas.{added_item, added_others, added_written}
 use Rattle.iddqd_hash.proofs.MapLemmas.{inserted_after, map_inserted, map_kept}
 use Rattle.iddqd_hash.proofs.SlotItemLemmas.{length-items}
@@ -31,8 +31,8 @@ returns-in-Err-clause-kept g c =
     let hash = hash_under g.S.BuildHasher g.S.Hasher.Hasher in
     let m = c.self.inside in
     let room = c.reserve_one.new in
-    let keyed = subst (Keyed key eq input hash) (sym c.self.view_is) c.requires.keyed in
-    subst (λ old. HashKeeps (Keyed key eq input hash) old (shown room.store room.index m.hasher)) c.self.view_is
+    let keyed = subst (KeyedItems key eq input hash) (sym c.self.view_is) c.requires.keyed in
+    subst (λ old. HashKeeps (KeyedItems key eq input hash) old (hash_items_of room.store room.index m.hasher)) c.self.view_is
     (map_kept key eq input hash m.hasher m.store room.store m.index room.index c.self.invariant c.reserve_one.ensures.paired keyed c.reserve_one.ensures.store c.reserve_one.ensures.capacity c.reserve_one.ensures.pairs c.reserve_one.ensures.spare)
 
 pub returns-clause-inserted : goal.returns-clause-inserted
@@ -46,7 +46,7 @@ returns-clause-inserted g c =
     let room = c.reserve_one.new in
     let put = c.put_in in
     let x = c.args.item in
-    let keyed = subst (Keyed key eq input hash) (sym c.self.view_is) c.requires.keyed in
+    let keyed = subst (KeyedItems key eq input hash) (sym c.self.view_is) c.requires.keyed in
     let kept = map_kept key eq input hash m.hasher m.store room.store m.index room.index c.self.invariant c.reserve_one.ensures.paired keyed c.reserve_one.ensures.store c.reserve_one.ensures.capacity c.reserve_one.ensures.pairs c.reserve_one.ensures.spare in
     let absent = subst (λ v. IsAbsent key (eq (key x)) v.items) (sym c.self.view_is) c.requires.absent in
     let told = c.requires.hash ∙ ap (λ v. hash v.hasher (input (key x))) (sym c.self.view_is) in
@@ -57,8 +57,8 @@ returns-clause-inserted g c =
     room_left
     (subst (λ h. HasOneMore room.index.pairs put.new.index.pairs (h, put.result)) told put.ensures.pairs)
     put.ensures.was_vacant put.ensures.updates put.ensures.spare put.ensures.len put.ensures.vacant put.ensures.capacity put.ensures.limit in
-    subst (λ old. HashInserts (Keyed key eq input hash) x old (shown put.new.store put.new.index m.hasher)) c.self.view_is
-    (inserted_after key eq input hash x (shown m.store m.index m.hasher) (shown room.store room.index m.hasher) (shown put.new.store put.new.index m.hasher) kept inserted)
+    subst (λ old. HashInserts (KeyedItems key eq input hash) x old (hash_items_of put.new.store put.new.index m.hasher)) c.self.view_is
+    (inserted_after key eq input hash x (hash_items_of m.store m.index m.hasher) (hash_items_of room.store room.index m.hasher) (hash_items_of put.new.store put.new.index m.hasher) kept inserted)
 
 pub returns-clause-there : goal.returns-clause-there
 returns-clause-there g c =
@@ -71,7 +71,7 @@ returns-clause-listed g c =
     let input = g.T.Key.Hash.hash_input in
     let hash = hash_under g.S.BuildHasher g.S.Hasher.Hasher in
     let m = c.self.inside in
-    let new = shown c.put_in.new.store c.put_in.new.index m.hasher in
+    let new = hash_items_of c.put_in.new.store c.put_in.new.index m.hasher in
     let slot = c.put_in.result in
     let tell = λ (y : g.row.T.Denot). hash m.hasher (input (key y)) in
     ap (λ hashes. item_of_slot new.slots hashes slot) (returns-clause-inserted g c).keyed.stored

@@ -1,19 +1,19 @@
 use Rattle.std.proofs.Common.{◌∙◌, ◌≡◌, None, Some, cond, refl, sym, ap, subst, arith}
 use Rattle.std.proofs.lemmas.Result.{err_from_is_err_and}
 use Rattle.iddqd_store.proofs.ChangeLemmas.{find_inserted, find_replaced}
-use Rattle.iddqd_store.specs.Contents.{find_item, replaced}
+use Rattle.iddqd_store.specs.Contents.{find_item, items_overwritten}
 use Rattle.iddqd_store.specs.Hashing.{hash_under}
-use Rattle.iddqd_hash.specs.HashItems.{IsKeyed, Keyed}
+use Rattle.iddqd_hash.specs.HashItems.{IsKeyed, KeyedItems}
 use Rattle.iddqd_hash.specs.HashMap.{KeepsSpare}
-use Rattle.iddqd_hash.specs.Paired.{hash_of_slot, hashes_in, items_in, shown, slots_in}
+use Rattle.iddqd_hash.specs.StoreAndIndex.{hash_of_slot, hashes_in, items_in, hash_items_of, slots_in}
 use Rattle.iddqd_hash.proofs.FoundLemmas.{found_passes}
 use Rattle.iddqd_hash.proofs.MapLemmas.{exchanged_numbers, exchanged_items, exchanged_keyed, keeps_spare, listed_under_query}
 use Rattle.iddqd_hash.proofs.id_hash_map.IdHashMap.insert_overwrite.Given.{Over}
 use Rattle.iddqd_hash.proofs.id_hash_map.IdHashMap.insert_overwrite.Goals as goal
 
-keyed_inside : (g : Over) (c : goal.After-key-2 g) → Keyed g.T.IdHashItem.key g.T.Key.PartialEq.eq g.T.Key.Hash.hash_input (hash_under g.S.BuildHasher g.S.Hasher.Hasher) (shown c.self.inside.store c.self.inside.index c.self.inside.hasher)
+keyed_inside : (g : Over) (c : goal.After-key-2 g) → KeyedItems g.T.IdHashItem.key g.T.Key.PartialEq.eq g.T.Key.Hash.hash_input (hash_under g.S.BuildHasher g.S.Hasher.Hasher) (hash_items_of c.self.inside.store c.self.inside.index c.self.inside.hasher)
 unfolding IsKeyed
-keyed_inside g c = subst (Keyed g.T.IdHashItem.key g.T.Key.PartialEq.eq g.T.Key.Hash.hash_input (hash_under g.S.BuildHasher g.S.Hasher.Hasher)) (sym c.self.view_is) c.requires.keyed
+keyed_inside g c = subst (KeyedItems g.T.IdHashItem.key g.T.Key.PartialEq.eq g.T.Key.Hash.hash_input (hash_under g.S.BuildHasher g.S.Hasher.Hasher)) (sym c.self.view_is) c.requires.keyed
 
 pub find_slot-requires-clause-stored : goal.find_slot-requires-clause-stored
 find_slot-requires-clause-stored g c =
@@ -33,7 +33,7 @@ returns-in-Some-clause-keyed g c =
     let m = c.self.inside in
     let y = c.args.item in
     let x = c.exchange.result in
-    let keyed = subst (Keyed key eq input hash) (sym c.self.view_is) c.requires.keyed in
+    let keyed = subst (KeyedItems key eq input hash) (sym c.self.view_is) c.requires.keyed in
     let found : find_item key (eq (key y)) (items_in m.store) ≡ Some x = ap (λ k. find_item key (eq k) (items_in m.store)) (sym c.key-2.ensures) ∙ sym c.in-Some.ensures.item ∙ c.exchange.ensures.item in
     let alike = found_passes key (eq (key y)) (items_in m.store) x found in
     exchanged_keyed key eq input hash m.hasher m.store c.exchange.new.store m.index g.met.T.Key.Eq.laws keyed c.in-Some.slot x y c.exchange.ensures.item alike c.exchange.ensures.updates g.met.T.Key.Hash.respects_eq
@@ -48,10 +48,10 @@ returns-in-Some-clause-there g c =
     let m = c.self.inside in
     let y = c.args.item in
     let x = c.exchange.result in
-    let keyed = subst (Keyed key eq input hash) (sym c.self.view_is) c.requires.keyed in
+    let keyed = subst (KeyedItems key eq input hash) (sym c.self.view_is) c.requires.keyed in
     let found : find_item key (eq (key y)) (items_in m.store) ≡ Some x = ap (λ k. find_item key (eq k) (items_in m.store)) (sym c.key-2.ensures) ∙ sym c.in-Some.ensures.item ∙ c.exchange.ensures.item in
     let alike = found_passes key (eq (key y)) (items_in m.store) x found in
-    let items : items_in c.exchange.new.store ≡ replaced key (eq (key y)) y c.args.self.now.items = exchanged_items key eq input hash m.hasher m.store c.exchange.new.store m.index g.met.T.Key.Eq.laws keyed c.in-Some.slot x y c.exchange.ensures.item alike c.exchange.ensures.updates ∙ ap (λ v. replaced key (eq (key y)) y v.items) c.self.view_is in
+    let items : items_in c.exchange.new.store ≡ items_overwritten key (eq (key y)) y c.args.self.now.items = exchanged_items key eq input hash m.hasher m.store c.exchange.new.store m.index g.met.T.Key.Eq.laws keyed c.in-Some.slot x y c.exchange.ensures.item alike c.exchange.ensures.updates ∙ ap (λ v. items_overwritten key (eq (key y)) y v.items) c.self.view_is in
     find_replaced (λ z. eq (key y) (key z)) (λ z. cond (eq (key y) (key z)) y z) c.args.self.now.items (items_in c.exchange.new.store) y x items refl (ap (λ v. find_item key (eq (key y)) v.items) (sym c.self.view_is) ∙ found) (g.met.T.Key.Eq.laws.refl (key y))
 
 pub returns-in-Some-clause-replaced : goal.returns-in-Some-clause-replaced
@@ -64,10 +64,10 @@ returns-in-Some-clause-replaced g c =
     let m = c.self.inside in
     let y = c.args.item in
     let x = c.exchange.result in
-    let keyed = subst (Keyed key eq input hash) (sym c.self.view_is) c.requires.keyed in
+    let keyed = subst (KeyedItems key eq input hash) (sym c.self.view_is) c.requires.keyed in
     let found : find_item key (eq (key y)) (items_in m.store) ≡ Some x = ap (λ k. find_item key (eq k) (items_in m.store)) (sym c.key-2.ensures) ∙ sym c.in-Some.ensures.item ∙ c.exchange.ensures.item in
     let alike = found_passes key (eq (key y)) (items_in m.store) x found in
-    let items : items_in c.exchange.new.store ≡ replaced key (eq (key y)) y c.args.self.now.items = exchanged_items key eq input hash m.hasher m.store c.exchange.new.store m.index g.met.T.Key.Eq.laws keyed c.in-Some.slot x y c.exchange.ensures.item alike c.exchange.ensures.updates ∙ ap (λ v. replaced key (eq (key y)) y v.items) c.self.view_is in
+    let items : items_in c.exchange.new.store ≡ items_overwritten key (eq (key y)) y c.args.self.now.items = exchanged_items key eq input hash m.hasher m.store c.exchange.new.store m.index g.met.T.Key.Eq.laws keyed c.in-Some.slot x y c.exchange.ensures.item alike c.exchange.ensures.updates ∙ ap (λ v. items_overwritten key (eq (key y)) y v.items) c.self.view_is in
     let same = exchanged_numbers key eq input hash m.hasher m.store c.exchange.new.store m.index g.met.T.Key.Eq.laws keyed c.in-Some.slot x y c.exchange.ensures.item alike c.exchange.ensures.updates in
     let hashes : hashes_in c.exchange.new.store m.index.pairs ≡ c.args.self.now.hashes = same (hash_of_slot m.index.pairs) ∙ ap (λ v. v.hashes) c.self.view_is in
     let slots : slots_in c.exchange.new.store ≡ c.args.self.now.slots = same (λ slot. slot) ∙ ap (λ v. v.slots) c.self.view_is in
@@ -83,7 +83,7 @@ returns-in-Some-clause-spare g c =
     let m = c.self.inside in
     let new = c.exchange.new.store in
     let paired = c.exchange.ensures.paired in
-    subst (λ old. KeepsSpare old (shown new m.index m.hasher)) c.self.view_is
+    subst (λ old. KeepsSpare old (hash_items_of new m.index m.hasher)) c.self.view_is
     (keeps_spare g.T.IdHashItem.key g.T.Key.PartialEq.eq g.T.Key.Hash.hash_input (hash_under g.S.BuildHasher g.S.Hasher.Hasher) m.hasher m.store new m.index m.index c.self.invariant paired (omega (arith, c.self.invariant.counted, paired.counted)) (omega (arith, c.exchange.ensures.capacity)) c.exchange.ensures.limit)
 
 pub returns-in_err-insert_new-in-None : goal.returns-in_err-insert_new-in-None

@@ -1,10 +1,10 @@
 use Rattle.std.proofs.Common.{◌∙◌, sym, ap, subst, slice_get, rules}
 use Rattle.std.specs.List.{remove}
-use Rattle.iddqd_store.specs.Contents.{IsAbsent, without}
+use Rattle.iddqd_store.specs.Contents.{IsAbsent, items_without}
 use Rattle.iddqd_store.specs.Hashing.{hash_under}
-use Rattle.iddqd_hash.specs.HashItems.{IsKeyed, Keyed}
+use Rattle.iddqd_hash.specs.HashItems.{IsKeyed, KeyedItems}
 use Rattle.iddqd_hash.specs.HashMap.{KeepsSpare}
-use Rattle.iddqd_hash.specs.Paired.{items_in, shown}
+use Rattle.iddqd_hash.specs.StoreAndIndex.{items_in, hash_items_of}
 use Rattle.iddqd_hash.proofs.FoundLemmas.{found_passes, without_absent}
 use Rattle.iddqd_hash.proofs.MapLemmas.{listed_under_query, same_spare, taken_items, taken_keyed, taken_spare}
 use Rattle.iddqd_hash.proofs.SlotItemLemmas.{slot_left}
@@ -16,7 +16,7 @@ find_slot-requires-clause-stored g c =
     let input = g.T.Key.Hash.hash_input in
     let hash = hash_under g.S.BuildHasher g.S.Hasher.Hasher in
     let m = c.self.inside in
-    listed_under_query g.T.IdHashItem.key g.T.Key.PartialEq.eq input hash m.hasher m.store m.index (subst (Keyed g.T.IdHashItem.key g.T.Key.PartialEq.eq input hash) (sym c.self.view_is) c.requires.keyed) (g.Q.Equivalent.equivalent c.args.query.now) c.hash_one-hash.result
+    listed_under_query g.T.IdHashItem.key g.T.Key.PartialEq.eq input hash m.hasher m.store m.index (subst (KeyedItems g.T.IdHashItem.key g.T.Key.PartialEq.eq input hash) (sym c.self.view_is) c.requires.keyed) (g.Q.Equivalent.equivalent c.args.query.now) c.hash_one-hash.result
     (λ k stands. ap (hash m.hasher) (sym (c.requires.hashes k stands)) ∙ sym c.hash_one-hash.ensures)
 
 pub returns-in_err-slot-clause-items : goal.returns-in_err-slot-clause-items
@@ -41,10 +41,10 @@ returns-clause-items g c =
     let m = c.self.inside in
     let new = c.take_out.new in
     let x = c.take_out.result in
-    let keyed = subst (Keyed key eq input hash) (sym c.self.view_is) c.requires.keyed in
+    let keyed = subst (KeyedItems key eq input hash) (sym c.self.view_is) c.requires.keyed in
     let passes = found_passes key test (items_in m.store) x (sym c.in_ok-slot.ensures.item ∙ c.take_out.ensures.item) in
     taken_items key eq input hash m.hasher m.store new.store m.index new.index c.self.invariant c.take_out.ensures.paired g.met.T.Key.Eq.laws test (g.met.Q.Equivalent.one_key c.args.query.now) keyed c.in_ok-slot.slot x c.take_out.ensures.item passes c.take_out.ensures.updates
-    ∙ ap (λ v. without key test v.items) c.self.view_is
+    ∙ ap (λ v. items_without key test v.items) c.self.view_is
 
 pub returns-clause-spare : goal.returns-clause-spare
 unfolding IsKeyed
@@ -57,9 +57,9 @@ returns-clause-spare g c =
     let m = c.self.inside in
     let new = c.take_out.new in
     let x = c.take_out.result in
-    let keyed = subst (Keyed key eq input hash) (sym c.self.view_is) c.requires.keyed in
+    let keyed = subst (KeyedItems key eq input hash) (sym c.self.view_is) c.requires.keyed in
     let passes = found_passes key test (items_in m.store) x (sym c.in_ok-slot.ensures.item ∙ c.take_out.ensures.item) in
-    subst (λ old. KeepsSpare old (shown new.store new.index m.hasher)) c.self.view_is
+    subst (λ old. KeepsSpare old (hash_items_of new.store new.index m.hasher)) c.self.view_is
     (taken_spare key eq input hash m.hasher m.store new.store m.index new.index c.self.invariant c.take_out.ensures.paired g.met.T.Key.Eq.laws test (g.met.Q.Equivalent.one_key c.args.query.now) keyed c.in_ok-slot.slot x c.take_out.ensures.item passes c.take_out.ensures.spare c.take_out.ensures.len c.take_out.ensures.capacity c.take_out.ensures.limit)
 
 pub returns-clause-keyed : goal.returns-clause-keyed
@@ -73,7 +73,7 @@ returns-clause-keyed g c =
     let m = c.self.inside in
     let new = c.take_out.new in
     let x = c.take_out.result in
-    let keyed = subst (Keyed key eq input hash) (sym c.self.view_is) c.requires.keyed in
+    let keyed = subst (KeyedItems key eq input hash) (sym c.self.view_is) c.requires.keyed in
     let passes = found_passes key test (items_in m.store) x (sym c.in_ok-slot.ensures.item ∙ c.take_out.ensures.item) in
     taken_keyed key eq input hash m.hasher m.store new.store m.index new.index c.self.invariant c.take_out.ensures.paired g.met.T.Key.Eq.laws test (g.met.Q.Equivalent.one_key c.args.query.now) keyed c.in_ok-slot.slot x c.take_out.ensures.item passes c.hash_one-hash.result c.take_out.ensures.pairs c.take_out.ensures.updates
 

@@ -1,9 +1,9 @@
 use Rattle.std.proofs.Common.{◌≡◌, ◌+◌, ◌≤◌, ◌∙◌, length, IfErr, OnOk, sym, subst}
 use Rattle.iddqd_store.specs.Hashing.{hash_under}
 use Rattle.iddqd_store.specs.Refusal.{reservation_kind}
-use Rattle.iddqd_hash.specs.HashItems.{IsKeyed, Keyed}
+use Rattle.iddqd_hash.specs.HashItems.{IsKeyed, KeyedItems}
 use Rattle.iddqd_hash.specs.HashMap.{HashKeeps}
-use Rattle.iddqd_hash.specs.Paired.{shown}
+use Rattle.iddqd_hash.specs.StoreAndIndex.{hash_items_of}
 use Rattle.iddqd_hash.proofs.MapLemmas.{map_kept}
 use Rattle.iddqd_hash.proofs.SlotItemLemmas.{length-items}
 use Rattle.iddqd_hash.proofs.id_hash_map.IdHashMap.reserve.Goals as goal
@@ -38,6 +38,6 @@ returns-clause-kept g c =
     let hash = hash_under g.S.BuildHasher g.S.Hasher.Hasher in
     let m = c.self.inside in
     let room = c.reserve_room in
-    let keyed = subst (Keyed key eq input hash) (sym c.self.view_is) c.requires.keyed in
-    subst (λ old. HashKeeps (Keyed key eq input hash) old (shown room.new.store room.new.index m.hasher)) c.self.view_is
+    let keyed = subst (KeyedItems key eq input hash) (sym c.self.view_is) c.requires.keyed in
+    subst (λ old. HashKeeps (KeyedItems key eq input hash) old (hash_items_of room.new.store room.new.index m.hasher)) c.self.view_is
     (map_kept key eq input hash m.hasher m.store room.new.store m.index room.new.index c.self.invariant room.ensures.paired keyed room.ensures.store room.ensures.capacity room.ensures.pairs room.ensures.spare)

@@ -26,8 +26,8 @@ loop-slot-init g c =
       keyed = c.requires.keyed;
     }
 
-pub item_in-requires : goal.item_in-requires
-item_in-requires g c =
+pub item_in_slot-requires : goal.item_in_slot-requires
+item_in_slot-requires g c =
     let m = c.loop-slot.self in
     there_listed m.slots (slots_below c.loop-slot.next m.slots) c.in-Some.slot c.in-Some.ensures.there m.items c.in-Some.ensures.own
 
@@ -40,7 +40,7 @@ loop-slot-preserved g c =
     let at = slots_below l.next m.slots in
     let found = c.in-Some.ensures in
     let R = CalledAt g.F.FnMut in
-    let there : slice_get m.items at ≡ Some c.item_in.result.now = sym (place_read m.slots m.items at slot found.own found.there).item ∙ c.item_in.ensures in
+    let there : slice_get m.items at ≡ Some c.item_in_slot.result.now = sym (place_read m.slots m.items at slot found.own found.there).item ∙ c.item_in_slot.ensures in
     let within = slice_get_within m.items at _ there in
     let fewer = length-remove m.items at within in
     elim c.if-not-keep.branch [

@@ -1,7 +1,7 @@
 use Rattle.std.proofs.Common.{◌≡◌, ◌+◌, ◌-◌, ◌≤◌, ◌++◌, length, take, drop}
 use Rattle.iddqd_store.specs.Hashing.{hash_under}
 use Rattle.iddqd_store.specs.Visiting.{kept_by, visitor_after}
-use Rattle.iddqd_hash.specs.HashItems.{Keyed}
+use Rattle.iddqd_hash.specs.HashItems.{KeyedItems}
 use Rattle.iddqd_hash.specs.SlotOrder.{slots_below}
 use Rattle.iddqd_hash.proofs.id_hash_map.IdHashMap.retain_mut.Given as goal
 
@@ -14,7 +14,7 @@ invariant-loop-slot g l = record {
   limit : l.self.limit ≡ l.initial.self.limit;
   hasher : l.self.hasher ≡ l.initial.self.hasher;
   spare : l.initial.self.spare + length l.initial.self.items ≤ l.self.spare + length l.self.items;
-  keyed : Keyed g.T.IdHashItem.key g.T.Key.PartialEq.eq g.T.Key.Hash.hash_input (hash_under g.S.BuildHasher g.S.Hasher.Hasher) l.self;
+  keyed : KeyedItems g.T.IdHashItem.key g.T.Key.PartialEq.eq g.T.Key.Hash.hash_input (hash_under g.S.BuildHasher g.S.Hasher.Hasher) l.self;
 }
 
 abbrev pub decreases-loop-slot : goal.decreases-loop-slot

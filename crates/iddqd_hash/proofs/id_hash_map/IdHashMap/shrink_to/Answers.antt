@@ -4,10 +4,10 @@ use Rattle.iddqd_store.specs.Contents.{NoTwoAkin}
 use Rattle.iddqd_store.specs.Hashing.{hash_under}
 use Rattle.iddqd_store.specs.Store.{vacant}
 use Rattle.iddqd_store.proofs.OrderLemmas.{differ_moved}
-use Rattle.iddqd_hash.specs.HashItems.{IsKeyed, Keyed}
-use Rattle.iddqd_hash.specs.Paired.{items_in}
+use Rattle.iddqd_hash.specs.HashItems.{IsKeyed, KeyedItems}
+use Rattle.iddqd_hash.specs.StoreAndIndex.{items_in}
 use Rattle.iddqd_hash.proofs.MapLemmas.{keyed_under, make_keyed, spare_fits}
-use Rattle.iddqd_hash.proofs.PairedLemmas.{under_same}
+use Rattle.iddqd_hash.proofs.StoreAndIndexLemmas.{under_same}
 use Rattle.iddqd_hash.proofs.SlotItemLemmas.{length-items, slots_apart}
 use Rattle.iddqd_hash.proofs.id_hash_map.IdHashMap.shrink_to.Goals as goal
 
@@ -19,7 +19,7 @@ compact-requires-clause-under g c =
     let input = g.T.Key.Hash.hash_input in
     let hash = hash_under g.S.BuildHasher g.S.Hasher.Hasher in
     let m = c.self.inside in
-    keyed_under key eq input hash m.hasher m.store m.index (subst (Keyed key eq input hash) (sym c.self.view_is) c.requires.keyed)
+    keyed_under key eq input hash m.hasher m.store m.index (subst (KeyedItems key eq input hash) (sym c.self.view_is) c.requires.keyed)
 
 pub returns-clause-shrinks : goal.returns-clause-shrinks
 returns-clause-shrinks g c =
@@ -62,7 +62,7 @@ returns-clause-keyed g c =
     let closed = c.compact.new in
     let new = c.shrink_room.new in
     let room = c.shrink_room.ensures in
-    let keyed = subst (Keyed key eq input hash) (sym c.self.view_is) c.requires.keyed in
+    let keyed = subst (KeyedItems key eq input hash) (sym c.self.view_is) c.requires.keyed in
     let differ = differ_moved key g.met.T.Key.Eq.laws (items_in m.store) (items_in closed.store) c.compact.ensures.items keyed.differ in
     make_keyed key eq input hash m.hasher new.store new.index
     (subst (λ s. NoTwoAkin key eq (items_in s)) (sym room.store) differ)

@@ -5,7 +5,7 @@ use Rattle.iddqd_store.specs.SlotItems.{HaveSlots, item_of_slot}
 use Rattle.iddqd_store.specs.Store.{item_at}
 use Rattle.iddqd_hash.specs.HashMap.{SpareFits}
 use Rattle.iddqd_hash.specs.SlotOrder.{behind, slots_below}
-use Rattle.iddqd_hash.proofs.LentLemmas.{item_in_slot}
+use Rattle.iddqd_hash.proofs.GetMutLemmas.{item_in_slot}
 use Rattle.iddqd_hash.proofs.MapLemmas.{spare_fits}
 use Rattle.iddqd_hash.proofs.RisingLemmas.{below_behind, first_from, lent_none, lent_there, none_from}
 use Rattle.iddqd_hash.proofs.SlotItemLemmas.{slots_apart}

@@ -5,13 +5,13 @@ use Rattle.iddqd_store.specs.Hashing.{hash_under}
 use Rattle.iddqd_store.specs.SlotItems.{item_of_slot}
 use Rattle.iddqd_store.specs.Store.{item_at}
 use Rattle.iddqd_store.proofs.StoreLemmas.{updates-set}
-use Rattle.iddqd_hash.specs.HashItems.{IsKeyed, Keyed}
+use Rattle.iddqd_hash.specs.HashItems.{IsKeyed, KeyedItems}
 use Rattle.iddqd_hash.specs.HashMap.{KeepsSpare}
-use Rattle.iddqd_hash.specs.Paired.{shown}
+use Rattle.iddqd_hash.specs.StoreAndIndex.{hash_items_of}
 use Rattle.iddqd_hash.proofs.FoundLemmas.{same_numbers}
 use Rattle.iddqd_hash.proofs.SlotItemLemmas.{same_items}
 use Rattle.iddqd_hash.proofs.EntryLemmas.{listed_told}
-use Rattle.iddqd_hash.proofs.LentLemmas.{item_in_slot}
+use Rattle.iddqd_hash.proofs.GetMutLemmas.{item_in_slot}
 use Rattle.iddqd_hash.proofs.MapLemmas.{taken_keyed, taken_spare}
 use Rattle.iddqd_hash.proofs.RisingLemmas.{slot_removed}
 use Rattle.iddqd_hash.proofs.id_hash_map.IdHashMap.take_hashed.Goals as goal
@@ -55,8 +55,8 @@ returns-clause-spare g c =
     let m = c.self.inside in
     let out = c.take_out in
     let x = out.result in
-    let keyed = subst (Keyed key eq input hash) (sym c.self.view_is) c.requires.keyed in
-    subst (λ old. KeepsSpare old (shown out.new.store out.new.index m.hasher)) c.self.view_is
+    let keyed = subst (KeyedItems key eq input hash) (sym c.self.view_is) c.requires.keyed in
+    subst (λ old. KeepsSpare old (hash_items_of out.new.store out.new.index m.hasher)) c.self.view_is
     (taken_spare key eq input hash m.hasher m.store out.new.store m.index out.new.index c.self.invariant out.ensures.paired equivalence (eq (key x)) (equivalence.congr (key x)) keyed c.args.slot x out.ensures.item (equivalence.refl (key x)) out.ensures.spare out.ensures.len out.ensures.capacity out.ensures.limit)
 
 pub returns-clause-keyed : goal.returns-clause-keyed
@@ -70,7 +70,7 @@ returns-clause-keyed g c =
     let m = c.self.inside in
     let out = c.take_out in
     let x = out.result in
-    let keyed = subst (Keyed key eq input hash) (sym c.self.view_is) c.requires.keyed in
+    let keyed = subst (KeyedItems key eq input hash) (sym c.self.view_is) c.requires.keyed in
     taken_keyed key eq input hash m.hasher m.store out.new.store m.index out.new.index c.self.invariant out.ensures.paired equivalence (eq (key x)) (equivalence.congr (key x)) keyed c.args.slot x out.ensures.item (equivalence.refl (key x)) c.args.hash out.ensures.pairs out.ensures.updates
 
 pub invariant_of-self : goal.invariant_of-self

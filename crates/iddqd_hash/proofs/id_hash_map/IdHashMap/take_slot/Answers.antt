@@ -15,11 +15,11 @@ take_hashed-requires-clause-listed g c =
     let input = g.T.Key.Hash.hash_input in
     let hash = hash_under g.S.BuildHasher g.S.Hasher.Hasher in
     let slot = c.args.slot in
-    let x = c.item_in.result.now in
+    let x = c.item_in_slot.result.now in
     let tell = λ (y : g.row.T.Denot). hash now.hasher (input (key y)) in
     ap (λ hashes. item_of_slot now.slots hashes slot) c.requires.keyed.stored
     ∙ told_of_slot tell now.slots now.items slot
-    ∙ ap (option_map tell) c.item_in.ensures
+    ∙ ap (option_map tell) c.item_in_slot.ensures
     ∙ ap (λ v. Some (hash v.hasher (input (key x)))) (sym c.self.view_is)
     ∙ ap (λ k. Some (hash m.hasher (input k))) (sym c.key.ensures)
     ∙ ap Some (sym c.hash_one-hash.ensures)

@@ -1,8 +1,7 @@
-use Rattle.std.proofs.Common.{◌∙◌, refl, sym, subst, rules}
+use Rattle.std.proofs.Common.{◌∙◌, refl, sym, subst, rules, IsPermutation}
 use Rattle.std.proofs.lemmas.List.Sorted.{IsPermutation-refl, IsPermutation-trans}
-use Rattle.iddqd_store.specs.Contents.{SameInAnyOrder}
 use Rattle.iddqd_store.specs.Hashing.{hash_under}
-use Rattle.iddqd_hash.specs.Paired.{items_in}
+use Rattle.iddqd_hash.specs.StoreAndIndex.{items_in}
 use Rattle.iddqd_hash.proofs.CompactLemmas.{paired_same, under_kept}
 use Rattle.iddqd_hash.proofs.SlotItemLemmas.{same_items}
 use Rattle.iddqd_hash.proofs.id_hash_map.compact.compact.Goals as goal
@@ -16,7 +15,7 @@ loop-store-init g c =
     record {
       paired = paired_same old new pairs cut.items c.requires.paired cut.len cut.capacity cut.limit;
       under = under_kept old new pairs cut.items (λ x. hash_under g.S.BuildHasher g.S.Hasher.Hasher c.args.hasher.now (g.T.Key.Hash.hash_input (g.T.IdHashItem.key x))) c.requires.under;
-      items = subst (λ xs. SameInAnyOrder (items_in old) xs) (sym (same_items new.slots old.slots cut.items)) (IsPermutation-refl (items_in old));
+      items = subst (λ xs. IsPermutation (items_in old) xs) (sym (same_items new.slots old.slots cut.items)) (IsPermutation-refl (items_in old));
       cut = cut.cut;
       len = cut.len;
       spare = refl;

@@ -1,12 +1,11 @@
-use Rattle.std.proofs.Common.{ℕ, ◌≡◌, ◌-◌, ◌∙◌, Some, sym, ap, subst, option_copied, rules}
+use Rattle.std.proofs.Common.{ℕ, ◌≡◌, ◌-◌, ◌∙◌, Some, sym, ap, subst, option_copied, rules, IsPermutation}
 use Rattle.std.proofs.lemmas.List.Sorted.{IsPermutation-refl}
 use Rattle.std.specs.List.{Contains}
-use Rattle.iddqd_store.specs.Contents.{SameInAnyOrder}
 use Rattle.iddqd_hash_index.specs.HashPairs.{HasInstead}
 use Rattle.iddqd_store.specs.Hashing.{hash_under}
 use Rattle.iddqd_store.specs.Store.{item_at, MovesLast}
 use Rattle.iddqd_store.proofs.StoreLemmas.{last_moves}
-use Rattle.iddqd_hash.specs.Paired.{items_in}
+use Rattle.iddqd_hash.specs.StoreAndIndex.{items_in}
 use Rattle.iddqd_hash.proofs.CompactLemmas.{last_listed, moved_items, moved_paired, moved_under}
 use Rattle.iddqd_hash.proofs.SlotItemLemmas.{same_items}
 use Rattle.iddqd_hash.proofs.id_hash_map.compact.move_last.Given.{Over}
@@ -57,7 +56,7 @@ pub returns-in_default-clause-items : goal.returns-in_default-clause-items
 returns-in_default-clause-items g c =
     let old = c.args.store.now in
     let new = c.last_into_hole.new.self in
-    subst (λ xs. SameInAnyOrder (items_in old) xs) (sym (same_items new.slots old.slots c.in_default.ensures.none_moves)) (IsPermutation-refl (items_in old))
+    subst (λ xs. IsPermutation (items_in old) xs) (sym (same_items new.slots old.slots c.in_default.ensures.none_moves)) (IsPermutation-refl (items_in old))
 
 pub overflow_sub-last : goal.overflow_sub-last
 overflow_sub-last g c = search rules

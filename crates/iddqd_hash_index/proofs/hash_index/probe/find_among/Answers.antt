@@ -12,7 +12,7 @@ walk-init g c = record {
   here = λ some. rw c.home-at.ensures.value (steps_self _ _ (rw (← c.home-at.ensures.value) c.home-at.ensures.bound));
   missed = λ d p taken is less. absurd (omega arith);
   compared = Compared-none _ _ _ _ _ _;
-  counts_on = omega arith;
+  never_resets = omega arith;
 }
 
 pub returns-in-Some-clause-steps : goal.returns-in-Some-clause-steps
@@ -36,7 +36,7 @@ walk-preserved g c =
           (λ e. let last = subst (λ a. steps_to (length c.args.groups.now) a c.walk.at + 1 ≡ length c.args.groups.now) e c.after-at.ensures.last in omega arith) ∙ ap (λ n. n + 1) here;
       missed = AllMissed-more _ _ _ (λ s. IsSomeAnd (item_at c.args.store.now s) (λ x. g.Q.Equivalent.equivalent c.args.query.now (g.T.IdHashItem.key x) ≡ true)) c.requires.placed c.walk.at c.walk.step within here c.walk.invariant.missed c.in_default.ensures.missed;
       compared = Compared-group _ _ _ _ _ _ _ _ _ _ here c.walk.invariant.compared c.find_at.ensures.compared;
-      counts_on = omega (arith, c.walk.invariant.counts_on, c.find_at.ensures.counts_on);
+      never_resets = omega (arith, c.walk.invariant.never_resets, c.find_at.ensures.never_resets);
     }
 
 pub returns-clause-absent : goal.returns-clause-absent

@@ -11,5 +11,5 @@ invariant-walk g l = record {
   missed : (c : ℕ) → c < 12 * length l.groups → tag_at l.groups c ≢ 0 → get_or l.hashes c 0 ≡ l.hash → steps_to (length l.groups) (home_of (length l.groups) l.hash) (c / 12) < l.step
       → ¬ IsSomeAnd (item_at l.store (slot_at l.groups c)) (λ x. g.Q.Equivalent.equivalent l.query (g.T.IdHashItem.key x) ≡ true);
   compared : Compared (12 * length l.groups) (tag_at l.groups) (pair_at l.groups l.hashes) l.hash (λ c. steps_to (length l.groups) (home_of (length l.groups) l.hash) (c / 12) < l.step) l.fn.steps l.steps;
-  counts_on : l.fn.steps ≤ l.steps;
+  never_resets : l.fn.steps ≤ l.steps;
 }

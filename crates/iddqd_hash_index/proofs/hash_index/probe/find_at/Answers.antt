@@ -16,7 +16,7 @@ pub search-init : goal.search-init
 search-init g c = record {
   left = LanesLeft-all _ _ _ _ (rw c.tag.ensures.value at c.matching-lanes.ensures.lanes);
   compared = Compared-none _ _ _ _ _ _;
-  counts_on = omega arith;
+  never_resets = omega arith;
 }
 
 contained : (g : Over) (c : After-get g) → Contains (pairs_of c.args.groups.now c.args.hashes.now) (c.args.hash, c.slot-slot.result)
@@ -74,12 +74,12 @@ search-preserved g c =
             (omega arith) (λ z. omega (arith, hit.1, c.tag.ensures.value, sym (cell_tag gs c.args.at lane small) ∙ z)) w.if-hashes-at.true
             (IsVisited-new _ _ lane small c.in-Some.ensures.some)
             (IsVisited-lane _ _ lane _ small left) (omega (arith, w.steps-is, w.equal.ensures.step));
-        counts_on = rw w.steps-is (omega (arith, c.search.invariant.counts_on, w.equal.ensures.counts_on));
+        never_resets = rw w.steps-is (omega (arith, c.search.invariant.never_resets, w.equal.ensures.never_resets));
       }
       | else-hashes-at w ↦ record {
         left = LanesLeft-next _ _ Missed _ _ _ left c.search.invariant.left (λ same. absurd (w.if-hashes-at.false same));
         compared = rw w.steps-is (Compared-wider (12 * length gs) (tag_at gs) (pair_at gs c.args.hashes.now) c.args.hash _ _ _ _ c.search.invariant.compared (IsVisited-wider _ _ lane _ small left));
-        counts_on = rw w.steps-is c.search.invariant.counts_on;
+        never_resets = rw w.steps-is c.search.invariant.never_resets;
       }
     ]
 

@@ -9,7 +9,7 @@ abbrev pub invariant-search : goal.invariant-search
 invariant-search g l = record {
   left : LanesLeft (group_at l.groups l.at) (tag_of (mixed l.hash)) l.lanes.bits (λ k. get_or l.hashes (12 * l.at + k) 0 ≡ l.hash → ¬ IsSomeAnd (item_at l.store (slot_in (group_at l.groups l.at) k)) (λ x. g.Q.Equivalent.equivalent l.query (g.T.IdHashItem.key x) ≡ true));
   compared : Compared (12 * length l.groups) (tag_at l.groups) (pair_at l.groups l.hashes) l.hash (IsVisited l.at l.lanes.bits) l.fn.steps l.steps;
-  counts_on : l.fn.steps ≤ l.steps;
+  never_resets : l.fn.steps ≤ l.steps;
 }
 
 abbrev pub decreases-search : goal.decreases-search

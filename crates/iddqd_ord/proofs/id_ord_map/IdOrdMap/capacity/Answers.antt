@@ -1,5 +1,5 @@
 use Rattle.std.proofs.Common.{length, ap, arith}
-use Rattle.iddqd_ord.proofs.PairedLemmas.{items_counted}
+use Rattle.iddqd_ord.proofs.StoreAndIndexLemmas.{items_counted}
 use Rattle.iddqd_ord.proofs.id_ord_map.IdOrdMap.capacity.Goals as goal
 
 pub returns-clause-holds : goal.returns-clause-holds

@@ -3,7 +3,7 @@ use Rattle.std.proofs.lemmas.Result.{err_from_is_err_and}
 use Rattle.std.specs.List.{AllZip}
 use Rattle.iddqd_ord_index.specs.Listed.{listed_items}
 use Rattle.iddqd_store.proofs.CloneLemmas.{ascends_clones}
-use Rattle.iddqd_ord.specs.Paired.{ListsOccupied}
+use Rattle.iddqd_ord.specs.StoreAndIndex.{ListsOccupied}
 use Rattle.iddqd_ord.proofs.CloneLemmas.{paired_copied, listed_clones}
 use Rattle.iddqd_ord.proofs.id_ord_map.IdOrdMap.clone.Goals as goal
 

@@ -1,5 +1,5 @@
 use Rattle.std.proofs.Common.{arith, ap, rules}
-use Rattle.iddqd_ord.proofs.PairedLemmas.{bound_of}
+use Rattle.iddqd_ord.proofs.StoreAndIndexLemmas.{bound_of}
 use Rattle.iddqd_ord.proofs.id_ord_map.IdOrdMap.get_counted.Goals as goal
 
 pub returns-in_err-slot-clause-steps : goal.returns-in_err-slot-clause-steps
@@ -12,11 +12,11 @@ returns-clause-steps g c =
     let m = c.self.inside in
     omega (arith, c.in_ok-slot.ensures.steps, bound_of m.store m.index.slots c.self.invariant c.args.self.now.items (ap (λ v. v.items) c.self.view_is))
 
-pub returns-in_err-slot-clause-counts_on : goal.returns-in_err-slot-clause-counts_on
-returns-in_err-slot-clause-counts_on g c = search rules
+pub returns-in_err-slot-clause-never_resets : goal.returns-in_err-slot-clause-never_resets
+returns-in_err-slot-clause-never_resets g c = search rules
 
 pub returns-clause-found : goal.returns-clause-found
 returns-clause-found g c = search rules
 
-pub returns-clause-counts_on : goal.returns-clause-counts_on
-returns-clause-counts_on g c = search rules
+pub returns-clause-never_resets : goal.returns-clause-never_resets
+returns-clause-never_resets g c = search rules

@@ -4,8 +4,8 @@ use Rattle.iddqd_ord_index.specs.Listed.{listed_items}
 use Rattle.iddqd_store.specs.Query.{differ_from_ascends}
 use Rattle.iddqd_store.specs.SlotItems.{item_of_slot}
 use Rattle.iddqd_store.proofs.WrittenLemmas.{akin_key_kept, listed_slot, same_key_kept, written_found}
-use Rattle.iddqd_ord.proofs.LentLemmas.{item_in_slot}
-use Rattle.iddqd_ord.proofs.PairedLemmas.{have_slots}
+use Rattle.iddqd_ord.proofs.GetMutLemmas.{item_in_slot}
+use Rattle.iddqd_ord.proofs.StoreAndIndexLemmas.{have_slots}
 use Rattle.iddqd_ord.proofs.id_ord_map.IdOrdMap.get_mut.Goals as goal
 
 pub invariant_of-result : goal.invariant_of-result

@@ -8,7 +8,7 @@ use Rattle.iddqd_store.proofs.KeepsLemmas.{ascends_insert}
 use Rattle.iddqd_ord_index.proofs.ListedLemmas.{length-listed}
 use Rattle.iddqd_store.proofs.RefusalLemmas.{kind_by_length}
 use Rattle.iddqd_ord.proofs.EntryLemmas.{insert_then_get}
-use Rattle.iddqd_ord.proofs.PairedLemmas.{have_slots}
+use Rattle.iddqd_ord.proofs.StoreAndIndexLemmas.{have_slots}
 use Rattle.iddqd_ord.proofs.id_ord_map.IdOrdMap.insert_at.Goals as goal
 
 pub returns-in-Err-clause-kind : goal.returns-in-Err-clause-kind

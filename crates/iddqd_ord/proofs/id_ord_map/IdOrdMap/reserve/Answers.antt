@@ -1,6 +1,6 @@
 use Rattle.std.proofs.Common.{◌≡◌, ◌+◌, ◌<◌, ◌≤◌, ◌∙◌, length, Err, IfErr, OnOk, ap, subst}
 use Rattle.iddqd_store.specs.Refusal.{memory_refused, reservation_kind}
-use Rattle.iddqd_ord.proofs.PairedLemmas.{listed_counted}
+use Rattle.iddqd_ord.proofs.StoreAndIndexLemmas.{listed_counted}
 use Rattle.iddqd_ord.proofs.id_ord_map.IdOrdMap.reserve.Goals as goal
 
 pub returns-clause-room : goal.returns-clause-room

@@ -9,7 +9,7 @@ use Rattle.iddqd_ord.proofs.id_ord_map.IdOrdMap.retain.Goals as goal
 pub loop-at-preserved-then-keep : goal.loop-at-preserved-then-keep
 loop-at-preserved-then-keep g c =
     let at = c.loop-at in
-    let there : slice_get at.self.items at.at ≡ Some c.item_in.result.now = sym c.slot_of-slot.ensures.item ∙ c.item_in.ensures in
+    let there : slice_get at.self.items at.at ≡ Some c.item_in_slot.result.now = sym c.slot_at_position-slot.ensures.item ∙ c.item_in_slot.ensures in
     record {
       callable = search of_calls;
       asked = asked_kept (CalledAt g.F.FnMut) c.args.keep c.args.self.now.items at.keep c.keep.new.self at.self.items at.at _ there (called_at g.F.FnMut c.keep.ensures c.if-keep.true) at.invariant.asked;
@@ -23,7 +23,7 @@ loop-at-preserved-then-keep g c =
 pub loop-at-preserved : goal.loop-at-preserved
 loop-at-preserved g c =
     let at = c.loop-at in
-    let there : slice_get at.self.items at.at ≡ Some c.item_in.result.now = sym c.slot_of-slot.ensures.item ∙ c.item_in.ensures in
+    let there : slice_get at.self.items at.at ≡ Some c.item_in_slot.result.now = sym c.slot_at_position-slot.ensures.item ∙ c.item_in_slot.ensures in
     let asked = asked_dropped (CalledAt g.F.FnMut) c.args.keep c.args.self.now.items at.keep c.keep.new.self at.self.items at.at _ there (called_at g.F.FnMut c.keep.ensures c.if-keep.false) at.invariant.asked in
     let fewer = length-remove at.self.items at.at (omega (arith, c.loop-at-test.true, c.len.ensures.len)) in
     let items = ap length c.take_at.ensures.items in

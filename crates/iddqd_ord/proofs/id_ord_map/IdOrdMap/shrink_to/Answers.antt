@@ -2,7 +2,7 @@ use Rattle.std.proofs.Common.{◌≡◌, ◌<◌, ◌≤◌, ◌∙◌, OnErr, l
 use Rattle.std.proofs.Common.{min as least}
 use Rattle.iddqd_store.specs.Store.{item_at, store_len, vacant}
 use Rattle.iddqd_ord.proofs.CompactLemmas.{paired_same}
-use Rattle.iddqd_ord.proofs.PairedLemmas.{have_slots, items_counted}
+use Rattle.iddqd_ord.proofs.StoreAndIndexLemmas.{have_slots, items_counted}
 use Rattle.iddqd_ord.proofs.id_ord_map.IdOrdMap.shrink_to.Given.{Over}
 use Rattle.iddqd_ord.proofs.id_ord_map.IdOrdMap.shrink_to.Goals as goal
 

@@ -3,7 +3,7 @@ use Rattle.std.specs.List.{remove}
 use Rattle.iddqd_ord_index.specs.Listed.{listed_items}
 use Rattle.iddqd_store.specs.SlotItems.{item_of_slot, without_slot, written_to_slot}
 use Rattle.iddqd_store.proofs.WrittenLemmas.{PlaceRead, place_read}
-use Rattle.iddqd_ord.proofs.PairedLemmas.{have_slots}
+use Rattle.iddqd_ord.proofs.StoreAndIndexLemmas.{have_slots}
 use Rattle.iddqd_ord.proofs.id_ord_map.IdOrdMap.slot_at.Given.{Over}
 use Rattle.iddqd_ord.proofs.id_ord_map.IdOrdMap.slot_at.Goals as goal
 

@@ -1,5 +1,5 @@
 use Rattle.std.proofs.Common.{ap, arith, length}
-use Rattle.iddqd_ord.proofs.PairedLemmas.{have_slots}
+use Rattle.iddqd_ord.proofs.StoreAndIndexLemmas.{have_slots}
 use Rattle.iddqd_ord.proofs.id_ord_map.IdOrdMap.take_at.Goals as goal
 
 pub place-place-requires : goal.place-place-requires

@@ -3,7 +3,7 @@ use Rattle.std.specs.List.{remove}
 use Rattle.iddqd_store.specs.Contents.{Ascends}
 use Rattle.iddqd_store.specs.SlotItems.{HaveSlots}
 use Rattle.iddqd_store.proofs.KeepsLemmas.{ascends_remove}
-use Rattle.iddqd_ord.proofs.PairedLemmas.{have_slots}
+use Rattle.iddqd_ord.proofs.StoreAndIndexLemmas.{have_slots}
 use Rattle.iddqd_ord.proofs.id_ord_map.IdOrdMap.take_placed.Goals as goal
 
 pub returns-clause-own : goal.returns-clause-own

@@ -1,7 +1,7 @@
 use Rattle.std.proofs.Common.{◌≡◌}
 use Rattle.iddqd_ord_index.specs.Listed.{listed_items}
 use Rattle.iddqd_store.specs.Store.{EndsOccupied, vacant}
-use Rattle.iddqd_ord.specs.Paired.{ListsOccupied}
+use Rattle.iddqd_ord.specs.StoreAndIndex.{ListsOccupied}
 use Rattle.iddqd_ord.proofs.id_ord_map.compact.compact.Given as goal
 
 abbrev pub invariant-loop-store : goal.invariant-loop-store

@@ -15,8 +15,8 @@ returns-in-Ok-clause-place g c =
 pub returns-in-Ok-clause-steps : goal.returns-in-Ok-clause-steps
 returns-in-Ok-clause-steps g c = omega (arith, height_bound c.self.inside.root c.self.invariant.dense c.self.invariant.top, ap (λ i. digits (length i.slots)) c.self.view_is, c.in-Ok.ensures.steps)
 
-pub returns-in-Ok-clause-counts_on : goal.returns-in-Ok-clause-counts_on
-returns-in-Ok-clause-counts_on g c = search rules
+pub returns-in-Ok-clause-never_resets : goal.returns-in-Ok-clause-never_resets
+returns-in-Ok-clause-never_resets g c = search rules
 
 pub returns-in-Err-clause-place : goal.returns-in-Err-clause-place
 returns-in-Err-clause-place g c =
@@ -25,5 +25,5 @@ returns-in-Err-clause-place g c =
 pub returns-in-Err-clause-steps : goal.returns-in-Err-clause-steps
 returns-in-Err-clause-steps g c = omega (arith, height_bound c.self.inside.root c.self.invariant.dense c.self.invariant.top, ap (λ i. digits (length i.slots)) c.self.view_is, c.in-Err.ensures.steps)
 
-pub returns-in-Err-clause-counts_on : goal.returns-in-Err-clause-counts_on
-returns-in-Err-clause-counts_on g c = search rules
+pub returns-in-Err-clause-never_resets : goal.returns-in-Err-clause-never_resets
+returns-in-Err-clause-never_resets g c = search rules

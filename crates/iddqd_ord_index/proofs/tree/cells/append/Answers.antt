@@ -1,15 +1,15 @@
 use Rattle.std.proofs.Common.{◌++◌, [], arith, lit≤}
 use Rattle.std.proofs.lemmas.Grind.{common_steps}
 use Rattle.std.proofs.Common.{length-append}
-use Rattle.iddqd_ord_index.specs.Cells.{held}
+use Rattle.iddqd_ord_index.specs.Cells.{items_present}
 use Rattle.iddqd_ord_index.proofs.PackedLemmas.{joined_lower, joined_upper, packed_is, held_is}
 use Rattle.iddqd_ord_index.proofs.tree.cells.append.Goals as goal
 
 pub returns-clause-packed : goal.returns-clause-packed
 returns-clause-packed g c =
     let e = joined_lower c.args.cells.now c.args.upper.now _ c.args.len c.args.more c.requires.packed c.requires.upper_packed c.requires.len c.requires.more c.requires.fits c.swap_with_slice.ensures.after in
-    let n = length-append (held c.args.cells.now) (held c.args.upper.now) in
-    packed_is _ (held c.args.cells.now ++ held c.args.upper.now) e (omega arith)
+    let n = length-append (items_present c.args.cells.now) (items_present c.args.upper.now) in
+    packed_is _ (items_present c.args.cells.now ++ items_present c.args.upper.now) e (omega arith)
 
 pub returns-clause-items : goal.returns-clause-items
 returns-clause-items g c =

@@ -1,7 +1,7 @@
 use Rattle.std.proofs.Common.{remove, arith, ◌∙◌, sym}
 use Rattle.std.proofs.lemmas.Grind.{common_steps}
 use Rattle.std.proofs.lemmas.List.Edits.{length-remove}
-use Rattle.iddqd_ord_index.specs.Cells.{held}
+use Rattle.iddqd_ord_index.specs.Cells.{items_present}
 use Rattle.iddqd_ord_index.proofs.PackedLemmas.{removed, packed_is, held_is, held_cell}
 use Rattle.iddqd_ord_index.proofs.tree.cells.remove.Goals as goal
 
@@ -12,8 +12,8 @@ unreachable-requires g c =
 pub returns-clause-packed : goal.returns-clause-packed
 returns-clause-packed g c =
     let e = removed c.args.cells.now _ _ c.args.i c.requires.packed c.requires.in_bounds c.take-item.ensures.after c.to_last.ensures in
-    let n = length-remove (held c.args.cells.now) c.args.i c.requires.in_bounds in
-    packed_is _ (remove (held c.args.cells.now) c.args.i) e (omega (arith, c.requires.packed.at_most_12))
+    let n = length-remove (items_present c.args.cells.now) c.args.i c.requires.in_bounds in
+    packed_is _ (remove (items_present c.args.cells.now) c.args.i) e (omega (arith, c.requires.packed.at_most_12))
 
 pub returns-clause-items : goal.returns-clause-items
 returns-clause-items g c =

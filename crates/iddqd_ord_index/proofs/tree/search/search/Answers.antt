@@ -12,7 +12,7 @@ loop-low-init g c = record {
   within = omega arith;
   before = λ k a. absurd (omega arith);
   behind = λ k a b. absurd (omega arith);
-  counts_on = omega arith;
+  never_resets = omega arith;
   countable = omega arith;
   counted = omega (arith, digits_mono (length c.args.slots.now - 0) (length c.args.slots.now) (omega arith));
 }
@@ -47,7 +47,7 @@ loop-low-preserved-in-Greater g c =
       within = c.loop-low.invariant.within;
       before = all_above (slot_standing key compare c.args.store.now) c.args.slots.now middle c.requires.monotone within (ap (standing key compare) read ∙ answer);
       behind = c.loop-low.invariant.behind;
-      counts_on = omega arith;
+      never_resets = omega arith;
       countable = omega arith;
       counted = omega (arith, digits-fewer (high - low) (high - (middle + 1)) (omega arith) (omega arith));
     }
@@ -68,7 +68,7 @@ loop-low-preserved g c =
       within = omega (arith, c.loop-low.invariant.within);
       before = c.loop-low.invariant.before;
       behind = all_below (slot_standing key compare c.args.store.now) c.args.slots.now middle c.requires.monotone (ap (standing key compare) read ∙ answer);
-      counts_on = omega arith;
+      never_resets = omega arith;
       countable = omega arith;
       counted = omega (arith, digits-fewer (high - low) (middle - low) (omega arith) (omega arith));
     }

@@ -9,7 +9,7 @@ invariant-loop-low g l = record {
   within : l.high ≤ length l.slots;
   before : (k : ℕ) → k < l.low → slot_standing g.T.IdOrdItem.key (g.Q.Comparable.compare l.query) l.store (get_or l.slots k 0) ≡ Greater;
   behind : (k : ℕ) → l.high ≤ k → k < length l.slots → slot_standing g.T.IdOrdItem.key (g.Q.Comparable.compare l.query) l.store (get_or l.slots k 0) ≡ Less;
-  counts_on : l.initial.steps ≤ l.steps;
+  never_resets : l.initial.steps ≤ l.steps;
   countable : l.steps ≤ 4294967295;
   counted : l.steps + digits (l.high - l.low) ≤ l.initial.steps + digits (length l.slots);
 }

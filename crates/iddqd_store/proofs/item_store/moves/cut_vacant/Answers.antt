@@ -1,7 +1,7 @@
 use Rattle.std.proofs.Common.{◌≡◌, ◌-◌, suc, length, take, IsSome, ◌∙◌, sym, ap, subst, arith}
 use Rattle.std.proofs.lemmas.Grind.{common_steps}
 use Rattle.std.proofs.lemmas.List.{with_items_is}
-use Rattle.iddqd_store.specs.Slots.{items_of, links_at, without, IsChained, SameSlots}
+use Rattle.iddqd_store.specs.Slots.{items_of, links_at, links_without, IsChained, SameSlots}
 use Rattle.iddqd_store.proofs.ChainLemmas.{IsChained-along}
 use Rattle.iddqd_store.proofs.SlotLemmas.{vacant_within, links-front, vacant_no_item, SameSlots-front}
 use Rattle.iddqd_store.proofs.item_store.moves.cut_vacant.Goals as goal
@@ -20,7 +20,7 @@ loop-slots-preserved g c =
     let kept = c.loop-slots.invariant in
     let items = c.unlink-first.ensures.items ∙ ap items_of c.as_mut_slice.ensures.value in
     record {
-      chained = rw rest (IsChained-along (without (links_at ws) n) (links_at (take n ws)) c.unlink-first.result (links-front ws n long) (subst (λ k. IsChained (without (links_at ws) k) c.unlink-first.result) at_is c.unlink-first.ensures.chained));
+      chained = rw rest (IsChained-along (links_without (links_at ws) n) (links_at (take n ws)) c.unlink-first.result (links-front ws n long) (subst (λ k. IsChained (links_without (links_at ws) k) c.unlink-first.result) at_is c.unlink-first.ensures.chained));
       items = rw rest (SameSlots-front _ ws n long (vacant_no_item ws n links) (subst (SameSlots (items_of c.args.slots.now.items)) (sym items) kept.items));
       shorter = omega (arith, kept.shorter);
       capacity = c.pop.ensures.capacity ∙ kept.capacity;

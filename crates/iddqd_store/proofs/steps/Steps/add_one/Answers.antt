@@ -4,5 +4,5 @@ use Rattle.iddqd_store.proofs.steps.Steps.add_one.Goals as goal
 pub returns-clause-step : goal.returns-clause-step
 returns-clause-step c = search rules
 
-pub returns-clause-counts_on : goal.returns-clause-counts_on
-returns-clause-counts_on c = search rules
+pub returns-clause-never_resets : goal.returns-clause-never_resets
+returns-clause-never_resets c = search rules

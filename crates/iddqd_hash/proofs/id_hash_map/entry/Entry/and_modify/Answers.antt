@@ -2,8 +2,8 @@ use Rattle.std.proofs.Common.{◌≡◌, ◌∙◌, Some, ap, subst, sym, true}
 use Rattle.std.specs.Option.{IfSome, option_map}
 use Rattle.iddqd_store.specs.Hashing.{hash_under}
 use Rattle.iddqd_store.proofs.WrittenLemmas.{others_written, read_back, written_twice}
-use Rattle.iddqd_hash.specs.HashItems.{IsKeyed, Keyed}
-use Rattle.iddqd_hash.proofs.LentLemmas.{keyed_akin_written}
+use Rattle.iddqd_hash.specs.HashItems.{IsKeyed, KeyedItems}
+use Rattle.iddqd_hash.proofs.GetMutLemmas.{keyed_akin_written}
 use Rattle.iddqd_hash.specs.Entry.{entry_item, entry_map, entry_others, entry_with}
 use Rattle.iddqd_hash.proofs.id_hash_map.entry.Entry.and_modify.Goals as goal
 
@@ -38,5 +38,5 @@ returns-in-Occupied-clause-keyed g c =
     let there = ap entry_item c.in-Occupied.is ∙ c.get_mut.ensures.value in
     let kept : eq (key x) (key (visits x)) ≡ true = subst (λ o. IfSome o (λ y. eq (key y) (key (visits y)) ≡ true)) there c.requires.keeps_key in
     let akin : eq (key x) (key c.visit.new.item) ≡ true = ap (λ p. eq (key x) (key p.1)) (sym c.visit.ensures) ∙ kept in
-    let keyed = subst (λ s. Keyed key eq g.T.Key.Hash.hash_input (hash_under g.S.BuildHasher g.S.Hasher.Hasher) (entry_map s)) c.in-Occupied.is c.requires.keyed in
+    let keyed = subst (λ s. KeyedItems key eq g.T.Key.Hash.hash_input (hash_under g.S.BuildHasher g.S.Hasher.Hasher) (entry_map s)) c.in-Occupied.is c.requires.keyed in
     keyed_akin_written key g.T.Key.Hash.hash_input (hash_under g.S.BuildHasher g.S.Hasher.Hasher) e.map.now keyed e.slot x c.visit.new.item c.get_mut.ensures.value g.met.T.Key.Eq.laws g.met.T.Key.Hash.respects_eq akin

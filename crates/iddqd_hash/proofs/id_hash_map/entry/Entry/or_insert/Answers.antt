@@ -1,8 +1,8 @@
 use Rattle.std.proofs.Common.{◌≡◌, ◌∙◌, None, ap, is_some, refl, subst, sym, true≢false, rules}
 use Rattle.iddqd_store.specs.Hashing.{hash_under}
-use Rattle.iddqd_hash.specs.HashItems.{IsKeyed, Keyed}
-use Rattle.iddqd_hash.proofs.LentLemmas.{keyed_akin_written, keyed_written}
-use Rattle.iddqd_hash.specs.Entry.{entry_item, entry_map, entry_name, entry_with}
+use Rattle.iddqd_hash.specs.HashItems.{IsKeyed, KeyedItems}
+use Rattle.iddqd_hash.proofs.GetMutLemmas.{keyed_akin_written, keyed_written}
+use Rattle.iddqd_hash.specs.Entry.{entry_item, entry_map, entry_lender, entry_with}
 use Rattle.iddqd_hash.proofs.id_hash_map.entry.Entry.or_insert.Goals as goal
 
 pub returns-in-Occupied : goal.returns-in-Occupied
@@ -10,12 +10,12 @@ unfolding IsKeyed
 returns-in-Occupied g c =
     let e = c.in-Occupied.entry in
     let is = c.in-Occupied.is in
-    let sorted = subst (λ s. Keyed g.T.IdHashItem.key g.T.Key.PartialEq.eq g.T.Key.Hash.hash_input (hash_under g.S.BuildHasher g.S.Hasher.Hasher) (entry_map s)) is c.requires.keyed in
+    let sorted = subst (λ s. KeyedItems g.T.IdHashItem.key g.T.Key.PartialEq.eq g.T.Key.Hash.hash_input (hash_under g.S.BuildHasher g.S.Hasher.Hasher) (entry_map s)) is c.requires.keyed in
     let absurdly = λ (none : entry_item c.args.self ≡ None). true≢false (sym e.there ∙ ap (λ s. is_some (entry_item s)) (sym is) ∙ ap is_some none) in (
       (refl, λ w. refl, tt),
       record {
         kept = tt;
-        same_map = ap entry_name (sym is);
+        same_map = ap entry_lender (sym is);
         found = λ some. (ap entry_map (sym is), ap entry_item (sym is));
         found_written = λ some w. ap (λ s. entry_with s w) (sym is);
         inserted = λ none. absurd (absurdly none);

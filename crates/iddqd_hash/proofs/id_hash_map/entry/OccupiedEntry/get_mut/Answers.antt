@@ -4,7 +4,7 @@ use Rattle.iddqd_store.specs.SlotItems.{still_there}
 use Rattle.iddqd_hash.specs.Entry.{with_entry_item}
 use Rattle.iddqd_hash.specs.HashItems.{IsKeyed}
 use Rattle.iddqd_hash.proofs.EntryLemmas.{same_entry}
-use Rattle.iddqd_hash.proofs.LentLemmas.{keyed_akin_written, keyed_written}
+use Rattle.iddqd_hash.proofs.GetMutLemmas.{keyed_akin_written, keyed_written}
 use Rattle.iddqd_hash.proofs.id_hash_map.entry.OccupiedEntry.get_mut.Goals as goal
 
 pub invariant_of-self-lent : goal.invariant_of-self-lent
@@ -19,8 +19,8 @@ returns g c =
     let key = g.T.IdHashItem.key in
     let input = g.T.Key.Hash.hash_input in
     let hash = hash_under g.S.BuildHasher g.S.Hasher.Hasher in
-    let x = c.item_mut.result.now in
-    let at = c.item_mut.ensures.value in (
+    let x = c.item_in_slot_mut.result.now in
+    let at = c.item_in_slot_mut.ensures.value in (
       (refl, λ w. same_entry (with_entry_item e w) _ _),
       record {
         writes_back = tt;

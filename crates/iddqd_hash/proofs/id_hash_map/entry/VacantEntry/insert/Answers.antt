@@ -1,6 +1,6 @@
 use Rattle.std.proofs.Common.{refl}
 use Rattle.iddqd_store.specs.Hashing.{hash_under}
-use Rattle.iddqd_hash.proofs.LentLemmas.{keyed_akin_written, keyed_written}
+use Rattle.iddqd_hash.proofs.GetMutLemmas.{keyed_akin_written, keyed_written}
 use Rattle.iddqd_hash.specs.HashItems.{IsKeyed}
 use Rattle.iddqd_hash.proofs.id_hash_map.entry.VacantEntry.insert.Goals as goal
 

@@ -7,7 +7,7 @@ use Rattle.iddqd_store.specs.SlotItems.{written_to_slot}
 use Rattle.iddqd_store.proofs.WrittenLemmas.{place_read}
 use Rattle.iddqd_hash.specs.HashItems.{IsKeyed}
 use Rattle.iddqd_hash.specs.SlotOrder.{behind, slots_below}
-use Rattle.iddqd_hash.proofs.LentLemmas.{keyed_akin_written, keyed_written}
+use Rattle.iddqd_hash.proofs.GetMutLemmas.{keyed_akin_written, keyed_written}
 use Rattle.iddqd_hash.proofs.RisingLemmas.{behind_next, there_listed}
 use Rattle.iddqd_hash.proofs.id_hash_map.iter_mut.IterMut.next.Goals as goal
 
@@ -15,8 +15,8 @@ use Rattle.iddqd_hash.proofs.id_hash_map.iter_mut.IterMut.next.Goals as goal
 all_same : {A : Type 0} {n b : ℕ} (p q : A → n ≡ b) → p ≡ q
 all_same p q i w = ℕ_set _ _ (p w) (q w) i
 
-pub item_mut-requires : goal.item_mut-requires
-item_mut-requires g c =
+pub item_in_slot_mut-requires : goal.item_in_slot_mut-requires
+item_in_slot_mut-requires g c =
     let m = c.args.self.now.map.now in
     let found = c.in_ok-slot.ensures in
     there_listed m.slots (slots_below c.args.self.now.next m.slots) c.in_ok-slot.slot found.there m.items found.own
@@ -40,14 +40,14 @@ returns-in_ok-slot g c =
     let below : slots_below walk.next m.slots ≡ walk.done = ap (λ n. slots_below n m.slots) walk.from ∙ found.rises walk.done (omega (arith, c.if-self-len.true, c.len.ensures.len, found.own.as_many)) in
     let there : slice_get m.slots walk.done ≡ Some slot = ap (slice_get m.slots) (sym below) ∙ found.there in
     let read = place_read m.slots m.items walk.done slot found.own there in
-    let x = c.item_mut.result.now in
-    let at = c.item_mut.ensures.value in
+    let x = c.item_in_slot_mut.result.now in
+    let at = c.item_in_slot_mut.ensures.value in
     let key = g.T.IdHashItem.key in
     let input = g.T.Key.Hash.hash_input in
     let hash = hash_under g.S.BuildHasher g.S.Hasher.Hasher in
     let next : slot + 1 ≡ behind m.slots (walk.done + 1) = behind_next m.slots walk.done slot there in (
       ap (λ q. inl (
-        c.item_mut.result.ghost_name,
+        c.item_in_slot_mut.result.ghost_name,
         λ w. record {
           map = record walk.map { now = record m { items = written_to_slot m.slots m.items slot w } };
           done = walk.done + 1;
@@ -56,7 +56,7 @@ returns-in_ok-slot g c =
         },
       )) (all_same _ (λ w. next))
           ∙ (λ j. inl (
-            c.item_mut.result.ghost_name,
+            c.item_in_slot_mut.result.ghost_name,
             λ w. record {
               map = record walk.map { now = record m { items = read.written w j } };
               done = walk.done + 1;
@@ -66,7 +66,7 @@ returns-in_ok-slot g c =
           )),
       record {
         writes_back = tt;
-        value = sym c.item_mut.ensures.value ∙ read.item;
+        value = sym c.item_in_slot_mut.ensures.value ∙ read.item;
         found = (λ _. omega (arith, c.if-self-len.true, c.len.ensures.len), λ _. refl);
         keyed = λ keyed w same. subst (λ items. IsKeyed key g.T.Key.PartialEq.eq input hash (record m { items = items })) (read.written w) (keyed_written key input hash m keyed slot x w at g.met.T.Key.Eq.laws g.met.T.Key.Hash.respects_eq same);
         keyed_akin = λ keyed w akin. subst (λ items. IsKeyed key g.T.Key.PartialEq.eq input hash (record m { items = items })) (read.written w) (keyed_akin_written key input hash m keyed slot x w at g.met.T.Key.Eq.laws g.met.T.Key.Hash.respects_eq akin);

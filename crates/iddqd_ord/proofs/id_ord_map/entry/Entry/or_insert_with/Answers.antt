@@ -1,7 +1,7 @@
 use Rattle.std.proofs.Common.{◌≡◌, ◌∙◌, None, ap, is_some, refl, subst, sym, true≢false, rules}
 use Rattle.iddqd_store.specs.Contents.{Ascends}
 use Rattle.iddqd_store.proofs.WrittenLemmas.{akin_key_kept, same_key_kept}
-use Rattle.iddqd_ord.specs.Entry.{entry_item, entry_map, entry_name, entry_with}
+use Rattle.iddqd_ord.specs.Entry.{entry_item, entry_map, entry_lender, entry_with}
 use Rattle.iddqd_ord.proofs.id_ord_map.entry.Entry.or_insert_with.Goals as goal
 
 pub returns-in-Occupied : goal.returns-in-Occupied
@@ -13,7 +13,7 @@ returns-in-Occupied g c =
       (refl, λ w. refl, tt),
       record {
         kept = tt;
-        same_map = ap entry_name (sym is);
+        same_map = ap entry_lender (sym is);
         found = λ some. (ap entry_map (sym is), ap entry_item (sym is));
         found_written = λ some w. ap (λ s. entry_with s w) (sym is);
         inserted = λ none. absurd (absurdly none);

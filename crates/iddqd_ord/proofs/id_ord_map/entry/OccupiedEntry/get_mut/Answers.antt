@@ -14,8 +14,8 @@ pub returns : goal.returns
 returns g c =
     let e = c.args.self.now in
     let key = g.T.IdOrdItem.key in
-    let x = c.item_mut.result.now in
-    let at = c.item_mut.ensures.value in (
+    let x = c.item_in_slot_mut.result.now in
+    let at = c.item_in_slot_mut.ensures.value in (
       (refl, λ w. same_entry (with_entry_item e w) _ _),
       record {
         writes_back = tt;

@@ -8,16 +8,16 @@ pub returns-then-at-len : goal.returns-then-at-len
 returns-then-at-len g c =
     let walk = c.args.self.now in
     let m = walk.map.now in
-    let slot = c.slot_of-slot.result in
-    let lent = c.item_mut.result in
-    let at = c.item_mut.ensures.value in
-    let written = c.slot_of-slot.ensures.written in
+    let slot = c.slot_at_position-slot.result in
+    let lent = c.item_in_slot_mut.result in
+    let at = c.item_in_slot_mut.ensures.value in
+    let written = c.slot_at_position-slot.ensures.written in
     let key = g.T.IdOrdItem.key in
     let cmp = g.T.Key.Ord.cmp in (
       λ j. inl (lent.ghost_name, λ w. record { map = record walk.map { now = record m { items = written w j } }; done = walk.done + 1 }),
       record {
         writes_back = tt;
-        value = sym at ∙ c.slot_of-slot.ensures.item;
+        value = sym at ∙ c.slot_at_position-slot.ensures.item;
         found = (λ _. omega (arith, c.if-at-len.true, c.len.ensures.len), λ _. refl);
         keyed = λ sorted w same. subst (Ascends key cmp) (written w) (same_key_kept key m.slots m.items slot lent.now w at cmp same sorted);
         keyed_akin = λ sorted w akin. subst (Ascends key cmp) (written w) (akin_key_kept key m.slots m.items slot lent.now w at g.met.T.Key.Eq.laws akin g.met.T.Key.Ord.total g.met.T.Key.Ord.matches_eq sorted);

@@ -60,7 +60,7 @@ down-preserved g c =
     record {
       part = subst (λ k. IsPart (slot_standing g.T.IdOrdItem.key (g.Q.Comparable.compare c.args.query.now) c.args.store.now) c.args.self.now.slots c.get-node.result.now.slots (c.down.base + k)) (sym c.start-base.ensures) p;
       counted = omega (arith, digits_four (length c.as_slice.result.now) c.as_slice.ensures.fits, c.down.invariant.counted, c.in-Err.ensures.steps, b.1.height, ap (λ t. t.height) c.get-node.ensures, ap (λ t. t.height) c.node.view_is);
-      counts_on = omega (arith, c.down.invariant.counts_on, c.in-Err.ensures.counts_on);
+      never_resets = omega (arith, c.down.invariant.never_resets, c.in-Err.ensures.never_resets);
     }
 
 pub search-requires-2-clause-occupied : goal.search-requires-2-clause-occupied

@@ -38,7 +38,7 @@ down-preserved g c =
     record {
       part = (c.down.invariant.part.0 + starts (take c.in-Err.i (lists (below c.node.inside.branches))), subst (λ t. IsPart (slot_standing g.T.IdOrdItem.key (g.Q.Comparable.compare c.args.query.now) c.args.store.now) c.args.self.now.slots t.slots (c.down.invariant.part.0 + starts (take c.in-Err.i (lists (below c.node.inside.branches))))) (sym c.get-node.ensures) (n.down c.in-Err.i s));
       counted = omega (arith, digits_four (length c.as_slice.result.now) c.as_slice.ensures.fits, c.down.invariant.counted, c.in-Err.ensures.steps, b.1.height, ap (λ t. t.height) c.get-node.ensures, ap (λ t. t.height) c.node.view_is);
-      counts_on = omega (arith, c.down.invariant.counts_on, c.in-Err.ensures.counts_on);
+      never_resets = omega (arith, c.down.invariant.never_resets, c.in-Err.ensures.never_resets);
     }
 
 pub search-requires-2-clause-occupied : goal.search-requires-2-clause-occupied

@@ -6,7 +6,7 @@ abbrev pub invariant-down : goal.invariant-down
 invariant-down g l = record {
   part : (base : ℕ) × IsPart (slot_standing g.T.IdOrdItem.key (g.Q.Comparable.compare l.query) l.store) l.self.slots l.node.slots base;
   counted : l.steps + 4 * l.node.height ≤ l.initial.steps + 4 * l.self.height;
-  counts_on : l.initial.steps ≤ l.steps;
+  never_resets : l.initial.steps ≤ l.steps;
 }
 
 abbrev pub decreases-down : goal.decreases-down

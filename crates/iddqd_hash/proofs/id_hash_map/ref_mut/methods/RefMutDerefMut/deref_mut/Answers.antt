@@ -12,5 +12,5 @@ invariant_of-self-lent g c w =
 pub returns : goal.returns
 returns g c = (
   (refl, λ w. ap (λ q. record (with_item c.args.self.now w) { there = q }) (Bool-set _ _ _ _)),
-  record { writes_back = tt; value = c.item_mut.ensures.value },
+  record { writes_back = tt; value = c.item_in_slot_mut.ensures.value },
 )

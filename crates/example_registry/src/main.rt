@@ -1,0 +1,73 @@
+//! A registry of call signs that counts their visits, equal in whatever case they are written. It leans on this promise: an item
+//! that is put over one of an equal key takes its place whole, the spelling of its key too.
+#![tactic(auto)]
+
+ghost use Rattle.std.specs.Prelude.{◌≡◌, IfNone, IfSome, OnSome};
+ghost use Rattle.iddqd.specs.Contents.{AddsItem, find_item, items_overwritten};
+
+mod sign;
+
+use crate::sign::Sign;
+use iddqd::id_hash_map::Entry;
+use iddqd::{IdHashItem, IdHashMap, Keyed};
+use std::process::ExitCode;
+
+#[derive(Drop)]
+struct Guest {
+    sign: Sign,
+    visits: u32,
+}
+
+impl IdHashItem for Guest {
+    type Key = Sign;
+
+    ghost key = { λ guest. guest.sign };
+
+    fn key(&self) -> &Sign {
+        &self.sign
+    }
+}
+
+/// Counts a visit: one more where the sign is known, which is written as this one from now on; else the first. Its contract
+/// took no line of proof.
+fn visit(guests: &mut IdHashMap<Guest>, sign: Sign) -> Option<u32>
+    requires keyed { ⟦<IdHashMap<Guest> as Keyed>⟧.keyed guests.old }
+    ensures again { IfSome (find_item (λ g. g.sign) (⟦<Sign as PartialEq>⟧.eq sign) guests.old.items) (λ g. IfSome result (λ n. guests.new.items ≡ items_overwritten (λ g. g.sign) (⟦<Sign as PartialEq>⟧.eq sign) (record { sign = sign; visits = n }) guests.old.items)) }
+    ensures first { IfNone (find_item (λ g. g.sign) (⟦<Sign as PartialEq>⟧.eq sign) guests.old.items) (OnSome result (AddsItem (record { sign = sign; visits = 1 }) guests.old.items guests.new.items)) }
+    ensures kept { IfNone result (guests.new.items ≡ guests.old.items) }
+    ensures keyed { ⟦<IdHashMap<Guest> as Keyed>⟧.keyed guests.new }
+{
+    match guests.entry(&sign) {
+        Entry::Occupied(mut entry) => {
+            let visits = entry.get().visits.saturating_add(1);
+            let _ = entry.insert(Guest { sign, visits });
+            Some(visits)
+        }
+        Entry::Vacant(entry) => {
+            let Ok(guest) = entry.insert(Guest { sign, visits: 1 }) else {
+                return None;
+            };
+            guest.finish();
+            Some(1)
+        }
+    }
+}
+
+fn main(rt: HostRuntime) -> ExitCode {
+    let mut guests = IdHashMap::new(rt.alloc());
+    let first = visit(&mut guests, Sign(*b"ann"));
+    let other = visit(&mut guests, Sign(*b"BOB"));
+    let again = visit(&mut guests, Sign(*b"Ann"));
+    let reset = guests.insert_overwrite(Guest {
+        sign: Sign(*b"Bob"),
+        visits: 0,
+    });
+    let Some(ann) = guests.get(&Sign(*b"ANN")) else {
+        return ExitCode::from(1);
+    };
+    let (letters, visits) = (ann.sign.0.map(|byte| char::from(byte)), ann.visits);
+    let told = println!(rt;
+        "visits: {first:?} {other:?} {again:?}; {letters:?} came {visits} times"
+    );
+    ExitCode::from(u8::from(told.is_err() || reset.is_err()))
+}

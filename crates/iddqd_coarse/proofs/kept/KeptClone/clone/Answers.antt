@@ -1,8 +1,0 @@
-use Rattle.std.proofs.Common.{rules}
-use Rattle.iddqd_coarse.proofs.kept.KeptClone.clone.Goals as goal
-
-pub returns-in_err-value : goal.returns-in_err-value
-returns-in_err-value c = search rules
-
-pub returns : goal.returns
-returns c = search rules

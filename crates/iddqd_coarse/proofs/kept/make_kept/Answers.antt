@@ -1,5 +1,0 @@
-use Rattle.std.proofs.Common.{rules}
-use Rattle.iddqd_coarse.proofs.kept.make_kept.Goals as goal
-
-pub returns : goal.returns
-returns g = search rules

@@ -1,8 +1,0 @@
-use Rattle.std.proofs.Common.{rules}
-use Rattle.iddqd_commands.proofs.keyed_map.hash.IdHashMapKeyedMap.get.Goals as goal
-
-pub returns-clause-found : goal.returns-clause-found
-returns-clause-found g c = search rules
-
-pub returns-clause-room : goal.returns-clause-room
-returns-clause-room g c = search rules

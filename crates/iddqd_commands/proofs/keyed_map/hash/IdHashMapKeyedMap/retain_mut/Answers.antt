@@ -1,8 +1,0 @@
-use Rattle.std.proofs.Common.{rules}
-use Rattle.iddqd_commands.proofs.keyed_map.hash.IdHashMapKeyedMap.retain_mut.Goals as goal
-
-pub returns-clause-retained : goal.returns-clause-retained
-returns-clause-retained g c = search rules
-
-pub returns-clause-stays : goal.returns-clause-stays
-returns-clause-stays g c = search rules

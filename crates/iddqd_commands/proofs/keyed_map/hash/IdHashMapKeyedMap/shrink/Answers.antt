@@ -1,5 +1,0 @@
-use Rattle.std.proofs.Common.{rules}
-use Rattle.iddqd_commands.proofs.keyed_map.hash.IdHashMapKeyedMap.shrink.Goals as goal
-
-pub returns-clause-only_memory : goal.returns-clause-only_memory
-returns-clause-only_memory g c = search rules

@@ -1,5 +1,0 @@
-use Rattle.std.proofs.Common.{rules}
-use Rattle.iddqd_commands.proofs.keyed_map.ord.IdOrdMapKeyedMap.akin.Goals as goal
-
-pub returns : goal.returns
-returns g c = search rules

@@ -1,5 +1,0 @@
-use Rattle.std.proofs.Common.{rules}
-use Rattle.iddqd_commands.proofs.keyed_map.ord.IdOrdMapKeyedMap.len.Goals as goal
-
-pub returns-clause-len : goal.returns-clause-len
-returns-clause-len g c = search rules

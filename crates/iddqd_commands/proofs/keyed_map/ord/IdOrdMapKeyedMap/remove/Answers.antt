@@ -1,8 +1,0 @@
-use Rattle.std.proofs.Common.{rules}
-use Rattle.iddqd_commands.proofs.keyed_map.ord.IdOrdMapKeyedMap.remove.Goals as goal
-
-pub returns-clause-value : goal.returns-clause-value
-returns-clause-value g c = search rules
-
-pub returns-clause-items : goal.returns-clause-items
-returns-clause-items g c = search rules

@@ -1,5 +1,0 @@
-use Rattle.std.proofs.Common.{rules}
-use Rattle.iddqd_commands.proofs.keyed_map.ord.IdOrdMapKeyedMap.reserve.Goals as goal
-
-pub returns-clause-made : goal.returns-clause-made
-returns-clause-made g c = search rules

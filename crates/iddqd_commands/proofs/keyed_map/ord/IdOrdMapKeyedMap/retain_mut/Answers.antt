@@ -1,5 +1,0 @@
-use Rattle.std.proofs.Common.{rules}
-use Rattle.iddqd_commands.proofs.keyed_map.ord.IdOrdMapKeyedMap.retain_mut.Goals as goal
-
-pub returns-clause-retained : goal.returns-clause-retained
-returns-clause-retained g c = search rules

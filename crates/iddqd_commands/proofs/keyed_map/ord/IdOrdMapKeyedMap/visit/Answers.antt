@@ -1,8 +1,0 @@
-use Rattle.std.proofs.Common.{rules}
-use Rattle.iddqd_commands.proofs.keyed_map.ord.IdOrdMapKeyedMap.visit.Goals as goal
-
-pub returns-clause-visited : goal.returns-clause-visited
-returns-clause-visited g c = search rules
-
-pub returns-clause-stays : goal.returns-clause-stays
-returns-clause-stays g c = search rules

@@ -1,5 +1,0 @@
-use Rattle.iddqd_commands.proofs.AscendLemmas as ascend
-use Rattle.iddqd_commands.proofs.laws.ordered_steps.Goals as goal
-
-pub returns : goal.returns
-returns g c = ascend.ordered_steps

@@ -1,0 +1,63 @@
+//! Lending one item for writing, and what lends it.
+ghost use Rattle.std.specs.Prelude.{◌≡◌, IfNone, IfSome, IsSome, IsTrue, Some, None};
+ghost use Rattle.std.specs.Borrow.{sem};
+ghost use Rattle.iddqd_store.specs.Contents.{find_item, items_overwritten};
+ghost use Rattle.iddqd_store.specs.Hashing.{HashesAs};
+ghost use Rattle.iddqd_store.specs.SlotItems.{item_of_slot, written_to_slot};
+
+use super::store_and_index::find_slot;
+use super::{IdHashMap, Keyed, RefMut};
+use iddqd_store::{Equivalent, IdHashItem};
+use std::hash::{BuildHasher, Hash};
+
+impl<T, S> IdHashMap<T, S> {
+    ghost use Rattle.iddqd_hash.specs.Guard.{lends_item};
+
+    // The item of the slot.
+    #[inline]
+    pub(super) fn item_in_slot(&self, slot: u32) -> &T
+        requires { IsSome (item_of_slot self.now.slots self.now.items slot) }
+        ensures { item_of_slot self.now.slots self.now.items slot ≡ Some result.now }
+    {
+        self.store.get(slot).unwrap()
+    }
+
+    // The item of the slot, for writing.
+    #[inline]
+    pub(super) fn item_in_slot_mut(&mut self, slot: u32) -> &mut T
+        requires { IsSome (item_of_slot self.old.slots self.old.items slot) }
+        ensures* writes_back { sem 𝓛 (lends_item S.row T.row self.entry slot result) }
+        ensures value { item_of_slot self.old.slots self.old.items slot ≡ Some result.now }
+    {
+        self.store.get_mut(slot)
+    }
+}
+
+impl<T: IdHashItem, S: BuildHasher> IdHashMap<T, S> {
+    ghost use Rattle.iddqd_hash.specs.Guard.{rests_at_none, guard_lender, lent_map, lent_slot, lent_item, with_item_in};
+    ghost use Rattle.iddqd_hash.specs.HashMap.{SpareFits};
+
+    /// Lends the item that the query finds for writing; `None` where there is none, and then nothing has changed. The
+    /// guard has to be spent. It hashes the query once, and makes as many comparisons as `get`.
+    pub fn get_mut<Q: Hash + Equivalent<T::Key>>(&mut self, query: &Q) -> Option<RefMut<'_, T, S>>
+        requires keyed { ⟦<IdHashMap<T, S> as Keyed>⟧.keyed self.old }
+        requires hashes { HashesAs (Q.equivalent query.now) (Q.hash_input query.now) T.Key.hash_input }
+        ensures* unchanged_at_none { sem 𝓛 (rests_at_none S.row T.row self.entry result) }
+        ensures absent { IfNone result (find_item T.key (Q.equivalent query.now) self.old.items ≡ None) }
+        ensures same_map { IfSome result (λ r. guard_lender r ≡ self.entry.ghost_name) }
+        ensures lent { IfSome result (λ r. lent_map r ≡ self.old) }
+        ensures found { IfSome result (λ r. find_item T.key (Q.equivalent query.now) self.old.items ≡ lent_item r) }
+        ensures written { IfSome result (λ r. (w : T) → written_to_slot self.old.slots self.old.items (lent_slot r) w ≡ items_overwritten T.key (Q.equivalent query.now) w self.old.items) }
+        ensures keyed { IfSome result (λ r. (x w : T) → lent_item r ≡ Some x → T.key w ≡ T.key x → ⟦<IdHashMap<T, S> as Keyed>⟧.keyed (with_item_in self.old (lent_slot r) w)) }
+        ensures keyed_akin { IfSome result (λ r. (x w : T) → lent_item r ≡ Some x → IsTrue (T.Key.eq (T.key x) (T.key w)) → ⟦<IdHashMap<T, S> as Keyed>⟧.keyed (with_item_in self.old (lent_slot r) w)) }
+        ensures spare { SpareFits self.old }
+    {
+        let hash = self.hasher.hash_one(query);
+        let slot = find_slot(&self.store, &self.index, hash, query)?;
+        Some(RefMut {
+            map: self,
+            slot,
+            spent: false,
+        })
+    }
+}

@@ -1,9 +1,0 @@
-use Rattle.std.proofs.Common.{arith, rules}
-use Rattle.std.proofs.lemmas.Grind.{common_steps}
-use Rattle.iddqd_lines.proofs.arguments.after_name.Goals as goal
-
-pub returns-in-empty : goal.returns-in-empty
-returns-in-empty c = search rules
-
-pub returns-in-len1-up : goal.returns-in-len1-up
-returns-in-len1-up c = grind (arith, common_steps)

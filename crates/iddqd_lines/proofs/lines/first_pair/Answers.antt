@@ -1,5 +1,0 @@
-use Rattle.std.proofs.Common.{rules}
-use Rattle.iddqd_lines.proofs.lines.first_pair.Goals as goal
-
-pub returns-clause-pairs : goal.returns-clause-pairs
-returns-clause-pairs c = search rules

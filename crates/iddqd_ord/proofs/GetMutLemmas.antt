@@ -1,0 +1,54 @@
+-- What a write to the item of a slot leaves, of the store and the index, and of the keys.
+--     item_in_slot      the item of a listed slot is what the store has there
+--     lent_paired, lent_items, lent_vacant      the pair of store and index after the write
+use Rattle.std.proofs.Common.{◌≡◌, ℕ, zero, suc, ◌∙◌, ⊎_elim, Bool, true, false, cond, List, [], ◌∷◌, get_or, Some, is_some, refl, sym, ap, arith, true≢false, nat_eq, suc-le-suc}
+use Rattle.std.proofs.lemmas.Bool.{cases_eq, eqb-true}
+use Rattle.iddqd_ord_index.specs.Listed.{listed_items, AreOccupied}
+use Rattle.iddqd_store.specs.SlotItems.{item_of_slot, written_to_slot}
+use Rattle.iddqd_store.specs.Store.{Store, item_at, IsOccupied, vacant, with_item}
+use Rattle.iddqd_ord_index.proofs.ListedLemmas.{listed-updated}
+use Rattle.iddqd_store.proofs.StoreLemmas.{given, len_lent, updates-set, vacant_lent}
+use Rattle.iddqd_store.proofs.WrittenLemmas.{slot_place}
+use Rattle.iddqd_ord.specs.StoreAndIndex.{ListsOccupied}
+
+module _ {T : Type 0} where
+  -- the item of a listed slot is what the store has there
+  pub item_in_slot : (store : Store T) (slots : List ℕ) (slot : ℕ) → AreOccupied store slots → is_some (item_of_slot slots (listed_items store slots) slot) ≡ true → item_of_slot slots (listed_items store slots) slot ≡ item_at store slot
+  item_in_slot store [] slot occupied some = absurd (true≢false (sym some))
+  item_in_slot store (s ∷ slots) slot occupied some =
+      let x = given (item_at store s) (occupied zero s (omega arith)) in
+      by (item_in_slot store slots slot (λ k d h. occupied (suc k) d (suc-le-suc h))) x.0 x.1 (nat_eq s slot) refl (rw (x.1) at some)
+    where
+      by : (is_some (item_of_slot slots (listed_items store slots) slot) ≡ true → item_of_slot slots (listed_items store slots) slot ≡ item_at store slot) → (x : T) → item_at store s ≡ Some x → (b : Bool) → nat_eq s slot ≡ b → is_some (cond (nat_eq s slot) (Some x) (item_of_slot slots (listed_items store slots) slot)) ≡ true → item_of_slot (s ∷ slots) (listed_items store (s ∷ slots)) slot ≡ item_at store slot
+      by behind x e true q some = rw e (rw q (sym e ∙ ap (item_at store) (eqb-true s slot q)))
+      by behind x e false q some = rw e (rw q (behind (rw q at some)))
+
+  module _ (store : Store T) (slots : List ℕ) (slot : ℕ) (paired : ListsOccupied store slots) (some : is_some (item_of_slot slots (listed_items store slots) slot) ≡ true) where
+    pub here : IsOccupied store slot
+    here = ap is_some (sym (item_in_slot store slots slot paired.occupied some)) ∙ some
+
+    pub lent_vacant : (w : T) → vacant (with_item store slot w) ≡ vacant store
+    lent_vacant w = vacant_lent store slot w here
+
+    pub lent_paired : (w : T) → ListsOccupied (with_item store slot w) slots
+    lent_paired w =
+        let updates = updates-set store slot (Some w) here in
+        record {
+          each_once = paired.each_once;
+          occupied = λ k d h. ⊎_elim
+              (λ e. ap (λ s. is_some (item_at (with_item store slot w) s)) e ∙ ap is_some updates.changed)
+              (λ n. ap is_some (updates.others _ n) ∙ paired.occupied k d h)
+              (cases_eq (get_or slots k d) slot);
+          listed = λ other there. paired.listed other (⊎_elim
+              (λ e. ap (λ s. is_some (item_at store s)) e ∙ here)
+              (λ n. ap is_some (sym (updates.others other n)) ∙ there)
+              (cases_eq other slot));
+          counted = paired.counted ∙ sym (len_lent store slot w here);
+        }
+
+    pub lent_items : (w : T) → listed_items (with_item store slot w) slots ≡ written_to_slot slots (listed_items store slots) slot w
+    lent_items w =
+        let updates = updates-set store slot (Some w) here in
+        let x = given (item_of_slot slots (listed_items store slots) slot) some in
+        let p = slot_place slots (listed_items store slots) slot x.0 x.1 in
+        listed-updated store (with_item store slot w) slots p.place slot w paired.each_once paired.occupied p.slot_there updates.changed updates.others ∙ sym (p.written w)

@@ -1,5 +1,0 @@
-use Rattle.std.proofs.Common.{rules}
-use Rattle.iddqd_ord.proofs.id_ord_map.paired.reserve_one.Goals as goal
-
-pub returns-then-len-limit-clause-kind : goal.returns-then-len-limit-clause-kind
-returns-then-len-limit-clause-kind g c = search rules

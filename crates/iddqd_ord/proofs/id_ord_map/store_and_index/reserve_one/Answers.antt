@@ -1,0 +1,5 @@
+use Rattle.std.proofs.Common.{rules}
+use Rattle.iddqd_ord.proofs.id_ord_map.store_and_index.reserve_one.Goals as goal
+
+pub returns-then-len-limit-clause-kind : goal.returns-then-len-limit-clause-kind
+returns-then-len-limit-clause-kind g c = search rules

@@ -1,0 +1,65 @@
+//! The first and the last item.
+ghost use Rattle.std.specs.Prelude.{◌≡◌, ◌+◌, ◌-◌, length, drop, take, IfNone, OnSome, option_copied, slice_get};
+ghost use Rattle.iddqd_store.specs.Contents.{Ascends};
+
+use super::IdOrdMap;
+use super::store_and_index::take_out;
+use iddqd_store::IdOrdItem;
+
+impl<T> IdOrdMap<T> {
+    /// The item of the least key, or `None` where there is none. It compares no keys.
+    pub fn first(&self) -> Option<&T>
+        ensures { option_copied result ≡ slice_get self.now.items 0 }
+    {
+        self.store.get(self.index.first()?)
+    }
+
+    /// The item of the greatest key, or `None` where there is none. It compares no keys.
+    pub fn last(&self) -> Option<&T>
+        ensures { option_copied result ≡ slice_get self.now.items (length self.now.items - 1) }
+    {
+        self.store.get(self.index.last()?)
+    }
+}
+
+impl<T: IdOrdItem> IdOrdMap<T> {
+    /// Takes out the item of the least key, and answers it; `None` where there is none, and then nothing has changed. Its
+    /// slot is vacant then. It takes no memory and compares no keys.
+    pub fn pop_first(&mut self) -> Option<T>
+        requires keyed { Ascends T.key T.Key.cmp self.old.items }
+        ensures value { result ≡ slice_get self.old.items 0 }
+        ensures items { self.new.items ≡ drop 1 self.old.items }
+        ensures slots { self.new.slots ≡ drop 1 self.old.slots }
+        ensures vacant { OnSome result (self.new.vacant ≡ self.old.vacant + 1) }
+        ensures unchanged { IfNone result (self.new ≡ self.old) }
+        ensures capacity { self.new.capacity ≡ self.old.capacity }
+        ensures limit { self.new.limit ≡ self.old.limit }
+        ensures keyed { Ascends T.key T.Key.cmp self.new.items }
+    {
+        if self.is_empty() {
+            return None;
+        }
+        let first = self.index.place(0);
+        Some(take_out(&mut self.store, &mut self.index, first))
+    }
+
+    /// Takes out the item of the greatest key, and answers it; `None` where there is none, and then nothing has changed.
+    /// Its slot is vacant then. It takes no memory and compares no keys.
+    pub fn pop_last(&mut self) -> Option<T>
+        requires keyed { Ascends T.key T.Key.cmp self.old.items }
+        ensures value { result ≡ slice_get self.old.items (length self.old.items - 1) }
+        ensures items { self.new.items ≡ take (length self.old.items - 1) self.old.items }
+        ensures slots { self.new.slots ≡ take (length self.old.slots - 1) self.old.slots }
+        ensures vacant { OnSome result (self.new.vacant ≡ self.old.vacant + 1) }
+        ensures unchanged { IfNone result (self.new ≡ self.old) }
+        ensures capacity { self.new.capacity ≡ self.old.capacity }
+        ensures limit { self.new.limit ≡ self.old.limit }
+        ensures keyed { Ascends T.key T.Key.cmp self.new.items }
+    {
+        if self.is_empty() {
+            return None;
+        }
+        let last = self.index.place(self.len() - 1);
+        Some(take_out(&mut self.store, &mut self.index, last))
+    }
+}

@@ -1,0 +1,80 @@
+//! Lending one item for writing, and what lends it.
+ghost use Rattle.std.specs.Prelude.{◌≡◌, ◌<◌, length, remove, IfNone, IfSome, IsSome, IsTrue, Some, None, slice_get, slice_set};
+ghost use Rattle.std.specs.Borrow.{sem};
+ghost use Rattle.iddqd_store.specs.Contents.{Ascends, find_item, items_overwritten};
+ghost use Rattle.iddqd_store.specs.SlotItems.{item_of_slot, without_slot, written_to_slot};
+
+use super::{IdOrdMap, RefMut};
+use iddqd_ord_index::Place;
+use iddqd_store::{Comparable, IdOrdItem, Steps};
+
+impl<T> IdOrdMap<T> {
+    ghost use Rattle.iddqd_ord.specs.Guard.{lends_item};
+
+    // The item of the slot.
+    #[inline]
+    pub(super) fn item_in_slot(&self, slot: u32) -> &T
+        requires { IsSome (item_of_slot self.now.slots self.now.items slot) }
+        ensures { item_of_slot self.now.slots self.now.items slot ≡ Some result.now }
+    {
+        self.store.get(slot).unwrap()
+    }
+
+    // The item of the slot, for writing.
+    #[inline]
+    pub(super) fn item_in_slot_mut(&mut self, slot: u32) -> &mut T
+        requires { IsSome (item_of_slot self.old.slots self.old.items slot) }
+        ensures* writes_back { sem 𝓛 (lends_item T.row self.entry slot result) }
+        ensures value { item_of_slot self.old.slots self.old.items slot ≡ Some result.now }
+    {
+        self.store.get_mut(slot)
+    }
+
+    // The slot of the item at the place. It goes down the index once.
+    #[inline]
+    pub(super) fn slot_at_position(&self, at: usize) -> u32
+        requires { at < length self.now.items }
+        ensures item { item_of_slot self.now.slots self.now.items result ≡ slice_get self.now.items at }
+        ensures written { (w : T) → written_to_slot self.now.slots self.now.items result w ≡ slice_set self.now.items at w }
+    {
+        self.slot_at(self.index.place(at))
+    }
+
+    // The slot at the place. It goes down the index once.
+    #[inline]
+    pub(super) fn slot_at(&self, place: Place) -> u32
+        requires { place < length self.now.items }
+        ensures item { item_of_slot self.now.slots self.now.items result ≡ slice_get self.now.items place }
+        ensures there { IsSome (item_of_slot self.now.slots self.now.items result) }
+        ensures written { (w : T) → written_to_slot self.now.slots self.now.items result w ≡ slice_set self.now.items place w }
+        ensures others { without_slot self.now.slots self.now.items result ≡ remove self.now.items place }
+        ensures placed { slice_get self.now.slots place ≡ Some result }
+    {
+        self.index.slot_at(place)
+    }
+}
+
+impl<T: IdOrdItem> IdOrdMap<T> {
+    ghost use Rattle.iddqd_ord.specs.Guard.{rests_at_none, guard_lender, lent_map, lent_slot, lent_item};
+
+    /// Lends the item that the query finds for writing; `None` where there is none, and then nothing has changed. The
+    /// guard has to be spent. It makes as many comparisons as `get`.
+    pub fn get_mut<Q: Comparable<T::Key>>(&mut self, query: &Q) -> Option<RefMut<'_, T>>
+        requires keyed { Ascends T.key T.Key.cmp self.old.items }
+        ensures* unchanged_at_none { sem 𝓛 (rests_at_none T.row self.entry result) }
+        ensures absent { IfNone result (find_item T.key (Q.equivalent query.now) self.old.items ≡ None) }
+        ensures same_map { IfSome result (λ r. guard_lender r ≡ self.entry.ghost_name) }
+        ensures lent { IfSome result (λ r. lent_map r ≡ self.old) }
+        ensures found { IfSome result (λ r. find_item T.key (Q.equivalent query.now) self.old.items ≡ lent_item r) }
+        ensures written { IfSome result (λ r. (w : T) → written_to_slot self.old.slots self.old.items (lent_slot r) w ≡ items_overwritten T.key (Q.equivalent query.now) w self.old.items) }
+        ensures keyed { IfSome result (λ r. (x w : T) → lent_item r ≡ Some x → T.key w ≡ T.key x → Ascends T.key T.Key.cmp (written_to_slot self.old.slots self.old.items (lent_slot r) w)) }
+        ensures keyed_akin { IfSome result (λ r. (x w : T) → lent_item r ≡ Some x → IsTrue (T.Key.eq (T.key x) (T.key w)) → Ascends T.key T.Key.cmp (written_to_slot self.old.slots self.old.items (lent_slot r) w)) }
+    {
+        let slot = self.index.get(&self.store, query, &mut Steps::new())?;
+        Some(RefMut {
+            map: self,
+            slot,
+            spent: false,
+        })
+    }
+}

@@ -1,6 +1,0 @@
-use Rattle.std.proofs.Common.{arith}
-use Rattle.std.proofs.lemmas.Grind.{common_steps}
-use Rattle.iddqd_testing.proofs.tried.HashedCommandedKey.run.Goals as goal
-
-pub run-requires-clause-keeps_keys : goal.run-requires-clause-keeps_keys
-run-requires-clause-keeps_keys g c = grind (arith, common_steps)

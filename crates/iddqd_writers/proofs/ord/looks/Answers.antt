@@ -1,5 +1,0 @@
-use Rattle.std.proofs.Common.{rules}
-use Rattle.iddqd_writers.proofs.ord.looks.Goals as goal
-
-pub returns-in-Vacant-clause-told : goal.returns-in-Vacant-clause-told
-returns-in-Vacant-clause-told g = search rules

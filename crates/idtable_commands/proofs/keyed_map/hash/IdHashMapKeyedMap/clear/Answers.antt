@@ -1,0 +1,8 @@
+use Rattle.std.proofs.Common.{rules}
+use Rattle.idtable_commands.proofs.keyed_map.hash.IdHashMapKeyedMap.clear.Goals as goal
+
+pub returns-clause-empty : goal.returns-clause-empty
+returns-clause-empty g c = search rules
+
+pub returns-clause-stays : goal.returns-clause-stays
+returns-clause-stays g c = search rules

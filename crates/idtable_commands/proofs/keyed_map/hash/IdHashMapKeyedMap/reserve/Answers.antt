@@ -1,0 +1,5 @@
+use Rattle.std.proofs.Common.{rules}
+use Rattle.idtable_commands.proofs.keyed_map.hash.IdHashMapKeyedMap.reserve.Goals as goal
+
+pub returns-clause-made : goal.returns-clause-made
+returns-clause-made g c = search rules

@@ -1,0 +1,5 @@
+use Rattle.std.proofs.Common.{rules}
+use Rattle.idtable_commands.proofs.keyed_map.ord.IdOrdMapKeyedMap.akin.Goals as goal
+
+pub returns : goal.returns
+returns g c = search rules

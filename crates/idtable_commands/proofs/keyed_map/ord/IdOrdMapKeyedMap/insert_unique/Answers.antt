@@ -1,0 +1,20 @@
+use Rattle.std.proofs.Common.{rules, refl}
+use Rattle.std.proofs.lemmas.Result.{on_err_weaker}
+use Rattle.idtable_commands.proofs.keyed_map.ord.IdOrdMapKeyedMap.insert_unique.Goals as goal
+
+pub returns : goal.returns
+returns g c = (
+  (
+    refl,
+    (λ w is.
+        let inserts = c.insert_unique.follows.holds w is in
+        record {
+          inserted = (search rules, inserts.takes.room, inserts.takes.added);
+          stays = record { keyed = inserts.keyed; limit = inserts.takes.limit; room = (refl, refl) };
+        }),
+    on_err_weaker c.insert_unique.result
+        (λ kept. (record { items = kept.0.keeps.items; stays = record { keyed = kept.0.keyed; limit = kept.0.keeps.limit; room = (refl, refl) } }, kept.1))
+        c.insert_unique.follows.holds-at-none,
+  ),
+  record { after = tt; refused = c.insert_unique.ensures.refused; no_spare = search rules },
+)

@@ -1,0 +1,5 @@
+use Rattle.std.proofs.Common.{rules}
+use Rattle.idtable_commands.proofs.keyed_map.ord.IdOrdMapKeyedMap.shrink.Goals as goal
+
+pub returns-clause-only_memory : goal.returns-clause-only_memory
+returns-clause-only_memory g c = search rules

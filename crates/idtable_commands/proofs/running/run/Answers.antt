@@ -1,0 +1,29 @@
+use Rattle.std.proofs.Common.{◌∙◌, ◌++◌, ◌∷◌, [], length-append, arith, subst, sym, rules}
+use Rattle.idtable_commands.specs.Step.{Does, Run, Step}
+use Rattle.idtable_commands.proofs.StepLemmas.{run_more}
+use Rattle.idtable_commands.proofs.running.run.Goals as goal
+
+pub loop-command-preserved : goal.loop-command-preserved
+loop-command-preserved g c =
+    let key = g.M.KeyedMap.key in
+    let eq = g.M.Key.PartialEq.eq in
+    let visits = g.V.Visit.visits in
+    let rule = g.M.KeyedMap.rule in
+    let limit = g.M.KeyedMap.limit c.args.map.now in
+    let first = g.M.KeyedMap.state c.args.map.now in
+    let middle = g.M.KeyedMap.state c.loop-command.map in
+    let last = g.M.KeyedMap.state c.answer.new.map in
+    let kept = c.loop-command.invariant in
+    let does = subst (λ n. Does key eq visits n rule middle c.in-Some.command c.answer.result last) kept.limit c.answer.ensures.does in
+    let step : Step key eq visits limit rule middle c.in-Some.command c.answer.result last = record { does = does; lie = g.met.M.KeyedMap.lie c.answer.new.map c.answer.ensures.keyed } in
+    let ran = run_more key eq visits rule limit c.loop-command.yielded c.loop-command.replies.items c.in-Some.command c.answer.result first middle last kept.ran step in
+    record {
+      ran = subst (λ replies. Run key eq visits limit rule first (c.loop-command.yielded ++ c.in-Some.command ∷ []) replies last) (sym c.push_reserved.ensures.items) ran;
+      keyed = c.answer.ensures.keyed;
+      limit = c.answer.ensures.limit ∙ kept.limit;
+      counted = omega (arith, length-append c.loop-command.yielded (c.in-Some.command ∷ []));
+      room = omega arith;
+    }
+
+pub returns-in_default-clause-handed_back : goal.returns-in_default-clause-handed_back
+returns-in_default-clause-handed_back g c = search rules

@@ -1,0 +1,77 @@
+//! Many items at once, up to the first that is not put in.
+ghost use Rattle.std.specs.Prelude.{◌≡◌, IfErr, IfOk, OnErr, OnOk};
+ghost use Rattle.std.specs.Borrow.{sem};
+ghost use Rattle.idtable_commands.specs.KeyedMap.{InsertsIntoMap, KeepsMap, RefusesAmong, RefusesOne, StaysKeyed, ends_extended};
+ghost use Rattle.idtable_commands.specs.Step.{FitsLikely, FitsRoom, InsertsAll};
+
+use super::KeyedMap;
+use iddqd::errors::{DuplicateItem, ExtendError, ExtendUniqueError, Few, InsertError, Refused};
+use iddqd::internal::room_to_reserve;
+
+// An item that was not put in.
+#[derive(Drop)]
+pub(crate) enum NotTaken<T> {
+    // One of an equal key is there.
+    Akin(T),
+    // There was no room.
+    Refused(Refused<T>),
+}
+
+/// The trait's `extend_unique`.
+pub(super) fn extend_unique<M: KeyedMap>(
+    map: &mut M,
+    items: Vec<M::Item>,
+) -> Result<&mut (), ExtendUniqueError<'_, M::Item>>
+where
+    M::Item: Drop,
+    requires keyed { M.keyed map.old }
+    ensures* after { sem 𝓛 (ends_extended M.row M.state M.limit M.rule M.keyed M.key M.Key.eq map.entry result items.items) }
+{
+    let room = room_to_reserve(map.len(), items.len());
+    if let Err(error) = map.reserve(room) {
+        return Err(ExtendUniqueError::Refused(ExtendError { item: None, error }));
+    }
+    match insert_each(map, items) {
+        Ok(()) => Ok(map.lend_nothing()),
+        Err(NotTaken::Akin(item)) => {
+            let there = Few::One(map.akin(&item).unwrap());
+            Err(ExtendUniqueError::Duplicate(DuplicateItem::internal_new(item, there)))
+        }
+        Err(NotTaken::Refused(refused)) => Err(ExtendUniqueError::Refused(ExtendError {
+            item: Some(refused.item),
+            error: refused.error,
+        })),
+    }
+}
+
+// Inserts the items up to the first that is not put in, and lends nothing.
+fn insert_each<M: KeyedMap>(map: &mut M, items: Vec<M::Item>) -> Result<(), NotTaken<M::Item>>
+where
+    M::Item: Drop,
+    requires keyed { M.keyed map.old }
+    requires room { FitsRoom M.rule (M.limit map.old) (M.state map.old) }
+    ensures taken { OnOk result (InsertsAll M.key M.Key.eq (M.limit map.old) items.items (M.state map.old).items (M.state map.new).items) }
+    ensures refused { IfErr result (RefusesAmong M.key M.Key.eq (M.limit map.old) items.items (M.state map.old) (M.state map.new).items) }
+    ensures stays { StaysKeyed M.state M.limit M.rule M.keyed map.old map.new }
+{
+    for item in items {
+        insert_one(map, item)?;
+    }
+    Ok(())
+}
+
+// Inserts the item, and lends nothing.
+fn insert_one<M: KeyedMap>(map: &mut M, item: M::Item) -> Result<(), NotTaken<M::Item>>
+where
+    M::Item: Drop,
+    requires keyed { M.keyed map.old }
+    ensures inserted { OnOk result (InsertsIntoMap M.state M.limit M.rule M.keyed M.key M.Key.eq item map.old map.new) }
+    ensures kept { OnErr result (KeepsMap M.state M.limit M.rule M.keyed map.old map.new) }
+    ensures refused { IfErr result (RefusesOne M.key M.Key.eq (M.limit map.old) (M.state map.old) item) }
+{
+    match map.insert_unique(item) {
+        Ok(()) => Ok(()),
+        Err(InsertError::Duplicate(duplicate)) => Err(NotTaken::Akin(duplicate.into_parts().0)),
+        Err(InsertError::Refused(refused)) => Err(NotTaken::Refused(refused)),
+    }
+}

@@ -1,0 +1,5 @@
+use Rattle.std.proofs.Common.{rules}
+use Rattle.idtable_lines.proofs.failing.FailingWriter.taken.Goals as goal
+
+pub returns : goal.returns
+returns c = search rules

@@ -1,0 +1,4 @@
+pub mod Arguments
+pub mod Asked
+pub mod Failing
+pub mod Lines

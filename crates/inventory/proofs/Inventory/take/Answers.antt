@@ -1,7 +1,0 @@
-use Rattle.std.proofs.Common.{rules, refl}
-use Rattle.inventory.proofs.Inventory.take.Goals as goal
-
-pub invariant_of-self-2 : goal.invariant_of-self-2
-invariant_of-self-2 c =
-    let keyed = c.in_ok-part.ensures.keyed c.deref_mut.result.now (record c.deref_mut.result.now { count = c.in_ok-left.left }) c.deref_mut.ensures.value refl in
-    search rules

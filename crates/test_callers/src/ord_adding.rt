@@ -1,0 +1,130 @@
+//! Adding many items to an ordered map.
+ghost use Rattle.std.specs.Prelude.{◌≡◌, ◌≤◌, ◌++◌, List, [], IfSome, IsTrue, nat_eq, IsPermutation};
+ghost use Rattle.std.specs.List.{AllZip};
+ghost use Rattle.std.specs.Ordering.{nat_cmp};
+ghost use Rattle.std.specs.String.{string_cmp, string_eq};
+ghost use Rattle.iddqd.specs.Given.{BeginsWith};
+ghost use Rattle.iddqd.specs.Collecting.{AddsAll, IsFirstConflict, OverwritesAll};
+ghost use Rattle.iddqd.specs.Contents.{Ascends, NoTwoAkin};
+
+use crate::ord_insertions;
+use iddqd::errors::ExtendUniqueError;
+use iddqd::{IdOrdMap, MAX_ITEMS};
+use std::alloc::Global;
+use test_writers::items::{Named, Pair};
+
+/// Adds pairs up to the first whose key is there, and shows that one and the one that is there.
+fn add_and_show(map: &mut IdOrdMap<Pair>, pairs: Vec<Pair>) -> Option<(Pair, Pair)>
+    requires keyed { Ascends (λ p. p.key) nat_cmp map.old.items }
+    ensures conflict { IfSome result (λ shown. (before : List Pair)
+        × IsFirstConflict (λ p. p.key) nat_eq map.old.items before shown.0 shown.1
+        × AddsAll (λ p. p.key) nat_eq before map.old.items map.new.items) }
+    ensures given { IfSome result (λ shown. (before : List Pair)
+        × BeginsWith before shown.0 pairs.items
+        × NoTwoAkin (λ p. p.key) nat_eq (map.old.items ++ before)) }
+    ensures keyed { Ascends (λ p. p.key) nat_cmp map.new.items }
+{
+    match map.extend_unique(pairs) {
+        Ok(()) => None,
+        Err(ExtendUniqueError::Duplicate(conflict)) => {
+            let there = **conflict.duplicates().get(0)?;
+            Some((*conflict.new_item(), there))
+        }
+        Err(ExtendUniqueError::Refused(_)) => None,
+    }
+}
+
+/// Adds items up to the first whose name is there, and returns the value of the one that is there.
+fn add_named(all: &mut IdOrdMap<Named>, items: Vec<Named>) -> Option<u32>
+    requires keyed { Ascends (λ x. x.name) string_cmp all.old.items }
+    ensures keyed { Ascends (λ x. x.name) string_cmp all.new.items }
+{
+    match all.extend_unique(items) {
+        Ok(()) => None,
+        Err(ExtendUniqueError::Duplicate(both)) => Some(both.duplicates().first().value),
+        Err(ExtendUniqueError::Refused(_refused)) => None,
+    }
+}
+
+/// Adds each item by a function on the bare map: the loop's invariant is that the map is keyed.
+fn add_in_turn(all: &mut IdOrdMap<Named>, items: Vec<Named>) -> bool
+    requires keyed { Ascends (λ x. x.name) string_cmp all.old.items }
+    ensures keyed { Ascends (λ x. x.name) string_cmp all.new.items }
+{
+    let mut all_added = true;
+    for item in items {
+        all_added &= ord_insertions::add_named(all, item);
+    }
+    all_added
+}
+
+/// Adds all items, and tells whether all are in.
+fn add_all(all: &mut IdOrdMap<Named>, items: Vec<Named>) -> bool
+    requires keyed { Ascends (λ x. x.name) string_cmp all.old.items }
+    ensures added { IsTrue result → IsPermutation
+        (all.old.items ++ items.items) all.new.items }
+    ensures keyed { Ascends (λ x. x.name) string_cmp all.new.items }
+{
+    match all.extend_unique(items) {
+        Ok(()) => true,
+        Err(_error) => false,
+    }
+}
+
+/// Puts all items in, each in the place of one of its name, and tells whether all are in.
+fn put_all(all: &mut IdOrdMap<Named>, items: Vec<Named>) -> bool
+    requires keyed { Ascends (λ x. x.name) string_cmp all.old.items }
+    ensures put { IsTrue result → OverwritesAll (λ x. x.name) string_eq
+        all.old.limit items.items all.old.items all.new.items }
+    ensures keyed { Ascends (λ x. x.name) string_cmp all.new.items }
+{
+    match all.extend(items) {
+        Ok(()) => true,
+        Err(_error) => false,
+    }
+}
+
+/// Collects the items, of each name the last one.
+fn collect(alloc: Global, items: Vec<Named>) -> Option<IdOrdMap<Named>>
+    ensures { IfSome result (λ m. OverwritesAll (λ x. x.name) string_eq
+        MAX_ITEMS items.items [] m.items) }
+{
+    match IdOrdMap::from_iter(alloc, items) {
+        Ok(map) => Some(map),
+        Err(_error) => None,
+    }
+}
+
+/// Collects the items, if each has a name of its own.
+fn collect_unique(alloc: Global, items: Vec<Named>) -> Option<IdOrdMap<Named>>
+    ensures differ { IfSome result (λ _. NoTwoAkin (λ x. x.name) string_eq items.items) }
+    ensures same { IfSome result (λ m. IsPermutation items.items m.items) }
+{
+    match IdOrdMap::from_iter_unique(alloc, items) {
+        Ok(map) => Some(map),
+        Err(_error) => None,
+    }
+}
+
+/// Gives back the memory that is not needed for the items, or for eight of them.
+fn trim(all: &mut IdOrdMap<Named>) -> bool
+    requires keyed { Ascends (λ x. x.name) string_cmp all.old.items }
+    ensures same { all.new.items ≡ all.old.items }
+    ensures closed { all.new.vacant ≡ 0 }
+    ensures lower { all.new.capacity ≤ all.old.capacity }
+    ensures keyed { Ascends (λ x. x.name) string_cmp all.new.items }
+{
+    all.shrink_to(8).is_ok()
+}
+
+/// A map of the same pairs.
+fn copied(map: &IdOrdMap<Pair>) -> Option<IdOrdMap<Pair>>
+    requires keyed { Ascends (λ p. p.key) nat_cmp map.now.items }
+    ensures same { IfSome result (λ copy. AllZip (λ x y. y ≡ x) map.now.items copy.items) }
+    ensures keyed { IfSome result (λ copy. Ascends (λ p. p.key) nat_cmp copy.items) }
+{
+    match map.clone() {
+        Ok(copy) => Some(copy),
+        Err(_error) => None,
+    }
+}

@@ -1,0 +1,232 @@
+//! Entries of an ordered map.
+ghost use Rattle.std.specs.Prelude.{◌≡◌, ◌-◌, ◌==◌, IfNone, IfSome, IsTrue, OnSome, Some, false, length, option_map, slice_get, slice_set, take};
+ghost use Rattle.std.specs.Ordering.{nat_cmp};
+ghost use Rattle.std.specs.Str.{bytes_eq};
+ghost use Rattle.std.specs.String.{string_bytes, string_cmp};
+ghost use Rattle.iddqd.specs.Contents.{AddsItem, Ascends, find_item, items_overwritten, items_without};
+ghost use Rattle.test_callers.specs.Lookups.{of_key, of_name, put_at_key, with_value};
+
+use iddqd::errors::Refused;
+use iddqd::id_ord_map::Entry;
+use iddqd::{IdOrdMap, Text};
+use test_writers::items::{Named, Pair, SetsValue};
+
+/// Adds the item, and then writes another value.
+#[tactic(auto, using(iddqd::proofs::GuardLemmas::same_key_kept))]
+fn add_and_write(map: &mut IdOrdMap<Named>, item: Named, then: u32) -> bool
+    requires keyed { Ascends (λ x. x.name) string_cmp map.old.items }
+    ensures added { IsTrue result → AddsItem
+        (record item { value = then }) map.old.items map.new.items }
+    ensures kept { result ≡ false → map.new.items ≡ map.old.items }
+    ensures keyed { Ascends (λ x. x.name) string_cmp map.new.items }
+{
+    match map.entry(&item.name) {
+        Entry::Vacant(entry) => match entry.insert(item) {
+            Ok(mut added) => {
+                added.value = then;
+                added.finish();
+                true
+            }
+            Err(_refused) => false,
+        },
+        Entry::Occupied(_) => false,
+    }
+}
+
+/// Puts the item in the place of the one of its name, which is returned.
+fn replace(map: &mut IdOrdMap<Named>, item: Named) -> Option<Named>
+    requires keyed { Ascends (λ x. x.name) string_cmp map.old.items }
+    ensures found { result ≡ of_key item.name map.old.items }
+    ensures replaced { IfSome (of_key item.name map.old.items)
+        (λ x. map.new.items ≡ put_at_key item.name item map.old.items) }
+    ensures keyed { Ascends (λ x. x.name) string_cmp map.new.items }
+{
+    match map.entry(&item.name) {
+        Entry::Occupied(mut entry) => Some(entry.insert(item)),
+        Entry::Vacant(_) => None,
+    }
+}
+
+/// Removes the item of the name.
+fn take(map: &mut IdOrdMap<Named>, name: &str) -> Option<Named>
+    requires keyed { Ascends (λ x. x.name) string_cmp map.old.items }
+    ensures found { result ≡ of_name name.now map.old.items }
+    ensures left { map.new.items ≡ items_without (λ x. x.name)
+        (λ k. bytes_eq name.now (string_bytes k)) map.old.items }
+    ensures keyed { Ascends (λ x. x.name) string_cmp map.new.items }
+{
+    match map.entry(&Text(name)) {
+        Entry::Occupied(entry) => Some(entry.remove()),
+        Entry::Vacant(_) => None,
+    }
+}
+
+/// Writes the value of the item of that name, or adds the item.
+fn set_or_add(map: &mut IdOrdMap<Named>, set: u32, item: Named) -> bool
+    requires keyed { Ascends (λ x. x.name) string_cmp map.old.items }
+    ensures set { IfSome (of_key item.name map.old.items)
+        (λ x. map.new.items ≡ put_at_key item.name (record x { value = set }) map.old.items) }
+    ensures added { IfNone (of_key item.name map.old.items)
+        (IsTrue result → AddsItem item map.old.items map.new.items) }
+    ensures kept { result ≡ false → map.new.items ≡ map.old.items }
+    ensures keyed { Ascends (λ x. x.name) string_cmp map.new.items }
+{
+    let entry = map
+        .entry(&item.name)
+        .and_modify(&mut SetsValue { value: set });
+    match entry.or_insert(item) {
+        Ok(found) => {
+            found.finish();
+            true
+        }
+        Err(_refused) => false,
+    }
+}
+
+/// The value of the item of that name, or of this one, which is added.
+fn value_or(map: &mut IdOrdMap<Named>, item: Named) -> Option<u32>
+    requires keyed { Ascends (λ x. x.name) string_cmp map.old.items }
+    ensures found { IfSome (of_key item.name map.old.items)
+        (λ x. (result ≡ Some x.value) × (map.new ≡ map.old)) }
+    ensures added { IfNone (of_key item.name map.old.items)
+        (OnSome result (AddsItem item map.old.items map.new.items)) }
+    ensures kept { IfNone result (map.new.items ≡ map.old.items) }
+{
+    match map.entry(&item.name).or_insert(item) {
+        Ok(found) => {
+            let shown = found.into_ref();
+            Some(shown.value)
+        }
+        Err(_refused) => None,
+    }
+}
+
+/// Shows the value of the key, or adds the key with this one.
+fn show_or_add(map: &mut IdOrdMap<Pair>, key: u32, value: u32) -> Option<u32>
+    requires keyed { Ascends (λ p. p.key) nat_cmp map.old.items }
+    ensures found { IfSome (find_item (λ p. p.key) (λ k. key == k) map.old.items) (λ x. (result ≡ Some x.value) × (map.new ≡ map.old)) }
+    ensures added { IfNone (find_item (λ p. p.key) (λ k. key == k) map.old.items) (OnSome result (AddsItem (record { key = key; value = value }) map.old.items map.new.items)) }
+    ensures kept { IfNone result (map.new.items ≡ map.old.items) }
+{
+    match map.entry(&key).or_insert_with_ref(|| Pair { key, value }) {
+        Ok(shown) => Some(shown.value),
+        Err(_) => None,
+    }
+}
+
+/// Writes the first pair's value.
+fn set_first(map: &mut IdOrdMap<Pair>, value: u32)
+    requires keyed { Ascends (λ p. p.key) nat_cmp map.old.items }
+    ensures set { IfSome (slice_get map.old.items 0)
+        (λ x. map.new.items ≡ slice_set map.old.items 0 (record x { value = value })) }
+    ensures keyed { Ascends (λ p. p.key) nat_cmp map.new.items }
+{
+    if let Some(mut entry) = map.first_entry() {
+        entry.get_mut().value = value;
+    }
+}
+
+/// Adds the item if its name is not there: `let .. else`.
+fn add_or_leave(map: &mut IdOrdMap<Named>, item: Named) -> bool
+    requires keyed { Ascends (λ x. x.name) string_cmp map.old.items }
+    ensures keyed { Ascends (λ x. x.name) string_cmp map.new.items }
+{
+    let Ok(found) = map.entry(&item.name).or_insert(item) else {
+        return false;
+    };
+    found.finish();
+    true
+}
+
+/// The same, by `?`.
+fn add_or_pass_on(map: &mut IdOrdMap<Named>, item: Named) -> Result<(), Refused<Named>>
+    requires keyed { Ascends (λ x. x.name) string_cmp map.old.items }
+    ensures keyed { Ascends (λ x. x.name) string_cmp map.new.items }
+{
+    map.entry(&item.name).or_insert(item)?.finish();
+    Ok(())
+}
+
+/// Writes the value through the entry, and then removes the item.
+#[tactic(auto, using(iddqd::proofs::GuardLemmas::read_back, iddqd::proofs::GuardLemmas::others_written))]
+fn write_and_take(map: &mut IdOrdMap<Named>, name: &str, value: u32) -> Option<Named>
+    requires keyed { Ascends (λ x. x.name) string_cmp map.old.items }
+    ensures taken { result ≡ option_map (with_value value)
+        (of_name name.now map.old.items) }
+    ensures left { map.new.items ≡ items_without (λ x. x.name)
+        (λ k. bytes_eq name.now (string_bytes k)) map.old.items }
+    ensures keyed { Ascends (λ x. x.name) string_cmp map.new.items }
+{
+    match map.entry(&Text(name)) {
+        Entry::Occupied(mut entry) => {
+            entry.get_mut().value = value;
+            Some(entry.remove())
+        }
+        Entry::Vacant(_) => None,
+    }
+}
+
+/// Writes the value through the entry, and then puts the item in the place of what is there, which is returned.
+#[tactic(auto, using(iddqd::proofs::GuardLemmas::read_back))]
+fn write_and_replace(map: &mut IdOrdMap<Named>, item: Named, value: u32) -> Option<Named>
+    requires keyed { Ascends (λ x. x.name) string_cmp map.old.items }
+    ensures found { result ≡ option_map (with_value value)
+        (of_key item.name map.old.items) }
+    ensures keyed { Ascends (λ x. x.name) string_cmp map.new.items }
+{
+    match map.entry(&item.name) {
+        Entry::Occupied(mut entry) => {
+            entry.get_mut().value = value;
+            Some(entry.insert(item))
+        }
+        Entry::Vacant(_) => None,
+    }
+}
+
+/// Writes a value through the entry, and another one through its guard.
+#[tactic(auto, using(iddqd::proofs::GuardLemmas::same_key_kept))]
+fn write_and_lend(map: &mut IdOrdMap<Named>, name: &str, value: u32, then: u32)
+    requires keyed { Ascends (λ x. x.name) string_cmp map.old.items }
+    ensures keyed { Ascends (λ x. x.name) string_cmp map.new.items }
+{
+    if let Entry::Occupied(mut entry) = map.entry(&Text(name)) {
+        entry.get_mut().value = value;
+        let mut found = entry.into_mut();
+        found.value = then;
+        found.finish();
+    }
+}
+
+/// Adds the item by its entry, and removes it again, unless its name is there.
+fn add_and_take(map: &mut IdOrdMap<Named>, item: Named) -> Option<Named>
+    requires keyed { Ascends (λ x. x.name) string_cmp map.old.items }
+    ensures taken { OnSome result (result ≡ Some item) }
+    ensures left { map.new.items ≡ map.old.items }
+    ensures keyed { Ascends (λ x. x.name) string_cmp map.new.items }
+{
+    match map.entry(&item.name) {
+        Entry::Vacant(entry) => match entry.insert_entry(item) {
+            Ok(added) => Some(added.remove()),
+            Err(_refused) => None,
+        },
+        Entry::Occupied(_) => None,
+    }
+}
+
+/// Removes the item of the greatest name, if its value is this one.
+fn take_last_of(map: &mut IdOrdMap<Named>, value: u32) -> Option<Named>
+    requires keyed { Ascends (λ x. x.name) string_cmp map.old.items }
+    ensures taken { IfSome result
+        (λ x. (slice_get map.old.items (length map.old.items - 1) ≡ Some x) × (x.value ≡ value)) }
+    ensures left { OnSome result
+        (map.new.items ≡ take (length map.old.items - 1) map.old.items) }
+    ensures kept { IfNone result (map.new ≡ map.old) }
+    ensures keyed { Ascends (λ x. x.name) string_cmp map.new.items }
+{
+    let entry = map.last_entry()?;
+    if entry.get().value == value {
+        Some(entry.remove())
+    } else {
+        None
+    }
+}

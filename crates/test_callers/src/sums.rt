@@ -1,0 +1,41 @@
+//! Reading walks over both maps: a caller's loop is a loop over the plain list of the items.
+ghost use Rattle.std.specs.Prelude.{◌≡◌, ◌≤◌, sum_by};
+
+use iddqd::{IdHashMap, IdOrdMap};
+use test_writers::items::Pair;
+
+/// The sum of the values, along the ordered map.
+fn sum_in_order(all: &IdOrdMap<Pair>) -> u64
+    requires fits { sum_by (λ pair. pair.value) all.now.items ≤ u64.MAX }
+    ensures { result ≡ sum_by (λ pair. pair.value) all.now.items }
+{
+    let mut sum = 0;
+    for pair in all {
+        sum += pair.value as u64;
+    }
+    sum
+}
+
+/// The sum of the values of the hash map.
+fn sum(all: &IdHashMap<Pair>) -> u64
+    requires fits { sum_by (λ pair. pair.value) all.now.items ≤ u64.MAX }
+    ensures { result ≡ sum_by (λ pair. pair.value) all.now.items }
+{
+    let mut sum = 0;
+    for pair in all {
+        sum += pair.value as u64;
+    }
+    sum
+}
+
+/// The sum of the values, of a map that is used up.
+fn sum_of_gone(all: IdOrdMap<Pair>) -> u64
+    requires fits { sum_by (λ pair. pair.value) all.items ≤ u64.MAX }
+    ensures { result ≡ sum_by (λ pair. pair.value) all.items }
+{
+    let mut sum = 0;
+    for pair in all {
+        sum += pair.value as u64;
+    }
+    sum
+}

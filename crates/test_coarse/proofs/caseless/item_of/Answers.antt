@@ -1,0 +1,5 @@
+use Rattle.std.proofs.Common.{rules}
+use Rattle.test_coarse.proofs.caseless.item_of.Goals as goal
+
+pub returns-clause-value : goal.returns-clause-value
+returns-clause-value g = search rules

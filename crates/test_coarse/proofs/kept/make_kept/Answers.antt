@@ -1,0 +1,5 @@
+use Rattle.std.proofs.Common.{rules}
+use Rattle.test_coarse.proofs.kept.make_kept.Goals as goal
+
+pub returns : goal.returns
+returns g = search rules

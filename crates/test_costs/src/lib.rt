@@ -1,0 +1,28 @@
+//! What calls of the maps cost, and the rows of hostile shapes: how often keys are compared and hashed, hints that lie, hashers
+//! that tell little, many items, keys spelled anew; walks, equality and numbers.
+#![tactic(auto)]
+
+#[cfg(test)]
+mod alike;
+#[cfg(test)]
+mod checks;
+#[cfg(test)]
+mod counting;
+#[cfg(test)]
+mod hints;
+#[cfg(test)]
+mod hostile;
+#[cfg(test)]
+mod many;
+#[cfg(test)]
+mod numbers;
+#[cfg(test)]
+mod plain;
+#[cfg(test)]
+mod rows;
+#[cfg(test)]
+mod stored;
+#[cfg(test)]
+mod trees;
+#[cfg(test)]
+mod walks;

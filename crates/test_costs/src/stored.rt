@@ -1,0 +1,51 @@
+//! A hash map keeps the hash of each key, and grows by it.
+use crate::checks::check;
+use iddqd::IdHashItem;
+use std::alloc::Global;
+use std::cell::Cell;
+use test_support::counting::{Fed, HashedKey};
+use test_support::maps::{AskedByKey, AskedForRoom, by_hash};
+use test_support::walks::Walked;
+
+const IDS: [u32; 25] = [
+    0, 17, 1, 12, 5, 21, 8, 10, 18, 4, 16, 22, 9, 24, 23, 13, 7, 25, 26, 20, 31, 11, 14, 2, 6,
+];
+
+// Whether the map of those that are kept makes room twice and hashes none of their keys.
+fn makes_room_unhashed<T: IdHashItem + Copy, F: Fn(&T) -> bool>(
+    alloc: Global,
+    items: &[T],
+    keep: F,
+    hashed: &Cell<u32>,
+) -> bool
+    requires { F.IsAlwaysCallable keep }
+{
+    let mut map = by_hash(alloc);
+    for item in items {
+        if !map.is_put(*item) {
+            return false;
+        }
+    }
+    map.retain(keep);
+    if map.len() != 9 || hashed.get() < 25 {
+        return false;
+    }
+    hashed.set(0);
+    map.reserve(10).is_ok() && map.reserve(1000).is_ok() && hashed.get() == 0
+}
+
+#[test]
+fn stored_hashes(rt: HostRuntime) {
+    let hashed = Cell::new(0);
+    let items = IDS.map(|number| Fed {
+        key: HashedKey {
+            number,
+            hashed: &hashed,
+        },
+    });
+    let keep = |item: &Fed<'_>| item.key.number % 2 == 1 && item.key.number % 3 != 0;
+    check(
+        &rt,
+        makes_room_unhashed(rt.alloc(), items.as_slice(), keep, &hashed),
+    );
+}

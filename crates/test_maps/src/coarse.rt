@@ -1,0 +1,90 @@
+//! Rows of keys that are equal without regard to case.
+use crate::checks::check;
+use idtable_commands::{Command, Reply};
+use std::alloc::Global;
+use std::process::Abort;
+use std::test::Fail;
+use test_support::caseless::{Caseless, Coarse, item_of, spelled};
+use test_support::maps::{AskedByKey, Commanded, by_hash, in_order};
+use test_support::visitors::Untouched;
+
+// What the item replaced, if it was put.
+fn replaced_by<M: AskedByKey<Item = Coarse>>(
+    map: &mut M,
+    item: Coarse,
+) -> Option<Option<([u8; 3], u32)>> {
+    let old = map.overwrite(item).ok()?;
+    Some(old.as_ref().map(spelled))
+}
+
+fn overwrites<M: AskedByKey<Item = Coarse, Key = Caseless> + Drop>(rt: &impl Abort, mut map: M) {
+    check(rt, replaced_by(&mut map, item_of(*b"Foo", 1)) == Some(None));
+    check(
+        rt,
+        replaced_by(&mut map, item_of(*b"FOO", 2)) == Some(Some((*b"Foo", 1))),
+    );
+    check(
+        rt,
+        map.get(&Caseless(*b"foo")).map(spelled) == Some((*b"FOO", 2)),
+    );
+    check(rt, map.len() == 1);
+}
+
+#[test]
+fn coarse_overwrite(rt: HostRuntime) {
+    overwrites(&rt, in_order(rt.alloc()));
+    overwrites(&rt, by_hash(rt.alloc()));
+}
+
+fn coarse_commands(alloc: Global) -> Result<Vec<Command<Coarse, Caseless, Untouched>>, Fail> {
+    Ok(Vec::from_array(
+        alloc,
+        [
+            Command::InsertOverwrite(item_of(*b"Foo", 1)),
+            Command::InsertOverwrite(item_of(*b"FOO", 2)),
+            Command::Get(Caseless(*b"Foo")),
+            Command::Get(Caseless(*b"FOO")),
+            Command::Len,
+            Command::Clear,
+            Command::Len,
+        ],
+    )?)
+}
+
+/// Whether these are the replies to those commands, by the name's spelling and the value.
+fn are_coarse_replies(replies: &[Reply<Coarse>]) -> bool {
+    match replies {
+        [
+            Reply::Inserted,
+            Reply::Replaced(first),
+            Reply::Found(second),
+            Reply::Found(third),
+            Reply::Length(1),
+            Reply::Done,
+            Reply::Length(0),
+        ] => {
+            spelled(first) == (*b"Foo", 1)
+                && spelled(second) == (*b"FOO", 2)
+                && spelled(third) == (*b"FOO", 2)
+        }
+        _ => false,
+    }
+}
+
+fn is_run_so<M: Commanded<Coarse, Caseless> + Drop>(
+    alloc: Global,
+    mut map: M,
+) -> Result<bool, Fail> {
+    let Ok(replies) = map.run(alloc, coarse_commands(alloc)?) else {
+        return Err(Fail::from("no memory for the replies"));
+    };
+    Ok(are_coarse_replies(replies.as_slice()))
+}
+
+#[test]
+fn coarse_overwrite_by_commands(rt: HostRuntime) -> Result<(), Fail> {
+    let alloc = rt.alloc();
+    check(&rt, is_run_so(alloc, in_order(alloc))?);
+    check(&rt, is_run_so(alloc, by_hash(alloc))?);
+    Ok(())
+}

@@ -1,0 +1,384 @@
+//! The rows of commands, through `run`, on a map of each kind.
+ghost use Rattle.std.specs.Prelude.{nat_eq};
+ghost use Rattle.iddqd.specs.Contents.{ClonesAreEqual};
+ghost use Rattle.iddqd.specs.Visiting.{VisitsKeepKeys};
+
+use crate::checks::check;
+use crate::insertions::{BAR, FOO, OTHER_FOO, wide_item};
+use iddqd::errors::TryReserveError;
+use iddqd::{DefaultHashBuilder, IdHashMap, IdOrdMap, Visit};
+use idtable_commands::{Command, KeyedMap, Reply, run};
+use std::alloc::{AllocError, Global};
+use std::process::Abort;
+use std::test::Fail;
+use test_support::items::{Named, Numbered, Wide};
+use test_support::maps::{AskedForRoom, Commanded, Hashed, Ordered, by_hash, in_order};
+use test_support::visitors::Untouched;
+
+/// Whether there was memory for the commands, and the map gives these replies to them.
+fn answers_with<T: Clone + PartialEq + Drop, K: Drop, M: Commanded<T, K> + Drop>(
+    alloc: Global,
+    mut map: M,
+    commands: Result<Vec<Command<T, K, Untouched>>, AllocError>,
+    expected: &[Reply<T>],
+) -> bool
+    requires clones { ClonesAreEqual T.is_clone }
+{
+    let Ok(commands) = commands else {
+        return false;
+    };
+    match map.run(alloc, commands) {
+        Ok(replies) => replies.as_slice() == expected,
+        Err(_) => false,
+    }
+}
+
+fn named_commands(alloc: Global) -> Result<Vec<Command<Named, [u8; 3], Untouched>>, AllocError> {
+    Ok(Vec::from_array(
+        alloc,
+        [
+            Command::InsertUnique(FOO),
+            Command::InsertUnique(BAR),
+            Command::InsertUnique(OTHER_FOO),
+            Command::Len,
+            Command::Get(*b"foo"),
+            Command::Get(*b"bar"),
+            Command::Get(*b"baz"),
+            Command::Remove(*b"baz"),
+            Command::Remove(*b"foo"),
+            Command::Get(*b"foo"),
+            Command::Len,
+        ],
+    )?)
+}
+
+fn named_replies() -> [Reply<Named>; 11] {
+    [
+        Reply::Inserted,
+        Reply::Inserted,
+        Reply::Duplicate {
+            new: OTHER_FOO,
+            existing: Some(FOO),
+        },
+        Reply::Length(2),
+        Reply::Found(FOO),
+        Reply::Found(BAR),
+        Reply::Absent,
+        Reply::Absent,
+        Reply::Removed(FOO),
+        Reply::Absent,
+        Reply::Length(1),
+    ]
+}
+
+#[test]
+fn insert_unique_by_commands(rt: HostRuntime) {
+    let alloc = rt.alloc();
+    let expected = named_replies();
+    let ordered = in_order(alloc);
+    check(
+        &rt,
+        answers_with(alloc, ordered, named_commands(alloc), &expected),
+    );
+    let hashed = by_hash(alloc);
+    check(
+        &rt,
+        answers_with(alloc, hashed, named_commands(alloc), &expected),
+    );
+}
+
+fn wide_commands(alloc: Global) -> Result<Vec<Command<Wide, u8, Untouched>>, AllocError> {
+    Ok(Vec::from_array(
+        alloc,
+        [
+            Command::InsertUnique(wide_item(20, 'a', 'x')),
+            Command::InsertUnique(wide_item(20, 'a', 'x')),
+            Command::InsertUnique(wide_item(20, 'b', 'y')),
+            Command::InsertUnique(wide_item(5, 'a', 'y')),
+            Command::InsertUnique(wide_item(5, 'b', 'x')),
+            Command::Get(20),
+            Command::Get(5),
+        ],
+    )?)
+}
+
+fn wide_replies() -> [Reply<Wide>; 7] {
+    let first = wide_item(20, 'a', 'x');
+    let fourth = wide_item(5, 'a', 'y');
+    [
+        Reply::Inserted,
+        Reply::Duplicate {
+            new: first,
+            existing: Some(first),
+        },
+        Reply::Duplicate {
+            new: wide_item(20, 'b', 'y'),
+            existing: Some(first),
+        },
+        Reply::Inserted,
+        Reply::Duplicate {
+            new: wide_item(5, 'b', 'x'),
+            existing: Some(fourth),
+        },
+        Reply::Found(first),
+        Reply::Found(fourth),
+    ]
+}
+
+#[test]
+fn duplicate_chain_by_commands(rt: HostRuntime) {
+    let alloc = rt.alloc();
+    let expected = wide_replies();
+    let ordered = in_order(alloc);
+    check(
+        &rt,
+        answers_with(alloc, ordered, wide_commands(alloc), &expected),
+    );
+    let hashed = by_hash(alloc);
+    check(
+        &rt,
+        answers_with(alloc, hashed, wide_commands(alloc), &expected),
+    );
+}
+
+fn room_commands(alloc: Global) -> Result<Vec<Command<Named, [u8; 3], Untouched>>, AllocError> {
+    Ok(Vec::from_array(alloc, [Command::Reserve(3), Command::Shrink])?)
+}
+
+#[test]
+fn reserve_and_shrink_by_commands(rt: HostRuntime) {
+    let alloc = rt.alloc();
+    let expected = [Reply::Done, Reply::Done];
+    let ordered = in_order(alloc);
+    check(
+        &rt,
+        answers_with(alloc, ordered, room_commands(alloc), &expected),
+    );
+    let hashed = by_hash(alloc);
+    check(
+        &rt,
+        answers_with(alloc, hashed, room_commands(alloc), &expected),
+    );
+}
+
+fn named(name: [u8; 3], value: u32) -> Named {
+    Named { name, value }
+}
+
+fn extending_commands(
+    alloc: Global,
+) -> Result<Vec<Command<Named, [u8; 3], Untouched>>, AllocError> {
+    Ok(Vec::from_array(
+        alloc,
+        [
+            Command::ExtendUnique(Vec::from_array(alloc, [FOO, BAR])?),
+            Command::ExtendUnique(Vec::from_array(alloc, [named(*b"baz", 1), OTHER_FOO])?),
+            Command::ExtendUnique(Vec::new(alloc)),
+            Command::Len,
+        ],
+    )?)
+}
+
+#[test]
+fn extend_unique_by_commands(rt: HostRuntime) {
+    let alloc = rt.alloc();
+    let expected = [
+        Reply::Extended(2),
+        Reply::Conflict {
+            new: OTHER_FOO,
+            existing: Some(FOO),
+            after: 1,
+        },
+        Reply::Extended(0),
+        Reply::Length(3),
+    ];
+    let ordered = in_order(alloc);
+    check(
+        &rt,
+        answers_with(alloc, ordered, extending_commands(alloc), &expected),
+    );
+    let hashed = by_hash(alloc);
+    check(
+        &rt,
+        answers_with(alloc, hashed, extending_commands(alloc), &expected),
+    );
+}
+
+fn full_commands(alloc: Global) -> Result<Vec<Command<Named, [u8; 3], Untouched>>, AllocError> {
+    let (a, b, c) = (named(*b"a  ", 1), named(*b"b  ", 2), named(*b"c  ", 3));
+    Ok(Vec::from_array(
+        alloc,
+        [
+            Command::ExtendUnique(Vec::from_array(alloc, [a, b, c])?),
+            Command::InsertUnique(a),
+            Command::ExtendUnique(Vec::from_array(alloc, [b, c])?),
+            Command::Len,
+        ],
+    )?)
+}
+
+#[test]
+fn extend_unique_commands(rt: HostRuntime) {
+    let alloc = rt.alloc();
+    let error = TryReserveError::capacity_overflow();
+    let expected = [
+        Reply::Stopped {
+            item: None,
+            error,
+            after: 0,
+        },
+        Reply::Inserted,
+        Reply::Stopped {
+            item: Some(named(*b"c  ", 3)),
+            error,
+            after: 1,
+        },
+        Reply::Length(2),
+    ];
+    let ordered = Ordered::new(IdOrdMap::with_limit(alloc, 2));
+    check(
+        &rt,
+        answers_with(alloc, ordered, full_commands(alloc), &expected),
+    );
+    let hashed = Hashed::new(IdHashMap::with_limit(alloc, 2, DefaultHashBuilder::new()));
+    check(
+        &rt,
+        answers_with(alloc, hashed, full_commands(alloc), &expected),
+    );
+}
+
+// Writes to each item how many it has seen before, and keeps the first ones, so many.
+#[derive(Clone, Copy, PartialEq, Eq)]
+struct KeepsFirst {
+    many: u32,
+    seen: u32,
+}
+
+impl Visit<Numbered> for KeepsFirst {
+    ghost use Rattle.std.specs.Prelude.{◌+◌, ◌%◌, ◌^◌, nat_lt};
+
+    ghost visits = { λ v x. (record v { seen = (v.seen + 1) % 2 ^ 32 }, record x { value = v.seen }, nat_lt v.seen v.many) };
+
+    fn visit(&mut self, item: &mut Numbered) -> bool {
+        item.value = self.seen;
+        self.seen = self.seen.wrapping_add(1);
+        item.value < self.many
+    }
+}
+
+fn numbered(number: u32, value: u32) -> Numbered {
+    Numbered { number, value }
+}
+
+// Of three numbers the first two that are visited stay.
+fn first_two_kept<M: KeyedMap<Item = Numbered, Key = u32>>(
+    rt: &impl Abort,
+    alloc: Global,
+    map: &mut M,
+) -> Result<(), Fail>
+    requires keyed { M.keyed map.old }
+    requires keeps_keys { VisitsKeepKeys M.key nat_eq ⟦<KeepsFirst as Visit<Numbered>>⟧.visits }
+    ensures keyed { M.keyed map.new }
+{
+    let commands = Vec::from_array(
+        alloc,
+        [
+            Command::InsertUnique(numbered(3, 30)),
+            Command::InsertUnique(numbered(1, 10)),
+            Command::InsertUnique(numbered(2, 20)),
+            Command::RetainMut(KeepsFirst { many: 2, seen: 0 }),
+        ],
+    )?;
+    let Ok(replies) = run(alloc, map, commands) else {
+        return Err(Fail::from("the commands came back"));
+    };
+    let expected = [
+        Reply::Inserted,
+        Reply::Inserted,
+        Reply::Inserted,
+        Reply::Kept(2),
+    ];
+    check(rt, replies.as_slice() == expected.as_slice());
+    Ok(())
+}
+
+#[test]
+fn retain_mut_by_commands(rt: HostRuntime) -> Result<(), Fail> {
+    let mut map = IdOrdMap::new(rt.alloc());
+    first_two_kept(&rt, rt.alloc(), &mut map)?;
+    check(&rt, map.iter().eq(&[numbered(1, 0), numbered(2, 1)]));
+    Ok(())
+}
+
+// Whether these are two of the numbers 1 to 3, of which one was visited first and the other second.
+fn are_first_two(one: Numbered, other: Numbered) -> bool {
+    let are_of_three = (1..=3).contains(&one.number) && (1..=3).contains(&other.number);
+    let are_in_turn = matches!((one.value, other.value), (0, 1) | (1, 0));
+    are_of_three && one.number != other.number && are_in_turn
+}
+
+#[test]
+fn hash_retain_mut_by_commands(rt: HostRuntime) -> Result<(), Fail> {
+    let mut map = IdHashMap::new(rt.alloc());
+    first_two_kept(&rt, rt.alloc(), &mut map)?;
+    let mut walk = map.iter();
+    let (one, other) = (walk.next().copied(), walk.next().copied());
+    check(&rt, walk.next().is_none());
+    check(
+        &rt,
+        matches!((one, other), (Some(one), Some(other)) if are_first_two(one, other)),
+    );
+    Ok(())
+}
+
+// Whether there was memory for the commands, and the map, with room for none, says that each is done. The room then.
+fn room_after<M: Commanded<Named, [u8; 3]> + AskedForRoom + Drop>(
+    alloc: Global,
+    mut map: M,
+    commands: Result<Vec<Command<Named, [u8; 3], Untouched>>, AllocError>,
+) -> Option<usize> {
+    let replies = map.run(alloc, commands.ok()?).ok()?;
+    for reply in replies.as_slice() {
+        if !matches!(reply, Reply::Done | Reply::Inserted) {
+            return None;
+        }
+    }
+    Some(map.capacity())
+}
+
+fn reserving(alloc: Global) -> Result<Vec<Command<Named, [u8; 3], Untouched>>, AllocError> {
+    Ok(Vec::from_array(alloc, [Command::Reserve(100)])?)
+}
+
+// The room of a hundred, with one item in it, is given back but for that of the item.
+fn shrinking(alloc: Global) -> Result<Vec<Command<Named, [u8; 3], Untouched>>, AllocError> {
+    Ok(Vec::from_array(
+        alloc,
+        [
+            Command::Reserve(100),
+            Command::InsertUnique(FOO),
+            Command::Shrink,
+        ],
+    )?)
+}
+
+#[test]
+fn room_by_commands(rt: HostRuntime) {
+    let alloc = rt.alloc();
+    check(
+        &rt,
+        room_after(alloc, in_order(alloc), reserving(alloc)) == Some(100),
+    );
+    check(
+        &rt,
+        room_after(alloc, in_order(alloc), shrinking(alloc)) == Some(1),
+    );
+    check(
+        &rt,
+        room_after(alloc, by_hash(alloc), reserving(alloc)) == Some(100),
+    );
+    check(
+        &rt,
+        room_after(alloc, by_hash(alloc), shrinking(alloc)) == Some(1),
+    );
+}

@@ -1,0 +1,52 @@
+//! A `for` over a map that is only read.
+use crate::checks::check;
+use crate::insertions::{BAR, FOO};
+use iddqd::{IdHashMap, IdOrdMap};
+use std::alloc::{AllocError, Global};
+use std::process::Abort;
+use std::test::Fail;
+use test_support::items::Named;
+use test_support::maps::{AskedByKey, by_hash, in_order};
+
+const BAZ: Named = Named {
+    name: *b"baz",
+    value: 7,
+};
+
+fn with_three<M: AskedByKey<Item = Named> + Drop>(rt: &impl Abort, mut map: M) -> M {
+    check(rt, map.is_put(FOO) && map.is_put(BAR) && map.is_put(BAZ));
+    map
+}
+
+fn looped_in_order(alloc: Global, map: &IdOrdMap<Named>) -> Result<Vec<Named>, AllocError> {
+    let mut items = Vec::new(alloc);
+    for item in map {
+        items.push(*item)?;
+    }
+    Ok(items)
+}
+
+fn looped_by_hash(alloc: Global, map: &IdHashMap<Named>) -> Result<Vec<Named>, AllocError> {
+    let mut items = Vec::new(alloc);
+    for item in map {
+        items.push(*item)?;
+    }
+    Ok(items)
+}
+
+#[test]
+fn for_over_ordered_map(rt: HostRuntime) -> Result<(), Fail> {
+    let map = with_three(&rt, in_order(rt.alloc()));
+    let items = looped_in_order(rt.alloc(), map.map())?;
+    check(&rt, items.as_slice() == [BAR, BAZ, FOO].as_slice());
+    Ok(())
+}
+
+// Where nothing was taken out, the items come as they went in.
+#[test]
+fn for_over_hash_map(rt: HostRuntime) -> Result<(), Fail> {
+    let map = with_three(&rt, by_hash(rt.alloc()));
+    let items = looped_by_hash(rt.alloc(), map.map())?;
+    check(&rt, items.as_slice() == [FOO, BAR, BAZ].as_slice());
+    Ok(())
+}

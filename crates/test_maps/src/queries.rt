@@ -1,0 +1,122 @@
+//! Rows of lookups by texts, by keys of two fields, and among items that are boxed or lent.
+use crate::checks::check;
+use std::alloc::{AllocError, Global};
+use std::process::Abort;
+use std::rc::Rc;
+use std::test::Fail;
+use test_support::items::{Artifact, Release, Titled};
+use test_support::maps::{AskedByKey, AskedByText, by_hash, in_order};
+
+fn foo(alloc: Global) -> Result<Titled, AllocError> {
+    Ok(Titled {
+        name: "foo".to_string(alloc)?,
+        value: 42,
+    })
+}
+
+fn query_by_text<M: AskedByKey<Item = Titled, Key = String> + AskedByText<Item = Titled> + Drop>(
+    rt: &impl Abort,
+    name: &String,
+    item: Titled,
+    mut map: M,
+) {
+    check(rt, map.is_put(item));
+    check(rt, map.find("foo").map(|item| item.value) == Some(42));
+    check(rt, !map.contains("fo"));
+    check(rt, map.get(name).map(|item| item.value) == Some(42));
+    check(rt, map.take_out("foo").map(|item| item.value) == Some(42));
+    check(rt, map.len() == 0);
+}
+
+#[test]
+fn text_queries(rt: HostRuntime) -> Result<(), Fail> {
+    let alloc = rt.alloc();
+    let name = "foo".to_string(alloc)?;
+    query_by_text(&rt, &name, foo(alloc)?, in_order(alloc));
+    query_by_text(&rt, &name, foo(alloc)?, by_hash(alloc));
+    Ok(())
+}
+
+fn released(name: [u8; 9], data: u32) -> Artifact {
+    Artifact {
+        release: Release { name, version: 10 },
+        data,
+    }
+}
+
+fn query_by_release<M: AskedByKey<Item = Artifact, Key = Release> + Drop>(
+    rt: &impl Abort,
+    mut map: M,
+) {
+    let first = released(*b"artifact1", 1);
+    let other = Release {
+        name: *b"artifact1",
+        version: 20,
+    };
+    check(rt, map.is_put(first));
+    check(rt, map.is_put(released(*b"artifact2", 2)));
+    check(rt, map.get(&first.release).copied() == Some(first));
+    check(rt, map.get(&other).copied() == None);
+}
+
+#[test]
+fn key_of_two_fields(rt: HostRuntime) {
+    query_by_release(&rt, in_order(rt.alloc()));
+    query_by_release(&rt, by_hash(rt.alloc()));
+}
+
+// What holds an item, and shows its value.
+trait Holder {
+    fn shown(&self) -> u32;
+}
+
+impl Holder for Box<Titled> {
+    fn shown(&self) -> u32 {
+        self.value
+    }
+}
+
+impl Holder for Rc<Titled> {
+    fn shown(&self) -> u32 {
+        self.value
+    }
+}
+
+impl Holder for &Titled {
+    fn shown(&self) -> u32 {
+        self.value
+    }
+}
+
+// Whether the item goes in, and what is found by its name shows 42.
+fn is_found<T: Holder + Drop, M: AskedByKey<Item = T> + AskedByText<Item = T> + Drop>(
+    item: T,
+    mut map: M,
+) -> bool {
+    map.is_put(item) && map.find("foo").map(|item| item.shown()) == Some(42)
+}
+
+// The same of a boxed item, in a map of either kind.
+fn boxed_is_found(alloc: Global) -> Result<bool, AllocError> {
+    let is_ordered = is_found(Box::new(alloc, foo(alloc)?)?, in_order(alloc));
+    let is_hashed = is_found(Box::new(alloc, foo(alloc)?)?, by_hash(alloc));
+    Ok(is_ordered && is_hashed)
+}
+
+// The same of an item that is counted.
+fn counted_is_found(alloc: Global) -> Result<bool, AllocError> {
+    let is_ordered = is_found(Rc::new(alloc, foo(alloc)?)?, in_order(alloc));
+    let is_hashed = is_found(Rc::new(alloc, foo(alloc)?)?, by_hash(alloc));
+    Ok(is_ordered && is_hashed)
+}
+
+#[test]
+fn boxed_and_lent_items(rt: HostRuntime) -> Result<(), Fail> {
+    let alloc = rt.alloc();
+    check(&rt, boxed_is_found(alloc)?);
+    check(&rt, counted_is_found(alloc)?);
+    let item = foo(alloc)?;
+    check(&rt, is_found(&item, in_order(alloc)));
+    check(&rt, is_found(&item, by_hash(alloc)));
+    Ok(())
+}

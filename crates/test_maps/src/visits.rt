@@ -1,0 +1,206 @@
+//! Rows of visitors, and of walks that write and that retain.
+ghost use Rattle.std.specs.Prelude.{nat_eq};
+ghost use Rattle.iddqd.specs.Visiting.{VisitsKeepKeys};
+ghost use Rattle.test_support.specs.Changed.{changed};
+
+use crate::checks::check;
+use crate::insertions::{BAR, FOO, double};
+use iddqd::{IdHashMap, IdOrdMap};
+use idtable_commands::{Command, KeyedMap, Reply, run};
+use std::alloc::Global;
+use std::process::Abort;
+use std::test::Fail;
+use test_support::items::{Named, Numbered};
+use test_support::maps::{AskedByKey, AskedForRoom, by_hash, in_order};
+use test_support::nine::{are_left, retain_nine};
+use test_support::visitors::{Change, Visited};
+use test_support::walks::Walked;
+
+const BAZ: Named = Named {
+    name: *b"baz",
+    value: 99,
+};
+
+fn numbered(number: u32, value: u32) -> Numbered {
+    Numbered { number, value }
+}
+
+// The map with three numbers.
+fn of_three<M: AskedByKey<Item = Numbered, Key = u32> + Drop>(rt: &impl Abort, mut map: M) -> M {
+    for number in [3, 1, 2] {
+        check(rt, map.is_put(numbered(number, 10 * number)));
+    }
+    map
+}
+
+// The visitor, once it has kept the odd ones of three.
+fn odd_of_three<M: AskedByKey<Item = Numbered, Key = u32> + Drop + Visited>(
+    rt: &impl Abort,
+    map: M,
+) -> Change {
+    let mut map = of_three(rt, map);
+    let mut visitor = Change::KeepOdd(0);
+    map.retain_mut(&mut visitor);
+    check(rt, map.len() == 2);
+    check(rt, map.get(&1).copied() == Some(numbered(1, 11)));
+    check(rt, map.get(&3).copied() == Some(numbered(3, 31)));
+    visitor
+}
+
+// A visit that writes 0 and answers false takes nothing out.
+fn visited_by_command<M: KeyedMap<Item = Numbered, Key = u32> + Drop>(
+    rt: &impl Abort,
+    alloc: Global,
+    mut map: M,
+) -> Result<(), Fail>
+    requires keyed { M.keyed map }
+    requires keeps_keys { VisitsKeepKeys M.key nat_eq changed }
+{
+    let commands = Vec::from_array(
+        alloc,
+        [
+            Command::InsertUnique(numbered(3, 30)),
+            Command::InsertUnique(numbered(1, 10)),
+            Command::InsertUnique(numbered(2, 20)),
+            Command::Visit(1, Change::DenyAll),
+            Command::Get(1),
+        ],
+    )?;
+    let Ok(replies) = run(alloc, &mut map, commands) else {
+        return Err(Fail::from("the commands came back"));
+    };
+    let expected = [
+        Reply::Inserted,
+        Reply::Inserted,
+        Reply::Inserted,
+        Reply::Visited(false),
+        Reply::Found(numbered(1, 0)),
+    ];
+    check(rt, replies.as_slice() == expected.as_slice());
+    Ok(())
+}
+
+#[test]
+fn visitor(rt: HostRuntime) -> Result<(), Fail> {
+    let alloc = rt.alloc();
+    check(
+        &rt,
+        odd_of_three(&rt, in_order(alloc)) == Change::KeepOdd(123),
+    );
+    let _ = odd_of_three(&rt, by_hash(alloc));
+    visited_by_command(&rt, alloc, IdOrdMap::new(alloc))?;
+    visited_by_command(&rt, alloc, IdHashMap::new(alloc))
+}
+
+// The names that were asked about, once the greater values were kept.
+fn kept_by_value<M: AskedByKey<Item = Named, Key = [u8; 3]> + Walked<Named> + Drop>(
+    rt: &impl Abort,
+    alloc: Global,
+    mut map: M,
+) -> Result<Vec<[u8; 3]>, Fail> {
+    check(rt, map.is_put(FOO) && map.is_put(BAR) && map.is_put(BAZ));
+    let mut asked = Vec::with_capacity(alloc, 3)?;
+    map.retain(|item| {
+        let _ = asked.push(item.name);
+        item.value > 30
+    });
+    check(rt, map.len() == 2);
+    check(rt, map.get(b"foo").copied() == Some(FOO));
+    check(rt, map.get(b"baz").copied() == Some(BAZ));
+    check(rt, map.get(b"bar").copied() == None);
+    Ok(asked)
+}
+
+#[test]
+fn retain_by_value(rt: HostRuntime) -> Result<(), Fail> {
+    let alloc = rt.alloc();
+    let asked = kept_by_value(&rt, alloc, in_order(alloc))?;
+    check(
+        &rt,
+        asked.as_slice() == [*b"bar", *b"baz", *b"foo"].as_slice(),
+    );
+    let asked = kept_by_value(&rt, alloc, by_hash(alloc))?;
+    check(&rt, asked.len() == 3);
+    Ok(())
+}
+
+// The value of the name, by a walk that reads: the map need not be keyed for it.
+macro_rules! value_in {
+    ($map:ident, $name:literal) => {
+        $map.iter()
+            .find(|item| item.name == *$name)
+            .map(|item| item.value)
+    };
+}
+
+fn of_foo_and_bar<M: AskedByKey<Item = Named, Key = [u8; 3]> + Drop>(
+    rt: &impl Abort,
+    mut map: M,
+) -> M {
+    check(rt, map.is_put(FOO) && map.is_put(BAR));
+    map
+}
+
+// The values of foo and bar, and how many items the walk had left, once it has doubled so many.
+fn doubled_in_order(
+    rt: &impl Abort,
+    alloc: Global,
+    most: usize,
+) -> (Option<u32>, Option<u32>, usize) {
+    let map = of_foo_and_bar(rt, in_order(alloc));
+    let (map, left) = map.written(most, double);
+    (value_in!(map, b"foo"), value_in!(map, b"bar"), left)
+}
+
+fn doubled_by_hash(
+    rt: &impl Abort,
+    alloc: Global,
+    most: usize,
+) -> (Option<u32>, Option<u32>, usize) {
+    let map = of_foo_and_bar(rt, by_hash(alloc));
+    let (map, left) = map.written(most, double);
+    (value_in!(map, b"foo"), value_in!(map, b"bar"), left)
+}
+
+#[test]
+fn writing_walk(rt: HostRuntime) {
+    check(
+        &rt,
+        doubled_in_order(&rt, rt.alloc(), 3) == (Some(84), Some(40), 0),
+    );
+    check(
+        &rt,
+        doubled_by_hash(&rt, rt.alloc(), 3) == (Some(84), Some(40), 0),
+    );
+}
+
+#[test]
+fn writing_walk_of_one_item(rt: HostRuntime) {
+    check(
+        &rt,
+        doubled_in_order(&rt, rt.alloc(), 1) == (Some(42), Some(40), 1),
+    );
+    let told = doubled_by_hash(&rt, rt.alloc(), 1);
+    check(
+        &rt,
+        told == (Some(84), Some(20), 1) || told == (Some(42), Some(40), 1),
+    );
+}
+
+fn nine_left<M: AskedByKey<Item = Numbered, Key = u32> + Walked<Numbered> + AskedForRoom + Drop>(
+    rt: &impl Abort,
+    mut map: M,
+) {
+    check(rt, retain_nine(&mut map) && are_left(&map));
+    check(rt, map.vacant() == 16);
+    check(rt, map.reserve(10) == Ok(()));
+    check(rt, map.is_sound() && !map.is_compact());
+    check(rt, map.shrink_to_fit() == Ok(()));
+    check(rt, map.is_compact() && are_left(&map));
+}
+
+#[test]
+fn retain_then_shrink(rt: HostRuntime) {
+    nine_left(&rt, in_order(rt.alloc()));
+    nine_left(&rt, by_hash(rt.alloc()));
+}

@@ -1,0 +1,265 @@
+//! `run` with a request refused: the commands come back, or the replies are one of the rows that a refusal allows.
+use crate::errors::items;
+use crate::words::tell;
+use idtable_commands::{Command, Reply};
+use std::alloc::{AllocError, Global};
+use std::test::Fail;
+use test_support::heap::{arm, is_met};
+use test_support::kept::Kept;
+use test_support::maps::{AskedByKey, Commanded, by_hash, in_order};
+use test_support::visitors::Untouched;
+
+// Six commands, all of one name.
+fn commands(alloc: Global) -> Result<Vec<Command<Kept, u32, Untouched>>, AllocError> {
+    let (first, second, third) = items(alloc)?;
+    Ok(Vec::from_array(
+        alloc,
+        [
+            Command::InsertUnique(first),
+            Command::InsertUnique(second),
+            Command::Get(7),
+            Command::InsertOverwrite(third),
+            Command::Remove(7),
+            Command::Len,
+        ],
+    )?)
+}
+
+// Six more, of the same name: many items at once, and room.
+fn bulk_commands(alloc: Global) -> Result<Vec<Command<Kept, u32, Untouched>>, AllocError> {
+    let (first, second, _) = items(alloc)?;
+    let first = Vec::from_array(alloc, [first])?;
+    let second = Vec::from_array(alloc, [second])?;
+    Ok(Vec::from_array(
+        alloc,
+        [
+            Command::ExtendUnique(first),
+            Command::ExtendUnique(second),
+            Command::Reserve(100),
+            Command::Shrink,
+            Command::Remove(7),
+            Command::Len,
+        ],
+    )?)
+}
+
+/// What a reply says, its items by their values; where memory was refused, the item that came back.
+#[derive(Clone, Copy, PartialEq, Eq)]
+enum Said {
+    Done,
+    Extended(usize),
+    Conflict(u32, Option<u32>, usize),
+    Stopped(Option<u32>, usize),
+    Inserted,
+    Duplicate(u32, Option<u32>),
+    Replaced(u32),
+    Found(u32),
+    Removed(u32),
+    Length(usize),
+    NoMemory(Option<u32>),
+    Other,
+}
+
+fn reply_says(reply: &Reply<Kept>) -> Said {
+    match reply {
+        Reply::Inserted => Said::Inserted,
+        Reply::Duplicate { new, existing } => {
+            Said::Duplicate(*new.value, existing.as_ref().map(|kept| *kept.value))
+        }
+        Reply::Replaced(kept) => Said::Replaced(*kept.value),
+        Reply::Found(kept) => Said::Found(*kept.value),
+        Reply::Removed(kept) => Said::Removed(*kept.value),
+        Reply::Length(count) => Said::Length(*count),
+        Reply::Done => Said::Done,
+        Reply::Extended(count) => Said::Extended(*count),
+        Reply::Conflict {
+            new,
+            existing,
+            after,
+        } => Said::Conflict(
+            *new.value,
+            existing.as_ref().map(|kept| *kept.value),
+            *after,
+        ),
+        Reply::Stopped { item, error, after } if !error.is_capacity_overflow() => {
+            Said::Stopped(item.as_ref().map(|kept| *kept.value), *after)
+        }
+        Reply::Refused { item, error } if !error.is_capacity_overflow() => {
+            Said::NoMemory(item.as_ref().map(|kept| *kept.value))
+        }
+        _ => Said::Other,
+    }
+}
+
+// The name of a row, and what the six replies say.
+type Row = (&'static str, [Said; 6]);
+
+const ROWS: [Row; 4] = [
+    (
+        "answered",
+        [
+            Said::Inserted,
+            Said::Duplicate(2, Some(1)),
+            Said::Found(1),
+            Said::Replaced(1),
+            Said::Removed(3),
+            Said::Length(0),
+        ],
+    ),
+    (
+        "insertion_refused",
+        [
+            Said::NoMemory(Some(1)),
+            Said::Inserted,
+            Said::Found(2),
+            Said::Replaced(2),
+            Said::Removed(3),
+            Said::Length(0),
+        ],
+    ),
+    (
+        "duplicate_not_shown",
+        [
+            Said::Inserted,
+            Said::Duplicate(2, None),
+            Said::Found(1),
+            Said::Replaced(1),
+            Said::Removed(3),
+            Said::Length(0),
+        ],
+    ),
+    (
+        "clone_refused",
+        [
+            Said::Inserted,
+            Said::Duplicate(2, Some(1)),
+            Said::NoMemory(None),
+            Said::Replaced(1),
+            Said::Removed(3),
+            Said::Length(0),
+        ],
+    ),
+];
+
+// What the six others are answered, the item of the value taken out at last.
+fn bulk_row(first: Said, second: Said, reserved: Said, shrunk: Said, value: u32) -> [Said; 6] {
+    [
+        first,
+        second,
+        reserved,
+        shrunk,
+        Said::Removed(value),
+        Said::Length(0),
+    ]
+}
+
+// Where the first item is not in, the second is.
+fn bulk_rows() -> [Row; 6] {
+    let (added, done) = (Said::Extended(1), Said::Done);
+    let (none_added, back) = (Said::Stopped(None, 0), Said::Stopped(Some(1), 0));
+    let conflict = Said::Conflict(2, Some(1), 0);
+    let not_shown = Said::Conflict(2, None, 0);
+    let no_memory = Said::NoMemory(None);
+    [
+        ("answered", bulk_row(added, conflict, done, done, 1)),
+        ("none_added", bulk_row(none_added, added, done, done, 2)),
+        ("added_back", bulk_row(back, added, done, done, 2)),
+        (
+            "conflict_not_shown",
+            bulk_row(added, not_shown, done, done, 1),
+        ),
+        (
+            "room_refused",
+            bulk_row(added, conflict, no_memory, done, 1),
+        ),
+        (
+            "shrink_refused",
+            bulk_row(added, conflict, done, no_memory, 1),
+        ),
+    ]
+}
+
+// The name of the row that the replies are.
+fn row_of(rows: &[Row], replies: &[Reply<Kept>]) -> Option<&'static str> {
+    for (name, row) in rows {
+        if replies.len() == 6 && replies.iter().map(reply_says).eq(*row) {
+            return Some(*name);
+        }
+    }
+    None
+}
+
+// Runs the commands on a new map with a request refused: the row that came, and whether a request was refused. Commands that come back
+// are run again.
+fn swept_run<M: AskedByKey<Item = Kept, Key = u32> + Commanded<Kept, u32>>(
+    alloc: Global,
+    map: &mut M,
+    commands: Vec<Command<Kept, u32, Untouched>>,
+    rows: &[Row],
+) -> Result<(&'static str, bool), Fail> {
+    arm(alloc);
+    let outcome = map.run(alloc, commands);
+    let is_met = is_met(alloc);
+    match outcome {
+        Ok(replies) => match row_of(rows, replies.as_slice()) {
+            Some(row) if map.len() == 0 => Ok((row, is_met)),
+            _ => Err(Fail::from("the replies are no row")),
+        },
+        Err(stop) => {
+            let none_ran = is_met && map.len() == 0;
+            let again = map
+                .run(alloc, stop.commands)
+                .map_err(|_| "no memory for the replies")?;
+            if none_ran && row_of(rows, again.as_slice()) == Some("answered") {
+                return Ok(("commands_back", true));
+            }
+            Err(Fail::from("the commands did not come back whole"))
+        }
+    }
+}
+
+// The word for a row that says of a refusal exactly where one was met.
+fn word((row, is_met): (&'static str, bool)) -> Result<&'static str, Fail> {
+    if (row != "answered") == is_met {
+        return Ok(row);
+    }
+    Err(Fail::from("a refusal is not told, or none was met"))
+}
+
+fn run_by<M: AskedByKey<Item = Kept, Key = u32> + Commanded<Kept, u32>>(
+    alloc: Global,
+    map: &mut M,
+) -> Result<&'static str, Fail> {
+    word(swept_run(alloc, map, commands(alloc)?, &ROWS)?)
+}
+
+// The same of the six others. The store keeps its room where a shrink meets a refusal there, and the reply does not say so.
+fn bulk_run_by<M: AskedByKey<Item = Kept, Key = u32> + Commanded<Kept, u32>>(
+    alloc: Global,
+    map: &mut M,
+) -> Result<&'static str, Fail> {
+    match swept_run(alloc, map, bulk_commands(alloc)?, &bulk_rows())? {
+        ("answered", true) => Ok("shrunk_without"),
+        seen => word(seen),
+    }
+}
+
+#[test]
+fn run_of_commands(rt: HostRuntime) -> Result<(), Fail> {
+    tell(&rt, run_by(rt.alloc(), &mut in_order(rt.alloc())))
+}
+
+#[test]
+fn hash_run_of_commands(rt: HostRuntime) -> Result<(), Fail> {
+    tell(&rt, run_by(rt.alloc(), &mut by_hash(rt.alloc())))
+}
+
+#[test]
+fn run_of_bulk_commands(rt: HostRuntime) -> Result<(), Fail> {
+    tell(&rt, bulk_run_by(rt.alloc(), &mut in_order(rt.alloc())))
+}
+
+#[test]
+fn hash_run_of_bulk_commands(rt: HostRuntime) -> Result<(), Fail> {
+    tell(&rt, bulk_run_by(rt.alloc(), &mut by_hash(rt.alloc())))
+}

@@ -1,0 +1,64 @@
+//! Iterators whose hints lie, with a request refused.
+use crate::words::tell;
+use std::alloc::Global;
+use std::test::Fail;
+use test_support::bulk::{Bulk, is_not_taken_in};
+use test_support::heap::{arm, is_met};
+use test_support::items::Named;
+use test_support::maps::{AskedByKey, AskedForRoom, AskedToInsert, Inserted, by_hash, in_order};
+
+const FOO: Named = Named {
+    name: *b"foo",
+    value: 42,
+};
+
+const BAR: Named = Named {
+    name: *b"bar",
+    value: 20,
+};
+
+// Puts in the item, again where it is refused: whether it was refused, or `None` where it is not in.
+fn put_at_last<M: AskedToInsert<Named>>(map: &mut M, item: Named) -> Option<bool> {
+    match map.insert(item) {
+        Inserted::Done => Some(false),
+        Inserted::Refused(back, _) if back == item && map.insert(item) == Inserted::Done => Some(
+            true,
+        ),
+        _ => None,
+    }
+}
+
+// Whether the map is sound and has foo and bar.
+fn has_both<M: AskedByKey<Item = Named, Key = [u8; 3]> + AskedForRoom>(map: &M) -> bool {
+    let are_found = map.get(b"foo") == Some(&FOO) && map.get(b"bar") == Some(&BAR);
+    are_found && map.len() == 2 && map.is_sound()
+}
+
+// The word for a map that an iterator lies to before and after it has two items: a request that is refused is one of theirs.
+fn lied_to<
+    M: AskedByKey<Item = Named, Key = [u8; 3]> + AskedToInsert<Named> + AskedForRoom + Bulk<Named>,
+>(alloc: Global, map: &mut M) -> Result<&'static str, Fail> {
+    arm(alloc);
+    let is_empty_kept = is_not_taken_in(map) && map.len() == 0;
+    let refused = (put_at_last(map, FOO), put_at_last(map, BAR));
+    let is_kept = is_empty_kept && is_not_taken_in(map);
+    let is_met = is_met(alloc);
+    match refused {
+        (Some(false), Some(false)) if is_kept && !is_met && has_both(map) => Ok("no_item_refused"),
+        (Some(true), Some(false)) | (Some(false), Some(true))
+            if is_kept && is_met && has_both(map) => { Ok("hint_refused") }
+        _ => Err(Fail::from("a hint was believed, or the map is not as it was")),
+    }
+}
+
+#[test]
+fn lying_hints(rt: HostRuntime) -> Result<(), Fail> {
+    let mut map = in_order(rt.alloc());
+    tell(&rt, lied_to(rt.alloc(), &mut map))
+}
+
+#[test]
+fn hash_lying_hints(rt: HostRuntime) -> Result<(), Fail> {
+    let mut map = by_hash(rt.alloc());
+    tell(&rt, lied_to(rt.alloc(), &mut map))
+}

@@ -1,0 +1,262 @@
+//! What a row asks of the bulk calls of a map of either kind, and iterators that lie.
+ghost use Rattle.std.specs.Iterator.{IsFiniteIterable};
+
+use crate::items::Named;
+use crate::maps::{Hashed, Ordered, both};
+use iddqd::errors::{ExtendError, ExtendUniqueError, FromIterError, TryReserveError};
+use iddqd::{IdHashItem, IdHashMap, IdOrdItem, IdOrdMap, Keyed};
+use std::alloc::Global;
+use std::hash::BuildHasher;
+
+/// What adding many items left: all of them, the first conflict's new item and the one that is there, or a refusal.
+#[derive(Drop, PartialEq, Eq)]
+pub enum Added<T> {
+    All,
+    Conflict(T, Option<T>),
+    Stopped(Option<T>, TryReserveError),
+}
+
+/// A map of either kind, by its calls on many items.
+pub trait Bulk<T>: Sized {
+    /// `from_iter`.
+    fn collected<U: IntoIterator<Item = T>>(
+        alloc: Global,
+        items: U,
+    ) -> Result<Self, TryReserveError>
+    where
+        T: Drop,
+        requires ends { IsFiniteIterable U.into_iter_gives U.IntoIter.can_next U.IntoIter.remaining items };
+
+    /// `from_iter_unique`.
+    fn collected_unique<U: IntoIterator<Item = T>>(
+        alloc: Global,
+        items: U,
+    ) -> Result<Self, FromIterError<T>>
+    where
+        T: Drop,
+        requires ends { IsFiniteIterable U.into_iter_gives U.IntoIter.can_next U.IntoIter.remaining items };
+
+    /// `extend`.
+    fn extend<U: IntoIterator<Item = T>>(&mut self, items: U) -> Result<(), ExtendError<T>>
+    where
+        T: Drop,
+        requires ends { IsFiniteIterable U.into_iter_gives U.IntoIter.can_next U.IntoIter.remaining items };
+}
+
+impl<T: IdOrdItem> Bulk<T> for Ordered<T> {
+    fn collected<U: IntoIterator<Item = T>>(
+        alloc: Global,
+        items: U,
+    ) -> Result<Ordered<T>, TryReserveError>
+    where
+        T: Drop,
+    {
+        Ok(Ordered::new(IdOrdMap::from_iter(alloc, items)?))
+    }
+
+    fn collected_unique<U: IntoIterator<Item = T>>(
+        alloc: Global,
+        items: U,
+    ) -> Result<Ordered<T>, FromIterError<T>>
+    where
+        T: Drop,
+    {
+        Ok(Ordered::new(IdOrdMap::from_iter_unique(alloc, items)?))
+    }
+
+    fn extend<U: IntoIterator<Item = T>>(&mut self, items: U) -> Result<(), ExtendError<T>>
+    where
+        T: Drop,
+    {
+        self.map.extend(items)
+    }
+}
+
+impl<T: IdHashItem, S: BuildHasher + Default + Drop> Bulk<T> for Hashed<T, S> {
+    fn collected<U: IntoIterator<Item = T>>(
+        alloc: Global,
+        items: U,
+    ) -> Result<Hashed<T, S>, TryReserveError>
+    where
+        T: Drop,
+    {
+        Ok(Hashed::new(IdHashMap::from_iter(alloc, items)?))
+    }
+
+    fn collected_unique<U: IntoIterator<Item = T>>(
+        alloc: Global,
+        items: U,
+    ) -> Result<Hashed<T, S>, FromIterError<T>>
+    where
+        T: Drop,
+    {
+        Ok(Hashed::new(IdHashMap::from_iter_unique(alloc, items)?))
+    }
+
+    fn extend<U: IntoIterator<Item = T>>(&mut self, items: U) -> Result<(), ExtendError<T>>
+    where
+        T: Drop,
+    {
+        self.map.extend(items)
+    }
+}
+
+/// A map of either kind, by `extend_unique`.
+pub trait Adding<T>: Sized {
+    /// `extend_unique`, with what is lent copied.
+    fn add_each<U: IntoIterator<Item = T>>(&mut self, items: U) -> Added<T>
+        requires ends { IsFiniteIterable U.into_iter_gives U.IntoIter.can_next U.IntoIter.remaining items };
+}
+
+impl<T: IdOrdItem + Copy + Drop> Adding<T> for Ordered<T> {
+    fn add_each<U: IntoIterator<Item = T>>(&mut self, items: U) -> Added<T> {
+        match self.map.extend_unique(items) {
+            Ok(()) => Added::All,
+            Err(error) => stopped(error),
+        }
+    }
+}
+
+impl<T: IdHashItem + Copy + Drop> Adding<T> for Hashed<T> {
+    fn add_each<U: IntoIterator<Item = T>>(&mut self, items: U) -> Added<T> {
+        add_by_hash(&mut self.map, items)
+    }
+}
+
+fn add_by_hash<T: IdHashItem + Copy + Drop, S: BuildHasher, U: IntoIterator<Item = T>>(
+    map: &mut IdHashMap<T, S>,
+    items: U,
+) -> Added<T>
+    requires keyed { ⟦<IdHashMap<T, S> as Keyed>⟧.keyed map.old }
+    requires ends { IsFiniteIterable U.into_iter_gives U.IntoIter.can_next U.IntoIter.remaining items }
+    ensures keyed { ⟦<IdHashMap<T, S> as Keyed>⟧.keyed map.new }
+{
+    match map.extend_unique(items) {
+        Ok(()) => Added::All,
+        Err(error) => stopped(error),
+    }
+}
+
+// What ends the adding, with what is lent copied.
+fn stopped<T: Copy>(error: ExtendUniqueError<T>) -> Added<T> {
+    match error {
+        ExtendUniqueError::Duplicate(conflict) => {
+            let (new, there) = both(&conflict);
+            Added::Conflict(new, there)
+        }
+        ExtendUniqueError::Refused(stopped) => Added::Stopped(stopped.item, stopped.error),
+    }
+}
+
+/// An iterator that announces items, has none, and counts how often it is asked.
+#[derive(Drop)]
+pub struct Liar {
+    announced: usize,
+    asked: u32,
+}
+
+impl Liar {
+    /// One that announces more items than there can be, and was not asked yet.
+    pub fn new() -> Liar {
+        Liar::announcing(usize::MAX)
+    }
+
+    /// One that announces so many items, and was not asked yet.
+    pub fn announcing(announced: usize) -> Liar {
+        Liar {
+            announced,
+            asked: 0,
+        }
+    }
+
+    /// How often it was asked.
+    pub fn asked(&self) -> u32 {
+        self.asked
+    }
+}
+
+impl Iterator for Liar {
+    type Item = Named;
+
+    ghost use Rattle.std.specs.Iterator.{at_most};
+
+    ghost remaining = { λ liar. at_most liar.announced };
+
+    fn next(&mut self) -> Option<Named> {
+        self.asked = self.asked.saturating_add(1);
+        None
+    }
+
+    fn size_hint(&self) -> (usize, Option<usize>) {
+        (self.announced, None)
+    }
+}
+
+/// Whether the map refuses what a liar announces before it asks it.
+pub fn is_not_taken_in<M: Bulk<Named>>(map: &mut M) -> bool {
+    let mut liar = Liar::new();
+    let refused = match map.extend(&mut liar) {
+        Ok(()) => false,
+        Err(stopped) => stopped.item.is_none() && stopped.error.is_capacity_overflow(),
+    };
+    refused && liar.asked() == 0
+}
+
+/// An iterator over a vector's items, from the last one on, that announces none.
+#[derive(Drop)]
+pub struct Unannounced {
+    items: Vec<Named>,
+}
+
+impl Unannounced {
+    /// One over these items.
+    pub fn new(items: Vec<Named>) -> Unannounced {
+        Unannounced { items }
+    }
+}
+
+impl Iterator for Unannounced {
+    type Item = Named;
+
+    ghost use Rattle.std.specs.Prelude.{length};
+    ghost use Rattle.std.specs.Iterator.{at_most};
+
+    ghost remaining = { λ u. at_most (length u.items.items) };
+
+    fn next(&mut self) -> Option<Named> {
+        self.items.pop()
+    }
+}
+
+/// Gives the items of a list, and announces that so many are to come at least.
+#[derive(Drop)]
+pub struct Hinted<'a, T> {
+    rest: &'a [T],
+    hint: usize,
+}
+
+impl<'a, T> Hinted<'a, T> {
+    /// Before the first item.
+    pub fn new(items: &'a [T], hint: usize) -> Hinted<'a, T> {
+        Hinted { rest: items, hint }
+    }
+}
+
+impl<T: Copy> Iterator for Hinted<'_, T> {
+    type Item = T;
+
+    ghost use Rattle.std.specs.Prelude.{◌+◌, length};
+    ghost use Rattle.std.specs.Iterator.{at_most};
+
+    ghost remaining = { λ hinted. at_most (hinted.hint + length hinted.rest.now) };
+
+    fn next(&mut self) -> Option<T> {
+        let (first, rest) = self.rest.split_first()?;
+        self.rest = rest;
+        Some(*first)
+    }
+
+    fn size_hint(&self) -> (usize, Option<usize>) {
+        (self.hint, None)
+    }
+}

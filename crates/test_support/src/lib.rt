@@ -1,0 +1,23 @@
+//! What the tests of more than one crate stand on: items, a map under test, fakes, and the count of requests for memory.
+#![tactic(auto)]
+
+pub mod bulk;
+pub mod copied;
+pub mod counted;
+pub mod counting;
+pub mod ends;
+pub mod entered;
+pub mod guards;
+pub mod hashers;
+pub mod heap;
+pub mod items;
+pub mod maps;
+pub mod nine;
+pub mod parts;
+pub mod plain;
+pub mod respelled;
+pub mod tickets;
+pub mod visitors;
+pub mod walks;
+
+pub use test_coarse::{caseless, kept};

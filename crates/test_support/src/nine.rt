@@ -1,0 +1,41 @@
+//! Nine items that are left of twenty-five, with vacant slots among them.
+use crate::items::Numbered;
+use crate::maps::AskedByKey;
+use crate::walks::Walked;
+
+const IDS: [u32; 25] = [
+    0, 17, 1, 12, 5, 21, 8, 10, 18, 4, 16, 22, 9, 24, 23, 13, 7, 25, 26, 20, 31, 11, 14, 2, 6,
+];
+
+const LEFT: [u32; 9] = [1, 5, 7, 11, 13, 17, 23, 25, 31];
+
+// The value is the id once more.
+fn of_id(id: u32) -> Numbered {
+    Numbered {
+        number: id,
+        value: id,
+    }
+}
+
+/// Puts in the twenty-five, and retains the odd ones that three does not divide: whether each went in.
+pub fn retain_nine<M: AskedByKey<Item = Numbered, Key = u32> + Walked<Numbered>>(
+    map: &mut M,
+) -> bool {
+    for id in IDS {
+        if !map.is_put(of_id(id)) {
+            return false;
+        }
+    }
+    map.retain(|item| item.number % 2 == 1 && item.number % 3 != 0);
+    true
+}
+
+/// Whether the nine are there, and no others.
+pub fn are_left<M: AskedByKey<Item = Numbered, Key = u32>>(map: &M) -> bool {
+    for id in LEFT {
+        if map.get(&id) != Some(&of_id(id)) {
+            return false;
+        }
+    }
+    map.len() == 9
+}

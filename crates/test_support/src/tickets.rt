@@ -1,0 +1,223 @@
+//! Items that count how often one is dropped, and what a row asks of a map of either kind that drops them.
+ghost use Rattle.iddqd.specs.Contents.{Ascends};
+
+use crate::maps::{Hashed, Ordered};
+use iddqd::{IdHashItem, IdHashMap, IdOrdItem, IdOrdMap, Keyed, Visit, id_hash_map, id_ord_map};
+use std::cell::Cell;
+
+/// A number, and the cell that counts each drop of such an item.
+pub struct Ticket<'a> {
+    pub number: u32,
+    pub dropped: &'a Cell<u32>,
+}
+
+impl Drop for Ticket<'_> {
+    fn drop(self) {
+        let Ticket { number: _, dropped } = self;
+        dropped.set(dropped.get().saturating_add(1));
+    }
+}
+
+impl IdOrdItem for Ticket<'_> {
+    type Key = u32;
+
+    ghost key = { λ ticket. ticket.number };
+
+    fn key(&self) -> &u32 {
+        &self.number
+    }
+}
+
+impl IdHashItem for Ticket<'_> {
+    type Key = u32;
+
+    ghost key = { λ ticket. ticket.number };
+
+    fn key(&self) -> &u32 {
+        &self.number
+    }
+}
+
+/// Keeps the items of even numbers.
+#[derive(Clone, Copy)]
+pub struct KeepsEven;
+
+impl<'a> Visit<Ticket<'a>> for KeepsEven {
+    ghost use Rattle.std.specs.Prelude.{◌%◌, nat_eq};
+
+    ghost visits = { λ visitor item. (visitor, item, nat_eq (item.number % 2) 0) };
+
+    fn visit(&mut self, item: &mut Ticket<'a>) -> bool {
+        item.number % 2 == 0
+    }
+}
+
+/// Gives a vector's items, and announces that so many are to come at least.
+#[derive(Drop)]
+pub struct Announced<'a> {
+    items: Vec<Ticket<'a>>,
+    hint: usize,
+}
+
+impl<'a> Announced<'a> {
+    /// Before the first item.
+    pub fn new(items: Vec<Ticket<'a>>, hint: usize) -> Announced<'a> {
+        Announced { items, hint }
+    }
+}
+
+impl<'a> Iterator for Announced<'a> {
+    type Item = Ticket<'a>;
+
+    ghost use Rattle.std.specs.Prelude.{◌+◌, length};
+    ghost use Rattle.std.specs.Iterator.{at_most};
+
+    ghost remaining = { λ announced. at_most (announced.hint + length announced.items.items) };
+
+    fn next(&mut self) -> Option<Ticket<'a>> {
+        self.items.pop()
+    }
+
+    fn size_hint(&self) -> (usize, Option<usize>) {
+        (self.hint, None)
+    }
+}
+
+/// A map of either kind, by its calls that drop items beside those that rows ask by keys. Whether an entry was of the kind
+/// that the call needs.
+pub trait Dropping<'a> {
+    /// `retain_mut`, which keeps the items of even numbers.
+    fn keep_even(&mut self);
+
+    /// `into_iter`, which is dropped after so many steps. How many of them gave an item, which is dropped too.
+    fn walk_part(self, most: usize) -> usize;
+
+    /// `insert` of an occupied entry, whose old item is dropped, and then the map.
+    fn replace_by_entry(self, item: Ticket<'a>) -> bool;
+
+    /// `remove` of an occupied entry, whose item is dropped, and then the map.
+    fn remove_by_entry(self, number: u32) -> bool;
+
+    /// `or_insert`, where an occupied entry drops the item; the map is dropped then.
+    fn find_or_put(self, item: Ticket<'a>) -> bool;
+}
+
+impl<'a> Dropping<'a> for Ordered<Ticket<'a>> {
+    fn keep_even(&mut self) {
+        self.map.retain_mut(&mut KeepsEven);
+    }
+
+    fn walk_part(self, most: usize) -> usize {
+        self.map.into_iter().take(most).count()
+    }
+
+    fn replace_by_entry(self, item: Ticket<'a>) -> bool {
+        replace_in_order(self.map, item)
+    }
+
+    fn remove_by_entry(self, number: u32) -> bool {
+        remove_in_order(self.map, number)
+    }
+
+    fn find_or_put(self, item: Ticket<'a>) -> bool {
+        find_or_put_in_order(self.map, item)
+    }
+}
+
+impl<'a> Dropping<'a> for Hashed<Ticket<'a>> {
+    fn keep_even(&mut self) {
+        self.map.retain_mut(&mut KeepsEven);
+    }
+
+    fn walk_part(self, most: usize) -> usize {
+        self.map.into_iter().take(most).count()
+    }
+
+    fn replace_by_entry(self, item: Ticket<'a>) -> bool {
+        replace_by_hash(self.map, item)
+    }
+
+    fn remove_by_entry(self, number: u32) -> bool {
+        remove_by_hash(self.map, number)
+    }
+
+    fn find_or_put(self, item: Ticket<'a>) -> bool {
+        find_or_put_by_hash(self.map, item)
+    }
+}
+
+fn replace_in_order<'a>(mut map: IdOrdMap<Ticket<'a>>, item: Ticket<'a>) -> bool
+    requires keyed { Ascends ⟦<Ticket<'a> as IdOrdItem>⟧.key ⟦<u32 as Ord>⟧.cmp map.items }
+{
+    let number = item.number;
+    match map.entry(&number) {
+        id_ord_map::Entry::Occupied(mut entry) => {
+            drop(entry.insert(item));
+            true
+        }
+        id_ord_map::Entry::Vacant(_) => false,
+    }
+}
+
+fn remove_in_order<'a>(mut map: IdOrdMap<Ticket<'a>>, number: u32) -> bool
+    requires keyed { Ascends ⟦<Ticket<'a> as IdOrdItem>⟧.key ⟦<u32 as Ord>⟧.cmp map.items }
+{
+    match map.entry(&number) {
+        id_ord_map::Entry::Occupied(entry) => {
+            drop(entry.remove());
+            true
+        }
+        id_ord_map::Entry::Vacant(_) => false,
+    }
+}
+
+fn find_or_put_in_order<'a>(mut map: IdOrdMap<Ticket<'a>>, item: Ticket<'a>) -> bool
+    requires keyed { Ascends ⟦<Ticket<'a> as IdOrdItem>⟧.key ⟦<u32 as Ord>⟧.cmp map.items }
+{
+    let number = item.number;
+    match map.entry(&number).or_insert(item) {
+        Ok(lent) => {
+            lent.finish();
+            true
+        }
+        Err(_refused) => false,
+    }
+}
+
+fn replace_by_hash<'a>(mut map: IdHashMap<Ticket<'a>>, item: Ticket<'a>) -> bool
+    requires keyed { ⟦<IdHashMap<Ticket<'a>> as Keyed>⟧.keyed map }
+{
+    let number = item.number;
+    match map.entry(&number) {
+        id_hash_map::Entry::Occupied(mut entry) => {
+            drop(entry.insert(item));
+            true
+        }
+        id_hash_map::Entry::Vacant(_) => false,
+    }
+}
+
+fn remove_by_hash<'a>(mut map: IdHashMap<Ticket<'a>>, number: u32) -> bool
+    requires keyed { ⟦<IdHashMap<Ticket<'a>> as Keyed>⟧.keyed map }
+{
+    match map.entry(&number) {
+        id_hash_map::Entry::Occupied(entry) => {
+            drop(entry.remove());
+            true
+        }
+        id_hash_map::Entry::Vacant(_) => false,
+    }
+}
+
+fn find_or_put_by_hash<'a>(mut map: IdHashMap<Ticket<'a>>, item: Ticket<'a>) -> bool
+    requires keyed { ⟦<IdHashMap<Ticket<'a>> as Keyed>⟧.keyed map }
+{
+    let number = item.number;
+    match map.entry(&number).or_insert(item) {
+        Ok(lent) => {
+            lent.finish();
+            true
+        }
+        Err(_refused) => false,
+    }
+}

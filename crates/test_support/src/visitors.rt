@@ -1,0 +1,76 @@
+//! Visitors of the rows.
+ghost use Rattle.std.specs.Prelude.{true};
+
+use crate::items::Numbered;
+use crate::maps::{Hashed, Ordered};
+use iddqd::Visit;
+use idtable_commands::KeyedMap;
+
+/// Leaves each item as it is, and keeps it.
+#[derive(Clone, Copy, PartialEq, Eq)]
+pub struct Untouched;
+
+impl<T> Visit<T> for Untouched {
+    ghost visits = { λ visitor item. (visitor, item, true) };
+
+    fn visit(&mut self, _item: &mut T) -> bool {
+        true
+    }
+}
+
+/// What is done with a numbered item: one more for its value, and odd numbers stay; or 0 for its value, and none stays.
+#[derive(Clone, Copy, PartialEq, Eq)]
+pub enum Change {
+    /// With the digits of the numbers that were seen.
+    KeepOdd(u32),
+    DenyAll,
+}
+
+impl Visit<Numbered> for Change {
+    ghost use Rattle.test_support.specs.Changed.{changed};
+
+    ghost visits = { changed };
+
+    fn visit(&mut self, item: &mut Numbered) -> bool {
+        match self {
+            Change::KeepOdd(seen) => {
+                *seen = seen.wrapping_mul(10).wrapping_add(item.number);
+                item.value = item.value.wrapping_add(1);
+                item.number % 2 == 1
+            }
+            Change::DenyAll => {
+                item.value = 0;
+                false
+            }
+        }
+    }
+}
+
+/// A map of either kind, by its calls that visit.
+pub trait Visited {
+    /// A visit of the item of the number: what the visitor answered (`get_mut`).
+    fn visit(&mut self, number: u32, visitor: &mut Change) -> Option<bool>;
+
+    /// `retain_mut`.
+    fn retain_mut(&mut self, visitor: &mut Change);
+}
+
+impl Visited for Ordered<Numbered> {
+    fn visit(&mut self, number: u32, visitor: &mut Change) -> Option<bool> {
+        self.map.visit(&number, visitor)
+    }
+
+    fn retain_mut(&mut self, visitor: &mut Change) {
+        self.map.retain_mut(visitor);
+    }
+}
+
+impl Visited for Hashed<Numbered> {
+    fn visit(&mut self, number: u32, visitor: &mut Change) -> Option<bool> {
+        self.map.visit(&number, visitor)
+    }
+
+    fn retain_mut(&mut self, visitor: &mut Change) {
+        self.map.retain_mut(visitor);
+    }
+}
