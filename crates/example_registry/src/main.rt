@@ -1,5 +1,5 @@
-//! A registry of call signs that counts their visits, equal in whatever case they are written. It leans on this promise: an item
-//! that is put over one of an equal key takes its place whole, the spelling of its key too.
+//! A registry of call signs that counts their visits, equal in any case. It relies on this promise: an item that
+//! overwrites one of an equal key takes its place whole, the spelling of its key too.
 #![tactic(auto)]
 
 ghost use Rattle.std.specs.Prelude.{◌≡◌, IfNone, IfSome, OnSome};

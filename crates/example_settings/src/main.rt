@@ -1,5 +1,6 @@
-//! Settings that come in lines, each a name and a value. It leans on two promises: `from_iter_unique` reports the first name that a
-//! line has twice, and `insert_unique` a name that an earlier line has; each shows both items, and nothing is overwritten.
+//! Settings in lines, each a name and a value. It relies on two promises: `from_iter_unique` reports the first name
+//! that a line has twice, and `insert_unique` one that an earlier line has. Each shows both items, and nothing is
+//! overwritten.
 #![tactic(auto)]
 
 ghost use Rattle.std.specs.Prelude.{◌≡◌, List, IfNone, IfOk, IfSome, option_map};

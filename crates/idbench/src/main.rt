@@ -1,5 +1,6 @@
-//! Times the maps against std's, in one run, taking turns: `idbench [check|full]`. A line has the map, the type of the keys, how many
-//! items there are, the phase, the nanoseconds an operation of ours and of std's, and their ratio.
+//! Times the maps against std's, in one run, taking turns: `idbench [check|full]`. A line has the map, the type of
+//! the keys, the number of items, and the phase. After them come the nanoseconds an operation of this map and of
+//! std's, and their ratio.
 #![tactic(auto)]
 
 mod items;

@@ -68,7 +68,7 @@ impl Plan {
         Ok(Plan { size, shuffled })
     }
 
-    // The keys of these numbers, each so many above.
+    // The keys of these numbers, each this much above.
     fn keys<K: BenchKey>(&self, alloc: Global, above: u64) -> Result<Vec<K>, AllocError> {
         let mut keys = Vec::with_capacity(alloc, self.shuffled.len())?;
         for number in self.shuffled.as_slice() {
@@ -77,7 +77,7 @@ impl Plan {
         Ok(keys)
     }
 
-    // What goes in for these numbers, each so many above, in another order.
+    // What goes in for these numbers, each this much above, in another order.
     fn loads<S: Subject>(&self, alloc: Global, above: u64) -> Result<Vec<S::Load>, AllocError> {
         let mut loads = Vec::with_capacity(alloc, self.shuffled.len())?;
         for number in self.shuffled.as_slice().iter().rev() {

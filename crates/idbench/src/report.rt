@@ -21,7 +21,7 @@ fn write_tenths(out: &mut impl Write, tenths: u64) -> io::Result<()> {
     write!(out, "{:>6}.{} ", tenths / 10, tenths % 10)
 }
 
-// The tenths of a nanosecond that an operation took of ours and of std's, their ratio, and a bar that shows it.
+// The tenths of a nanosecond that an operation took of this map and of std's, their ratio, and a bar that shows it.
 fn write_pair(out: &mut impl Write, ours: u64, std: u64) -> io::Result<()> {
     write_tenths(out, ours)?;
     write_tenths(out, std)?;
@@ -30,7 +30,8 @@ fn write_pair(out: &mut impl Write, ours: u64, std: u64) -> io::Result<()> {
     write_bar(out, ratio)
 }
 
-/// Writes a line a phase that both have: the nanoseconds an operation of ours and of std's, their ratio, and a bar that shows it.
+/// Writes a line for each phase that both have: the nanoseconds an operation of this map and of std's, their ratio,
+/// and a bar.
 pub(crate) fn write_times(
     out: &mut impl Write,
     pair: (&str, &str),

@@ -1,4 +1,4 @@
-//! The maps that are timed, under one trait: ours, and std's with each key beside its item.
+//! The maps that are timed, under one trait: this library's, and std's with each key beside its item.
 use crate::items::{BenchKey, Item, item_of};
 use iddqd::{IdHashMap, IdOrdMap};
 use std::alloc::{AllocError, Global};
@@ -16,7 +16,7 @@ pub(crate) trait Subject: Drop {
     /// A map without items.
     fn empty(alloc: Global) -> Self;
 
-    /// A map without items that has room for so many; `None` where there is no such call, or no memory.
+    /// A map without items that has room for this many; `None` if there is no such call, or no memory.
     fn with_room(alloc: Global, size: usize) -> Option<Self>;
 
     /// What goes in for the number.
@@ -28,7 +28,7 @@ pub(crate) trait Subject: Drop {
     /// The value of the key's item.
     fn value(&self, key: &Self::Key) -> Option<u64>;
 
-    /// Takes out the key's item, and answers its value.
+    /// Removes the key's item, and returns its value.
     fn take(&mut self, key: &Self::Key) -> Option<u64>;
 
     /// The sum of all values, by a walk.

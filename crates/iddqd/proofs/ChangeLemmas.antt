@@ -1,4 +1,5 @@
--- What a caller may name for its own proof after a change, of either map: what a lookup finds then, and how many items there are.
+-- What a caller may cite for its own proof after a change of either map: what a lookup finds then, and the number
+-- of items.
 --     after_changes      all of them; alone, of a lookup by a test p of the items:
 --     find_inserted, find_beside_inserted      the item that was inserted, and any other
 --     find_removed, still_found_removed, still_absent_removed      the item that was removed, one that was found besides, and one that was not

@@ -1,2 +1,2 @@
-//! What the crate's own tests ask of a map (the crate's module of that name), and what stands on both maps.
+//! What checks a map's structure, under the Rust crate's path, and what crates above both maps share.
 pub use iddqd_store::{ValidateCompact, ValidationError, room_to_reserve};

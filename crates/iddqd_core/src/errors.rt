@@ -1,4 +1,4 @@
-//! What is answered where an item is not taken.
+//! The errors of calls that insert or make room.
 pub use iddqd_store::{
     DuplicateItem, ExtendError, ExtendUniqueError, Few, FromIterError, InsertError, Refused,
     TryReserveError,

@@ -20,20 +20,19 @@ use regroup::{MOST_ROOM, groups_for, regrouped, room_of};
 use std::alloc::{AllocError, Global};
 use std::marker::Model;
 
-/// Pairs of a hash and a slot, each slot once (ours: the crate has hashbrown's `HashTable`). It computes no hash, and
-/// only `find` looks at items. Contracts see the pairs, in no order, and how many more can be added.
-///
-/// The pairs lie in groups of twelve lanes, with room for nine pairs in each group on the whole, so that each pair that
-/// there is room for takes 18 bytes. The hash chooses the group where a walk begins, its home, and a pair that finds a
-/// group full goes on to the next. A removal leaves nothing behind, and a growth reads the hashes that are there.
+/// Pairs of a hash and a slot, each slot once. It computes no hash, and only `find` looks at items. Contracts see
+/// the pairs, in no order, and how many more can be added.
+/// The pairs are in groups of twelve lanes, with room for nine pairs in each group on average, so a pair takes 18
+/// bytes. The hash chooses the group where a search begins, its home. A pair that finds a group full goes to the
+/// next. A removal leaves nothing behind, and a growth reads the stored hashes.
 #[derive(Drop)]
 pub struct HashIndex {
     groups: Vec<Group>,
     // The hash of each lane, group by group.
     hashes: Vec<u64>,
-    // How many pairs there are.
+    // The number of pairs.
     len: usize,
-    // How many pairs fit, which are never more than there are slot numbers.
+    // The number of pairs that fit, never more than there are slot numbers.
     room: usize,
 }
 
@@ -50,7 +49,7 @@ impl Model for HashIndex {
 }
 
 impl HashIndex {
-    /// An index without pairs. It takes no memory.
+    /// Returns an index without pairs. Does not allocate.
     pub fn new(alloc: Global) -> Self
         ensures pairs { result.pairs ≡ [] }
         ensures spare { result.spare ≡ 0 }
@@ -63,7 +62,8 @@ impl HashIndex {
         }
     }
 
-    /// An index without pairs, with room for so many. It is refused only for want of memory, and never where that is none.
+    /// Returns an index without pairs, with room for this many. It returns an error only if memory is refused; for
+    /// 0 it does not allocate.
     pub fn with_capacity(alloc: Global, capacity: usize) -> Result<Self, TryReserveError>
         ensures pairs { IfOk result (λ i. i.pairs ≡ []) }
         ensures spare { IfOk result (λ i. capacity ≤ i.spare) }
@@ -75,7 +75,7 @@ impl HashIndex {
         Ok(index)
     }
 
-    /// How many pairs there are. It counts none of them.
+    /// Returns the number of pairs, in constant time.
     #[inline]
     pub fn len(&self) -> usize
         ensures number { result ≡ length self.now.pairs }
@@ -84,7 +84,7 @@ impl HashIndex {
         self.len
     }
 
-    /// How many more pairs can be added before memory is needed.
+    /// Returns how many more pairs can be added before memory is needed.
     #[inline]
     pub fn spare(&self) -> usize
         ensures { result ≡ self.now.spare }
@@ -92,9 +92,9 @@ impl HashIndex {
         self.room - self.len
     }
 
-    /// Makes room for `additional` more pairs. It is refused only for want of memory, and takes none where there is
-    /// room. Where it takes some, it makes room for at least as many more as there was room for, but never for more pairs
-    /// than there are slot numbers, and reads every pair.
+    /// Makes room for `additional` more pairs. It returns an error only if memory is refused, and does not allocate
+    /// if there is room. If it grows, the room doubles at least, but never passes the number of slot numbers; it
+    /// reads every pair then.
     #[inline]
     pub fn try_reserve(&mut self, additional: usize) -> Result<(), TryReserveError>
         ensures pairs { SamePairs self.old.pairs self.new.pairs }
@@ -127,7 +127,7 @@ impl HashIndex {
         self.regroup(groups_for(wanted))
     }
 
-    // Moves the pairs into so many new groups. Where memory is refused, all stays as it was.
+    // Moves the pairs into this many new groups. If memory is refused, all stays as it was.
     fn regroup(&mut self, count: usize) -> Result<(), AllocError>
         requires room { length self.old.pairs ≤ room_for count }
         requires fits { count ≤ u32.MAX }
@@ -148,9 +148,9 @@ impl HashIndex {
         Ok(())
     }
 
-    /// The slot beside this hash whose item has the query's key, or `None`. Each slot that is listed beside the hash must
-    /// have an item. It goes round the groups once at most, and compares the keys of the pairs of exactly this hash, at
-    /// most each once.
+    /// Returns the slot beside this hash whose item has the query's key, or `None`. Each slot that is listed beside
+    /// the hash must have an item. It looks at each group at most once. It compares the keys of the pairs of
+    /// exactly this hash, each at most once.
     #[inline]
     pub fn find<T: IdHashItem, Q: Equivalent<T::Key>>(
         &self,
@@ -175,8 +175,8 @@ impl HashIndex {
         )
     }
 
-    /// Adds the pair, whose slot no other pair has. There must be room, as `try_reserve(1)` makes it, so it takes no memory.
-    /// It walks from the home of the hash to a free lane.
+    /// Adds the pair, whose slot no other pair has. There must be room, as `try_reserve(1)` makes it. It walks from
+    /// the home of the hash to a free lane, and does not allocate.
     #[inline]
     pub fn add_reserved(&mut self, hash: u64, slot: u32)
         requires room { 0 < self.old.spare }
@@ -193,8 +193,8 @@ impl HashIndex {
         self.len += 1;
     }
 
-    /// Takes the pair out, which must be there. Its room is there again at once. It walks from the home of the hash to the
-    /// pair, and takes no memory.
+    /// Removes the pair, which must be there. Its room is free at once. It walks from the home of the hash to the
+    /// pair, and does not allocate.
     pub fn remove(&mut self, hash: u64, slot: u32)
         requires present { Contains self.old.pairs (hash, slot) }
         ensures pairs { HasOneMore self.new.pairs self.old.pairs (hash, slot) }
@@ -209,8 +209,8 @@ impl HashIndex {
         self.len -= 1;
     }
 
-    /// Gives the pair, which must be there, a new slot, which no other pair has. It walks from the home of the hash
-    /// to the pair, and takes no memory.
+    /// Gives the pair, which must be there, a new slot that no other pair has. It walks from the home of the hash
+    /// to the pair, and does not allocate.
     pub fn rename(&mut self, hash: u64, old: u32, new: u32)
         requires present { Contains self.old.pairs (hash, old) }
         requires absent { of_slot self.old.pairs new ≡ 0 }
@@ -226,7 +226,7 @@ impl HashIndex {
         );
     }
 
-    /// Takes every pair out. It writes each group, and takes and gives back no memory.
+    /// Removes every pair. It writes each group, and neither allocates nor frees memory.
     pub fn clear(&mut self)
         ensures pairs { self.new.pairs ≡ [] }
         ensures spare { self.old.spare + length self.old.pairs ≤ self.new.spare }
@@ -235,10 +235,9 @@ impl HashIndex {
         self.len = 0;
     }
 
-    /// Gives memory back, but for room for `min` pairs and for those that are there: some at least, where half the room is
-    /// enough for them. It is refused only for want of memory, since it makes the smaller table beside the one there is.
-    /// Refused or not, the pairs stay, and a refusal leaves the room that there was. Where it gives some back, it reads every
-    /// pair.
+    /// Gives memory back, except for room for `min` pairs and for the existing ones. It gives some back if half the
+    /// room is enough for them. It makes the smaller table beside the old one, so memory may be refused. Refused or
+    /// not, the pairs stay, and a refusal leaves the room as it was. If it gives some back, it reads every pair.
     pub fn shrink(&mut self, min: usize) -> Result<(), TryReserveError>
         ensures pairs { SamePairs self.old.pairs self.new.pairs }
         ensures only_memory { IfErr result (λ e. e ≡ memory_refused) }
@@ -257,7 +256,7 @@ impl HashIndex {
         Ok(())
     }
 
-    /// An index of the same pairs. It copies each pair, and is refused only for want of memory.
+    /// Returns an index of the same pairs. It copies each pair. It returns an error only if memory is refused.
     pub fn try_clone(&self) -> Result<Self, TryReserveError>
         ensures pairs { IfOk result (λ copy. SamePairs self.now.pairs copy.pairs) }
         ensures only_memory { IfErr result (λ e. e ≡ memory_refused) }

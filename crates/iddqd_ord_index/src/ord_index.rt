@@ -32,17 +32,16 @@ impl Model for Place {
     ghost inverse = { λ n. record { position = n } };
 }
 
-/// Slots in order, each once (ours: the crate has a B-tree of std). It looks at items only where it searches. Contracts
-/// see the list, and whether the index is prepared for one insertion. `prepare` alone makes it so, and each call that can
-/// change the list ends it: `add_prepared`, `remove`, `remove_first`, `remove_last`, `rename` and `clear`, also where the
-/// list stays as it was. A copy is not prepared.
+/// Slots in order, each once. Only a search looks at items. Contracts see the list, and whether the index is
+/// prepared for one insertion. Only `prepare` prepares it. `add_prepared`, `remove`, `remove_first`, `remove_last`,
+/// `rename` and `clear` leave it not prepared, even if the list stays the same. A clone is not prepared.
 #[derive(Drop)]
 pub struct OrdIndex {
     root: Node,
     len: u32,
     levels: usize,
     spare: Spare,
-    // Whether one more slot needs no memory.
+    // Whether an insertion needs no memory.
     prepared: bool,
     alloc: Global,
 }
@@ -60,7 +59,7 @@ impl Model for OrdIndex {
 }
 
 impl OrdIndex {
-    /// An index without slots. It takes no memory.
+    /// Returns an index without slots. Does not allocate.
     pub fn new(alloc: Global) -> Self
         ensures { result ≡ record { slots = []; prepared = false } }
     {
@@ -74,7 +73,7 @@ impl OrdIndex {
         }
     }
 
-    /// How many slots there are.
+    /// Returns the number of slots, in constant time.
     pub fn len(&self) -> u32
         ensures number { result ≡ length self.now.slots }
         ensures each_once { IsDistinct nat_eq self.now.slots }
@@ -82,9 +81,8 @@ impl OrdIndex {
         self.len
     }
 
-    /// The place of this number: of the slot that has so many before it, or the one behind the last slot. A place is a
-    /// number and nothing else, so one from before a change of the list means that position in the list as it is now. It
-    /// looks at nothing.
+    /// Returns the place of this position: of the slot with so many before it, or the one behind the last slot. A
+    /// place is only a number. One from before a change means that position in the list as it is now.
     pub fn place(&self, at: usize) -> Place
         requires { at ≤ length self.now.slots }
         ensures { result ≡ at }
@@ -95,7 +93,7 @@ impl OrdIndex {
         }
     }
 
-    /// The slot at the place. It goes down the tree, and looks at no key.
+    /// Returns the slot at the place. It goes down the tree, and looks at no key.
     pub fn slot_at(&self, place: Place) -> u32
         requires { place < length self.now.slots }
         ensures { slice_get self.now.slots place ≡ Some result }
@@ -103,7 +101,7 @@ impl OrdIndex {
         self.root.slot_at(place.position)
     }
 
-    /// Makes all growths that one insertion at any place can need. It is refused only for want of memory.
+    /// Allocates all that one insertion at any place can need. It returns an error only if memory is refused.
     pub fn prepare(&mut self) -> Result<(), TryReserveError>
         requires { length self.old.slots < u32.MAX }
         ensures ok { OnOk result (self.new ≡ record self.old { prepared = true }) }
@@ -119,7 +117,7 @@ impl OrdIndex {
         }
     }
 
-    /// Puts the slot in at the place; the others keep their order. It takes no memory.
+    /// Inserts the slot at the place. The others keep their order. Does not allocate.
     pub fn add_prepared(&mut self, place: Place, slot: u32)
         requires prepared { IsTrue self.old.prepared }
         requires in_list { place ≤ length self.old.slots }
@@ -139,7 +137,7 @@ impl OrdIndex {
         self.spare.want(self.levels + 1);
     }
 
-    /// Takes the slot at the place out, and answers it. It takes no memory.
+    /// Removes the slot at the place, and returns it. Does not allocate.
     pub fn remove(&mut self, place: Place) -> u32
         requires { place < length self.old.slots }
         ensures slot { slice_get self.old.slots place ≡ Some result }
@@ -157,21 +155,21 @@ impl OrdIndex {
         slot
     }
 
-    /// The first slot, or `None` where there is none. It goes down the tree.
+    /// Returns the first slot, or `None` if there is none. It goes down the tree.
     pub fn first(&self) -> Option<u32>
         ensures { result ≡ slice_get self.now.slots 0 }
     {
         self.root.first()
     }
 
-    /// The last slot, or `None` where there is none. It goes down the tree.
+    /// Returns the last slot, or `None` if there is none. It goes down the tree.
     pub fn last(&self) -> Option<u32>
         ensures { result ≡ slice_get self.now.slots (length self.now.slots - 1) }
     {
         self.root.last()
     }
 
-    /// Takes the first slot out, and answers it; `None` where there is none. It takes no memory.
+    /// Removes the first slot and returns it, or returns `None` if there is none. Does not allocate.
     pub fn remove_first(&mut self) -> Option<u32>
         ensures slot { result ≡ slice_get self.old.slots 0 }
         ensures after { self.new ≡ record { slots = drop 1 self.old.slots; prepared = false } }
@@ -183,7 +181,7 @@ impl OrdIndex {
         Some(self.remove(Place { position: 0 }))
     }
 
-    /// Takes the last slot out, and answers it; `None` where there is none. It takes no memory.
+    /// Removes the last slot and returns it, or returns `None` if there is none. Does not allocate.
     pub fn remove_last(&mut self) -> Option<u32>
         ensures slot { result ≡ slice_get self.old.slots (length self.old.slots - 1) }
         ensures after { self.new ≡ record { slots = take (length self.old.slots - 1) self.old.slots; prepared = false } }
@@ -197,7 +195,7 @@ impl OrdIndex {
         }))
     }
 
-    /// Puts a new slot in the stead of the one at the place. It takes no memory.
+    /// Replaces the slot at the place by a new one. Does not allocate.
     pub fn rename(&mut self, place: Place, new: u32)
         requires in_list { place < length self.old.slots }
         requires absent { ¬ Contains self.old.slots new }
@@ -217,21 +215,21 @@ impl OrdIndex {
         self.levels = 1;
     }
 
-    /// The slots in order. It takes no memory.
+    /// Returns an iterator over the slots, in order. Does not allocate.
     pub fn walk(&self) -> Walk<'_>
         ensures { result ≡ self.now.slots }
     {
         Walk::new(&self.root, self.len)
     }
 
-    /// The slots in order, in place of the index. It takes no memory.
+    /// Turns the index into an iterator over its slots, in order. Does not allocate.
     pub fn into_walk(self) -> IntoWalk
         ensures { result ≡ self.slots }
     {
         IntoWalk::new(self.root, self.len)
     }
 
-    /// An index of the same slots, not prepared. It is refused only for want of memory.
+    /// Returns an index of the same slots, not prepared. It returns an error only if memory is refused.
     pub fn try_clone(&self) -> Result<Self, TryReserveError>
         ensures ok { IfOk result (λ copy. copy ≡ record { slots = self.now.slots; prepared = false }) }
         ensures only_memory { IfErr result (λ e. e ≡ memory_refused) }

@@ -78,7 +78,7 @@ module _ (kind : Kind) where
   -- the reply, without the byte that ends it
   abbrev pub line_reply : Request → List Entry → List ℕ
   line_reply (Add name value) entries = option_map_or (λ old. codes "duplicate " ++ name ++ codes " " ++ decimal old.1) (entry_named name entries) (if is_full entries then codes "refused capacity" else codes "added")
-  line_reply (Put name value) entries = option_map_or (λ old. codes "items_overwritten " ++ decimal old.1) (entry_named name entries) (if is_full entries then codes "refused capacity" else codes "new")
+  line_reply (Put name value) entries = option_map_or (λ old. codes "replaced " ++ decimal old.1) (entry_named name entries) (if is_full entries then codes "refused capacity" else codes "new")
   line_reply (Get name) entries = option_map_or (λ old. decimal old.1) (entry_named name entries) (codes "none")
   line_reply (Del name) entries = option_map_or (λ old. codes "removed " ++ decimal old.1) (entry_named name entries) (codes "none")
   line_reply (Cost name) entries = codes "within"

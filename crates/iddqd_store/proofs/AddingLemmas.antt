@@ -26,7 +26,7 @@ module _ {T K : Type 0} (key : T → K) {eq : K → K → Bool} where
   }
 
   module _ (equivalence : IsEquivalence eq) (xs old middle : List T) (adds : AddsAll key eq xs old middle) (x : T) where
-    -- no two of the items that are there are akin
+    -- no two of the existing items have equal keys
     pub added_differ : NoTwoAkin key eq middle
     added_differ = differ_moved key equivalence (old ++ xs) middle adds.same adds.differ
 

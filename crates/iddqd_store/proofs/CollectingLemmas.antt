@@ -83,7 +83,7 @@ module _ {T : Type 0} where
         limit = took.limit;
       }
 
--- Same and Takes are what a call says where an akin item was there, and where none was
+-- Same and Takes are what a call says if an item of an equal key was there, and if none was
 module _ {T K Same Takes : Type 0} (key : T → K) (eq : K → K → Bool) (x : T) (old new : Holding T) (own : HaveSlots old.slots old.items) (swaps : Same → new ≡ record old { items = items_overwritten key (eq (key x)) x old.items }) (takes : Takes → InsertsItem x old new) where
   pub overwritten : (found : Option T) → found ≡ find_item key (eq (key x)) old.items → OnSome found Same → IfNone found Takes → OverwritesItem key eq x old.limit old.items found new.items × FillsSlots old new
   overwritten None told some none =

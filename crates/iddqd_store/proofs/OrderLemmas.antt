@@ -1,7 +1,7 @@
 -- The order plays no part in what is found among items of different keys.
 --     Tells, find_tells      what a search says of the elements
 --     found_answers      what is found passes
---     differ_moved, find_moved      no two are akin, and one item is found, whatever the order
+--     differ_moved, find_moved      no two keys are equal, and one item is found, in any order
 use Rattle.std.proofs.Common.{◌≡◌, zero, suc, Bool, true, false, cond, List, [], ◌∷◌, length, map, get_or, Option, Some, None, IfSome, refl, sym, ap, ◌∙◌, arith, find, subst, suc-le-suc}
 use Rattle.std.proofs.Math.Nat.{le_of_suc-le-suc}
 use Rattle.std.proofs.lemmas.List.{get_or_read}

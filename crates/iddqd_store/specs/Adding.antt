@@ -1,9 +1,9 @@
--- What `extend_unique` leaves and shows (ours).
---     AddsGiven      all items were put in
---     ShowsFirstConflict      what it shows of the items that came
+-- What `extend_unique` leaves and shows.
+--     AddsGiven      all items were inserted
+--     ShowsFirstConflict      what it shows of the iterator's items
 --     StopsAdding      what it shows, and what is in the map then
---     HaltsAdding, HaltsAt      the same while the item that is there is told by its slot alone, and one step of it
---     OnItemRefused, OnItemBack      what holds where an item came back for want of room, of what is shown and of that
+--     HaltsAdding, HaltsAt      the same while the existing item is known by its slot alone, and one step of it
+--     OnItemRefused, OnItemBack      what holds if an item is returned because there is no room, of the error and of a halt
 use Rattle.std.specs.Prelude.{◌≡◌, Bool, List, Some, IfSome, IfNone, OnSome}
 use Rattle.iddqd_store.specs.Collecting.{AddsAll, IsFirstConflict}
 use Rattle.iddqd_store.specs.Contents.{find_item}
@@ -17,39 +17,40 @@ use Rattle.iddqd_store.specs.declared.errors.ExtendUniqueError.TheVariants.{Dupl
 use Rattle.iddqd_store.specs.declared.halts.Halt.{Halt}
 use Rattle.iddqd_store.specs.declared.halts.Halt.TheVariants.{Akin, NoRoom}
 
--- gives tells which items came before one
+-- gives says which items came before one
 module _ {T K : Type 0} (key : T → K) (eq : K → K → Bool) where
-  -- all items that came are in
+  -- all items of the iterator are in the map
   abbrev pub AddsGiven : (gives : List T → Type 0) (old new : List T) → Type 0
   AddsGiven gives old new = (items : List T) × gives items × AddsAll key eq items old new
 
-  -- the first conflict is shown: its item as new, and the one that is there alone as its duplicate
+  -- the first conflict is shown: its item as new, and the existing one alone as its duplicate
   abbrev pub ShowsFirstConflict : (gives : List T → T → Type 0) (old : List T) → ExtendUniqueError T → Type 0
   ShowsFirstConflict gives old (Duplicate d) = (before : List T) × (there : T) × gives before (new_item_of d) × IsFirstConflict key eq old before (new_item_of d) there × IsOnly (duplicates_of d) there
   ShowsFirstConflict gives old (Refused e) = Unit
 
-  -- an item found no room and comes back, and those before it are in; without an item, none was asked for, and nothing has changed but the room
+  -- an item finds no room and is returned, and those before it are in the map; without an item, the iterator was not asked, and
+  -- nothing has changed but the room
   abbrev pub RefusesAdding : (gives : List T → T → Type 0) (old new : Holding T) → ExtendError T → Type 0
   RefusesAdding gives old new e =
       IfSome e.item (λ x. (before : List T) × gives before x × AddsAll key eq before old.items new.items × FindsNoRoom key eq old.limit new.items x e.error)
       × IfNone e.item (KeepsItems old new)
 
-  -- the first conflict is shown, and the items before it are in; or there was no room
+  -- the first conflict is shown, and the items before it are in the map; or there was no room
   abbrev pub StopsAdding : (gives : List T → T → Type 0) (old new : Holding T) → ExtendUniqueError T → Type 0
   StopsAdding gives old new (Duplicate d) = (before : List T) × (there : T) × gives before (new_item_of d) × IsFirstConflict key eq old.items before (new_item_of d) there × IsOnly (duplicates_of d) there × AddsAll key eq before old.items new.items
   StopsAdding gives old new (Refused e) = RefusesAdding gives old new e
 
-  -- the same, with the slot of the item that is there
+  -- the same, with the slot of the existing item
   abbrev pub HaltsAdding : (gives : List T → T → Type 0) (old new : Holding T) → Halt T → Type 0
   HaltsAdding gives old new (Akin x slot) = (before : List T) × (there : T) × gives before x × IsFirstConflict key eq old.items before x there × (item_of_slot new.slots new.items slot ≡ Some there) × AddsAll key eq before old.items new.items
   HaltsAdding gives old new (NoRoom e) = RefusesAdding gives old new e
 
-  -- x is not put in
+  -- x is not inserted
   abbrev pub HaltsAt : T → Holding T → Halt T → Type 0
   HaltsAt x m (Akin y slot) = (y ≡ x) × (there : T) × (find_item key (eq (key x)) m.items ≡ Some there) × (item_of_slot m.slots m.items slot ≡ Some there)
   HaltsAt x m (NoRoom e) = (e.item ≡ Some x) × FindsNoRoom key eq m.limit m.items x e.error
 
--- what holds where an item found no room
+-- what holds if an item found no room
 abbrev pub OnItemRefused : {T : Type 0} → Type 0 → ExtendUniqueError T → Type 0
 OnItemRefused P (Duplicate d) = Unit
 OnItemRefused P (Refused e) = OnSome e.item P

@@ -1,12 +1,12 @@
--- What it is to put the items of an iterator into a map, one after the other.
---     room_to_reserve      for how many items room is made before they are put in (as the crate's `Extend` does)
+-- What it is to insert the items of an iterator, one after another.
+--     room_to_reserve      for how many items room is reserved before they are inserted
 --     GivesAll, GivesThen      what an iterator gives: these items and no more, or these and then one
---     OverwritesAll      each item stands in the stead of the akin one, or beside the others where there is none (the crate's `extend`)
---     IsFirstRepeat      the first item that is akin to an earlier one, and that one (the crate's `from_iter_unique`)
---     ShowsFirstRepeat      what `from_iter_unique` answers in place of a map
---     AddsAll      each item stands beside the others, and none has the key of another (`extend_unique`, ours)
---     IsFirstConflict      the first item that is akin to one that is there by then, and that one (ours)
---     ShowsAkin      one step of it
+--     OverwritesAll      each item replaces the one of an equal key, or is added if there is none (`extend`)
+--     IsFirstRepeat      the first item whose key an earlier one has, and that one (`from_iter_unique`)
+--     ShowsFirstRepeat      the error of `from_iter_unique`
+--     AddsAll      the items are added, and no two of all have equal keys (`extend_unique`)
+--     IsFirstConflict      the first item whose key one in the map has by then, and that one
+--     ShowsAkin      one step of `from_iter_unique`
 use Rattle.std.specs.Prelude.{◌≡◌, ℕ, ◌+◌, ◌/◌, ◌==◌, if◌then◌else◌, Bool, List, [], ◌∷◌, ◌++◌, Option, Some, IsPermutation}
 use Rattle.std.specs.Iterator.{YieldsThen}
 use Rattle.std.specs.Iterator.Runs.{WholeRun}
@@ -15,7 +15,8 @@ use Rattle.iddqd_store.specs.Errors.{new_item_of, duplicates_of}
 use Rattle.iddqd_store.specs.declared.errors.FromIterError.{FromIterError}
 use Rattle.iddqd_store.specs.declared.errors.FromIterError.TheVariants.{Duplicate, Refused}
 
--- for how many items room is made where so many are there and so many are to come: for all of them in a map without items, and for half of them, rounded up, in another
+-- for how many items room is reserved, if so many are in the map and so many are announced: all of them in a map without items,
+-- and half of them, rounded up, in another
 abbrev pub room_to_reserve : (there coming : ℕ) → ℕ
 room_to_reserve there coming = if there == 0 then coming else (coming + 1) / 2
 
@@ -32,22 +33,24 @@ module _ {T K : Type 0} (key : T → K) (eq : K → K → Bool) where
   OverwritesAll limit [] old new = new ≡ old
   OverwritesAll limit (x ∷ xs) old new = (between : List T) × (back : Option T) × OverwritesItem key eq x limit old back between × OverwritesAll limit xs between new
 
-  -- the items before x differ in their keys, and x has the key of the one that is earlier
+  -- the items before x differ in their keys, and x has the key of the earlier one
   pub record IsFirstRepeat (before : List T) (x earlier : T) : Type 0 where
     pub differ : NoTwoAkin key eq before
     pub akin : find_item key (eq (key x)) before ≡ Some earlier
 
-  -- gives tells which items came before one; the first that repeats a key is shown as new, and the earlier one alone as its duplicate
+  -- the first item that repeats a key is shown as new, and the earlier one alone as its duplicate; gives says which items came
+  -- before
   abbrev pub ShowsFirstRepeat : (List T → T → Type 0) → FromIterError T → Type 0
   ShowsFirstRepeat gives (Duplicate d) = (before : List T) × (earlier : T) × gives before (new_item_of d) × IsFirstRepeat before (new_item_of d) earlier × (duplicates_of d ≡ earlier ∷ [])
   ShowsFirstRepeat gives (Refused e) = Unit
 
-  -- the items xs are in beside the old ones, in whatever order, and no two of them all are akin
+  -- the items xs are added to the old ones, in any order, and no two of them all have equal keys
   pub record AddsAll (xs old new : List T) : Type 0 where
     pub differ : NoTwoAkin key eq (old ++ xs)
     pub same : IsPermutation (old ++ xs) new
 
-  -- of items that are put in beside the old ones, those before x are akin to none that is there, and x is akin to one: an old one, or one of them
+  -- of items that are added to the old ones, those before x have keys of their own, and x has the key of an old one or of one of
+  -- them
   abbrev pub IsFirstConflict : (old before : List T) → (x there : T) → Type 0
   IsFirstConflict old before x there = IsFirstRepeat (old ++ before) x there
 

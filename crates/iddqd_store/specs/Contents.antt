@@ -1,6 +1,7 @@
--- What a map holds, as a plain list of items that is searched, filtered and replaced item by item. How the items are kept plays no part.
---     key      the key that an item shows, by the item's value alone (the crate's `key`)
---     a test of keys      what a query answers of each key; of the query that is a key itself, the key's own `==`
+-- What a map holds, as a plain list of items that is searched, filtered and replaced item by item. How the items are stored plays
+-- no part.
+--     key      the key that an item shows, by the item's value alone
+--     a test of keys      what a query returns for each key; for a key as a query, the key's own `==`
 use Rattle.std.specs.declared.cmp.Ordering.{Ordering}
 use Rattle.std.specs.Prelude.{◌≡◌, ℕ, ◌<◌, ◌≤◌, Bool, true, not, List, Option, Some, None, length, map, filter, find, insert, IsPermutation, ◌∷◌, ◌++◌, if◌then◌else◌}
 use Rattle.std.specs.List.{IsDistinct}
@@ -11,17 +12,17 @@ use Rattle.std.specs.Ordering.{is_lt}
 abbrev pub IsKeyTest : {K : Type 0} → (K → K → Bool) → (K → Bool) → Type 0
 IsKeyTest eq test = (x y : _) → test x ≡ true → test y ≡ eq x y
 
--- new is old with x put in at some place (`insert_unique`)
+-- new is old with x inserted at some place (`insert_unique`)
 pub record AddsItem {T : Type 0} (x : T) (old new : List T) : Type 0 where
   pub place : ℕ
   pub within : place ≤ length old
   pub put : new ≡ insert old place x
 
--- each clone is the value that it was made of (ours, a premise of each call that shows a clone)
+-- each clone is the value that it was made of (a premise of each call that shows a clone)
 abbrev pub ClonesAreEqual : {T : Type 0} → (T → T → Type 0) → Type 0
 ClonesAreEqual is_clone = (x y : _) → is_clone x y → y ≡ x
 
--- each clone has a key equal to that of the item that it was made of (ours, a premise of each call that copies a map)
+-- each clone has a key equal to that of its original (a premise of each call that copies a map)
 abbrev pub ClonesKeepKeys : {T K : Type 0} → (T → K) → (K → K → Bool) → (T → T → Type 0) → Type 0
 ClonesKeepKeys key eq is_clone = (x y : _) → is_clone x y → eq (key x) (key y) ≡ true
 
@@ -38,15 +39,15 @@ module _ {T K : Type 0} (key : T → K) where
   abbrev pub IsAbsent : (K → Bool) → List T → Type 0
   IsAbsent test items = find_item test items ≡ None
 
-  -- the items but for the one whose key passes the test (`remove`)
+  -- the items, without the one whose key passes the test (`remove`)
   abbrev pub items_without : (K → Bool) → List T → List T
   items_without test items = filter (λ x. not (test (key x))) items
 
-  -- the items with y in the place of the one whose key passes the test (`insert_overwrite`)
+  -- the items, with y in place of the one whose key passes the test (`insert_overwrite`)
   abbrev pub items_overwritten : (K → Bool) → T → List T → List T
   items_overwritten test y items = map (λ x. if test (key x) then y else x) items
 
-  -- no two items are akin: their keys differ
+  -- no two of the items' keys are equal
   abbrev pub NoTwoAkin : (K → K → Bool) → List T → Type 0
   NoTwoAkin eq items = IsDistinct eq (keys items)
 
@@ -54,11 +55,12 @@ module _ {T K : Type 0} (key : T → K) where
   abbrev pub Ascends : (K → K → Ordering) → List T → Type 0
   Ascends cmp items = IsStrictlySortedBy cmp (keys items)
 
-  -- x at its place among items that ascend: the lesser ones before it, the greater ones behind it
+  -- x inserted at its place among items that ascend: the lesser ones before it, the greater ones behind it
   abbrev pub items_with : (K → K → Ordering) → T → List T → List T
   items_with cmp x items = filter (λ y. is_lt (cmp (key y) (key x))) items ++ x ∷ filter (λ y. is_lt (cmp (key x) (key y))) items
 
-  -- an akin item comes back, and x stands whole in its place; or there is none, the map is not full, and x is put in (`insert_overwrite`)
+  -- the item of an equal key is returned, and x is whole in its place; or there is none, the map is not full, and x is inserted
+  -- (`insert_overwrite`)
   abbrev pub OverwritesItem : (K → K → Bool) → T → ℕ → List T → Option T → List T → Type 0
   OverwritesItem eq x limit old (Some y) new = (find_item (eq (key x)) old ≡ Some y) × (new ≡ items_overwritten (eq (key x)) x old)
   OverwritesItem eq x limit old None new = IsAbsent (eq (key x)) old × (length old < limit) × AddsItem x old new

@@ -1,12 +1,12 @@
--- What either map holds, and what a call does to it, whatever the keys are.
+-- What either map holds, and what a call does to it, for keys of any kind.
 use Rattle.std.specs.Prelude.{◌≡◌, ℕ, ◌+◌, ◌-◌, ◌<◌, ◌≤◌, List, length, remove, slice_get, Option, Some, IfNone, IfSome, OnSome, refl}
 use Rattle.std.specs.Prelude.{min as least}
 use Rattle.std.specs.Coded.{Coded, code_by, coded×, coded_ℕ, coded_list}
 use Rattle.iddqd_store.specs.Contents.{AddsItem}
 use Rattle.iddqd_store.specs.SlotItems.{HaveSlots}
 
--- what either map holds, as contracts see it: the items, the slot of each, how many slots are vacant, how many items fit before memory is needed,
--- and the most that the map can hold
+-- what either map holds, as contracts see it: the items, the slot of each, the number of vacant slots, how many items fit before
+-- memory is needed, and the most that the map can hold
 pub record Holding (T : Type 0) : Type 0 where
   pub items : List T
   pub slots : List ℕ
@@ -14,7 +14,7 @@ pub record Holding (T : Type 0) : Type 0 where
   pub capacity : ℕ
   pub limit : ℕ
 
--- the most items of a map that was given no smaller limit (ours: the crate leaves it open)
+-- the most items of a map that was given no smaller limit
 abbrev pub max_items : ℕ
 max_items = 4294967295
 
@@ -28,7 +28,7 @@ holding_code {T} code =
     (λ p. record { items = p.0; slots = p.1.0; vacant = p.1.1.0; capacity = p.1.1.1.0; limit = p.1.1.1.1 })
     (λ _. refl)
 
--- the item was put in where the map was not full; it took a vacant slot where there was one
+-- the item was inserted into a map that was not full; it took a vacant slot if there was one
 pub record InsertsItem {T : Type 0} (x : T) (old new : Holding T) : Type 0 where
   pub room : length old.items < old.limit
   pub added : AddsItem x old.items new.items
@@ -51,7 +51,8 @@ pub record LeavesSlot {T : Type 0} (y : T) (old new : Holding T) : Type 0 where
   pub there : slice_get old.items place ≡ Some y
   pub slots : new.slots ≡ remove old.slots place
 
--- what a removal leaves that found this, besides the items: its slot is vacant, and if nothing was found, nothing has changed (`remove`)
+-- what a removal leaves that found this, besides the items: its slot is vacant, or nothing was found and nothing has changed
+-- (`remove`)
 pub record Removes {T : Type 0} (found : Option T) (old new : Holding T) : Type 0 where
   pub slots : IfSome found (λ y. LeavesSlot y old new)
   pub vacant : OnSome found (new.vacant ≡ old.vacant + 1)
@@ -59,14 +60,14 @@ pub record Removes {T : Type 0} (found : Option T) (old new : Holding T) : Type 
   pub capacity : new.capacity ≡ old.capacity
   pub limit : new.limit ≡ old.limit
 
--- what retaining leaves besides the items: each item that went has left a vacant slot (`retain`)
+-- what `retain` leaves besides the items: each removed item has left a vacant slot
 pub record LeavesSlots {T : Type 0} (old new : Holding T) : Type 0 where
   pub slots : HaveSlots new.slots new.items
   pub vacant : new.vacant + length new.items ≡ old.vacant + length old.items
   pub capacity : new.capacity ≡ old.capacity
   pub limit : new.limit ≡ old.limit
 
--- what putting in many leaves besides the items: each new item has taken a vacant slot where there was one (`extend`)
+-- what inserting many leaves besides the items: each new item has taken a vacant slot if there was one (`extend`)
 pub record FillsSlots {T : Type 0} (old new : Holding T) : Type 0 where
   pub slots : HaveSlots new.slots new.items
   pub never_fewer : length old.items ≤ length new.items
@@ -74,7 +75,8 @@ pub record FillsSlots {T : Type 0} (old new : Holding T) : Type 0 where
   pub capacity : old.capacity ≤ new.capacity
   pub limit : new.limit ≡ old.limit
 
--- what a shrink to room for so many items leaves, refused or not: no slot is vacant, and the capacity lies between its bounds (`shrink_to`)
+-- what a shrink to room for min items leaves, refused or not: no slot is vacant, and the capacity lies between its bounds
+-- (`shrink_to`)
 pub record Shrinks {T : Type 0} (min : ℕ) (old new : Holding T) : Type 0 where
   pub vacant : new.vacant ≡ 0
   pub lower : new.capacity ≤ old.capacity
@@ -83,7 +85,7 @@ pub record Shrinks {T : Type 0} (min : ℕ) (old new : Holding T) : Type 0 where
   pub slots : HaveSlots new.slots new.items
   pub limit : new.limit ≡ old.limit
 
--- of a map that keeps a spare: the sum of what is there and what is spare never falls, and never passes the limit (`reserve`; the number is ours)
+-- the sum of the items and the spare room never falls, and never passes the limit (`reserve` of the hash map)
 pub record SpareStays {T : Type 0} (limit old_spare : ℕ) (old : List T) (new_spare : ℕ) (new : List T) : Type 0 where
   pub never_less : old_spare + length old ≤ new_spare + length new
   pub in_limit : new_spare + length new ≤ limit

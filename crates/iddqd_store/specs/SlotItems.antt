@@ -1,9 +1,9 @@
 -- The items of a map by their slots: two lists, of the slots and of the items in them.
 --     HaveSlots slots items      each item has a slot of its own
 --     item_of_slot slots items slot      the item of the slot, or none
---     still_there      a slot that was written to has an item still, as the guard of a map says of its slot
---     written_to_slot slots items slot w      the items with w in the place of the slot's (ours; a write through the crate's `RefMut`)
---     without_slot slots items slot      the items but for the slot's (ours; a removal by the crate's `OccupiedEntry`)
+--     still_there      a slot that was written still has an item, as a map's guard says of its slot
+--     written_to_slot slots items slot w      the items, with w in place of the slot's item (a write by a guard)
+--     without_slot slots items slot      the items, without the slot's item (a removal by an occupied entry)
 use Rattle.std.specs.Prelude.{◌≡◌, ℕ, List, [], ◌∷◌, length, nat_eq, Option, Some, None, is_some, if◌then◌else◌, ◌==◌}
 use Rattle.std.specs.List.{IsDistinct}
 use Rattle.std.proofs.Common.{Bool, true, false, cond, refl}
@@ -23,7 +23,7 @@ module _ {T : Type 0} where
   written_to_slot (s ∷ slots) [] slot w = []
   written_to_slot (s ∷ slots) (x ∷ items) slot w = if s == slot then w ∷ items else x ∷ written_to_slot slots items slot w
 
-  -- with the slots themselves for items, the slots but for this one
+  -- if the slots are passed as items, it returns the slots without this one
   abbrev pub without_slot : List ℕ → List T → ℕ → List T
   without_slot [] items slot = items
   without_slot (s ∷ slots) [] slot = []

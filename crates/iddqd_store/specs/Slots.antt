@@ -1,4 +1,4 @@
--- How the slots of an `ItemStore` lie, and the chain of the vacant ones. No public clause cites this file.
+-- How the slots of an `ItemStore` are stored, and the chain of the vacant ones. No public clause cites this file.
 use Rattle.std.specs.Prelude.{◌≡◌, ◌≢◌, ℕ, ◌^◌, ◌<◌, ◌≤◌, List, map, length, Option, Some, None, is_some, count_by, slice_index_or, if◌then◌else◌, ◌==◌}
 use Rattle.iddqd_store.specs.declared.item_store.chain.Slot.{Slot}
 use Rattle.iddqd_store.specs.declared.item_store.chain.Slot.TheVariants.{Vacant, Occupied}

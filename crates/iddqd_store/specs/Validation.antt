@@ -1,4 +1,4 @@
--- What the structure of a map is asked (`validate`).
+-- What `validate` asks of a map's structure.
 use Rattle.std.specs.Prelude.{ℕ, ◌<◌}
 use Rattle.iddqd_store.specs.declared.validation.ValidateCompact.{ValidateCompact}
 use Rattle.iddqd_store.specs.declared.validation.ValidateCompact.TheVariants.{Compact, NonCompact}

@@ -1,6 +1,7 @@
--- What a visitor makes of a list of items, one after the other. A visit tells, of the visitor and an item, both afterwards and the answer (`Visit`, ours).
+-- What a visitor makes of a list of items, one after another. A visit is a function of the visitor and an item: both afterwards,
+-- and whether the item stays.
 --     visitor_after      the visitor at the end
---     kept_by      the new items that were answered true (the crate's `retain`)
+--     kept_by      the items that stay, as the visits leave them (`retain_mut`)
 --     VisitsKeepKeys      no visit changes a key
 use Rattle.std.specs.Prelude.{◌≡◌, Bool, true, List, [], ◌∷◌, if◌then◌else◌}
 

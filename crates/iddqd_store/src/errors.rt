@@ -1,4 +1,4 @@
-//! What is answered where an item is not taken.
+//! The errors of calls that insert or make room.
 ghost use Rattle.std.specs.Prelude.{◌≡◌, ◌↔◌, IsTrue, IfOk, IfErr, Some, map, length, slice_get, option_copied};
 ghost use Rattle.std.specs.Iterator.{YieldsFirstRef, item_count};
 ghost use Rattle.iddqd_store.specs.Contents.{ClonesAreEqual};
@@ -19,8 +19,8 @@ pub(crate) enum TryReserveErrorKind {
     AllocError,
 }
 
-/// Room that was refused: by the map's limit, or because memory was refused. Contracts say which by *limit_refused* and
-/// *memory_refused*.
+/// Room that was refused: by the map's limit, or because memory was refused. Contracts say which by *limit_refused*
+/// and *memory_refused*.
 #[derive(Clone, Copy, Debug, PartialEq, Eq, thiserror::Error)]
 #[error(transparent)]
 pub struct TryReserveError {
@@ -28,7 +28,7 @@ pub struct TryReserveError {
 }
 
 impl TryReserveError {
-    /// The refusal of a map that is full (ours: the crate's constructor is private).
+    /// The refusal of a full map. Public, for other maps over the store.
     #[doc(hidden)]
     pub fn capacity_overflow() -> Self
         ensures { result ≡ limit_refused }
@@ -38,7 +38,7 @@ impl TryReserveError {
         }
     }
 
-    /// The refusal for want of memory (ours: the crate's constructor is private).
+    /// The refusal of memory. Public, for other maps over the store.
     #[doc(hidden)]
     pub fn alloc_error() -> Self
         ensures { result ≡ memory_refused }
@@ -48,7 +48,7 @@ impl TryReserveError {
         }
     }
 
-    /// Whether the map's limit refused it (ours: the crate's kind is private).
+    /// Returns whether the map's limit refused it.
     pub fn is_capacity_overflow(&self) -> bool
         ensures { IsTrue result ↔ (self.now ≡ limit_refused) }
     {
@@ -56,7 +56,7 @@ impl TryReserveError {
     }
 }
 
-/// One, two or three values, without memory of their own (ours: the crate has a vector). Seen as a list.
+/// One, two or three values, in place. It does not allocate. Contracts see a list.
 #[derive(Clone, Copy, Debug, Drop)]
 pub enum Few<D> {
     /// One value.
@@ -68,7 +68,7 @@ pub enum Few<D> {
 }
 
 impl<D> Few<D> {
-    /// How many there are.
+    /// Returns the number of values.
     pub fn len(&self) -> usize
         ensures { result ≡ length (values_of self.now) }
     {
@@ -79,7 +79,7 @@ impl<D> Few<D> {
         }
     }
 
-    /// The first value.
+    /// Returns the first value.
     pub fn first(&self) -> &D
         ensures { slice_get (values_of self.now) 0 ≡ Some result.now }
     {
@@ -88,7 +88,7 @@ impl<D> Few<D> {
         }
     }
 
-    /// The one at the place, counted from 0; `None` past the end.
+    /// Returns the value at the position, counted from 0, or `None` past the end.
     pub fn get(&self, at: usize) -> Option<&D>
         ensures { option_copied result ≡ slice_get (values_of self.now) at }
     {
@@ -102,7 +102,7 @@ impl<D> Few<D> {
 }
 
 impl<D> Few<D> {
-    /// The values in order, each by a reference. Does not allocate.
+    /// Returns an iterator over the values, in order. Does not allocate.
     pub fn iter(&self) -> FewIter<'_, D>
         ensures { result ≡ values_of self.now }
     {
@@ -122,7 +122,7 @@ impl<'a, D> IntoIterator for &'a Few<D> {
     }
 }
 
-/// The values of a `Few`, lent one after the other. Contracts see the values that are still to come.
+/// An iterator over the values of a `Few`. Contracts see the values that are still to come.
 #[derive(Drop)]
 pub struct FewIter<'a, D> {
     few: &'a Few<D>,
@@ -160,7 +160,7 @@ pub struct DuplicateItem<T, D = T> {
 }
 
 impl<T, D> DuplicateItem<T, D> {
-    /// A new item and the items that stand in its way.
+    /// A new item and the existing items of an equal key.
     #[doc(hidden)]
     pub fn internal_new(new: T, duplicates: Few<D>) -> Self
         ensures new { new_item_of result ≡ new }
@@ -169,21 +169,21 @@ impl<T, D> DuplicateItem<T, D> {
         DuplicateItem { new, duplicates }
     }
 
-    /// The item that was handed in.
+    /// Returns the item that was passed to the call.
     pub fn new_item(&self) -> &T
         ensures { result.now ≡ new_item_of self.now }
     {
         &self.new
     }
 
-    /// The items that have its key.
+    /// Returns the existing items of an equal key.
     pub fn duplicates(&self) -> &Few<D>
         ensures { values_of result.now ≡ duplicates_of self.now }
     {
         &self.duplicates
     }
 
-    /// The item that was handed in, and the items that have its key.
+    /// Returns the item that was passed to the call, and the existing items of an equal key.
     pub fn into_parts(self) -> (T, Few<D>)
         ensures new { result.0 ≡ new_item_of self }
         ensures duplicates { values_of result.1 ≡ duplicates_of self }
@@ -194,8 +194,10 @@ impl<T, D> DuplicateItem<T, D> {
 }
 
 impl<'a, T: Clone> DuplicateItem<T, &'a T> {
-    /// The same with clones of the items that are lent. Where memory for one was refused, it hands itself back. A clone has
-    /// to equal its item, as contracts see it: an item that holds a `String` does so by a model that shows the text's bytes.
+    /// Returns the same error with clones of the existing items. If memory for a clone is refused, it returns the
+    /// error itself.
+    /// A clone has to equal its item, as contracts see it. An item that holds a `String` does, by a model that
+    /// shows the text's bytes.
     pub fn into_owned(self) -> Result<DuplicateItem<T>, Self>
         requires clones { ClonesAreEqual T.is_clone }
         ensures new { IfOk result (λ owned. new_item_of owned ≡ new_item_of self.entry) }
@@ -213,7 +215,7 @@ impl<'a, T: Clone> DuplicateItem<T, &'a T> {
 }
 
 impl<T: Clone> Few<&T> {
-    // A clone of each value.
+    // Returns a clone of each value.
     fn cloned(&self) -> Result<Few<T>, alloc::AllocError>
         requires clones { ClonesAreEqual T.is_clone }
         ensures { IfOk result (λ few. values_of few ≡ map (λ lent. lent.now) (values_of self.now)) }
@@ -234,7 +236,7 @@ impl<T: Debug, D: Debug> Display for DuplicateItem<T, D> {
 }
 
 impl<D: Debug> Few<D> {
-    // Writes the values as a list shows them.
+    // Writes the values as `Debug` writes a list.
     fn fmt_listed<W: Write>(&self, f: &mut Formatter<W>) -> fmt::Result {
         match self {
             Few::One(a) => write!(f, "[{a:?}]"),
@@ -246,46 +248,46 @@ impl<D: Debug> Few<D> {
 
 impl<T: Debug + Drop, D: Debug + Drop> Error for DuplicateItem<T, D> {}
 
-/// An item that was not taken, and why (ours: the crate panics or aborts).
+/// An item that was refused, and why.
 #[derive(Debug, Drop)]
 pub struct Refused<T> {
-    /// The item that was handed in.
+    /// The item that was passed to the call.
     pub item: T,
     /// Whether the map is full or memory was refused.
     pub error: TryReserveError,
 }
 
-/// Why an item was not inserted (ours).
+/// Why an item was not inserted.
 #[derive(Drop)]
 pub enum InsertError<'a, T> {
-    /// An item of an equal key is there: the new item, and that one alone.
+    /// An item of an equal key exists: the new item, and that one alone.
     Duplicate(DuplicateItem<T, &'a T>),
     /// There was no room.
     Refused(Refused<T>),
 }
 
-/// Items of an iterator that were not taken, and why (ours: the crate panics or aborts).
+/// Why the items of an iterator were not all inserted.
 #[derive(Debug, Drop)]
 pub struct ExtendError<T> {
-    /// The first item that was not taken; `None` where room for the items was refused before one was asked for.
+    /// The first item that was refused. `None` if room was refused before the iterator was asked for an item.
     pub item: Option<T>,
     /// Whether the map is full or memory was refused.
     pub error: TryReserveError,
 }
 
-/// Why no map was made of an iterator's items (ours).
+/// Why no map was made of an iterator's items.
 #[derive(Debug, Drop)]
 pub enum FromIterError<T> {
-    /// An item has the key of an earlier one: that item as the new one, and the earlier one alone.
+    /// An item has a key equal to that of an earlier one: the later item as the new one, and the earlier one alone.
     Duplicate(DuplicateItem<T>),
     /// There was no room.
     Refused(TryReserveError),
 }
 
-/// Why not each item of an iterator was put in, where none may be in the stead of another (ours).
+/// Why the items of an iterator were not all inserted by a call that replaces none.
 #[derive(Drop)]
 pub enum ExtendUniqueError<'a, T> {
-    /// An item of an equal key is there, from before or from the iterator: the new item, and that one alone.
+    /// An item of an equal key exists, from before or from the iterator: the new item, and that one alone.
     Duplicate(DuplicateItem<T, &'a T>),
     /// There was no room.
     Refused(ExtendError<T>),

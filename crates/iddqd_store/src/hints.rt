@@ -2,9 +2,9 @@
 ghost use Rattle.std.specs.Prelude.{◌≡◌};
 ghost use Rattle.iddqd_store.specs.Collecting as collecting;
 
-/// For how many items to make room where so many are there and at least so many are announced: for all of them in a map
-/// without items, and for half of them, rounded up, in another, which may have their keys already (as the crate's `Extend`
-/// does).
+/// Returns for how many items to reserve room before an iterator's items are inserted, by the lower bound of its
+/// size hint. An empty map reserves for all of them. Another map reserves for half of them, rounded up, since it
+/// may have their keys already.
 #[doc(hidden)]
 pub fn room_to_reserve(there: usize, announced: usize) -> usize
     ensures { result ≡ collecting.room_to_reserve there announced }

@@ -14,16 +14,16 @@ use std::alloc::{AllocError, Global};
 use std::marker::Model;
 use std::mem;
 
-/// The most items that a map holds (ours: the crate leaves it open): as many as there are slot numbers but one.
+/// The most items that a map can hold: one for each slot number, but for the last, which stands for no slot.
 pub const MAX_ITEMS: u32 = u32::MAX;
 
-/// Items in numbered slots, as the crate's `ItemSet`: an item stays in its slot until it is removed
-/// or moved into a lower one, and the slot of a removed item is used again. Contracts see the list
-/// of the slots, each with its item or vacant, the capacity and the limit.
+/// Items in numbered slots. An item stays in its slot until it is removed or moved to a lower one, and the slot of
+/// a removed item is used again. Contracts see the list of the slots, each with its item or vacant, the capacity
+/// and the limit.
 #[derive(Drop)]
 pub struct ItemStore<T> {
     slots: Vec<Slot<T>>,
-    // How many slots are occupied.
+    // The number of occupied slots.
     len: usize,
     // The head of the chain of vacant slots, or `NO_SLOT`.
     first_vacant: u32,
@@ -52,7 +52,7 @@ impl<T> Model for ItemStore<T> {
 impl<T> ItemStore<T> {
     ghost use Rattle.iddqd_store.specs.Lends.{lends_item};
 
-    /// A store without items that holds at most `limit`. It takes no memory.
+    /// Returns a store without items that can hold at most `limit`. Does not allocate.
     pub fn new(alloc: Global, limit: u32) -> Self
         ensures slots { result.slots ≡ [] }
         ensures capacity { result.capacity ≡ 0 }
@@ -61,7 +61,7 @@ impl<T> ItemStore<T> {
         ItemStore::over(Vec::new(alloc), limit)
     }
 
-    // The store over a vector without slots.
+    // Returns the store over a vector without slots.
     fn over(slots: Vec<Slot<T>>, limit: u32) -> Self
         requires empty { slots.items ≡ [] }
         ensures { result ≡ record { slots = []; capacity = vec_capacity slots; limit = limit } }
@@ -74,7 +74,7 @@ impl<T> ItemStore<T> {
         }
     }
 
-    /// How many items there are. It counts none of them.
+    /// Returns the number of items, in constant time.
     #[inline]
     pub fn len(&self) -> usize
         ensures items { result ≡ store_len self.now }
@@ -83,7 +83,7 @@ impl<T> ItemStore<T> {
         self.len
     }
 
-    /// How many slots are vacant (ours). It counts none of them.
+    /// Returns the number of vacant slots, in constant time.
     #[inline]
     pub fn vacant(&self) -> u32
         ensures { result ≡ vacant self.now }
@@ -91,7 +91,7 @@ impl<T> ItemStore<T> {
         (self.slots.len() - self.len) as u32
     }
 
-    /// How many slots there are (ours): each number below it is a slot's, occupied or vacant.
+    /// Returns the number of slots. Each number below it is a slot's, occupied or vacant.
     #[inline]
     pub fn slots(&self) -> u32
         ensures slots { result ≡ length self.now.slots }
@@ -102,7 +102,7 @@ impl<T> ItemStore<T> {
         self.slots.len() as u32
     }
 
-    /// How many items fit before memory is needed.
+    /// Returns how many items fit before memory is needed.
     #[inline]
     pub fn capacity(&self) -> usize
         ensures number { result ≡ self.now.capacity }
@@ -111,7 +111,7 @@ impl<T> ItemStore<T> {
         self.slots.capacity()
     }
 
-    /// The most items that the store ever holds, as `new` was told (ours).
+    /// Returns the most items that the store can hold, as `new` was told.
     #[inline]
     pub fn limit(&self) -> u32
         ensures { result ≡ self.now.limit }
@@ -119,7 +119,7 @@ impl<T> ItemStore<T> {
         self.limit
     }
 
-    /// The item of the slot; `None` where the slot is vacant or there is no such slot.
+    /// Returns the item of the slot, or `None` if the slot is vacant or does not exist.
     #[inline]
     pub fn get(&self, slot: u32) -> Option<&T>
         ensures { option_copied result ≡ item_at self.now slot }
@@ -130,7 +130,7 @@ impl<T> ItemStore<T> {
         }
     }
 
-    /// The item of an occupied slot, for writing.
+    /// Returns the item of an occupied slot, for writing.
     #[inline]
     pub fn get_mut(&mut self, slot: u32) -> &mut T
         requires { IsOccupied self.old slot }
@@ -140,8 +140,8 @@ impl<T> ItemStore<T> {
         self.slots[slot as usize].item_mut()
     }
 
-    /// Puts the item into a vacant slot if there is one, and else into a new one of the next number;
-    /// answers the slot. There must be room, as `try_reserve(1)` makes it, so it takes no memory.
+    /// Inserts the item into a vacant slot, or into a new one of the next number if none is vacant, and returns the
+    /// slot. There must be room, as `try_reserve(1)` makes it. Does not allocate.
     #[inline]
     pub fn insert_reserved(&mut self, item: T) -> u32
         requires { HasRoomFor self.old 1 }
@@ -165,7 +165,7 @@ impl<T> ItemStore<T> {
         slot
     }
 
-    /// Puts the item into an occupied slot, and answers the item that was there. It takes no memory.
+    /// Replaces the item of an occupied slot, and returns the old item. Does not allocate.
     #[inline]
     pub fn replace(&mut self, slot: u32, item: T) -> T
         requires { IsOccupied self.old slot }
@@ -180,7 +180,8 @@ impl<T> ItemStore<T> {
         }
     }
 
-    /// Takes the item out of an occupied slot, which is then vacant. It takes and gives back no memory.
+    /// Removes the item of an occupied slot, which is vacant then, and returns it. It neither allocates nor frees
+    /// memory.
     #[inline]
     pub fn remove(&mut self, slot: u32) -> T
         requires { IsOccupied self.old slot }
@@ -195,7 +196,7 @@ impl<T> ItemStore<T> {
         item
     }
 
-    /// Drops every item, and leaves no slot. The capacity stays; it takes no memory.
+    /// Drops every item, and leaves no slot. The capacity stays.
     pub fn clear(&mut self)
     where
         T: Drop,
@@ -206,8 +207,8 @@ impl<T> ItemStore<T> {
         self.first_vacant = NO_SLOT;
     }
 
-    /// Cuts off the vacant slots at the end, so that the last slot is occupied (ours, the beginning of the crate's
-    /// `compact`). It takes no memory, and looks only at the slots that go.
+    /// Removes the vacant slots at the end, so that the last slot is occupied. It looks only at the slots that it
+    /// removes, and does not allocate.
     pub fn cut_end(&mut self)
         ensures items { SameItems self.old self.new }
         ensures cut { EndsOccupied self.new.slots }
@@ -219,10 +220,9 @@ impl<T> ItemStore<T> {
         self.first_vacant = cut_vacant(&mut self.slots, first);
     }
 
-    /// Moves the item of the greatest occupied slot into a lower vacant one, and answers the old slot
-    /// and the new one; `None` where there is no such move, and then no slot is vacant any more (ours,
-    /// a step of the crate's `compact`). Vacant slots at the end are cut off. It takes no memory, and
-    /// looks only at the slots that go.
+    /// Moves the item of the greatest occupied slot to a lower vacant one, and returns the old slot and the new
+    /// one. It returns `None` if there is no such move, and then no slot is vacant. It removes vacant slots at the
+    /// end. It looks only at the slots that it removes, and does not allocate.
     pub fn last_into_hole(&mut self) -> Option<(u32, u32)>
         ensures moves { IfSome result (λ m. MovesLast self.old.slots self.new.slots m.0 m.1) }
         ensures fewer { OnSome result (vacant self.new < vacant self.old) }
@@ -244,8 +244,8 @@ impl<T> ItemStore<T> {
         Some((last as u32, hole))
     }
 
-    /// A store of the same limit with a clone of each item in its slot, and the same slots vacant.
-    /// `Err` where memory for a clone or for the slots was refused, and then nothing is made.
+    /// Returns a store of the same limit with a clone of each item in the same slot, and the same slots vacant. It
+    /// returns an error if memory for a clone or for the slots is refused; then the clones are dropped.
     pub fn try_clone(&self) -> Result<Self, AllocError>
     where
         T: Clone,

@@ -4,15 +4,15 @@ ghost use Rattle.std.specs.Prelude.{◌≡◌};
 use std::hash::Hash;
 use std::rc::Rc;
 
-/// An item of a hash map, which shows its key by a reference into itself (the crate's `IdHashItem`).
+/// An item of a hash map, which shows its key by a reference into itself.
 pub trait IdHashItem {
-    /// What tells the item from others, and where it is looked for.
+    /// What tells the item from others, and what a lookup asks for.
     type Key: Eq + Hash;
 
-    // The key that an item shows: it depends on the item's value alone.
+    // The key that an item shows. It depends on the item's value alone.
     ghost key: { Self → Self.Key };
 
-    /// The item's key.
+    /// Returns the item's key.
     fn key(&self) -> &Self::Key
         ensures { result.now ≡ key self.now };
 }
@@ -22,10 +22,10 @@ pub trait IdOrdItem {
     /// What tells the item from others, and orders it among them.
     type Key: Ord;
 
-    // The key that an item shows: it depends on the item's value alone.
+    // The key that an item shows. It depends on the item's value alone.
     ghost key: { Self → Self.Key };
 
-    /// The item's key.
+    /// Returns the item's key.
     fn key(&self) -> &Self::Key
         ensures { result.now ≡ key self.now };
 }

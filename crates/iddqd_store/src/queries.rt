@@ -8,12 +8,12 @@ ghost use Rattle.iddqd_store.specs.Query.{le_then_less, ge_then_greater};
 
 use std::cmp::Ordering;
 
-/// A value that stands for a key (the trait `Equivalent` that the crate uses, with its law).
+/// A value that stands for a key. The prover checks its laws.
 pub trait Equivalent<K: Eq> {
-    // What `equivalent` answers.
+    // What `equivalent` returns.
     ghost equivalent: { Self → K → Bool };
 
-    /// Whether the query stands for the key.
+    /// Returns whether the query stands for the key.
     fn equivalent(&self, key: &K) -> bool
         ensures { result ≡ equivalent self.now key.now };
 
@@ -21,23 +21,22 @@ pub trait Equivalent<K: Eq> {
     ghost one_key: { (q : Self) (x y : K) → IsTrue (equivalent q x) → equivalent q y ≡ K.eq x y };
 }
 
-/// A value that stands for a key, and has its place in the keys' order (the trait `Comparable` that the crate uses,
-/// with its law).
+/// A value that stands for a key, and has its place in the keys' order. The prover checks its laws.
 pub trait Comparable<K: Ord>: Equivalent<K> {
-    // What `compare` answers.
+    // What `compare` returns.
     ghost compare: { Self → K → Ordering };
 
-    /// Where the query stands to the key.
+    /// Returns how the query compares to the key.
     fn compare(&self, key: &K) -> Ordering
         ensures { result ≡ compare self.now key.now };
 
-    // `Equal` exactly where the query is equivalent.
+    // `Equal` exactly if the query is equivalent.
     ghost equal_where_equivalent: { (q : Self) (k : K) → is_eq (compare q k) ≡ Self.equivalent q k };
 
-    // `Less` for each key above one that is answered `Less` or `Equal`.
+    // `Less` for each key above one for which it is `Less` or `Equal`.
     ghost less_above: { (q : Self) (x y : K) → IsTrue (is_le (compare q x)) → K.cmp x y ≡ Less → compare q y ≡ Less };
 
-    // `Greater` for each key below one that is answered `Greater` or `Equal`.
+    // `Greater` for each key below one for which it is `Greater` or `Equal`.
     ghost greater_below: { (q : Self) (x y : K) → IsTrue (is_ge (compare q x)) → K.cmp x y ≡ Greater → compare q y ≡ Greater };
 }
 

@@ -5,7 +5,7 @@ use crate::queries::{Comparable, Equivalent};
 use std::cmp::Ordering;
 use std::marker::Model;
 
-/// How many times a lookup compared a key (ours). At `u32::MAX` the count stays.
+/// How many times a lookup compared a key. At `u32::MAX` the count stays.
 #[derive(Drop)]
 pub struct Steps {
     count: u32,
@@ -20,14 +20,14 @@ impl Model for Steps {
 }
 
 impl Steps {
-    /// No steps.
+    /// A count of 0.
     pub fn new() -> Steps
         ensures { result ≡ 0 }
     {
         Steps { count: 0 }
     }
 
-    /// How many steps there were.
+    /// Returns the count.
     pub fn count(&self) -> u32
         ensures { result ≡ self.now }
     {
@@ -41,7 +41,7 @@ impl Steps {
         self.count = self.count.saturating_add(1);
     }
 
-    /// Where the query stands to the key: one step.
+    /// Returns how the query compares to the key, and counts one step.
     pub fn compare<K: Ord, Q: Comparable<K>>(&mut self, query: &Q, key: &K) -> Ordering
         ensures value { result ≡ Q.compare query.now key.now }
         ensures step { self.new ≡ min (self.old + 1) u32.MAX }
@@ -51,7 +51,7 @@ impl Steps {
         query.compare(key)
     }
 
-    /// Whether the query stands for the key: one step.
+    /// Returns whether the query stands for the key, and counts one step.
     pub fn equal<K: Eq, Q: Equivalent<K>>(&mut self, query: &Q, key: &K) -> bool
         ensures value { result ≡ Q.equivalent query.now key.now }
         ensures step { self.new ≡ min (self.old + 1) u32.MAX }

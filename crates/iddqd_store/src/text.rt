@@ -10,11 +10,11 @@ ghost use Rattle.iddqd_store.specs.Query.{le_then_less, ge_then_greater};
 use crate::queries::{Comparable, Equivalent};
 use std::cmp::Ordering;
 
-/// A query for `String` keys: it compares and hashes as the `String` of the same text (ours, for queries of type `str`).
+/// A query for `String` keys. It compares and hashes as the `String` of the same text, so a `str` can be asked for.
 #[derive(Clone, Copy, PartialEq, Eq, Hash)]
 pub struct Text<'a>(pub &'a str);
 
-// The two comparisons of texts at one lifetime.
+// The two comparisons of texts, at one lifetime.
 fn equal_texts<'x>(a: &'x str, b: &'x str) -> bool
     ensures { result ≡ bytes_eq a.now b.now }
 {

@@ -1,17 +1,17 @@
-//! What the structure of a map is asked.
+//! What `validate` is asked and returns.
 ghost use Rattle.std.specs.Prelude.{◌↔◌, IsErr};
 ghost use Rattle.iddqd_store.specs.Validation.{IsNotCompact};
 
-/// Whether slots may be vacant (the crate's `ValidateCompact`).
+/// Whether slots may be vacant.
 #[derive(Clone, Copy, Debug, PartialEq, Eq)]
 pub enum ValidateCompact {
-    /// None may be.
+    /// No slot may be vacant.
     Compact,
-    /// They may.
+    /// Slots may be vacant.
     NonCompact,
 }
 
-/// A slot is vacant where none may be (the crate's `ValidationError`; its other causes can't come here).
+/// A slot is vacant, and none may be. Other faults of a map's structure cannot occur.
 #[derive(Clone, Copy, Debug, PartialEq, Eq, thiserror::Error)]
 #[error("there are vacant slots")]
 pub struct ValidationError {
@@ -19,7 +19,7 @@ pub struct ValidationError {
 }
 
 impl ValidationError {
-    /// The error of a map that has vacant slots (ours: the crate's constructor is private).
+    /// The error of a map that has vacant slots. Public, for other maps over the store.
     #[doc(hidden)]
     pub fn internal_not_compact() -> Self {
         ValidationError { _vacant: () }
@@ -27,7 +27,7 @@ impl ValidationError {
 }
 
 impl ValidateCompact {
-    /// Whether so many vacant slots are allowed (ours: the part of `validate` that both maps share).
+    /// Returns an error if there are vacant slots and none may be. Both maps' `validate` share it.
     #[doc(hidden)]
     pub fn internal_check(self, vacant: u32) -> Result<(), ValidationError>
         ensures { IsErr result ↔ IsNotCompact self vacant }

@@ -1,13 +1,12 @@
-//! Visitors: what goes over the items of a map, writes them and tells which stay.
+//! Visitors, which see and may write each item of a map, and decide which stay.
 ghost use Rattle.std.specs.Prelude.{◌≡◌, Bool};
 
-/// What changes an item, answers whether it is to stay, and may change itself (ours: the crate hands a `RefMut` to a
-/// closure).
+/// A visitor of items. A visit may change the item and the visitor, and decides whether the item stays.
 pub trait Visit<T> {
-    // From the visitor and an item to the visitor and the item afterwards, and the answer.
+    // The visitor and the item after a visit, and what `visit` returns.
     ghost visits: { Self → T → Self × T × Bool };
 
-    /// Visits the item, and answers whether it is to stay.
+    /// Visits the item, and returns whether it stays.
     fn visit(&mut self, item: &mut T) -> bool
         ensures { visits self.old item.old ≡ (self.new, item.new, result) };
 }

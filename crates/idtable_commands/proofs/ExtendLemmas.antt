@@ -1,10 +1,10 @@
 -- Many items are put in, one after the other, up to the first that is not.
 --     stays_on      what two calls after one another leave
---     absent_before      of items that differ in their keys, none before x is akin to it
+--     absent_before      of items that differ in their keys, none before x has its key
 --     as_many      so many were put in as there are more
 --     takes_none, takes_last, stops_here      none, one more, and the one that is not
 --     spare_first      before one finds no room, at least as many were put in as were spare
---     Ends, extended_same      what an unrefused extension answers and leaves is told by the items alone, and by no order of theirs
+--     Ends, extended_same      the items alone, in any order, say what an unrefused extension returns and leaves
 use Rattle.std.proofs.Common.{◌≡◌, ℕ, zero, suc, ◌+◌, ◌-◌, ◌<◌, ◌≤◌, ◌⊎◌, Bool, false, cond, List, [], ◌∷◌, ◌++◌, length, take, map, Option, Some, None, refl, sym, ap, ap₂, ◌∙◌, subst, arith, inl, inr, ⊎_elim, IsPermutation}
 use Rattle.std.specs.Prelude.{slice_get, IfNone, IfSome}
 use Rattle.std.specs.Cmp.{IsEquivalence}
@@ -72,7 +72,7 @@ module _ {T K : Type 0} (key : T → K) {eq : K → K → Bool} (equivalence : I
       let apart : eq (key x) (key y) ≡ false = equivalence.symm (key x) (key y) ∙ apart_from y ys zs x differ.0 in
       ap (λ b. cond b (Some y) (find_item key (eq (key x)) ys)) apart ∙ absent_before ys zs x differ.1
 
-  -- among items that differ in their keys, none that comes before x is akin to it
+  -- among items that differ in their keys, none before x has its key
   none_yet : (old xs : List T) (n m : ℕ) (x : T) → slice_get xs n ≡ Some x → n < m → NoTwoAkin key eq (old ++ take m xs) → find_item key (eq (key x)) (old ++ take n xs) ≡ None
   none_yet old xs n m x e lt differ =
       let at = cut_at xs n m x e lt in
@@ -127,7 +127,7 @@ module _ {T K : Type 0} (key : T → K) {eq : K → K → Bool} (equivalence : I
           }),
         )
 
-    -- what `run` answers of an extension that stops: how many were put in is told by how many there are
+    -- the reply of `run` to an extension that stops: the number of items says how many were inserted
     module _ (xs : List T) (old : MapState T) (new : List T) (before now : ℕ) (b : before ≡ length old.items) (n : now ≡ length new) where
       pub counted : (x : T) (after : ℕ) → StopsAt key eq limit xs x after old.items new → (before ≤ now) × (now - before ≡ after)
       counted x after stops =
@@ -157,14 +157,14 @@ module _ {T K : Type 0} (key : T → K) {eq : K → K → Bool} (equivalence : I
       refused_answered visits rule items is None kind some none =
           (subst (λ zs. RefusesRoom limit (room_to_reserve (length old.items) (length zs)) old kind) (sym is) none.0, omega (arith, b, n, ap length none.1), none.1)
 
-  -- one item is akin to one that is there where the items of another map, of the same items, are put in past it
+  -- one item has the key of an existing one, if the items of another map of the same items are inserted past it
   clash : (xs one other : List T) (n m : ℕ) (x y : T) → IsPermutation one other → slice_get xs n ≡ Some x → n < m → NoTwoAkin key eq (other ++ take m xs) → NoTwoAkin key eq (one ++ take n xs) → find_item key (eq (key x)) (one ++ take n xs) ≡ Some y → ⊥
   clash xs one other n m x y same e lt differ differ_one found =
       let none = none_yet other xs n m x e lt differ in
       let moved = find_moved key equivalence (eq (key x)) (equivalence.congr (key x)) (one ++ take n xs) (other ++ take n xs) (IsPermutation-append_left (take n xs) one other same) differ_one in
       cc
 
-  -- where an unrefused extension ends: behind all items, or at one that is akin to one there
+  -- where an unrefused extension ends: behind all items, or at one whose key an existing item has
   pub record Ends (xs old : List T) (reply : Reply T) (new : List T) : Type 0 where
     pub after : ℕ
     pub added : AddsAll key eq (take after xs) old new

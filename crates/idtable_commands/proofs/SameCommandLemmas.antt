@@ -1,4 +1,4 @@
--- The same commands, as clones are, are answered alike.
+-- The same commands, as clones are, have the same replies.
 --     run_of_same      a run of commands is one of the same commands
 --     clones_are_same      clones of commands are the same commands
 use Rattle.std.proofs.Common.{◌≡◌, ℕ, Bool, List, [], ◌∷◌, length, Some, None, subst}

@@ -1,7 +1,7 @@
--- The same items in another order: what passes a test is the same, and no two are akin after a replacement.
+-- The same items in another order: what passes a test is the same, and no two keys are equal after a replacement.
 --     permutation_relates      a relation that exchanges of neighbours have holds of a list and its permutations
 --     filter_permutation      the elements that pass a test, of a list and of a permutation of it
---     differ_replaced      no two are akin after a replacement
+--     differ_replaced      no two keys are equal after a replacement
 use Rattle.std.proofs.Common.{◌≡◌, ℕ, zero, suc, ◌<◌, Bool, true, false, cond, List, [], ◌∷◌, length, map, filter, get_or, set, IsPermutation, refl, ◌∙◌, arith, le_of_suc-le-suc}
 use Rattle.std.proofs.lemmas.List.Sorted.{IsPermutation-refl, IsPermutation-trans, IsPermutation-cons, IsPermutation-middle, IsPermutation-keeps}
 use Rattle.std.specs.Cmp.{IsEquivalence}
@@ -69,6 +69,6 @@ module _ {T K : Type 0} (key : T → K) {eq : K → K → Bool} (equivalence : I
   alike_if x w k true e = equivalence.congr (key x) (key w) k e
   alike_if x w k false e = refl
 
-  -- x in the place of an akin item
+  -- x in place of an item of an equal key
   pub differ_replaced : (x : T) (xs : List T) → NoTwoAkin key eq xs → NoTwoAkin key eq (items_overwritten key (eq (key x)) x xs)
   differ_replaced x = differ_mapped (λ w. cond (eq (key x) (key w)) x w) (λ w k. alike_if x w k (eq (key x) (key w)) refl)

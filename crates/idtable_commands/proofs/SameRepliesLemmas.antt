@@ -1,4 +1,4 @@
--- The law of same replies: what an unrefused command answers and leaves is told by the items alone, and by no order of theirs.
+-- The law of same replies: the items alone, in any order, say what an unrefused command returns and leaves.
 --     sought, plain_reply, plain_items      the item that a command looks for, and with it the reply and the items then
 --     step_plain      an unrefused step has this reply, and these items in some order
 --     step_same, step_alike, run_same      one step, and a run, from the same items

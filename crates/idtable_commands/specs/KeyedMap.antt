@@ -3,7 +3,7 @@
 --     limit_of      the most items that it ever holds
 --     rule      whether it keeps a spare, how its items lie, and in which order it visits them
 --     IsKeyed      its items lie as its lookups expect them
---     StopsExtension      why not all of many items were put in, and what is in then
+--     StopsExtension      why not all of many items were inserted, and what is in the map then
 use Rattle.std.specs.Prelude.{◌≡◌, ℕ, Bool, List, length, Some, None, IfErr, IfNone, IfSome, Result, IsPermutation}
 use Rattle.std.specs.Borrow.{Fml, RattleType, MutBor, LendsSoOk, unit}
 use Rattle.iddqd.specs.Contents.{OverwritesItem, find_item}
@@ -17,7 +17,7 @@ use Rattle.idtable_commands.specs.declared.keyed_map.extend.NotTaken.{NotTaken}
 use Rattle.idtable_commands.specs.declared.keyed_map.extend.NotTaken.TheVariants as not_taken
 
 module _ {M T K : Type 0} (state : M → MapState T) (limit_of : M → ℕ) (rule : MapRule K) (IsKeyed : M → Type 0) where
-  -- what each call leaves, whatever it answers: the map can be searched, under the same limit, and keeps its room
+  -- what each call leaves, whatever it returns: the map can be searched, under the same limit, and keeps its room
   pub record StaysKeyed (old new : M) : Type 0 where
     pub keyed : IsKeyed new
     pub limit : limit_of new ≡ limit_of old
@@ -28,19 +28,21 @@ module _ {M T K : Type 0} (state : M → MapState T) (limit_of : M → ℕ) (rul
     pub items : (state new).items ≡ (state old).items
     pub stays : StaysKeyed old new
 
-  -- what a shrink leaves, refused or not: the items in whatever order, in a map that can be searched, under the same limit; room may go
+  -- what a shrink leaves, refused or not: the items in any order, in a map that can be searched, under the same limit; room may
+  -- go
   pub record ShrinksMap (old new : M) : Type 0 where
     pub items : IsPermutation (state old).items (state new).items
     pub keyed : IsKeyed new
     pub limit : limit_of new ≡ limit_of old
     pub room : LeavesRoom rule (limit_of old) 0 (state old) (state new)
 
-  -- the item was put in where its key was absent and the map was not full
+  -- the item was inserted: its key was absent and the map was not full
   pub record InsertsIntoMap (key : T → K) (eq : K → K → Bool) (x : T) (old new : M) : Type 0 where
     pub inserted : OverwritesItem key eq x (limit_of old) (state old).items None (state new).items
     pub stays : StaysKeyed old new
 
--- what the map is once what an insertion shows is let go: at `Ok` the item is in; at `Err` the items are as they were, and beside a duplicate all is
+-- what the map is once the loan of an insertion's result ends: at `Ok` the item is in; at `Err` the items are as they were, and
+-- at a duplicate the whole map is
 abbrev pub ends_inserted : (M : RattleType) {T K : Type 0} (state : M.Denot → MapState T) (limit_of : M.Denot → ℕ) (rule : MapRule K) (IsKeyed : M.Denot → Type 0) (key : T → K) (eq : K → K → Bool) → MutBor M.Denot → Result (MutBor unit.Denot) (InsertionError T) → T → Fml
 ends_inserted M state limit_of rule IsKeyed key eq map result x =
     LendsSoOk M unit map result
@@ -48,22 +50,23 @@ ends_inserted M state limit_of rule IsKeyed key eq map result x =
     (λ new. KeepsMap state limit_of rule IsKeyed map.now new × IfErr result (OnDuplicate (new ≡ map.now)))
 
 module _ {T K : Type 0} (key : T → K) (eq : K → K → Bool) (limit : ℕ) where
-  -- an item that is akin to one there is shown beside that one alone; or one finds no room; or room for as many as are likely new was refused
+  -- an item whose key one in the map has is shown beside that one alone; or one finds no room; or room to begin with was refused
   abbrev pub StopsExtension : (xs : List T) (old : MapState T) (new : List T) → ExtendUniqueError T → Type 0
   StopsExtension xs old new (Duplicate d) = (y : T) × IsOnly (duplicates_of d) y × FitsLikely key eq limit xs old.items × (after : ℕ) × MeetsAkin key eq limit xs (new_item_of d) y after old.items new
   StopsExtension xs old new (Refused e) = IfSome e.item (λ x. FitsLikely key eq limit xs old.items × (after : ℕ) × FindsFull key eq limit xs x e.error after old new) × IfNone e.item (RefusesRoom limit (room_to_reserve (length old.items) (length xs)) old e.error × (new ≡ old.items))
 
-  -- an item comes back since it is akin to one there, or finds no room
+  -- an item is returned since one of an equal key exists, or it finds no room
   abbrev pub RefusesOne : MapState T → T → NotTaken T → Type 0
   RefusesOne old x (not_taken.Akin back) = (back ≡ x) × (y : T) × (find_item key (eq (key x)) old.items ≡ Some y)
   RefusesOne old x (not_taken.Refused r) = (r.item ≡ x) × FindsNoRoom key eq limit old.items x r.error × (old.spare ≡ 0)
 
-  -- the first that is not put in comes back
+  -- the first that is not inserted is returned
   abbrev pub RefusesAmong : (xs : List T) (old : MapState T) (new : List T) → NotTaken T → Type 0
   RefusesAmong xs old new (not_taken.Akin x) = (y : T) × (after : ℕ) × MeetsAkin key eq limit xs x y after old.items new × (find_item key (eq (key x)) new ≡ Some y)
   RefusesAmong xs old new (not_taken.Refused r) = (after : ℕ) × FindsFull key eq limit xs r.item r.error after old new
 
--- what the map is once what an extension shows is let go: at `Ok` all items are in; at `Err` the error tells why not all are, and which
+-- what the map is once the loan of an extension's result ends: at `Ok` all items are in; at `Err` the error says why not all are,
+-- and which
 abbrev pub ends_extended : (M : RattleType) {T K : Type 0} (state : M.Denot → MapState T) (limit_of : M.Denot → ℕ) (rule : MapRule K) (IsKeyed : M.Denot → Type 0) (key : T → K) (eq : K → K → Bool) → MutBor M.Denot → Result (MutBor unit.Denot) (ExtendUniqueError T) → List T → Fml
 ends_extended M state limit_of rule IsKeyed key eq map result xs =
     LendsSoOk M unit map result

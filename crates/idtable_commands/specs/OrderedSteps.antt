@@ -1,4 +1,4 @@
--- The law of an ordered map's steps: that its items ascend tells where they lie, so that no case of *Answers* has to.
+-- The law of an ordered map's steps: its items ascend, so their places follow, and no case of *Answers* has to state them.
 use Rattle.std.specs.declared.cmp.Ordering.{Ordering}
 use Rattle.std.specs.Cmp.{IsTotalOrder}
 use Rattle.std.specs.Prelude.{◌≡◌, ℕ, Bool}

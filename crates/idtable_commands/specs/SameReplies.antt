@@ -1,5 +1,6 @@
 -- The law that no reply tells one map from another while nothing is refused. It speaks of step and run alone (Step), so of every map whose calls keep to them.
---     It rests on three facts of those definitions. A search finds at most one item, since no two are akin, so their order plays no part in it.
+--     It rests on three facts of those definitions. A search finds at most one item, since no two have equal keys, so their order
+-- plays no part.
 --     A new item may stand anywhere among the others. The limit and the spare tell only whether something is refused.
 use Rattle.std.specs.Prelude.{◌≡◌, ℕ, Bool, List, IsSome, ⊤, All, IsPermutation}
 use Rattle.std.specs.Cmp.{IsEquivalence}
@@ -21,18 +22,18 @@ IsUnrefused (Stopped back kind after) = ⊥
 IsUnrefused (Conflict back existing after) = IsSome existing
 IsUnrefused _ = ⊤
 
--- the order in which the items lie plays no part: a visitor that goes over them all may answer by it
+-- the order of the items plays no part; what the visitor of a `RetainMut` returns may depend on it
 abbrev pub IsOrderless : {T K V : Type 0} → Command T K V → Type 0
 IsOrderless (RetainMut visitor) = ⊥
 IsOrderless _ = ⊤
 
--- the same command, with the same items where it has many, in whatever vector: so a clone is the same as what it was made of
+-- the same command, with the same items if it has many, in any vector: so a clone is the same as its original
 abbrev pub SameCommand : {T K V : Type 0} → Command T K V → Command T K V → Type 0
 SameCommand {T} (ExtendUnique xs) other = (ys : Vec T) × (other ≡ ExtendUnique ys) × (ys.items ≡ xs.items)
 SameCommand one other = other ≡ one
 
 module _ {T K : Type 0} (key : T → K) (eq : K → K → Bool) where
-  -- two maps hold the same items, each in an order of its own, and no two of them are akin
+  -- two maps hold the same items, each in an order of its own, and no two of them have equal keys
   pub record HoldSameItems (one other : List T) : Type 0 where
     pub same : IsPermutation one other
     pub differ : NoTwoAkin key eq one
@@ -41,7 +42,8 @@ module _ {T K : Type 0} (key : T → K) (eq : K → K → Bool) where
   abbrev pub RunUnrefused : {V : Type 0} (visits : V → T → V × T × Bool) → ℕ → MapRule K → MapState T → List (Command T K V) → List (Reply T) → MapState T → Type 0
   RunUnrefused visits limit rule old commands replies new = Run key eq visits limit rule old commands replies new × All IsUnrefused replies
 
--- two maps that hold the same items, of whatever limits and rules, give the same replies to the same commands, `RetainMut` not among them, and hold the same items then, where neither refused anything
+-- Two maps that hold the same items, of any limits and rules, give the same replies to the same commands, and hold the same items
+-- then. `RetainMut` is not among the commands, and neither map refuses anything
 abbrev pub SameReplies : Type 0 → Type 0 → Type 0 → Type 0
 SameReplies T K V =
     (key : T → K) (eq : K → K → Bool) → IsEquivalence eq → (visits : V → T → V × T × Bool) → VisitsKeepKeys key eq visits

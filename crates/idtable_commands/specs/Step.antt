@@ -1,14 +1,16 @@
--- What a map answers to a command, and what it holds then (the crate's calls). No pair of a command and a reply occurs but those with a case of their own.
+-- The reply of a map to a command, and what it holds then. No pair of a command and a reply occurs but those with a case of their
+-- own.
 --     MapState      the items of a map, and its spare: how many new items it takes without a refusal
---     MapRule      what the two kinds of map differ in: whether a map keeps a spare, how its items lie, and in which order it visits them
+--     MapRule      what the two kinds of map differ in: whether a map keeps a spare, how its items lie, and in which order it
+-- visits them
 --     LieByRule      how the items of such a map lie
 --     room_left, LeavesRoom      how much room a command leaves at least to a map that keeps a spare
 --     MakesRoom, RefusesRoom      room is made, or refused
 --     IsVisitOrder      in which order the items of a map are visited
 --     VisitsItem, RetainsVisited      an item is visited; all are, in that order, and some stay
---     InsertsAll, StopsAt      items are put in one after the other; so many are, and the next one is not
+--     InsertsAll, StopsAt      items are inserted one after another; this many are, and the next one is not
 --     MeetsAkin, FindsFull      why it is not
---     Answers      what a command is answered, and the items then
+--     Answers      the reply to a command, and the items then
 --     Does, Step, Run      one command and its reply; with how the items lie; a list of commands and their replies
 use Rattle.std.specs.declared.cmp.Ordering.{Ordering}
 use Rattle.std.specs.Prelude.{◌≡◌, ℕ, ◌+◌, ◌<◌, ◌≤◌, max, Bool, List, [], ◌∷◌, length, take, slice_get, Option, Some, None, IfSome, IsPermutation}
@@ -25,7 +27,8 @@ pub record MapState (T : Type 0) : Type 0 where
   pub items : List T
   pub spare : ℕ
 
--- an ordered map visits its items in the order in which it has them, and its spare is 0 throughout; a hash map visits its items in any order, keeps a spare, and loses room by a shrink alone (`reserve`; the number is ours)
+-- an ordered map visits its items in their order, and its spare is always 0; a hash map visits its items in any order, keeps a
+-- spare, and loses room only by a shrink
 pub data MapRule (K : Type 0) : Type 0 where
   Ordered : (compare : K → K → Ordering) → MapRule K
   Hashed : MapRule K
@@ -62,23 +65,24 @@ FitsRoom Hashed limit m = room_of m ≤ limit
 abbrev pub KeepsRoom : {T K : Type 0} → MapRule K → (limit : ℕ) → (old new : MapState T) → Type 0
 KeepsRoom rule limit old new = LeavesRoom rule limit (room_of old) old new
 
--- how much room there is at least after a command: a reservation makes it, a shrink may give all of it back, and no other command lowers it
+-- how much room there is at least after a command: a reservation makes it, a shrink may give all of it back, and no other command
+-- lowers it
 abbrev pub room_left : {T K V : Type 0} → Command T K V → Reply T → MapState T → ℕ
 room_left (Reserve n) Done old = max (room_of old) (length old.items + n)
 room_left Shrink _ old = 0
 room_left _ _ old = room_of old
 
--- there is room for so many more items: the limit has it, and a map that keeps a spare has so much (`reserve`)
+-- there is room for this many more items: the limit has it, and a map that keeps a spare has this much (`reserve`)
 pub record MakesRoom {T K : Type 0} (rule : MapRule K) (limit n : ℕ) (old new : MapState T) : Type 0 where
   pub in_limit : length old.items + n ≤ limit
   pub room : LeavesRoom rule limit (length old.items + n) old new
 
--- room for so many more items was refused: the kind is told by the limit, and for so many as are spare this never comes
+-- room for this many more items was refused: the limit says which kind; it is never refused for as many as are spare
 abbrev pub RefusesRoom : {T : Type 0} → (limit n : ℕ) → MapState T → RefusalKind → Type 0
 RefusesRoom limit n old kind = (kind ≡ reservation_kind limit (length old.items + n)) × (old.spare < n)
 
 module _ {T K : Type 0} (key : T → K) (eq : K → K → Bool) (limit : ℕ) where
-  -- x comes back for want of room; at a spare above 0 this never comes
+  -- x is returned since there is no room; never if the spare is above 0
   abbrev pub RefusesItem : T → MapState T → Option T → RefusalKind → Type 0
   RefusesItem x old back kind = (back ≡ Some x) × FindsNoRoom key eq limit old.items x kind × (old.spare ≡ 0)
 
@@ -86,22 +90,23 @@ module _ {T K : Type 0} (key : T → K) (eq : K → K → Bool) (limit : ℕ) wh
   abbrev pub FitsLikely : (xs old : List T) → Type 0
   FitsLikely xs old = length old + room_to_reserve (length old) (length xs) ≤ limit
 
-  -- the items are put in beside the old ones, one after the other, and the limit has room for each (`extend_unique`, ours)
+  -- the items are inserted one after another, and the limit has room for each (`extend_unique`)
   pub record InsertsAll (xs old new : List T) : Type 0 where
     pub added : AddsAll key eq xs old new
     pub room : 0 < length xs → length new ≤ limit
 
-  -- so many of the items, the first ones, are put in, and x comes next
+  -- the first of the items, this many, are inserted, and x comes next
   pub record StopsAt (xs : List T) (x : T) (after : ℕ) (old new : List T) : Type 0 where
     pub next : slice_get xs after ≡ Some x
     pub taken : InsertsAll (take after xs) old new
 
-  -- x is the first of the items that is akin to one that is there by then, an old one or one that is put in before it
+  -- x is the first of the items whose key one in the map has by then, an old one or one inserted before it
   pub record MeetsAkin (xs : List T) (x there : T) (after : ℕ) (old new : List T) : Type 0 where
     pub stops : StopsAt xs x after old new
     pub first : IsFirstConflict key eq old (take after xs) x there
 
-  -- x is the first of the items that finds no room, and is akin to none that is there; before it at least as many are put in as were spare
+  -- x is the first of the items that finds no room, and no item has its key; before it at least as many are inserted as were
+  -- spare
   pub record FindsFull (xs : List T) (x : T) (kind : RefusalKind) (after : ℕ) (old : MapState T) (new : List T) : Type 0 where
     pub stops : StopsAt xs x after old.items new
     pub refused : FindsNoRoom key eq limit new x kind
@@ -113,22 +118,22 @@ IsVisitOrder (Ordered compare) items order = order ≡ items
 IsVisitOrder Hashed items order = IsPermutation items order
 
 module _ {T K V : Type 0} (key : T → K) (visits : V → T → V × T × Bool) where
-  -- the item whose key passes the test is visited, and stays as the visit made it, whatever the answer (`visit`, ours)
+  -- the item whose key passes the test is visited, and stays as the visit made it, whatever the visit returns (`visit`)
   abbrev pub VisitsItem : (K → Bool) → (old_visitor new_visitor : V) → Bool → (old new : List T) → Type 0
   VisitsItem test v w answer old new = (x y : T) × (find_item key test old ≡ Some x) × (visits v x ≡ (w, y, answer)) × (new ≡ items_overwritten key test y old)
 
-  -- each item is visited once, in the order in which the map visits them, and those answered true stay (`retain_mut`, ours)
+  -- each item is visited once, in the order in which the map visits them, and those stay whose visit returns true (`retain_mut`)
   abbrev pub RetainsVisited : MapRule K → (old_visitor new_visitor : V) → (old new : List T) → Type 0
   RetainsVisited rule v w old new = (order : List T) × IsVisitOrder rule old order × (w ≡ visitor_after visits v order) × (new ≡ kept_by visits v order)
 
 module _ {T K V : Type 0} (key : T → K) (eq : K → K → Bool) (visits : V → T → V × T × Bool) (limit : ℕ) (rule : MapRule K) where
-  -- what each command is answered, and the items then; no other pair of a command and a reply occurs
+  -- the reply to each command, and the items then; no other pair of a command and a reply occurs
   abbrev pub Answers : Command T K V → MapState T → Reply T → List T → Type 0
-  -- the item is put in where its key is absent and the map is not full
+  -- the item is inserted: its key is absent and the map is not full
   Answers (InsertUnique x) old Inserted new = OverwritesItem key eq x limit old.items None new
   Answers (InsertUnique x) old (Duplicate back existing) new = (back ≡ x) × (y : T) × (find_item key (eq (key x)) old.items ≡ Some y) × IfSome existing (λ e. e ≡ y) × (new ≡ old.items)
   Answers (InsertUnique x) old (Refused back kind) new = RefusesItem key eq limit x old back kind × (new ≡ old.items)
-  -- the same, and an akin item that is there is replaced whole and comes back
+  -- the same, and an existing item of an equal key is replaced whole and returned
   Answers (InsertOverwrite x) old Inserted new = OverwritesItem key eq x limit old.items None new
   Answers (InsertOverwrite x) old (Replaced y) new = OverwritesItem key eq x limit old.items (Some y) new
   Answers (InsertOverwrite x) old (Refused back kind) new = RefusesItem key eq limit x old back kind × (new ≡ old.items)
@@ -151,7 +156,8 @@ module _ {T K V : Type 0} (key : T → K) (eq : K → K → Bool) (visits : V �
   Answers Shrink old Done new = IsPermutation old.items new
   Answers Shrink old (Refused back kind) new = (back ≡ None) × (kind ≡ memory_refused) × IsPermutation old.items new
   Answers Len old (Length n) new = (n ≡ length old.items) × (new ≡ old.items)
-  -- all of the items are put in; or the first ones, up to one that is akin to one there, or that finds no room; or none, where room for as many as are likely new is refused
+  -- all of the items are inserted; or the first ones, up to one whose key one in the map has, or that finds no room; or none, if
+  -- room to begin with is refused
   Answers (ExtendUnique xs) old (Extended n) new = (n ≡ length xs.items) × FitsLikely key eq limit xs.items old.items × InsertsAll key eq limit xs.items old.items new
   Answers (ExtendUnique xs) old (Conflict x existing after) new = (y : T) × FitsLikely key eq limit xs.items old.items × MeetsAkin key eq limit xs.items x y after old.items new × IfSome existing (λ e. e ≡ y)
   Answers (ExtendUnique xs) old (Stopped (Some x) kind after) new = FitsLikely key eq limit xs.items old.items × FindsFull key eq limit xs.items x kind after old new

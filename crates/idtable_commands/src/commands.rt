@@ -1,18 +1,18 @@
-//! What a map is told, and what it answers.
+//! Commands of a map, and their replies.
 use iddqd::errors::TryReserveError;
 
-/// One call on a map of items `T` with keys `K`, where visitors are a `V` (ours).
+/// One call on a map of items `T` with keys `K`. A visitor is a `V`.
 #[derive(Clone, Debug, PartialEq, Eq, Drop)]
 pub enum Command<T, K, V> {
     /// `insert_unique`.
     InsertUnique(T),
     /// `insert_overwrite`.
     InsertOverwrite(T),
-    /// `get`, answered by a clone.
+    /// `get`. The reply has a clone.
     Get(K),
     /// `remove`.
     Remove(K),
-    /// `visit`: the item stays as the visit made it, whatever is answered.
+    /// `visit`: the item stays as the visit made it, whatever the visit returns.
     Visit(K, V),
     /// `retain_mut`.
     RetainMut(V),
@@ -28,7 +28,7 @@ pub enum Command<T, K, V> {
     ExtendUnique(Vec<T>),
 }
 
-/// What one command is answered (ours).
+/// The reply to one command.
 #[derive(Debug, PartialEq, Eq, Drop)]
 pub enum Reply<T> {
     /// The item is in.
@@ -48,7 +48,7 @@ pub enum Reply<T> {
     Removed(T),
     /// No item has the key.
     Absent,
-    /// What the visit answered.
+    /// What the visit returned.
     Visited(bool),
     /// How many items stay.
     Kept(usize),
@@ -56,7 +56,7 @@ pub enum Reply<T> {
     Done,
     /// How many items there are.
     Length(usize),
-    /// There was no room: for the item, which comes back, for the clone that `Get` answers, or for what `Reserve` or
+    /// There was no room: for the item, which is returned, for the clone of `Get`'s item, or for what `Reserve` or
     /// `Shrink` needs.
     Refused {
         /// The item, where one comes back.
@@ -64,10 +64,10 @@ pub enum Reply<T> {
         /// Why.
         error: TryReserveError,
     },
-    /// All of the items are in, so many.
+    /// All of the items are in: their number.
     Extended(usize),
-    /// So many of the items are in, the first ones, and an item of the next one's key is there: a clone of that one,
-    /// `None` only where memory for the clone was refused.
+    /// The first items are in, this many, and an item of an equal key exists for the next one: a clone of the
+    /// existing one, or `None` if memory for the clone was refused.
     Conflict {
         /// The next item, which comes back.
         new: T,
@@ -76,8 +76,8 @@ pub enum Reply<T> {
         /// How many items are in.
         after: usize,
     },
-    /// So many of the items are in, the first ones, and there was no room for the next one, which comes back; or none is
-    /// in, and room for as many as were likely new was refused.
+    /// The first items are in, this many, and there was no room for the next one, which is returned. Or none is in,
+    /// since room to begin with was refused.
     Stopped {
         /// The next item, or `None` where room was refused.
         item: Option<T>,
@@ -88,9 +88,9 @@ pub enum Reply<T> {
     },
 }
 
-/// Commands that were not run, for want of memory for the replies (ours).
+/// Commands that were not run, because memory for the replies was refused.
 #[derive(Debug, Drop)]
 pub struct RunStop<T, K, V> {
-    /// All of them, as they were handed in.
+    /// All of them, as they were passed.
     pub commands: Vec<Command<T, K, V>>,
 }

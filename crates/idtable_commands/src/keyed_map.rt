@@ -14,10 +14,10 @@ mod ord;
 use iddqd::Visit;
 use iddqd::errors::{ExtendUniqueError, InsertError, Refused, TryReserveError};
 
-/// A map whose keys live in its items, for callers that take any (ours). Contracts see its items and its spare, the most
-/// items that it ever holds, and whether it is keyed: each call leaves it keyed, under the same limit and, but for a
-/// shrink, with the room that its rule promises. A call is answered as its command is (`run`), and but for `extend_unique`
-/// it costs what the map's own call does: that of the same name, or the one that its comment tells.
+/// A map whose keys live in its items, of either kind. Contracts see its items and its spare, the most items that
+/// it can hold, and whether it is keyed. Each call leaves it keyed, under the same limit. Each but a shrink leaves
+/// it with the room that its rule promises. A call's result is that of its command (`run`). A call other than
+/// `extend_unique` costs what the map's own call of the same name does, or the one that its comment names.
 pub trait KeyedMap {
     /// What the map holds.
     type Item;
@@ -40,18 +40,18 @@ pub trait KeyedMap {
     // The items lie as the map's lookups expect them.
     ghost keyed: { Self → Type 0 };
 
-    /// Inserts the item where none of an equal key is there. A duplicate needs no memory and lends the item that is
-    /// there; a full map and refused memory hand the item back, which never comes where the spare is above 0. Then the
-    /// items are as they were.
+    /// Inserts the item if none of an equal key exists. It reports a duplicate without memory, and lends the
+    /// existing item. A full map and refused memory return the item; that never happens if the spare is above 0.
+    /// Then the items are as they were.
     fn insert_unique(&mut self, item: Self::Item) -> Result<&mut (), InsertError<'_, Self::Item>>
         requires keyed { keyed self.old }
         ensures* after { sem 𝓛 (ends_inserted Self.row state limit rule keyed key Self.Key.eq self.entry result item) }
         ensures refused { IfErr result (RefusesInsertion key Self.Key.eq (limit self.old) (state self.old).items item) }
         ensures no_spare { IfErr result (OnRefused ((state self.old).spare ≡ 0)) };
 
-    /// Puts the item in the stead of one of an equal key, which it answers: the whole item, its key's spelling too.
-    /// That needs no memory and is never refused. Where there is none, it inserts the item as `insert_unique` does and
-    /// answers `None`; a full map and refused memory hand the item back, and then the items are as they were.
+    /// Replaces the item of an equal key, and returns it: the whole item, its key's spelling too. That needs no
+    /// memory and is never refused. If there is none, it inserts the item as `insert_unique` does and returns
+    /// `None`. A full map and refused memory return the item, and then the items are as they were.
     fn insert_overwrite(
         &mut self,
         item: Self::Item,
@@ -68,8 +68,8 @@ pub trait KeyedMap {
         ensures found { option_copied result ≡ find_item key (Self.Key.eq query.now) (state self.now).items }
         ensures room { FitsRoom rule (limit self.now) (state self.now) };
 
-    /// Takes out the item of an equal key, and answers it; `None` where there is none, and then nothing has changed. It
-    /// takes no memory.
+    /// Removes the item of an equal key and returns it. It returns `None` if there is none, and then nothing has
+    /// changed. Does not allocate.
     fn remove(&mut self, query: &Self::Key) -> Option<Self::Item>
         requires keyed { keyed self.old }
         ensures value { result ≡ find_item key (Self.Key.eq query.now) (state self.old).items }
@@ -77,9 +77,9 @@ pub trait KeyedMap {
         ensures unchanged { IfNone result (self.new ≡ self.old) }
         ensures stays { StaysKeyed state limit rule keyed self.old self.new };
 
-    /// Visits the item of an equal key (`get_mut`), and answers what the visit did; the item stays as the visit made it, whatever
-    /// that is. `None` where there is none, and then neither map nor visitor has changed. No visit may change a key. It
-    /// takes no memory.
+    /// Visits the item of an equal key (`get_mut`), and returns what the visit did. The item stays as the visit
+    /// made it, whatever that is. It returns `None` if there is none, and then neither map nor visitor has changed.
+    /// No visit may change a key. Does not allocate.
     fn visit<V: Visit<Self::Item>>(&mut self, query: &Self::Key, visitor: &mut V) -> Option<bool>
         requires keyed { keyed self.old }
         requires keeps_keys { VisitsKeepKeys key Self.Key.eq V.visits }
@@ -88,8 +88,8 @@ pub trait KeyedMap {
         ensures unchanged { IfNone result ((self.new ≡ self.old) × (visitor.new ≡ visitor.old)) }
         ensures stays { StaysKeyed state limit rule keyed self.old self.new };
 
-    /// Visits each item once, ascending where the map does, and takes out each that is answered false. No visit may
-    /// change a key. It takes no memory.
+    /// Visits each item once, in the map's order, and removes each whose visit returns false. No visit may change a
+    /// key. Does not allocate.
     fn retain_mut<V: Visit<Self::Item>>(&mut self, visitor: &mut V)
     where
         Self::Item: Drop,
@@ -98,16 +98,16 @@ pub trait KeyedMap {
         ensures retained { RetainsVisited key V.visits rule visitor.old visitor.new (state self.old).items (state self.new).items }
         ensures stays { StaysKeyed state limit rule keyed self.old self.new };
 
-    /// Drops every item. It takes no memory, and the room of the items is spare again where the map keeps a spare.
+    /// Drops every item. A map that keeps a spare has the items' room as spare again. Does not allocate.
     fn clear(&mut self)
     where
         Self::Item: Drop,
         ensures empty { (state self.new).items ≡ [] }
         ensures stays { StaysKeyed state limit rule keyed self.old self.new };
 
-    /// Makes room for `additional` more items: where the map keeps a spare, as many new keys then meet no refusal. It is
-    /// refused by the limit where that has no room for them, and else for want of memory, but never for as many as are
-    /// spare. The items stay.
+    /// Makes room for `additional` more items. If the map keeps a spare, this many new keys are accepted then. The
+    /// limit refuses it if it has no room for them, and else only memory does; never for as many as are spare. The
+    /// items stay.
     fn reserve(&mut self, additional: usize) -> Result<(), TryReserveError>
         requires keyed { keyed self.old }
         ensures made { OnOk result (MakesRoom rule (limit self.old) additional (state self.old) (state self.new)) }
@@ -132,16 +132,16 @@ pub trait KeyedMap {
         requires keyed { keyed self.now }
         ensures found { option_copied result ≡ find_item key (Self.Key.eq (key item.now)) (state self.now).items };
 
-    /// Lends nothing: what a call answers that lends an item where it refuses.
+    /// Lends nothing. It is what a call returns at `Ok` whose error lends an item.
     fn lend_nothing(&mut self) -> &mut ()
         ensures* lends { sem 𝓛 (Lends Self.row unit self.entry result (λ _. self.old)) };
 
-    /// Inserts the items one after the other, each where none of an equal key is there. Room is made
-    /// before: for as many as there are items where the map is empty, and else for half of them, rounded up; where that is
-    /// refused, the error has no item and the items are as they were. Else the first item of which one of an equal key is
-    /// there by then, from before or put in by this call, comes back beside that one, which is lent; or the first that
-    /// finds no room comes back, and as many were put in then as were spare. Those before it stay, and the others are
-    /// dropped. A duplicate needs no memory, and is searched for once more than `insert_unique` does.
+    /// Inserts the items one after another, each if none of an equal key exists. It first makes room: in an empty
+    /// map for as many as there are items, and else for half of them, rounded up. If that is refused, the error has
+    /// no item and the items are as they were. Else it stops at the first item of whose key one exists by then, and
+    /// lends that one; or at the first that finds no room, after at least as many as were spare. It returns that
+    /// item, keeps those before it, and drops the others. A duplicate needs no memory, and is searched for once
+    /// more than `insert_unique` does.
     final fn extend_unique(
         &mut self,
         items: Vec<Self::Item>,
@@ -154,7 +154,7 @@ pub trait KeyedMap {
         extend::extend_unique(self, items)
     }
 
-    // No two items of a keyed map are akin.
+    // No two items of a keyed map have equal keys.
     ghost differ: { (m : Self) → keyed m → NoTwoAkin key Self.Key.eq (state m).items };
 
     // The items of a keyed map lie as its rule says.

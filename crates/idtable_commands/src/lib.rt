@@ -1,4 +1,4 @@
-//! Maps whose keys live in their items, run by commands: what a map of either kind answers, and what both answer alike.
+//! Commands over a map of either kind: what each returns, and what both kinds return alike.
 #![tactic(auto)]
 
 mod commands;

@@ -14,10 +14,11 @@ use iddqd::Visit;
 use iddqd::errors::{ExtendUniqueError, Few, InsertError, TryReserveError};
 use std::alloc::Global;
 
-/// Runs the commands in order on a map of either kind: one reply for each (ours). It takes one vector
-/// of replies, and a clone for each `Get` that finds and each duplicate. Room for all replies is taken first; where it is refused,
-/// none has run, and the commands come back. Shown items are clones, which have to equal what they were made of, as contracts
-/// see them: an item that holds a `String` does so by a model that shows the text's bytes.
+/// Runs the commands in order on a map of either kind, and returns a reply for each. It allocates one vector of
+/// replies, and a clone for each `Get` that finds and for each duplicate. It allocates room for all replies first.
+/// If that is refused, no command has run, and it returns the commands. Shown items are clones, which have to equal
+/// their originals, as contracts see them. An item that holds a `String` does, by a model that shows the text's
+/// bytes.
 pub fn run<M: KeyedMap, V: Visit<M::Item>>(
     alloc: Global,
     map: &mut M,

@@ -11,7 +11,7 @@ const LINES: &[u8] = b"add bob 2\nadd bob 9\nget bob\ndel bob\nlen\n";
 
 const ANSWER: &[u8] = b"added\nduplicate bob 2\n2\nremoved 2\n0\n";
 
-// What `serve` answers to the lines where the read and the write of these numbers fail, and what was written.
+// What `serve` returns for the lines if the read and the write of these numbers fail, and what was written.
 fn served_failing(
     alloc: Global,
     kind: Kind,
@@ -58,7 +58,7 @@ fn no_failure(rt: HostRuntime) -> Result<(), Fail> {
 // How many bytes a write takes at most.
 const PART: usize = 8;
 
-// What `serve` answers to the lines, with some reads and writes failing, and its reader and writer afterwards.
+// What `serve` returns for the lines, with some reads and writes failing, and its reader and writer afterwards.
 fn served(
     alloc: Global,
     read: Failure,
@@ -116,7 +116,7 @@ fn writes_nothing_more_after_a_failure(rt: HostRuntime) {
     }
 }
 
-// The lines are answered so where reads and writes are of so many bytes and meet such failures.
+// The lines have these replies if reads and writes are of this many bytes and meet such failures.
 fn serve_in_parts(rt: &impl Abort, alloc: Global, part: usize, failure: Failure) {
     for kind in [Kind::Hash, Kind::Ord] {
         let mut reader = PartReader::new(LINES, part, failure);

@@ -12,7 +12,7 @@ fn answer(alloc: Global, kind: Kind, input: &[u8]) -> Result<(u64, Vec<u8>), Fau
     Ok((refusals, text))
 }
 
-/// Whether the lines are answered so, without a refusal, over maps of both kinds.
+/// Whether the lines have these replies, without a refusal, over maps of both kinds.
 fn are_answered(alloc: Global, input: &[u8], text: &[u8]) -> Result<bool, Fail> {
     for kind in [Kind::Hash, Kind::Ord] {
         let (refusals, answered) = answer(alloc, kind, input).map_err(|_| "a fault")?;
@@ -180,7 +180,7 @@ fn add_all_of_many(rt: HostRuntime) -> Result<(), Fail> {
     Ok(())
 }
 
-// Whether the lines are answered so over the map of this kind, without a refusal.
+// Whether the lines have these replies over the map of this kind, without a refusal.
 fn is_answered(alloc: Global, kind: Kind, input: &[u8], text: &[u8]) -> Result<bool, Fail> {
     let (refusals, answered) = answer(alloc, kind, input).map_err(|_| "a fault")?;
     Ok(refusals == 0 && answered.as_slice() == text)

@@ -1,4 +1,4 @@
--- What a lookup by a text, by a key or by a number finds, and the items with another one in the place of what it finds.
+-- What a lookup by a text, by a key or by a number finds, and the items with another one in its place.
 use Rattle.std.specs.Prelude.{ℕ, ◌==◌, List, Option, String, string_bytes}
 use Rattle.std.specs.Str.{bytes_eq}
 use Rattle.std.specs.String.{string_eq}

@@ -1,4 +1,4 @@
-//! Insertions into a hash map, in each form in which their answer is matched.
+//! Insertions into a hash map, with the result matched in each form.
 ghost use Rattle.std.specs.Prelude.{◌≡◌, ◌≢◌, ◌==◌, ◌+◌, IfNone, IfSome, IsTrue, None, OnOk, Some, false, is_some, length};
 ghost use Rattle.iddqd.specs.IdHashMap.{IsKeyedByText};
 ghost use Rattle.test_callers.specs.Lookups.{of_key, of_name, of_number};

@@ -1,4 +1,4 @@
-//! Insertions into an ordered map, in each form in which their answer is matched.
+//! Insertions into an ordered map, with the result matched in each form.
 ghost use Rattle.std.specs.Prelude.{◌≡◌, ◌≢◌, ◌==◌, ◌+◌, IfNone, IfSome, IsTrue, None, OnOk, Some, false, is_some, length};
 ghost use Rattle.std.specs.Ordering.{nat_cmp};
 ghost use Rattle.std.specs.String.{string_cmp};

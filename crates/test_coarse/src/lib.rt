@@ -1,5 +1,5 @@
-//! Items that tests put into maps, apart from what else tests share since each has laws to keep: those whose keys are equal in whatever
-//! case, written whole in the place of what is there, and one whose clone can be refused.
+//! Items of tests that have laws to keep: one whose keys are equal in any case, written whole over an existing one,
+//! and one whose clone can be refused.
 #![tactic(auto)]
 
 pub mod caseless;

@@ -6,7 +6,7 @@ use crate::caseless::{Caseless, Coarse};
 use iddqd::{IdHashItem, IdHashMap, IdOrdItem, IdOrdMap, Keyed};
 use std::hash::BuildHasher;
 
-/// Writes an item of an equal key in the place of the one found; where none is, nothing changes. It takes no memory.
+/// Writes an item of an equal key over the one found. If there is none, nothing changes. Does not allocate.
 pub fn put(map: &mut IdOrdMap<Coarse>, asked: &Caseless, item: Coarse)
     requires keyed { Ascends ⟦<Coarse as IdOrdItem>⟧.key ⟦<Caseless as Ord>⟧.cmp map.old.items }
     requires akin { IfSome (find_item ⟦<Coarse as IdOrdItem>⟧.key (⟦<Caseless as PartialEq>⟧.eq asked.now) map.old.items) (λ x. IsTrue (⟦<Caseless as PartialEq>⟧.eq x.name item.name)) }

@@ -60,7 +60,7 @@ impl CoinMap {
         slot
     }
 
-    // Whether this slot is found, by so many comparisons at most.
+    // Whether this slot is found, by this many comparisons at most.
     fn finds(&self, hash: u64, year: u32, slot: Option<u32>, count: u32) -> bool {
         let mut steps = Steps::new();
         let found = self.index.find(&self.store, hash, &year, &mut steps);
@@ -73,7 +73,7 @@ impl CoinMap {
             .is_some()
     }
 
-    // Takes the pair out, and answers its slot.
+    // Removes the pair, and returns its slot.
     fn take(&mut self, hash: u64, year: u32) -> Option<u32> {
         let slot = self
             .index

@@ -208,7 +208,7 @@ fn place_in(years: &[u32], year: u32) -> usize
     years.len()
 }
 
-// Each call that changes nothing answers as the list does. The years are below 1,010.
+// Each call that changes nothing returns what the list does. The years are below 1,010.
 fn same(rt: &impl Abort, coins: &Coins, years: &[u32]) {
     check(rt, coins.index.len() as usize == years.len());
     check(rt, coins.first() == years.first().copied());
@@ -220,7 +220,7 @@ fn same(rt: &impl Abort, coins: &Coins, years: &[u32]) {
     }
 }
 
-// Each lookup of the year answers as the list does.
+// Each lookup of the year returns what the list does.
 fn same_of(rt: &impl Abort, coins: &Coins, years: &[u32], year: u32) {
     let at = place_in(years, year);
     let is_there = years.get(at) == Some(&year);

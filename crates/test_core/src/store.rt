@@ -16,7 +16,7 @@ fn goes_into(store: &mut ItemStore<u32>, item: u32, slot: u32) -> bool {
     insert(store, item) == Ok(slot)
 }
 
-// Whether room for so many is refused by the limit.
+// Whether the limit refuses room for this many.
 fn is_past_limit(store: &mut ItemStore<u32>, count: usize) -> bool {
     store.try_reserve(count) == Err(TryReserveError::capacity_overflow())
 }

@@ -10,7 +10,7 @@ use test_support::counting::{CountingKey, Tallied};
 use test_support::hashers::ZeroHasher;
 use test_support::maps::{AskedByKey, Hashed, Ordered, in_order};
 
-// So many items, of every second number from the first on.
+// This many items, of every second number from the first on.
 pub(crate) fn tallied(
     alloc: Global,
     first: u32,
@@ -34,7 +34,7 @@ pub(crate) fn since(compared: &Cell<u32>) -> u32 {
     count
 }
 
-// Whether the call answered as is wanted, and its steps are the comparisons that the keys have counted.
+// Whether the call did what is wanted, and its steps are the comparisons that the keys have counted.
 fn is_true(outcome: Outcome, wanted: bool, compared: &Cell<u32>) -> bool {
     outcome.is_done == wanted && outcome.steps == since(compared)
 }
@@ -80,7 +80,7 @@ fn ordered_counts<T: IdOrdItem + Copy>(
         && map.len() == 0
 }
 
-// The same of so many even numbers, beside the odd ones.
+// The same of this many even numbers, beside the odd ones.
 fn ordered_numbers(alloc: Global, count: u32, compared: &Cell<u32>) -> Result<bool, AllocError> {
     let items = tallied(alloc, 0, count, compared)?;
     let absent = tallied(alloc, 1, count, compared)?;
@@ -128,7 +128,7 @@ fn hashed_counts<T: IdHashItem + Copy, S: BuildHasher + Drop>(
     are_found(&map, items, true, compared) && are_found(&map, absent, false, compared)
 }
 
-// The same of so many even numbers, beside the odd ones.
+// The same of this many even numbers, beside the odd ones.
 fn hashed_numbers<S: BuildHasher + Drop>(
     alloc: Global,
     hasher: S,
@@ -151,8 +151,8 @@ fn hashed_steps_are_comparisons(rt: HostRuntime) -> Result<(), Fail> {
     Ok(())
 }
 
-// The greatest number of comparisons of a plain lookup, removal or insertion of one of these items, in the full map or, for
-// the insertion, with one item less. Nothing where a call went wrong.
+// The greatest number of comparisons of a plain lookup, removal or insertion of one of these items. The insertion
+// is into a map with one item less. `None` if a call went wrong.
 fn most_compared<T: IdOrdItem + Copy>(
     map: &mut Ordered<T>,
     items: &[T],
@@ -208,7 +208,7 @@ fn most_of_all<T: IdOrdItem + Copy>(
     Some(most.max(most_of_absent(&mut map, absent, compared)?))
 }
 
-// The same of so many even numbers, beside an odd one.
+// The same of this many even numbers, beside an odd one.
 fn most_of_numbers(
     alloc: Global,
     count: u32,

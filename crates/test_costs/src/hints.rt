@@ -45,7 +45,7 @@ fn extend_to_the_limit(rt: HostRuntime) {
     fill_to_two(&rt, Hashed::new(IdHashMap::with_limit(alloc, 2, hasher)));
 }
 
-// What an announcement of so many comes to, of which none is there.
+// What an announcement of this many comes to, of which none is there.
 fn announced<M: Bulk<Numbered>>(map: &mut M, hint: usize) -> (Option<Numbered>, bool) {
     stopped_at(map.extend(Hinted::new(&[], hint)))
 }

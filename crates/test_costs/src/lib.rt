@@ -1,5 +1,5 @@
-//! What calls of the maps cost, and the rows of hostile shapes: how often keys are compared and hashed, hints that lie, hashers
-//! that tell little, many items, keys spelled anew; walks, equality and numbers.
+//! What calls of the maps cost, and the rows of hostile shapes. Keys are compared and hashed, hints lie, hashers
+//! tell little, items are many, and keys are spelled anew. Beside them: walks, equality and numbers.
 #![tactic(auto)]
 
 #[cfg(test)]

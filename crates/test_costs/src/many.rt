@@ -120,7 +120,8 @@ fn go_in<M: AskedByKey<Item = Numbered, Key = u32> + AskedToInsert<Numbered> + D
     check(rt, all_are_found(&map, items));
 }
 
-// A hundred thousand keys whose hashes vary in few bits go in, and all are found: each in time that does not grow with their number.
+// A hundred thousand keys whose hashes vary in few bits are inserted, and all are found. Each takes a time that
+// does not grow with their number.
 #[test]
 fn hashers_of_few_bits(rt: HostRuntime) -> Result<(), Fail> {
     let alloc = rt.alloc();

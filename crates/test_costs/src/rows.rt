@@ -9,7 +9,8 @@ use test_support::hashers::ZeroHasher;
 use test_support::items::Numbered;
 use test_support::maps::{AskedByKey, Hashed, Ordered, in_order};
 
-// The most steps of the lookup of one of so many numbers, and of its removal from the full map. Nothing where a call went wrong.
+// The most steps of the lookup of one of this many numbers, and of its removal from the full map. `None` if a call
+// went wrong.
 fn most_of_each(map: &mut Ordered<Numbered>, count: u32) -> Option<u32> {
     let mut most = 0;
     for number in 0..count {

@@ -10,12 +10,12 @@ fn number_at(place: u32, factor: u32) -> u32 {
     (u64::from(place) * u64::from(factor) % 1009) as u32
 }
 
-// The most comparisons of a call among so many: 4 and twice the binary digits of the number.
+// The most comparisons of a call among this many: 4 and twice the binary digits of the number.
 fn bound(len: usize) -> u32 {
     4 + 2 * (usize::BITS - len.leading_zeros())
 }
 
-// The map of the numbers below 1009, put in in the order that the factor gives.
+// The map of the numbers below 1009, inserted in the order that the factor gives.
 fn filled(alloc: Global, factor: u32) -> Ordered<Numbered> {
     let mut map = in_order(alloc);
     for place in 1..1009 {
@@ -50,7 +50,7 @@ fn ascending(map: &Ordered<Numbered>) -> Option<u32> {
     Some(count)
 }
 
-// Whether each of the numbers is found within so many steps.
+// Whether each of the numbers is found within this many steps.
 fn are_found(map: &Ordered<Numbered>, most: u32) -> bool {
     for number in 1..1009 {
         let found = map.find(&number);

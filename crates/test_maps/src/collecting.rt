@@ -228,7 +228,7 @@ fn extend_unique_repeats(rt: HostRuntime) -> Result<(), Fail> {
     Ok(())
 }
 
-// What a map that has foo answers to items that are not announced; the last one comes first.
+// What a map that has foo returns for items that are not announced; the last one comes first.
 fn unannounced<M: AskedByKey<Item = Named, Key = [u8; 3]> + Adding<Named>>(
     map: &mut M,
     items: Vec<Named>,

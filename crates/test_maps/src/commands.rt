@@ -247,7 +247,7 @@ fn extend_unique_commands(rt: HostRuntime) {
     );
 }
 
-// Writes to each item how many it has seen before, and keeps the first ones, so many.
+// Writes to each item how many it has seen before, and keeps the first ones, this many.
 #[derive(Clone, Copy, PartialEq, Eq)]
 struct KeepsFirst {
     many: u32,

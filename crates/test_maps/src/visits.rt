@@ -47,7 +47,7 @@ fn odd_of_three<M: AskedByKey<Item = Numbered, Key = u32> + Drop + Visited>(
     visitor
 }
 
-// A visit that writes 0 and answers false takes nothing out.
+// A visit that writes 0 and returns false removes nothing.
 fn visited_by_command<M: KeyedMap<Item = Numbered, Key = u32> + Drop>(
     rt: &impl Abort,
     alloc: Global,
@@ -141,7 +141,7 @@ fn of_foo_and_bar<M: AskedByKey<Item = Named, Key = [u8; 3]> + Drop>(
     map
 }
 
-// The values of foo and bar, and how many items the walk had left, once it has doubled so many.
+// The values of foo and bar, and how many items the walk had left, once it has doubled this many.
 fn doubled_in_order(
     rt: &impl Abort,
     alloc: Global,

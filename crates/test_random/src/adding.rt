@@ -1,4 +1,4 @@
-//! Many items by `extend_unique`: whether it answers as the plain list.
+//! Many items by `extend_unique`: whether it returns what the plain list does.
 use crate::draws::Draws;
 use crate::many::{announced, drawn};
 use crate::plain::{Plain, is_same};

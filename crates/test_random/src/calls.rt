@@ -1,4 +1,4 @@
-//! Calls of either map, one function a call: whether the map answers as the plain list.
+//! Calls of either map, one function a call: whether the map returns what the plain list does.
 use crate::draws::Draws;
 use crate::plain::{Plain, is_same};
 use std::alloc::AllocError;
@@ -57,7 +57,7 @@ pub(crate) fn remove_by_entry<M: Probed>(
     is_same(map.remove_by_entry(&name), plain.take(&name))
 }
 
-// A lookup, whose comparisons are counted too, among so many items at most.
+// A lookup, whose comparisons are counted too, among this many items at most.
 pub(crate) fn find<M: AskedByKey<Item = Coarse, Key = Caseless> + Probed>(
     map: &M,
     plain: &Plain,

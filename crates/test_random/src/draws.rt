@@ -9,7 +9,7 @@ pub(crate) struct Draws {
 }
 
 impl Draws {
-    /// From the seed, for names of so many different letters.
+    /// From the seed, for names of this many different letters.
     pub(crate) fn new(seed: u64, letters: u32) -> Draws {
         Draws {
             state: seed.wrapping_mul(2).wrapping_add(1),

@@ -1,4 +1,4 @@
-//! Long random lists of calls of both maps, each answer compared with that of a plain list that is searched.
+//! Long random lists of calls of both maps, each result compared with that of a plain list that is searched.
 #![tactic(auto)]
 
 #[cfg(test)]

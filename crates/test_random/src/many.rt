@@ -1,4 +1,4 @@
-//! Calls on many items, and copies of a map: whether they answer as the plain list.
+//! Calls on many items, and copies of a map: whether they return what the plain list does.
 use crate::calls::holds_the_same;
 use crate::draws::Draws;
 use crate::plain::{Plain, is_same};
@@ -28,7 +28,7 @@ pub(crate) fn announced(plain: &Plain, items: &[Coarse]) -> usize {
     }
 }
 
-// Overwrites the items into the list up to the first that finds it full, which it answers.
+// Overwrites the items into the list up to the first that finds it full, which it returns.
 fn overwrite_all(plain: &mut Plain, items: &[Coarse]) -> Result<Option<Coarse>, AllocError> {
     for item in items {
         if plain.is_full() && plain.find(&item.name).is_none() {

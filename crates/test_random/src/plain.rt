@@ -28,7 +28,7 @@ impl Plain {
         }
     }
 
-    /// The same, with room for so many items.
+    /// The same, with room for this many items.
     pub(crate) fn with_room(alloc: Global, limit: u32, count: usize) -> Result<Plain, AllocError> {
         Ok(Plain {
             items: Vec::with_capacity(alloc, count)?,
@@ -45,7 +45,7 @@ impl Plain {
         self.items.len() >= self.limit as usize
     }
 
-    /// Whether so many more items fit.
+    /// Whether this many more items fit.
     pub(crate) fn has_room(&self, additional: usize) -> bool {
         self.len().saturating_add(additional) <= self.limit as usize
     }
@@ -112,7 +112,7 @@ impl Plain {
         }
     }
 
-    /// Whether an insertion of the item is answered so, which is then made here too.
+    /// Whether an insertion of the item has this result. The list makes it too.
     pub(crate) fn inserts(
         &mut self,
         item: Coarse,

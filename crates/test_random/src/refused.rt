@@ -13,7 +13,7 @@ use test_support::maps::{AskedByKey, AskedForRoom, AskedToInsert, Inserted, by_h
 #[derive(Clone, Copy, PartialEq, Eq)]
 enum Outcome {
     AsTheList,
-    // For want of memory.
+    // Memory was refused.
     Refused,
     Otherwise,
 }
@@ -160,7 +160,7 @@ fn refusals<M: AskedByKey<Item = Coarse, Key = Caseless> + AskedToInsert<Coarse>
     Ok(refusals)
 }
 
-// The row that the calls are answered by.
+// The row that the calls' results are.
 fn row(refusals: u32) -> &'static str {
     if refusals == 0 {
         "answered"

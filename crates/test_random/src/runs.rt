@@ -100,7 +100,7 @@ impl Callable for Hashed<Coarse, BuildHasherDefault<ZeroHasher>> {}
 
 impl Callable for Hashed<Coarse, RandomState> {}
 
-// Makes the call. Whether it is answered as by the list.
+// Makes the call. Whether its result is the list's.
 fn is_answered<M: Callable>(
     alloc: Global,
     map: &mut M,

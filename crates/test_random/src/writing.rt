@@ -10,7 +10,7 @@ use test_support::walks::Walked;
 
 /// A map of either kind that a walk writes.
 pub(crate) trait Written: Sized {
-    /// The items of the map once `iter_mut` has raised so many of them, and how many it had left then.
+    /// The items of the map once `iter_mut` has raised this many of them, and how many it had left then.
     fn raised(self, alloc: Global, most: usize) -> Result<(Vec<Coarse>, usize), AllocError>;
 }
 

@@ -9,7 +9,8 @@ use test_support::items::Numbered;
 use test_support::kept::Kept;
 use test_support::maps::{AskedByKey, AskedForRoom, Hashed, Ordered, by_hash, in_order};
 
-// The word for what was seen: a clone that is equal, or none for want of memory. The map has its four numbers either way.
+// The word for what was seen: a clone that is equal, or none since memory was refused. The map has its four numbers
+// either way.
 fn row_of_clone<M: AskedByKey<Item = Numbered, Key = u32> + AskedForRoom>(
     map: &M,
     is_equal: Result<bool, TryReserveError>,
@@ -101,7 +102,7 @@ fn is_copy<M: AskedByKey<Item = Kept, Key = u32> + AskedForRoom + Drop>(
     }
 }
 
-// The word for a copy of those four that is dropped: the map is as it was, and no memory is held that was not held before.
+// The word for a copy of those four that is dropped: the map is as it was, and no more memory is held than before.
 fn row_of_kept<M: AskedByKey<Item = Kept, Key = u32> + AskedForRoom + Drop>(
     alloc: Global,
     map: &M,

@@ -141,7 +141,7 @@ const ROWS: [Row; 4] = [
     ),
 ];
 
-// What the six others are answered, the item of the value taken out at last.
+// The replies to the six others, the item of the value removed at last.
 fn bulk_row(first: Said, second: Said, reserved: Said, shrunk: Said, value: u32) -> [Said; 6] {
     [
         first,

@@ -10,7 +10,7 @@ use test_support::walks::Listed;
 
 // An insertion that is tried.
 trait Tried<M>: Copy {
-    // What it answers for a new item.
+    // What it returns for a new item.
     fn put(self, map: &mut M, item: Coarse) -> Put;
 }
 
@@ -99,7 +99,7 @@ fn is_shown(answer: &Put) -> bool {
     }
 }
 
-// Whether the new item came back for want of memory.
+// Whether the new item was returned since memory was refused.
 fn is_back(answer: &Put) -> bool {
     match answer {
         Put::Refused(item, error) => spelled(item) == NEW && !error.is_capacity_overflow(),
@@ -107,8 +107,8 @@ fn is_back(answer: &Put) -> bool {
     }
 }
 
-// Fills the map with so many names, so that no slot is vacant, and then tries the insertion of a new one with a request refused: the word
-// for what was seen.
+// Fills the map with this many names, so that no slot is vacant. Then it tries the insertion of a new one with a
+// request refused: the word for what was seen.
 fn insertion<M: AskedByKey<Item = Coarse, Key = Caseless> + AskedForRoom + Listed<Coarse>>(
     alloc: Global,
     map: &mut M,

@@ -1,4 +1,4 @@
-//! `into_owned` with a request refused: it hands itself back, and then succeeds.
+//! `into_owned` with a request refused: it returns the error itself, and then succeeds.
 use crate::words::tell;
 use iddqd::errors::{DuplicateItem, Few};
 use std::alloc::{AllocError, Global};

@@ -16,8 +16,8 @@ fn is_kept_out(inserted: Inserted<Numbered>, item: Numbered) -> bool {
     }
 }
 
-// Fills a map up to its limit, and then tries two insertions of a new number and a reservation: whether each was refused since the map
-// is full, and met a request.
+// Fills a map up to its limit, and tries two insertions of a new number and a reservation. Whether each was refused
+// since the map is full, and met a request.
 fn insertions<M: AskedByKey<Item = Numbered, Key = u32> + AskedToInsert<Numbered> + AskedForRoom>(
     alloc: Global,
     map: &mut M,

@@ -17,8 +17,8 @@ fn walks(map: &Ordered<Numbered>, end: u32) -> bool {
     next == end
 }
 
-// Puts in the number after those that are there, and answers whether it was refused. Then it comes back, the walk has still
-// those before it, no slot is vacant, and now it goes in.
+// Inserts the number after the existing ones, and returns whether it was refused. Then it is returned, the walk
+// still has those before it, and no slot is vacant. Now it goes in.
 fn grow(map: &mut Ordered<Numbered>, number: u32) -> Result<bool, Fail> {
     let new = Numbered { number, value: 5 };
     match map.insert(new) {

@@ -34,7 +34,8 @@ fn has_both<M: AskedByKey<Item = Named, Key = [u8; 3]> + AskedForRoom>(map: &M) 
     are_found && map.len() == 2 && map.is_sound()
 }
 
-// The word for a map that an iterator lies to before and after it has two items: a request that is refused is one of theirs.
+// The word for a map that an iterator lies to before and after it has two items. A request that is refused is one
+// of theirs.
 fn lied_to<
     M: AskedByKey<Item = Named, Key = [u8; 3]> + AskedToInsert<Named> + AskedForRoom + Bulk<Named>,
 >(alloc: Global, map: &mut M) -> Result<&'static str, Fail> {

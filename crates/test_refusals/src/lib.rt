@@ -1,5 +1,6 @@
-//! Calls whose requests for memory are refused, one in each run: `tools/sweep` runs each test here under a heap that refuses the first
-//! request, the second, and so on. Under any other heap none is refused. A test prints the word for what it saw of a refusal.
+//! Calls whose requests for memory are refused, one in each run. `tools/sweep` runs each test here under a heap
+//! that refuses the first request, then the second, and so on. Any other heap refuses none. A test prints the word
+//! for what it saw of a refusal.
 #![tactic(auto)]
 
 #[cfg(test)]

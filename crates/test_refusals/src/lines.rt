@@ -5,7 +5,8 @@ use std::alloc::Global;
 use std::test::Fail;
 use test_support::heap::{arm, is_met};
 
-// The text that `serve` writes, with room for it taken first, and what it answers. Whether a request was refused stands last.
+// The text that `serve` writes, with room for it reserved first, and its result. Last, whether a request was
+// refused.
 fn served(
     alloc: Global,
     kind: Kind,
@@ -19,7 +20,7 @@ fn served(
     Ok((text, outcome, is_met))
 }
 
-// A row: the text and the answer of `serve`, and whether a request was refused then.
+// A row: the text and the result of `serve`, and whether a request was refused then.
 #[derive(Clone, Copy)]
 struct Row {
     name: &'static str,
@@ -28,7 +29,7 @@ struct Row {
     is_met: bool,
 }
 
-// The name of the row that is answered.
+// The name of the row that the results are.
 fn row_of(
     rows: &[Row],
     text: &[u8],
@@ -70,7 +71,7 @@ const NO_MEMORY: Row = Row {
     is_met: true,
 };
 
-// The row that the five lines are answered by, which is one of those that a refusal allows.
+// The row that the results of the five lines are, one of those that a refusal allows.
 fn row_of_lines(alloc: Global, kind: Kind) -> Result<&'static str, Fail> {
     let lines = b"add bob 2\nadd bob 9\nget bob\ndel bob\nlen\n";
     let (text, outcome, is_met) = served(alloc, kind, lines)?;
@@ -107,7 +108,7 @@ fn hash_lines(rt: HostRuntime) -> Result<(), Fail> {
     tell(&rt, row_of_lines(rt.alloc(), Kind::Hash))
 }
 
-// The row that four lines are answered by: one was refused, or all were answered, or nothing was written.
+// The row that the replies to four lines are: one was refused, or none was, or nothing was written.
 fn row_of_served(alloc: Global, kind: Kind) -> Result<&'static str, Fail> {
     let lines = b"put a 1\nadd b 2\nput c 3\nlen\n";
     let (text, outcome, is_met) = served(alloc, kind, lines)?;
@@ -131,7 +132,7 @@ fn hash_served_lines(rt: HostRuntime) -> Result<(), Fail> {
     tell(&rt, row_of_served(rt.alloc(), Kind::Hash))
 }
 
-// The row that two items, their list and their count are answered by, over a hash map.
+// The row that the replies to two items, their list and their count are, over a hash map.
 fn row_of_list(alloc: Global) -> Result<&'static str, Fail> {
     let lines = b"add b 1\nadd a 2\nlist\nlen\n";
     let (text, outcome, is_met) = served(alloc, Kind::Hash, lines)?;
@@ -145,14 +146,14 @@ fn row_of_list(alloc: Global) -> Result<&'static str, Fail> {
     Ok(row_of(&rows, text.as_slice(), outcome, is_met).ok_or("the answer is no row")?)
 }
 
-// Memory to put the entries of a hash map in order is refused in some run, and the line that asks for the list says so.
+// Memory to order the entries of a hash map is refused in some run, and the reply to `list` says so.
 #[test]
 fn hash_list(rt: HostRuntime) -> Result<(), Fail> {
     tell(&rt, row_of_list(rt.alloc()))
 }
 
-// The row that a line of three pairs and the count after it are answered by: memory for the pairs or for their room was
-// refused, or memory for one of them when others were in.
+// The row that the replies to a line of three pairs and to the count after it are. Memory for the pairs or for
+// their room was refused, or memory for one of them when others were in.
 fn row_of_added(alloc: Global, kind: Kind) -> Result<&'static str, Fail> {
     let (text, outcome, is_met) = served(alloc, kind, b"addall a 1 b 2 c 3\nlen\n")?;
     let rows = [
@@ -175,18 +176,18 @@ fn hash_added_pairs(rt: HostRuntime) -> Result<(), Fail> {
     tell(&rt, row_of_added(rt.alloc(), Kind::Hash))
 }
 
-// One name, and twenty more that are added at once: more than there is room for then, so that room is refused to one of them when
-// others are in.
+// One name, and twenty more that are added at once. That is more than there is room for, so room is refused to one
+// of them when others are in.
 const MANY: &[u8] =
     b"add z 0\naddall a 1 b 2 c 3 d 4 e 5 f 6 g 7 h 8 i 9 j 10 k 11 l 12 m 13 n 14 o 15 p 16 q 17 r 18 s 19 t 20\nlen\n";
 
-// Whether the text says that the second line was refused, and that so many names are in.
+// Whether the text says that the second line was refused, and that this many names are in.
 fn says_some_added(alloc: Global, text: &[u8], len: u32) -> Result<bool, Fail> {
     let wanted = format!(in alloc; "added\nrefused memory\n{len}\n")?;
     Ok(text == wanted.as_bytes())
 }
 
-// The row that those lines are answered by.
+// The row that the replies to those lines are.
 fn row_of_many(alloc: Global, kind: Kind) -> Result<&'static str, Fail> {
     let (text, outcome, is_met) = served(alloc, kind, MANY)?;
     let text = text.as_slice();
@@ -214,8 +215,8 @@ fn hash_many_pairs(rt: HostRuntime) -> Result<(), Fail> {
     tell(&rt, row_of_many(rt.alloc(), Kind::Hash))
 }
 
-// The row that an item, room for a hundred more, and its return are answered by. The store keeps its room where a shrink meets a
-// refusal there, and the reply does not say so.
+// The row that the replies to an item, room for a hundred more, and its return are. If a shrink is refused, the
+// store keeps its room, and the reply does not say so.
 fn row_of_room(alloc: Global, kind: Kind) -> Result<&'static str, Fail> {
     let lines = b"add a 1\nreserve 100\nshrink\nget a\n";
     let (text, outcome, is_met) = served(alloc, kind, lines)?;

@@ -24,8 +24,8 @@ pub(crate) fn fill<M: AskedToInsert<Numbered>>(map: &mut M, count: u32) -> Resul
     Ok(())
 }
 
-// Whether the map is sound and holds the numbers below the count, each with the value 5, and no other but for 1000 where a value is
-// given.
+// Whether the map is sound and holds the numbers below the count, each with the value 5. It holds no other but
+// 1000, if a value is given for it.
 pub(crate) fn holds<M: AskedByKey<Item = Numbered, Key = u32> + AskedForRoom>(
     map: &M,
     count: u32,
@@ -99,8 +99,8 @@ fn goes_in_again<M: AskedByKey<Item = Numbered, Key = u32> + AskedForRoom + List
         && holds(map, count, Some(6))
 }
 
-// Fills the map with so many numbers, none of which goes again, so that no slot is vacant, and then tries the insertion of a new one
-// with a request refused: the word for what was seen.
+// Fills the map with this many numbers, none of which goes again, so that no slot is vacant. Then it tries the
+// insertion of a new one with a request refused: the word for what was seen.
 fn insertion<
     M: AskedByKey<Item = Numbered, Key = u32>
         + AskedToInsert<Numbered>
@@ -174,7 +174,8 @@ fn hash_insert_overwrite(rt: HostRuntime) -> Result<(), Fail> {
     tell(&rt, insertion(rt.alloc(), &mut map, ByOverwrite, 9))
 }
 
-// Fills the map with so many numbers, puts each in again by both insertions, and clears the map: whether that went well, and met a request.
+// Fills the map with this many numbers, inserts each again by both insertions, and clears the map. Whether that
+// went well, and met a request.
 fn akin_insertions<M: AskedByKey<Item = Numbered, Key = u32> + AskedToInsert<Numbered> + Drop>(
     alloc: Global,
     mut map: M,

@@ -12,8 +12,8 @@ fn write(item: &mut Numbered) {
     item.value = 7;
 }
 
-// Fills the map with numbers, and then walks it, retains all of them but one, and writes to each: whether that went well, and met a
-// request.
+// Fills the map with numbers, walks it, retains all of them but one, and writes to each. Whether that went well,
+// and met a request.
 fn walks<M>(alloc: Global, mut map: M) -> Result<(bool, bool), Fail>
 where
     M: AskedByKey<Item = Numbered, Key = u32>

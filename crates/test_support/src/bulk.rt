@@ -161,7 +161,7 @@ impl Liar {
         Liar::announcing(usize::MAX)
     }
 
-    /// One that announces so many items, and was not asked yet.
+    /// An iterator that announces this many items, and was not asked yet.
     pub fn announcing(announced: usize) -> Liar {
         Liar {
             announced,
@@ -228,7 +228,7 @@ impl Iterator for Unannounced {
     }
 }
 
-/// Gives the items of a list, and announces that so many are to come at least.
+/// Gives the items of a list, and announces that this many are to come at least.
 #[derive(Drop)]
 pub struct Hinted<'a, T> {
     rest: &'a [T],

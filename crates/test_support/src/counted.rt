@@ -1,10 +1,10 @@
-//! Calls of maps under test that answer how many steps they took.
+//! Calls of maps under test that return how many steps they took.
 use crate::maps::{Hashed, Ordered};
 use iddqd::id_ord_map::Iter;
 use iddqd::{IdHashItem, IdOrdItem, Steps};
 use std::hash::BuildHasher;
 
-/// Whether a call found, put in or took out an item, and how many steps it took.
+/// Whether a call found, inserted or removed an item, and how many steps it took.
 #[derive(Clone, Copy, PartialEq, Eq)]
 pub struct Outcome {
     pub is_done: bool,

@@ -8,7 +8,7 @@ use iddqd::Visit;
 use iddqd::errors::TryReserveError;
 use std::hash::BuildHasher;
 
-/// Doubles the value, and answers false.
+/// Doubles the value, and returns false.
 #[derive(Clone, Copy)]
 pub struct DoublesAndDenies;
 
@@ -23,8 +23,8 @@ impl Visit<Coarse> for DoublesAndDenies {
     }
 }
 
-/// What an insertion by an entry answers: the item that it shows, the one that came back and why, or none where the entry is not
-/// of the kind that it needs.
+/// What an insertion by an entry returns: the item that it shows, or the refused one and why. `None` if the entry
+/// is not of the kind that it needs.
 #[derive(Drop)]
 pub enum Put {
     Shown(Coarse),
@@ -42,13 +42,13 @@ impl Put {
     }
 }
 
-/// A map of either kind, by its entries. Where a call answers no `Put`, it answers `None` or false where the entry is not of the
-/// kind that it needs, or where memory was refused.
+/// A map of either kind, by its entries. A call that returns no `Put` returns `None` or false if the entry is not
+/// of the kind that it needs, or if memory was refused.
 pub trait Entered {
     /// `insert` of a vacant entry, of an item whose key no other has.
     fn put_vacant(&mut self, asked: [u8; 3], item: Coarse) -> Put;
 
-    /// `insert_entry` of a vacant entry, and `remove` of the one that it answers.
+    /// `insert_entry` of a vacant entry, and `remove` of the entry that it returns.
     fn put_and_remove(&mut self, item: Coarse) -> Put;
 
     /// `and_modify`, doubling and answering false, and then `or_insert`.

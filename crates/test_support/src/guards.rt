@@ -12,7 +12,7 @@ use std::alloc::{AllocError, Global};
 use std::collections::hash_map::RandomState;
 use std::hash::{BuildHasher, BuildHasherDefault};
 
-/// A map of either kind. What lends answers a copy.
+/// A map of either kind. What lends returns a copy.
 pub trait Probed: Sized {
     /// `limit`.
     fn limit(&self) -> u32;
@@ -20,7 +20,8 @@ pub trait Probed: Sized {
     /// `spare`; an ordered map tells none.
     fn spare(&self) -> Option<usize>;
 
-    /// Whether `validate` and `validate_structural` answer alike, and so: an error exactly where slots are vacant and none may be.
+    /// Whether `validate` and `validate_structural` return the same: an error exactly if slots are vacant and none
+    /// may be.
     fn is_valid(&self) -> bool;
 
     /// `contains_key`.
@@ -44,8 +45,8 @@ pub trait Probed: Sized {
     /// `extend`.
     fn take_all(&mut self, items: Vec<Coarse>) -> Result<(), ExtendError<Coarse>>;
 
-    /// Writes by a guard that is lent once more: the old item, what the guard reads once that loan is over, and what it shows
-    /// once it is spent.
+    /// Writes by a guard that is lent once more. It returns the old item, what the guard reads once that loan is
+    /// over, and what it shows once it is spent.
     fn write_by_reborrow(
         &mut self,
         name: &Caseless,
@@ -55,7 +56,7 @@ pub trait Probed: Sized {
     /// Spends a guard that wrote nothing. Whether the name is there.
     fn spend_unwritten(&mut self, name: &Caseless) -> bool;
 
-    /// Reads and writes by the entry of a map that is let go then: the old item, and what the entry shows.
+    /// Reads and writes by the entry of a map that is dropped then: the old item, and what the entry shows.
     fn write_by_entry(self, name: &Caseless, value: u32) -> Option<(Coarse, Coarse)>;
 
     /// `remove` of the entry.

@@ -26,7 +26,7 @@ pub enum Varying {
     Multiples,
 }
 
-/// A hasher that hands the bits of a number on as they are, where they are to vary. It builds itself.
+/// A hasher that passes the bits of a number on as they are, where they are to vary. It builds itself.
 #[derive(Clone, Copy)]
 pub struct FewBits {
     bits: u64,

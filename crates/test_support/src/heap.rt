@@ -1,12 +1,13 @@
 //! The count of requests for memory that the heap of the sweeps keeps (`tools/refuse.c`).
 use std::alloc::Global;
 
-/// Begins the count (ours). No heap grants a block of this size.
+/// Begins the count. No heap grants a block of this size.
 pub fn arm(alloc: Global) {
     let _ = Vec::<u8>::with_capacity(alloc, 1 << 48);
 }
 
-/// Ends the count, and answers whether a request was refused since (ours). Only the heap that counts ever grants this block.
+/// Ends the count, and returns whether a request was refused since. Only the heap that counts ever grants this
+/// block.
 pub fn is_met(alloc: Global) -> bool {
     Vec::<u8>::with_capacity(alloc, (1 << 49) + 1).is_ok()
 }

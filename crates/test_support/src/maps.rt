@@ -1,5 +1,5 @@
-//! Maps under test, one of each kind. Their calls are the maps', and say nothing of what they leave: a test shows that by what it
-//! finds, so that its proof carries no contract of the maps along.
+//! Maps under test, one of each kind. Their calls are the maps', and say nothing of what they leave. A test shows
+//! that by what it finds, so that its proof carries no contract of the maps along.
 ghost use Rattle.iddqd.specs.Contents.{Ascends, ClonesAreEqual};
 ghost use Rattle.iddqd.specs.IdHashMap.{HashItems, IsKeyed};
 ghost use Rattle.iddqd.specs.Hashing.{hash_under};

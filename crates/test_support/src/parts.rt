@@ -24,7 +24,7 @@ impl Failure {
     }
 }
 
-/// Gives its bytes, so many at a read or fewer, and fails at some reads.
+/// Gives its bytes, at most this many at a read, and fails at some reads.
 #[derive(Drop)]
 pub struct PartReader<'a> {
     rest: &'a [u8],
@@ -61,7 +61,7 @@ impl Read for PartReader<'_> {
     }
 }
 
-/// Takes bytes, so many at a write or fewer, and fails at some writes.
+/// Takes bytes, at most this many at a write, and fails at some writes.
 #[derive(Drop)]
 pub struct PartWriter {
     taken: Vec<u8>,

@@ -52,7 +52,7 @@ impl<'a> Visit<Ticket<'a>> for KeepsEven {
     }
 }
 
-/// Gives a vector's items, and announces that so many are to come at least.
+/// Gives a vector's items, and announces that this many are to come at least.
 #[derive(Drop)]
 pub struct Announced<'a> {
     items: Vec<Ticket<'a>>,
@@ -89,7 +89,7 @@ pub trait Dropping<'a> {
     /// `retain_mut`, which keeps the items of even numbers.
     fn keep_even(&mut self);
 
-    /// `into_iter`, which is dropped after so many steps. How many of them gave an item, which is dropped too.
+    /// `into_iter`, which is dropped after this many steps. How many of them gave an item, which is dropped too.
     fn walk_part(self, most: usize) -> usize;
 
     /// `insert` of an occupied entry, whose old item is dropped, and then the map.

@@ -48,7 +48,7 @@ impl Visit<Numbered> for Change {
 
 /// A map of either kind, by its calls that visit.
 pub trait Visited {
-    /// A visit of the item of the number: what the visitor answered (`get_mut`).
+    /// A visit of the item of the number: what the visitor returned (`get_mut`).
     fn visit(&mut self, number: u32, visitor: &mut Change) -> Option<bool>;
 
     /// `retain_mut`.

@@ -15,7 +15,8 @@ pub trait Walked<T> {
         T: Drop,
         requires { F.IsAlwaysCallable keep };
 
-    /// Writes items by `iter_mut`, which is let go after so many. Answers the map, and how many the walk had left.
+    /// Writes items by `iter_mut`, which is dropped after this many. Returns the map, and how many the walk had
+    /// left.
     fn written<F: Fn(&mut T)>(self, most: usize, write: F) -> (Self::Map, usize)
         requires { F.IsAlwaysCallable write };
 }

@@ -61,7 +61,7 @@ impl IdHashItem for Named {
     }
 }
 
-/// Writes the value of a pair that is handed in.
+/// Writes the value of a pair that is passed.
 pub fn write_value(pair: &mut Pair, value: u32)
     ensures { pair.new ≡ record pair.old { value = value } }
 {

@@ -1,5 +1,5 @@
-//! What writes through guards, entries and walks of the maps: right programs, which the edits of this crate turn into ones that
-//! have to be refused.
+//! What writes through guards, entries and walks of the maps. These are right programs, which the edits of this
+//! crate turn into programs that must be refused.
 #![tactic(auto)]
 
 pub mod hash;

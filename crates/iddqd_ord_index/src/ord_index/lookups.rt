@@ -12,8 +12,8 @@ use super::{OrdIndex, Place};
 use iddqd_store::{Comparable, IdOrdItem, ItemStore, Steps};
 
 impl OrdIndex {
-    /// `Ok`: the place of the slot whose item has the query's key. `Err`: the place where such a slot belongs. It makes
-    /// at most 4 + 2 d comparisons, where d is the number of binary digits of `len`.
+    /// Returns `Ok` of the place of the slot whose item has the query's key, or `Err` of the place where such a
+    /// slot belongs. It makes at most 4 + 2 d comparisons, d the number of binary digits of `len`.
     pub fn find<T: IdOrdItem, Q: Comparable<T::Key>>(
         &self,
         store: &ItemStore<T>,
@@ -33,7 +33,7 @@ impl OrdIndex {
         }
     }
 
-    /// The slot whose item has the query's key, or `None`, by as many comparisons as `find`.
+    /// Returns the slot whose item has the query's key, or `None`, by as many comparisons as `find`.
     pub fn get<T: IdOrdItem, Q: Comparable<T::Key>>(
         &self,
         store: &ItemStore<T>,
@@ -50,8 +50,8 @@ impl OrdIndex {
         self.root.get(store, query, steps)
     }
 
-    /// The slot of the least key that is greater than the query, or `None`, by as many comparisons as `find`. As the
-    /// keys ascend, it is the first of those that are greater.
+    /// Returns the slot of the least key that is greater than the query, or `None`, by as many comparisons as
+    /// `find`.
     pub fn after<T: IdOrdItem, Q: Comparable<T::Key>>(
         &self,
         store: &ItemStore<T>,

@@ -44,7 +44,7 @@ impl<'a> Walk<'a> {
 }
 
 impl<'a> Walk<'a> {
-    // The run that comes next: the rest of this one, or another where this one is at its end.
+    // Returns the run that comes next: the rest of this one, or the next one if this one is at its end.
     fn run(&self) -> &'a [u32]
         requires { 0 < length self.now }
         ensures some { 0 < length result.now }

@@ -1,4 +1,4 @@
-//! The root of a tree: it rises a level where it is split, and falls one where it has no slot of its own.
+//! The root of a tree: it rises a level if it is split, and falls one if it has no slot of its own.
 ghost use Rattle.std.specs.Prelude.{◌≡◌, ◌+◌, ◌^◌, ◌<◌, ◌≤◌, length, insert, remove, slice_index};
 ghost use Rattle.iddqd_ord_index.specs.Shape.{IsDense, most_levels};
 
@@ -6,7 +6,7 @@ use super::node::Node;
 use super::spare::Spare;
 use std::mem;
 
-// Puts a slot in at the position, and answers how many levels there are then.
+// Inserts a slot at the position, and returns how many levels there are then.
 pub(crate) fn add(
     root: &mut Node,
     levels: usize,
@@ -39,8 +39,8 @@ pub(crate) fn add(
     levels + 1
 }
 
-// Takes the slot at the position out, and answers it with how many levels there are then. Where the root falls, there are
-// then as many unused nodes as are wanted.
+// Removes the slot at the position, and returns it with the number of levels. If the root falls, there are as many
+// unused nodes as are wanted.
 pub(crate) fn remove(root: &mut Node, levels: usize, at: u32, spare: &mut Spare) -> (u32, usize)
     requires levels { levels ≡ root.old.height }
     requires place { at < length root.old.slots }

@@ -7,8 +7,8 @@ ghost use Rattle.iddqd_ord_index.specs.Standing.{slot_standing, IsMonotone, IsPl
 use iddqd_store::{Comparable, IdOrdItem, ItemStore, Steps};
 use std::cmp::Ordering;
 
-/// The place of the slot whose item the query stands for, or the place where it belongs. It makes at most as many
-/// comparisons as the number of slots has binary digits.
+/// Returns the place of the slot whose item the query stands for, or the place where it belongs. It makes at most
+/// as many comparisons as the number of slots has binary digits.
 pub fn search<T: IdOrdItem, Q: Comparable<T::Key>>(
     slots: &[u32],
     store: &ItemStore<T>,

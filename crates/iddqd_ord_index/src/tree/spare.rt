@@ -26,7 +26,7 @@ impl Model for Spare {
 }
 
 impl Spare {
-    // No unused nodes, and none wanted. It takes no memory.
+    // No unused nodes, and none wanted. Does not allocate.
     pub(crate) fn new(alloc: Global) -> Self
         ensures { (result.count ≡ 0) × (result.wanted ≡ 0) }
     {
@@ -46,7 +46,7 @@ impl Spare {
         Ok(spare)
     }
 
-    // Sees to as many as are wanted, and to room for one more. Where one is refused, what was gained stays.
+    // Allocates as many as are wanted, and room for one more. If one is refused, what was gained stays.
     pub(crate) fn prepare(&mut self, wanted: usize, alloc: Global) -> Result<(), AllocError>
         requires { wanted < 2 ^ 32 }
         ensures kept { (self.old.count ≤ self.new.count) × (self.old.room ≤ self.new.room) }
@@ -91,7 +91,7 @@ impl Spare {
         node
     }
 
-    // Keeps an unused node where it is wanted, and else frees it.
+    // Keeps an unused node if it is wanted, and else frees it.
     pub(crate) fn give_back(&mut self, node: Box<Node>)
         requires { node.value ≡ unused }
         ensures { self.new ≡ given_back self.old }

@@ -6,7 +6,7 @@ ghost use Rattle.std.specs.Borrow.{Lends, sem};
 use std::alloc::AllocError;
 use std::mem;
 
-// In place of a slot number: no slot. A store has fewer slots than this.
+// Stands for no slot in place of a slot number. A store has fewer slots than this.
 pub(super) const NO_SLOT: u32 = u32::MAX;
 
 #[derive(Drop)]
@@ -85,7 +85,7 @@ fn set_previous<T>(slots: &mut [Slot<T>], at: u32, previous: u32)
     }
 }
 
-// Takes a vacant slot out of the chain, and returns the first of those that are left.
+// Removes a vacant slot from the chain, and returns the first of those that are left.
 pub(super) fn unlink<T>(slots: &mut [Slot<T>], first: u32, at: usize) -> u32
     requires vacant { IsSome (links_at slots.old at) }
     requires chained { IsChained (links_at slots.old) first }
@@ -105,7 +105,7 @@ pub(super) fn unlink<T>(slots: &mut [Slot<T>], first: u32, at: usize) -> u32
     first
 }
 
-// Puts the item into the first vacant slot, and returns the first of those that are left.
+// Inserts the item into the first vacant slot, and returns the first of those that are left.
 #[inline]
 pub(super) fn fill_first<T>(slots: &mut [Slot<T>], first: u32, item: T) -> u32
     requires some { first ≢ no_slot }
@@ -122,7 +122,7 @@ pub(super) fn fill_first<T>(slots: &mut [Slot<T>], first: u32, item: T) -> u32
     }
 }
 
-// Takes the item out of an occupied slot, which is then the first of the vacant ones.
+// Removes the item of an occupied slot, which is then the first of the vacant ones.
 #[inline]
 pub(super) fn vacate<T>(slots: &mut [Slot<T>], first: u32, at: u32) -> T
     requires number { at < no_slot }

@@ -1,11 +1,11 @@
-//! How a store closes up: vacant slots at its end are cut off, and its last item moves into a vacant one.
+//! How a store closes up: vacant slots at its end are removed, and its last item moves to a vacant one.
 ghost use Rattle.std.specs.Prelude.{◌≡◌, ◌≢◌, ◌-◌, ◌<◌, ◌≤◌, None, is_some, count_by, vec_len, vec_capacity};
 ghost use Rattle.iddqd_store.specs.Store.{MovesLast};
 ghost use Rattle.iddqd_store.specs.Slots.{no_slot, items_of, links_at, IsChained, SameSlots};
 
 use super::chain::{Slot, fill_first, unlink};
 
-// Takes off the vacant slots at the end, and returns the first of those that are left.
+// Removes the vacant slots at the end, and returns the first of the vacant ones that are left.
 pub(super) fn cut_vacant<T>(slots: &mut Vec<Slot<T>>, first: u32) -> u32
     requires { IsChained (links_at slots.old.items) first }
     ensures chained { IsChained (links_at slots.new.items) result }
@@ -26,8 +26,7 @@ pub(super) fn cut_vacant<T>(slots: &mut Vec<Slot<T>>, first: u32) -> u32
     first
 }
 
-// Moves the item of the last slot into the first vacant one, and returns the first of those that
-// are left.
+// Moves the item of the last slot to the first vacant one, and returns the first of the vacant ones that are left.
 pub(super) fn move_last<T>(slots: &mut Vec<Slot<T>>, hole: u32) -> u32
     requires hole { hole ≢ no_slot }
     requires chained { IsChained (links_at slots.old.items) hole }

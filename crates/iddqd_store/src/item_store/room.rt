@@ -1,4 +1,4 @@
-//! Room for items: made, and given back.
+//! Making room for items, and giving it back.
 ghost use Rattle.std.specs.Prelude.{◌≡◌, ◌+◌, ◌<◌, ◌≤◌, ◌↔◌, [], IfOk, IfErr, OnOk, OnErr, Err, min, max};
 ghost use Rattle.iddqd_store.specs.Refusal.{limit_refused, memory_refused, reservation_kind};
 ghost use Rattle.iddqd_store.specs.Store.{store_len, vacant, HasRoomFor};
@@ -8,8 +8,9 @@ use crate::errors::TryReserveError;
 use std::alloc::Global;
 
 impl<T> ItemStore<T> {
-    /// A store without items that holds at most `limit`, with room for `capacity`. `CapacityOverflow` where that is above
-    /// the limit, else `AllocError` where memory was refused; none is asked for where `capacity` is 0.
+    /// Returns a store without items that can hold at most `limit`, with room for `capacity`. It returns
+    /// `CapacityOverflow` if that is above the limit, else `AllocError` if memory is refused. If `capacity` is 0,
+    /// it does not allocate.
     pub fn with_capacity(
         alloc: Global,
         limit: u32,
@@ -30,9 +31,8 @@ impl<T> ItemStore<T> {
         Ok(ItemStore::over(slots, limit))
     }
 
-    /// Makes room for `additional` more items. `CapacityOverflow` where the limit has no room for
-    /// them, else `AllocError` where memory was refused; the slots stay as they were, and where
-    /// there is room it takes no memory.
+    /// Makes room for `additional` more items. It returns `CapacityOverflow` if the limit has no room for them,
+    /// else `AllocError` if memory is refused. The slots stay as they were. If there is room, it does not allocate.
     #[inline]
     pub fn try_reserve(&mut self, additional: usize) -> Result<(), TryReserveError>
         ensures ok { OnOk result (HasRoomFor self.new additional) }
@@ -67,10 +67,10 @@ impl<T> ItemStore<T> {
             .map_err(|_| TryReserveError::alloc_error())
     }
 
-    /// Gives memory back, but for room for `min_capacity` items and for those that are there (the
-    /// crate's `shrink_capacity_to`). No slot may be vacant, as after `last_into_hole` answered
-    /// `None`. Refused or not, the slots stay as they were; it is refused only where there is memory
-    /// to give back, and without items and without `min_capacity` it gives all of it back.
+    /// Gives memory back, except for room for `min_capacity` items and for the existing ones. No slot may be
+    /// vacant, as after `last_into_hole` returned `None`. Refused or not, the slots stay as they were. It is
+    /// refused only if there is memory to give back. If there are no items and `min_capacity` is 0, it gives all of
+    /// it back.
     pub fn shrink_to(&mut self, min_capacity: usize) -> Result<(), TryReserveError>
         requires { vacant self.old ≡ 0 }
         ensures err { OnErr result (result ≡ Err memory_refused) }

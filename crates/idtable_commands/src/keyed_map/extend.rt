@@ -1,4 +1,4 @@
-//! Many items at once, up to the first that is not put in.
+//! Inserting many items, up to the first that is not inserted.
 ghost use Rattle.std.specs.Prelude.{◌≡◌, IfErr, IfOk, OnErr, OnOk};
 ghost use Rattle.std.specs.Borrow.{sem};
 ghost use Rattle.idtable_commands.specs.KeyedMap.{InsertsIntoMap, KeepsMap, RefusesAmong, RefusesOne, StaysKeyed, ends_extended};
@@ -8,7 +8,7 @@ use super::KeyedMap;
 use iddqd::errors::{DuplicateItem, ExtendError, ExtendUniqueError, Few, InsertError, Refused};
 use iddqd::internal::room_to_reserve;
 
-// An item that was not put in.
+// An item that was not inserted.
 #[derive(Drop)]
 pub(crate) enum NotTaken<T> {
     // One of an equal key is there.
@@ -44,7 +44,7 @@ where
     }
 }
 
-// Inserts the items up to the first that is not put in, and lends nothing.
+// Inserts the items up to the first that is not inserted, and lends nothing.
 fn insert_each<M: KeyedMap>(map: &mut M, items: Vec<M::Item>) -> Result<(), NotTaken<M::Item>>
 where
     M::Item: Drop,

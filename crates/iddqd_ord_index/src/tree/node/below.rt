@@ -89,7 +89,7 @@ impl Branches {
         start
     }
 
-    // Puts a branch in as the i-th one, below which so many slots lie.
+    // Inserts a branch as the i-th one, with this many slots below it.
     pub(super) fn insert(&mut self, i: usize, node: Box<Node>, count: u32)
         requires branches { AreBranches self.old }
         requires in_bounds { i ≤ length (below self.old) }
@@ -102,7 +102,7 @@ impl Branches {
         self.counts.insert(i, count);
     }
 
-    // Takes the i-th branch out, and answers it with the number of slots below it.
+    // Removes the i-th branch, and returns it with the number of slots below it.
     pub(super) fn remove(&mut self, i: usize) -> (Box<Node>, u32)
         requires branches { AreBranches self.old }
         requires in_bounds { i < length (below self.old) }
@@ -126,7 +126,7 @@ impl Branches {
         cells::take(&mut self.nodes, i)
     }
 
-    // Puts a branch, below which so many slots lie, into the cell that `take` has left empty.
+    // Puts a branch, with this many slots below it, into the cell that `take` has left empty.
     pub(super) fn put(&mut self, i: usize, node: Box<Node>, count: u32)
         requires cell { i < length self.old.nodes }
         requires counts { i < length self.old.counts.items }
@@ -200,7 +200,7 @@ impl Branches {
     }
 }
 
-// Puts another number in the stead of the i-th one, and answers that one.
+// Replaces the i-th number by another, and returns the old one.
 pub(super) fn replace<const N: usize>(items: &mut ArrayVec<u32, N>, i: usize, new: u32) -> u32
     requires { i < length items.old.items }
     ensures value { result ≡ slice_index items.old.items i }

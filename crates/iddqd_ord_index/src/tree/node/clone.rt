@@ -6,7 +6,7 @@ use arrayvec::ArrayVec;
 use std::alloc::{AllocError, Global};
 
 impl Node {
-    // A node of the same slots and shape. It is refused only for want of memory.
+    // Returns a node of the same slots and shape, or an error if memory is refused.
     pub(crate) fn try_clone(&self, alloc: Global) -> Result<Node, AllocError>
         ensures { IfOk result (λ copy. copy ≡ self.now) }
     {

@@ -4,7 +4,7 @@ ghost use Rattle.std.specs.Prelude.{◌≡◌, ◌-◌, length, slice_get};
 use super::Node;
 
 impl Node {
-    // The first slot, or `None` where there is none.
+    // Returns the first slot, or `None` if there is none.
     pub(crate) fn first(&self) -> Option<u32>
         ensures { result ≡ slice_get self.now.slots 0 }
     {
@@ -15,7 +15,7 @@ impl Node {
         node.slots.as_slice().first().copied()
     }
 
-    // The last slot, or `None` where there is none.
+    // Returns the last slot, or `None` if there is none.
     pub(crate) fn last(&self) -> Option<u32>
         ensures { result ≡ slice_get self.now.slots (length self.now.slots - 1) }
     {

@@ -9,8 +9,8 @@ use super::{Branches, Node};
 use crate::tree::spare::Spare;
 use arrayvec::ArrayVec;
 
-// Puts `slot` at place `i` of eleven, moves the upper half into `upper`, which is empty, and answers the slot between the
-// halves.
+// Inserts `slot` at place `i` of eleven, moves the upper half into `upper`, which is empty, and returns the slot
+// between the halves.
 fn split_slots(
     slots: &mut ArrayVec<u32, 11>,
     i: usize,
@@ -40,8 +40,8 @@ fn split_slots(
     middle
 }
 
-// Puts `middle` at place `i` of a full inner node and `upper` behind it, and moves the upper half into `half`, which is
-// unused. It answers the slot between the halves.
+// Inserts `middle` at place `i` of a full inner node and `upper` behind it, and moves the upper half into `half`,
+// which is unused. Returns the slot between the halves.
 fn split_inner(
     slots: &mut ArrayVec<u32, 11>,
     branches: &mut Branches,
@@ -69,7 +69,7 @@ fn split_inner(
     top
 }
 
-// Puts `middle` at place `i` of an inner node and `upper` behind it.
+// Inserts `middle` at place `i` of an inner node and `upper` behind it.
 fn add_branch(
     slots: &mut ArrayVec<u32, 11>,
     branches: &mut Branches,
@@ -104,7 +104,7 @@ fn add_branch(
 }
 
 impl Node {
-    // Makes an unused node the root above two halves, below which so many slots lie.
+    // Makes an unused node the root above two halves, with this many slots below it.
     pub(crate) fn fork(
         &mut self,
         lower: Box<Node>,
@@ -128,7 +128,7 @@ impl Node {
         self.branches.insert(1, upper, upper_count);
     }
 
-    // Puts a slot into a leaf. One without room gives its upper half away.
+    // Inserts a slot into a leaf. One without room gives its upper half away.
     fn add_to_leaf(&mut self, at: u32, slot: u32, spare: &mut Spare) -> Option<(u32, Box<Node>)>
         requires leaf { self.old.height ≡ 1 }
         requires place { at ≤ length self.old.slots }
@@ -149,7 +149,7 @@ impl Node {
         Some((middle, half))
     }
 
-    // Puts a slot in at the position. A node without room gives its upper half away, with the slot before it.
+    // Inserts a slot at the position. A node without room gives its upper half away, with the slot before it.
     pub(crate) fn add(&mut self, at: u32, slot: u32, spare: &mut Spare) -> Option<(u32, Box<Node>)>
         requires place { at ≤ length self.old.slots }
         requires room { length self.old.slots + 1 < 2 ^ 32 }

@@ -61,7 +61,8 @@ impl Node {
         upper.slots.clear();
     }
 
-    // Puts `middle` behind the node's slots with the first branch of `upper`, and answers the first own slot of `upper`.
+    // Inserts `middle` behind the node's slots with the first branch of `upper`, and returns the first own slot of
+    // `upper`.
     fn borrow_first(&mut self, middle: u32, upper: &mut Node) -> u32
         requires height { self.old.height ≡ upper.old.height }
         requires fits { self.old.width < 11 }
@@ -76,7 +77,8 @@ impl Node {
         upper.slots.remove(0)
     }
 
-    // Puts `middle` before the slots of `upper` with the node's last branch, and answers the node's last own slot.
+    // Inserts `middle` before the slots of `upper` with the node's last branch, and returns the node's last own
+    // slot.
     fn lend_last(&mut self, middle: u32, upper: &mut Node) -> u32
         requires height { self.old.height ≡ upper.old.height }
         requires fits { upper.old.width < 11 }
@@ -94,8 +96,8 @@ impl Node {
         last
     }
 
-    // Mends two neighbours of which one is a slot short: `None` where all is in the lower one now, else the slot between
-    // them.
+    // Mends two neighbours of which one is a slot short. Returns `None` if all is in the lower one now, else the
+    // slot between them.
     pub(super) fn mend(&mut self, middle: u32, upper: &mut Node) -> Option<u32>
         requires { IsPair self.old upper.old }
         ensures { IsMended self.old middle upper.old self.new result upper.new }

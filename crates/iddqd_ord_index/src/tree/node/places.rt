@@ -24,7 +24,7 @@ impl Node {
         node.slots.as_slice()[place as usize]
     }
 
-    // Puts a new slot in the stead of the one at the position.
+    // Replaces the slot at the position by a new one.
     pub(crate) fn rename(&mut self, at: u32, new: u32)
         requires { at < length self.old.slots }
         ensures slots { self.new.slots ≡ slice_set self.old.slots at new }

@@ -10,8 +10,8 @@ use crate::tree::spare::Spare;
 use arrayvec::ArrayVec;
 use std::mem;
 
-// Mends the neighbours `lower` and `upper`, which have `total` slots, and puts them, or the one that they are now, in as the
-// j-th branch and the next.
+// Mends the neighbours `lower` and `upper`, which have `total` slots. It puts them, or the one that they are now,
+// in as the j-th branch and the next.
 fn settle(
     slots: &mut ArrayVec<u32, 11>,
     branches: &mut Branches,
@@ -90,8 +90,8 @@ fn mend(
     );
 }
 
-// The slot that leaves its node where position `rest` of the i-th branch, which had `len` slots, is taken out: the one that
-// was taken from that branch, or, where `rest` is behind it, the own slot that this one replaces.
+// Returns the slot that leaves its node if position `rest` of the i-th branch, which had `len` slots, is removed.
+// It is the one from that branch, or the own slot that this one replaces, if `rest` is behind the branch.
 fn replace_own(slots: &mut ArrayVec<u32, 11>, i: usize, rest: u32, len: u32, taken: u32) -> u32
     requires within { rest ≤ len }
     requires own { rest ≡ len → i < length slots.old.items }
@@ -106,8 +106,9 @@ fn replace_own(slots: &mut ArrayVec<u32, 11>, i: usize, rest: u32, len: u32, tak
 }
 
 impl Node {
-    // Takes the slot at the position out. The node's own width may fall by one, and so below what a branch needs. Where it
-    // falls, two nodes have merged at each level below, so that each of these has given one back, as long as it is wanted.
+    // Removes the slot at the position. The node's own width may fall by one, and so below what a branch needs. If
+    // it falls, two nodes have merged at each level below, and each of these has given one back, as long as it is
+    // wanted.
     pub(crate) fn remove(&mut self, at: u32, spare: &mut Spare) -> u32
         requires place { at < length self.old.slots }
         requires room { length self.old.slots < 2 ^ 32 }
