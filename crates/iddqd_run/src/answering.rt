@@ -1,15 +1,14 @@
 //! The answer to a text, line by line, over a map of either kind.
-ghost use Rattle.std.specs.Prelude.{◌≡◌, ◌≢◌, [], IfOk, string_bytes};
+ghost use Rattle.std.specs.Prelude.{◌≡◌, [], IfOk, string_bytes};
 ghost use Rattle.iddqd_run.specs.Answer.{AnswersWithRefusals};
-ghost use Rattle.idtable_lines.specs.Asked.{asked};
-ghost use Rattle.idtable_lines.specs.declared.lines.Line.TheVariants.{AddAll, ListAll, First, Last, PopFirst, PopLast};
+ghost use Rattle.idtable_lines.specs.Asked.{asked, request_asked};
 ghost use Rattle.iddqd_run.specs.Shown.{AnswersRequest, IsTable, WritesReply};
 
 use crate::entries::{Entry, LineReply, write_reply};
 use crate::table::Table;
 use crate::{adding, ends, requests};
 use iddqd::Steps;
-use idtable_lines::{Line, first_line, parse};
+use idtable_lines::{End, Line, NamedValue, Request, first_line, parse};
 use std::alloc::{AllocError, Global};
 
 /// The answer to a text from a map without entries, and how many of its lines were refused for want of memory.
@@ -46,41 +45,37 @@ fn answer_line<M: Table<Item = Entry, Key = String>>(
     ensures table { IsTable M.key M.is_text M.entries M.state M.keyed M.limit map.new }
 {
     match line {
+        Line::Request(request) => write_reply(text, reply_to(alloc, map, request)),
         Line::AddAll { fields } => adding::add_all(alloc, map, fields, text),
-        Line::ListAll => ends::list(alloc, map, text),
-        Line::First => write_reply(text, ends::first(map)),
-        Line::Last => write_reply(text, ends::last(map)),
-        Line::PopFirst => ends::pop_first(map, text),
-        Line::PopLast => ends::pop_last(map, text),
-        _ => write_reply(text, reply_to(alloc, map, line)),
+        Line::List => ends::list(alloc, map, text),
+        Line::End(End::First) => write_reply(text, ends::first(map)),
+        Line::End(End::Last) => write_reply(text, ends::last(map)),
+        Line::End(End::PopFirst) => ends::pop_first(map, text),
+        Line::End(End::PopLast) => ends::pop_last(map, text),
+        Line::Bad => write_reply(text, LineReply::Bad),
     }
 }
 
-// The reply to a line that asks neither for many entries nor for those at an end. What is none of the requests below is a line
-// that follows no form.
+// Returns the reply to a request.
 fn reply_to<'a, M: Table<Item = Entry, Key = String>>(
     alloc: Global,
     map: &mut M,
-    line: Line<'a>,
+    request: Request<'a>,
 ) -> LineReply<'a>
     requires table { IsTable M.key M.is_text M.entries M.state M.keyed M.limit map.old }
-    requires not_add_all { (fields : _) → line ≢ AddAll fields }
-    requires not_list { line ≢ ListAll }
-    requires not_ends { (line ≢ First) × (line ≢ Last) × (line ≢ PopFirst) × (line ≢ PopLast) }
-    ensures answered { AnswersRequest M.kind (asked line.entry) (M.state map.old).items result (M.state map.new).items }
+    ensures answered { AnswersRequest M.kind (request_asked request.entry) (M.state map.old).items result (M.state map.new).items }
     ensures table { IsTable M.key M.is_text M.entries M.state M.keyed M.limit map.new }
 {
-    match line {
-        Line::Add { name, value } => requests::add(alloc, map, name, value),
-        Line::Put { name, value } => requests::put(alloc, map, name, value),
-        Line::Get { name } => requests::get(map, name),
-        Line::Del { name } => requests::delete(map, name),
-        Line::Cost { name } => requests::cost(map, name, &mut Steps::new()),
-        Line::Set { name, value } => requests::set(map, name, value),
-        Line::Keep { value } => requests::keep(map, value),
-        Line::Reserve { value } => requests::reserve(map, value),
-        Line::Shrink => requests::shrink(map),
-        Line::Len => requests::len(map),
-        _ => LineReply::Bad,
+    match request {
+        Request::Add(NamedValue { name, value }) => requests::add(alloc, map, name, value),
+        Request::Put(NamedValue { name, value }) => requests::put(alloc, map, name, value),
+        Request::Get(name) => requests::get(map, name),
+        Request::Del(name) => requests::delete(map, name),
+        Request::Cost(name) => requests::cost(map, name, &mut Steps::new()),
+        Request::Set(NamedValue { name, value }) => requests::set(map, name, value),
+        Request::Keep(value) => requests::keep(map, value),
+        Request::Reserve(value) => requests::reserve(map, value),
+        Request::Shrink => requests::shrink(map),
+        Request::Len => requests::len(map),
     }
 }

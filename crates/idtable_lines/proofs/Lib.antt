@@ -1,3 +1,4 @@
 mod Cuts
+mod FormLemmas
 pub mod NameLemmas
 pub mod ValueLemmas

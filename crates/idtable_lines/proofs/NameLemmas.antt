@@ -19,7 +19,7 @@ is_name-short word some short =
 ascii_byte : (byte : ℕ) → is_name_byte byte ≡ true → byte < 128
 ascii_byte byte e = grind (arith, nat_tests)
 
-parts : (a b : Bool) → (a && b) ≡ true → (a ≡ true) × (b ≡ true)
+pub parts : (a b : Bool) → (a && b) ≡ true → (a ≡ true) × (b ≡ true)
 parts true b e = (refl, e)
 parts false b e = cc
 

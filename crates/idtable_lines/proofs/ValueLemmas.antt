@@ -15,7 +15,7 @@ use Rattle.std.proofs.lemmas.Str.Parse.{IsNumeralModel, numerals_by_value, tells
 use Rattle.std.proofs.lemmas.Fmt.{decimal_nonempty, decimal_digit, first_decimal, digits_decimal, digits_value-decimal, decimal-digits_value, IsAscii-decimal}
 use Rattle.std.proofs.lemmas.Slice.Eq.{bytes_eq-Decides}
 use Rattle.std.proofs.Math.Nat.{eq-zero-or-pos}
-use Rattle.idtable_lines.specs.Lines.{is_name, value_of, words_of, HasOneForm, fields_request, paired_request, pairs_of, request_of_words, valued_request, Bad}
+use Rattle.idtable_lines.specs.Lines.{is_name, value_of, words_of, HasOneForm, Bad}
 use Rattle.idtable_lines.proofs.Cuts.{words-whole}
 
 numerals : IsNumeralModel (AllDigits 10) (digits_value 10)
@@ -84,33 +84,3 @@ value_read {E} word r form parsed = by r (parse_plain numerals 64 word r parsed 
 pub spelled_whole : (word : List ℕ) (n : ℕ) → Spells word n → words_of word ≡ word ∷ []
 spelled_whole word n s = subst (λ w. words_of w ≡ w ∷ []) (sym s.text)
     (words-whole (decimal n) (λ k h e. let range = digit_at (decimal n) k (digits_decimal numerals n s.fits) h in omega (arith, range.0, range.1, e)))
-
--- what follows a name is the value, if it is one, and else no value
-pub valued_words : (word name rest : List ℕ) → is_name name ≡ true → fields_request word (name ∷ words_of rest) ≡ valued_request word name (value_of rest)
-valued_words word name rest named = by (words_of rest) refl
-  where
-    by : (ws : List (List ℕ)) → words_of rest ≡ ws → fields_request word (name ∷ ws) ≡ valued_request word name (value_of rest)
-    by [] e = absurd (omega (arith, length-slice_split (λ b. eqb b 32) rest, ap length e))
-    by (value ∷ []) e =
-        let whole : value ≡ rest = sym (ap (join_with_byte 32) e) ∙ join_with_byte-slice_split 32 rest in
-        rw named (ap (λ w. valued_request word name (value_of w)) whole)
-    by (value ∷ more ∷ ws) e = ap (valued_request word name) (no_value rest (λ n s. let one : rest ∷ [] ≡ value ∷ more ∷ ws = sym (spelled_whole rest n s) ∙ e in cc))
-
-pub unnamed_words : (word name rest : List ℕ) → is_name name ≡ false → fields_request word (name ∷ words_of rest) ≡ Bad
-unnamed_words word name rest none = by (words_of rest) refl
-  where
-    by : (ws : List (List ℕ)) → words_of rest ≡ ws → fields_request word (name ∷ ws) ≡ Bad
-    by [] e = absurd (omega (arith, length-slice_split (λ b. eqb b 32) rest, ap length e))
-    by (value ∷ []) e = rw none refl
-    by (value ∷ more ∷ ws) e = refl
-
--- a line of the word of many pairs, and one of another word
-pub paired_words : (word rest : List ℕ) → bytes_eq word (codes "addall") ≡ true → request_of_words (word ∷ words_of rest) ≡ paired_request (pairs_of (words_of rest))
-paired_words word rest many = by (words_of rest) refl
-  where
-    by : (ws : List (List ℕ)) → words_of rest ≡ ws → request_of_words (word ∷ ws) ≡ paired_request (pairs_of ws)
-    by [] e = absurd (omega (arith, length-slice_split (λ b. eqb b 32) rest, ap length e))
-    by (field ∷ fields) e = rw many refl
-
-pub unpaired_words : (word field : List ℕ) (fields : List (List ℕ)) → bytes_eq word (codes "addall") ≡ false → request_of_words (word ∷ field ∷ fields) ≡ fields_request word (field ∷ fields)
-unpaired_words word field fields other = rw other refl

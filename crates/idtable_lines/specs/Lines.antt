@@ -1,8 +1,9 @@
--- The lines of a text, and what a line asks for (ours).
+-- The lines of a text, and what a line asks for.
 --     lines_of text      the lines, each without the byte that ends it
 --     request_of line      what the line asks for; a line that follows no form asks for nothing: `Bad`
 use Rattle.std.specs.Prelude.{◌≡◌, ◌≢◌, ◌<◌, ℕ, ◌^◌, Bool, ◌&&◌, ◌||◌, ◌==◌, nat_le, nat_lt, List, [], ◌∷◌, length, slice_index, Option, Some, None, decimal, codes, bytes_eq, if◌then◌else◌}
 use Rattle.std.specs.List.{list_all, onto_first, slice_split}
+use Rattle.std.specs.Option.{option_map_or}
 use Rattle.std.specs.Str.Parse.{digits_value}
 
 -- a line ends with the byte 10; a last line without it counts; an empty text has none
@@ -49,67 +50,77 @@ pub data Request : Type 0 where
   PopLast : Request
   Bad : Request
 
--- a request by its word alone
-abbrev pub bare_request : List ℕ → Request
-bare_request word =
-    if bytes_eq word (codes "len") then Len else (if bytes_eq word (codes "list") then ListAll else
-    (if bytes_eq word (codes "first") then First else (if bytes_eq word (codes "last") then Last else
-    (if bytes_eq word (codes "popfirst") then PopFirst else (if bytes_eq word (codes "poplast") then PopLast else
-    (if bytes_eq word (codes "shrink") then Shrink else Bad))))))
-
--- a request by its word and a name
-abbrev pub named_request : List ℕ → List ℕ → Request
-named_request word name = if bytes_eq word (codes "get") then Get name else (if bytes_eq word (codes "del") then Del name else (if bytes_eq word (codes "cost") then Cost name else Bad))
-
--- a request by its word, a name and a value
-abbrev pub valued_request : List ℕ → List ℕ → Option ℕ → Request
-valued_request word name None = Bad
-valued_request word name (Some value) = if bytes_eq word (codes "add") then Add name value else (if bytes_eq word (codes "put") then Put name value else (if bytes_eq word (codes "set") then Set name value else Bad))
-
--- a request by a value alone: `keep`
-abbrev pub kept_request : Option ℕ → Request
-kept_request None = Bad
-kept_request (Some value) = Keep value
-
--- a request by a value alone: `reserve`
-abbrev pub reserved_request : Option ℕ → Request
-reserved_request None = Bad
-reserved_request (Some value) = Reserve value
-
--- a request by its word and one field, which is a name or, of `keep` and `reserve`, a value
-abbrev pub field_request : List ℕ → List ℕ → Request
-field_request word field =
-    if bytes_eq word (codes "keep") then kept_request (value_of field) else (if bytes_eq word (codes "reserve") then reserved_request (value_of field) else
-    (if is_name field then named_request word field else Bad))
-
--- a request by its word and the fields, of which there is one at least
-abbrev pub fields_request : List ℕ → List (List ℕ) → Request
-fields_request word [] = Bad
-fields_request word (field ∷ []) = field_request word field
-fields_request word (name ∷ value ∷ []) = if is_name name then valued_request word name (value_of value) else Bad
-fields_request word (name ∷ value ∷ more ∷ words) = Bad
-
--- a pair before others; none where its word is no value
+-- a pair before others; none if its word is no value
 abbrev pub onto_pairs : List ℕ → Option ℕ → Option (List (List ℕ × ℕ)) → Option (List (List ℕ × ℕ))
 onto_pairs name None pairs = None
 onto_pairs name (Some value) None = None
 onto_pairs name (Some value) (Some pairs) = Some ((name, value) ∷ pairs)
 
--- the pairs of a name and a value that words are, in order; none where a word is left alone, or is not what it should be
+-- the pairs of a name and a value that words are, in order; none if a word is left alone, or is not what it should be
 abbrev pub pairs_of : List (List ℕ) → Option (List (List ℕ × ℕ))
 pairs_of [] = Some []
 pairs_of (name ∷ []) = None
 pairs_of (name ∷ value ∷ words) = if is_name name then onto_pairs name (value_of value) (pairs_of words) else None
+
+-- What the fields after a word ask for, by the form that they have to be of. Fields of another form ask for nothing.
+abbrev pub alone : Request → List (List ℕ) → Request
+alone ask [] = ask
+alone ask (field ∷ fields) = Bad
+
+abbrev pub by_name : (List ℕ → Request) → List (List ℕ) → Request
+by_name ask [] = Bad
+by_name ask (name ∷ []) = if is_name name then ask name else Bad
+by_name ask (name ∷ more ∷ fields) = Bad
+
+abbrev pub by_value : (ℕ → Request) → List (List ℕ) → Request
+by_value ask [] = Bad
+by_value ask (value ∷ []) = option_map_or ask (value_of value) Bad
+by_value ask (value ∷ more ∷ fields) = Bad
+
+abbrev pub by_name_and_value : (List ℕ → ℕ → Request) → List (List ℕ) → Request
+by_name_and_value ask [] = Bad
+by_name_and_value ask (name ∷ []) = Bad
+by_name_and_value ask (name ∷ value ∷ []) = if is_name name then option_map_or (ask name) (value_of value) Bad else Bad
+by_name_and_value ask (name ∷ value ∷ more ∷ fields) = Bad
 
 -- a request by pairs: `addall`
 abbrev pub paired_request : Option (List (List ℕ × ℕ)) → Request
 paired_request None = Bad
 paired_request (Some pairs) = AddAll pairs
 
+abbrev pub by_pairs : List (List ℕ) → Request
+by_pairs [] = Bad
+by_pairs (field ∷ fields) = paired_request (pairs_of (field ∷ fields))
+
+-- the words, each with what the fields after it ask for
+abbrev pub forms : List (List ℕ × (List (List ℕ) → Request))
+forms =
+    (codes "add", by_name_and_value Add) ∷
+    (codes "addall", by_pairs) ∷
+    (codes "put", by_name_and_value Put) ∷
+    (codes "get", by_name Get) ∷
+    (codes "del", by_name Del) ∷
+    (codes "set", by_name_and_value Set) ∷
+    (codes "keep", by_value Keep) ∷
+    (codes "len", alone Len) ∷
+    (codes "cost", by_name Cost) ∷
+    (codes "list", alone ListAll) ∷
+    (codes "first", alone First) ∷
+    (codes "last", alone Last) ∷
+    (codes "popfirst", alone PopFirst) ∷
+    (codes "poplast", alone PopLast) ∷
+    (codes "reserve", by_value Reserve) ∷
+    (codes "shrink", alone Shrink) ∷
+    []
+
+-- what a word and the fields after it ask for; nothing if the word is none of these
+abbrev pub request_by : List (List ℕ × (List (List ℕ) → Request)) → List ℕ → List (List ℕ) → Request
+request_by [] word fields = Bad
+request_by ((known, form) ∷ more) word fields = if bytes_eq word known then form fields else request_by more word fields
+
 abbrev pub request_of_words : List (List ℕ) → Request
 request_of_words [] = Bad
-request_of_words (word ∷ []) = bare_request word
-request_of_words (word ∷ field ∷ fields) = if bytes_eq word (codes "addall") then paired_request (pairs_of (field ∷ fields)) else fields_request word (field ∷ fields)
+request_of_words (word ∷ fields) = request_by forms word fields
 
 abbrev pub request_of : List ℕ → Request
 request_of line = request_of_words (words_of line)

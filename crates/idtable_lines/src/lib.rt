@@ -8,4 +8,4 @@ mod lines;
 
 pub use arguments::{Kind, after_name, kind_of};
 pub use failing::{FailingReader, FailingWriter};
-pub use lines::{Line, Pair, first_line, first_pair, parse};
+pub use lines::{End, Line, NamedValue, Pair, Request, first_line, first_pair, parse};

@@ -1,69 +1,65 @@
 //! The lines of a text, and what a line asks for.
-ghost use Rattle.std.specs.Prelude.{◌≡◌, ◌∷◌, ◌<◌, ◌≤◌, ◌↔◌, [], length, MatchOption, IfSome, IsTrue, Some, None, true, false};
+ghost use Rattle.std.specs.Prelude.{◌≡◌, ◌∷◌, ◌<◌, ◌≤◌, ◌↔◌, ℕ, [], List, length, MatchOption, IfSome, IsTrue, Some, None, true, false};
 ghost use Rattle.std.specs.List.{list_all};
-ghost use Rattle.idtable_lines.specs.Lines.{lines_of, words_of, is_name, is_name_byte, value_of, HasOneForm, request_of, bare_request, named_request, valued_request, field_request, kept_request, reserved_request, onto_pairs, pairs_of};
-ghost use Rattle.idtable_lines.specs.Asked.{asked, length_behind, pairs_behind};
+ghost use Rattle.std.specs.Option.{option_map_or};
+ghost use Rattle.idtable_lines.specs.Lines.{Bad, HasOneForm, alone, by_name, by_name_and_value, by_value, forms, is_name, is_name_byte, lines_of, onto_pairs, pairs_of, request_by, request_of, value_of, words_of};
+ghost use Rattle.idtable_lines.specs.Asked.{asked, length_behind, pairs_behind, words_behind};
 
-/// What a line asks for (ours).
+/// What a line asks for.
 #[derive(Clone, Copy)]
 pub enum Line<'a> {
-    /// `add`: an entry, where there is none of its name.
-    Add {
-        /// The name.
-        name: &'a str,
-        /// The value.
-        value: u64,
-    },
-    /// `put`: an entry, in the place of the one of its name too.
-    Put {
-        /// The name.
-        name: &'a str,
-        /// The value.
-        value: u64,
-    },
-    /// `get`: the value of a name.
-    Get {
-        /// The name.
-        name: &'a str,
-    },
-    /// `del`: that a name goes.
-    Del {
-        /// The name.
-        name: &'a str,
-    },
-    /// `cost`: whether a name is found within the bound.
-    Cost {
-        /// The name.
-        name: &'a str,
-    },
-    /// `set`: the value of a name that is there.
-    Set {
-        /// The name.
-        name: &'a str,
-        /// The value.
-        value: u64,
-    },
-    /// `keep`: that the entries of greater value stay.
-    Keep {
-        /// The value.
-        value: u64,
-    },
-    /// `reserve`: room for so many more.
-    Reserve {
-        /// How many.
-        value: u64,
-    },
-    /// `shrink`: that room is given back.
-    Shrink,
-    /// `addall`: many entries, or nothing where the fields do not follow the form.
+    /// A request of one name, of one value, or of none, which has one reply.
+    Request(Request<'a>),
+    /// `addall`: many entries, or nothing if the fields do not follow the form.
     AddAll {
         /// The fields in which the pairs stand.
         fields: &'a [u8],
     },
-    /// `len`: how many entries there are.
+    /// `list`: all entries.
+    List,
+    /// An entry at an end.
+    End(End),
+    /// It follows no form.
+    Bad,
+}
+
+/// A request that has one reply.
+#[derive(Clone, Copy)]
+pub enum Request<'a> {
+    /// `add`: an entry, if there is none of its name.
+    Add(NamedValue<'a>),
+    /// `put`: an entry, in place of the one of its name too.
+    Put(NamedValue<'a>),
+    /// `get`: the value of a name.
+    Get(&'a str),
+    /// `del`: that a name goes.
+    Del(&'a str),
+    /// `cost`: whether a name is found within the bound.
+    Cost(&'a str),
+    /// `set`: the value of a name that exists.
+    Set(NamedValue<'a>),
+    /// `keep`: that the entries of greater value stay.
+    Keep(u64),
+    /// `reserve`: room for this many more.
+    Reserve(u64),
+    /// `shrink`: that room is given back.
+    Shrink,
+    /// `len`: the number of entries.
     Len,
-    /// `list`: all of them.
-    ListAll,
+}
+
+/// A name and its value.
+#[derive(Clone, Copy)]
+pub struct NamedValue<'a> {
+    /// The name.
+    pub name: &'a str,
+    /// The value.
+    pub value: u64,
+}
+
+/// A request for the entry at an end, by name.
+#[derive(Clone, Copy)]
+pub enum End {
     /// `first`: the one of the least name.
     First,
     /// `last`: the one of the greatest name.
@@ -72,11 +68,9 @@ pub enum Line<'a> {
     PopFirst,
     /// `poplast`: the one of the greatest name, which goes.
     PopLast,
-    /// It follows no form.
-    Bad,
 }
 
-/// A name, its value, and what follows them (ours).
+/// A name, its value, and what follows them.
 #[derive(Clone, Copy)]
 pub struct Pair<'a> {
     /// The name.
@@ -87,7 +81,7 @@ pub struct Pair<'a> {
     pub rest: Option<&'a [u8]>,
 }
 
-/// The first line of a text that isn't empty, and the text after it (ours). It looks at each byte up to the line's end once.
+/// Returns the first line of a text that is not empty, and the text after it. It looks at each byte up to the line's end once.
 pub fn first_line(text: &[u8]) -> (&[u8], &[u8])
     requires { 0 < length text.now }
     ensures lines { lines_of text.now ≡ result.0.now ∷ lines_of result.1.now }
@@ -101,28 +95,80 @@ pub fn first_line(text: &[u8]) -> (&[u8], &[u8])
     (text, &[])
 }
 
-/// What the line asks for (ours). It takes no memory.
+/// Returns what the line asks for. Does not allocate.
 pub fn parse(line: &[u8]) -> Line<'_>
     ensures { asked result ≡ request_of line.now }
 {
     let (word, fields) = first_word(line);
-    let Some(fields) = fields else {
-        return by_word(word);
+    let Some(word) = name_in(word) else {
+        return Line::Bad;
     };
-    if word == b"addall".as_slice() {
-        return Line::AddAll { fields };
-    }
-    let (field, value) = first_word(fields);
-    let Some(value) = value else {
-        return by_field(word, field);
-    };
-    match name_in(field) {
+    match by_word(word, fields) {
+        Some(line) => line,
         None => Line::Bad,
-        Some(name) => by_name_and_value(word, name, value),
     }
 }
 
-/// The pair that the fields begin with, or `None` where they do not begin with one (ours). It takes no memory.
+// What a word and the fields after it ask for, or `None` if they follow no form.
+fn by_word<'a>(word: &str, fields: Option<&'a [u8]>) -> Option<Line<'a>>
+    ensures { option_map_or asked result Bad ≡ request_by forms word.now (words_behind fields.entry) }
+{
+    match word {
+        "add" => Some(Line::Request(Request::Add(name_and_value(fields)?))),
+        "addall" => Some(Line::AddAll { fields: fields? }),
+        "put" => Some(Line::Request(Request::Put(name_and_value(fields)?))),
+        "get" => Some(Line::Request(Request::Get(name_alone(fields)?))),
+        "del" => Some(Line::Request(Request::Del(name_alone(fields)?))),
+        "set" => Some(Line::Request(Request::Set(name_and_value(fields)?))),
+        "keep" => Some(Line::Request(Request::Keep(value_alone(fields)?))),
+        "len" => alone(Line::Request(Request::Len), fields),
+        "cost" => Some(Line::Request(Request::Cost(name_alone(fields)?))),
+        "list" => alone(Line::List, fields),
+        "first" => alone(Line::End(End::First), fields),
+        "last" => alone(Line::End(End::Last), fields),
+        "popfirst" => alone(Line::End(End::PopFirst), fields),
+        "poplast" => alone(Line::End(End::PopLast), fields),
+        "reserve" => Some(Line::Request(Request::Reserve(value_alone(fields)?))),
+        "shrink" => alone(Line::Request(Request::Shrink), fields),
+        _ => None,
+    }
+}
+
+// What a word alone asks for.
+fn alone<'a>(line: Line<'a>, fields: Option<&[u8]>) -> Option<Line<'a>>
+    ensures { option_map_or asked result Bad ≡ alone (asked line.entry) (words_behind fields.entry) }
+{
+    match fields {
+        None => Some(line),
+        Some(_) => None,
+    }
+}
+
+// The name that the fields are.
+fn name_alone(fields: Option<&[u8]>) -> Option<&str>
+    ensures { (ask : List ℕ → _) → option_map_or (λ name. ask name.now) result Bad ≡ by_name ask (words_behind fields.entry) }
+{
+    name_in(fields?)
+}
+
+// The value that the fields are.
+fn value_alone(fields: Option<&[u8]>) -> Option<u64>
+    ensures { (ask : ℕ → _) → option_map_or ask result Bad ≡ by_value ask (words_behind fields.entry) }
+{
+    value_in(fields?)
+}
+
+// The name and the value that the fields are.
+fn name_and_value(fields: Option<&[u8]>) -> Option<NamedValue<'_>>
+    ensures { (ask : List ℕ → ℕ → _) → option_map_or (λ pair. ask pair.name.now pair.value) result Bad ≡ by_name_and_value ask (words_behind fields.entry) }
+{
+    let (name, value) = first_word(fields?);
+    let name = name_in(name)?;
+    let value = value_in(value?)?;
+    Some(NamedValue { name, value })
+}
+
+/// Returns the pair that the fields begin with, or `None` if they do not begin with one. Does not allocate.
 pub fn first_pair(fields: &[u8]) -> Option<Pair<'_>>
     ensures pairs { MatchOption result (pairs_of (words_of fields.now) ≡ None) (λ pair. pairs_of (words_of fields.now) ≡ onto_pairs pair.name.now (Some pair.value) (pairs_behind pair.rest)) }
     ensures shorter { IfSome result (λ pair. length_behind pair.rest ≤ length fields.now) }
@@ -134,25 +180,9 @@ pub fn first_pair(fields: &[u8]) -> Option<Pair<'_>>
     Some(Pair { name, value, rest })
 }
 
-// What a line of a word and one field asks for.
-fn by_field<'a>(word: &[u8], field: &'a [u8]) -> Line<'a>
-    ensures { asked result ≡ field_request word.now field.now }
-{
-    if word == b"keep".as_slice() {
-        return kept(field);
-    }
-    if word == b"reserve".as_slice() {
-        return reserved(field);
-    }
-    match name_in(field) {
-        None => Line::Bad,
-        Some(name) => by_name(word, name),
-    }
-}
-
 // The first word, and what follows the space after it.
 fn first_word(text: &[u8]) -> (&[u8], Option<&[u8]>)
-    ensures words { MatchOption result.1 (words_of text.now ≡ result.0.now ∷ []) (λ rest. words_of text.now ≡ result.0.now ∷ words_of rest.now) }
+    ensures words { words_of text.now ≡ result.0.now ∷ words_behind result.1 }
     ensures shorter { IfSome result.1 (λ rest. length rest.now < length text.now) }
 {
     for (i, byte) in text.iter().enumerate() {
@@ -213,81 +243,5 @@ fn has_one_form(word: &[u8]) -> bool
     match word.first() {
         None => false,
         Some(first) => *first != b'+' && (*first != b'0' || word.len() == 1),
-    }
-}
-
-// What a line of a word alone asks for.
-fn by_word<'a>(word: &[u8]) -> Line<'a>
-    ensures { asked result ≡ bare_request word.now }
-{
-    if word == b"len".as_slice() {
-        Line::Len
-    } else if word == b"list".as_slice() {
-        Line::ListAll
-    } else if word == b"first".as_slice() {
-        Line::First
-    } else if word == b"last".as_slice() {
-        Line::Last
-    } else if word == b"popfirst".as_slice() {
-        Line::PopFirst
-    } else if word == b"poplast".as_slice() {
-        Line::PopLast
-    } else if word == b"shrink".as_slice() {
-        Line::Shrink
-    } else {
-        Line::Bad
-    }
-}
-
-// What a line of a word and a name asks for.
-fn by_name<'a>(word: &[u8], name: &'a str) -> Line<'a>
-    ensures { asked result ≡ named_request word.now name.now }
-{
-    if word == b"get".as_slice() {
-        Line::Get { name }
-    } else if word == b"del".as_slice() {
-        Line::Del { name }
-    } else if word == b"cost".as_slice() {
-        Line::Cost { name }
-    } else {
-        Line::Bad
-    }
-}
-
-// What a line of the word `keep` and a value asks for.
-fn kept<'a>(value: &[u8]) -> Line<'a>
-    ensures { asked result ≡ kept_request (value_of value.now) }
-{
-    match value_in(value) {
-        Some(value) => Line::Keep { value },
-        None => Line::Bad,
-    }
-}
-
-// What a line of the word `reserve` and a value asks for.
-fn reserved<'a>(value: &[u8]) -> Line<'a>
-    ensures { asked result ≡ reserved_request (value_of value.now) }
-{
-    match value_in(value) {
-        Some(value) => Line::Reserve { value },
-        None => Line::Bad,
-    }
-}
-
-// What a line of a word, a name and a value asks for.
-fn by_name_and_value<'a>(word: &[u8], name: &'a str, value: &[u8]) -> Line<'a>
-    ensures { asked result ≡ valued_request word.now name.now (value_of value.now) }
-{
-    let Some(value) = value_in(value) else {
-        return Line::Bad;
-    };
-    if word == b"add".as_slice() {
-        Line::Add { name, value }
-    } else if word == b"put".as_slice() {
-        Line::Put { name, value }
-    } else if word == b"set".as_slice() {
-        Line::Set { name, value }
-    } else {
-        Line::Bad
     }
 }

@@ -1,6 +1,6 @@
 use Rattle.std.proofs.Common.{string_bytes}
 use Rattle.idtable_lines.specs.Lines as request
-use Rattle.idtable_lines.specs.Asked.{asked}
+use Rattle.idtable_lines.specs.Asked.{asked, request_asked}
 use Rattle.iddqd_run.proofs.ReplyLemmas.{written}
 use Rattle.iddqd_run.proofs.answering.answer_line.Goals as goal
 
