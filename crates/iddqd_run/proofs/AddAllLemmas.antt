@@ -1,4 +1,4 @@
--- What the line of many pairs answers.
+-- The reply to the line of many pairs.
 --     after_pairs      pairs before others, which may be none
 --     all_answered      all are in
 --     conflict_told, full_told      the first ones are in, and the next one's name is there, or it finds no room
@@ -40,7 +40,7 @@ abbrev pub after_pairs : List (List ℕ × ℕ) → Option (List (List ℕ × �
 after_pairs front None = None
 after_pairs front (Some pairs) = Some (front ++ pairs)
 
--- more items are put in beside x, which is
+-- more items are inserted after x is
 next_taken : (x : Entry) (xs items new : List Entry) → InsertsAll by_name string_eq max_items (x ∷ xs) items new → InsertsAll by_name string_eq max_items xs (x ∷ items) new
 next_taken x xs items new takes =
     let front : IsPermutation ((items ++ x ∷ []) ++ xs) ((x ∷ items) ++ xs) = IsPermutation-append_left xs (items ++ x ∷ []) (x ∷ items) (IsPermutation-to_front items x) in
@@ -53,7 +53,7 @@ next_taken x xs items new takes =
       room = λ _. takes.room (omega arith);
     }
 
--- the entries once items were put in, and how many of them and of others fit
+-- the entries once items were inserted, and how many of them and of others fit
 record IsThrough (xs items new : List Entry) (entries : List answer.Entry) : Type 0 where
   shows : ShowsEntries new (all_placed (entries_of xs) entries)
   fits : (more : List answer.Entry) → how_many_fit (entries_of xs ++ more) entries ≡ length xs + how_many_fit more (all_placed (entries_of xs) entries)
@@ -176,7 +176,7 @@ module _ (kind : Kind) where
     so_many : length (take after xs) ≡ after
     so_many = length-take-le after xs (let within = slice_get_within xs after x stops.next in omega (arith, within))
 
-    -- x is akin to one that is there
+    -- an existing item has the key of x
     pub conflict_told : (y : Entry) → find_item by_name (string_eq x.name) (items ++ take after xs) ≡ Some y → (told : Bor (List ℕ)) (value count : ℕ) → told.now ≡ string_bytes x.name → value ≡ y.value → count ≡ after → AnswersRequest kind (AddAll (entries_of xs)) items (DuplicateAfter told value count) new
     conflict_told y found told value count e f h =
         let adds = stops.taken.added in

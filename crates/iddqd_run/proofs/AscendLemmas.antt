@@ -1,7 +1,7 @@
 -- Entries in the order of their names.
 --     entries_are      the entries of items that ascend by name are those that are shown
---     by_name_of      where the names ascend, so do the entries
---     by_name_sorted      what a sort by names leaves, where the names differ
+--     by_name_of      if the names ascend, so do the entries
+--     by_name_sorted      what a sort by names leaves, if the names differ
 use Rattle.std.proofs.Common.{◌≡◌, ℕ, ◌+◌, ◌<◌, false, List, [], ◌∷◌, length, map, get_or, refl, ap, ◌∙◌, arith, Ordering, Less, Equal, Greater, String, Global, string_bytes, IsPermutation}
 use Rattle.std.proofs.lemmas.List.Sorted.{IsPermutation-map, IsPermutation-sym, IsPermutation-trans}
 use Rattle.std.specs.Cmp.Lexicographic.{nat_list_cmp_total, texts_ties}
@@ -28,7 +28,7 @@ entries_are items sorted entries same ascending shows =
     let there = IsPermutation-trans entries (entries_of items) (entries_of sorted) (IsPermutation-sym (entries_of items) entries shows.same) one in
     same_ascending name_of nat_list_cmp_total entries (entries_of sorted) there shows.ascending ascending
 
--- where the names ascend, so do the entries
+-- if the names ascend, so do the entries
 pub by_name_of : (items : List Entry) → Ascends (λ entry. entry.name) string_cmp items → AreByName items
 unfolding IsStrictlySortedBy
 by_name_of [] s = tt
@@ -46,7 +46,7 @@ above one other not_less differ = by (string_cmp one other) refl
     by Equal e = absurd (let tie = texts_ties (string_bytes one) (string_bytes other) in let same = ap is_eq e in cc)
     by Greater e = absurd (let turned = string_cmp_total.antisymm other one ∙ ap ordering_reverse e in let less = ap is_lt turned in cc)
 
--- what a sort by names leaves, where the names differ
+-- what a sort by names leaves, if the names differ
 pub by_name_sorted : (lent : List (Bor Entry)) → IsSortedBy (λ one other. is_lt (string_cmp one.now.name other.now.name)) lent → NoTwoAkin (λ entry. entry.name) string_eq (all_lent lent) → AreByName (all_lent lent)
 unfolding IsStrictlySortedBy
 by_name_sorted lent sorted differ = by_name_of (all_lent lent) (names lent sorted differ)

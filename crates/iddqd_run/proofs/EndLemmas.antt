@@ -1,4 +1,4 @@
--- What the words of a table's ends, and of its list, answer.
+-- The replies to the words of a table's ends, and of its list.
 --     unsupported_end, plain_end      `first` and `last`
 --     unsupported_pop, plain_pop      `popfirst` and `poplast`
 --     lists_items      `list`
@@ -51,7 +51,7 @@ module _ (kind : Kind) where
   without_ends : {A : Type 0} (endless ended : A) → kind ≡ Hash → by_ends kind endless ended ≡ endless
   without_ends endless ended e = ap (λ k. by_ends k endless ended) e
 
-  -- a reply that is no refusal for want of memory
+  -- a reply that is no refusal of memory
   pub plainly : (request : Request) (old new : List Entry) (reply : LineReply) → refusals_of reply ≡ 0 → ((entries : List answer.Entry) → ShowsEntries old entries → AnswersPlainly kind request entries (reply_text reply) new) → AnswersRequest kind request old reply new
   plainly request old new RefusedMemory none answers = absurd (omega (arith, none))
   plainly request old new reply none answers = answers

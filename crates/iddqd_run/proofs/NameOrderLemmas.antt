@@ -1,6 +1,7 @@
--- The items of a map in whatever order, and the same in the order of their keys: what is found, put in, taken out and replaced is the same.
+-- The items of a map in any order, and the same in the order of their keys: what is found, inserted, removed and replaced is the
+-- same.
 --     found_in_order      what is found
---     placed_in_order      an item put in somewhere, and at its place
+--     placed_in_order      an item inserted somewhere, and at its place
 --     without_in_order, replaced_in_order      the items without one, and with another in its stead
 use Rattle.std.proofs.Common.{◌≡◌, ℕ, zero, suc, Bool, true, false, cond, not, List, [], ◌∷◌, map, Some, IsPermutation, refl, sym, ap, ◌∙◌, subst, Ordering, Less, Equal, Greater}
 use Rattle.std.proofs.lemmas.List.Sorted.{IsPermutation-cons, IsPermutation-insert, IsPermutation-map, IsPermutation-sym, IsPermutation-trans}
@@ -28,7 +29,7 @@ module _ {T K : Type 0} (key : T → K) {eq : K → K → Bool} {cmp : K → K �
       find_moved key equivalence test tests ordered items (IsPermutation-sym items ordered are.same) (differ_from_ascends key cmp ties ordered are.ascending)
 
   module _ (x : T) where
-    -- among items that ascend, and of which none is akin to x, there is a place for x
+    -- among items that ascend, none of which has the key of x, there is a place for x
     place_for : (ordered : List T) → IsAbsent key (eq (key x)) ordered → Ascends key cmp ordered → (i : ℕ) × Ascends key cmp (insert ordered i x)
     unfolding IsStrictlySortedBy
     place_for [] absent s = (zero, (tt, tt))

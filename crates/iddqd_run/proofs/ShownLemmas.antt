@@ -1,4 +1,4 @@
--- What the map answers is what the entries answer that its items are seen as, in the order of their names.
+-- The replies of a map are those of the entries that its items are seen as, in the order of their names.
 use Rattle.std.proofs.Common.{rules, ◌≡◌, ℕ, ◌+◌, ◌<◌, ◌≤◌, [], Bor, Bool, true, false, cond, eqb, List, length, Option, Some, None, IsPermutation, sym, refl, ap, ◌∙◌, subst, ◌++◌, eq-eqb, arith, ap₂}
 use Rattle.std.specs.Prelude.{filter, nat_lt, ◌-◌, string_bytes, bytes_eq, codes, decimal}
 use Rattle.std.specs.Cmp.Lexicographic.{bytes_decides, nat_list_cmp_total, nat_list_eq_equiv, texts_ties}
@@ -71,7 +71,7 @@ module _ (kind : Kind) where
   pub refused_answered : (request : Request) (items new : List Entry) → ((entries : List answer.Entry) → RefusedLeaves kind request entries entries) → new ≡ items → AnswersRequest kind request items RefusedMemory new
   refused_answered request items new leaves stays = λ entries shows. record { left = entries; by_request = leaves entries; after = subst (λ is. ShowsEntries is entries) (sym stays) shows }
 
-  -- what a line answers whose new entry finds no room, and leaves what was there
+  -- the reply to a line whose new entry finds no room, and which leaves what was there
   pub no_room_answered : (request : Request) (items new : List Entry) (reply : LineReply) → ((entries : List answer.Entry) → RefusedLeaves kind request entries entries) → (length items ≡ max_items → AnswersRequest kind request items RefusedCapacity new) → new ≡ items → reply ≡ no_room_reply items → AnswersRequest kind request items reply new
   no_room_answered request items new reply leaves full stays is = subst (λ r. AnswersRequest kind request items r new) (sym is) (by (eqb (length items) max_items) refl)
     where
@@ -79,7 +79,7 @@ module _ (kind : Kind) where
       by true e = full (eqb-true (length items) max_items e)
       by false e = refused_answered request items new leaves stays
 
-  -- what `reserve` answers where there is room, and where there is none
+  -- the reply to `reserve` if there is room, and if there is none
   pub reserved_answered : (items new : List Entry) (n : ℕ) → length items + n ≤ max_items → new ≡ items → AnswersRequest kind (Reserve n) items Done new
   reserved_answered items new n fits stays = λ entries shows.
       let within : length entries + n ≤ max_items = omega (arith, fits, length_shown items entries shows) in
@@ -114,7 +114,7 @@ module _ (kind : Kind) where
     pub not_shrunk_answered : AnswersRequest kind Shrink items RefusedMemory new
     not_shrunk_answered = λ entries shows. record { left = entries; by_request = refl; after = moved_shown entries shows }
 
-  -- what `len` answers
+  -- the reply to `len`
   pub len_answered : (items : List Entry) (n : ℕ) → n ≡ length items → AnswersRequest kind Len items (Length n) items
   len_answered items n e = λ entries shows. record { text = ap decimal (e ∙ sym (length_shown items entries shows)); after = shows }
 
@@ -122,14 +122,14 @@ module _ (kind : Kind) where
     abbrev named : Option Entry
     named = find_item by_name (λ k. bytes_eq name (string_bytes k)) items
 
-    -- what `get` answers
+    -- the reply to `get`
     pub get_found : (y : Entry) → Some y ≡ named → AnswersRequest kind (Get name) items (Found y.value) items
     get_found y e = λ entries shows. record { text = rw (there_shown name items entries shows y (sym e)) refl; after = shows }
 
     pub get_absent : None ≡ named → AnswersRequest kind (Get name) items Absent items
     get_absent e = λ entries shows. record { text = rw (absent_shown name items entries shows (sym e)) refl; after = shows }
 
-    -- what `del` answers
+    -- the reply to `del`
     module _ (new : List Entry) (taken : new ≡ items_without by_name (λ k. bytes_eq name (string_bytes k)) items) where
       pub delete_found : (y : Entry) → Some y ≡ named → AnswersRequest kind (Del name) items (Removed y.value) new
       delete_found y e = λ entries shows. record { text = rw (there_shown name items entries shows y (sym e)) refl; after = without_shown name items entries shows new taken }
@@ -137,7 +137,7 @@ module _ (kind : Kind) where
       pub delete_absent : None ≡ named → AnswersRequest kind (Del name) items Absent new
       delete_absent e = λ entries shows. record { text = rw (absent_shown name items entries shows (sym e)) refl; after = without_shown name items entries shows new taken }
 
-  -- what `keep` answers
+  -- the reply to `keep`
   module _ (value : ℕ) (items new : List Entry) (kept : new ≡ filter (λ entry. nat_lt value entry.value) items) (entries : List answer.Entry) (shows : ShowsEntries items entries) where
     kept_shown : ShowsEntries new (greater value entries)
     kept_shown =
@@ -157,7 +157,7 @@ module _ (kind : Kind) where
         }
 
 module _ (kind : Kind) (name : List ℕ) (value : ℕ) where
-  -- a request that makes an entry of the name: what it answers to an entry that is there, to a full map, and else
+  -- a request that makes an entry of the name: its reply if one exists, if the map is full, and else
   abbrev pub MakesEntry : Request → List ℕ → Type 0
   MakesEntry request made = (entries : List answer.Entry)
       → ((on_old : answer.Entry → List ℕ) × (line_reply kind request entries ≡ option_map_or on_old (entry_named name entries) (cond (is_full entries) (codes "refused capacity") made)))
@@ -174,7 +174,7 @@ module _ (kind : Kind) (x : Entry) (items : List Entry) (name : List ℕ) (same 
   abbrev akin : Option Entry
   akin = find_item by_name (λ k. bytes_eq (string_bytes x.name) (string_bytes k)) items
 
-  -- where none of the name is there, `add` and `put` ask whether there is room
+  -- if none of the name exists, `add` and `put` ask whether there is room
   module _ (absent : akin ≡ None) (entries : List answer.Entry) (shows : ShowsEntries items entries) where
     none_named : entry_named name entries ≡ None
     none_named = subst (λ n. entry_named n entries ≡ None) same (absent_shown (string_bytes x.name) items entries shows absent)
@@ -235,7 +235,7 @@ module _ (kind : Kind) (x : Entry) (items : List Entry) (name : List ℕ) (same 
     }
 
 module _ (kind : Kind) (name : List ℕ) (value : ℕ) (items new : List Entry) where
-  -- what `set` answers
+  -- the reply to `set`
   pub set_absent : find_item by_name (λ k. bytes_eq name (string_bytes k)) items ≡ None → new ≡ items → AnswersRequest kind (Set name value) items Absent new
   set_absent absent stays = λ entries shows. record {
     text = rw (absent_shown name items entries shows absent) refl;

@@ -1,7 +1,8 @@
--- What is written for a text: a line for each of its lines, answered from the entries so far (ours).
+-- What is written for a text: a reply to each of its lines, from the entries so far.
 --     line_reply, entries_after      the reply to a request, and the entries then
---     answer_text kind input      the answer to a whole text, over a map of the kind, which decides only whether there are ends: a hash map has none
---     AnswersWithRefusals kind input refusals text      the same, with so many lines refused for want of memory
+--     answer_text kind input      the replies to a whole text, over a map of the kind, which decides only whether there are ends:
+-- a hash map has none
+--     AnswersWithRefusals kind input refusals text      the same, with this many lines refused memory
 use Rattle.std.specs.Prelude.{◌≡◌, ℕ, Bool, List, [], ◌∷◌, ◌++◌, length, Option, Some, None, ◌+◌, ◌-◌, ◌<◌, ◌≤◌, drop, take, flat_map, slice_get, decimal, codes, bytes_eq, ◌==◌, if◌then◌else◌, ◌⊎◌, suc, filter, nat_lt}
 use Rattle.std.specs.declared.cmp.Ordering.{Ordering}
 use Rattle.std.specs.Ordering.{nat_cmp}
@@ -39,12 +40,12 @@ abbrev pub all_placed : List Entry → List Entry → List Entry
 all_placed [] entries = entries
 all_placed (pair ∷ pairs) entries = all_placed pairs (items_with name_of name_cmp pair entries)
 
--- how many of the pairs are put in, one after the other, up to one whose name is there by then, or a full map
+-- how many of the pairs are inserted, one after another, up to one whose name exists by then, or a full map
 abbrev pub how_many_fit : List Entry → List Entry → ℕ
 how_many_fit [] entries = 0
 how_many_fit (pair ∷ pairs) entries = option_map_or (λ _. 0) (entry_named (name_of pair) entries) (if is_full entries then 0 else suc (how_many_fit pairs (items_with name_of name_cmp pair entries)))
 
--- a map never has room for as many of the pairs as are likely new: for all in a map without entries, and for half of them, rounded up, in another
+-- a map never has room to begin with: for all of the pairs in a map without entries, and for half of them, rounded up, in another
 abbrev pub lacks_room : List Entry → List Entry → Bool
 lacks_room pairs entries = nat_lt max_items (length entries + room_to_reserve (length entries) (length pairs))
 
@@ -52,7 +53,8 @@ lacks_room pairs entries = nat_lt max_items (length entries + room_to_reserve (l
 abbrev pub how_many_added : List Entry → List Entry → ℕ
 how_many_added pairs entries = if lacks_room pairs entries then 0 else how_many_fit pairs entries
 
--- what is told once so many pairs are in: that these were all, or that the next one's name is there, or else that the map is full
+-- what is reported once this many pairs are in: that these were all, or that the next one's name exists, or else that the map is
+-- full
 abbrev pub added_text : ℕ → List Entry → List Entry → List ℕ
 added_text count [] entries = codes "added " ++ decimal count
 added_text count (pair ∷ pairs) entries = option_map_or (λ old. codes "duplicate " ++ name_of pair ++ codes " " ++ decimal old.1 ++ codes " after " ++ decimal count) (entry_named (name_of pair) entries) (codes "refused capacity")
@@ -123,8 +125,9 @@ module _ (kind : Kind) where
   abbrev pub answer_text : List ℕ → List ℕ
   answer_text input = replies (lines_of input) []
 
-  -- what a line leaves that is refused memory, where it takes any: what was there, of a line that makes one item, of one that sorts, and of one that makes room
-  -- or gives it back; a reservation past the limit is never refused memory; some of the first pairs, of one that adds many
+  -- What a line leaves that is refused memory, if it needs any. A line that makes one item, sorts, makes room or gives it back
+  -- leaves what was there; a reservation past the limit is never refused memory. A line that adds many leaves some of the first
+  -- pairs.
   abbrev pub RefusedLeaves : Request → (old new : List Entry) → Type 0
   RefusedLeaves (Add name value) old new = new ≡ old
   RefusedLeaves (Put name value) old new = new ≡ old
@@ -134,14 +137,14 @@ module _ (kind : Kind) where
   RefusedLeaves ListAll old new = (kind ≡ Hash) × (new ≡ old)
   RefusedLeaves _ old new = ⊥
 
-  -- the same replies, but for so many lines that are refused; the later lines are answered from what such a line leaves
+  -- the same replies, but for this many lines that are refused; the replies to later lines are from what such a line leaves
   abbrev pub RepliesWithRefusals : List (List ℕ) → List Entry → ℕ → List ℕ → Type 0
   RepliesWithRefusals [] entries refusals text = (refusals ≡ 0) × (text ≡ [])
   RepliesWithRefusals (line ∷ lines) entries refusals text = let request = request_of line in
       ((rest : List ℕ) × (text ≡ line_reply request entries ++ 10 ∷ rest) × RepliesWithRefusals lines (entries_after request entries) refusals rest)
       ⊎ ((left : List Entry) × RefusedLeaves request entries left × (fewer : ℕ) × (rest : List ℕ) × (refusals ≡ suc fewer) × (text ≡ codes "refused memory" ++ 10 ∷ rest) × RepliesWithRefusals lines left fewer rest)
 
-  -- without a refusal it is the answer text itself
+  -- without a refusal it is *answer_text* itself
   pub record AnswersWithRefusals (input : List ℕ) (refusals : ℕ) (text : List ℕ) : Type 0 where
     pub replied : RepliesWithRefusals (lines_of input) [] refusals text
     pub whole : refusals ≡ 0 → text ≡ answer_text input

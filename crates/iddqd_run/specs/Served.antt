@@ -5,7 +5,7 @@ use Rattle.std.specs.Io.KnownBytes.{Appends, Consumes, IsAtEnd}
 use Rattle.iddqd_run.specs.Answer.{AnswersWithRefusals}
 use Rattle.idtable_lines.specs.declared.arguments.Kind.{Kind}
 
--- all bytes that a reader had left were read, and the text answers them
+-- all bytes that a reader had left were read, and the text has the replies to them
 pub record AnswersAll (kind : Kind) (old new : Option (List ℕ)) (refusals : ℕ) (text : List ℕ) : Type 0 where
   pub input : List ℕ
   pub answers : AnswersWithRefusals kind input refusals text

@@ -49,11 +49,11 @@ reply_text RefusedMemory = codes "refused memory"
 abbrev pub no_room_reply : {T : Type 0} → List T → LineReply
 no_room_reply items = if length items == max_items then RefusedCapacity else RefusedMemory
 
--- the reply to a line that finds no room for so many entries in all
+-- the reply to a line that finds no room for this many entries in all
 abbrev pub no_space_reply : ℕ → LineReply
 no_space_reply wanted = if nat_lt max_items wanted then RefusedCapacity else RefusedMemory
 
--- how many refusals for want of memory a reply is
+-- how many refusals of memory a reply is
 abbrev pub refusals_of : LineReply → ℕ
 refusals_of RefusedMemory = 1
 refusals_of reply = 0
@@ -86,12 +86,12 @@ pub record IsTable {M : Type 0} (key : Entry → String Global) (is_text : List 
   pub limit : limit_of map ≡ max_items
 
 module _ (kind : Kind) (request : Request) where
-  -- the reply's text and the entries then, where memory was there
+  -- the reply's text and the entries then, if no memory was refused
   pub record AnswersPlainly (entries : List answer.Entry) (reply : List ℕ) (new : List Entry) : Type 0 where
     pub text : reply ≡ answer.line_reply kind request entries
     pub after : ShowsEntries new (answer.entries_after kind request entries)
 
-  -- what is left where memory was refused
+  -- what is left if memory was refused
   pub record LeavesRefused (entries : List answer.Entry) (new : List Entry) : Type 0 where
     pub left : List answer.Entry
     pub by_request : answer.RefusedLeaves kind request entries left
@@ -105,12 +105,12 @@ module _ (kind : Kind) (request : Request) where
   abbrev pub AnswersRequest : List Entry → LineReply → List Entry → Type 0
   AnswersRequest old reply new = (entries : List answer.Entry) → ShowsEntries old entries → AnswersFrom entries reply new
 
-  -- the same, of a reply's text and of how many refusals for want of memory it tells
+  -- the same, of a reply's text and of how many refusals of memory it reports
   abbrev pub AnswersInText : List Entry → ℕ → List ℕ → List Entry → Type 0
   AnswersInText old refusals text new = (entries : List answer.Entry) → ShowsEntries old entries
       → ((refusals ≡ 0) × AnswersPlainly entries text new) ⊎ ((refusals ≡ 1) × (text ≡ reply_text RefusedMemory) × LeavesRefused entries new)
 
-  -- the line that answers the request was written to the end of a text
+  -- the reply to the request was written to the end of a text, as a line
   pub record WritesReply (old : List Entry) (refusals : ℕ) (new : List Entry) (before after : List ℕ) : Type 0 where
     pub reply : List ℕ
     pub written : after ≡ before ++ (reply ++ 10 ∷ [])

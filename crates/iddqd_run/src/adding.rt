@@ -7,13 +7,13 @@ ghost use Rattle.iddqd_run.specs.declared.entries.LineReply.TheVariants.{Refused
 
 use crate::entries::{Entry, LineReply, write_reply};
 use crate::requests::{no_room, value_of};
-use crate::table::Table;
+use crate::table::ByName;
 use iddqd::errors::ExtendUniqueError;
 use idtable_lines::{Pair, first_pair};
 use std::alloc::{AllocError, Global};
 
 /// `addall`: makes all entries, and then puts them in one after the other.
-pub(crate) fn add_all<M: Table<Item = Entry, Key = String>>(
+pub(crate) fn add_all<M: ByName<Item = Entry, Key = String>>(
     alloc: Global,
     map: &mut M,
     fields: &[u8],
@@ -31,7 +31,7 @@ pub(crate) fn add_all<M: Table<Item = Entry, Key = String>>(
 }
 
 // Puts the entries in, one after the other, up to one whose name is there by then, or a full map.
-fn add_entries<M: Table<Item = Entry, Key = String>>(
+fn add_entries<M: ByName<Item = Entry, Key = String>>(
     map: &mut M,
     entries: Vec<Entry>,
     text: &mut String,
@@ -72,7 +72,7 @@ fn entries_in(alloc: Global, fields: &[u8]) -> Result<Option<Vec<Entry>>, AllocE
     Ok(Some(entries))
 }
 
-// The reply where an entry could not be made, which is so of fields that follow the form alone.
+// The reply if an entry could not be made: fields that follow no form are bad all the same.
 fn not_made<'a>(fields: &[u8]) -> LineReply<'a>
     ensures { result ≡ (if is_some (pairs_of (words_of fields.now)) then RefusedMemory else Bad) }
 {

@@ -1,18 +1,18 @@
-//! The answer to a text, line by line, over a map of either kind.
+//! The replies to a text, line by line, over a map of either kind.
 ghost use Rattle.std.specs.Prelude.{◌≡◌, [], IfOk, string_bytes};
 ghost use Rattle.iddqd_run.specs.Answer.{AnswersWithRefusals};
 ghost use Rattle.idtable_lines.specs.Asked.{asked, request_asked};
 ghost use Rattle.iddqd_run.specs.Shown.{AnswersRequest, IsTable, WritesReply};
 
 use crate::entries::{Entry, LineReply, write_reply};
-use crate::table::Table;
+use crate::table::ByName;
 use crate::{adding, ends, requests};
 use iddqd::Steps;
-use idtable_lines::{End, Line, NamedValue, Request, first_line, parse};
+use idtable_lines::{Line, Request, first_line, parse};
 use std::alloc::{AllocError, Global};
 
-/// The answer to a text from a map without entries, and how many of its lines were refused for want of memory.
-pub(crate) fn answer<M: Table<Item = Entry, Key = String> + Drop>(
+/// Returns the replies to a text, from a map without entries, and how many of its lines were refused memory.
+pub(crate) fn answer<M: ByName<Item = Entry, Key = String> + Drop>(
     alloc: Global,
     mut map: M,
     input: &[u8],
@@ -32,9 +32,9 @@ pub(crate) fn answer<M: Table<Item = Entry, Key = String> + Drop>(
     Ok((text, refusals))
 }
 
-// Writes the reply to one line, and answers how many refusals for want of memory it tells. Beside the text only the making of
-// entries takes memory, the list of a map that keeps no order, and what makes room or gives it back.
-fn answer_line<M: Table<Item = Entry, Key = String>>(
+// Writes the reply to one line, and returns how many refusals of memory it reports. Beside the text, memory is for
+// new entries, for the list of a map that keeps no order, and for room.
+fn answer_line<M: ByName<Item = Entry, Key = String>>(
     alloc: Global,
     map: &mut M,
     line: Line<'_>,
@@ -48,16 +48,13 @@ fn answer_line<M: Table<Item = Entry, Key = String>>(
         Line::Request(request) => write_reply(text, reply_to(alloc, map, request)),
         Line::AddAll { fields } => adding::add_all(alloc, map, fields, text),
         Line::List => ends::list(alloc, map, text),
-        Line::End(End::First) => write_reply(text, ends::first(map)),
-        Line::End(End::Last) => write_reply(text, ends::last(map)),
-        Line::End(End::PopFirst) => ends::pop_first(map, text),
-        Line::End(End::PopLast) => ends::pop_last(map, text),
+        Line::End(end) => ends::at_end(map, end, text),
         Line::Bad => write_reply(text, LineReply::Bad),
     }
 }
 
 // Returns the reply to a request.
-fn reply_to<'a, M: Table<Item = Entry, Key = String>>(
+fn reply_to<'a, M: ByName<Item = Entry, Key = String>>(
     alloc: Global,
     map: &mut M,
     request: Request<'a>,
@@ -67,12 +64,12 @@ fn reply_to<'a, M: Table<Item = Entry, Key = String>>(
     ensures table { IsTable M.key M.is_text M.entries M.state M.keyed M.limit map.new }
 {
     match request {
-        Request::Add(NamedValue { name, value }) => requests::add(alloc, map, name, value),
-        Request::Put(NamedValue { name, value }) => requests::put(alloc, map, name, value),
+        Request::Add(pair) => requests::add(alloc, map, pair.name, pair.value),
+        Request::Put(pair) => requests::put(alloc, map, pair.name, pair.value),
         Request::Get(name) => requests::get(map, name),
         Request::Del(name) => requests::delete(map, name),
         Request::Cost(name) => requests::cost(map, name, &mut Steps::new()),
-        Request::Set(NamedValue { name, value }) => requests::set(map, name, value),
+        Request::Set(pair) => requests::set(map, pair.name, pair.value),
         Request::Keep(value) => requests::keep(map, value),
         Request::Reserve(value) => requests::reserve(map, value),
         Request::Shrink => requests::shrink(map),

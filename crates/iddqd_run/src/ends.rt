@@ -1,15 +1,17 @@
 //! What a line asks of the whole table or of its ends, and its reply.
 ghost use Rattle.std.specs.Prelude.{◌≡◌, IfOk, option_copied, option_map, string_bytes};
 ghost use Rattle.iddqd_run.specs.Answer.{end_text};
+ghost use Rattle.idtable_lines.specs.Asked.{end_asked};
 ghost use Rattle.idtable_lines.specs.Lines.{ListAll, First, Last, PopFirst, PopLast};
 ghost use Rattle.iddqd_run.specs.Shown.{AnswersRequest, IsTable, WritesReply, entry_of, refusals_of, reply_text};
 
 use crate::entries::{Entry, LineReply, write_reply};
-use crate::table::{ListStop, NoEnds, Table};
+use crate::table::{ByName, ListStop, NoEnds};
+use idtable_lines::End;
 use std::alloc::{AllocError, Global};
 
-/// `list`: every entry, by ascending name. A map that keeps no order takes memory to sort them.
-pub(crate) fn list<M: Table<Item = Entry, Key = String>>(
+/// `list`: every entry, by ascending name. A map that keeps no order allocates to sort them.
+pub(crate) fn list<M: ByName<Item = Entry, Key = String>>(
     alloc: Global,
     map: &M,
     text: &mut String,
@@ -27,8 +29,26 @@ pub(crate) fn list<M: Table<Item = Entry, Key = String>>(
     }
 }
 
-/// `first`: the entry of the least name.
-pub(crate) fn first<M: Table<Item = Entry, Key = String>>(map: &M) -> LineReply<'_>
+/// Writes the reply to a request for the entry at an end.
+pub(crate) fn at_end<M: ByName<Item = Entry, Key = String>>(
+    map: &mut M,
+    end: End,
+    text: &mut String,
+) -> Result<u64, AllocError>
+    requires table { IsTable M.key M.is_text M.entries M.state M.keyed M.limit map.old }
+    ensures answered { IfOk result (λ refusals. WritesReply M.kind (end_asked end) (M.state map.old).items refusals (M.state map.new).items (string_bytes text.old) (string_bytes text.new)) }
+    ensures table { IsTable M.key M.is_text M.entries M.state M.keyed M.limit map.new }
+{
+    match end {
+        End::First => write_reply(text, first(map)),
+        End::Last => write_reply(text, last(map)),
+        End::PopFirst => pop_first(map, text),
+        End::PopLast => pop_last(map, text),
+    }
+}
+
+// `first`: the entry of the least name.
+fn first<M: ByName<Item = Entry, Key = String>>(map: &M) -> LineReply<'_>
     requires table { IsTable M.key M.is_text M.entries M.state M.keyed M.limit map.now }
     ensures { AnswersRequest M.kind First (M.state map.now).items result (M.state map.now).items }
 {
@@ -38,8 +58,8 @@ pub(crate) fn first<M: Table<Item = Entry, Key = String>>(map: &M) -> LineReply<
     }
 }
 
-/// `last`: the entry of the greatest name.
-pub(crate) fn last<M: Table<Item = Entry, Key = String>>(map: &M) -> LineReply<'_>
+// `last`: the entry of the greatest name.
+fn last<M: ByName<Item = Entry, Key = String>>(map: &M) -> LineReply<'_>
     requires table { IsTable M.key M.is_text M.entries M.state M.keyed M.limit map.now }
     ensures { AnswersRequest M.kind Last (M.state map.now).items result (M.state map.now).items }
 {
@@ -49,8 +69,8 @@ pub(crate) fn last<M: Table<Item = Entry, Key = String>>(map: &M) -> LineReply<'
     }
 }
 
-/// `popfirst`: takes out the entry of the least name.
-pub(crate) fn pop_first<M: Table<Item = Entry, Key = String>>(
+// `popfirst`: removes the entry of the least name.
+fn pop_first<M: ByName<Item = Entry, Key = String>>(
     map: &mut M,
     text: &mut String,
 ) -> Result<u64, AllocError>
@@ -64,8 +84,8 @@ pub(crate) fn pop_first<M: Table<Item = Entry, Key = String>>(
     }
 }
 
-/// `poplast`: takes out the entry of the greatest name.
-pub(crate) fn pop_last<M: Table<Item = Entry, Key = String>>(
+// `poplast`: removes the entry of the greatest name.
+fn pop_last<M: ByName<Item = Entry, Key = String>>(
     map: &mut M,
     text: &mut String,
 ) -> Result<u64, AllocError>

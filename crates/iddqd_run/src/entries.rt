@@ -1,4 +1,4 @@
-//! What the lines of a text put into a map, and what they are answered.
+//! The entries that lines put into a map, and the replies to lines.
 ghost use Rattle.std.specs.Prelude.{◌≡◌, ◌++◌, ◌∷◌, [], IfOk, OnOk, Some, true, nat_lt, codes, decimal, string_bytes};
 ghost use Rattle.iddqd_run.specs.Answer.{list_text};
 ghost use Rattle.iddqd_run.specs.Shown.{entry_of, refusals_of, reply_text};
@@ -103,7 +103,7 @@ pub(crate) enum LineReply<'a> {
 }
 
 impl LineReply<'_> {
-    /// 1 where memory was refused, and else 0.
+    /// 1 if memory was refused, and else 0.
     pub(crate) fn refusals(&self) -> u64
         ensures { result ≡ refusals_of self.now }
     {
@@ -144,7 +144,7 @@ impl Display for LineReply<'_> {
     }
 }
 
-/// Writes the reply as a line of its own, and answers how many refusals for want of memory it tells.
+/// Writes the reply as a line of its own, and returns how many refusals of memory it reports.
 pub(crate) fn write_reply(text: &mut String, reply: LineReply<'_>) -> Result<u64, AllocError>
     ensures refusals { IfOk result (λ refusals. refusals ≡ refusals_of reply.entry) }
     ensures line { OnOk result (string_bytes text.new ≡ string_bytes text.old ++ (reply_text reply.entry ++ 10 ∷ [])) }
@@ -153,7 +153,7 @@ pub(crate) fn write_reply(text: &mut String, reply: LineReply<'_>) -> Result<u64
     Ok(reply.refusals())
 }
 
-/// Begins a list of so many entries.
+/// Begins a list of this many entries.
 pub(crate) fn begin_list(text: &mut String, count: usize) -> Result<(), AllocError>
     ensures { OnOk result (string_bytes text.new ≡ string_bytes text.old ++ (codes "list " ++ decimal count)) }
 {

@@ -8,13 +8,16 @@ ghost use Rattle.iddqd_run.specs.declared.entries.Entry.{Entry};
 ghost use Rattle.iddqd_run.specs.declared.entries.LineReply.TheVariants.{RefusedMemory};
 
 use crate::entries::{Above, Entry, LineReply, ValueExchange};
-use crate::table::Table;
+use crate::table::ByName;
 use iddqd::errors::{Few, InsertError, TryReserveError};
 use iddqd::{MAX_ITEMS, Steps};
 use std::alloc::Global;
 
-/// `get`: looks the name up. It takes no memory.
-pub(crate) fn get<'a, M: Table<Item = Entry, Key = String>>(map: &M, name: &'a str) -> LineReply<'a>
+/// `get`: looks the name up. Does not allocate.
+pub(crate) fn get<'a, M: ByName<Item = Entry, Key = String>>(
+    map: &M,
+    name: &'a str,
+) -> LineReply<'a>
     requires table { IsTable M.key M.is_text M.entries M.state M.keyed M.limit map.now }
     ensures { AnswersRequest M.kind (Get name.now) (M.state map.now).items result (M.state map.now).items }
 {
@@ -24,8 +27,8 @@ pub(crate) fn get<'a, M: Table<Item = Entry, Key = String>>(map: &M, name: &'a s
     }
 }
 
-/// `del`: takes out the entry of the name. It takes no memory.
-pub(crate) fn delete<'a, M: Table<Item = Entry, Key = String>>(
+/// `del`: removes the entry of the name. Does not allocate.
+pub(crate) fn delete<'a, M: ByName<Item = Entry, Key = String>>(
     map: &mut M,
     name: &'a str,
 ) -> LineReply<'a>
@@ -39,9 +42,9 @@ pub(crate) fn delete<'a, M: Table<Item = Entry, Key = String>>(
     }
 }
 
-/// `cost`: looks the name up, and counts the comparisons, which are within the bound of the map's lookups. It takes no
-/// memory.
-pub(crate) fn cost<'a, M: Table<Item = Entry, Key = String>>(
+/// `cost`: looks the name up, and counts the comparisons, which are within the bound of the map's lookups. Does not
+/// allocate.
+pub(crate) fn cost<'a, M: ByName<Item = Entry, Key = String>>(
     map: &M,
     name: &'a str,
     steps: &mut Steps,
@@ -54,8 +57,8 @@ pub(crate) fn cost<'a, M: Table<Item = Entry, Key = String>>(
     LineReply::Within
 }
 
-/// `set`: writes the value of the entry of the name, through a guard. It takes no memory.
-pub(crate) fn set<'a, M: Table<Item = Entry, Key = String>>(
+/// `set`: writes the value of the entry of the name, through a guard. Does not allocate.
+pub(crate) fn set<'a, M: ByName<Item = Entry, Key = String>>(
     map: &mut M,
     name: &'a str,
     value: u64,
@@ -71,8 +74,8 @@ pub(crate) fn set<'a, M: Table<Item = Entry, Key = String>>(
     }
 }
 
-/// `keep`: keeps the entries of greater value. It takes no memory.
-pub(crate) fn keep<'a, M: Table<Item = Entry, Key = String>>(
+/// `keep`: keeps the entries of greater value. Does not allocate.
+pub(crate) fn keep<'a, M: ByName<Item = Entry, Key = String>>(
     map: &mut M,
     value: u64,
 ) -> LineReply<'a>
@@ -90,14 +93,14 @@ pub(crate) fn keep<'a, M: Table<Item = Entry, Key = String>>(
 }
 
 /// `len`: how many entries there are.
-pub(crate) fn len<'a, M: Table<Item = Entry, Key = String>>(map: &M) -> LineReply<'a>
+pub(crate) fn len<'a, M: ByName<Item = Entry, Key = String>>(map: &M) -> LineReply<'a>
     ensures { AnswersRequest M.kind Len (M.state map.now).items result (M.state map.now).items }
 {
     LineReply::Length(map.len())
 }
 
 /// `add`: makes the entry, and then looks for its name.
-pub(crate) fn add<'a, M: Table<Item = Entry, Key = String>>(
+pub(crate) fn add<'a, M: ByName<Item = Entry, Key = String>>(
     alloc: Global,
     map: &mut M,
     name: &'a str,
@@ -113,8 +116,8 @@ pub(crate) fn add<'a, M: Table<Item = Entry, Key = String>>(
     }
 }
 
-// Puts the entry of this name in, where there is none and the map is not full.
-fn add_entry<'a, M: Table<Item = Entry, Key = String>>(
+// Inserts the entry of this name, if there is none and the map is not full.
+fn add_entry<'a, M: ByName<Item = Entry, Key = String>>(
     map: &mut M,
     name: &'a str,
     entry: Entry,
@@ -136,7 +139,7 @@ fn add_entry<'a, M: Table<Item = Entry, Key = String>>(
 }
 
 /// `put`: makes the entry, and then puts it in the place of the one of its name, if there is one.
-pub(crate) fn put<'a, M: Table<Item = Entry, Key = String>>(
+pub(crate) fn put<'a, M: ByName<Item = Entry, Key = String>>(
     alloc: Global,
     map: &mut M,
     name: &'a str,
@@ -152,8 +155,8 @@ pub(crate) fn put<'a, M: Table<Item = Entry, Key = String>>(
     }
 }
 
-// Puts the entry in the place of the one of its name, or in where there is none and the map is not full.
-fn put_entry<'a, M: Table<Item = Entry, Key = String>>(map: &mut M, entry: Entry) -> LineReply<'a>
+// Replaces the entry of its name, or inserts it if there is none and the map is not full.
+fn put_entry<'a, M: ByName<Item = Entry, Key = String>>(map: &mut M, entry: Entry) -> LineReply<'a>
     requires table { IsTable M.key M.is_text M.entries M.state M.keyed M.limit map.old }
     ensures answered { AnswersRequest M.kind (Put (string_bytes entry.name) entry.value) (M.state map.old).items result (M.state map.new).items }
     ensures not_full { result ≡ RefusedMemory → length (M.state map.old).items ≢ MAX_ITEMS }
@@ -166,8 +169,8 @@ fn put_entry<'a, M: Table<Item = Entry, Key = String>>(map: &mut M, entry: Entry
     }
 }
 
-/// `reserve`: makes room for so many more entries.
-pub(crate) fn reserve<'a, M: Table<Item = Entry, Key = String>>(
+/// `reserve`: makes room for this many more entries.
+pub(crate) fn reserve<'a, M: ByName<Item = Entry, Key = String>>(
     map: &mut M,
     additional: u64,
 ) -> LineReply<'a>
@@ -182,7 +185,7 @@ pub(crate) fn reserve<'a, M: Table<Item = Entry, Key = String>>(
 }
 
 /// `shrink`: gives back what memory the entries do not need.
-pub(crate) fn shrink<'a, M: Table<Item = Entry, Key = String>>(map: &mut M) -> LineReply<'a>
+pub(crate) fn shrink<'a, M: ByName<Item = Entry, Key = String>>(map: &mut M) -> LineReply<'a>
     requires table { IsTable M.key M.is_text M.entries M.state M.keyed M.limit map.old }
     ensures answered { AnswersRequest M.kind Shrink (M.state map.old).items result (M.state map.new).items }
     ensures table { IsTable M.key M.is_text M.entries M.state M.keyed M.limit map.new }
@@ -193,7 +196,7 @@ pub(crate) fn shrink<'a, M: Table<Item = Entry, Key = String>>(map: &mut M) -> L
     }
 }
 
-/// The reply where there was no room: for a new entry, or for so many in all.
+/// The reply if there was no room: for a new entry, or for this many in all.
 pub(crate) fn no_room<'a>(error: TryReserveError) -> LineReply<'a>
     ensures entry { (items : List Entry) → error ≡ refusal_kind MAX_ITEMS items → result ≡ no_room_reply items }
     ensures space { (wanted : ℕ) → error ≡ reservation_kind MAX_ITEMS wanted → result ≡ no_space_reply wanted }

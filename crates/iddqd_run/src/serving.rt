@@ -10,7 +10,7 @@ use idtable_lines::Kind;
 use std::alloc::Global;
 use std::io::{ErrorKind, Read, Write};
 
-/// Why lines were not answered (ours).
+/// Why no reply was written, or not all.
 #[derive(Clone, Copy, Debug, PartialEq, Eq)]
 pub enum Fault {
     /// The reader failed, or its end had not come after 4,294,967,295 reads.
@@ -21,7 +21,7 @@ pub enum Fault {
     Memory,
 }
 
-/// What standard error is told of a fault (ours).
+/// Returns the words for a fault, which the program writes to standard error.
 pub fn fault_text(fault: &Fault) -> &'static str
     ensures { result.now ≡ text_for fault.now }
 {
@@ -32,12 +32,12 @@ pub fn fault_text(fault: &Fault) -> &'static str
     }
 }
 
-/// Reads all input, answers each line from the entries so far, and then writes the whole text and flushes the writer (ours).
-/// `Ok` tells how many lines were refused for want of memory. After `Fault::Read` and `Fault::Memory` nothing was written, after
-/// `Fault::Write` a beginning of the text or all of it. A read or a write that is interrupted is made again. The kind of map
-/// decides only whether it has ends, and whether `list` can be refused memory: over a hash map `first`, `last`, `popfirst` and
-/// `poplast` are answered `unsupported`, and `list` takes memory to put the entries in order. The whole input and the whole
-/// text stand in memory at once.
+/// Reads all input, replies to each line from the entries so far, writes the whole text, and flushes the writer. It
+/// returns how many lines were refused memory. After `Fault::Read` and `Fault::Memory` nothing was written, after
+/// `Fault::Write` a beginning of the text or all of it. A read or a write that is interrupted is made again. The
+/// kind of map decides only whether it has ends, and whether `list` can be refused memory. Over a hash map the
+/// reply to `first`, `last`, `popfirst` and `poplast` is `unsupported`, and `list` allocates to sort the entries.
+/// The whole input and the whole text are in memory at once.
 pub fn serve<R: Read, W: Write>(
     alloc: Global,
     kind: Kind,

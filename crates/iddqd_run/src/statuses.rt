@@ -4,7 +4,7 @@ ghost use Rattle.iddqd_run.specs.Words.{status_for};
 
 use crate::serving::Fault;
 
-/// Why a program didn't answer its lines (ours).
+/// Why a program wrote no replies.
 #[derive(Clone, Copy, Debug, PartialEq, Eq)]
 pub enum Stop {
     /// Its arguments are wrong: it tells its usage.
@@ -13,7 +13,7 @@ pub enum Stop {
     Fault(Fault),
 }
 
-/// The exit status: 0 where the lines were answered, 1 after a fault, 2 after the usage line (ours).
+/// Returns the exit status: 0 if all replies were written, 1 after a fault, 2 after the usage line.
 pub fn exit_status(outcome: &Result<u64, Stop>) -> u8
     ensures { result ≡ status_for outcome.now }
 {

@@ -26,7 +26,7 @@ use std::hash::{BuildHasher, FoldHasher, Hasher};
 
 /// What tells of each item whether it is to stay.
 pub(crate) trait Keeps<T> {
-    // What `keeps` answers.
+    // What `keeps` returns.
     ghost keeps: { Self → T → Bool };
 
     /// Whether the item is to stay.
@@ -48,7 +48,7 @@ pub(crate) enum ListStop {
 }
 
 /// A map that is asked by texts too, as lines ask it. Its other calls are those of its `KeyedMap`.
-pub(crate) trait Table: KeyedMap {
+pub(crate) trait ByName: KeyedMap {
     // Which of the two maps it is.
     ghost kind: { Kind };
 
@@ -61,7 +61,7 @@ pub(crate) trait Table: KeyedMap {
     // The most comparisons that a lookup by a text makes.
     ghost most_steps: { Self → List ℕ → ℕ };
 
-    /// The item of the name, or `None`. It takes no memory.
+    /// Returns the item of the name, or `None`. Does not allocate.
     fn find(&self, name: &str) -> Option<&Self::Item>
         requires keyed { Self.keyed self.now }
         ensures found { option_copied result ≡ find_item Self.key (is_text name.now) (Self.state self.now).items };
@@ -72,7 +72,7 @@ pub(crate) trait Table: KeyedMap {
         ensures found { option_copied result ≡ find_item Self.key (is_text name.now) (Self.state self.now).items }
         ensures steps { steps.new ≤ steps.old + most_steps self.now name.now };
 
-    /// Visits the item of the name by a guard, and answers what the visit did; `None` where there is none.
+    /// Visits the item of the name by a guard, and returns what the visit did, or `None` if there is none.
     fn visit_found<V: Visit<Self::Item>>(&mut self, name: &str, visitor: &mut V) -> Option<bool>
         requires keyed { Self.keyed self.old }
         requires keeps_keys { VisitsKeepKeys Self.key Self.Key.eq V.visits }
@@ -89,7 +89,7 @@ pub(crate) trait Table: KeyedMap {
         ensures items { (Self.state self.new).items ≡ filter (K.keeps which.now) (Self.state self.old).items }
         ensures stays { StaysKeyed Self.state Self.limit Self.rule Self.keyed self.old self.new };
 
-    /// Takes out the item of the name, and answers it; `None` where there is none. It takes no memory.
+    /// Removes the item of the name and returns it, or returns `None` if there is none. Does not allocate.
     fn take_out(&mut self, name: &str) -> Option<Self::Item>
         requires keyed { Self.keyed self.old }
         ensures value { result ≡ find_item Self.key (is_text name.now) (Self.state self.old).items }
@@ -110,7 +110,7 @@ pub(crate) trait Table: KeyedMap {
         ensures ordered { OnOk result (HasEnds kind (entries self.now)) }
         ensures endless { OnErr result (kind ≡ Hash) };
 
-    /// Takes out the entry of the least name, and answers it; `None` where there is none. It takes no memory.
+    /// Removes the entry of the least name and returns it, or returns `None` if there is none. Does not allocate.
     fn take_least(&mut self) -> Result<Option<Entry>, NoEnds>
         requires keyed { Self.keyed self.old }
         ensures taken { IfOk result (λ taken. taken ≡ slice_get (entries self.old) 0) }
@@ -120,7 +120,8 @@ pub(crate) trait Table: KeyedMap {
         ensures endless { OnErr result (kind ≡ Hash) }
         ensures unchanged { OnErr result (self.new ≡ self.old) };
 
-    /// Takes out the entry of the greatest name, and answers it; `None` where there is none. It takes no memory.
+    /// Removes the entry of the greatest name and returns it, or returns `None` if there is none. Does not
+    /// allocate.
     fn take_greatest(&mut self) -> Result<Option<Entry>, NoEnds>
         requires keyed { Self.keyed self.old }
         ensures taken { IfOk result (λ taken. taken ≡ slice_get (entries self.old) (length (entries self.old) - 1)) }
@@ -130,15 +131,15 @@ pub(crate) trait Table: KeyedMap {
         ensures endless { OnErr result (kind ≡ Hash) }
         ensures unchanged { OnErr result (self.new ≡ self.old) };
 
-    /// Writes how many entries there are, and each of them, by ascending name. Only a map that keeps no order takes memory
-    /// for more than the text.
+    /// Writes the number of entries, and each of them, by ascending name. A map that keeps no order allocates to
+    /// sort them; beside the text no other memory is needed.
     fn write_list(&self, alloc: Global, text: &mut String) -> Result<(), ListStop>
         requires keyed { Self.keyed self.now }
         ensures listed { OnOk result (ListsItems (entries self.now) (string_bytes text.old) (string_bytes text.new)) }
         ensures refused { IfErr result (λ stop. stop ≡ Entries → (kind ≡ Hash) × (string_bytes text.new ≡ string_bytes text.old)) };
 }
 
-impl Table for IdOrdMap<Entry> {
+impl ByName for IdOrdMap<Entry> {
     ghost kind = { Ord };
 
     ghost entries = { λ m. m.items };
@@ -194,7 +195,7 @@ impl Table for IdOrdMap<Entry> {
     }
 }
 
-impl Table for IdHashMap<Entry> {
+impl ByName for IdHashMap<Entry> {
     ghost kind = { Hash };
 
     ghost entries = { λ m. m.items };

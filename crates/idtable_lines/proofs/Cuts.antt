@@ -1,4 +1,4 @@
--- Where the first line of a text ends, and the first word of a line: both are what stands before the first byte that ends them.
+-- Where the first line of a text ends, and the first word of a line: both are what comes before the first byte that ends them.
 use Rattle.std.proofs.Common.{◌≡◌, ℕ, zero, suc, ◌<◌, List, [], ◌∷◌, length, get_or, take, drop, refl, arith}
 use Rattle.std.specs.Prelude.{◌==◌, if◌then◌else◌}
 use Rattle.std.specs.List.{onto_first}

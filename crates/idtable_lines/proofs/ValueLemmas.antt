@@ -1,6 +1,7 @@
--- The decimal text of a number is its only form: what `parse` reads of a word that has no sign and no zero in front is the word's value.
+-- The decimal text of a number is its only form: what `parse` reads of a word without a sign or a zero in front is the word's
+-- value.
 --     Spells word n      the word is the text of a number of 64 bits
---     no_value, value_read      where a word has no value, and which one it has
+--     no_value, value_read      when a word has no value, and which one it has
 --     valued_words, unnamed_words      what follows a name in a line, or a word that is none
 --     paired_words, unpaired_words      a line of the word of many pairs, and one of another word
 use Rattle.std.proofs.Common.{◌≡◌, ◌≢◌, ℕ, ◌<◌, ◌^◌, Bool, true, false, cond, ◌&&◌, eqb, List, [], ◌∷◌, length, get_or, Option, Some, None, Result, Ok, Err, sym, refl, ap, ◌∙◌, subst, arith, rules, ⊎_elim, ◌⊎◌, inl, inr}
@@ -26,7 +27,7 @@ pub record Spells (word : List ℕ) (n : ℕ) : Type 0 where
   pub text : word ≡ decimal n
   pub fits : n < 2 ^ 64
 
--- a word has a value only where it is such a text
+-- a word has a value only if it is such a text
 pub spelled : (word : List ℕ) → (value_of word ≡ None) ⊎ Spells word (digits_value 10 word)
 spelled word = by (bytes_eq word (decimal n)) refl (nat_lt n (2 ^ 64)) refl
   where

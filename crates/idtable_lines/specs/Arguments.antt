@@ -1,4 +1,4 @@
--- What the words behind a program's name ask for (ours).
+-- What the words behind a program's name ask for.
 use Rattle.std.specs.Prelude.{ℕ, List, [], ◌∷◌, Option, Some, None, codes, bytes_eq, if◌then◌else◌}
 use Rattle.idtable_lines.specs.declared.arguments.Kind.{Kind}
 use Rattle.idtable_lines.specs.declared.arguments.Kind.TheVariants.{Hash, Ord}

@@ -1,4 +1,4 @@
--- What a reader and a writer in memory show that fail at one call (ours).
+-- A reader and a writer in memory that fail at one call, as contracts see them.
 use Rattle.std.specs.Prelude.{ℕ, List}
 
 -- the bytes that are left to read, and the number of the read that fails, the next one being 1 (0: none fails)

@@ -2,7 +2,7 @@
 ghost use Rattle.std.specs.Prelude.{◌≡◌, drop, map, string_bytes};
 ghost use Rattle.idtable_lines.specs.Arguments.{kind_for};
 
-/// The map that answers the lines (ours).
+/// The map that replies to the lines.
 #[derive(Clone, Copy, Debug, PartialEq, Eq)]
 pub enum Kind {
     /// `IdHashMap`, over the default hasher.
@@ -11,7 +11,8 @@ pub enum Kind {
     Ord,
 }
 
-/// The kind that the words after the program's name ask for: the ordered map where there are none. `None` where they are wrong (ours).
+/// Returns the kind that the words after the program's name ask for: the ordered map if there are none. It returns
+/// `None` if they are wrong.
 pub fn kind_of(args: &[String]) -> Option<Kind>
     ensures { result ≡ kind_for (map string_bytes args.now) }
 {
@@ -23,7 +24,7 @@ pub fn kind_of(args: &[String]) -> Option<Kind>
     }
 }
 
-/// Of the words that a program is called by, those after its name (ours).
+/// Returns the words after a program's name, of those that it is called by.
 pub fn after_name(words: &[String]) -> &[String]
     ensures { result.now ≡ drop 1 words.now }
 {

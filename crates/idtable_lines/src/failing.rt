@@ -1,4 +1,5 @@
-//! A reader and a writer in memory that fail at a call of a given number, for tests of what `serve` and its like do then.
+//! A reader and a writer in memory that fail at a call of a given number, for tests of what `serve` and its like do
+//! then.
 ghost use Rattle.std.specs.Prelude.{◌≡◌, ◌≢◌, ◌-◌, ◌==◌, Some, IfErr, IfOk, IsErrAnd, IsOk, IsOkAnd, length, min};
 ghost use Rattle.std.specs.Io.{ReadsAtMost, WritesAtMost};
 ghost use Rattle.std.specs.Io.KnownBytes.{Keeps, ReadConsumes, WriteAppends};
@@ -8,7 +9,7 @@ ghost use Rattle.std.specs.declared.io.ErrorKind.{ErrorKind};
 use std::io::{Error, ErrorKind, Read, Result, Write};
 use std::marker::Model;
 
-/// Gives its bytes, and fails at one read (ours). Contracts see it as the bytes that are left, and how far off that read is.
+/// Gives its bytes, and fails at one read. Contracts see the bytes that are left, and how far off that read is.
 #[derive(Drop)]
 pub struct FailingReader {
     bytes: Vec<u8>,
@@ -28,7 +29,8 @@ impl Model for FailingReader {
 }
 
 impl FailingReader {
-    /// Gives the bytes, and fails at the read numbered `after`, the first being 1; 0 means never (ours).
+    /// Returns a reader that gives the bytes, and fails at the read numbered `after`, the first being 1. 0 means
+    /// never.
     pub fn new(bytes: Vec<u8>, after: u32) -> FailingReader
         ensures rest { result.rest ≡ bytes.items }
         ensures after { result.after ≡ after }
@@ -44,7 +46,8 @@ impl FailingReader {
 impl Read for FailingReader {
     ghost remaining = { λ reader. Some reader.rest };
 
-    /// Gives as many bytes as there is room for, or fails where its turn is; then nothing is lost, and the next reads go on (ours).
+    /// Gives as many bytes as there is room for, or fails at its turn. Then nothing is lost, and the next reads go
+    /// on.
     fn read(&mut self, buf: &mut [u8]) -> Result<usize>
         ensures bound { ReadsAtMost result buf.new }
         ensures bytes { ReadConsumes (Some self.old.rest) (Some self.new.rest) result buf.new }
@@ -62,7 +65,7 @@ impl Read for FailingReader {
     }
 }
 
-/// Takes bytes, and fails at one write (ours). Contracts see it as the bytes that it holds, and how far off that write is.
+/// Takes bytes, and fails at one write. Contracts see the bytes that it holds, and how far off that write is.
 #[derive(Drop)]
 pub struct FailingWriter {
     taken: Vec<u8>,
@@ -78,7 +81,8 @@ impl Model for FailingWriter {
 }
 
 impl FailingWriter {
-    /// Holds the bytes, takes more behind them, and fails at the write numbered `after`, the first being 1; 0 means never (ours).
+    /// Returns a writer that holds the bytes, takes more behind them, and fails at the write numbered `after`, the
+    /// first being 1. 0 means never.
     pub fn new(bytes: Vec<u8>, after: u32) -> FailingWriter
         ensures taken { result.taken ≡ bytes.items }
         ensures after { result.after ≡ after }
@@ -89,7 +93,7 @@ impl FailingWriter {
         }
     }
 
-    /// The bytes that it holds: those that it began with, and then those that it took (ours).
+    /// Returns the bytes that it holds: those that it began with, and then those that it took.
     pub fn taken(&self) -> &[u8]
         ensures { result.now ≡ self.now.taken }
     {
@@ -100,7 +104,7 @@ impl FailingWriter {
 impl Write for FailingWriter {
     ghost contents = { λ writer. Some writer.taken };
 
-    /// Takes all bytes, or fails where its turn is, or where memory for them is refused; then it holds what it held (ours).
+    /// Takes all bytes, or fails at its turn, or if memory for them is refused. Then it holds what it held.
     fn write(&mut self, buf: &[u8]) -> Result<usize>
         ensures bound { WritesAtMost result buf.now }
         ensures bytes { WriteAppends (Some self.old.taken) (Some self.new.taken) result buf.now }
@@ -115,7 +119,7 @@ impl Write for FailingWriter {
         self.taken.write(buf)
     }
 
-    /// Does nothing, and never fails (ours).
+    /// Does nothing, and never fails.
     fn flush(&mut self) -> Result<()>
         ensures bytes { Keeps (Some self.old.taken) (Some self.new.taken) }
         ensures ok { IsOk result }

@@ -7,7 +7,7 @@ use Rattle.iddqd_run.proofs.adding.add_all.Goals as goal
 
 pub returns-in-Ok-None-clause-answered : goal.returns-in-Ok-None-clause-answered
 returns-in-Ok-None-clause-answered g c =
-    let kind = g.M.Table.kind in
+    let kind = g.M.ByName.kind in
     let items = (g.M.KeyedMap.state c.args.map.now).items in
     let pairs = pairs_of (words_of c.args.fields.now) in
     written kind (paired_request pairs) items items Bad (string_bytes c.args.text.now) (string_bytes c.write_reply.new.text) c.write_reply.result
@@ -15,7 +15,7 @@ returns-in-Ok-None-clause-answered g c =
 
 pub returns-in-Err-clause-answered : goal.returns-in-Err-clause-answered
 returns-in-Err-clause-answered g c =
-    let kind = g.M.Table.kind in
+    let kind = g.M.ByName.kind in
     let items = (g.M.KeyedMap.state c.args.map.now).items in
     let fields = c.args.fields.now in
     written kind (paired_request (pairs_of (words_of fields))) items items c.not_made.result (string_bytes c.args.text.now) (string_bytes c.write_reply-in-Err.new.text) c.write_reply-in-Err.result

@@ -19,7 +19,7 @@ overflow_sub-count g c =
 
 pub returns-in-Ok-clause-answered : goal.returns-in-Ok-clause-answered
 returns-in-Ok-clause-answered g c =
-    let kind = g.M.Table.kind in
+    let kind = g.M.ByName.kind in
     let request = AddAll (entries_of c.args.entries.items) in
     let old = g.M.KeyedMap.state c.args.map.now in
     let new = (g.M.KeyedMap.state (c.extend_unique.follows.lender tt)).items in
@@ -31,7 +31,7 @@ returns-in-Ok-clause-answered g c =
 
 pub returns-in-Err-Duplicate-clause-answered : goal.returns-in-Err-Duplicate-clause-answered
 returns-in-Err-Duplicate-clause-answered g c =
-    let kind = g.M.Table.kind in
+    let kind = g.M.ByName.kind in
     let request = AddAll (entries_of c.args.entries.items) in
     let old = g.M.KeyedMap.state c.args.map.now in
     let new = (g.M.KeyedMap.state c.extend_unique.follows.lender-at-none).items in
@@ -46,7 +46,7 @@ returns-in-Err-Duplicate-clause-answered g c =
 
 pub returns-in-Err-Refused-clause-answered : goal.returns-in-Err-Refused-clause-answered
 returns-in-Err-Refused-clause-answered g c =
-    let kind = g.M.Table.kind in
+    let kind = g.M.ByName.kind in
     let request = AddAll (entries_of c.args.entries.items) in
     let old = g.M.KeyedMap.state c.args.map.now in
     let new = (g.M.KeyedMap.state c.extend_unique.follows.lender-at-none).items in

@@ -12,7 +12,7 @@ joined : (front reply text : List ℕ) → front ++ (reply ++ 10 ∷ text) ≡ (
 joined front reply text = sym (append_assoc front (reply ++ 10 ∷ []) text ∙ ap (λ bs. front ++ bs) (append_assoc reply (10 ∷ []) text))
 
 pub loop-rest-init : goal.loop-rest-init
-loop-rest-init g c = let kind = g.M.Table.kind in record {
+loop-rest-init g c = let kind = g.M.ByName.kind in record {
   entries = [];
   shows = nothing_shown (g.M.KeyedMap.state c.args.map).items c.requires.empty;
   replied = λ more text later. subst (λ bytes. RepliesWithRefusals kind (lines_of c.args.input.now) [] (0 + more) (bytes ++ text)) (sym c.new-text.ensures.bytes) (subst (λ n. RepliesWithRefusals kind (lines_of c.args.input.now) [] n text) (sym (zero-add more)) later);
@@ -22,7 +22,7 @@ loop-rest-init g c = let kind = g.M.Table.kind in record {
 
 pub loop-rest-preserved : goal.loop-rest-preserved
 loop-rest-preserved g c =
-    let kind = g.M.Table.kind in
+    let kind = g.M.ByName.kind in
     let kept = c.loop-rest.invariant in
     let line = c.first_line.result.0.now in
     let after = c.first_line.result.1.now in
@@ -50,7 +50,7 @@ loop-rest-preserved g c =
 
 pub returns : goal.returns
 returns g c =
-    let kind = g.M.Table.kind in
+    let kind = g.M.ByName.kind in
     let kept = c.loop-rest.invariant in
     let input = c.args.input.now in
     let text = string_bytes c.loop-rest.text in

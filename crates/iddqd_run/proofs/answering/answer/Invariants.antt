@@ -10,8 +10,8 @@ abbrev pub invariant-loop-rest : goal.invariant-loop-rest
 invariant-loop-rest g l = record {
   entries : List answer.Entry;
   shows : ShowsEntries (g.M.KeyedMap.state l.map).items entries;
-  replied : (more : ℕ) (text : List ℕ) → RepliesWithRefusals g.M.Table.kind (lines_of l.rest) entries more text → RepliesWithRefusals g.M.Table.kind (lines_of l.input) [] (l.refusals + more) (string_bytes l.text ++ text);
-  table : IsTable g.M.KeyedMap.key g.M.Table.is_text g.M.Table.entries g.M.KeyedMap.state g.M.KeyedMap.keyed g.M.KeyedMap.limit l.map;
+  replied : (more : ℕ) (text : List ℕ) → RepliesWithRefusals g.M.ByName.kind (lines_of l.rest) entries more text → RepliesWithRefusals g.M.ByName.kind (lines_of l.input) [] (l.refusals + more) (string_bytes l.text ++ text);
+  table : IsTable g.M.KeyedMap.key g.M.ByName.is_text g.M.ByName.entries g.M.KeyedMap.state g.M.KeyedMap.keyed g.M.KeyedMap.limit l.map;
   counted : l.refusals + length l.rest ≤ length l.input;
 }
 

@@ -6,5 +6,5 @@ use Rattle.iddqd_run.proofs.ends.last.Goals as goal
 pub returns-in-Ok : goal.returns-in-Ok
 returns-in-Ok g c =
     let same = c.requires.table.items c.args.map.now in
-    last_answered g.M.Table.kind (g.M.KeyedMap.state c.args.map.now).items (subst (HasEnds g.M.Table.kind) same c.in-Ok.ensures.ordered) _ c.end_reply.result c.end_reply.ensures.text c.end_reply.ensures.plain
+    last_answered g.M.ByName.kind (g.M.KeyedMap.state c.args.map.now).items (subst (HasEnds g.M.ByName.kind) same c.in-Ok.ensures.ordered) _ c.end_reply.result c.end_reply.ensures.text c.end_reply.ensures.plain
     (c.in-Ok.ensures.found ∙ ap (λ items. slice_get items (length items - 1)) same)

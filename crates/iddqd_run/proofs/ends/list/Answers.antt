@@ -19,7 +19,7 @@ returns-in_ok-push-in-Ok g c =
 
 pub returns-in-Err-Entries : goal.returns-in-Err-Entries
 returns-in-Err-Entries g c =
-    let kind = g.M.Table.kind in
+    let kind = g.M.ByName.kind in
     let items = (g.M.KeyedMap.state c.args.map.now).items in
     let refused = c.in-Err-Entries.ensures.refused c.in-Err-Entries.field-0-is in
     written kind ListAll items items RefusedMemory (string_bytes c.args.text.now) (string_bytes c.write_reply.new.text) c.write_reply.result

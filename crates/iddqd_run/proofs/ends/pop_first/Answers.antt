@@ -8,7 +8,7 @@ use Rattle.iddqd_run.proofs.ends.pop_first.Goals as goal
 
 pub returns-in-Ok-clause-answered : goal.returns-in-Ok-clause-answered
 returns-in-Ok-clause-answered g c =
-    let kind = g.M.Table.kind in
+    let kind = g.M.ByName.kind in
     let items = (g.M.KeyedMap.state c.args.map.now).items in
     let new = (g.M.KeyedMap.state c.take_least.new.self).items in
     let same = c.requires.table.items c.args.map.now in
@@ -19,7 +19,7 @@ returns-in-Ok-clause-answered g c =
 
 pub returns-in-Err-clause-answered : goal.returns-in-Err-clause-answered
 returns-in-Err-clause-answered g c =
-    let kind = g.M.Table.kind in
+    let kind = g.M.ByName.kind in
     let items = (g.M.KeyedMap.state c.args.map.now).items in
     let new = (g.M.KeyedMap.state c.take_least.new.self).items in
     let answered = pop_first_unsupported kind items new (ap (λ m. (g.M.KeyedMap.state m).items) c.in-Err.ensures.unchanged) c.in-Err.ensures.endless in

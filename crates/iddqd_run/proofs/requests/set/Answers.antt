@@ -19,10 +19,10 @@ returns-in-Some-clause-answered g c =
     let found : find_item name test items ≡ Some x = rw (c.requires.table.names, c.requires.table.texts) at saw.2 in
     let made : new ≡ items_overwritten name test saw.1 items = rw (c.requires.table.names, c.requires.table.texts) at saw.4 in
     let after : new ≡ items_overwritten name test (record x { value = c.args.value }) items = made ∙ ap (λ p. items_overwritten name test p.1 items) (sym saw.3) in
-    subst (λ v. AnswersRequest g.M.Table.kind (Set c.args.name.now c.args.value) items (Written v) new) (ap (λ p. p.0.value) saw.3)
-    (set_found g.M.Table.kind c.args.name.now c.args.value items new x found after)
+    subst (λ v. AnswersRequest g.M.ByName.kind (Set c.args.name.now c.args.value) items (Written v) new) (ap (λ p. p.0.value) saw.3)
+    (set_found g.M.ByName.kind c.args.name.now c.args.value items new x found after)
 
 pub returns-in-None-clause-answered : goal.returns-in-None-clause-answered
 returns-in-None-clause-answered g c =
     let absent = rw (c.requires.table.names, c.requires.table.texts) at c.in-None.ensures.absent in
-    set_absent g.M.Table.kind c.args.name.now c.args.value (g.M.KeyedMap.state c.args.map.now).items (g.M.KeyedMap.state c.visit_found.new.self).items absent (ap (λ m. (g.M.KeyedMap.state m).items) c.in-None.ensures.unchanged)
+    set_absent g.M.ByName.kind c.args.name.now c.args.value (g.M.KeyedMap.state c.args.map.now).items (g.M.KeyedMap.state c.visit_found.new.self).items absent (ap (λ m. (g.M.KeyedMap.state m).items) c.in-None.ensures.unchanged)

@@ -2,7 +2,7 @@ use Rattle.std.proofs.Common.{string_bytes}
 use Rattle.std.proofs.lemmas.List.Sorted.{IsPermutation-refl}
 use Rattle.iddqd_run.proofs.AscendLemmas.{by_name_of}
 use Rattle.iddqd_run.proofs.EndLemmas.{lists_items}
-use Rattle.iddqd_run.proofs.table.IdOrdMapEntryTable.write_list.Goals as goal
+use Rattle.iddqd_run.proofs.table.IdOrdMapEntryByName.write_list.Goals as goal
 
 pub returns-in-Ok-clause-listed : goal.returns-in-Ok-clause-listed
 returns-in-Ok-clause-listed c =

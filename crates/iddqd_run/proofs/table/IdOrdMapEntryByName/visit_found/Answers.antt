@@ -1,5 +1,5 @@
 use Rattle.std.proofs.Common.{rules}
-use Rattle.iddqd_run.proofs.table.IdOrdMapEntryTable.visit_found.Goals as goal
+use Rattle.iddqd_run.proofs.table.IdOrdMapEntryByName.visit_found.Goals as goal
 
 pub returns-clause-visited : goal.returns-clause-visited
 returns-clause-visited g c =

@@ -5,7 +5,7 @@ use Rattle.iddqd.specs.IdHashMap.{differ_from_keyed}
 use Rattle.iddqd_run.specs.Answer.{list_text}
 use Rattle.iddqd_run.specs.Shown.{all_lent, entries_of}
 use Rattle.iddqd_run.proofs.EndLemmas.{lists_items}
-use Rattle.iddqd_run.proofs.table.IdHashMapEntryTable.write_list.Goals as goal
+use Rattle.iddqd_run.proofs.table.IdHashMapEntryByName.write_list.Goals as goal
 
 pub by_name-requires : goal.by_name-requires
 by_name-requires c = record { differ = differ_from_keyed _ _ _ _ _ c.requires.keyed }
