@@ -97,10 +97,17 @@ impl HashIndex {
     /// reads every pair then.
     #[inline]
     pub fn try_reserve(&mut self, additional: usize) -> Result<(), TryReserveError>
+        // either way
         ensures pairs { SamePairs self.old.pairs self.new.pairs }
+
+        // on success
         ensures ok { OnOk result (additional ≤ self.new.spare) }
+
+        // on refusal
         ensures only_memory { IfErr result (λ e. e ≡ memory_refused) }
         ensures needed { OnErr result (self.old.spare < additional) }
+
+        // the room
         ensures spare { self.old.spare ≤ self.new.spare }
         ensures doubles { OnOk result (self.old.spare < additional → least (2 * index_room self.old) u32.MAX ≤ index_room self.new) }
     {
@@ -131,8 +138,12 @@ impl HashIndex {
     fn regroup(&mut self, count: usize) -> Result<(), AllocError>
         requires room { length self.old.pairs ≤ room_for count }
         requires fits { count ≤ u32.MAX }
+
+        // either way
         ensures pairs { SamePairs self.old.pairs self.new.pairs }
         ensures len { length self.new.pairs ≡ length self.old.pairs }
+
+        // the room
         ensures room { OnOk result (self.new.spare + length self.new.pairs ≡ room_for count) }
         ensures refused { OnErr result (self.new ≡ self.old) }
     {
@@ -240,8 +251,12 @@ impl HashIndex {
     /// not, the pairs stay, and a refusal leaves the room as it was. If it gives some back, it reads every pair.
     pub fn shrink(&mut self, min: usize) -> Result<(), TryReserveError>
         ensures pairs { SamePairs self.old.pairs self.new.pairs }
+
+        // on refusal
         ensures only_memory { IfErr result (λ e. e ≡ memory_refused) }
         ensures needed { OnErr result (max min (length self.old.pairs) < self.old.spare + length self.old.pairs) }
+
+        // the room
         ensures gives_back { OnOk result (HalfIsEnough self.old min → self.new.spare + length self.new.pairs < self.old.spare + length self.old.pairs) }
         ensures room { least min (self.old.spare + length self.old.pairs) ≤ self.new.spare + length self.new.pairs }
         ensures refused { OnErr result (self.old.spare ≤ self.new.spare) }

@@ -76,9 +76,15 @@ pub(crate) trait ByName: KeyedMap {
     fn visit_found<V: Visit<Self::Item>>(&mut self, name: &str, visitor: &mut V) -> Option<bool>
         requires keyed { Self.keyed self.old }
         requires keeps_keys { VisitsKeepKeys Self.key Self.Key.eq V.visits }
+
+        // if it is found
         ensures visited { IfSome result (λ answer. VisitsItem Self.key V.visits (is_text name.now) visitor.old visitor.new answer (Self.state self.old).items (Self.state self.new).items) }
+
+        // if it is absent
         ensures absent { IfNone result (find_item Self.key (is_text name.now) (Self.state self.old).items ≡ None) }
         ensures unchanged { IfNone result (self.new ≡ self.old) }
+
+        // either way
         ensures stays { StaysKeyed Self.state Self.limit Self.rule Self.keyed self.old self.new };
 
     /// Keeps the items that are to stay.
@@ -113,10 +119,14 @@ pub(crate) trait ByName: KeyedMap {
     /// Removes the entry of the least name and returns it, or returns `None` if there is none. Does not allocate.
     fn take_least(&mut self) -> Result<Option<Entry>, NoEnds>
         requires keyed { Self.keyed self.old }
+
+        // in an ordered map
         ensures taken { IfOk result (λ taken. taken ≡ slice_get (entries self.old) 0) }
         ensures left { OnOk result (entries self.new ≡ drop 1 (entries self.old)) }
         ensures ordered { OnOk result (HasEnds kind (entries self.old)) }
         ensures stays { OnOk result (StaysKeyed Self.state Self.limit Self.rule Self.keyed self.old self.new) }
+
+        // in a hash map
         ensures endless { OnErr result (kind ≡ Hash) }
         ensures unchanged { OnErr result (self.new ≡ self.old) };
 
@@ -124,10 +134,14 @@ pub(crate) trait ByName: KeyedMap {
     /// allocate.
     fn take_greatest(&mut self) -> Result<Option<Entry>, NoEnds>
         requires keyed { Self.keyed self.old }
+
+        // in an ordered map
         ensures taken { IfOk result (λ taken. taken ≡ slice_get (entries self.old) (length (entries self.old) - 1)) }
         ensures left { OnOk result (entries self.new ≡ take (length (entries self.old) - 1) (entries self.old)) }
         ensures ordered { OnOk result (HasEnds kind (entries self.old)) }
         ensures stays { OnOk result (StaysKeyed Self.state Self.limit Self.rule Self.keyed self.old self.new) }
+
+        // in a hash map
         ensures endless { OnErr result (kind ≡ Hash) }
         ensures unchanged { OnErr result (self.new ≡ self.old) };
 

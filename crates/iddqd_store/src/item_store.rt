@@ -145,10 +145,14 @@ impl<T> ItemStore<T> {
     #[inline]
     pub fn insert_reserved(&mut self, item: T) -> u32
         requires { HasRoomFor self.old 1 }
+
+        // the slots
         ensures was_vacant { item_at self.old result ≡ None }
         ensures updates { Updates self.old self.new result (Some item) }
         ensures reuses { 0 < vacant self.old → result < length self.old.slots }
         ensures next { vacant self.old ≡ 0 → result ≡ length self.old.slots }
+
+        // the numbers
         ensures len { store_len self.new ≡ store_len self.old + 1 }
         ensures vacant { vacant self.new ≡ vacant self.old - 1 }
         ensures capacity { self.new.capacity ≡ self.old.capacity }
@@ -224,10 +228,15 @@ impl<T> ItemStore<T> {
     /// one. It returns `None` if there is no such move, and then no slot is vacant. It removes vacant slots at the
     /// end. It looks only at the slots that it removes, and does not allocate.
     pub fn last_into_hole(&mut self) -> Option<(u32, u32)>
+        // if an item moves
         ensures moves { IfSome result (λ m. MovesLast self.old.slots self.new.slots m.0 m.1) }
         ensures fewer { OnSome result (vacant self.new < vacant self.old) }
+
+        // if none moves
         ensures none_vacant { IfNone result (vacant self.new ≡ 0) }
         ensures none_moves { IfNone result (SameItems self.old self.new) }
+
+        // either way
         ensures cut { EndsOccupied self.new.slots }
         ensures len { store_len self.new ≡ store_len self.old }
         ensures capacity { self.new.capacity ≡ self.old.capacity }

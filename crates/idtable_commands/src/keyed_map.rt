@@ -83,9 +83,15 @@ pub trait KeyedMap {
     fn visit<V: Visit<Self::Item>>(&mut self, query: &Self::Key, visitor: &mut V) -> Option<bool>
         requires keyed { keyed self.old }
         requires keeps_keys { VisitsKeepKeys key Self.Key.eq V.visits }
+
+        // if it is found
         ensures visited { IfSome result (λ answer. VisitsItem key V.visits (Self.Key.eq query.now) visitor.old visitor.new answer (state self.old).items (state self.new).items) }
+
+        // if it is absent
         ensures absent { IfNone result (find_item key (Self.Key.eq query.now) (state self.old).items ≡ None) }
         ensures unchanged { IfNone result ((self.new ≡ self.old) × (visitor.new ≡ visitor.old)) }
+
+        // either way
         ensures stays { StaysKeyed state limit rule keyed self.old self.new };
 
     /// Visits each item once, in the map's order, and removes each whose visit returns false. No visit may change a

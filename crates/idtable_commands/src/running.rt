@@ -31,9 +31,15 @@ where
     requires keyed { M.keyed map.old }
     requires clones { ClonesAreEqual M.Item.is_clone }
     requires keeps_keys { VisitsKeepKeys M.key M.Key.eq V.visits }
+
+    // on success
     ensures run { IfOk result (λ replies. Run M.key M.Key.eq V.visits (M.limit map.old) M.rule (M.state map.old) commands.items replies.items (M.state map.new)) }
+
+    // on refusal
     ensures handed_back { IfErr result (λ stop. stop.commands ≡ commands) }
     ensures unchanged { OnErr result (map.new ≡ map.old) }
+
+    // either way
     ensures keyed { M.keyed map.new }
     ensures limit { M.limit map.new ≡ M.limit map.old }
 {
@@ -59,7 +65,11 @@ where
     requires keyed { M.keyed map.old }
     requires clones { ClonesAreEqual M.Item.is_clone }
     requires keeps_keys { VisitsKeepKeys M.key M.Key.eq V.visits }
+
+    // the step
     ensures does { Does M.key M.Key.eq V.visits (M.limit map.old) M.rule (M.state map.old) command result (M.state map.new) }
+
+    // the map
     ensures keyed { M.keyed map.new }
     ensures limit { M.limit map.new ≡ M.limit map.old }
 {

@@ -106,9 +106,14 @@ impl Write for FailingWriter {
 
     /// Takes all bytes, or fails at its turn, or if memory for them is refused. Then it holds what it held.
     fn write(&mut self, buf: &[u8]) -> Result<usize>
+        // on success
         ensures bound { WritesAtMost result buf.now }
         ensures bytes { WriteAppends (Some self.old.taken) (Some self.new.taken) result buf.now }
+
+        // on refusal
         ensures fails { self.old.after ≡ 1 → IsErrAnd result (λ error. error_kind error ≡ ErrorKind.Other) }
+
+        // either way
         ensures takes { IfOk result (λ count. count ≡ length buf.now) }
         ensures memory { self.old.after ≢ 1 → IfErr result (λ error. error_kind error ≡ ErrorKind.OutOfMemory) }
         ensures turn { self.new.after ≡ self.old.after - 1 }

@@ -48,6 +48,8 @@ fn run_both(
     requires keyed_ordered { Ascends (λ p. p.key) nat_cmp ordered.old.items }
     requires same { HoldSameItems (λ p. p.key) nat_eq hashed.old.items ordered.old.items }
     requires orderless { All IsOrderless commands.items }
+
+    // afterwards
     ensures replies { IfSome result (λ both. AreUnrefused both → both.hashed.items ≡ both.ordered.items) }
     ensures same { IfSome result (λ both. AreUnrefused both → HoldSameItems (λ p. p.key) nat_eq hashed.new.items ordered.new.items) }
 {

@@ -23,8 +23,12 @@ fn find_at<T: IdHashItem, Q: Equivalent<T::Key>>(
     requires within { at < length groups.now }
     requires long { length hashes.now ≡ 12 * length groups.now }
     requires occupied { (slot : ℕ) → Contains (pairs_of groups.now hashes.now) (hash, slot) → IsOccupied store.now slot }
+
+    // what it finds
     ensures found { IfSome result (IsMatch store.now (pairs_of groups.now hashes.now) hash (λ x. Q.equivalent query.now (T.key x))) }
     ensures missed { IfNone result ((k : ℕ) → k < 12 → tag_in (group_at groups.now at) k ≡ tag_of (mixed hash) → slice_index hashes.now (12 * at + k) ≡ hash → ¬ IsSomeAnd (item_at store.now (slot_in (group_at groups.now at) k)) (λ x. Q.equivalent query.now (T.key x) ≡ true)) }
+
+    // what it costs
     ensures compared { Compared (12 * length groups.now) (tag_at groups.now) (pair_at groups.now hashes.now) hash (λ c. c / 12 ≡ at) steps.old steps.new }
     ensures never_resets { steps.old ≤ steps.new }
 {
@@ -56,8 +60,12 @@ pub(super) fn find_among<T: IdHashItem, Q: Equivalent<T::Key>>(
     requires long { length hashes.now ≡ 12 * length groups.now }
     requires placed { IsPlaced groups.now hashes.now }
     requires occupied { (slot : ℕ) → Contains (pairs_of groups.now hashes.now) (hash, slot) → IsOccupied store.now slot }
+
+    // what it finds
     ensures found { IfSome result (IsMatch store.now (pairs_of groups.now hashes.now) hash (λ x. Q.equivalent query.now (T.key x))) }
     ensures absent { IfNone result ((slot : ℕ) → ¬ IsMatch store.now (pairs_of groups.now hashes.now) hash (λ x. Q.equivalent query.now (T.key x)) slot) }
+
+    // what it costs
     ensures steps { steps.new ≤ steps.old + of_hash (pairs_of groups.now hashes.now) hash }
     ensures never_resets { steps.old ≤ steps.new }
 {

@@ -22,8 +22,12 @@ impl OrdIndex {
     ) -> Result<Place, Place>
         requires occupied { AreOccupied store.now self.now.slots }
         requires ascending { Ascends T.key T.Key.cmp (listed_items store.now self.now.slots) }
+
+        // what it finds
         ensures place { IsPlaceAmong (Q.compare query.now) (keys T.key (listed_items store.now self.now.slots)) result }
         ensures in_list { MatchResult result (λ p. p < length self.now.slots) (λ p. p ≤ length self.now.slots) }
+
+        // what it costs
         ensures steps { steps.new ≤ steps.old + 4 + 2 * digits (length self.now.slots) }
         ensures never_resets { steps.old ≤ steps.new }
     {
@@ -42,8 +46,12 @@ impl OrdIndex {
     ) -> Option<u32>
         requires occupied { AreOccupied store.now self.now.slots }
         requires ascending { Ascends T.key T.Key.cmp (listed_items store.now self.now.slots) }
+
+        // what it finds
         ensures item { option_and_then (item_at store.now) result ≡ find_item T.key (Q.equivalent query.now) (listed_items store.now self.now.slots) }
         ensures slot { IfSome result (Contains self.now.slots) }
+
+        // what it costs
         ensures steps { steps.new ≤ steps.old + 4 + 2 * digits (length self.now.slots) }
         ensures never_resets { steps.old ≤ steps.new }
     {
@@ -60,8 +68,12 @@ impl OrdIndex {
     ) -> Option<u32>
         requires occupied { AreOccupied store.now self.now.slots }
         requires ascending { Ascends T.key T.Key.cmp (listed_items store.now self.now.slots) }
+
+        // what it finds
         ensures item { option_and_then (item_at store.now) result ≡ find_item T.key (λ k. is_lt (Q.compare query.now k)) (listed_items store.now self.now.slots) }
         ensures slot { IfSome result (Contains self.now.slots) }
+
+        // what it costs
         ensures steps { steps.new ≤ steps.old + 4 + 2 * digits (length self.now.slots) }
         ensures never_resets { steps.old ≤ steps.new }
     {

@@ -70,6 +70,8 @@ pub(crate) fn move_tail<T>(cells: &mut [Option<T>], at: usize, upper: &mut [Opti
     requires upper_packed { IsPacked upper.old }
     requires upper_empty { items_present upper.old ≡ [] }
     requires in_bounds { at ≤ length (items_present cells.old) }
+
+    // afterwards
     ensures packed { IsPacked cells.new }
     ensures upper_packed { IsPacked upper.new }
     ensures items { items_present cells.new ≡ take at (items_present cells.old) }
@@ -85,6 +87,8 @@ pub(crate) fn append<T>(cells: &mut [Option<T>], len: usize, upper: &mut [Option
     requires len { len ≡ length (items_present cells.old) }
     requires more { more ≡ length (items_present upper.old) }
     requires fits { len + more ≤ 12 }
+
+    // afterwards
     ensures packed { IsPacked cells.new }
     ensures upper_packed { IsPacked upper.new }
     ensures items { items_present cells.new ≡ items_present cells.old ++ items_present upper.old }

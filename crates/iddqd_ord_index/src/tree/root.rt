@@ -22,10 +22,14 @@ pub(crate) fn add(
     requires room { len + 1 < 2 ^ 32 }
     requires top { 1 < root.old.height → 1 ≤ root.old.width }
     requires enough { root.old.height < spare.old.count }
+
+    // the tree
     ensures slots { root.new.slots ≡ insert root.old.slots at slot }
     ensures levels { result ≡ root.new.height }
     ensures higher { result ≤ levels + 1 }
     ensures top { 1 < root.new.height → 1 ≤ root.new.width }
+
+    // the nodes
     ensures dense { IsDense root.new }
     ensures spare { (spare.new.wanted ≡ spare.old.wanted) × (spare.new.room ≡ spare.old.room) }
 {
@@ -47,10 +51,14 @@ pub(crate) fn remove(root: &mut Node, levels: usize, at: u32, spare: &mut Spare)
     requires room { length root.old.slots < 2 ^ 32 }
     requires top { 1 < root.old.height → 1 ≤ root.old.width }
     requires wanted { 1 < levels → (spare.old.wanted ≡ levels + 1) × (levels < spare.old.room) }
+
+    // the tree
     ensures slot { result.0 ≡ slice_index root.old.slots at }
     ensures slots { root.new.slots ≡ remove root.old.slots at }
     ensures levels { result.1 ≡ root.new.height }
     ensures top { 1 < root.new.height → 1 ≤ root.new.width }
+
+    // the nodes
     ensures dense { IsDense root.new }
     ensures wanted { 1 < result.1 → (spare.new.wanted ≡ result.1 + 1) × (result.1 < spare.new.room) }
     ensures kept { spare.old.count ≤ spare.new.count }

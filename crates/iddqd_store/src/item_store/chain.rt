@@ -128,6 +128,8 @@ pub(super) fn vacate<T>(slots: &mut [Slot<T>], first: u32, at: u32) -> T
     requires number { at < no_slot }
     requires occupied { IsSome (slice_index_or (items_of slots.old) at None) }
     requires chained { IsChained (links_at slots.old) first }
+
+    // afterwards
     ensures item { slice_index_or (items_of slots.old) at None ≡ Some result }
     ensures items { items_of slots.new ≡ slice_set (items_of slots.old) at None }
     ensures chained { IsChained (links_at slots.new) at }

@@ -8,6 +8,8 @@ use super::chain::{Slot, fill_first, unlink};
 // Removes the vacant slots at the end, and returns the first of the vacant ones that are left.
 pub(super) fn cut_vacant<T>(slots: &mut Vec<Slot<T>>, first: u32) -> u32
     requires { IsChained (links_at slots.old.items) first }
+
+    // afterwards
     ensures chained { IsChained (links_at slots.new.items) result }
     ensures items { SameSlots (items_of slots.old.items) (items_of slots.new.items) }
     ensures ends { 0 < vec_len slots.new → links_at slots.new.items (vec_len slots.new - 1) ≡ None }
@@ -31,6 +33,8 @@ pub(super) fn move_last<T>(slots: &mut Vec<Slot<T>>, hole: u32) -> u32
     requires hole { hole ≢ no_slot }
     requires chained { IsChained (links_at slots.old.items) hole }
     requires last { links_at slots.old.items (vec_len slots.old - 1) ≡ None }
+
+    // afterwards
     ensures chained { IsChained (links_at slots.new.items) result }
     ensures moves { MovesLast (items_of slots.old.items) (items_of slots.new.items) (vec_len slots.old - 1) hole }
     ensures count { count_by is_some (items_of slots.new.items) ≡ count_by is_some (items_of slots.old.items) }

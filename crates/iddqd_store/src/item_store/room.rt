@@ -56,8 +56,14 @@ impl<T> ItemStore<T> {
     fn grow(&mut self, additional: usize) -> Result<(), TryReserveError>
         requires limit { store_len self.old + additional ≤ self.old.limit }
         requires needed { self.old.capacity < store_len self.old + additional }
+
+        // on success
         ensures ok { OnOk result (HasRoomFor self.new additional) }
+
+        // on refusal
         ensures err { OnErr result (result ≡ Err memory_refused) }
+
+        // either way
         ensures rest { self.new ≡ record self.old { capacity = self.new.capacity } }
         ensures capacity { self.old.capacity ≤ self.new.capacity }
     {
@@ -73,9 +79,15 @@ impl<T> ItemStore<T> {
     /// it back.
     pub fn shrink_to(&mut self, min_capacity: usize) -> Result<(), TryReserveError>
         requires { vacant self.old ≡ 0 }
+
+        // on refusal
         ensures err { OnErr result (result ≡ Err memory_refused) }
         ensures needed { OnErr result (max min_capacity (store_len self.old) < self.old.capacity) }
+
+        // on success
         ensures frees { store_len self.old ≡ 0 → min_capacity ≡ 0 → OnOk result (self.new.capacity ≡ 0) }
+
+        // either way
         ensures rest { self.new ≡ record self.old { capacity = self.new.capacity } }
         ensures lowers { self.new.capacity ≤ self.old.capacity }
         ensures keeps_items { store_len self.old ≤ self.new.capacity }

@@ -95,6 +95,8 @@ impl Branches {
         requires in_bounds { i ≤ length (below self.old) }
         requires room { length (below self.old) < 12 }
         requires count { count ≡ length node.value.slots }
+
+        // afterwards
         ensures branches { AreBranches self.new }
         ensures below { below self.new ≡ insert (below self.old) i node.value }
     {
@@ -106,6 +108,8 @@ impl Branches {
     pub(super) fn remove(&mut self, i: usize) -> (Box<Node>, u32)
         requires branches { AreBranches self.old }
         requires in_bounds { i < length (below self.old) }
+
+        // afterwards
         ensures branches { AreBranches self.new }
         ensures below { below self.new ≡ remove (below self.old) i }
         ensures node { result.0.value ≡ slice_index_or (below self.old) i unused }
@@ -142,6 +146,8 @@ impl Branches {
         requires branches { AreBranches self.old }
         requires upper_branches { AreBranches upper.old }
         requires fits { length (below self.old) + length (below upper.old) ≤ 12 }
+
+        // afterwards
         ensures branches { AreBranches self.new }
         ensures upper_branches { AreBranches upper.new }
         ensures below { below self.new ≡ below self.old ++ below upper.old }
@@ -162,6 +168,8 @@ impl Branches {
         requires upper_branches { AreBranches upper.old }
         requires in_bounds { i ≤ length (below self.old) }
         requires upper_empty { below upper.old ≡ [] }
+
+        // afterwards
         ensures branches { AreBranches self.new }
         ensures upper_branches { AreBranches upper.new }
         ensures below { below self.new ≡ take i (below self.old) }
@@ -185,6 +193,8 @@ impl Branches {
         requires count { count ≡ length node.value.slots }
         requires upper_branches { AreBranches upper.old }
         requires upper_empty { below upper.old ≡ [] }
+
+        // afterwards
         ensures branches { AreBranches self.new }
         ensures upper_branches { AreBranches upper.new }
         ensures below { insert (below self.old) (i + 1) node.value ≡ below self.new ++ below upper.new }

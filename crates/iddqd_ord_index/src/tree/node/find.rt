@@ -18,7 +18,11 @@ impl Node {
         requires occupied { AreOccupied store.now self.now.slots }
         requires monotone { IsMonotone (slot_standing T.key (Q.compare query.now) store.now) self.now.slots }
         requires room { length self.now.slots < 2 ^ 32 }
+
+        // what it finds
         ensures place { IsPlace (slot_standing T.key (Q.compare query.now) store.now) self.now.slots result }
+
+        // what it costs
         ensures steps { steps.new ≤ steps.old + 4 * self.now.height }
         ensures never_resets { steps.old ≤ steps.new }
     {

@@ -20,6 +20,8 @@ fn split_slots(
     requires full { array_vec_len slots.old ≡ 11 }
     requires in_bounds { i ≤ 11 }
     requires upper_empty { upper.old.items ≡ [] }
+
+    // afterwards
     ensures items { insert slots.old.items i slot ≡ slots.new.items ++ result ∷ upper.new.items }
     ensures lower { length slots.new.items ≡ (if nat_le i 5 then 6 else 5) }
     ensures upper { length upper.new.items ≡ (if nat_le i 5 then 5 else 6) }
@@ -59,9 +61,13 @@ fn split_inner(
     requires upper { IsBranch (levels (below branches.old)) upper.value }
     requires count { count ≡ length upper.value.slots }
     requires half { half.old ≡ unused }
+
+    // the branches
     ensures branches { AreBranches branches.new }
     ensures forked { IsForked (below branches.new) slots.new.items }
     ensures levels { levels (below branches.new) ≡ levels (below branches.old) }
+
+    // the slots
     ensures split { IsSplit (weave (insert (lists (below branches.old)) (i + 1) upper.value.slots) (insert slots.old.items i middle)) (tree (below branches.new) slots.new.items) result half.new }
 {
     let top = split_slots(slots, i, middle, &mut half.slots);
@@ -86,9 +92,13 @@ fn add_branch(
     requires upper { IsBranch (levels (below branches.old)) upper.value }
     requires count { count ≡ length upper.value.slots }
     requires enough { 0 < spare.old.count }
+
+    // the branches
     ensures branches { AreBranches branches.new }
     ensures forked { IsForked (below branches.new) slots.new.items }
     ensures levels { levels (below branches.new) ≡ levels (below branches.old) }
+
+    // the slots, and the unused nodes
     ensures adds { AddsTo (weave (insert (lists (below branches.old)) (i + 1) upper.value.slots) (insert slots.old.items i middle)) (length slots.old.items) (tree (below branches.new) slots.new.items) result }
     ensures left { spare.old.count ≤ spare.new.count + 1 }
     ensures spare { (spare.new.wanted ≡ spare.old.wanted) × (spare.new.room ≡ spare.old.room) }
@@ -118,6 +128,8 @@ impl Node {
         requires upper { IsBranch (lower.value.height + 1) upper.value }
         requires lower_count { lower_count ≡ length lower.value.slots }
         requires upper_count { upper_count ≡ length upper.value.slots }
+
+        // afterwards
         ensures slots { self.new.slots ≡ lower.value.slots ++ middle ∷ upper.value.slots }
         ensures height { self.new.height ≡ lower.value.height + 1 }
         ensures width { self.new.width ≡ 1 }
@@ -133,9 +145,13 @@ impl Node {
         requires leaf { self.old.height ≡ 1 }
         requires place { at ≤ length self.old.slots }
         requires enough { 0 < spare.old.count }
+
+        // the node
         ensures adds { AddsTo (insert self.old.slots at slot) self.old.width self.new result }
         ensures height { self.new.height ≡ self.old.height }
         ensures dense { IsDense self.new }
+
+        // the unused nodes
         ensures left { spare.old.count ≤ spare.new.count + 1 }
         ensures spare { (spare.new.wanted ≡ spare.old.wanted) × (spare.new.room ≡ spare.old.room) }
     {
@@ -154,9 +170,13 @@ impl Node {
         requires place { at ≤ length self.old.slots }
         requires room { length self.old.slots + 1 < 2 ^ 32 }
         requires enough { self.old.height ≤ spare.old.count }
+
+        // the node
         ensures adds { AddsTo (insert self.old.slots at slot) self.old.width self.new result }
         ensures height { self.new.height ≡ self.old.height }
         ensures dense { IsDense self.new }
+
+        // the unused nodes
         ensures left { spare.old.count ≤ spare.new.count + self.old.height }
         ensures spare { (spare.new.wanted ≡ spare.old.wanted) × (spare.new.room ≡ spare.old.room) }
     {

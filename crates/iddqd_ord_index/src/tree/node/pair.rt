@@ -11,6 +11,8 @@ fn move_first(lower: &mut Branches, upper: &mut Branches)
     requires branches { AreBranches lower.old }
     requires upper_branches { AreBranches upper.old }
     requires fits { length (below lower.old) < 12 }
+
+    // afterwards
     ensures branches { AreBranches lower.new }
     ensures upper_branches { AreBranches upper.new }
     ensures below { below lower.new ≡ below lower.old ++ take 1 (below upper.old) }
@@ -30,6 +32,8 @@ fn move_last(lower: &mut Branches, len: usize, upper: &mut Branches)
     requires upper_branches { AreBranches upper.old }
     requires len { 0 < length (below lower.old) → len + 1 ≡ length (below lower.old) }
     requires fits { length (below upper.old) < 12 }
+
+    // afterwards
     ensures branches { AreBranches lower.new }
     ensures upper_branches { AreBranches upper.new }
     ensures below { below lower.new ≡ take len (below lower.old) }
@@ -47,6 +51,8 @@ impl Node {
     fn merge(&mut self, middle: u32, upper: &mut Node)
         requires height { self.old.height ≡ upper.old.height }
         requires fits { self.old.width + upper.old.width < 11 }
+
+        // afterwards
         ensures slots { self.new.slots ≡ self.old.slots ++ middle ∷ upper.old.slots }
         ensures height { self.new.height ≡ self.old.height }
         ensures width { self.new.width ≡ self.old.width + upper.old.width + 1 }
@@ -67,6 +73,8 @@ impl Node {
         requires height { self.old.height ≡ upper.old.height }
         requires fits { self.old.width < 11 }
         requires more { 0 < upper.old.width }
+
+        // afterwards
         ensures slots { self.old.slots ++ middle ∷ upper.old.slots ≡ self.new.slots ++ result ∷ upper.new.slots }
         ensures height { (self.new.height ≡ self.old.height) × (upper.new.height ≡ upper.old.height) }
         ensures width { (self.new.width ≡ self.old.width + 1) × (upper.new.width + 1 ≡ upper.old.width) }
@@ -83,6 +91,8 @@ impl Node {
         requires height { self.old.height ≡ upper.old.height }
         requires fits { upper.old.width < 11 }
         requires more { 0 < self.old.width }
+
+        // afterwards
         ensures slots { self.old.slots ++ middle ∷ upper.old.slots ≡ self.new.slots ++ result ∷ upper.new.slots }
         ensures height { (self.new.height ≡ self.old.height) × (upper.new.height ≡ upper.old.height) }
         ensures width { (self.new.width + 1 ≡ self.old.width) × (upper.new.width ≡ upper.old.width + 1) }

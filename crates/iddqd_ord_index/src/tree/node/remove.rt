@@ -28,11 +28,17 @@ fn settle(
     requires pair { IsPair lower.value upper.value }
     requires total { total ≡ length lower.value.slots + length upper.value.slots }
     requires room { total + 1 < 2 ^ 32 }
+
+    // the branches
     ensures branches { AreBranches branches.new }
     ensures forked { IsForked (below branches.new) slots.new.items }
     ensures levels { levels (below branches.new) ≡ lower.value.height + 1 }
+
+    // the slots
     ensures slots { weave (lists (below branches.new)) slots.new.items ≡ weave (insert (insert (lists (below branches.old)) j upper.value.slots) j lower.value.slots) slots.old.items }
     ensures width { (length slots.new.items ≤ length slots.old.items) × (length slots.old.items ≤ length slots.new.items + 1) }
+
+    // the unused nodes
     ensures kept { length slots.new.items ≡ length slots.old.items → spare.new ≡ spare.old }
     ensures gives_back { length slots.new.items < length slots.old.items → spare.new ≡ given_back spare.old }
 {
@@ -64,11 +70,17 @@ fn mend(
     requires near { IsNear (below branches.old) slots.old.items i }
     requires width { width ≡ (slice_index_or (below branches.old) i unused).width }
     requires room { starts (lists (below branches.old)) ≤ 2 ^ 32 }
+
+    // the branches
     ensures branches { AreBranches branches.new }
     ensures forked { IsForked (below branches.new) slots.new.items }
     ensures levels { levels (below branches.new) ≡ levels (below branches.old) }
+
+    // the slots
     ensures slots { weave (lists (below branches.new)) slots.new.items ≡ weave (lists (below branches.old)) slots.old.items }
     ensures width { (length slots.new.items ≤ length slots.old.items) × (length slots.old.items ≤ length slots.new.items + 1) }
+
+    // the unused nodes
     ensures kept { length slots.new.items ≡ length slots.old.items → spare.new ≡ spare.old }
     ensures gives_back { length slots.new.items < length slots.old.items → spare.new ≡ given_back spare.old }
     ensures short { length slots.new.items < length slots.old.items → width < 5 }
@@ -113,11 +125,15 @@ impl Node {
         requires place { at < length self.old.slots }
         requires room { length self.old.slots < 2 ^ 32 }
         requires some { 1 < self.old.height → 0 < self.old.width }
+
+        // the node
         ensures value { result ≡ slice_index self.old.slots at }
         ensures slots { self.new.slots ≡ remove self.old.slots at }
         ensures height { self.new.height ≡ self.old.height }
         ensures width { self.old.width ≤ self.new.width + 1 }
         ensures dense { IsDense self.new }
+
+        // the unused nodes
         ensures kept { spare.old.count ≤ spare.new.count }
         ensures gives_back { self.new.width < self.old.width → min (spare.old.count + self.old.height - 1) spare.old.wanted ≤ spare.new.count }
         ensures spare { (spare.new.wanted ≡ spare.old.wanted) × (spare.new.room ≡ spare.old.room) }
@@ -140,6 +156,8 @@ impl Node {
     pub(crate) fn collapse(&mut self) -> Box<Node>
         requires inner { 1 < self.old.height }
         requires empty { self.old.width ≡ 0 }
+
+        // afterwards
         ensures slots { self.new.slots ≡ self.old.slots }
         ensures height { self.new.height + 1 ≡ self.old.height }
         ensures width { 5 ≤ self.new.width }
