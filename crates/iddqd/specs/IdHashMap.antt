@@ -2,8 +2,9 @@
 --     IsKeyedByText, IsKeyed      its items lie as lookups expect them, with text keys and the default hasher, or with any
 --     differ_from_keyed, default_hash, text_writes      what that tells, and what the default hasher returns
 --     HashItems, held, of_stored_hash      what contracts see of a map
+--     HashStays      what stays in each call that changes a keyed map: it is keyed, keeps the spare, and has the same hasher
 --     HashInserts, HashKeeps      an item was inserted; nothing has changed but the room, which may have grown
---     HashFills      items were inserted
+--     HashFills, HashShrinks      items were inserted; the slots were closed up, and memory was given back
 --     IsEmptyMap, SpareFits, KeepsSpare      no item and no room; the room fits the limit; the spare stays
 --     ends_hash_inserted, ends_hash_extended, lends_nothing      what the map is once the result of such a call is dropped
 --     HaveEqualItems, FindsEqual, CloneHashesAlike      what `eq` returns, and what `clone` asks of the hasher
@@ -16,7 +17,7 @@
 --     WalkKeeps, WalkKeepsAkin, walk_lends      what a step of such a walk leaves
 unfoldable pub use Rattle.iddqd_hash.specs.HashItems.{IsKeyed}
 pub use Rattle.iddqd_hash.specs.HashItems.{HashItems, IsKeyedByText, default_hash, differ_from_keyed, holding_of, of_stored_hash, text_writes}
-pub use Rattle.iddqd_hash.specs.HashMap.{CloneHashesAlike, FindsEqual, HashFills, HashInserts, HashKeeps, HaveEqualItems, IsEmptyMap, KeepsSpare, SpareFits, ends_hash_extended, ends_hash_inserted, lends_nothing}
+pub use Rattle.iddqd_hash.specs.HashMap.{CloneHashesAlike, FindsEqual, HashFills, HashInserts, HashKeeps, HashShrinks, HashStays, HaveEqualItems, IsEmptyMap, KeepsSpare, SpareFits, ends_hash_extended, ends_hash_inserted, lends_nothing}
 pub use Rattle.iddqd_hash.specs.Guard.{guard_follows, item_follows, lends_item, lent_item, lent_map, guard_lender, lent_slot, lent_with, rests_at_none, shown_item, shown_map, shown_lender, with_item_in}
 pub use Rattle.iddqd_hash.specs.declared.id_hash_map.entry.Entry.TheVariants.{Occupied, Vacant}
 pub use Rattle.iddqd_hash.specs.Entry.{EntryKeeps, EntryKeepsAkin, entry_follows, entry_item, entry_map, entry_lender, entry_others, entry_slot, entry_with, rests_if_refused}

@@ -1,6 +1,5 @@
 pub mod CloneLemmas
 mod EntryLemmas
-mod CollectLemmas
 mod CompactLemmas
 pub mod FoundLemmas
 pub mod HashCountLemmas

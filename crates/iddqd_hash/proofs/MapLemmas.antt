@@ -9,6 +9,7 @@
 --     emptied_keyed, emptied_spare      ... where no item is left
 --     keeps_spare      the room of a map whose numbers say so
 --     map_kept, map_inserted      what an insertion leaves, refused or not
+--     stays_on      what stays in two calls, one after the other
 --     map_taken, map_exchanged      what a removal and a replacement leave
 use Rattle.std.proofs.Common.{◌≡◌, ℕ, ◌+◌, ◌-◌, ◌<◌, ◌≤◌, min, Bool, true, false, List, [], length, get_or, Option, Some, None, IfSome, IfNone, IsSomeAnd, is_some, refl, sym, ap, ◌∙◌, arith, subst, count_by, ⊎_elim}
 use Rattle.std.proofs.lemmas.Bool.{cases_eq}
@@ -20,7 +21,7 @@ use Rattle.iddqd_store.specs.Contents.{AddsItem, IsAbsent, IsKeyTest, NoTwoAkin,
 use Rattle.iddqd_hash_index.specs.HashPairs.{HashPairs, HasOneMore, IsMatch, SamePairs}
 use Rattle.iddqd_store.specs.Store.{Store, item_at, store_len, vacant, Updates}
 use Rattle.iddqd_hash.specs.HashItems.{HashItems, KeyedItems}
-use Rattle.iddqd_hash.specs.HashMap.{HashInserts, HashKeeps, KeepsSpare, SpareFits}
+use Rattle.iddqd_hash.specs.HashMap.{HashInserts, HashKeeps, HashStays, KeepsSpare, SpareFits}
 use Rattle.iddqd_hash.specs.StoreAndIndex.{AreListedUnder, PairsOccupied, hash_of_slot, items_in, numbers_of, hash_items_of, slots_in, spare_in}
 use Rattle.iddqd_hash.proofs.FoundLemmas.{differ_added, differ_exchanged, differ_taken, item_absent, item_exchanged, item_found, item_taken, same_numbers}
 use Rattle.iddqd_hash.proofs.PairLemmas.{listed_hash}
@@ -87,9 +88,7 @@ module _ {S T K : Type 0} (key : T → K) (eq : K → K → Bool) (input : K →
   pub unchanged : (store : Store T) (index : HashPairs) → PairsOccupied store index.pairs → KeyedItems key eq input hash (hash_items_of store index hasher) → HashKeeps (KeyedItems key eq input hash) (hash_items_of store index hasher) (hash_items_of store index hasher)
   unchanged store index paired keyed = record {
     keeps = record { items = refl; slots = refl; vacant = refl; capacity = omega arith; limit = refl };
-    keyed = keyed;
-    spare = same_spare hasher store index paired;
-    hasher = refl;
+    stays = record { keyed = keyed; spare = same_spare hasher store index paired; hasher = refl };
   }
 
   -- the room of two maps
@@ -109,9 +108,11 @@ module _ {S T K : Type 0} (key : T → K) (eq : K → K → Bool) (input : K →
         let len : store_len new ≡ store_len old = ap (λ xs. count_by is_some xs) slots in
         record {
           keeps = record { items = ap (λ s. items_in s) rest; slots = ap (λ s. slots_in s) rest; vacant = ap (λ s. vacant s) rest; capacity = capacity; limit = limit };
-          keyed = make_keyed new q (subst (λ s. NoTwoAkin key eq (items_in s)) (sym rest) keyed.differ) (under_same tell old new p.pairs q.pairs (keyed_under old p keyed) slots same);
-          spare = keeps_spare (omega (arith, spare, len)) capacity limit;
-          hasher = refl;
+          stays = record {
+            keyed = make_keyed new q (subst (λ s. NoTwoAkin key eq (items_in s)) (sym rest) keyed.differ) (under_same tell old new p.pairs q.pairs (keyed_under old p keyed) slots same);
+            spare = keeps_spare (omega (arith, spare, len)) capacity limit;
+            hasher = refl;
+          };
         }
 
     pub emptied_spare : p.spare + length p.pairs ≤ q.spare → new.slots ≡ [] → old.capacity ≤ new.capacity → new.limit ≡ old.limit → KeepsSpare (hash_items_of old p hasher) (hash_items_of new q hasher)
@@ -124,9 +125,11 @@ module _ {S T K : Type 0} (key : T → K) (eq : K → K → Bool) (input : K →
         let adds = item_added old.slots new.slots slot x none updates.changed updates.others in
         record {
           takes = record { room = room; added = adds; slots = slots_apart new.slots; vacant = gone; capacity = omega (arith, capacity); limit = limit };
-          keyed = make_keyed new q (differ_added key equivalence x (items_in old) (items_in new) adds absent keyed.differ) (under_added tell old new p.pairs q.pairs (keyed_under old p keyed) (tell x) slot x was more none updates refl);
-          spare = keeps_spare (omega (arith, spare, len)) (omega (arith, capacity)) limit;
-          hasher = refl;
+          stays = record {
+            keyed = make_keyed new q (differ_added key equivalence x (items_in old) (items_in new) adds absent keyed.differ) (under_added tell old new p.pairs q.pairs (keyed_under old p keyed) (tell x) slot x was more none updates refl);
+            spare = keeps_spare (omega (arith, spare, len)) (omega (arith, capacity)) limit;
+            hasher = refl;
+          };
         }
 
     -- what a query stands for
@@ -162,6 +165,14 @@ module _ {S T K : Type 0} (key : T → K) (eq : K → K → Bool) (input : K →
         (λ n. under other z (sym (updates.others other n) ∙ at))
         (cases_eq other slot))
 
+-- what stays in two calls, one after the other
+pub stays_on : {S T : Type 0} (IsKeyed : HashItems S T → Type 0) (old between new : HashItems S T) → HashStays IsKeyed old between → HashStays IsKeyed between new → HashStays IsKeyed old new
+stays_on IsKeyed old between new first then = record {
+  keyed = then.keyed;
+  spare = record { never_less = omega (arith, then.spare.never_less, first.spare.never_less); in_limit = then.spare.in_limit };
+  hasher = then.hasher ∙ first.hasher;
+}
+
 -- an insertion after a growth
 pub inserted_after : {S T K : Type 0} (key : T → K) (eq : K → K → Bool) (input : K → HashWrites) (hash : S → HashWrites → ℕ) (x : T) (old room new : HashItems S T) → HashKeeps (KeyedItems key eq input hash) old room → HashInserts (KeyedItems key eq input hash) x room new → HashInserts (KeyedItems key eq input hash) x old new
 inserted_after key eq input hash x old room new kept inserted =
@@ -175,7 +186,5 @@ inserted_after key eq input hash x old room new kept inserted =
         capacity = omega (arith, inserted.takes.capacity, kept.keeps.capacity);
         limit = inserted.takes.limit ∙ kept.keeps.limit;
       };
-      keyed = inserted.keyed;
-      spare = record { never_less = omega (arith, inserted.spare.never_less, kept.spare.never_less); in_limit = inserted.spare.in_limit };
-      hasher = inserted.hasher ∙ kept.hasher;
+      stays = stays_on (KeyedItems key eq input hash) old room new kept.stays inserted.stays;
     }

@@ -1,18 +1,22 @@
 -- What the calls of a hash map leave. `IsKeyed` tells that its items lie as lookups expect them.
 --     IsEmptyMap      there is no item, and no memory has been taken
 --     SpareFits      what is there and what is spare fit the limit together
---     KeepsSpare      the spare stays (SpareStays of the core)
---     HashInserts      the item was put in
+--     KeepsSpare      what is there and what is spare are no fewer together, and fit the limit
+--     LosesPlaceOf      a slot and its item have left their place
+--     HashStays      what stays in each call that changes a keyed map: it is keyed, keeps the spare, and has the same hasher
+--     HashInserts      the item was inserted
 --     HashKeeps      nothing has changed but the room, which may have grown
 --     HashFills      items were inserted
+--     HashShrinks      the slots were closed up, and memory was given back
 --     HaveEqualItems      what `eq` of two maps says
 --     CloneHashesAlike      a hasher's clone hashes as it does
-use Rattle.std.specs.Prelude.{◌≡◌, ℕ, ◌+◌, ◌≤◌, [], List, length, Bool, true, All, IfErr, IsSomeAnd, Result}
+use Rattle.std.specs.Prelude.{◌≡◌, ℕ, ◌+◌, ◌≤◌, [], List, length, Bool, true, All, IfErr, IsPermutation, IsSomeAnd, Result, Some, remove, slice_get}
+use Rattle.std.specs.Prelude.{min as least}
 use Rattle.std.specs.Borrow.{Fml, RattleType, MutBor, Lends, LendsSoOk, unit}
 use Rattle.std.specs.Hash.{HashWrites}
 use Rattle.iddqd_store.specs.Adding.{AddsGiven, OnItemRefused, StopsAdding}
 use Rattle.iddqd_store.specs.Contents.{find_item}
-use Rattle.iddqd_store.specs.Holding.{FillsSlots, InsertsItem, KeepsItems, SpareStays}
+use Rattle.iddqd_store.specs.Holding.{FillsSlots, InsertsItem, KeepsItems, Shrinks}
 use Rattle.iddqd_store.specs.Refusal.{OnDuplicate}
 use Rattle.iddqd_store.specs.declared.errors.ExtendUniqueError.{ExtendUniqueError}
 use Rattle.iddqd_store.specs.declared.errors.InsertError.{InsertError}
@@ -26,27 +30,41 @@ module _ {S T : Type 0} where
   abbrev pub SpareFits : HashItems S T → Type 0
   SpareFits m = m.spare + length m.items ≤ m.limit
 
-  abbrev pub KeepsSpare : HashItems S T → HashItems S T → Type 0
-  KeepsSpare old new = SpareStays new.limit old.spare old.items new.spare new.items
+  pub record KeepsSpare (old new : HashItems S T) : Type 0 where
+    pub never_less : old.spare + length old.items ≤ new.spare + length new.items
+    pub in_limit : SpareFits new
+
+  -- the slot's place is gone, and its item with it
+  abbrev pub LosesPlaceOf : ℕ → HashItems S T → HashItems S T → Type 0
+  LosesPlaceOf slot old new =
+      (place : ℕ) → slice_get old.slots place ≡ Some slot → (new.items ≡ remove old.items place) × (new.slots ≡ remove old.slots place)
 
   module _ (IsKeyed : HashItems S T → Type 0) where
-    pub record HashInserts (x : T) (old new : HashItems S T) : Type 0 where
-      pub takes : InsertsItem x (holding_of old) (holding_of new)
+    pub record HashStays (old new : HashItems S T) : Type 0 where
       pub keyed : IsKeyed new
       pub spare : KeepsSpare old new
       pub hasher : new.hasher ≡ old.hasher
+
+    pub record HashInserts (x : T) (old new : HashItems S T) : Type 0 where
+      pub takes : InsertsItem x (holding_of old) (holding_of new)
+      pub stays : HashStays old new
 
     pub record HashKeeps (old new : HashItems S T) : Type 0 where
       pub keeps : KeepsItems (holding_of old) (holding_of new)
-      pub keyed : IsKeyed new
-      pub spare : KeepsSpare old new
-      pub hasher : new.hasher ≡ old.hasher
+      pub stays : HashStays old new
 
     pub record HashFills (old new : HashItems S T) : Type 0 where
       pub fills : FillsSlots (holding_of old) (holding_of new)
-      pub keyed : IsKeyed new
-      pub spare : KeepsSpare old new
+      pub stays : HashStays old new
+
+    -- room for so many items is left, or as much as there was; the spare may be less
+    pub record HashShrinks (min : ℕ) (old new : HashItems S T) : Type 0 where
+      pub items : IsPermutation old.items new.items
+      pub shrinks : Shrinks min (holding_of old) (holding_of new)
+      pub spare : least min (old.spare + length old.items) ≤ new.spare + length new.items
+      pub within_limit : SpareFits new
       pub hasher : new.hasher ≡ old.hasher
+      pub keyed : IsKeyed new
 
 module _ {S T K : Type 0} (key : T → K) (key_eq : K → K → Bool) (eq : T → T → Bool) where
   -- the item's key finds an item that is equal to it

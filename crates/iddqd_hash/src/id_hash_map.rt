@@ -153,20 +153,20 @@ impl<T: IdHashItem> IdHashMap<T> {
     /// A map without items, over the default hasher. It takes no memory.
     pub fn new(alloc: Global) -> Self
         ensures empty { IsEmptyMap MAX_ITEMS result }
-        ensures keyed { ⟦<IdHashMap<T> as Keyed>⟧.keyed result }
+        ensures keyed { ⟦<Self as Keyed>⟧.keyed result }
     {
         IdHashMap::with_hasher(alloc, DefaultHashBuilder::new())
     }
 }
 
 impl<T: IdHashItem, S: BuildHasher> IdHashMap<T, S> {
-    ghost use Rattle.iddqd_hash.specs.HashMap.{IsEmptyMap, KeepsSpare};
+    ghost use Rattle.iddqd_hash.specs.HashMap.{HashStays, IsEmptyMap};
 
     /// A map without items, over the hasher that is handed in. It takes no memory.
     pub fn with_hasher(alloc: Global, hasher: S) -> Self
         ensures empty { IsEmptyMap MAX_ITEMS result }
         ensures hasher { result.hasher ≡ hasher }
-        ensures keyed { ⟦<IdHashMap<T, S> as Keyed>⟧.keyed result }
+        ensures keyed { ⟦<Self as Keyed>⟧.keyed result }
     {
         IdHashMap::with_limit(alloc, MAX_ITEMS, hasher)
     }
@@ -176,7 +176,7 @@ impl<T: IdHashItem, S: BuildHasher> IdHashMap<T, S> {
     pub fn with_limit(alloc: Global, limit: u32, hasher: S) -> Self
         ensures empty { IsEmptyMap limit result }
         ensures hasher { result.hasher ≡ hasher }
-        ensures keyed { ⟦<IdHashMap<T, S> as Keyed>⟧.keyed result }
+        ensures keyed { ⟦<Self as Keyed>⟧.keyed result }
     {
         IdHashMap::over(ItemStore::new(alloc, limit), HashIndex::new(alloc), hasher)
     }
@@ -186,7 +186,7 @@ impl<T: IdHashItem, S: BuildHasher> IdHashMap<T, S> {
         requires no_slot { store.slots ≡ [] }
         requires no_pair { index.pairs ≡ [] }
         ensures empty { result ≡ record { items = []; slots = []; hashes = []; hasher = hasher; spare = min index.spare (min store.capacity store.limit); vacant = 0; capacity = store.capacity; limit = store.limit } }
-        ensures keyed { ⟦<IdHashMap<T, S> as Keyed>⟧.keyed result }
+        ensures keyed { ⟦<Self as Keyed>⟧.keyed result }
     {
         IdHashMap {
             store,
@@ -203,11 +203,9 @@ impl<T: IdHashItem, S: BuildHasher> IdHashMap<T, S> {
         ensures items { self.new.items ≡ [] }
         ensures slots { self.new.slots ≡ [] }
         ensures vacant { self.new.vacant ≡ 0 }
-        ensures spare { KeepsSpare self.old self.new }
         ensures capacity { self.new.capacity ≡ self.old.capacity }
         ensures limit { self.new.limit ≡ self.old.limit }
-        ensures hasher { self.new.hasher ≡ self.old.hasher }
-        ensures keyed { ⟦<IdHashMap<T, S> as Keyed>⟧.keyed self.new }
+        ensures stays { HashStays ⟦<Self as Keyed>⟧.keyed self.old self.new }
     {
         self.store.clear();
         self.index.clear();

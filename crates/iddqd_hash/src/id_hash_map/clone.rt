@@ -19,7 +19,7 @@ impl<T: IdHashItem, S: BuildHasher> IdHashMap<T, S> {
     where
         T: Clone,
         S: Clone,
-        requires keyed { ⟦<IdHashMap<T, S> as Keyed>⟧.keyed self.now }
+        requires keyed { ⟦<Self as Keyed>⟧.keyed self.now }
         requires keeps_keys { ClonesKeepKeys T.key T.Key.eq T.is_clone }
         requires hashes_alike { CloneHashesAlike S.is_clone (hash_under S.BuildHasher S.Hasher.Hasher) self.now.hasher }
         ensures items { IfOk result (λ copy. AllZip T.is_clone self.now.items copy.items) }
@@ -28,7 +28,7 @@ impl<T: IdHashItem, S: BuildHasher> IdHashMap<T, S> {
         ensures limit { IfOk result (λ copy. copy.limit ≡ self.now.limit) }
         ensures hasher { IfOk result (λ copy. S.is_clone self.now.hasher copy.hasher) }
         ensures spare { IfOk result SpareFits }
-        ensures keyed { IfOk result ⟦<IdHashMap<T, S> as Keyed>⟧.keyed }
+        ensures keyed { IfOk result ⟦<Self as Keyed>⟧.keyed }
         ensures only_memory { IfErr result (λ e. e ≡ memory_refused) }
     {
         let index = self.index.try_clone()?;

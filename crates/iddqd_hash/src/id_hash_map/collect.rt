@@ -3,7 +3,6 @@ ghost use Rattle.std.specs.Prelude.{◌≡◌, ◌+◌, ◌≤◌, [], List, len
 ghost use Rattle.std.specs.Iterator.{IsFiniteIterable};
 ghost use Rattle.iddqd_store.specs.Collecting.{GivesAll, GivesThen, OverwritesAll, ShowsAkin, ShowsFirstRepeat};
 ghost use Rattle.iddqd_store.specs.Contents.{IsAbsent, NoTwoAkin};
-ghost use Rattle.iddqd_store.specs.Holding.{FillsSlots};
 ghost use Rattle.iddqd_store.specs.Refusal.{FindsNoRoom};
 
 use super::store_and_index::{find_slot, take_out};
@@ -16,8 +15,7 @@ use std::alloc::Global;
 use std::hash::BuildHasher;
 
 impl<T: IdHashItem, S: BuildHasher> IdHashMap<T, S> {
-    ghost use Rattle.iddqd_hash.specs.HashItems.{holding_of};
-    ghost use Rattle.iddqd_hash.specs.HashMap.{HashInserts, HashKeeps, KeepsSpare, SpareFits};
+    ghost use Rattle.iddqd_hash.specs.HashMap.{HashFills, HashInserts, HashKeeps, SpareFits};
 
     /// Puts in the items one after the other, each in the stead of one of an equal key (the crate's `Extend`, a function
     /// here, since it can refuse). Room is made before an item is asked for: for as many as the iterator announces at least
@@ -28,16 +26,13 @@ impl<T: IdHashItem, S: BuildHasher> IdHashMap<T, S> {
     pub fn extend<U: IntoIterator<Item = T>>(&mut self, iter: U) -> Result<(), ExtendError<T>>
     where
         T: Drop,
-        requires keyed { ⟦<IdHashMap<T, S> as Keyed>⟧.keyed self.old }
+        requires keyed { ⟦<Self as Keyed>⟧.keyed self.old }
         requires ends { IsFiniteIterable U.into_iter_gives U.IntoIter.can_next U.IntoIter.remaining iter }
         ensures taken { OnOk result ((xs : List T) × GivesAll U.into_iter_gives U.IntoIter.next_gives iter xs × OverwritesAll T.key T.Key.eq self.old.limit xs self.old.items self.new.items) }
         ensures stopped { IfErr result (λ e. IfSome e.item (λ x. (xs : List T) × GivesThen U.into_iter_gives U.IntoIter.next_gives iter xs x × OverwritesAll T.key T.Key.eq self.old.limit xs self.old.items self.new.items × FindsNoRoom T.key T.Key.eq self.old.limit self.new.items x e.error)) }
         ensures spare_first { IfErr result (λ e. IfSome e.item (λ x. self.old.spare + length self.old.items ≤ length self.new.items)) }
-        ensures not_begun { IfErr result (λ e. IfNone e.item (HashKeeps ⟦<IdHashMap<T, S> as Keyed>⟧.keyed self.old self.new)) }
-        ensures fills { FillsSlots (holding_of self.old) (holding_of self.new) }
-        ensures spare { KeepsSpare self.old self.new }
-        ensures hasher { self.new.hasher ≡ self.old.hasher }
-        ensures keyed { ⟦<IdHashMap<T, S> as Keyed>⟧.keyed self.new }
+        ensures not_begun { IfErr result (λ e. IfNone e.item (HashKeeps ⟦<Self as Keyed>⟧.keyed self.old self.new)) }
+        ensures fills { HashFills ⟦<Self as Keyed>⟧.keyed self.old self.new }
     {
         let items = iter.into_iter();
         let room = room_to_reserve(self.len(), items.size_hint().0);
@@ -74,7 +69,7 @@ impl<T: IdHashItem, S: BuildHasher> IdHashMap<T, S> {
         ensures limit { IfOk result (λ m. m.limit ≡ MAX_ITEMS) }
         ensures spare { IfOk result SpareFits }
         ensures hasher { IfOk result (λ m. S.is_default m.hasher) }
-        ensures keyed { IfOk result ⟦<IdHashMap<T, S> as Keyed>⟧.keyed }
+        ensures keyed { IfOk result ⟦<Self as Keyed>⟧.keyed }
     {
         let mut map = IdHashMap::with_hasher(alloc, S::default());
         match map.extend(iter) {
@@ -102,7 +97,7 @@ impl<T: IdHashItem, S: BuildHasher> IdHashMap<T, S> {
         ensures limit { IfOk result (λ m. m.limit ≡ MAX_ITEMS) }
         ensures spare { IfOk result SpareFits }
         ensures hasher { IfOk result (λ m. S.is_default m.hasher) }
-        ensures keyed { IfOk result ⟦<IdHashMap<T, S> as Keyed>⟧.keyed }
+        ensures keyed { IfOk result ⟦<Self as Keyed>⟧.keyed }
     {
         let items = iter.into_iter();
         let announced = items.size_hint().0;
@@ -120,8 +115,8 @@ impl<T: IdHashItem, S: BuildHasher> IdHashMap<T, S> {
     fn insert_first(&mut self, item: T) -> Result<(), FromIterError<T>>
     where
         T: Drop,
-        requires keyed { ⟦<IdHashMap<T, S> as Keyed>⟧.keyed self.old }
-        ensures inserted { OnOk result (HashInserts ⟦<IdHashMap<T, S> as Keyed>⟧.keyed item self.old self.new) }
+        requires keyed { ⟦<Self as Keyed>⟧.keyed self.old }
+        ensures inserted { OnOk result (HashInserts ⟦<Self as Keyed>⟧.keyed item self.old self.new) }
         ensures absent { OnOk result (IsAbsent T.key (T.Key.eq (T.key item)) self.old.items) }
         ensures akin { IfErr result (ShowsAkin T.key T.Key.eq self.old.items item) }
     {

@@ -45,7 +45,7 @@ impl<T: IdHashItem, S: BuildHasher> IdHashMap<T, S> {
     /// The entry of the query: occupied where it finds an item. It hashes the query once, makes as many comparisons as `get`,
     /// takes no memory, and changes nothing.
     pub fn entry<Q: Hash + Equivalent<T::Key>>(&mut self, query: &Q) -> Entry<'_, T, S>
-        requires keyed { ⟦<IdHashMap<T, S> as Keyed>⟧.keyed self.old }
+        requires keyed { ⟦<Self as Keyed>⟧.keyed self.old }
         requires hashes { HashesAs (Q.equivalent query.now) (Q.hash_input query.now) T.Key.hash_input }
         ensures same_map { entry_lender result ≡ self.entry.ghost_name }
         ensures unchanged { entry_map result ≡ self.old }

@@ -14,7 +14,7 @@ impl<T: IdHashItem, S: BuildHasher> IdHashMap<T, S> {
     pub fn eq(&self, other: &Self) -> bool
     where
         T: PartialEq,
-        requires keyed { ⟦<IdHashMap<T, S> as Keyed>⟧.keyed other.now }
+        requires keyed { ⟦<Self as Keyed>⟧.keyed other.now }
         ensures { IsTrue result ↔ HaveEqualItems T.key T.Key.eq T.eq self.now other.now }
     {
         if self.len() != other.len() {
@@ -32,7 +32,7 @@ impl<T: IdHashItem, S: BuildHasher> IdHashMap<T, S> {
     fn has_equal(&self, item: &T) -> bool
     where
         T: PartialEq,
-        requires keyed { ⟦<IdHashMap<T, S> as Keyed>⟧.keyed self.now }
+        requires keyed { ⟦<Self as Keyed>⟧.keyed self.now }
         ensures { IsTrue result ↔ FindsEqual T.key T.Key.eq T.eq self.now item.now }
     {
         match self.get(item.key()) {

@@ -31,9 +31,9 @@ impl<T: IdHashItem, S: BuildHasher> IdHashMap<T, S> {
     ) -> Result<&mut (), ExtendUniqueError<'_, T>>
     where
         T: Drop,
-        requires keyed { ⟦<IdHashMap<T, S> as Keyed>⟧.keyed self.old }
+        requires keyed { ⟦<Self as Keyed>⟧.keyed self.old }
         requires ends { IsFiniteIterable U.into_iter_gives U.IntoIter.can_next U.IntoIter.remaining iter }
-        ensures* after { sem 𝓛 (ends_hash_extended S.row T.row T.key T.Key.eq ⟦<IdHashMap<T, S> as Keyed>⟧.keyed (GivesAll U.into_iter_gives U.IntoIter.next_gives iter) (GivesThen U.into_iter_gives U.IntoIter.next_gives iter) self.entry result) }
+        ensures* after { sem 𝓛 (ends_hash_extended S.row T.row T.key T.Key.eq ⟦<Self as Keyed>⟧.keyed (GivesAll U.into_iter_gives U.IntoIter.next_gives iter) (GivesThen U.into_iter_gives U.IntoIter.next_gives iter) self.entry result) }
         ensures conflict { IfErr result (ShowsFirstConflict T.key T.Key.eq (GivesThen U.into_iter_gives U.IntoIter.next_gives iter) self.old.items) }
     {
         match self.add_each(iter) {
@@ -50,12 +50,12 @@ impl<T: IdHashItem, S: BuildHasher> IdHashMap<T, S> {
     fn add_each<U: IntoIterator<Item = T>>(&mut self, iter: U) -> Result<(), Halt<T>>
     where
         T: Drop,
-        requires keyed { ⟦<IdHashMap<T, S> as Keyed>⟧.keyed self.old }
+        requires keyed { ⟦<Self as Keyed>⟧.keyed self.old }
         requires ends { IsFiniteIterable U.into_iter_gives U.IntoIter.can_next U.IntoIter.remaining iter }
         ensures added { OnOk result ((xs : List T) × GivesAll U.into_iter_gives U.IntoIter.next_gives iter xs × AddsAll T.key T.Key.eq xs self.old.items self.new.items) }
         ensures halted { IfErr result (HaltsAdding T.key T.Key.eq (GivesThen U.into_iter_gives U.IntoIter.next_gives iter) (holding_of self.old) (holding_of self.new)) }
         ensures spare_first { IfErr result (OnItemBack (self.old.spare + length self.old.items ≤ length self.new.items)) }
-        ensures fills { HashFills ⟦<IdHashMap<T, S> as Keyed>⟧.keyed self.old self.new }
+        ensures fills { HashFills ⟦<Self as Keyed>⟧.keyed self.old self.new }
     {
         let items = iter.into_iter();
         let room = room_to_reserve(self.len(), items.size_hint().0);
@@ -70,12 +70,12 @@ impl<T: IdHashItem, S: BuildHasher> IdHashMap<T, S> {
 
     // Inserts the item where none of an equal key is there, and else answers that one's slot.
     fn add(&mut self, item: T) -> Result<(), Halt<T>>
-        requires keyed { ⟦<IdHashMap<T, S> as Keyed>⟧.keyed self.old }
-        ensures inserted { OnOk result (HashInserts ⟦<IdHashMap<T, S> as Keyed>⟧.keyed item self.old self.new) }
+        requires keyed { ⟦<Self as Keyed>⟧.keyed self.old }
+        ensures inserted { OnOk result (HashInserts ⟦<Self as Keyed>⟧.keyed item self.old self.new) }
         ensures absent { OnOk result (IsAbsent T.key (T.Key.eq (T.key item)) self.old.items) }
         ensures halted { IfErr result (HaltsAt T.key T.Key.eq item (holding_of self.old)) }
         ensures no_spare { IfErr result (OnItemBack (self.old.spare ≡ 0)) }
-        ensures kept { OnErr result (HashKeeps ⟦<IdHashMap<T, S> as Keyed>⟧.keyed self.old self.new) }
+        ensures kept { OnErr result (HashKeeps ⟦<Self as Keyed>⟧.keyed self.old self.new) }
     {
         let hash = self.hasher.hash_one(item.key());
         match find_slot(&self.store, &self.index, hash, item.key()) {

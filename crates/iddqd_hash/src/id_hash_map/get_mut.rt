@@ -40,7 +40,7 @@ impl<T: IdHashItem, S: BuildHasher> IdHashMap<T, S> {
     /// Lends the item that the query finds for writing; `None` where there is none, and then nothing has changed. The
     /// guard has to be spent. It hashes the query once, and makes as many comparisons as `get`.
     pub fn get_mut<Q: Hash + Equivalent<T::Key>>(&mut self, query: &Q) -> Option<RefMut<'_, T, S>>
-        requires keyed { ⟦<IdHashMap<T, S> as Keyed>⟧.keyed self.old }
+        requires keyed { ⟦<Self as Keyed>⟧.keyed self.old }
         requires hashes { HashesAs (Q.equivalent query.now) (Q.hash_input query.now) T.Key.hash_input }
         ensures* unchanged_at_none { sem 𝓛 (rests_at_none S.row T.row self.entry result) }
         ensures absent { IfNone result (find_item T.key (Q.equivalent query.now) self.old.items ≡ None) }
@@ -48,8 +48,8 @@ impl<T: IdHashItem, S: BuildHasher> IdHashMap<T, S> {
         ensures lent { IfSome result (λ r. lent_map r ≡ self.old) }
         ensures found { IfSome result (λ r. find_item T.key (Q.equivalent query.now) self.old.items ≡ lent_item r) }
         ensures written { IfSome result (λ r. (w : T) → written_to_slot self.old.slots self.old.items (lent_slot r) w ≡ items_overwritten T.key (Q.equivalent query.now) w self.old.items) }
-        ensures keyed { IfSome result (λ r. (x w : T) → lent_item r ≡ Some x → T.key w ≡ T.key x → ⟦<IdHashMap<T, S> as Keyed>⟧.keyed (with_item_in self.old (lent_slot r) w)) }
-        ensures keyed_akin { IfSome result (λ r. (x w : T) → lent_item r ≡ Some x → IsTrue (T.Key.eq (T.key x) (T.key w)) → ⟦<IdHashMap<T, S> as Keyed>⟧.keyed (with_item_in self.old (lent_slot r) w)) }
+        ensures keyed { IfSome result (λ r. (x w : T) → lent_item r ≡ Some x → T.key w ≡ T.key x → ⟦<Self as Keyed>⟧.keyed (with_item_in self.old (lent_slot r) w)) }
+        ensures keyed_akin { IfSome result (λ r. (x w : T) → lent_item r ≡ Some x → IsTrue (T.Key.eq (T.key x) (T.key w)) → ⟦<Self as Keyed>⟧.keyed (with_item_in self.old (lent_slot r) w)) }
         ensures spare { SpareFits self.old }
     {
         let hash = self.hasher.hash_one(query);

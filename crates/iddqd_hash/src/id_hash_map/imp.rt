@@ -1,8 +1,8 @@
 //! Lookups and removals.
-ghost use Rattle.std.specs.Prelude.{◌≡◌, ◌+◌, ◌≤◌, IfNone, IfSome, OnSome, IsTrue, option_copied, is_some};
+ghost use Rattle.std.specs.Prelude.{◌≡◌, ◌+◌, ◌≤◌, IfNone, IsTrue, option_copied, is_some};
 ghost use Rattle.iddqd_store.specs.Contents.{find_item, items_without};
 ghost use Rattle.iddqd_store.specs.Hashing.{HashesAs, hash_under};
-ghost use Rattle.iddqd_store.specs.Holding.{LeavesSlot};
+ghost use Rattle.iddqd_store.specs.Holding.{Removes};
 
 use super::store_and_index::{find_slot, find_slot_counted, take_out};
 use super::{IdHashMap, Keyed};
@@ -11,13 +11,13 @@ use std::hash::{BuildHasher, Hash};
 
 impl<T: IdHashItem, S: BuildHasher> IdHashMap<T, S> {
     ghost use Rattle.iddqd_hash.specs.HashItems.{holding_of, of_stored_hash};
-    ghost use Rattle.iddqd_hash.specs.HashMap.{KeepsSpare, SpareFits};
+    ghost use Rattle.iddqd_hash.specs.HashMap.{HashStays, SpareFits};
 
     /// The item that the query finds, or `None`, by as many comparisons as `get_counted`. It hashes the query once, and
     /// fetches the item found once more to lend it.
     #[inline]
     pub fn get<Q: Hash + Equivalent<T::Key>>(&self, query: &Q) -> Option<&T>
-        requires keyed { ⟦<IdHashMap<T, S> as Keyed>⟧.keyed self.now }
+        requires keyed { ⟦<Self as Keyed>⟧.keyed self.now }
         requires hashes { HashesAs (Q.equivalent query.now) (Q.hash_input query.now) T.Key.hash_input }
         ensures found { option_copied result ≡ find_item T.key (Q.equivalent query.now) self.now.items }
         ensures spare { SpareFits self.now }
@@ -32,7 +32,7 @@ impl<T: IdHashItem, S: BuildHasher> IdHashMap<T, S> {
         query: &Q,
         steps: &mut Steps,
     ) -> Option<&T>
-        requires keyed { ⟦<IdHashMap<T, S> as Keyed>⟧.keyed self.now }
+        requires keyed { ⟦<Self as Keyed>⟧.keyed self.now }
         requires hashes { HashesAs (Q.equivalent query.now) (Q.hash_input query.now) T.Key.hash_input }
         ensures found { option_copied result ≡ find_item T.key (Q.equivalent query.now) self.now.items }
         ensures spare { SpareFits self.now }
@@ -50,7 +50,7 @@ impl<T: IdHashItem, S: BuildHasher> IdHashMap<T, S> {
         query: &Q,
         steps: &mut Steps,
     ) -> Option<&T>
-        requires keyed { ⟦<IdHashMap<T, S> as Keyed>⟧.keyed self.now }
+        requires keyed { ⟦<Self as Keyed>⟧.keyed self.now }
         requires hash { (k : T.Key) → IsTrue (Q.equivalent query.now k) → hash_under S.BuildHasher S.Hasher.Hasher self.now.hasher (T.Key.hash_input k) ≡ hash }
         ensures found { option_copied result ≡ find_item T.key (Q.equivalent query.now) self.now.items }
         ensures steps { steps.new ≤ steps.old + of_stored_hash self.now hash }
@@ -63,7 +63,7 @@ impl<T: IdHashItem, S: BuildHasher> IdHashMap<T, S> {
     /// Whether the query finds an item, by as many comparisons as `get`.
     #[inline]
     pub fn contains_key<Q: Hash + Equivalent<T::Key>>(&self, query: &Q) -> bool
-        requires keyed { ⟦<IdHashMap<T, S> as Keyed>⟧.keyed self.now }
+        requires keyed { ⟦<Self as Keyed>⟧.keyed self.now }
         requires hashes { HashesAs (Q.equivalent query.now) (Q.hash_input query.now) T.Key.hash_input }
         ensures { result ≡ is_some (find_item T.key (Q.equivalent query.now) self.now.items) }
     {
@@ -73,18 +73,13 @@ impl<T: IdHashItem, S: BuildHasher> IdHashMap<T, S> {
     /// Takes out the item that the query finds, and answers it; `None` where there is none, and then nothing has
     /// changed. The item's slot is vacant then, and its room is spare. It hashes the query once, and takes no memory.
     pub fn remove<Q: Hash + Equivalent<T::Key>>(&mut self, query: &Q) -> Option<T>
-        requires keyed { ⟦<IdHashMap<T, S> as Keyed>⟧.keyed self.old }
+        requires keyed { ⟦<Self as Keyed>⟧.keyed self.old }
         requires hashes { HashesAs (Q.equivalent query.now) (Q.hash_input query.now) T.Key.hash_input }
         ensures value { result ≡ find_item T.key (Q.equivalent query.now) self.old.items }
         ensures items { self.new.items ≡ items_without T.key (Q.equivalent query.now) self.old.items }
-        ensures slots { IfSome result (λ taken. LeavesSlot taken (holding_of self.old) (holding_of self.new)) }
-        ensures vacant { OnSome result (self.new.vacant ≡ self.old.vacant + 1) }
+        ensures removed { Removes result (holding_of self.old) (holding_of self.new) }
         ensures unchanged { IfNone result (self.new ≡ self.old) }
-        ensures spare { KeepsSpare self.old self.new }
-        ensures capacity { self.new.capacity ≡ self.old.capacity }
-        ensures limit { self.new.limit ≡ self.old.limit }
-        ensures hasher { self.new.hasher ≡ self.old.hasher }
-        ensures keyed { ⟦<IdHashMap<T, S> as Keyed>⟧.keyed self.new }
+        ensures stays { HashStays ⟦<Self as Keyed>⟧.keyed self.old self.new }
     {
         let hash = self.hasher.hash_one(query);
         let slot = find_slot(&self.store, &self.index, hash, query)?;

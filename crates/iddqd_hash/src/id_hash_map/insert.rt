@@ -12,7 +12,7 @@ use iddqd_store::{DuplicateItem, Few, IdHashItem, InsertError, Refused};
 use std::hash::BuildHasher;
 
 impl<T: IdHashItem, S: BuildHasher> IdHashMap<T, S> {
-    ghost use Rattle.iddqd_hash.specs.HashMap.{HashInserts, HashKeeps, KeepsSpare, ends_hash_inserted, lends_nothing};
+    ghost use Rattle.iddqd_hash.specs.HashMap.{HashInserts, HashKeeps, HashStays, ends_hash_inserted, lends_nothing};
 
     /// Inserts the item where none of an equal key is there. A duplicate needs no memory and lends the item that is there;
     /// then the map is as it was. A full map and refused memory hand the item back, and then the items are as they were
@@ -21,8 +21,8 @@ impl<T: IdHashItem, S: BuildHasher> IdHashMap<T, S> {
     /// In a caller's proof, match the error by a name, as in `Err(_error)`. `Err(_)` in the last `match` of a function leaves
     /// nothing known of the map, if the items own memory.
     pub fn insert_unique(&mut self, item: T) -> Result<&mut (), InsertError<'_, T>>
-        requires keyed { ⟦<IdHashMap<T, S> as Keyed>⟧.keyed self.old }
-        ensures* after { sem 𝓛 (ends_hash_inserted S.row T.row ⟦<IdHashMap<T, S> as Keyed>⟧.keyed self.entry result item) }
+        requires keyed { ⟦<Self as Keyed>⟧.keyed self.old }
+        ensures* after { sem 𝓛 (ends_hash_inserted S.row T.row ⟦<Self as Keyed>⟧.keyed self.entry result item) }
         ensures absent { OnOk result (IsAbsent T.key (T.Key.eq (T.key item)) self.old.items) }
         ensures refused { IfErr result (RefusesInsertion T.key T.Key.eq self.old.limit self.old.items item) }
         ensures no_spare { IfErr result (OnRefused (self.old.spare ≡ 0)) }
@@ -43,17 +43,16 @@ impl<T: IdHashItem, S: BuildHasher> IdHashMap<T, S> {
     /// answers `None`; a full map and refused memory hand the item back, and then the items are as they were (ours: the
     /// crate panics or aborts for want of room). It hashes the key once and searches once.
     pub fn insert_overwrite(&mut self, item: T) -> Result<Option<T>, Refused<T>>
-        requires keyed { ⟦<IdHashMap<T, S> as Keyed>⟧.keyed self.old }
+        requires keyed { ⟦<Self as Keyed>⟧.keyed self.old }
         ensures found { IfOk result (λ found. found ≡ find_item T.key (T.Key.eq (T.key item)) self.old.items) }
         ensures replaced { IfOk result (λ found. OnSome found (self.new ≡ record self.old { items = items_overwritten T.key (T.Key.eq (T.key item)) item self.old.items })) }
-        ensures inserted { IfOk result (λ found. IfNone found (HashInserts ⟦<IdHashMap<T, S> as Keyed>⟧.keyed item self.old self.new)) }
+        ensures inserted { IfOk result (λ found. IfNone found (HashInserts ⟦<Self as Keyed>⟧.keyed item self.old self.new)) }
         ensures there { OnOk result (find_item T.key (T.Key.eq (T.key item)) self.new.items ≡ Some item) }
         ensures item { IfErr result (λ refused. refused.item ≡ item) }
         ensures refused { IfErr result (λ refused. FindsNoRoom T.key T.Key.eq self.old.limit self.old.items item refused.error) }
         ensures no_spare { OnErr result (self.old.spare ≡ 0) }
-        ensures kept { OnErr result (HashKeeps ⟦<IdHashMap<T, S> as Keyed>⟧.keyed self.old self.new) }
-        ensures spare { KeepsSpare self.old self.new }
-        ensures keyed { ⟦<IdHashMap<T, S> as Keyed>⟧.keyed self.new }
+        ensures kept { OnErr result (HashKeeps ⟦<Self as Keyed>⟧.keyed self.old self.new) }
+        ensures stays { HashStays ⟦<Self as Keyed>⟧.keyed self.old self.new }
     {
         let hash = self.hasher.hash_one(item.key());
         match find_slot(&self.store, &self.index, hash, item.key()) {
@@ -76,15 +75,15 @@ impl<T: IdHashItem, S: BuildHasher> IdHashMap<T, S> {
 
     // Puts in an item whose key no other has, and answers its slot.
     pub(super) fn insert_new(&mut self, hash: u64, item: T) -> Result<u32, Refused<T>>
-        requires keyed { ⟦<IdHashMap<T, S> as Keyed>⟧.keyed self.old }
+        requires keyed { ⟦<Self as Keyed>⟧.keyed self.old }
         requires absent { IsAbsent T.key (T.Key.eq (T.key item)) self.old.items }
         requires hash { hash ≡ hash_under S.BuildHasher S.Hasher.Hasher self.old.hasher (T.Key.hash_input (T.key item)) }
-        ensures inserted { OnOk result (HashInserts ⟦<IdHashMap<T, S> as Keyed>⟧.keyed item self.old self.new) }
+        ensures inserted { OnOk result (HashInserts ⟦<Self as Keyed>⟧.keyed item self.old self.new) }
         ensures there { IfOk result (λ slot. item_of_slot self.new.slots self.new.items slot ≡ Some item) }
         ensures listed { IfOk result (λ slot. item_of_slot self.new.slots self.new.hashes slot ≡ Some hash) }
         ensures written { IfOk result (λ slot. (w : T) → AddsItem w self.old.items (written_to_slot self.new.slots self.new.items slot w)) }
         ensures others { IfOk result (λ slot. without_slot self.new.slots self.new.items slot ≡ self.old.items) }
-        ensures kept { OnErr result (HashKeeps ⟦<IdHashMap<T, S> as Keyed>⟧.keyed self.old self.new) }
+        ensures kept { OnErr result (HashKeeps ⟦<Self as Keyed>⟧.keyed self.old self.new) }
         ensures item { IfErr result (λ refused. refused.item ≡ item) }
         ensures kind { IfErr result (λ refused. refused.error ≡ refusal_kind self.old.limit self.old.items) }
         ensures no_spare { OnErr result (self.old.spare ≡ 0) }

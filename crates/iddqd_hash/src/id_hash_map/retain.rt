@@ -1,8 +1,8 @@
 //! Keeping some of the items.
-ghost use Rattle.std.specs.Prelude.{ℕ, ◌≡◌, ◌+◌, IsSome, Some, length, remove, slice_get};
+ghost use Rattle.std.specs.Prelude.{◌≡◌, IsSome, Some};
 ghost use Rattle.std.specs.Fn.{CalledAt};
 ghost use Rattle.std.specs.List.Retain.{IsFiltered};
-ghost use Rattle.iddqd_store.specs.Holding.{LeavesSlots};
+ghost use Rattle.iddqd_store.specs.Holding.{LeavesSlots, Removes};
 ghost use Rattle.iddqd_store.specs.SlotItems.{item_of_slot};
 ghost use Rattle.iddqd_store.specs.Visiting.{VisitsKeepKeys, kept_by, visitor_after};
 
@@ -14,7 +14,7 @@ use std::hash::BuildHasher;
 impl<T: IdHashItem, S: BuildHasher> IdHashMap<T, S> {
     ghost use Rattle.iddqd_hash.specs.Guard.{with_item_in};
     ghost use Rattle.iddqd_hash.specs.HashItems.{holding_of};
-    ghost use Rattle.iddqd_hash.specs.HashMap.{KeepsSpare};
+    ghost use Rattle.iddqd_hash.specs.HashMap.{HashStays, LosesPlaceOf};
 
     /// Asks once about each item, in no order that a caller may rely on, and takes out each that is answered false (the
     /// crate's `retain`, over a closure that only reads). It looks at every slot, hashes the key of each item that goes,
@@ -23,12 +23,10 @@ impl<T: IdHashItem, S: BuildHasher> IdHashMap<T, S> {
     where
         T: Drop,
         requires callable { F.IsAlwaysCallable keep }
-        requires keyed { ⟦<IdHashMap<T, S> as Keyed>⟧.keyed self.old }
+        requires keyed { ⟦<Self as Keyed>⟧.keyed self.old }
         ensures filtered { IsFiltered (CalledAt F.FnMut) keep self.old.items self.new.items }
         ensures leaves { LeavesSlots (holding_of self.old) (holding_of self.new) }
-        ensures spare { KeepsSpare self.old self.new }
-        ensures hasher { self.new.hasher ≡ self.old.hasher }
-        ensures keyed { ⟦<IdHashMap<T, S> as Keyed>⟧.keyed self.new }
+        ensures stays { HashStays ⟦<Self as Keyed>⟧.keyed self.old self.new }
     {
         let mut next = 0;
         while let Some(slot) = self.slot_from(next) {
@@ -44,14 +42,12 @@ impl<T: IdHashItem, S: BuildHasher> IdHashMap<T, S> {
     pub fn retain_mut<V: Visit<T>>(&mut self, visitor: &mut V)
     where
         T: Drop,
-        requires keyed { ⟦<IdHashMap<T, S> as Keyed>⟧.keyed self.old }
+        requires keyed { ⟦<Self as Keyed>⟧.keyed self.old }
         requires keeps_keys { VisitsKeepKeys T.key T.Key.eq V.visits }
         ensures items { self.new.items ≡ kept_by V.visits visitor.old self.old.items }
         ensures visitor { visitor.new ≡ visitor_after V.visits visitor.old self.old.items }
         ensures leaves { LeavesSlots (holding_of self.old) (holding_of self.new) }
-        ensures spare { KeepsSpare self.old self.new }
-        ensures hasher { self.new.hasher ≡ self.old.hasher }
-        ensures keyed { ⟦<IdHashMap<T, S> as Keyed>⟧.keyed self.new }
+        ensures stays { HashStays ⟦<Self as Keyed>⟧.keyed self.old self.new }
     {
         let mut next = 0;
         while let Some(slot) = self.slot_from(next) {
@@ -64,26 +60,22 @@ impl<T: IdHashItem, S: BuildHasher> IdHashMap<T, S> {
 
     // Visits the item of the slot.
     fn visit_slot<V: Visit<T>>(&mut self, slot: u32, visitor: &mut V) -> bool
-        requires keyed { ⟦<IdHashMap<T, S> as Keyed>⟧.keyed self.old }
+        requires keyed { ⟦<Self as Keyed>⟧.keyed self.old }
         requires keeps_keys { VisitsKeepKeys T.key T.Key.eq V.visits }
         requires there { IsSome (item_of_slot self.old.slots self.old.items slot) }
         ensures visited { (x y : T) × (item_of_slot self.old.slots self.old.items slot ≡ Some x) × (V.visits visitor.old x ≡ (visitor.new, y, result)) × (self.new ≡ with_item_in self.old slot y) }
-        ensures keyed { ⟦<IdHashMap<T, S> as Keyed>⟧.keyed self.new }
+        ensures keyed { ⟦<Self as Keyed>⟧.keyed self.new }
     {
         visitor.visit(self.item_in_slot_mut(slot))
     }
 
     // Takes out the item of the slot. It hashes its key once.
     fn take_slot(&mut self, slot: u32) -> T
-        requires keyed { ⟦<IdHashMap<T, S> as Keyed>⟧.keyed self.old }
+        requires keyed { ⟦<Self as Keyed>⟧.keyed self.old }
         requires there { IsSome (item_of_slot self.old.slots self.old.items slot) }
-        ensures gone { (at : ℕ) → slice_get self.old.slots at ≡ Some slot → (self.new.items ≡ remove self.old.items at) × (self.new.slots ≡ remove self.old.slots at) }
-        ensures vacant { self.new.vacant ≡ self.old.vacant + 1 }
-        ensures capacity { self.new.capacity ≡ self.old.capacity }
-        ensures limit { self.new.limit ≡ self.old.limit }
-        ensures hasher { self.new.hasher ≡ self.old.hasher }
-        ensures spare { KeepsSpare self.old self.new }
-        ensures keyed { ⟦<IdHashMap<T, S> as Keyed>⟧.keyed self.new }
+        ensures gone { LosesPlaceOf slot self.old self.new }
+        ensures removed { Removes (Some result) (holding_of self.old) (holding_of self.new) }
+        ensures stays { HashStays ⟦<Self as Keyed>⟧.keyed self.old self.new }
     {
         let hash = self.hasher.hash_one(self.item_in_slot(slot).key());
         self.take_hashed(hash, slot)
@@ -91,17 +83,13 @@ impl<T: IdHashItem, S: BuildHasher> IdHashMap<T, S> {
 
     // The same, where the hash that is stored for the slot is known.
     pub(super) fn take_hashed(&mut self, hash: u64, slot: u32) -> T
-        requires keyed { ⟦<IdHashMap<T, S> as Keyed>⟧.keyed self.old }
+        requires keyed { ⟦<Self as Keyed>⟧.keyed self.old }
         requires there { IsSome (item_of_slot self.old.slots self.old.items slot) }
         requires listed { item_of_slot self.old.slots self.old.hashes slot ≡ Some hash }
         ensures value { item_of_slot self.old.slots self.old.items slot ≡ Some result }
-        ensures gone { (at : ℕ) → slice_get self.old.slots at ≡ Some slot → (self.new.items ≡ remove self.old.items at) × (self.new.slots ≡ remove self.old.slots at) }
-        ensures vacant { self.new.vacant ≡ self.old.vacant + 1 }
-        ensures capacity { self.new.capacity ≡ self.old.capacity }
-        ensures limit { self.new.limit ≡ self.old.limit }
-        ensures hasher { self.new.hasher ≡ self.old.hasher }
-        ensures spare { KeepsSpare self.old self.new }
-        ensures keyed { ⟦<IdHashMap<T, S> as Keyed>⟧.keyed self.new }
+        ensures gone { LosesPlaceOf slot self.old self.new }
+        ensures removed { Removes (Some result) (holding_of self.old) (holding_of self.new) }
+        ensures stays { HashStays ⟦<Self as Keyed>⟧.keyed self.old self.new }
     {
         take_out(&mut self.store, &mut self.index, hash, slot)
     }

@@ -1,10 +1,7 @@
 //! Room for items.
-ghost use Rattle.std.specs.Prelude.{◌≡◌, ◌+◌, ◌<◌, ◌≤◌, [], length, IfOk, IfErr, OnOk, OnErr, IsPermutation};
-ghost use Rattle.std.specs.Prelude.{min as least};
-ghost use Rattle.iddqd_store.specs.Holding.{Shrinks};
+ghost use Rattle.std.specs.Prelude.{◌≡◌, ◌+◌, ◌<◌, ◌≤◌, [], length, IfOk, IfErr, OnOk, OnErr};
 ghost use Rattle.iddqd_store.specs.Refusal.{memory_refused, reservation_kind};
-ghost use Rattle.iddqd_hash.specs.HashItems.{holding_of};
-ghost use Rattle.iddqd_hash.specs.HashMap.{HashKeeps, SpareFits};
+ghost use Rattle.iddqd_hash.specs.HashMap.{HashKeeps, HashShrinks, SpareFits};
 
 use super::compact::compact;
 use super::store_and_index::{reserve_room, shrink_room};
@@ -24,7 +21,7 @@ impl<T: IdHashItem> IdHashMap<T> {
         ensures in_limit { OnOk result (capacity ≤ MAX_ITEMS) }
         ensures refused { IfErr result (λ e. e ≡ reservation_kind MAX_ITEMS capacity) }
         ensures asked { OnErr result (0 < capacity) }
-        ensures keyed { IfOk result ⟦<IdHashMap<T> as Keyed>⟧.keyed }
+        ensures keyed { IfOk result ⟦<Self as Keyed>⟧.keyed }
     {
         IdHashMap::with_capacity_and_hasher(alloc, capacity, DefaultHashBuilder::new())
     }
@@ -48,7 +45,7 @@ impl<T: IdHashItem, S: BuildHasher> IdHashMap<T, S> {
         ensures in_limit { OnOk result (capacity ≤ MAX_ITEMS) }
         ensures refused { IfErr result (λ e. e ≡ reservation_kind MAX_ITEMS capacity) }
         ensures asked { OnErr result (0 < capacity) }
-        ensures keyed { IfOk result ⟦<IdHashMap<T, S> as Keyed>⟧.keyed }
+        ensures keyed { IfOk result ⟦<Self as Keyed>⟧.keyed }
     {
         if capacity > MAX_ITEMS as usize {
             return Err(TryReserveError::capacity_overflow());
@@ -62,40 +59,36 @@ impl<T: IdHashItem, S: BuildHasher> IdHashMap<T, S> {
     /// refused by the limit where that has no room for them, before any memory is asked for, and else for want of memory,
     /// which it needs only where the spare is short. The items stay, and the spare is no less. It hashes no key.
     pub fn reserve(&mut self, additional: usize) -> Result<(), TryReserveError>
-        requires keyed { ⟦<IdHashMap<T, S> as Keyed>⟧.keyed self.old }
+        requires keyed { ⟦<Self as Keyed>⟧.keyed self.old }
         ensures spare { OnOk result (additional ≤ self.new.spare) }
         ensures capacity { OnOk result (length self.old.items + additional ≤ self.new.capacity) }
         ensures in_limit { OnOk result (length self.old.items + additional ≤ self.old.limit) }
         ensures refused { IfErr result (λ e. e ≡ reservation_kind self.old.limit (length self.old.items + additional)) }
         ensures needed { OnErr result (self.old.spare < additional) }
-        ensures kept { HashKeeps ⟦<IdHashMap<T, S> as Keyed>⟧.keyed self.old self.new }
+        ensures kept { HashKeeps ⟦<Self as Keyed>⟧.keyed self.old self.new }
     {
         reserve_room(&mut self.store, &mut self.index, additional)
     }
 
     /// The same call by its other name.
     pub fn try_reserve(&mut self, additional: usize) -> Result<(), TryReserveError>
-        requires keyed { ⟦<IdHashMap<T, S> as Keyed>⟧.keyed self.old }
+        requires keyed { ⟦<Self as Keyed>⟧.keyed self.old }
         ensures spare { OnOk result (additional ≤ self.new.spare) }
         ensures capacity { OnOk result (length self.old.items + additional ≤ self.new.capacity) }
         ensures in_limit { OnOk result (length self.old.items + additional ≤ self.old.limit) }
         ensures refused { IfErr result (λ e. e ≡ reservation_kind self.old.limit (length self.old.items + additional)) }
         ensures needed { OnErr result (self.old.spare < additional) }
-        ensures kept { HashKeeps ⟦<IdHashMap<T, S> as Keyed>⟧.keyed self.old self.new }
+        ensures kept { HashKeeps ⟦<Self as Keyed>⟧.keyed self.old self.new }
     {
         self.reserve(additional)
     }
 
     /// As `shrink_to(0)`: gives back what memory the items do not need, and without items all that the store has.
     pub fn shrink_to_fit(&mut self) -> Result<(), TryReserveError>
-        requires keyed { ⟦<IdHashMap<T, S> as Keyed>⟧.keyed self.old }
-        ensures items { IsPermutation self.old.items self.new.items }
-        ensures shrinks { Shrinks 0 (holding_of self.old) (holding_of self.new) }
-        ensures only_memory { IfErr result (λ e. e ≡ memory_refused) }
+        requires keyed { ⟦<Self as Keyed>⟧.keyed self.old }
+        ensures shrinks { HashShrinks ⟦<Self as Keyed>⟧.keyed 0 self.old self.new }
         ensures frees { length self.old.items ≡ 0 → OnOk result (self.new.capacity ≡ 0) }
-        ensures within_limit { SpareFits self.new }
-        ensures hasher { self.new.hasher ≡ self.old.hasher }
-        ensures keyed { ⟦<IdHashMap<T, S> as Keyed>⟧.keyed self.new }
+        ensures only_memory { IfErr result (λ e. e ≡ memory_refused) }
     {
         self.shrink_to(0)
     }
@@ -106,15 +99,10 @@ impl<T: IdHashItem, S: BuildHasher> IdHashMap<T, S> {
     /// crate says that it does nothing where `min` is above the capacity, and closes up all the same). Each item that moves
     /// into a vacant slot has its key hashed once; an index that gives memory back reads each of its pairs.
     pub fn shrink_to(&mut self, min: usize) -> Result<(), TryReserveError>
-        requires keyed { ⟦<IdHashMap<T, S> as Keyed>⟧.keyed self.old }
-        ensures items { IsPermutation self.old.items self.new.items }
-        ensures shrinks { Shrinks min (holding_of self.old) (holding_of self.new) }
-        ensures spare { least min (self.old.spare + length self.old.items) ≤ self.new.spare + length self.new.items }
-        ensures only_memory { IfErr result (λ e. e ≡ memory_refused) }
+        requires keyed { ⟦<Self as Keyed>⟧.keyed self.old }
+        ensures shrinks { HashShrinks ⟦<Self as Keyed>⟧.keyed min self.old self.new }
         ensures frees { length self.old.items ≡ 0 → min ≡ 0 → OnOk result (self.new.capacity ≡ 0) }
-        ensures within_limit { SpareFits self.new }
-        ensures hasher { self.new.hasher ≡ self.old.hasher }
-        ensures keyed { ⟦<IdHashMap<T, S> as Keyed>⟧.keyed self.new }
+        ensures only_memory { IfErr result (λ e. e ≡ memory_refused) }
     {
         compact(&mut self.store, &mut self.index, &self.hasher);
         shrink_room(&mut self.store, &mut self.index, min)

@@ -11,7 +11,7 @@ impl<T: IdHashItem, S: BuildHasher> IdHashMap<T, S> {
     /// up again). It takes no memory.
     #[doc(hidden)]
     pub fn validate(&self, compact: ValidateCompact) -> Result<(), ValidationError>
-        requires keyed { ⟦<IdHashMap<T, S> as Keyed>⟧.keyed self.now }
+        requires keyed { ⟦<Self as Keyed>⟧.keyed self.now }
         ensures { IsErr result ↔ IsNotCompact compact self.now.vacant }
     {
         self.validate_structural(compact)

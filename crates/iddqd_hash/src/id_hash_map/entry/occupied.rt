@@ -1,11 +1,11 @@
 //! The item of an entry: read, lent, replaced, taken out. None of this looks for it again, and none takes memory.
-ghost use Rattle.std.specs.Prelude.{◌≡◌, ◌+◌, IfSome, IsTrue, Some};
+ghost use Rattle.std.specs.Prelude.{◌≡◌, IfSome, IsTrue, Some};
 ghost use Rattle.std.specs.Borrow.{sem};
-ghost use Rattle.iddqd_store.specs.Holding.{LeavesSlot};
+ghost use Rattle.iddqd_store.specs.Holding.{Removes};
 ghost use Rattle.iddqd_hash.specs.Entry.{EntryKeeps, EntryKeepsAkin, Occupied, entry_follows, entry_item, entry_map, entry_lender, entry_others, entry_slot, entry_with};
 ghost use Rattle.iddqd_hash.specs.Guard.{lent_item, lent_map, guard_lender, lent_slot, lent_with, shown_item, shown_map, shown_lender};
 ghost use Rattle.iddqd_hash.specs.HashItems.{holding_of};
-ghost use Rattle.iddqd_hash.specs.HashMap.{KeepsSpare};
+ghost use Rattle.iddqd_hash.specs.HashMap.{HashStays};
 
 use super::OccupiedEntry;
 use crate::id_hash_map::{IdHashMap, Keyed, RefMut, Shown};
@@ -87,13 +87,8 @@ impl<'a, T: IdHashItem, S: BuildHasher> OccupiedEntry<'a, T, S> {
         requires keyed { ⟦<IdHashMap<T, S> as Keyed>⟧.keyed (entry_map (Occupied self)) }
         ensures value { entry_item (Occupied self.entry) ≡ Some result }
         ensures items { self.exit.0.now.items ≡ entry_others (Occupied self.entry) }
-        ensures slots { LeavesSlot result (holding_of (entry_map (Occupied self.entry))) (holding_of self.exit.0.now) }
-        ensures vacant { self.exit.0.now.vacant ≡ (entry_map (Occupied self.entry)).vacant + 1 }
-        ensures spare { KeepsSpare (entry_map (Occupied self.entry)) self.exit.0.now }
-        ensures capacity { self.exit.0.now.capacity ≡ (entry_map (Occupied self.entry)).capacity }
-        ensures limit { self.exit.0.now.limit ≡ (entry_map (Occupied self.entry)).limit }
-        ensures hasher { self.exit.0.now.hasher ≡ (entry_map (Occupied self.entry)).hasher }
-        ensures keyed { ⟦<IdHashMap<T, S> as Keyed>⟧.keyed self.exit.0.now }
+        ensures removed { Removes (Some result) (holding_of (entry_map (Occupied self.entry))) (holding_of self.exit.0.now) }
+        ensures stays { HashStays ⟦<IdHashMap<T, S> as Keyed>⟧.keyed (entry_map (Occupied self.entry)) self.exit.0.now }
     {
         let slot = self.slot;
         let hash = self.hash;

@@ -14,7 +14,7 @@ impl<T: IdHashItem, S: BuildHasher> IdHashMap<T, S> {
     /// keyed unless you change an item's key.
     #[inline]
     pub fn iter_mut(&mut self) -> IterMut<'_, T, S>
-        requires keyed { ⟦<IdHashMap<T, S> as Keyed>⟧.keyed self.old }
+        requires keyed { ⟦<Self as Keyed>⟧.keyed self.old }
         ensures same_map { walk_lender result ≡ self.entry.ghost_name }
         ensures unchanged { walk_map result ≡ self.old }
         ensures start { walk_done result ≡ 0 }

@@ -1,10 +1,12 @@
-use Rattle.std.proofs.Common.{[], ◌∙◌, rules, subst, sym, arith}
+use Rattle.std.proofs.Common.{[], ◌∙◌, rules, subst, sym}
 use Rattle.std.proofs.iter.Next.{on}
 use Rattle.std.proofs.lemmas.Result.{err_from_is_err_and}
 use Rattle.iddqd_store.specs.Collecting.{AddsAll, GivesThen}
 use Rattle.iddqd_store.proofs.AddingLemmas.{adds_last, adds_none, halts_adding}
 use Rattle.iddqd_store.proofs.CollectingLemmas.{fills_kept, fills_on, fills_taken, gives_all, gives_then}
-use Rattle.iddqd_hash.specs.HashItems.{holding_of, IsKeyed}
+use Rattle.iddqd_store.specs.Hashing.{hash_under}
+use Rattle.iddqd_hash.specs.HashItems.{holding_of, IsKeyed, KeyedItems}
+use Rattle.iddqd_hash.proofs.MapLemmas.{stays_on}
 use Rattle.iddqd_hash.proofs.id_hash_map.IdHashMap.add_each.Goals as goal
 
 pub loop-item-init : goal.loop-item-init
@@ -17,7 +19,7 @@ loop-item-init g c =
       search rules,
       search rules,
       subst (AddsAll key g.T.Key.PartialEq.eq [] old.items) (sym kept.keeps.items) (adds_none key old.items c.requires.keyed.differ),
-      record { fills = fills_kept (holding_of old) (holding_of new) c.len.ensures.slots kept.keeps; keyed = kept.keyed; spare = kept.spare; hasher = kept.hasher },
+      record { fills = fills_kept (holding_of old) (holding_of new) c.len.ensures.slots kept.keeps; stays = kept.stays },
     )
 
 pub loop-item-preserved : goal.loop-item-preserved
@@ -35,9 +37,7 @@ loop-item-preserved g c =
       adds_last g.T.IdHashItem.key g.met.T.Key.Eq.laws c.loop-item.yielded old.items between.items inv.2 x new.items put.absent put.inserted.takes.added,
       record {
         fills = fills_on (holding_of old) (holding_of between) (holding_of new) inv.3.fills (fills_taken x (holding_of between) (holding_of new) put.inserted.takes);
-        keyed = put.inserted.keyed;
-        spare = record { never_less = omega (arith, inv.3.spare.never_less, put.inserted.spare.never_less); in_limit = put.inserted.spare.in_limit };
-        hasher = put.inserted.hasher ∙ inv.3.hasher;
+        stays = stays_on (KeyedItems g.T.IdHashItem.key g.T.Key.PartialEq.eq g.T.Key.Hash.hash_input (hash_under g.S.BuildHasher g.S.Hasher.Hasher)) old between new inv.3.stays put.inserted.stays;
       },
     )
 
@@ -48,7 +48,7 @@ returns-in-Err g c =
       added = tt;
       halted = search rules;
       spare_first = tt;
-      fills = record { fills = fills_kept (holding_of c.args.self.now) (holding_of c.reserve.new.self) c.len.ensures.slots kept.keeps; keyed = kept.keyed; spare = kept.spare; hasher = kept.hasher };
+      fills = record { fills = fills_kept (holding_of c.args.self.now) (holding_of c.reserve.new.self) c.len.ensures.slots kept.keeps; stays = kept.stays };
     }
 
 pub returns-in_err-add : goal.returns-in_err-add

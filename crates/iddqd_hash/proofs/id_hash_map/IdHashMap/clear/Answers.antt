@@ -10,15 +10,16 @@ use Rattle.iddqd_hash.proofs.id_hash_map.IdHashMap.clear.Goals as goal
 pub invariant_of-self : goal.invariant_of-self
 invariant_of-self g c = paired_empty c.clear.new.self c.clear-2.new.self.pairs (ap (λ s. s.slots) c.clear.ensures) c.clear-2.ensures.pairs
 
-pub returns-clause-spare : goal.returns-clause-spare
-returns-clause-spare g c =
+pub returns-clause-stays : goal.returns-clause-stays
+unfolding IsKeyed
+returns-clause-stays g c =
     let m = c.self.inside in
     let new = hash_items_of c.clear.new.self c.clear-2.new.self m.hasher in
     let none = ap (λ s. s.slots) c.clear.ensures in
     let capacity = ap (λ s. s.capacity) c.clear.ensures in
-    subst (λ old. KeepsSpare old new) c.self.view_is
-    (emptied_spare g.T.IdHashItem.key g.T.Key.PartialEq.eq g.T.Key.Hash.hash_input (hash_under g.S.BuildHasher g.S.Hasher.Hasher) m.hasher m.store c.clear.new.self m.index c.clear-2.new.self c.self.invariant (paired_empty c.clear.new.self c.clear-2.new.self.pairs none c.clear-2.ensures.pairs) c.clear-2.ensures.spare none (omega (arith, capacity)) (ap (λ s. s.limit) c.clear.ensures))
-
-pub returns-clause-keyed : goal.returns-clause-keyed
-unfolding IsKeyed
-returns-clause-keyed g c = emptied_keyed _ _ _ _ _ c.clear.new.self c.clear-2.new.self (ap (λ s. s.slots) c.clear.ensures)
+    record {
+      keyed = emptied_keyed _ _ _ _ _ c.clear.new.self c.clear-2.new.self none;
+      spare = subst (λ old. KeepsSpare old new) c.self.view_is
+          (emptied_spare g.T.IdHashItem.key g.T.Key.PartialEq.eq g.T.Key.Hash.hash_input (hash_under g.S.BuildHasher g.S.Hasher.Hasher) m.hasher m.store c.clear.new.self m.index c.clear-2.new.self c.self.invariant (paired_empty c.clear.new.self c.clear-2.new.self.pairs none c.clear-2.ensures.pairs) c.clear-2.ensures.spare none (omega (arith, capacity)) (ap (λ s. s.limit) c.clear.ensures));
+      hasher = ap (λ v. v.hasher) c.self.view_is;
+    }

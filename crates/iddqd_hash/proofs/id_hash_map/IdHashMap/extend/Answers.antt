@@ -4,7 +4,7 @@ use Rattle.iddqd_store.specs.Contents.{OverwritesItem}
 use Rattle.iddqd_store.proofs.CollectingLemmas.{fills_kept, fills_on, gives_all, gives_then, overwrites_last, overwritten}
 use Rattle.iddqd_store.specs.Hashing.{hash_under}
 use Rattle.iddqd_hash.specs.HashItems.{holding_of, IsKeyed, KeyedItems}
-use Rattle.iddqd_hash.proofs.CollectLemmas.{overwritten_hasher}
+use Rattle.iddqd_hash.proofs.MapLemmas.{stays_on}
 use Rattle.iddqd_hash.proofs.id_hash_map.IdHashMap.extend.Goals as goal
 
 pub loop-item-preserved : goal.loop-item-preserved
@@ -20,15 +20,15 @@ loop-item-preserved g c =
     let told = c.in-Ok.ensures in
     let inv = c.loop-item.invariant in
     let goes = on x c.in-Some.is c.next.ensures.goes inv.1 in
-    let put = overwritten key eq x (holding_of between) (holding_of new) inv.3.slots (λ h. ap holding_of h) (λ h. h.takes) back told.found told.replaced told.inserted in (
+    let put = overwritten key eq x (holding_of between) (holding_of new) inv.3.fills.slots (λ h. ap holding_of h) (λ h. h.takes) back told.found told.replaced told.inserted in (
       goes.0,
       goes.1,
       overwrites_last key eq old.limit x c.loop-item.yielded old.items between.items back new.items inv.2
-          (subst (λ limit. OverwritesItem key eq x limit between.items back new.items) inv.3.limit put.0),
-      fills_on (holding_of old) (holding_of between) (holding_of new) inv.3 put.1,
-      record { never_less = omega (arith, inv.4.never_less, told.spare.never_less); in_limit = told.spare.in_limit },
-      overwritten_hasher key eq (KeyedItems key eq g.T.Key.Hash.hash_input (hash_under g.S.BuildHasher g.S.Hasher.Hasher)) x between new back told.replaced told.inserted ∙ inv.5,
-      told.keyed,
+          (subst (λ limit. OverwritesItem key eq x limit between.items back new.items) inv.3.fills.limit put.0),
+      record {
+        fills = fills_on (holding_of old) (holding_of between) (holding_of new) inv.3.fills put.1;
+        stays = stays_on (KeyedItems key eq g.T.Key.Hash.hash_input (hash_under g.S.BuildHasher g.S.Hasher.Hasher)) old between new inv.3.stays told.stays;
+      },
     )
 
 pub loop-item-init : goal.loop-item-init
@@ -43,26 +43,27 @@ returns-in-Err g c =
       stopped = tt;
       spare_first = tt;
       not_begun = kept;
-      fills = fills_kept (holding_of c.args.self.now) (holding_of c.reserve.new.self) c.len.ensures.slots kept.keeps;
-      spare = kept.spare;
-      hasher = kept.hasher;
-      keyed = kept.keyed;
+      fills = record { fills = fills_kept (holding_of c.args.self.now) (holding_of c.reserve.new.self) c.len.ensures.slots kept.keeps; stays = kept.stays };
     }
 
 pub returns-in-Err-insert_overwrite : goal.returns-in-Err-insert_overwrite
+unfolding IsKeyed
 returns-in-Err-insert_overwrite g c =
     let inv = c.loop-item.invariant in
     let told = c.in-Err-insert_overwrite.ensures in
     let kept = told.kept in
+    let old = c.args.self.now in
+    let between = c.loop-item.self in
+    let new = c.insert_overwrite.new.self in
     record {
       taken = tt;
       stopped = (let gave = gives_then g.U.IntoIterator.into_iter_gives g.U.IntoIter.Iterator.next_gives c.args.iter c.loop-item.yielded c.in-Some.item (search rules) in search rules);
-      spare_first = omega (arith, inv.4.never_less, told.no_spare, ap length kept.keeps.items);
+      spare_first = omega (arith, inv.3.stays.spare.never_less, told.no_spare, ap length kept.keeps.items);
       not_begun = tt;
-      fills = fills_on (holding_of c.args.self.now) (holding_of c.loop-item.self) (holding_of c.insert_overwrite.new.self) inv.3 (fills_kept (holding_of c.loop-item.self) (holding_of c.insert_overwrite.new.self) inv.3.slots kept.keeps);
-      spare = record { never_less = omega (arith, inv.4.never_less, told.spare.never_less); in_limit = told.spare.in_limit };
-      hasher = kept.hasher ∙ inv.5;
-      keyed = told.keyed;
+      fills = record {
+        fills = fills_on (holding_of old) (holding_of between) (holding_of new) inv.3.fills (fills_kept (holding_of between) (holding_of new) inv.3.fills.slots kept.keeps);
+        stays = stays_on (KeyedItems g.T.IdHashItem.key g.T.Key.PartialEq.eq g.T.Key.Hash.hash_input (hash_under g.S.BuildHasher g.S.Hasher.Hasher)) old between new inv.3.stays told.stays;
+      };
     }
 
 pub returns : goal.returns
@@ -75,7 +76,4 @@ returns g c =
       spare_first = tt;
       not_begun = tt;
       fills = inv.3;
-      spare = inv.4;
-      hasher = inv.5;
-      keyed = inv.6;
     }

@@ -1,16 +1,11 @@
-use Rattle.std.proofs.Common.{◌≡◌}
 use Rattle.iddqd_store.specs.Collecting.{OverwritesAll}
 use Rattle.iddqd_store.specs.Hashing.{hash_under}
-use Rattle.iddqd_store.specs.Holding.{FillsSlots}
-use Rattle.iddqd_hash.specs.HashItems.{KeyedItems, holding_of}
-use Rattle.iddqd_hash.specs.HashMap.{KeepsSpare}
+use Rattle.iddqd_hash.specs.HashItems.{KeyedItems}
+use Rattle.iddqd_hash.specs.HashMap.{HashFills}
 use Rattle.iddqd_hash.proofs.id_hash_map.IdHashMap.extend.Given as goal
 
 abbrev pub invariant-loop-item : goal.invariant-loop-item
 invariant-loop-item g l = (goal.iterator-loop-item g).can_next l.item-iterator
     × (goal.iterator-loop-item g).is_finite l.item-iterator
     × OverwritesAll g.T.IdHashItem.key g.T.Key.PartialEq.eq l.fn.self.limit l.yielded l.fn.self.items l.self.items
-    × FillsSlots (holding_of l.fn.self) (holding_of l.self)
-    × KeepsSpare l.fn.self l.self
-    × (l.self.hasher ≡ l.fn.self.hasher)
-    × KeyedItems g.T.IdHashItem.key g.T.Key.PartialEq.eq g.T.Key.Hash.hash_input (hash_under g.S.BuildHasher g.S.Hasher.Hasher) l.self
+    × HashFills (KeyedItems g.T.IdHashItem.key g.T.Key.PartialEq.eq g.T.Key.Hash.hash_input (hash_under g.S.BuildHasher g.S.Hasher.Hasher)) l.fn.self l.self

@@ -17,11 +17,11 @@ loop-item-preserved g c =
       goes.0,
       goes.1,
       collects_last x c.loop-item.yielded c.loop-item.map.items c.insert_first.new.self.items inv.2 put.takes.added,
-      put.spare.in_limit,
+      put.stays.spare.in_limit,
       omega (arith, put.takes.vacant, inv.4),
       put.takes.limit ∙ inv.5,
-      put.hasher ∙ inv.6,
-      put.keyed,
+      put.stays.hasher ∙ inv.6,
+      put.stays.keyed,
     )
 
 pub returns-in-Err : goal.returns-in-Err

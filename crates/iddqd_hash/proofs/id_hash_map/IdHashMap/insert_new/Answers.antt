@@ -52,7 +52,7 @@ returns-clause-inserted g c =
     let told = c.requires.hash ∙ ap (λ v. hash v.hasher (input (key x))) (sym c.self.view_is) in
     let below : length (items_in m.store) < m.store.limit = omega (arith, c.in_default.ensures.below_limit, c.self.invariant.counted, length-items m.store.slots) in
     let room_left : length (items_in room.store) < room.store.limit = omega (arith, below, ap length kept.keeps.items, kept.keeps.limit) in
-    let inserted = map_inserted key eq input hash m.hasher room.store put.new.store room.index put.new.index c.reserve_one.ensures.paired put.ensures.paired g.met.T.Key.Eq.laws kept.keyed x put.result
+    let inserted = map_inserted key eq input hash m.hasher room.store put.new.store room.index put.new.index c.reserve_one.ensures.paired put.ensures.paired g.met.T.Key.Eq.laws kept.stays.keyed x put.result
     (subst (IsAbsent key (eq (key x))) (sym kept.keeps.items) absent)
     room_left
     (subst (λ h. HasOneMore room.index.pairs put.new.index.pairs (h, put.result)) told put.ensures.pairs)
@@ -74,7 +74,7 @@ returns-clause-listed g c =
     let new = hash_items_of c.put_in.new.store c.put_in.new.index m.hasher in
     let slot = c.put_in.result in
     let tell = λ (y : g.row.T.Denot). hash m.hasher (input (key y)) in
-    ap (λ hashes. item_of_slot new.slots hashes slot) (returns-clause-inserted g c).keyed.stored
+    ap (λ hashes. item_of_slot new.slots hashes slot) (returns-clause-inserted g c).stays.keyed.stored
     ∙ told_of_slot tell new.slots new.items slot
     ∙ ap (option_map tell) (returns-clause-there g c)
     ∙ ap (λ v. Some (hash v.hasher (input (key c.args.item)))) c.self.view_is

@@ -23,9 +23,9 @@ find_slot-requires-clause-stored g c =
     listed_under_query g.T.IdHashItem.key g.T.Key.PartialEq.eq input hash m.hasher m.store m.index (keyed_inside g c) (g.T.Key.PartialEq.eq c.key-2.result.now) c.hash_one-hash.result
     (λ k stands. ap (hash m.hasher) (sym (g.met.T.Key.Hash.respects_eq c.key-2.result.now k stands) ∙ ap input (c.key-2.ensures ∙ sym c.key.ensures)) ∙ sym c.hash_one-hash.ensures)
 
-pub returns-in-Some-clause-keyed : goal.returns-in-Some-clause-keyed
+pub returns-in-Some-clause-stays : goal.returns-in-Some-clause-stays
 unfolding IsKeyed
-returns-in-Some-clause-keyed g c =
+returns-in-Some-clause-stays g c =
     let key = g.T.IdHashItem.key in
     let eq = g.T.Key.PartialEq.eq in
     let input = g.T.Key.Hash.hash_input in
@@ -36,7 +36,14 @@ returns-in-Some-clause-keyed g c =
     let keyed = subst (KeyedItems key eq input hash) (sym c.self.view_is) c.requires.keyed in
     let found : find_item key (eq (key y)) (items_in m.store) ≡ Some x = ap (λ k. find_item key (eq k) (items_in m.store)) (sym c.key-2.ensures) ∙ sym c.in-Some.ensures.item ∙ c.exchange.ensures.item in
     let alike = found_passes key (eq (key y)) (items_in m.store) x found in
-    exchanged_keyed key eq input hash m.hasher m.store c.exchange.new.store m.index g.met.T.Key.Eq.laws keyed c.in-Some.slot x y c.exchange.ensures.item alike c.exchange.ensures.updates g.met.T.Key.Hash.respects_eq
+    let new = c.exchange.new.store in
+    let paired = c.exchange.ensures.paired in
+    record {
+      keyed = exchanged_keyed key eq input hash m.hasher m.store new m.index g.met.T.Key.Eq.laws keyed c.in-Some.slot x y c.exchange.ensures.item alike c.exchange.ensures.updates g.met.T.Key.Hash.respects_eq;
+      spare = subst (λ old. KeepsSpare old (hash_items_of new m.index m.hasher)) c.self.view_is
+          (keeps_spare key eq input hash m.hasher m.store new m.index m.index c.self.invariant paired (omega (arith, c.self.invariant.counted, paired.counted)) (omega (arith, c.exchange.ensures.capacity)) c.exchange.ensures.limit);
+      hasher = ap (λ v. v.hasher) c.self.view_is;
+    }
 
 pub returns-in-Some-clause-there : goal.returns-in-Some-clause-there
 unfolding IsKeyed
@@ -78,14 +85,6 @@ returns-in-Some-clause-replaced g c =
     let limit = c.exchange.ensures.limit ∙ ap (λ v. v.limit) c.self.view_is in
     cc
 
-pub returns-in-Some-clause-spare : goal.returns-in-Some-clause-spare
-returns-in-Some-clause-spare g c =
-    let m = c.self.inside in
-    let new = c.exchange.new.store in
-    let paired = c.exchange.ensures.paired in
-    subst (λ old. KeepsSpare old (hash_items_of new m.index m.hasher)) c.self.view_is
-    (keeps_spare g.T.IdHashItem.key g.T.Key.PartialEq.eq g.T.Key.Hash.hash_input (hash_under g.S.BuildHasher g.S.Hasher.Hasher) m.hasher m.store new m.index m.index c.self.invariant paired (omega (arith, c.self.invariant.counted, paired.counted)) (omega (arith, c.exchange.ensures.capacity)) c.exchange.ensures.limit)
-
 pub returns-in_err-insert_new-in-None : goal.returns-in_err-insert_new-in-None
 returns-in_err-insert_new-in-None g c =
     let key = g.T.IdHashItem.key in
@@ -102,8 +101,7 @@ returns-in_err-insert_new-in-None g c =
       refused = rw back.2 (absent, told.kind);
       no_spare = told.no_spare;
       kept = told.kept;
-      spare = told.kept.spare;
-      keyed = told.kept.keyed;
+      stays = told.kept.stays;
     })
 
 pub returns-in_ok-insert_new-in-None : goal.returns-in_ok-insert_new-in-None
@@ -121,6 +119,5 @@ returns-in_ok-insert_new-in-None g c =
       refused = tt;
       no_spare = tt;
       kept = tt;
-      spare = put.spare;
-      keyed = put.keyed;
+      stays = put.stays;
     }

@@ -1,4 +1,4 @@
-use Rattle.std.proofs.Common.{◌∙◌, sym, ap, subst, slice_get, rules}
+use Rattle.std.proofs.Common.{◌∙◌, ◌+◌, sym, ap, subst, refl, slice_get, rules}
 use Rattle.std.specs.List.{remove}
 use Rattle.iddqd_store.specs.Contents.{IsAbsent, items_without}
 use Rattle.iddqd_store.specs.Hashing.{hash_under}
@@ -25,10 +25,14 @@ returns-in_err-slot-clause-items g c =
     let test = g.Q.Equivalent.equivalent c.args.query.now in
     without_absent key test c.args.self.now.items (subst (λ v. IsAbsent key test v.items) c.self.view_is (sym c.in_err-slot.ensures.item))
 
-pub returns-in_err-slot-clause-spare : goal.returns-in_err-slot-clause-spare
-returns-in_err-slot-clause-spare g c =
+pub returns-in_err-slot-clause-stays : goal.returns-in_err-slot-clause-stays
+returns-in_err-slot-clause-stays g c =
     let m = c.self.inside in
-    subst (λ v. KeepsSpare v v) c.self.view_is (same_spare m.hasher m.store m.index c.self.invariant)
+    record {
+      keyed = c.requires.keyed;
+      spare = subst (λ v. KeepsSpare v v) c.self.view_is (same_spare m.hasher m.store m.index c.self.invariant);
+      hasher = refl;
+    }
 
 pub returns-clause-items : goal.returns-clause-items
 unfolding IsKeyed
@@ -46,45 +50,42 @@ returns-clause-items g c =
     taken_items key eq input hash m.hasher m.store new.store m.index new.index c.self.invariant c.take_out.ensures.paired g.met.T.Key.Eq.laws test (g.met.Q.Equivalent.one_key c.args.query.now) keyed c.in_ok-slot.slot x c.take_out.ensures.item passes c.take_out.ensures.updates
     ∙ ap (λ v. items_without key test v.items) c.self.view_is
 
-pub returns-clause-spare : goal.returns-clause-spare
+pub returns-clause-stays : goal.returns-clause-stays
 unfolding IsKeyed
-returns-clause-spare g c =
+returns-clause-stays g c =
     let key = g.T.IdHashItem.key in
     let eq = g.T.Key.PartialEq.eq in
     let input = g.T.Key.Hash.hash_input in
     let hash = hash_under g.S.BuildHasher g.S.Hasher.Hasher in
     let test = g.Q.Equivalent.equivalent c.args.query.now in
     let m = c.self.inside in
-    let new = c.take_out.new in
-    let x = c.take_out.result in
+    let out = c.take_out in
+    let new = out.new in
+    let x = out.result in
     let keyed = subst (KeyedItems key eq input hash) (sym c.self.view_is) c.requires.keyed in
-    let passes = found_passes key test (items_in m.store) x (sym c.in_ok-slot.ensures.item ∙ c.take_out.ensures.item) in
-    subst (λ old. KeepsSpare old (hash_items_of new.store new.index m.hasher)) c.self.view_is
-    (taken_spare key eq input hash m.hasher m.store new.store m.index new.index c.self.invariant c.take_out.ensures.paired g.met.T.Key.Eq.laws test (g.met.Q.Equivalent.one_key c.args.query.now) keyed c.in_ok-slot.slot x c.take_out.ensures.item passes c.take_out.ensures.spare c.take_out.ensures.len c.take_out.ensures.capacity c.take_out.ensures.limit)
-
-pub returns-clause-keyed : goal.returns-clause-keyed
-unfolding IsKeyed
-returns-clause-keyed g c =
-    let key = g.T.IdHashItem.key in
-    let eq = g.T.Key.PartialEq.eq in
-    let input = g.T.Key.Hash.hash_input in
-    let hash = hash_under g.S.BuildHasher g.S.Hasher.Hasher in
-    let test = g.Q.Equivalent.equivalent c.args.query.now in
-    let m = c.self.inside in
-    let new = c.take_out.new in
-    let x = c.take_out.result in
-    let keyed = subst (KeyedItems key eq input hash) (sym c.self.view_is) c.requires.keyed in
-    let passes = found_passes key test (items_in m.store) x (sym c.in_ok-slot.ensures.item ∙ c.take_out.ensures.item) in
-    taken_keyed key eq input hash m.hasher m.store new.store m.index new.index c.self.invariant c.take_out.ensures.paired g.met.T.Key.Eq.laws test (g.met.Q.Equivalent.one_key c.args.query.now) keyed c.in_ok-slot.slot x c.take_out.ensures.item passes c.hash_one-hash.result c.take_out.ensures.pairs c.take_out.ensures.updates
-
-pub returns-clause-slots : goal.returns-clause-slots
-returns-clause-slots g c =
-    let updates = c.take_out.ensures.updates in
-    let left = slot_left c.self.inside.store.slots c.take_out.new.store.slots c.in_ok-slot.slot c.take_out.result c.take_out.ensures.item updates.changed updates.others in
+    let passes = found_passes key test (items_in m.store) x (sym c.in_ok-slot.ensures.item ∙ out.ensures.item) in
+    let one_key = g.met.Q.Equivalent.one_key c.args.query.now in
     record {
-      place = left.place;
-      there = ap (λ v. slice_get v.items left.place) (sym c.self.view_is) ∙ left.there;
-      slots = left.slots ∙ ap (λ v. remove v.slots left.place) c.self.view_is;
+      keyed = taken_keyed key eq input hash m.hasher m.store new.store m.index new.index c.self.invariant out.ensures.paired g.met.T.Key.Eq.laws test one_key keyed c.in_ok-slot.slot x out.ensures.item passes c.hash_one-hash.result out.ensures.pairs out.ensures.updates;
+      spare = subst (λ old. KeepsSpare old (hash_items_of new.store new.index m.hasher)) c.self.view_is
+          (taken_spare key eq input hash m.hasher m.store new.store m.index new.index c.self.invariant out.ensures.paired g.met.T.Key.Eq.laws test one_key keyed c.in_ok-slot.slot x out.ensures.item passes out.ensures.spare out.ensures.len out.ensures.capacity out.ensures.limit);
+      hasher = ap (λ v. v.hasher) c.self.view_is;
+    }
+
+pub returns-clause-removed : goal.returns-clause-removed
+returns-clause-removed g c =
+    let out = c.take_out.ensures in
+    let left = slot_left c.self.inside.store.slots c.take_out.new.store.slots c.in_ok-slot.slot c.take_out.result out.item out.updates.changed out.updates.others in
+    record {
+      slots = record {
+        place = left.place;
+        there = ap (λ v. slice_get v.items left.place) (sym c.self.view_is) ∙ left.there;
+        slots = left.slots ∙ ap (λ v. remove v.slots left.place) c.self.view_is;
+      };
+      vacant = out.vacant ∙ ap (λ v. v.vacant + 1) c.self.view_is;
+      unchanged = tt;
+      capacity = out.capacity ∙ ap (λ v. v.capacity) c.self.view_is;
+      limit = out.limit ∙ ap (λ v. v.limit) c.self.view_is;
     }
 
 pub returns-clause-value : goal.returns-clause-value

@@ -51,12 +51,12 @@ loop-slot-preserved g c =
           record {
             callable = search of_calls;
             asked = rw (w.self-is, gone.0, gone.1, below) asked;
-            vacant = rw w.self-is (omega (arith, l.invariant.vacant, w.take_slot.ensures.vacant, fewer, ap length gone.0));
-            capacity = rw w.self-is (w.take_slot.ensures.capacity ∙ l.invariant.capacity);
-            limit = rw w.self-is (w.take_slot.ensures.limit ∙ l.invariant.limit);
-            hasher = rw w.self-is (w.take_slot.ensures.hasher ∙ l.invariant.hasher);
-            spare = rw w.self-is (omega (arith, l.invariant.spare, w.take_slot.ensures.spare.never_less));
-            keyed = rw w.self-is w.take_slot.ensures.keyed;
+            vacant = rw w.self-is (omega (arith, l.invariant.vacant, w.take_slot.ensures.removed.vacant, fewer, ap length gone.0));
+            capacity = rw w.self-is (w.take_slot.ensures.removed.capacity ∙ l.invariant.capacity);
+            limit = rw w.self-is (w.take_slot.ensures.removed.limit ∙ l.invariant.limit);
+            hasher = rw w.self-is (w.take_slot.ensures.stays.hasher ∙ l.invariant.hasher);
+            spare = rw w.self-is (omega (arith, l.invariant.spare, w.take_slot.ensures.stays.spare.never_less));
+            keyed = rw w.self-is w.take_slot.ensures.stays.keyed;
           }
           )
       | else-not-keep w ↦ (

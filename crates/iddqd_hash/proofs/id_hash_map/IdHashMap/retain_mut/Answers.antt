@@ -73,12 +73,12 @@ loop-slot-preserved g c =
           record {
             items = rw (w.self-is, left, numbers, below) (l.invariant.items ∙ visited_dropped visits l.visitor v x y m.items at there told);
             visitor = rw (w.self-is, left, numbers, below) (l.invariant.visitor ∙ visitor_dropped visits l.visitor v x y m.items at false there told);
-            vacant = rw w.self-is (omega (arith, l.invariant.vacant, w.take_slot.ensures.vacant, ap (λ n. n.vacant) saw.4, fewer, count));
-            capacity = rw w.self-is (w.take_slot.ensures.capacity ∙ ap (λ n. n.capacity) saw.4 ∙ l.invariant.capacity);
-            limit = rw w.self-is (w.take_slot.ensures.limit ∙ ap (λ n. n.limit) saw.4 ∙ l.invariant.limit);
-            hasher = rw w.self-is (w.take_slot.ensures.hasher ∙ ap (λ n. n.hasher) saw.4 ∙ l.invariant.hasher);
-            spare = rw w.self-is (omega (arith, l.invariant.spare, w.take_slot.ensures.spare.never_less, ap (λ n. n.spare) saw.4, ap length items, many));
-            keyed = rw w.self-is w.take_slot.ensures.keyed;
+            vacant = rw w.self-is (omega (arith, l.invariant.vacant, w.take_slot.ensures.removed.vacant, ap (λ n. n.vacant) saw.4, fewer, count));
+            capacity = rw w.self-is (w.take_slot.ensures.removed.capacity ∙ ap (λ n. n.capacity) saw.4 ∙ l.invariant.capacity);
+            limit = rw w.self-is (w.take_slot.ensures.removed.limit ∙ ap (λ n. n.limit) saw.4 ∙ l.invariant.limit);
+            hasher = rw w.self-is (w.take_slot.ensures.stays.hasher ∙ ap (λ n. n.hasher) saw.4 ∙ l.invariant.hasher);
+            spare = rw w.self-is (omega (arith, l.invariant.spare, w.take_slot.ensures.stays.spare.never_less, ap (λ n. n.spare) saw.4, ap length items, many));
+            keyed = rw w.self-is w.take_slot.ensures.stays.keyed;
           }
           )
       | else-not-visit_slot w ↦ (

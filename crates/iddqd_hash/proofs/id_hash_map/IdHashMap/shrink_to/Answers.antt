@@ -1,5 +1,5 @@
 use Rattle.std.proofs.Common.{◌≤◌, ◌∙◌, length, sym, ap, arith, subst}
-use Rattle.std.proofs.Common.{min as least}
+use Rattle.std.proofs.Common.{IsPermutation, min as least}
 use Rattle.iddqd_store.specs.Contents.{NoTwoAkin}
 use Rattle.iddqd_store.specs.Hashing.{hash_under}
 use Rattle.iddqd_store.specs.Store.{vacant}
@@ -22,48 +22,39 @@ compact-requires-clause-under g c =
     keyed_under key eq input hash m.hasher m.store m.index (subst (KeyedItems key eq input hash) (sym c.self.view_is) c.requires.keyed)
 
 pub returns-clause-shrinks : goal.returns-clause-shrinks
-returns-clause-shrinks g c =
-    let m = c.self.inside in
-    let new = c.shrink_room.new.store in
-    let closed = c.compact.ensures in
-    let room = c.shrink_room.ensures in
-    let capacity = closed.capacity ∙ ap (λ v. v.capacity) c.self.view_is in
-    record {
-      vacant = ap vacant room.store ∙ closed.vacant;
-      lower = omega (arith, room.lowers, capacity);
-      holds_items = omega (arith, room.keeps_items, closed.len, length-items m.store.slots, ap (λ v. length v.items) c.self.view_is);
-      holds_min = subst (λ n. least c.args.min n ≤ new.capacity) capacity room.keeps_min;
-      slots = slots_apart new.slots;
-      limit = ap (λ s. s.limit) room.store ∙ closed.limit ∙ ap (λ v. v.limit) c.self.view_is;
-    }
-
-pub returns-clause-spare : goal.returns-clause-spare
-returns-clause-spare g c =
-    let m = c.self.inside in
-    let closed = c.compact.ensures in
-    let view = c.self.view_is in
-    omega (arith, c.shrink_room.ensures.spare, closed.spare, closed.capacity, closed.len, closed.limit, length-items m.store.slots, length-items c.shrink_room.new.store.slots, ap (λ v. v.spare) view, ap (λ v. length v.items) view)
-
-pub returns-clause-frees : goal.returns-clause-frees
-returns-clause-frees g c none =
-    c.shrink_room.ensures.frees (omega (arith, none, c.compact.ensures.len, length-items c.self.inside.store.slots, ap (λ v. length v.items) c.self.view_is))
-
-pub returns-clause-within_limit : goal.returns-clause-within_limit
-returns-clause-within_limit g c = spare_fits c.self.inside.hasher c.shrink_room.new.store c.shrink_room.new.index c.shrink_room.ensures.paired
-
-pub returns-clause-keyed : goal.returns-clause-keyed
 unfolding IsKeyed
-returns-clause-keyed g c =
+returns-clause-shrinks g c =
     let key = g.T.IdHashItem.key in
     let eq = g.T.Key.PartialEq.eq in
     let input = g.T.Key.Hash.hash_input in
     let hash = hash_under g.S.BuildHasher g.S.Hasher.Hasher in
     let m = c.self.inside in
-    let closed = c.compact.new in
+    let between = c.compact.new in
     let new = c.shrink_room.new in
+    let closed = c.compact.ensures in
     let room = c.shrink_room.ensures in
-    let keyed = subst (KeyedItems key eq input hash) (sym c.self.view_is) c.requires.keyed in
-    let differ = differ_moved key g.met.T.Key.Eq.laws (items_in m.store) (items_in closed.store) c.compact.ensures.items keyed.differ in
-    make_keyed key eq input hash m.hasher new.store new.index
-    (subst (λ s. NoTwoAkin key eq (items_in s)) (sym room.store) differ)
-    (under_same (λ x. hash m.hasher (input (key x))) closed.store new.store closed.index.pairs new.index.pairs c.compact.ensures.under (ap (λ s. s.slots) room.store) room.pairs)
+    let view = c.self.view_is in
+    let capacity = closed.capacity ∙ ap (λ v. v.capacity) view in
+    let keyed = subst (KeyedItems key eq input hash) (sym view) c.requires.keyed in
+    let differ = differ_moved key g.met.T.Key.Eq.laws (items_in m.store) (items_in between.store) closed.items keyed.differ in
+    record {
+      items = subst (λ v. IsPermutation v.items (items_in new.store)) view (subst (λ s. IsPermutation (items_in m.store) (items_in s)) (sym room.store) closed.items);
+      shrinks = record {
+        vacant = ap vacant room.store ∙ closed.vacant;
+        lower = omega (arith, room.lowers, capacity);
+        holds_items = omega (arith, room.keeps_items, closed.len, length-items m.store.slots, ap (λ v. length v.items) view);
+        holds_min = subst (λ n. least c.args.min n ≤ new.store.capacity) capacity room.keeps_min;
+        slots = slots_apart new.store.slots;
+        limit = ap (λ s. s.limit) room.store ∙ closed.limit ∙ ap (λ v. v.limit) view;
+      };
+      spare = omega (arith, room.spare, closed.spare, closed.capacity, closed.len, closed.limit, length-items m.store.slots, length-items new.store.slots, ap (λ v. v.spare) view, ap (λ v. length v.items) view);
+      within_limit = spare_fits m.hasher new.store new.index room.paired;
+      hasher = ap (λ v. v.hasher) view;
+      keyed = make_keyed key eq input hash m.hasher new.store new.index
+          (subst (λ s. NoTwoAkin key eq (items_in s)) (sym room.store) differ)
+          (under_same (λ x. hash m.hasher (input (key x))) between.store new.store between.index.pairs new.index.pairs closed.under (ap (λ s. s.slots) room.store) room.pairs);
+    }
+
+pub returns-clause-frees : goal.returns-clause-frees
+returns-clause-frees g c none =
+    c.shrink_room.ensures.frees (omega (arith, none, c.compact.ensures.len, length-items c.self.inside.store.slots, ap (λ v. length v.items) c.self.view_is))

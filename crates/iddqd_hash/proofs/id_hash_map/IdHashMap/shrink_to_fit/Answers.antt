@@ -6,6 +6,3 @@ returns-clause-shrinks g c = search rules
 
 pub returns-clause-frees : goal.returns-clause-frees
 returns-clause-frees g c = search rules
-
-pub returns-clause-within_limit : goal.returns-clause-within_limit
-returns-clause-within_limit g c = search rules

@@ -1,4 +1,4 @@
-use Rattle.std.proofs.Common.{◌≡◌, ◌∙◌, sym, ap, subst, is_some, None, ℕ, get_or, set, ⊎_elim, rules}
+use Rattle.std.proofs.Common.{◌≡◌, ◌∙◌, ◌+◌, sym, ap, subst, is_some, None, ℕ, get_or, set, ⊎_elim, rules}
 use Rattle.std.proofs.lemmas.Bool.{cases_eq}
 use Rattle.std.specs.List.{remove, slice_get}
 use Rattle.iddqd_store.specs.Hashing.{hash_under}
@@ -9,7 +9,7 @@ use Rattle.iddqd_hash.specs.HashItems.{IsKeyed, KeyedItems}
 use Rattle.iddqd_hash.specs.HashMap.{KeepsSpare}
 use Rattle.iddqd_hash.specs.StoreAndIndex.{hash_items_of}
 use Rattle.iddqd_hash.proofs.FoundLemmas.{same_numbers}
-use Rattle.iddqd_hash.proofs.SlotItemLemmas.{same_items}
+use Rattle.iddqd_hash.proofs.SlotItemLemmas.{same_items, slot_left}
 use Rattle.iddqd_hash.proofs.EntryLemmas.{listed_told}
 use Rattle.iddqd_hash.proofs.GetMutLemmas.{item_in_slot}
 use Rattle.iddqd_hash.proofs.MapLemmas.{taken_keyed, taken_spare}
@@ -44,9 +44,9 @@ returns-clause-gone g c at there =
       same_numbers g.T.IdHashItem.key (λ s. s) new.slots (set m.store.slots slot None) (λ k. ap is_some (same k)) ∙ removed.0 ∙ ap (λ v. remove v.slots at) c.self.view_is,
     )
 
-pub returns-clause-spare : goal.returns-clause-spare
+pub returns-clause-stays : goal.returns-clause-stays
 unfolding IsKeyed
-returns-clause-spare g c =
+returns-clause-stays g c =
     let key = g.T.IdHashItem.key in
     let eq = g.T.Key.PartialEq.eq in
     let input = g.T.Key.Hash.hash_input in
@@ -56,22 +56,28 @@ returns-clause-spare g c =
     let out = c.take_out in
     let x = out.result in
     let keyed = subst (KeyedItems key eq input hash) (sym c.self.view_is) c.requires.keyed in
-    subst (λ old. KeepsSpare old (hash_items_of out.new.store out.new.index m.hasher)) c.self.view_is
-    (taken_spare key eq input hash m.hasher m.store out.new.store m.index out.new.index c.self.invariant out.ensures.paired equivalence (eq (key x)) (equivalence.congr (key x)) keyed c.args.slot x out.ensures.item (equivalence.refl (key x)) out.ensures.spare out.ensures.len out.ensures.capacity out.ensures.limit)
+    record {
+      keyed = taken_keyed key eq input hash m.hasher m.store out.new.store m.index out.new.index c.self.invariant out.ensures.paired equivalence (eq (key x)) (equivalence.congr (key x)) keyed c.args.slot x out.ensures.item (equivalence.refl (key x)) c.args.hash out.ensures.pairs out.ensures.updates;
+      spare = subst (λ old. KeepsSpare old (hash_items_of out.new.store out.new.index m.hasher)) c.self.view_is
+          (taken_spare key eq input hash m.hasher m.store out.new.store m.index out.new.index c.self.invariant out.ensures.paired equivalence (eq (key x)) (equivalence.congr (key x)) keyed c.args.slot x out.ensures.item (equivalence.refl (key x)) out.ensures.spare out.ensures.len out.ensures.capacity out.ensures.limit);
+      hasher = ap (λ v. v.hasher) c.self.view_is;
+    }
 
-pub returns-clause-keyed : goal.returns-clause-keyed
-unfolding IsKeyed
-returns-clause-keyed g c =
-    let key = g.T.IdHashItem.key in
-    let eq = g.T.Key.PartialEq.eq in
-    let input = g.T.Key.Hash.hash_input in
-    let hash = hash_under g.S.BuildHasher g.S.Hasher.Hasher in
-    let equivalence = g.met.T.Key.Eq.laws in
-    let m = c.self.inside in
-    let out = c.take_out in
-    let x = out.result in
-    let keyed = subst (KeyedItems key eq input hash) (sym c.self.view_is) c.requires.keyed in
-    taken_keyed key eq input hash m.hasher m.store out.new.store m.index out.new.index c.self.invariant out.ensures.paired equivalence (eq (key x)) (equivalence.congr (key x)) keyed c.args.slot x out.ensures.item (equivalence.refl (key x)) c.args.hash out.ensures.pairs out.ensures.updates
+pub returns-clause-removed : goal.returns-clause-removed
+returns-clause-removed g c =
+    let out = c.take_out.ensures in
+    let left = slot_left c.self.inside.store.slots c.take_out.new.store.slots c.args.slot c.take_out.result out.item out.updates.changed out.updates.others in
+    record {
+      slots = record {
+        place = left.place;
+        there = ap (λ v. slice_get v.items left.place) (sym c.self.view_is) ∙ left.there;
+        slots = left.slots ∙ ap (λ v. remove v.slots left.place) c.self.view_is;
+      };
+      vacant = out.vacant ∙ ap (λ v. v.vacant + 1) c.self.view_is;
+      unchanged = tt;
+      capacity = out.capacity ∙ ap (λ v. v.capacity) c.self.view_is;
+      limit = out.limit ∙ ap (λ v. v.limit) c.self.view_is;
+    }
 
 pub invariant_of-self : goal.invariant_of-self
 invariant_of-self g c = search rules

@@ -12,8 +12,3 @@ pub returns-clause-items : goal.returns-clause-items
 returns-clause-items g c =
     let p = place g c in
     (c.take_hashed.ensures.gone p.place p.slot_there).0 ∙ sym p.others
-
-pub returns-clause-slots : goal.returns-clause-slots
-returns-clause-slots g c =
-    let p = place g c in
-    record { place = p.place; there = p.item_there; slots = (c.take_hashed.ensures.gone p.place p.slot_there).1 }
