@@ -7,18 +7,22 @@
 --     HashFills, HashShrinks      items were inserted; the slots were closed up, and memory was given back
 --     IsEmptyMap, SpareFits, KeepsSpare      no item and no room; the room fits the limit; the spare stays
 --     ends_hash_inserted, ends_hash_extended, lends_nothing      what the map is once the result of such a call is dropped
+--     HandsBack      an item was refused for want of room, and is returned
 --     HaveEqualItems, FindsEqual, CloneHashesAlike      what `eq` returns, and what `clone` asks of the hasher
 --     lent_map, lent_slot, lent_item, guard_lender, lent_with      what a guard lends
+--     GuardFinds, GuardOverwrites, GuardKeeps, GuardKeepsAkin      what it lends, and what may be written through it
 --     shown_map, shown_item, shown_lender      what `into_ref` shows
 --     lends_item, item_follows, guard_follows, rests_at_none, with_item_in      what a guard leaves
 --     Occupied, Vacant, entry_map, entry_lender, entry_item, entry_slot, entry_with, entry_others      what an entry holds
---     EntryKeeps, EntryKeepsAkin, entry_follows, rests_if_refused      what an entry leaves
+--     IsEntryOf, IsEntryFor, LacksKeyOf      what `entry` finds, and what an insertion asks of the item
+--     LendsFound, LendsInserted, LendsIfVacant, LendsMade, EntersInserted, ModifiesEntry      what the calls of an entry return
+--     EntryKeeps, EntryKeepsAkin, entry_follows, rests_if_refused, lends_or_keeps, enters_or_keeps      what an entry leaves
 --     walk_map, walk_lender, walk_done, walk_with      what a walk that lends items for writing holds
 --     WalkKeeps, WalkKeepsAkin, walk_lends      what a step of such a walk leaves
 unfoldable pub use Rattle.iddqd_hash.specs.HashItems.{IsKeyed}
 pub use Rattle.iddqd_hash.specs.HashItems.{HashItems, IsKeyedByText, default_hash, differ_from_keyed, holding_of, of_stored_hash, text_writes}
-pub use Rattle.iddqd_hash.specs.HashMap.{CloneHashesAlike, FindsEqual, HashFills, HashInserts, HashKeeps, HashShrinks, HashStays, HaveEqualItems, IsEmptyMap, KeepsSpare, SpareFits, ends_hash_extended, ends_hash_inserted, lends_nothing}
-pub use Rattle.iddqd_hash.specs.Guard.{guard_follows, item_follows, lends_item, lent_item, lent_map, guard_lender, lent_slot, lent_with, rests_at_none, shown_item, shown_map, shown_lender, with_item_in}
+pub use Rattle.iddqd_hash.specs.HashMap.{CloneHashesAlike, FindsEqual, HandsBack, HashFills, HashInserts, HashKeeps, HashShrinks, HashStays, HaveEqualItems, IsEmptyMap, KeepsSpare, SpareFits, ends_hash_extended, ends_hash_inserted, lends_nothing}
+pub use Rattle.iddqd_hash.specs.Guard.{GuardFinds, GuardKeeps, GuardKeepsAkin, GuardOverwrites, guard_follows, item_follows, lends_item, lent_item, lent_map, guard_lender, lent_slot, lent_with, rests_at_none, shown_item, shown_map, shown_lender, with_item_in}
 pub use Rattle.iddqd_hash.specs.declared.id_hash_map.entry.Entry.TheVariants.{Occupied, Vacant}
-pub use Rattle.iddqd_hash.specs.Entry.{EntryKeeps, EntryKeepsAkin, entry_follows, entry_item, entry_map, entry_lender, entry_others, entry_slot, entry_with, rests_if_refused}
+pub use Rattle.iddqd_hash.specs.Entry.{EntersInserted, EntryKeeps, EntryKeepsAkin, IsEntryFor, IsEntryOf, LacksKeyOf, LendsFound, LendsIfVacant, LendsInserted, LendsMade, ModifiesEntry, enters_or_keeps, entry_follows, entry_item, entry_map, entry_lender, entry_others, entry_slot, entry_with, lends_or_keeps, rests_if_refused}
 pub use Rattle.iddqd_hash.specs.WritingWalk.{WalkKeeps, WalkKeepsAkin, walk_done, walk_lends, walk_map, walk_lender, walk_with}

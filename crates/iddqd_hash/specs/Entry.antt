@@ -3,19 +3,26 @@
 --     entry_item, entry_slot      the item there, if there is one, and the slot of an occupied entry
 --     entry_with e w      the map once w stands in the entry's place; where there is none, the map
 --     entry_others e      the items but for the entry's
+--     LacksKeyOf      no item of the entry's map has a key equal to this item's
+--     IsEntryOf, IsEntryFor      the entry of an item, or of none; the entry of what a query finds
+--     LendsFound, LendsInserted, EntersInserted      the entry's item is lent; the inserted one is, or has this entry
+--     LendsIfVacant, LendsMade      if the entry is vacant, the inserted item is lent, this one or one that a closure made
+--     ModifiesEntry      the entry's item was visited
 --     entry_follows      the entry ends with the last value written to its item
 --     EntryKeeps, EntryKeepsAkin      an item of the same key, or of an equal one, may be written
---     rests_if_refused      what the map is where an item was refused
+--     rests_if_refused, lends_or_keeps, enters_or_keeps      if an item was refused, the map keeps its items
 pub use Rattle.iddqd_hash.specs.declared.id_hash_map.entry.Entry.TheVariants.{Vacant, Occupied}
-use Rattle.std.specs.Prelude.{◌≡◌, ℕ, [], Bool, IsTrue, List, Option, None, Result}
+use Rattle.std.specs.Prelude.{◌≡◌, ℕ, [], Bool, IfNone, IfSome, IsTrue, List, Option, None, Some, Result, option_map}
 use Rattle.std.specs.Borrow.{Fml, GName, RattleType, MutBor, RestsIfErr, follows}
 use mir.Syntax.{named}
+use Rattle.iddqd_store.specs.Contents.{AddsItem, IsAbsent, find_item, items_overwritten, items_without}
 use Rattle.iddqd_store.specs.SlotItems.{item_of_slot, still_there, without_slot}
 use Rattle.iddqd_hash.specs.declared.id_hash_map.entry.Entry.{Entry}
 use Rattle.iddqd_hash.specs.declared.id_hash_map.entry.OccupiedEntry.{OccupiedEntry}
-use Rattle.iddqd_hash.specs.Guard.{with_item_in}
+use Rattle.iddqd_hash.specs.declared.id_hash_map.ref_mut.RefMut.{RefMut}
+use Rattle.iddqd_hash.specs.Guard.{guard_lender, lent_item, lent_map, lent_with, with_item_in}
 use Rattle.iddqd_hash.specs.HashItems.{HashItems}
-use Rattle.iddqd_hash.specs.HashMap.{HashKeeps}
+use Rattle.iddqd_hash.specs.HashMap.{HashInserts, HashKeeps}
 use Rattle.iddqd_hash.specs.contracts.id_hash_map.IdHashMap as map
 use Rattle.iddqd_hash.specs.contracts.id_hash_map.entry.OccupiedEntry as occupied
 
@@ -55,6 +62,58 @@ module _ {S T : Type 0} where
     listed = e.listed;
   }
 
+  -- the entry holds the map of this reference, unchanged, at the item x; a write of w leaves the items `with_item w`
+  pub record IsEntryOf (m : MutBor (HashItems S T)) (x : Option T) (with_item : T → List T) (rest : List T) (e : Entry T S) : Type 0 where
+    pub lender : entry_lender e ≡ m.ghost_name
+    pub map : entry_map e ≡ m.now
+    pub item : entry_item e ≡ x
+    pub written : (w : T) → (entry_with e w).items ≡ with_item w
+    pub others : entry_others e ≡ rest
+
+  -- the guard lends the entry's item, and a write through it is one to the entry
+  pub record LendsFound (e : Entry T S) (r : RefMut T S) : Type 0 where
+    pub map : lent_map r ≡ entry_map e
+    pub item : lent_item r ≡ entry_item e
+    pub written : (w : T) → lent_with r w ≡ entry_with e w
+
+  -- the item of an occupied entry was visited once, and a vacant one is as it was
+  pub record ModifiesEntry {V : Type 0} (visits : V → T → V × T × Bool) (v : V) (e : Entry T S) (after : V) (r : Entry T S) : Type 0 where
+    pub item : entry_item r ≡ option_map (λ x. (visits v x).1) (entry_item e)
+    pub map : IfSome (entry_item e) (λ x. entry_map r ≡ entry_with e (visits v x).1)
+    pub visitor : IfSome (entry_item e) (λ x. after ≡ (visits v x).0)
+    pub unchanged : IfNone (entry_item e) (entry_map r ≡ entry_map e)
+    pub unvisited : IfNone (entry_item e) (after ≡ v)
+    pub written : (w : T) → entry_with r w ≡ entry_with e w
+    pub others : entry_others r ≡ entry_others e
+
+module _ {S T K : Type 0} (key : T → K) where
+  abbrev pub IsEntryFor : (K → Bool) → MutBor (HashItems S T) → Entry T S → Type 0
+  IsEntryFor test m e =
+      IsEntryOf m (find_item key test m.now.items) (λ w. items_overwritten key test w m.now.items) (items_without key test m.now.items) e
+
+  abbrev pub LacksKeyOf : (K → K → Bool) → T → Entry T S → Type 0
+  LacksKeyOf eq x e = IsAbsent key (eq (key x)) (entry_map e).items
+
+module _ {S T : Type 0} (IsKeyed : HashItems S T → Type 0) where
+  -- x was inserted into the entry's map, and the guard lends it; a write through it is as if that item had been inserted
+  pub record LendsInserted (x : T) (e : Entry T S) (r : RefMut T S) : Type 0 where
+    pub inserts : HashInserts IsKeyed x (entry_map e) (lent_map r)
+    pub item : lent_item r ≡ Some x
+    pub written : (w : T) → AddsItem w (entry_map e).items (lent_with r w).items
+
+  -- x was inserted into the entry's map, and this is its entry
+  pub record EntersInserted (x : T) (e : Entry T S) (found : OccupiedEntry T S) : Type 0 where
+    pub inserts : HashInserts IsKeyed x (entry_map e) (entry_map (Occupied found))
+    pub item : entry_item (Occupied found) ≡ Some x
+    pub written : (w : T) → AddsItem w (entry_map e).items (entry_with (Occupied found) w).items
+    pub others : entry_others (Occupied found) ≡ (entry_map e).items
+
+  abbrev pub LendsIfVacant : T → Entry T S → RefMut T S → Type 0
+  LendsIfVacant x e r = entry_item e ≡ None → LendsInserted x e r
+
+  abbrev pub LendsMade : (T → Type 0) → Entry T S → RefMut T S → Type 0
+  LendsMade made e r = entry_item e ≡ None → (x : T) × made x × LendsInserted x e r
+
 -- in a keyed map an item of the same key, or of an equal one, may be written to the entry: the map is keyed then
 module _ {S T K : Type 0} (key : T → K) (IsKeyed : HashItems S T → Type 0) where
   abbrev pub EntryKeeps : OccupiedEntry T S → MutBor T → Type 0
@@ -74,3 +133,9 @@ module _ (S T : RattleType) where
   -- where the item was refused, the map behind the entry keeps its items; what it is given to else holds the map under the name
   abbrev pub rests_if_refused : {A E : Type 0} → (HashItems S.Denot T.Denot → Type 0) → (A → GName) → Entry T.Denot S.Denot → Result A E → Fml
   rests_if_refused IsKeyed name e r = RestsIfErr (map.the_row T S) (entry_map_ref e) name r (HashKeeps IsKeyed (entry_map e))
+
+  abbrev pub lends_or_keeps : {E : Type 0} → (HashItems S.Denot T.Denot → Type 0) → Entry T.Denot S.Denot → Result (RefMut T.Denot S.Denot) E → Fml
+  lends_or_keeps IsKeyed e r = rests_if_refused IsKeyed guard_lender e r
+
+  abbrev pub enters_or_keeps : {E : Type 0} → (HashItems S.Denot T.Denot → Type 0) → Entry T.Denot S.Denot → Result (OccupiedEntry T.Denot S.Denot) E → Fml
+  enters_or_keeps IsKeyed e r = rests_if_refused IsKeyed (λ found. entry_lender (Occupied found)) e r

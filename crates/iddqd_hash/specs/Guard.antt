@@ -2,12 +2,15 @@
 --     with_item_in m slot w      the map, once w stands in the slot
 --     lent_map, lent_slot, lent_item, guard_lender      the map as the guard holds it, the slot, its item, the name of the reference to the map
 --     lent_with r w      the map once w is written through the guard
+--     GuardFinds, GuardOverwrites      it lends the item that a query finds, and what is written stands in the place of that item
+--     GuardKeeps, GuardKeepsAkin      an item of the same key, or of an equal one, may be written
 --     shown_map, shown_item, shown_lender      the same of what `into_ref` answers
 --     lends_item, item_follows, guard_follows      the map, or the guard, ends with the last value written
 --     rests_at_none      with no guard the map stays as it is
-use Rattle.std.specs.Prelude.{◌≡◌, ℕ, [], Option}
+use Rattle.std.specs.Prelude.{◌≡◌, ℕ, [], Bool, IsTrue, Option, Some}
 use Rattle.std.specs.Borrow.{Fml, GName, RattleType, MutBor, Lends, RestsIfNone, follows}
 use mir.Syntax.{named}
+use Rattle.iddqd_store.specs.Contents.{find_item, items_overwritten}
 use Rattle.iddqd_store.specs.SlotItems.{item_of_slot, still_there, written_to_slot}
 use Rattle.iddqd_hash.specs.HashItems.{HashItems}
 use Rattle.iddqd_hash.specs.declared.id_hash_map.ref_mut.RefMut.{RefMut}
@@ -51,6 +54,20 @@ module _ {S T : Type 0} where
 
   abbrev pub shown_lender : Shown T S → GName
   shown_lender s = s.map.ghost_name
+
+module _ {S T K : Type 0} (key : T → K) where
+  abbrev pub GuardFinds : (K → Bool) → RefMut T S → Type 0
+  GuardFinds test r = find_item key test (lent_map r).items ≡ lent_item r
+
+  abbrev pub GuardOverwrites : (K → Bool) → RefMut T S → Type 0
+  GuardOverwrites test r = (w : T) → (lent_with r w).items ≡ items_overwritten key test w (lent_map r).items
+
+  -- the map is keyed after a write of an item of the same key, or of an equal one
+  abbrev pub GuardKeeps : (HashItems S T → Type 0) → RefMut T S → Type 0
+  GuardKeeps IsKeyed r = (x w : T) → lent_item r ≡ Some x → key w ≡ key x → IsKeyed (lent_with r w)
+
+  abbrev pub GuardKeepsAkin : (K → K → Bool) → (HashItems S T → Type 0) → RefMut T S → Type 0
+  GuardKeepsAkin eq IsKeyed r = (x w : T) → lent_item r ≡ Some x → IsTrue (eq (key x) (key w)) → IsKeyed (lent_with r w)
 
 module _ (S T : RattleType) where
   abbrev pub lends_item : MutBor (HashItems S.Denot T.Denot) → ℕ → MutBor T.Denot → Fml

@@ -2,12 +2,14 @@
 --     IsEmptyMap      there is no item, and no memory has been taken
 --     SpareFits      what is there and what is spare fit the limit together
 --     KeepsSpare      what is there and what is spare are no fewer together, and fit the limit
+--     TakesSlot      an item that was inserted lies in this slot
 --     LosesPlaceOf      a slot and its item have left their place
 --     HashStays      what stays in each call that changes a keyed map: it is keyed, keeps the spare, and has the same hasher
 --     HashInserts      the item was inserted
 --     HashKeeps      nothing has changed but the room, which may have grown
 --     HashFills      items were inserted
 --     HashShrinks      the slots were closed up, and memory was given back
+--     HandsBack      an item was refused for want of room, and is returned
 --     HaveEqualItems      what `eq` of two maps says
 --     CloneHashesAlike      a hasher's clone hashes as it does
 use Rattle.std.specs.Prelude.{◌≡◌, ℕ, ◌+◌, ◌≤◌, [], List, length, Bool, true, All, IfErr, IsPermutation, IsSomeAnd, Result, Some, remove, slice_get}
@@ -15,11 +17,13 @@ use Rattle.std.specs.Prelude.{min as least}
 use Rattle.std.specs.Borrow.{Fml, RattleType, MutBor, Lends, LendsSoOk, unit}
 use Rattle.std.specs.Hash.{HashWrites}
 use Rattle.iddqd_store.specs.Adding.{AddsGiven, OnItemRefused, StopsAdding}
-use Rattle.iddqd_store.specs.Contents.{find_item}
+use Rattle.iddqd_store.specs.Contents.{AddsItem, find_item}
 use Rattle.iddqd_store.specs.Holding.{FillsSlots, InsertsItem, KeepsItems, Shrinks}
-use Rattle.iddqd_store.specs.Refusal.{OnDuplicate}
+use Rattle.iddqd_store.specs.Refusal.{FindsNoRoom, OnDuplicate}
+use Rattle.iddqd_store.specs.SlotItems.{item_of_slot, without_slot, written_to_slot}
 use Rattle.iddqd_store.specs.declared.errors.ExtendUniqueError.{ExtendUniqueError}
 use Rattle.iddqd_store.specs.declared.errors.InsertError.{InsertError}
+use Rattle.iddqd_store.specs.declared.errors.Refused.{Refused}
 use Rattle.iddqd_hash.specs.HashItems.{HashItems, holding_of}
 use Rattle.iddqd_hash.specs.contracts.id_hash_map.IdHashMap.{the_row}
 
@@ -33,6 +37,13 @@ module _ {S T : Type 0} where
   pub record KeepsSpare (old new : HashItems S T) : Type 0 where
     pub never_less : old.spare + length old.items ≤ new.spare + length new.items
     pub in_limit : SpareFits new
+
+  -- x was inserted and lies in this slot, under this hash; a write to the slot is as if that item had been inserted
+  pub record TakesSlot (x : T) (hash : ℕ) (old new : HashItems S T) (slot : ℕ) : Type 0 where
+    pub there : item_of_slot new.slots new.items slot ≡ Some x
+    pub listed : item_of_slot new.slots new.hashes slot ≡ Some hash
+    pub written : (w : T) → AddsItem w old.items (written_to_slot new.slots new.items slot w)
+    pub others : without_slot new.slots new.items slot ≡ old.items
 
   -- the slot's place is gone, and its item with it
   abbrev pub LosesPlaceOf : ℕ → HashItems S T → HashItems S T → Type 0
@@ -75,6 +86,12 @@ module _ {S T K : Type 0} (key : T → K) (key_eq : K → K → Bool) (eq : T �
   pub record HaveEqualItems (one other : HashItems S T) : Type 0 where
     pub as_many : length one.items ≡ length other.items
     pub each_found : All (FindsEqual other) one.items
+
+-- x was refused for want of room, which a spare one would have had, and is returned
+pub record HandsBack {S T K : Type 0} (key : T → K) (eq : K → K → Bool) (m : HashItems S T) (x : T) (refused : Refused T) : Type 0 where
+  pub item : refused.item ≡ x
+  pub no_room : FindsNoRoom key eq m.limit m.items x refused.error
+  pub no_spare : m.spare ≡ 0
 
 -- each clone of the hasher gives every value the hash that the hasher gives it (ours, a premise of `clone`)
 abbrev pub CloneHashesAlike : {S : Type 0} → (S → S → Type 0) → (S → HashWrites → ℕ) → S → Type 0

@@ -1,6 +1,5 @@
 //! Entries: the place of an item in a map, or a map that lacks one.
 ghost use Rattle.std.specs.Prelude.{◌≡◌, IfSome, IsSome, IsTrue, Some};
-ghost use Rattle.iddqd_store.specs.Contents.{find_item, items_overwritten, items_without};
 ghost use Rattle.iddqd_store.specs.Hashing.{HashesAs};
 ghost use Rattle.iddqd_store.specs.SlotItems.{item_of_slot};
 
@@ -40,19 +39,15 @@ pub struct OccupiedEntry<'a, T, S = DefaultHashBuilder> {
 }
 
 impl<T: IdHashItem, S: BuildHasher> IdHashMap<T, S> {
-    ghost use Rattle.iddqd_hash.specs.Entry.{entry_item, entry_map, entry_lender, entry_others, entry_with};
+    ghost use Rattle.iddqd_hash.specs.Entry.{IsEntryFor, entry_item};
 
     /// The entry of the query: occupied where it finds an item. It hashes the query once, makes as many comparisons as `get`,
     /// takes no memory, and changes nothing.
     pub fn entry<Q: Hash + Equivalent<T::Key>>(&mut self, query: &Q) -> Entry<'_, T, S>
         requires keyed { ⟦<Self as Keyed>⟧.keyed self.old }
         requires hashes { HashesAs (Q.equivalent query.now) (Q.hash_input query.now) T.Key.hash_input }
-        ensures same_map { entry_lender result ≡ self.entry.ghost_name }
-        ensures unchanged { entry_map result ≡ self.old }
-        ensures found { entry_item result ≡ find_item T.key (Q.equivalent query.now) self.old.items }
-        ensures answers { IfSome (entry_item result) (λ x. IsTrue (Q.equivalent query.now (T.key x))) }
-        ensures written { (w : T) → (entry_with result w).items ≡ items_overwritten T.key (Q.equivalent query.now) w self.old.items }
-        ensures others { entry_others result ≡ items_without T.key (Q.equivalent query.now) self.old.items }
+        ensures entry { IsEntryFor T.key (Q.equivalent query.now) self.entry result }
+        ensures equal { IfSome (entry_item result) (λ x. IsTrue (Q.equivalent query.now (T.key x))) }
     {
         let hash = self.hasher.hash_one(query);
         match find_slot(&self.store, &self.index, hash, query) {

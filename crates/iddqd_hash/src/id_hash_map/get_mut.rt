@@ -1,9 +1,9 @@
 //! Lending one item for writing, and what lends it.
-ghost use Rattle.std.specs.Prelude.{◌≡◌, IfNone, IfSome, IsSome, IsTrue, Some, None};
+ghost use Rattle.std.specs.Prelude.{◌≡◌, IfNone, IfSome, IsSome, Some, None};
 ghost use Rattle.std.specs.Borrow.{sem};
-ghost use Rattle.iddqd_store.specs.Contents.{find_item, items_overwritten};
+ghost use Rattle.iddqd_store.specs.Contents.{find_item};
 ghost use Rattle.iddqd_store.specs.Hashing.{HashesAs};
-ghost use Rattle.iddqd_store.specs.SlotItems.{item_of_slot, written_to_slot};
+ghost use Rattle.iddqd_store.specs.SlotItems.{item_of_slot};
 
 use super::store_and_index::find_slot;
 use super::{IdHashMap, Keyed, RefMut};
@@ -34,7 +34,7 @@ impl<T, S> IdHashMap<T, S> {
 }
 
 impl<T: IdHashItem, S: BuildHasher> IdHashMap<T, S> {
-    ghost use Rattle.iddqd_hash.specs.Guard.{rests_at_none, guard_lender, lent_map, lent_slot, lent_item, with_item_in};
+    ghost use Rattle.iddqd_hash.specs.Guard.{GuardFinds, GuardKeeps, GuardKeepsAkin, GuardOverwrites, guard_lender, lent_map, rests_at_none};
     ghost use Rattle.iddqd_hash.specs.HashMap.{SpareFits};
 
     /// Lends the item that the query finds for writing; `None` where there is none, and then nothing has changed. The
@@ -46,10 +46,10 @@ impl<T: IdHashItem, S: BuildHasher> IdHashMap<T, S> {
         ensures absent { IfNone result (find_item T.key (Q.equivalent query.now) self.old.items ≡ None) }
         ensures same_map { IfSome result (λ r. guard_lender r ≡ self.entry.ghost_name) }
         ensures lent { IfSome result (λ r. lent_map r ≡ self.old) }
-        ensures found { IfSome result (λ r. find_item T.key (Q.equivalent query.now) self.old.items ≡ lent_item r) }
-        ensures written { IfSome result (λ r. (w : T) → written_to_slot self.old.slots self.old.items (lent_slot r) w ≡ items_overwritten T.key (Q.equivalent query.now) w self.old.items) }
-        ensures keyed { IfSome result (λ r. (x w : T) → lent_item r ≡ Some x → T.key w ≡ T.key x → ⟦<Self as Keyed>⟧.keyed (with_item_in self.old (lent_slot r) w)) }
-        ensures keyed_akin { IfSome result (λ r. (x w : T) → lent_item r ≡ Some x → IsTrue (T.Key.eq (T.key x) (T.key w)) → ⟦<Self as Keyed>⟧.keyed (with_item_in self.old (lent_slot r) w)) }
+        ensures found { IfSome result (GuardFinds T.key (Q.equivalent query.now)) }
+        ensures written { IfSome result (GuardOverwrites T.key (Q.equivalent query.now)) }
+        ensures keyed { IfSome result (GuardKeeps T.key ⟦<Self as Keyed>⟧.keyed) }
+        ensures keyed_akin { IfSome result (GuardKeepsAkin T.key T.Key.eq ⟦<Self as Keyed>⟧.keyed) }
         ensures spare { SpareFits self.old }
     {
         let hash = self.hasher.hash_one(query);

@@ -1,10 +1,9 @@
 //! Insertions. An akin item is looked for first, then the limit, then memory, and only then is anything changed.
 ghost use Rattle.std.specs.Prelude.{◌≡◌, IfOk, IfErr, IfNone, OnOk, OnErr, OnSome, Err, Some};
 ghost use Rattle.std.specs.Borrow.{sem};
-ghost use Rattle.iddqd_store.specs.Contents.{AddsItem, IsAbsent, find_item, items_overwritten};
+ghost use Rattle.iddqd_store.specs.Contents.{IsAbsent, find_item, items_overwritten};
 ghost use Rattle.iddqd_store.specs.Hashing.{hash_under};
-ghost use Rattle.iddqd_store.specs.Refusal.{FindsNoRoom, OnRefused, RefusesInsertion, refusal_kind};
-ghost use Rattle.iddqd_store.specs.SlotItems.{item_of_slot, without_slot, written_to_slot};
+ghost use Rattle.iddqd_store.specs.Refusal.{OnRefused, RefusesInsertion};
 
 use super::store_and_index::{exchange, find_slot, put_in, reserve_one};
 use super::{IdHashMap, Keyed};
@@ -12,7 +11,7 @@ use iddqd_store::{DuplicateItem, Few, IdHashItem, InsertError, Refused};
 use std::hash::BuildHasher;
 
 impl<T: IdHashItem, S: BuildHasher> IdHashMap<T, S> {
-    ghost use Rattle.iddqd_hash.specs.HashMap.{HashInserts, HashKeeps, HashStays, ends_hash_inserted, lends_nothing};
+    ghost use Rattle.iddqd_hash.specs.HashMap.{HandsBack, HashInserts, HashKeeps, HashStays, TakesSlot, ends_hash_inserted, lends_nothing};
 
     /// Inserts the item where none of an equal key is there. A duplicate needs no memory and lends the item that is there;
     /// then the map is as it was. A full map and refused memory hand the item back, and then the items are as they were
@@ -48,9 +47,7 @@ impl<T: IdHashItem, S: BuildHasher> IdHashMap<T, S> {
         ensures replaced { IfOk result (λ found. OnSome found (self.new ≡ record self.old { items = items_overwritten T.key (T.Key.eq (T.key item)) item self.old.items })) }
         ensures inserted { IfOk result (λ found. IfNone found (HashInserts ⟦<Self as Keyed>⟧.keyed item self.old self.new)) }
         ensures there { OnOk result (find_item T.key (T.Key.eq (T.key item)) self.new.items ≡ Some item) }
-        ensures item { IfErr result (λ refused. refused.item ≡ item) }
-        ensures refused { IfErr result (λ refused. FindsNoRoom T.key T.Key.eq self.old.limit self.old.items item refused.error) }
-        ensures no_spare { OnErr result (self.old.spare ≡ 0) }
+        ensures refused { IfErr result (HandsBack T.key T.Key.eq self.old item) }
         ensures kept { OnErr result (HashKeeps ⟦<Self as Keyed>⟧.keyed self.old self.new) }
         ensures stays { HashStays ⟦<Self as Keyed>⟧.keyed self.old self.new }
     {
@@ -79,14 +76,9 @@ impl<T: IdHashItem, S: BuildHasher> IdHashMap<T, S> {
         requires absent { IsAbsent T.key (T.Key.eq (T.key item)) self.old.items }
         requires hash { hash ≡ hash_under S.BuildHasher S.Hasher.Hasher self.old.hasher (T.Key.hash_input (T.key item)) }
         ensures inserted { OnOk result (HashInserts ⟦<Self as Keyed>⟧.keyed item self.old self.new) }
-        ensures there { IfOk result (λ slot. item_of_slot self.new.slots self.new.items slot ≡ Some item) }
-        ensures listed { IfOk result (λ slot. item_of_slot self.new.slots self.new.hashes slot ≡ Some hash) }
-        ensures written { IfOk result (λ slot. (w : T) → AddsItem w self.old.items (written_to_slot self.new.slots self.new.items slot w)) }
-        ensures others { IfOk result (λ slot. without_slot self.new.slots self.new.items slot ≡ self.old.items) }
+        ensures placed { IfOk result (TakesSlot item hash self.old self.new) }
         ensures kept { OnErr result (HashKeeps ⟦<Self as Keyed>⟧.keyed self.old self.new) }
-        ensures item { IfErr result (λ refused. refused.item ≡ item) }
-        ensures kind { IfErr result (λ refused. refused.error ≡ refusal_kind self.old.limit self.old.items) }
-        ensures no_spare { OnErr result (self.old.spare ≡ 0) }
+        ensures refused { IfErr result (HandsBack T.key T.Key.eq self.old item) }
     {
         if let Err(error) = reserve_one(&mut self.store, &mut self.index) {
             return Err(Refused { item, error });

@@ -1,11 +1,9 @@
 //! The calls of an entry that is occupied or vacant.
-ghost use Rattle.std.specs.Prelude.{◌≡◌, IfErr, IfNone, IfOk, IfSome, IsSome, IsTrue, None, OnErr, Some, option_map};
+ghost use Rattle.std.specs.Prelude.{◌≡◌, IfErr, IfOk, IfSome, IsSome, IsTrue, None};
 ghost use Rattle.std.specs.Borrow.{sem};
-ghost use Rattle.iddqd_store.specs.Contents.{AddsItem, IsAbsent};
-ghost use Rattle.iddqd_store.specs.Refusal.{FindsNoRoom};
-ghost use Rattle.iddqd_hash.specs.Entry.{entry_item, entry_map, entry_lender, entry_others, entry_with, rests_if_refused};
-ghost use Rattle.iddqd_hash.specs.Guard.{lent_item, lent_map, guard_lender, lent_with};
-ghost use Rattle.iddqd_hash.specs.HashMap.{HashInserts};
+ghost use Rattle.iddqd_hash.specs.Entry.{LacksKeyOf, LendsFound, LendsIfVacant, LendsMade, ModifiesEntry, entry_item, entry_map, entry_lender, lends_or_keeps};
+ghost use Rattle.iddqd_hash.specs.Guard.{GuardKeeps, GuardKeepsAkin, guard_lender};
+ghost use Rattle.iddqd_hash.specs.HashMap.{HandsBack};
 
 use super::{Entry, OccupiedEntry};
 use crate::id_hash_map::{IdHashMap, Keyed, RefMut};
@@ -21,19 +19,15 @@ impl<'a, T: IdHashItem, S: BuildHasher> Entry<'a, T, S> {
     where
         T: Drop,
         requires keyed { ⟦<IdHashMap<T, S> as Keyed>⟧.keyed (entry_map self) }
-        requires absent { entry_item self ≡ None → IsAbsent T.key (T.Key.eq (T.key item)) (entry_map self).items }
-        ensures* kept { sem 𝓛 (rests_if_refused S.row T.row ⟦<IdHashMap<T, S> as Keyed>⟧.keyed guard_lender self.entry result) }
+        requires absent { entry_item self ≡ None → LacksKeyOf T.key T.Key.eq item self }
         ensures same_map { IfOk result (λ r. guard_lender r ≡ entry_lender self.entry) }
-        ensures found { IfOk result (λ r. IsSome (entry_item self.entry) → (lent_map r ≡ entry_map self.entry) × (lent_item r ≡ entry_item self.entry)) }
-        ensures found_written { IfOk result (λ r. IsSome (entry_item self.entry) → (w : T) → lent_with r w ≡ entry_with self.entry w) }
-        ensures inserted { IfOk result (λ r. entry_item self.entry ≡ None → HashInserts ⟦<IdHashMap<T, S> as Keyed>⟧.keyed item (entry_map self.entry) (lent_map r) × (lent_item r ≡ Some item)) }
-        ensures inserted_written { IfOk result (λ r. entry_item self.entry ≡ None → (w : T) → AddsItem w (entry_map self.entry).items (lent_with r w).items) }
-        ensures keyed { IfOk result (λ r. (x w : T) → lent_item r ≡ Some x → T.key w ≡ T.key x → ⟦<IdHashMap<T, S> as Keyed>⟧.keyed (lent_with r w)) }
-        ensures keyed_akin { IfOk result (λ r. (x w : T) → lent_item r ≡ Some x → IsTrue (T.Key.eq (T.key x) (T.key w)) → ⟦<IdHashMap<T, S> as Keyed>⟧.keyed (lent_with r w)) }
+        ensures found { IfOk result (λ r. IsSome (entry_item self.entry) → LendsFound self.entry r) }
+        ensures inserted { IfOk result (LendsIfVacant ⟦<IdHashMap<T, S> as Keyed>⟧.keyed item self.entry) }
+        ensures keyed { IfOk result (GuardKeeps T.key ⟦<IdHashMap<T, S> as Keyed>⟧.keyed) }
+        ensures keyed_akin { IfOk result (GuardKeepsAkin T.key T.Key.eq ⟦<IdHashMap<T, S> as Keyed>⟧.keyed) }
+        ensures* kept { sem 𝓛 (lends_or_keeps S.row T.row ⟦<IdHashMap<T, S> as Keyed>⟧.keyed self.entry result) }
         ensures absent { IfErr result (λ refused. entry_item self.entry ≡ None) }
-        ensures item { IfErr result (λ refused. refused.item ≡ item) }
-        ensures refused { IfErr result (λ refused. FindsNoRoom T.key T.Key.eq (entry_map self.entry).limit (entry_map self.entry).items item refused.error) }
-        ensures no_spare { OnErr result ((entry_map self.entry).spare ≡ 0) }
+        ensures refused { IfErr result (HandsBack T.key T.Key.eq (entry_map self.entry) item) }
     {
         match self {
             Entry::Occupied(entry) => {
@@ -52,23 +46,20 @@ impl<'a, T: IdHashItem, S: BuildHasher> Entry<'a, T, S> {
     pub fn or_insert_with<F: FnOnce() -> T>(self, make: F) -> Result<RefMut<'a, T, S>, Refused<T>>
         requires keyed { ⟦<IdHashMap<T, S> as Keyed>⟧.keyed (entry_map self) }
         requires callable { entry_item self ≡ None → F.pre make }
-        requires absent { entry_item self ≡ None → (x : T) → F.post make x → IsAbsent T.key (T.Key.eq (T.key x)) (entry_map self).items }
-        ensures* kept { sem 𝓛 (rests_if_refused S.row T.row ⟦<IdHashMap<T, S> as Keyed>⟧.keyed guard_lender self.entry result) }
+        requires absent { entry_item self ≡ None → (x : T) → F.post make x → LacksKeyOf T.key T.Key.eq x self }
         ensures same_map { IfOk result (λ r. guard_lender r ≡ entry_lender self.entry) }
-        ensures found { IfOk result (λ r. IsSome (entry_item self.entry) → (lent_map r ≡ entry_map self.entry) × (lent_item r ≡ entry_item self.entry)) }
-        ensures found_written { IfOk result (λ r. IsSome (entry_item self.entry) → (w : T) → lent_with r w ≡ entry_with self.entry w) }
-        ensures inserted { IfOk result (λ r. entry_item self.entry ≡ None → (x : T) × F.post make x × HashInserts ⟦<IdHashMap<T, S> as Keyed>⟧.keyed x (entry_map self.entry) (lent_map r) × (lent_item r ≡ Some x)) }
-        ensures inserted_written { IfOk result (λ r. entry_item self.entry ≡ None → (w : T) → AddsItem w (entry_map self.entry).items (lent_with r w).items) }
-        ensures keyed { IfOk result (λ r. (x w : T) → lent_item r ≡ Some x → T.key w ≡ T.key x → ⟦<IdHashMap<T, S> as Keyed>⟧.keyed (lent_with r w)) }
-        ensures keyed_akin { IfOk result (λ r. (x w : T) → lent_item r ≡ Some x → IsTrue (T.Key.eq (T.key x) (T.key w)) → ⟦<IdHashMap<T, S> as Keyed>⟧.keyed (lent_with r w)) }
+        ensures found { IfOk result (λ r. IsSome (entry_item self.entry) → LendsFound self.entry r) }
+        ensures inserted { IfOk result (LendsMade ⟦<IdHashMap<T, S> as Keyed>⟧.keyed (F.post make) self.entry) }
+        ensures keyed { IfOk result (GuardKeeps T.key ⟦<IdHashMap<T, S> as Keyed>⟧.keyed) }
+        ensures keyed_akin { IfOk result (GuardKeepsAkin T.key T.Key.eq ⟦<IdHashMap<T, S> as Keyed>⟧.keyed) }
+        ensures* kept { sem 𝓛 (lends_or_keeps S.row T.row ⟦<IdHashMap<T, S> as Keyed>⟧.keyed self.entry result) }
         ensures absent { IfErr result (λ refused. entry_item self.entry ≡ None) }
         ensures item { IfErr result (λ refused. F.post make refused.item) }
-        ensures refused { IfErr result (λ refused. FindsNoRoom T.key T.Key.eq (entry_map self.entry).limit (entry_map self.entry).items refused.item refused.error) }
-        ensures no_spare { OnErr result ((entry_map self.entry).spare ≡ 0) }
+        ensures refused { IfErr result (λ e. HandsBack T.key T.Key.eq (entry_map self.entry) e.item e) }
     {
         match self {
-            Entry::Occupied(found) => {
-                let OccupiedEntry { map, slot, hash: _ } = found;
+            Entry::Occupied(entry) => {
+                let OccupiedEntry { map, slot, hash: _ } = entry;
                 Ok(RefMut {
                     map,
                     slot,
@@ -85,13 +76,7 @@ impl<'a, T: IdHashItem, S: BuildHasher> Entry<'a, T, S> {
         requires keyed { ⟦<IdHashMap<T, S> as Keyed>⟧.keyed (entry_map self) }
         requires keeps_key { IfSome (entry_item self) (λ x. IsTrue (T.Key.eq (T.key x) (T.key (V.visits visitor.old x).1))) }
         ensures same_map { entry_lender result ≡ entry_lender self.entry }
-        ensures item { entry_item result ≡ option_map (λ x. (V.visits visitor.old x).1) (entry_item self.entry) }
-        ensures map { IfSome (entry_item self.entry) (λ x. entry_map result ≡ entry_with self.entry (V.visits visitor.old x).1) }
-        ensures visitor { IfSome (entry_item self.entry) (λ x. visitor.new ≡ (V.visits visitor.old x).0) }
-        ensures unchanged { IfNone (entry_item self.entry) (entry_map result ≡ entry_map self.entry) }
-        ensures unvisited { IfNone (entry_item self.entry) (visitor.new ≡ visitor.old) }
-        ensures written { (w : T) → entry_with result w ≡ entry_with self.entry w }
-        ensures others { entry_others result ≡ entry_others self.entry }
+        ensures modified { ModifiesEntry V.visits visitor.old self.entry visitor.new result }
         ensures keyed { ⟦<IdHashMap<T, S> as Keyed>⟧.keyed (entry_map result) }
     {
         match self {

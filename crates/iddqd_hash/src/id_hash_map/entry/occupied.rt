@@ -3,7 +3,7 @@ ghost use Rattle.std.specs.Prelude.{◌≡◌, IfSome, IsTrue, Some};
 ghost use Rattle.std.specs.Borrow.{sem};
 ghost use Rattle.iddqd_store.specs.Holding.{Removes};
 ghost use Rattle.iddqd_hash.specs.Entry.{EntryKeeps, EntryKeepsAkin, Occupied, entry_follows, entry_item, entry_map, entry_lender, entry_others, entry_slot, entry_with};
-ghost use Rattle.iddqd_hash.specs.Guard.{lent_item, lent_map, guard_lender, lent_slot, lent_with, shown_item, shown_map, shown_lender};
+ghost use Rattle.iddqd_hash.specs.Guard.{GuardKeeps, GuardKeepsAkin, lent_map, guard_lender, lent_slot, shown_item, shown_map, shown_lender};
 ghost use Rattle.iddqd_hash.specs.HashItems.{holding_of};
 ghost use Rattle.iddqd_hash.specs.HashMap.{HashStays};
 
@@ -55,8 +55,8 @@ impl<'a, T: IdHashItem, S: BuildHasher> OccupiedEntry<'a, T, S> {
         ensures same_map { guard_lender result ≡ entry_lender (Occupied self.entry) }
         ensures lent { lent_map result ≡ entry_map (Occupied self.entry) }
         ensures slot { lent_slot result ≡ entry_slot self.entry }
-        ensures keyed { (x w : T) → lent_item result ≡ Some x → T.key w ≡ T.key x → ⟦<IdHashMap<T, S> as Keyed>⟧.keyed (lent_with result w) }
-        ensures keyed_akin { (x w : T) → lent_item result ≡ Some x → IsTrue (T.Key.eq (T.key x) (T.key w)) → ⟦<IdHashMap<T, S> as Keyed>⟧.keyed (lent_with result w) }
+        ensures keyed { GuardKeeps T.key ⟦<IdHashMap<T, S> as Keyed>⟧.keyed result }
+        ensures keyed_akin { GuardKeepsAkin T.key T.Key.eq ⟦<IdHashMap<T, S> as Keyed>⟧.keyed result }
     {
         let OccupiedEntry { map, slot, hash: _ } = self;
         RefMut {

@@ -1,4 +1,4 @@
-use Rattle.std.proofs.Common.{◌∙◌, sym, ap, is_some, subst}
+use Rattle.std.proofs.Common.{◌≡◌, ◌∙◌, sym, ap, is_some, refl, subst}
 use Rattle.std.specs.Option.{IsSome}
 use Rattle.iddqd_store.specs.Contents.{IsAbsent, find_item}
 use Rattle.iddqd_store.specs.Hashing.{hash_under}
@@ -32,8 +32,8 @@ invariant_of-result g c =
       listed = ap (λ v. item_of_slot v.slots v.hashes slot) (sym c.self.view_is) ∙ told_listed m.store m.index.pairs c.self.invariant c.hash_one-hash.result slot c.in-Some.ensures.listed;
     }
 
-pub returns-in-Some-clause-found : goal.returns-in-Some-clause-found
-returns-in-Some-clause-found g c =
+found : (g : Over) (c : goal.After-result-1 g) → item_of_slot c.args.self.now.slots c.args.self.now.items c.in-Some.slot ≡ find_item g.T.IdHashItem.key (g.Q.Equivalent.equivalent c.args.query.now) c.args.self.now.items
+found g c =
     let m = c.self.inside in
     let key = g.T.IdHashItem.key in
     let test = g.Q.Equivalent.equivalent c.args.query.now in
@@ -43,39 +43,46 @@ returns-in-Some-clause-found g c =
     ∙ c.in-Some.ensures.item
     ∙ ap (λ v. find_item key test v.items) c.self.view_is
 
-pub returns-in-Some-clause-answers : goal.returns-in-Some-clause-answers
-returns-in-Some-clause-answers g c =
-    let key = g.T.IdHashItem.key in
-    let test = g.Q.Equivalent.equivalent c.args.query.now in
-    let now = c.args.self.now in
-    found_answers (λ x. test (key x)) now.items (item_of_slot now.slots now.items c.in-Some.slot) (returns-in-Some-clause-found g c)
-
 there : (g : Over) (c : goal.After-result-1 g) → IsSome (item_of_slot c.args.self.now.slots c.args.self.now.items c.in-Some.slot)
 there g c =
     let m = c.self.inside in
     let slot = c.in-Some.slot in
     ap (λ v. is_some (item_of_slot v.slots v.items slot)) (sym c.self.view_is) ∙ ap is_some (item_in_slot m.store.slots slot) ∙ listed_occupied m.store m.index.pairs c.self.invariant c.hash_one-hash.result slot c.in-Some.ensures.listed
 
-pub returns-in-Some-clause-written : goal.returns-in-Some-clause-written
+pub returns-in-Some-clause-entry : goal.returns-in-Some-clause-entry
 unfolding IsKeyed
-returns-in-Some-clause-written g c w =
+returns-in-Some-clause-entry g c =
+    let key = g.T.IdHashItem.key in
     let now = c.args.self.now in
-    written_found g.T.IdHashItem.key g.met.T.Key.Eq.laws (g.Q.Equivalent.equivalent c.args.query.now) (g.met.Q.Equivalent.one_key c.args.query.now) now.slots now.items c.requires.keyed.differ c.in-Some.slot w (there g c) (sym (returns-in-Some-clause-found g c))
+    let test = g.Q.Equivalent.equivalent c.args.query.now in
+    let one_key = g.met.Q.Equivalent.one_key c.args.query.now in
+    let laws = g.met.T.Key.Eq.laws in
+    let differ = c.requires.keyed.differ in
+    record {
+      lender = refl;
+      map = refl;
+      item = found g c;
+      written = λ w. written_found key laws test one_key now.slots now.items differ c.in-Some.slot w (there g c) (sym (found g c));
+      others = others_found key laws test one_key now.slots now.items differ c.in-Some.slot (there g c) (sym (found g c));
+    }
 
-pub returns-in-Some-clause-others : goal.returns-in-Some-clause-others
-unfolding IsKeyed
-returns-in-Some-clause-others g c =
-    let now = c.args.self.now in
-    others_found g.T.IdHashItem.key g.met.T.Key.Eq.laws (g.Q.Equivalent.equivalent c.args.query.now) (g.met.Q.Equivalent.one_key c.args.query.now) now.slots now.items c.requires.keyed.differ c.in-Some.slot (there g c) (sym (returns-in-Some-clause-found g c))
-
-pub returns-in-None-clause-written : goal.returns-in-None-clause-written
-returns-in-None-clause-written g c w =
+pub returns-in-Some-clause-equal : goal.returns-in-Some-clause-equal
+returns-in-Some-clause-equal g c =
     let key = g.T.IdHashItem.key in
     let test = g.Q.Equivalent.equivalent c.args.query.now in
-    replaced_absent key test w c.args.self.now.items (subst (λ v. IsAbsent key test v.items) c.self.view_is (sym c.in-None.ensures.item))
+    let now = c.args.self.now in
+    found_answers (λ x. test (key x)) now.items (item_of_slot now.slots now.items c.in-Some.slot) (found g c)
 
-pub returns-in-None-clause-others : goal.returns-in-None-clause-others
-returns-in-None-clause-others g c =
+pub returns-in-None-clause-entry : goal.returns-in-None-clause-entry
+returns-in-None-clause-entry g c =
     let key = g.T.IdHashItem.key in
     let test = g.Q.Equivalent.equivalent c.args.query.now in
-    without_absent key test c.args.self.now.items (subst (λ v. IsAbsent key test v.items) c.self.view_is (sym c.in-None.ensures.item))
+    let items = c.args.self.now.items in
+    let absent = subst (λ v. IsAbsent key test v.items) c.self.view_is (sym c.in-None.ensures.item) in
+    record {
+      lender = refl;
+      map = refl;
+      item = sym absent;
+      written = λ w. replaced_absent key test w items absent;
+      others = without_absent key test items absent;
+    }

@@ -58,7 +58,7 @@ returns-in-Err-insert_overwrite g c =
     record {
       taken = tt;
       stopped = (let gave = gives_then g.U.IntoIterator.into_iter_gives g.U.IntoIter.Iterator.next_gives c.args.iter c.loop-item.yielded c.in-Some.item (search rules) in search rules);
-      spare_first = omega (arith, inv.3.stays.spare.never_less, told.no_spare, ap length kept.keeps.items);
+      spare_first = omega (arith, inv.3.stays.spare.never_less, told.refused.no_spare, ap length kept.keeps.items);
       not_begun = tt;
       fills = record {
         fills = fills_on (holding_of old) (holding_of between) (holding_of new) inv.3.fills (fills_kept (holding_of between) (holding_of new) inv.3.fills.slots kept.keeps);

@@ -1,4 +1,4 @@
-use Rattle.std.proofs.Common.{◌∙◌, ◌<◌, Some, length, sym, ap, subst, arith, rules}
+use Rattle.std.proofs.Common.{◌∙◌, ◌<◌, Some, length, refl, sym, ap, subst, arith}
 use Rattle.std.specs.Option.{option_map}
 use Rattle.iddqd_store.specs.Contents.{AddsItem, IsAbsent}
 use Rattle.iddqd_store.specs.Hashing.{hash_under}
@@ -9,18 +9,19 @@ use Rattle.iddqd_store.proofs.RefusalLemmas.{kind_by_length}
 use Rattle.iddqd_store.proofs.WrittenLemmas.{told_of_slot}
 use Rattle.iddqd_hash.specs.HashItems.{IsKeyed, KeyedItems}
 use Rattle.iddqd_hash.specs.HashMap.{HashInserts, HashKeeps}
-use Rattle.iddqd_hash.specs.StoreAndIndex.{items_in, hash_items_of, slots_in}
+use Rattle.iddqd_hash.specs.StoreAndIndex.{items_in, hash_items_of}
 use Rattle.iddqd_hash.proofs.EntryLemmas.{added_item, added_others, added_written}
 use Rattle.iddqd_hash.proofs.MapLemmas.{inserted_after, map_inserted, map_kept}
 use Rattle.iddqd_hash.proofs.SlotItemLemmas.{length-items}
 use Rattle.iddqd_hash.proofs.id_hash_map.IdHashMap.insert_new.Goals as goal
 
-pub returns-in-Err-clause-kind : goal.returns-in-Err-clause-kind
-returns-in-Err-clause-kind g c =
+pub returns-in-Err-clause-refused : goal.returns-in-Err-clause-refused
+returns-in-Err-clause-refused g c =
     let m = c.self.inside in
-    c.in-Err.ensures.kind
+    let kind = c.in-Err.ensures.kind
     ∙ kind_by_length m.store.limit m.index.pairs (items_in m.store) (c.self.invariant.counted ∙ sym (length-items m.store.slots))
-    ∙ ap (λ v. refusal_kind v.limit v.items) c.self.view_is
+    ∙ ap (λ v. refusal_kind v.limit v.items) c.self.view_is in
+    record { item = refl; no_room = (c.requires.absent, kind); no_spare = sym (ap (λ v. v.spare) c.self.view_is) ∙ c.in-Err.ensures.needed }
 
 pub returns-in-Err-clause-kept : goal.returns-in-Err-clause-kept
 unfolding IsKeyed
@@ -60,38 +61,28 @@ returns-clause-inserted g c =
     subst (λ old. HashInserts (KeyedItems key eq input hash) x old (hash_items_of put.new.store put.new.index m.hasher)) c.self.view_is
     (inserted_after key eq input hash x (hash_items_of m.store m.index m.hasher) (hash_items_of room.store room.index m.hasher) (hash_items_of put.new.store put.new.index m.hasher) kept inserted)
 
-pub returns-clause-there : goal.returns-clause-there
-returns-clause-there g c =
-    added_item c.reserve_one.new.store c.put_in.new.store c.put_in.result c.args.item c.put_in.ensures.was_vacant c.put_in.ensures.updates
-
-pub returns-clause-listed : goal.returns-clause-listed
+pub returns-clause-placed : goal.returns-clause-placed
 unfolding IsKeyed
-returns-clause-listed g c =
+returns-clause-placed g c =
     let key = g.T.IdHashItem.key in
     let input = g.T.Key.Hash.hash_input in
     let hash = hash_under g.S.BuildHasher g.S.Hasher.Hasher in
     let m = c.self.inside in
-    let new = hash_items_of c.put_in.new.store c.put_in.new.index m.hasher in
-    let slot = c.put_in.result in
-    let tell = λ (y : g.row.T.Denot). hash m.hasher (input (key y)) in
-    ap (λ hashes. item_of_slot new.slots hashes slot) (returns-clause-inserted g c).stays.keyed.stored
-    ∙ told_of_slot tell new.slots new.items slot
-    ∙ ap (option_map tell) (returns-clause-there g c)
-    ∙ ap (λ v. Some (hash v.hasher (input (key c.args.item)))) c.self.view_is
-    ∙ ap Some (sym c.requires.hash)
-
-pub returns-clause-written : goal.returns-clause-written
-returns-clause-written g c w =
+    let x = c.args.item in
     let room = c.reserve_one.new.store in
-    let new = c.put_in.new.store in
+    let put = c.put_in in
+    let new = hash_items_of put.new.store put.new.index m.hasher in
+    let slot = put.result in
+    let tell = λ (y : g.row.T.Denot). hash m.hasher (input (key y)) in
+    let there = added_item room put.new.store slot x put.ensures.was_vacant put.ensures.updates in
     let same = ap (λ s. items_in s) c.reserve_one.ensures.store ∙ ap (λ v. v.items) c.self.view_is in
-    subst (λ items. AddsItem w items (written_to_slot (slots_in new) (items_in new) c.put_in.result w)) same
-    (added_written room new c.put_in.result c.args.item c.put_in.ensures.was_vacant c.put_in.ensures.updates w)
-
-pub returns-clause-others : goal.returns-clause-others
-returns-clause-others g c =
-    added_others c.reserve_one.new.store c.put_in.new.store c.put_in.result c.args.item c.put_in.ensures.was_vacant c.put_in.ensures.updates
-    ∙ ap (λ s. items_in s) c.reserve_one.ensures.store ∙ ap (λ v. v.items) c.self.view_is
-
-pub returns-in-Err-clause-no_spare : goal.returns-in-Err-clause-no_spare
-returns-in-Err-clause-no_spare g c = search rules
+    record {
+      there = there;
+      listed = ap (λ hashes. item_of_slot new.slots hashes slot) (returns-clause-inserted g c).stays.keyed.stored
+          ∙ told_of_slot tell new.slots new.items slot
+          ∙ ap (option_map tell) there
+          ∙ ap (λ v. Some (hash v.hasher (input (key x)))) c.self.view_is
+          ∙ ap Some (sym c.requires.hash);
+      written = λ w. subst (λ items. AddsItem w items (written_to_slot new.slots new.items slot w)) same (added_written room put.new.store slot x put.ensures.was_vacant put.ensures.updates w);
+      others = added_others room put.new.store slot x put.ensures.was_vacant put.ensures.updates ∙ same;
+    }

@@ -87,9 +87,6 @@ returns-in-Some-clause-replaced g c =
 
 pub returns-in_err-insert_new-in-None : goal.returns-in_err-insert_new-in-None
 returns-in_err-insert_new-in-None g c =
-    let key = g.T.IdHashItem.key in
-    let eq = g.T.Key.PartialEq.eq in
-    let absent : find_item key (eq (key c.args.item)) c.args.self.now.items ≡ None = ap (λ v. find_item key (eq (key c.args.item)) v.items) (sym c.self.view_is) ∙ ap (λ k. find_item key (eq k) (items_in c.self.inside.store)) (sym c.key-2.ensures) ∙ sym c.in-None.ensures.item in
     let back = err_from_is_err_and c.from_residual.result c.from_residual.ensures.1 in
     let told = c.in_err-insert_new-in-None.ensures in
     rw back.1 (record {
@@ -97,9 +94,7 @@ returns-in_err-insert_new-in-None g c =
       replaced = tt;
       inserted = tt;
       there = tt;
-      item = rw back.2 told.item;
-      refused = rw back.2 (absent, told.kind);
-      no_spare = told.no_spare;
+      refused = rw back.2 told.refused;
       kept = told.kept;
       stays = told.kept.stays;
     })
@@ -115,9 +110,7 @@ returns-in_ok-insert_new-in-None g c =
       replaced = tt;
       inserted = put;
       there = find_inserted (λ z. eq (key c.args.item) (key z)) _ _ c.args.item put.takes.added absent (g.met.T.Key.Eq.laws.refl (key c.args.item));
-      item = tt;
       refused = tt;
-      no_spare = tt;
       kept = tt;
       stays = put.stays;
     }

@@ -1,4 +1,4 @@
-use Rattle.std.proofs.Common.{◌≡◌, ◌∙◌, Some, ap, subst, sym, true}
+use Rattle.std.proofs.Common.{◌≡◌, ◌∙◌, Some, ap, subst, sym, true, rules}
 use Rattle.std.specs.Option.{IfSome, option_map}
 use Rattle.iddqd_store.specs.Hashing.{hash_under}
 use Rattle.iddqd_store.proofs.WrittenLemmas.{others_written, read_back, written_twice}
@@ -7,25 +7,26 @@ use Rattle.iddqd_hash.proofs.GetMutLemmas.{keyed_akin_written}
 use Rattle.iddqd_hash.specs.Entry.{entry_item, entry_map, entry_others, entry_with}
 use Rattle.iddqd_hash.proofs.id_hash_map.entry.Entry.and_modify.Goals as goal
 
-pub returns-in-Occupied-clause-item : goal.returns-in-Occupied-clause-item
-returns-in-Occupied-clause-item g c =
+pub returns-in-Occupied-clause-modified : goal.returns-in-Occupied-clause-modified
+returns-in-Occupied-clause-modified g c =
     let e = c.in-Occupied.entry in
+    let is = c.in-Occupied.is in
     let visits = λ (x : g.row.T.Denot). (g.V.Visit.visits c.args.visitor.now x).1 in
-    read_back e.map.now.slots e.map.now.items e.slot c.visit.new.item e.there
-    ∙ ap (λ p. Some p.1) (sym c.visit.ensures)
-    ∙ ap (option_map visits) (sym c.get_mut.ensures.value)
-    ∙ ap (λ s. option_map visits (entry_item s)) (sym c.in-Occupied.is)
-
-pub returns-in-Occupied-clause-written : goal.returns-in-Occupied-clause-written
-returns-in-Occupied-clause-written g c w =
-    let e = c.in-Occupied.entry in
-    ap (λ xs. record e.map.now { items = xs }) (written_twice e.map.now.slots e.map.now.items e.slot c.visit.new.item w)
-    ∙ ap (λ s. entry_with s w) (sym c.in-Occupied.is)
-
-pub returns-in-Occupied-clause-others : goal.returns-in-Occupied-clause-others
-returns-in-Occupied-clause-others g c =
-    let e = c.in-Occupied.entry in
-    others_written e.map.now.slots e.map.now.items e.slot c.visit.new.item ∙ ap entry_others (sym c.in-Occupied.is)
+    let there = ap entry_item is ∙ c.get_mut.ensures.value in
+    let some = sym there in
+    record {
+      item = read_back e.map.now.slots e.map.now.items e.slot c.visit.new.item e.there
+          ∙ ap (λ p. Some p.1) (sym c.visit.ensures)
+          ∙ ap (option_map visits) (sym c.get_mut.ensures.value)
+          ∙ ap (λ s. option_map visits (entry_item s)) (sym is);
+      map = search rules;
+      visitor = search rules;
+      unchanged = search rules;
+      unvisited = search rules;
+      written = λ w. ap (λ xs. record e.map.now { items = xs }) (written_twice e.map.now.slots e.map.now.items e.slot c.visit.new.item w)
+          ∙ ap (λ s. entry_with s w) (sym is);
+      others = others_written e.map.now.slots e.map.now.items e.slot c.visit.new.item ∙ ap entry_others (sym is);
+    }
 
 pub returns-in-Occupied-clause-keyed : goal.returns-in-Occupied-clause-keyed
 unfolding IsKeyed

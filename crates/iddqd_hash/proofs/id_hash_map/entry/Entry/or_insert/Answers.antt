@@ -16,16 +16,12 @@ returns-in-Occupied g c =
       record {
         kept = tt;
         same_map = ap entry_lender (sym is);
-        found = λ some. (ap entry_map (sym is), ap entry_item (sym is));
-        found_written = λ some w. ap (λ s. entry_with s w) (sym is);
+        found = λ some. record { map = ap entry_map (sym is); item = ap entry_item (sym is); written = λ w. ap (λ s. entry_with s w) (sym is) };
         inserted = λ none. absurd (absurdly none);
-        inserted_written = λ none. absurd (absurdly none);
         keyed = λ x w at same. keyed_written g.T.IdHashItem.key g.T.Key.Hash.hash_input (hash_under g.S.BuildHasher g.S.Hasher.Hasher) e.map.now sorted e.slot x w at g.met.T.Key.Eq.laws g.met.T.Key.Hash.respects_eq same;
         keyed_akin = λ x w at akin. keyed_akin_written g.T.IdHashItem.key g.T.Key.Hash.hash_input (hash_under g.S.BuildHasher g.S.Hasher.Hasher) e.map.now sorted e.slot x w at g.met.T.Key.Eq.laws g.met.T.Key.Hash.respects_eq akin;
         absent = tt;
-        item = tt;
         refused = tt;
-        no_spare = tt;
       },
     )
 

@@ -11,9 +11,9 @@ returns g c = (
         record {
           inserted = (search rules, inserts.takes.room, inserts.takes.added);
           stays = record {
-            keyed = inserts.keyed;
+            keyed = inserts.stays.keyed;
             limit = inserts.takes.limit;
-            room = record { at_least = inserts.spare.never_less; in_limit = omega (arith, inserts.spare.in_limit, inserts.takes.limit) };
+            room = record { at_least = inserts.stays.spare.never_less; in_limit = omega (arith, inserts.stays.spare.in_limit, inserts.takes.limit) };
           };
         }),
     on_err_weaker c.insert_unique.result
@@ -21,9 +21,9 @@ returns g c = (
           record {
             items = kept.0.keeps.items;
             stays = record {
-              keyed = kept.0.keyed;
+              keyed = kept.0.stays.keyed;
               limit = kept.0.keeps.limit;
-              room = record { at_least = kept.0.spare.never_less; in_limit = omega (arith, kept.0.spare.in_limit, kept.0.keeps.limit) };
+              room = record { at_least = kept.0.stays.spare.never_less; in_limit = omega (arith, kept.0.stays.spare.in_limit, kept.0.keeps.limit) };
             };
           },
           kept.1,
