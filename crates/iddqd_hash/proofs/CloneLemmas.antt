@@ -11,7 +11,7 @@ use Rattle.iddqd_hash_index.specs.HashPairs.{HashPairs, SamePairs}
 use Rattle.iddqd_store.specs.Store.{Store, item_at, store_len, IsItemClone, IsStoreClone}
 use Rattle.iddqd_store.proofs.CloneLemmas.{differ_clones, clones_on, occupied_both, clone_at}
 use Rattle.iddqd_hash.specs.HashItems.{KeyedItems}
-use Rattle.iddqd_hash.specs.StoreAndIndex.{PairsOccupied, hash_of_slot, items_in, hash_items_of}
+use Rattle.iddqd_hash.specs.StoreAndIndex.{PairsOccupied, hash_of_slot, items_in, map_of}
 use Rattle.iddqd_hash.proofs.MapLemmas.{keyed_under, make_keyed}
 use Rattle.iddqd_hash.proofs.PairLemmas.{length-weight, counts, tells}
 use Rattle.iddqd_hash.proofs.SlotItemLemmas.{items_of}
@@ -46,12 +46,12 @@ module _ {T : Type 0} (is_clone : T → T → Type 0) where
       }
 
       module _ {S K : Type 0} (key : T → K) {eq : K → K → Bool} (input : K → HashWrites) (hash : S → HashWrites → ℕ) (equivalence : IsEquivalence eq) (respects : (x y : K) → eq x y ≡ true → input x ≡ input y) (keeps : ClonesKeepKeys key eq is_clone) (hasher twin : S) (alike : (writes : HashWrites) → hash twin writes ≡ hash hasher writes) where
-        listed_alike : KeyedItems key eq input hash (hash_items_of store index hasher) → (slot : ℕ) (y : T) → item_at copy slot ≡ Some y → hash_of_slot other.pairs slot ≡ hash twin (input (key y))
+        listed_alike : KeyedItems key eq input hash (map_of store index hasher) → (slot : ℕ) (y : T) → item_at copy slot ≡ Some y → hash_of_slot other.pairs slot ≡ hash twin (input (key y))
         listed_alike keyed slot y there =
             let made = source_of (item_at store slot) (item_at copy slot) (clone_at is_clone store.slots copy.slots slot clones.slots) y there in
             same (tells slot) ∙ keyed_under key eq input hash hasher store index keyed slot made.0 made.1
             ∙ ap (hash hasher) (respects (key made.0) (key y) (keeps made.0 y made.2)) ∙ sym (alike (input (key y)))
 
-        pub copied_keyed : KeyedItems key eq input hash (hash_items_of store index hasher) → KeyedItems key eq input hash (hash_items_of copy other twin)
+        pub copied_keyed : KeyedItems key eq input hash (map_of store index hasher) → KeyedItems key eq input hash (map_of copy other twin)
         copied_keyed keyed =
             make_keyed key eq input hash twin copy other (differ_clones key is_clone keeps equivalence (items_in store) (items_in copy) cloned_items keyed.differ) (listed_alike keyed)

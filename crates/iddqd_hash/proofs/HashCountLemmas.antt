@@ -9,7 +9,7 @@ use Rattle.std.proofs.lemmas.List.Sums.{sum_by-cons}
 use Rattle.std.specs.List.{sum_by}
 use Rattle.iddqd_hash_index.specs.HashPairs.{HashPairs, of_hash, of_slot}
 use Rattle.iddqd_store.specs.Store.{Store}
-use Rattle.iddqd_hash.specs.StoreAndIndex.{PairsOccupied, hash_of_slot, hashes_in, numbers_of, hash_items_of}
+use Rattle.iddqd_hash.specs.StoreAndIndex.{PairsOccupied, hash_of_slot, hashes_in, numbers_of, map_of}
 use Rattle.iddqd_hash.specs.HashItems.{HashItems, of_stored_hash}
 use Rattle.iddqd_hash.proofs.PairLemmas.{either, first_count, first_hash, no_hash}
 
@@ -94,5 +94,5 @@ module _ (hash : ℕ) where
   listed_within_stored store pairs paired = omega (arith, all_onward pairs, within pairs 0 (λ n. n) store.slots (λ n. omega arith) paired.each_once)
 
   -- .. in a map of these
-  pub bound_of : {S T : Type 0} (hasher : S) (store : Store T) (index : HashPairs) → PairsOccupied store index.pairs → (m : HashItems S T) → hash_items_of store index hasher ≡ m → of_hash index.pairs hash ≤ of_stored_hash m hash
+  pub bound_of : {S T : Type 0} (hasher : S) (store : Store T) (index : HashPairs) → PairsOccupied store index.pairs → (m : HashItems S T) → map_of store index hasher ≡ m → of_hash index.pairs hash ≤ of_stored_hash m hash
   bound_of hasher store index paired m is = omega (arith, listed_within_stored store index.pairs paired, ap (λ v. of_stored_hash v hash) is)

@@ -5,6 +5,10 @@
 --     entry_others e      the items but for the entry's
 --     LacksKeyOf      no item of the entry's map has a key equal to this item's
 --     IsEntryOf, IsEntryFor      the entry of an item, or of none; the entry of what a query finds
+--     PassesTest, HasKeyOf, VisitKeepsKey      the key of an item, and after a visit
+--     HandsBackFrom      the refused item is returned
+--     RemovesEntry      the entry's item was taken out
+--     LendsIfOccupied      if the entry is occupied, its item is lent
 --     LendsFound, LendsInserted, EntersInserted      the entry's item is lent; the inserted one is, or has this entry
 --     LendsIfVacant, LendsMade      if the entry is vacant, the inserted item is lent, this one or one that a closure made
 --     ModifiesEntry      the entry's item was visited
@@ -12,17 +16,19 @@
 --     EntryKeeps, EntryKeepsAkin      an item of the same key, or of an equal one, may be written
 --     rests_if_refused, lends_or_keeps, enters_or_keeps      if an item was refused, the map keeps its items
 pub use Rattle.iddqd_hash.specs.declared.id_hash_map.entry.Entry.TheVariants.{Vacant, Occupied}
-use Rattle.std.specs.Prelude.{◌≡◌, ℕ, [], Bool, IfNone, IfSome, IsTrue, List, Option, None, Some, Result, option_map}
+use Rattle.std.specs.Prelude.{◌≡◌, ℕ, [], Bool, IfNone, IfSome, IsSome, IsTrue, List, Option, None, Some, Result, option_map}
 use Rattle.std.specs.Borrow.{Fml, GName, RattleType, MutBor, RestsIfErr, follows}
 use mir.Syntax.{named}
 use Rattle.iddqd_store.specs.Contents.{AddsItem, IsAbsent, find_item, items_overwritten, items_without}
+use Rattle.iddqd_store.specs.Holding.{Removes}
+use Rattle.iddqd_store.specs.declared.errors.Refused.{Refused}
 use Rattle.iddqd_store.specs.SlotItems.{item_of_slot, still_there, without_slot}
 use Rattle.iddqd_hash.specs.declared.id_hash_map.entry.Entry.{Entry}
 use Rattle.iddqd_hash.specs.declared.id_hash_map.entry.OccupiedEntry.{OccupiedEntry}
 use Rattle.iddqd_hash.specs.declared.id_hash_map.ref_mut.RefMut.{RefMut}
 use Rattle.iddqd_hash.specs.Guard.{guard_lender, lent_item, lent_map, lent_with, with_item_in}
-use Rattle.iddqd_hash.specs.HashItems.{HashItems}
-use Rattle.iddqd_hash.specs.HashMap.{HashInserts, HashKeeps}
+use Rattle.iddqd_hash.specs.HashItems.{HashItems, holding_of}
+use Rattle.iddqd_hash.specs.HashMap.{HandsBack, HashInserts, HashKeeps, HashStays}
 use Rattle.iddqd_hash.specs.contracts.id_hash_map.IdHashMap as map
 use Rattle.iddqd_hash.specs.contracts.id_hash_map.entry.OccupiedEntry as occupied
 
@@ -76,6 +82,9 @@ module _ {S T : Type 0} where
     pub item : lent_item r ≡ entry_item e
     pub written : (w : T) → lent_with r w ≡ entry_with e w
 
+  abbrev pub LendsIfOccupied : Entry T S → RefMut T S → Type 0
+  LendsIfOccupied e r = IsSome (entry_item e) → LendsFound e r
+
   -- the item of an occupied entry was visited once, and a vacant one is as it was
   pub record ModifiesEntry {V : Type 0} (visits : V → T → V × T × Bool) (v : V) (e : Entry T S) (after : V) (r : Entry T S) : Type 0 where
     pub item : entry_item r ≡ option_map (λ x. (visits v x).1) (entry_item e)
@@ -86,6 +95,13 @@ module _ {S T : Type 0} where
     pub written : (w : T) → entry_with r w ≡ entry_with e w
     pub others : entry_others r ≡ entry_others e
 
+module _ {T K : Type 0} (key : T → K) where
+  abbrev pub PassesTest : (K → Bool) → T → Type 0
+  PassesTest test x = IsTrue (test (key x))
+
+  abbrev pub HasKeyOf : (K → K → Bool) → T → T → Type 0
+  HasKeyOf eq x y = IsTrue (eq (key x) (key y))
+
 module _ {S T K : Type 0} (key : T → K) where
   abbrev pub IsEntryFor : (K → Bool) → MutBor (HashItems S T) → Entry T S → Type 0
   IsEntryFor test m e =
@@ -94,7 +110,22 @@ module _ {S T K : Type 0} (key : T → K) where
   abbrev pub LacksKeyOf : (K → K → Bool) → T → Entry T S → Type 0
   LacksKeyOf eq x e = IsAbsent key (eq (key x)) (entry_map e).items
 
+  -- the visit of the entry's item would leave it an equal key
+  abbrev pub VisitKeepsKey : {V : Type 0} → (K → K → Bool) → (V → T → V × T × Bool) → V → Entry T S → Type 0
+  VisitKeepsKey eq visits v e = IfSome (entry_item e) (λ x. HasKeyOf key eq x (visits v x).1)
+
+  -- the refused item is returned, and the entry's map lacked room for it
+  abbrev pub HandsBackFrom : (K → K → Bool) → Entry T S → T → Refused T → Type 0
+  HandsBackFrom eq e x refused = HandsBack key eq (entry_map e) x refused
+
 module _ {S T : Type 0} (IsKeyed : HashItems S T → Type 0) where
+  -- the entry's item was taken out of its map
+  pub record RemovesEntry (x : T) (e : OccupiedEntry T S) (new : HashItems S T) : Type 0 where
+    pub item : entry_item (Occupied e) ≡ Some x
+    pub others : new.items ≡ entry_others (Occupied e)
+    pub removes : Removes (Some x) (holding_of (entry_map (Occupied e))) (holding_of new)
+    pub stays : HashStays IsKeyed (entry_map (Occupied e)) new
+
   -- x was inserted into the entry's map, and the guard lends it; a write through it is as if that item had been inserted
   pub record LendsInserted (x : T) (e : Entry T S) (r : RefMut T S) : Type 0 where
     pub inserts : HashInserts IsKeyed x (entry_map e) (lent_map r)

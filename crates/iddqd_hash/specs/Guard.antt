@@ -1,5 +1,6 @@
 -- What a contract sees of a guard of a hash map.
 --     with_item_in m slot w      the map, once w stands in the slot
+--     VisitsSlot      the slot's item was visited
 --     lent_map, lent_slot, lent_item, guard_lender      the map as the guard holds it, the slot, its item, the name of the reference to the map
 --     lent_with r w      the map once w is written through the guard
 --     GuardFinds, GuardOverwrites      it lends the item that a query finds, and what is written stands in the place of that item
@@ -21,6 +22,13 @@ use Rattle.iddqd_hash.specs.contracts.id_hash_map.ref_mut.RefMut as guard
 module _ {S T : Type 0} where
   abbrev pub with_item_in : HashItems S T → ℕ → T → HashItems S T
   with_item_in m slot w = record m { items = written_to_slot m.slots m.items slot w }
+
+  -- a visit of the slot's item left the item that it told, and the visitor too
+  abbrev pub VisitsSlot : {V : Type 0} → (V → T → V × T × Bool) → V → V → ℕ → HashItems S T → HashItems S T → Bool → Type 0
+  VisitsSlot visits before after slot old new kept = (x y : T)
+      × (item_of_slot old.slots old.items slot ≡ Some x)
+      × (visits before x ≡ (after, y, kept))
+      × (new ≡ with_item_in old slot y)
 
   abbrev pub lent_map : RefMut T S → HashItems S T
   lent_map r = r.map.now

@@ -1,5 +1,6 @@
 -- What the calls of a hash map leave. `IsKeyed` tells that its items lie as lookups expect them.
 --     IsEmptyMap      there is no item, and no memory has been taken
+--     HasNoItems      there is no item; memory may have been taken
 --     SpareFits      what is there and what is spare fit the limit together
 --     KeepsSpare      what is there and what is spare are no fewer together, and fit the limit
 --     TakesSlot      an item that was inserted lies in this slot
@@ -9,21 +10,30 @@
 --     HashKeeps      nothing has changed but the room, which may have grown
 --     HashFills      items were inserted
 --     HashShrinks      the slots were closed up, and memory was given back
+--     ReplacesIfFound, InsertsIfAbsent      what an overwriting leaves, if an item was found and if none was
+--     Reserves, LacksRoomFor      room was made, or refused
+--     OverwritesGiven, StopsOverwriting, HasSpareFirst, SpareFirst, KeepsIfNoItem      what `extend` leaves
+--     Collects, HoldsAll, IsCollected      what a map collects
+--     AddsIterated, ShowsConflict, HaltsIterated      what `extend_unique` leaves and shows
+--     IsFound, HasItemOf, KeepsOthers      an item is found, has the place of its key, or has left
 --     HandsBack      an item was refused for want of room, and is returned
 --     HaveEqualItems      what `eq` of two maps says
 --     CloneHashesAlike      a hasher's clone hashes as it does
-use Rattle.std.specs.Prelude.{◌≡◌, ℕ, ◌+◌, ◌≤◌, [], List, length, Bool, true, All, IfErr, IsPermutation, IsSomeAnd, Result, Some, remove, slice_get}
+use Rattle.std.specs.Prelude.{◌≡◌, ℕ, ◌+◌, ◌<◌, ◌≤◌, [], List, length, Bool, true, All, IfErr, IfNone, IfSome, OnSome, Option, IsPermutation, IsSomeAnd, Result, Some, remove, slice_get}
 use Rattle.std.specs.Prelude.{min as least}
 use Rattle.std.specs.Borrow.{Fml, RattleType, MutBor, Lends, LendsSoOk, unit}
 use Rattle.std.specs.Hash.{HashWrites}
-use Rattle.iddqd_store.specs.Adding.{AddsGiven, OnItemRefused, StopsAdding}
-use Rattle.iddqd_store.specs.Contents.{AddsItem, find_item}
-use Rattle.iddqd_store.specs.Holding.{FillsSlots, InsertsItem, KeepsItems, Shrinks}
-use Rattle.iddqd_store.specs.Refusal.{FindsNoRoom, OnDuplicate}
+use Rattle.iddqd_store.specs.Adding.{AddsGiven, HaltsAdding, OnItemRefused, ShowsFirstConflict, StopsAdding}
+use Rattle.iddqd_store.specs.Collecting.{GivesAll, GivesThen, OverwritesAll}
+use Rattle.iddqd_store.specs.Contents.{AddsItem, NoTwoAkin, find_item, items_overwritten, items_without}
+use Rattle.iddqd_store.specs.Holding.{FillsSlots, InsertsItem, KeepsItems, Shrinks, max_items}
+use Rattle.iddqd_store.specs.Refusal.{FindsNoRoom, OnDuplicate, RefusalKind, RefusesInsertion, reservation_kind}
 use Rattle.iddqd_store.specs.SlotItems.{item_of_slot, without_slot, written_to_slot}
+use Rattle.iddqd_store.specs.declared.errors.ExtendError.{ExtendError}
 use Rattle.iddqd_store.specs.declared.errors.ExtendUniqueError.{ExtendUniqueError}
 use Rattle.iddqd_store.specs.declared.errors.InsertError.{InsertError}
 use Rattle.iddqd_store.specs.declared.errors.Refused.{Refused}
+use Rattle.iddqd_store.specs.declared.halts.Halt.{Halt}
 use Rattle.iddqd_hash.specs.HashItems.{HashItems, holding_of}
 use Rattle.iddqd_hash.specs.contracts.id_hash_map.IdHashMap.{the_row}
 
@@ -31,12 +41,33 @@ module _ {S T : Type 0} where
   abbrev pub IsEmptyMap : ℕ → HashItems S T → Type 0
   IsEmptyMap limit m = m ≡ record m { items = []; slots = []; hashes = []; spare = 0; vacant = 0; capacity = 0; limit = limit }
 
+  abbrev pub HasNoItems : ℕ → HashItems S T → Type 0
+  HasNoItems limit m = m ≡ record m { items = []; slots = []; hashes = []; vacant = 0; limit = limit }
+
   abbrev pub SpareFits : HashItems S T → Type 0
   SpareFits m = m.spare + length m.items ≤ m.limit
 
   pub record KeepsSpare (old new : HashItems S T) : Type 0 where
     pub never_less : old.spare + length old.items ≤ new.spare + length new.items
     pub in_limit : SpareFits new
+
+  -- there is room for n more items
+  pub record Reserves (n : ℕ) (old new : HashItems S T) : Type 0 where
+    pub spare : n ≤ new.spare
+    pub capacity : length old.items + n ≤ new.capacity
+    pub in_limit : length old.items + n ≤ old.limit
+
+  -- room for n more items was refused, which as many spare ones would have had
+  pub record LacksRoomFor (n : ℕ) (m : HashItems S T) (refused : RefusalKind) : Type 0 where
+    pub kind : refused ≡ reservation_kind m.limit (length m.items + n)
+    pub needed : m.spare < n
+
+  -- as many new keys as were spare were inserted before an item found no room
+  abbrev pub HasSpareFirst : HashItems S T → HashItems S T → Type 0
+  HasSpareFirst old new = old.spare + length old.items ≤ length new.items
+
+  abbrev pub SpareFirst : HashItems S T → HashItems S T → ExtendError T → Type 0
+  SpareFirst old new e = OnSome e.item (HasSpareFirst old new)
 
   -- x was inserted and lies in this slot, under this hash; a write to the slot is as if that item had been inserted
   pub record TakesSlot (x : T) (hash : ℕ) (old new : HashItems S T) (slot : ℕ) : Type 0 where
@@ -68,6 +99,21 @@ module _ {S T : Type 0} where
       pub fills : FillsSlots (holding_of old) (holding_of new)
       pub stays : HashStays old new
 
+    -- if no item was found, x was inserted
+    abbrev pub InsertsIfAbsent : T → HashItems S T → HashItems S T → Option T → Type 0
+    InsertsIfAbsent x old new found = IfNone found (HashInserts x old new)
+
+    -- if no item came back, nothing has changed but the room
+    abbrev pub KeepsIfNoItem : HashItems S T → HashItems S T → ExtendError T → Type 0
+    KeepsIfNoItem old new e = IfNone e.item (HashKeeps old new)
+
+    pub record IsCollected (is_default : S → Type 0) (m : HashItems S T) : Type 0 where
+      pub vacant : m.vacant ≡ 0
+      pub limit : m.limit ≡ max_items
+      pub spare : SpareFits m
+      pub hasher : is_default m.hasher
+      pub keyed : IsKeyed m
+
     -- room for so many items is left, or as much as there was; the spare may be less
     pub record HashShrinks (min : ℕ) (old new : HashItems S T) : Type 0 where
       pub items : IsPermutation old.items new.items
@@ -86,6 +132,60 @@ module _ {S T K : Type 0} (key : T → K) (key_eq : K → K → Bool) (eq : T �
   pub record HaveEqualItems (one other : HashItems S T) : Type 0 where
     pub as_many : length one.items ≡ length other.items
     pub each_found : All (FindsEqual other) one.items
+
+module _ {S T K : Type 0} (key : T → K) where
+  -- this is what a search through the items finds
+  abbrev pub IsFound : (K → Bool) → HashItems S T → Option T → Type 0
+  IsFound test m found = found ≡ find_item key test m.items
+
+  -- the items but for the one whose key passes the test
+  abbrev pub KeepsOthers : (K → Bool) → HashItems S T → HashItems S T → Type 0
+  KeepsOthers test old new = new.items ≡ items_without key test old.items
+
+module _ {S T K : Type 0} (key : T → K) (eq : K → K → Bool) where
+  -- x is the item that its key finds
+  abbrev pub HasItemOf : T → HashItems S T → Type 0
+  HasItemOf x m = find_item key (eq (key x)) m.items ≡ Some x
+
+  -- if an item was found, x stands in its place, and all else is as it was
+  abbrev pub ReplacesIfFound : T → HashItems S T → HashItems S T → Option T → Type 0
+  ReplacesIfFound x old new found = OnSome found (new ≡ record old { items = items_overwritten key (eq (key x)) x old.items })
+
+  -- the item of an equal key is shown, or there was no room
+  abbrev pub RefusesItem : HashItems S T → T → InsertError T → Type 0
+  RefusesItem m x e = RefusesInsertion key eq m.limit m.items x e
+
+  module _ {U I : Type 0} (becomes : U → I → Type 0) (steps : I → Option T → I → Type 0) (iter : U) where
+    -- all items came, each in the place of one of an equal key
+    abbrev pub OverwritesGiven : HashItems S T → HashItems S T → Type 0
+    OverwritesGiven old new = (xs : List T) × GivesAll becomes steps iter xs × OverwritesAll key eq old.limit xs old.items new.items
+
+    -- an item found no room and comes back, after those before it came
+    abbrev pub StopsOverwriting : HashItems S T → HashItems S T → ExtendError T → Type 0
+    StopsOverwriting old new e = IfSome e.item (λ x. (xs : List T)
+        × GivesThen becomes steps iter xs x
+        × OverwritesAll key eq old.limit xs old.items new.items
+        × FindsNoRoom key eq old.limit new.items x e.error)
+
+    -- the items that came, of equal keys the last
+    abbrev pub Collects : HashItems S T → Type 0
+    Collects m = (xs : List T) × GivesAll becomes steps iter xs × OverwritesAll key eq max_items xs [] m.items
+
+    -- all items that came, whose keys differ
+    abbrev pub HoldsAll : HashItems S T → Type 0
+    HoldsAll m = (xs : List T) × GivesAll becomes steps iter xs × NoTwoAkin key eq xs × IsPermutation xs m.items
+
+    -- the first item is shown whose key was there, from before or from the iterator
+    abbrev pub ShowsConflict : HashItems S T → ExtendUniqueError T → Type 0
+    ShowsConflict m e = ShowsFirstConflict key eq (GivesThen becomes steps iter) m.items e
+
+    -- all items were inserted
+    abbrev pub AddsIterated : HashItems S T → HashItems S T → Type 0
+    AddsIterated old new = AddsGiven key eq (GivesAll becomes steps iter) old.items new.items
+
+    -- an item was not, and those before it were
+    abbrev pub HaltsIterated : HashItems S T → HashItems S T → Halt T → Type 0
+    HaltsIterated old new halt = HaltsAdding key eq (GivesThen becomes steps iter) (holding_of old) (holding_of new) halt
 
 -- x was refused for want of room, which a spare one would have had, and is returned
 pub record HandsBack {S T K : Type 0} (key : T → K) (eq : K → K → Bool) (m : HashItems S T) (x : T) (refused : Refused T) : Type 0 where
@@ -110,8 +210,8 @@ lends_nothing S T map result = Lends (the_row T S) unit map result (λ _. map.no
 
 -- what the map is once what `extend_unique` shows is let go: at `Ok` all items are in, and at `Err` those before the one that was not put in; as many new keys
 -- as were spare are taken before one finds no room
-abbrev pub ends_hash_extended : (S T : RattleType) {K : Type 0} (key : T.Denot → K) (eq : K → K → Bool) (IsKeyed : HashItems S.Denot T.Denot → Type 0) (gives_all : List T.Denot → Type 0) (gives_then : List T.Denot → T.Denot → Type 0) → MutBor (HashItems S.Denot T.Denot) → Result (MutBor unit.Denot) (ExtendUniqueError T.Denot) → Fml
-ends_hash_extended S T key eq IsKeyed gives_all gives_then map result =
+abbrev pub ends_hash_extended : (S T : RattleType) {K U I : Type 0} (key : T.Denot → K) (eq : K → K → Bool) (IsKeyed : HashItems S.Denot T.Denot → Type 0) (becomes : U → I → Type 0) (steps : I → Option T.Denot → I → Type 0) (iter : U) → MutBor (HashItems S.Denot T.Denot) → Result (MutBor unit.Denot) (ExtendUniqueError T.Denot) → Fml
+ends_hash_extended S T key eq IsKeyed becomes steps iter map result =
     LendsSoOk (the_row T S) unit map result
-    (λ new _. AddsGiven key eq gives_all map.now.items new.items × HashFills IsKeyed map.now new)
-    (λ new. HashFills IsKeyed map.now new × IfErr result (StopsAdding key eq gives_then (holding_of map.now) (holding_of new)) × IfErr result (OnItemRefused (map.now.spare + length map.now.items ≤ length new.items)))
+    (λ new _. AddsGiven key eq (GivesAll becomes steps iter) map.now.items new.items × HashFills IsKeyed map.now new)
+    (λ new. HashFills IsKeyed map.now new × IfErr result (StopsAdding key eq (GivesThen becomes steps iter) (holding_of map.now) (holding_of new)) × IfErr result (OnItemRefused (map.now.spare + length map.now.items ≤ length new.items)))

@@ -1,7 +1,9 @@
 -- Where a slot stands among the slots of a hash map, which rise.
 --     slots_below n slots      how many of the slots have a number below n
+--     IsNext slots from slot      the first slot from this number on
+--     AreRising slots      the slots rise
 --     behind slots n      the number behind the n-th slot, and 0 in front of the first
-use Rattle.std.specs.Prelude.{ℕ, ◌+◌, List, [], ◌∷◌, nat_lt, slice_index_or, if◌then◌else◌}
+use Rattle.std.specs.Prelude.{◌≡◌, ℕ, ◌+◌, ◌≤◌, List, Some, length, slice_get, [], ◌∷◌, nat_lt, slice_index_or, if◌then◌else◌}
 use Rattle.std.proofs.Common.{zero, suc}
 
 abbrev pub slots_below : ℕ → List ℕ → ℕ
@@ -11,3 +13,10 @@ slots_below n (s ∷ slots) = if nat_lt s n then suc (slots_below n slots) else 
 abbrev pub behind : List ℕ → ℕ → ℕ
 behind slots zero = 0
 behind slots (suc n) = slice_index_or slots n 0 + 1
+
+abbrev pub IsNext : List ℕ → ℕ → ℕ → Type 0
+IsNext slots from slot = slice_get slots (slots_below from slots) ≡ Some slot
+
+-- as many slots as lie in front of it are below the number behind the n-th
+abbrev pub AreRising : List ℕ → Type 0
+AreRising slots = (n : ℕ) → n ≤ length slots → slots_below (behind slots n) slots ≡ n

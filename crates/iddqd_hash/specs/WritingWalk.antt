@@ -1,9 +1,10 @@
 -- What a contract sees of a walk that lends the items of a hash map for writing (the crate's `IterMut`).
 --     walk_map, walk_lender, walk_done      the map as the walk holds it, the name of the reference to it, how many items it has lent
+--     walk_item w      the item that it lends next
 --     walk_with w x      the map once x is written to the item that the walk lends next
 --     walk_lends      the walk ends with the last value written to the item, and one item further
 --     WalkKeeps, WalkKeepsAkin      an item of the same key, or of an equal one, may be written
-use Rattle.std.specs.Prelude.{◌≡◌, ℕ, ◌+◌, [], Bool, IfSome, IsTrue, Option, slice_set}
+use Rattle.std.specs.Prelude.{◌≡◌, ℕ, ◌+◌, [], Bool, IfSome, IsTrue, Option, slice_get, slice_set}
 use Rattle.std.specs.Borrow.{Fml, GName, RattleType, MutBor, LendsIf}
 use Rattle.std.proofs.Common.{refl}
 use mir.Syntax.{named}
@@ -21,6 +22,10 @@ module _ {S T : Type 0} where
 
   abbrev pub walk_done : IterMut T S → ℕ
   walk_done w = w.done
+
+  -- the item that it lends next
+  abbrev pub walk_item : IterMut T S → Option T
+  walk_item w = slice_get w.map.now.items w.done
 
   abbrev pub walk_with : IterMut T S → T → HashItems S T
   walk_with w x = record w.map.now { items = slice_set w.map.now.items w.done x }

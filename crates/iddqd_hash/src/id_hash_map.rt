@@ -1,7 +1,7 @@
 //! A hash map over an item store and a hash index.
 #![tactic(auto, unfolding(crate::specs::HashItems::IsKeyed))]
 
-ghost use Rattle.std.specs.Prelude.{◌≡◌, min, ◌↔◌, ◌+◌, ◌≤◌, [], length, IsTrue};
+ghost use Rattle.std.specs.Prelude.{◌≡◌, ◌↔◌, ◌+◌, ◌≤◌, [], length, IsTrue};
 ghost use Rattle.iddqd_store.specs.Hashing.{hash_under};
 ghost use Rattle.iddqd_store.specs.SlotItems.{HaveSlots};
 
@@ -65,13 +65,13 @@ impl<T: Drop, S: Drop> Drop for IdHashMap<T, S> {
 
 impl<T, S> Model for IdHashMap<T, S> {
     ghost use Rattle.iddqd_hash.specs.HashItems.{HashItems, hash_items_code};
-    ghost use Rattle.iddqd_hash.specs.StoreAndIndex.{PairsOccupied, hash_items_of};
+    ghost use Rattle.iddqd_hash.specs.StoreAndIndex.{PairsOccupied, map_of};
 
     ghost Value = { HashItems S T };
 
     ghost coded = { hash_items_code S.code T.code };
 
-    ghost view = { λ m. hash_items_of m.store m.index m.hasher };
+    ghost view = { λ m. map_of m.store m.index m.hasher };
 
     ghost invariant = { λ m. PairsOccupied m.store m.index.pairs };
 }
@@ -161,6 +161,7 @@ impl<T: IdHashItem> IdHashMap<T> {
 
 impl<T: IdHashItem, S: BuildHasher> IdHashMap<T, S> {
     ghost use Rattle.iddqd_hash.specs.HashMap.{HashStays, IsEmptyMap};
+    ghost use Rattle.iddqd_hash.specs.StoreAndIndex.{empty_map_of};
 
     /// A map without items, over the hasher that is handed in. It takes no memory.
     pub fn with_hasher(alloc: Global, hasher: S) -> Self
@@ -185,7 +186,7 @@ impl<T: IdHashItem, S: BuildHasher> IdHashMap<T, S> {
     fn over(store: ItemStore<T>, index: HashIndex, hasher: S) -> Self
         requires no_slot { store.slots ≡ [] }
         requires no_pair { index.pairs ≡ [] }
-        ensures empty { result ≡ record { items = []; slots = []; hashes = []; hasher = hasher; spare = min index.spare (min store.capacity store.limit); vacant = 0; capacity = store.capacity; limit = store.limit } }
+        ensures empty { result ≡ empty_map_of store index hasher }
         ensures keyed { ⟦<Self as Keyed>⟧.keyed result }
     {
         IdHashMap {

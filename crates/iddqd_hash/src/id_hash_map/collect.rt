@@ -1,21 +1,19 @@
 //! Many items at once, from an iterator.
-ghost use Rattle.std.specs.Prelude.{◌≡◌, ◌+◌, ◌≤◌, [], List, length, IfOk, IfErr, IfNone, IfSome, OnOk, IsPermutation};
-ghost use Rattle.std.specs.Iterator.{IsFiniteIterable};
-ghost use Rattle.iddqd_store.specs.Collecting.{GivesAll, GivesThen, OverwritesAll, ShowsAkin, ShowsFirstRepeat};
-ghost use Rattle.iddqd_store.specs.Contents.{IsAbsent, NoTwoAkin};
-ghost use Rattle.iddqd_store.specs.Refusal.{FindsNoRoom};
+ghost use Rattle.std.specs.Prelude.{IfOk, IfErr, OnOk};
+ghost use Rattle.std.specs.Iterator.{IsFiniteIterable as IsFinite};
+ghost use Rattle.iddqd_store.specs.Collecting.{GivesThen, ShowsAkin, ShowsFirstRepeat};
+ghost use Rattle.iddqd_store.specs.Contents.{IsAbsent};
 
 use super::store_and_index::{find_slot, take_out};
 use super::{IdHashMap, Keyed};
 use iddqd_store::{
-    DuplicateItem, ExtendError, Few, FromIterError, IdHashItem, MAX_ITEMS, TryReserveError,
-    room_to_reserve,
+    DuplicateItem, ExtendError, Few, FromIterError, IdHashItem, TryReserveError, room_to_reserve,
 };
 use std::alloc::Global;
 use std::hash::BuildHasher;
 
 impl<T: IdHashItem, S: BuildHasher> IdHashMap<T, S> {
-    ghost use Rattle.iddqd_hash.specs.HashMap.{HashFills, HashInserts, HashKeeps, SpareFits};
+    ghost use Rattle.iddqd_hash.specs.HashMap.{Collects, HashFills, HashInserts, HoldsAll, IsCollected, KeepsIfNoItem, OverwritesGiven, SpareFirst, StopsOverwriting};
 
     /// Puts in the items one after the other, each in the stead of one of an equal key (the crate's `Extend`, a function
     /// here, since it can refuse). Room is made before an item is asked for: for as many as the iterator announces at least
@@ -27,11 +25,11 @@ impl<T: IdHashItem, S: BuildHasher> IdHashMap<T, S> {
     where
         T: Drop,
         requires keyed { ⟦<Self as Keyed>⟧.keyed self.old }
-        requires ends { IsFiniteIterable U.into_iter_gives U.IntoIter.can_next U.IntoIter.remaining iter }
-        ensures taken { OnOk result ((xs : List T) × GivesAll U.into_iter_gives U.IntoIter.next_gives iter xs × OverwritesAll T.key T.Key.eq self.old.limit xs self.old.items self.new.items) }
-        ensures stopped { IfErr result (λ e. IfSome e.item (λ x. (xs : List T) × GivesThen U.into_iter_gives U.IntoIter.next_gives iter xs x × OverwritesAll T.key T.Key.eq self.old.limit xs self.old.items self.new.items × FindsNoRoom T.key T.Key.eq self.old.limit self.new.items x e.error)) }
-        ensures spare_first { IfErr result (λ e. IfSome e.item (λ x. self.old.spare + length self.old.items ≤ length self.new.items)) }
-        ensures not_begun { IfErr result (λ e. IfNone e.item (HashKeeps ⟦<Self as Keyed>⟧.keyed self.old self.new)) }
+        requires ends { IsFinite U.into_iter_gives U.IntoIter.can_next U.IntoIter.remaining iter }
+        ensures taken { OnOk result (OverwritesGiven T.key T.Key.eq U.into_iter_gives U.IntoIter.next_gives iter self.old self.new) }
+        ensures stopped { IfErr result (StopsOverwriting T.key T.Key.eq U.into_iter_gives U.IntoIter.next_gives iter self.old self.new) }
+        ensures spare_first { IfErr result (SpareFirst self.old self.new) }
+        ensures not_begun { IfErr result (KeepsIfNoItem ⟦<Self as Keyed>⟧.keyed self.old self.new) }
         ensures fills { HashFills ⟦<Self as Keyed>⟧.keyed self.old self.new }
     {
         let items = iter.into_iter();
@@ -63,13 +61,9 @@ impl<T: IdHashItem, S: BuildHasher> IdHashMap<T, S> {
     where
         T: Drop,
         S: Default + Drop,
-        requires ends { IsFiniteIterable U.into_iter_gives U.IntoIter.can_next U.IntoIter.remaining iter }
-        ensures items { IfOk result (λ m. (xs : List T) × GivesAll U.into_iter_gives U.IntoIter.next_gives iter xs × OverwritesAll T.key T.Key.eq MAX_ITEMS xs [] m.items) }
-        ensures vacant { IfOk result (λ m. m.vacant ≡ 0) }
-        ensures limit { IfOk result (λ m. m.limit ≡ MAX_ITEMS) }
-        ensures spare { IfOk result SpareFits }
-        ensures hasher { IfOk result (λ m. S.is_default m.hasher) }
-        ensures keyed { IfOk result ⟦<Self as Keyed>⟧.keyed }
+        requires ends { IsFinite U.into_iter_gives U.IntoIter.can_next U.IntoIter.remaining iter }
+        ensures items { IfOk result (Collects T.key T.Key.eq U.into_iter_gives U.IntoIter.next_gives iter) }
+        ensures collected { IfOk result (IsCollected ⟦<Self as Keyed>⟧.keyed S.is_default) }
     {
         let mut map = IdHashMap::with_hasher(alloc, S::default());
         match map.extend(iter) {
@@ -90,14 +84,10 @@ impl<T: IdHashItem, S: BuildHasher> IdHashMap<T, S> {
     where
         T: Drop,
         S: Default + Drop,
-        requires ends { IsFiniteIterable U.into_iter_gives U.IntoIter.can_next U.IntoIter.remaining iter }
-        ensures items { IfOk result (λ m. (xs : List T) × GivesAll U.into_iter_gives U.IntoIter.next_gives iter xs × NoTwoAkin T.key T.Key.eq xs × IsPermutation xs m.items) }
+        requires ends { IsFinite U.into_iter_gives U.IntoIter.can_next U.IntoIter.remaining iter }
+        ensures items { IfOk result (HoldsAll T.key T.Key.eq U.into_iter_gives U.IntoIter.next_gives iter) }
         ensures repeat { IfErr result (ShowsFirstRepeat T.key T.Key.eq (GivesThen U.into_iter_gives U.IntoIter.next_gives iter)) }
-        ensures vacant { IfOk result (λ m. m.vacant ≡ 0) }
-        ensures limit { IfOk result (λ m. m.limit ≡ MAX_ITEMS) }
-        ensures spare { IfOk result SpareFits }
-        ensures hasher { IfOk result (λ m. S.is_default m.hasher) }
-        ensures keyed { IfOk result ⟦<Self as Keyed>⟧.keyed }
+        ensures collected { IfOk result (IsCollected ⟦<Self as Keyed>⟧.keyed S.is_default) }
     {
         let items = iter.into_iter();
         let announced = items.size_hint().0;
@@ -116,7 +106,7 @@ impl<T: IdHashItem, S: BuildHasher> IdHashMap<T, S> {
     where
         T: Drop,
         requires keyed { ⟦<Self as Keyed>⟧.keyed self.old }
-        ensures inserted { OnOk result (HashInserts ⟦<Self as Keyed>⟧.keyed item self.old self.new) }
+        ensures inserts { OnOk result (HashInserts ⟦<Self as Keyed>⟧.keyed item self.old self.new) }
         ensures absent { OnOk result (IsAbsent T.key (T.Key.eq (T.key item)) self.old.items) }
         ensures akin { IfErr result (ShowsAkin T.key T.Key.eq self.old.items item) }
     {

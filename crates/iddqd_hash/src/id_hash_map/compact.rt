@@ -1,9 +1,9 @@
 //! Closing up the slots, so that none is vacant (the crate's `compact`).
-ghost use Rattle.std.specs.Prelude.{◌≡◌, ◌<◌, IsPermutation};
-ghost use Rattle.iddqd_store.specs.Hashing.{hash_under};
-ghost use Rattle.iddqd_store.specs.Store.{EndsOccupied, store_len, vacant};
-ghost use Rattle.iddqd_hash.specs.StoreAndIndex.{AreListedUnder, PairsOccupied, items_in};
+ghost use Rattle.std.specs.Prelude.{◌≡◌, ◌<◌};
+ghost use Rattle.iddqd_store.specs.Store.{EndsOccupied, vacant};
+ghost use Rattle.iddqd_hash.specs.StoreAndIndex.{MovesItems, PairsOccupied, map_of};
 
+use super::{IdHashMap, Keyed};
 use iddqd_hash_index::HashIndex;
 use iddqd_store::{IdHashItem, ItemStore};
 use std::hash::BuildHasher;
@@ -15,15 +15,11 @@ pub(super) fn compact<T: IdHashItem, S: BuildHasher>(
     hasher: &S,
 )
     requires paired { PairsOccupied store.old index.old.pairs }
-    requires under { AreListedUnder (λ x. hash_under S.BuildHasher S.Hasher.Hasher hasher.now (T.Key.hash_input (T.key x))) store.old index.old.pairs }
+    requires keyed { ⟦<IdHashMap<T, S> as Keyed>⟧.keyed (map_of store.old index.old hasher.now) }
     ensures paired { PairsOccupied store.new index.new.pairs }
-    ensures under { AreListedUnder (λ x. hash_under S.BuildHasher S.Hasher.Hasher hasher.now (T.Key.hash_input (T.key x))) store.new index.new.pairs }
-    ensures items { IsPermutation (items_in store.old) (items_in store.new) }
+    ensures keyed { ⟦<IdHashMap<T, S> as Keyed>⟧.keyed (map_of store.new index.new hasher.now) }
+    ensures moves { MovesItems store.old store.new index.old index.new }
     ensures vacant { vacant store.new ≡ 0 }
-    ensures len { store_len store.new ≡ store_len store.old }
-    ensures spare { index.new.spare ≡ index.old.spare }
-    ensures capacity { store.new.capacity ≡ store.old.capacity }
-    ensures limit { store.new.limit ≡ store.old.limit }
 {
     store.cut_end();
     while store.vacant() > 0 {
@@ -38,18 +34,14 @@ fn move_last<T: IdHashItem, S: BuildHasher>(
     hasher: &S,
 )
     requires paired { PairsOccupied store.old index.old.pairs }
-    requires under { AreListedUnder (λ x. hash_under S.BuildHasher S.Hasher.Hasher hasher.now (T.Key.hash_input (T.key x))) store.old index.old.pairs }
+    requires keyed { ⟦<IdHashMap<T, S> as Keyed>⟧.keyed (map_of store.old index.old hasher.now) }
     requires cut { EndsOccupied store.old.slots }
     requires some { 0 < vacant store.old }
     ensures paired { PairsOccupied store.new index.new.pairs }
-    ensures under { AreListedUnder (λ x. hash_under S.BuildHasher S.Hasher.Hasher hasher.now (T.Key.hash_input (T.key x))) store.new index.new.pairs }
-    ensures items { IsPermutation (items_in store.old) (items_in store.new) }
+    ensures keyed { ⟦<IdHashMap<T, S> as Keyed>⟧.keyed (map_of store.new index.new hasher.now) }
+    ensures moves { MovesItems store.old store.new index.old index.new }
     ensures cut { EndsOccupied store.new.slots }
     ensures fewer { vacant store.new < vacant store.old }
-    ensures len { store_len store.new ≡ store_len store.old }
-    ensures spare { index.new.spare ≡ index.old.spare }
-    ensures capacity { store.new.capacity ≡ store.old.capacity }
-    ensures limit { store.new.limit ≡ store.old.limit }
 {
     let last = store.slots() - 1;
     let hash = hasher.hash_one(store.get(last).unwrap().key());

@@ -1,6 +1,5 @@
 //! Entries: the place of an item in a map, or a map that lacks one.
-ghost use Rattle.std.specs.Prelude.{◌≡◌, IfSome, IsSome, IsTrue, Some};
-ghost use Rattle.iddqd_store.specs.Hashing.{HashesAs};
+ghost use Rattle.std.specs.Prelude.{◌≡◌, IfSome, IsSome, Some};
 ghost use Rattle.iddqd_store.specs.SlotItems.{item_of_slot};
 
 mod inserting;
@@ -39,15 +38,16 @@ pub struct OccupiedEntry<'a, T, S = DefaultHashBuilder> {
 }
 
 impl<T: IdHashItem, S: BuildHasher> IdHashMap<T, S> {
-    ghost use Rattle.iddqd_hash.specs.Entry.{IsEntryFor, entry_item};
+    ghost use Rattle.iddqd_hash.specs.Entry.{IsEntryFor, PassesTest, entry_item};
+    ghost use Rattle.iddqd_hash.specs.HashItems.{HashesAsKeys};
 
     /// The entry of the query: occupied where it finds an item. It hashes the query once, makes as many comparisons as `get`,
     /// takes no memory, and changes nothing.
     pub fn entry<Q: Hash + Equivalent<T::Key>>(&mut self, query: &Q) -> Entry<'_, T, S>
         requires keyed { ⟦<Self as Keyed>⟧.keyed self.old }
-        requires hashes { HashesAs (Q.equivalent query.now) (Q.hash_input query.now) T.Key.hash_input }
+        requires hashes { HashesAsKeys Q.equivalent Q.hash_input T.Key.hash_input query.now }
         ensures entry { IsEntryFor T.key (Q.equivalent query.now) self.entry result }
-        ensures equal { IfSome (entry_item result) (λ x. IsTrue (Q.equivalent query.now (T.key x))) }
+        ensures equal { IfSome (entry_item result) (PassesTest T.key (Q.equivalent query.now)) }
     {
         let hash = self.hasher.hash_one(query);
         match find_slot(&self.store, &self.index, hash, query) {

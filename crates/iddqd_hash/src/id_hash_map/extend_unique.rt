@@ -1,9 +1,8 @@
 //! Many items at once, none in the stead of another.
-ghost use Rattle.std.specs.Prelude.{◌≡◌, ◌+◌, ◌≤◌, List, length, IfErr, OnErr, OnOk};
+ghost use Rattle.std.specs.Prelude.{◌≡◌, IfErr, OnErr, OnOk};
 ghost use Rattle.std.specs.Borrow.{sem};
-ghost use Rattle.std.specs.Iterator.{IsFiniteIterable};
-ghost use Rattle.iddqd_store.specs.Adding.{HaltsAdding, HaltsAt, OnItemBack, ShowsFirstConflict};
-ghost use Rattle.iddqd_store.specs.Collecting.{AddsAll, GivesAll, GivesThen};
+ghost use Rattle.std.specs.Iterator.{IsFiniteIterable as IsFinite};
+ghost use Rattle.iddqd_store.specs.Adding.{HaltsAt, OnItemBack};
 ghost use Rattle.iddqd_store.specs.Contents.{IsAbsent};
 
 use super::store_and_index::find_slot;
@@ -15,7 +14,7 @@ use std::hash::BuildHasher;
 
 impl<T: IdHashItem, S: BuildHasher> IdHashMap<T, S> {
     ghost use Rattle.iddqd_hash.specs.HashItems.{holding_of};
-    ghost use Rattle.iddqd_hash.specs.HashMap.{HashFills, HashInserts, HashKeeps, ends_hash_extended};
+    ghost use Rattle.iddqd_hash.specs.HashMap.{AddsIterated, HaltsIterated, HasSpareFirst, HashFills, HashInserts, HashKeeps, ShowsConflict, ends_hash_extended};
 
     /// Inserts the items one after the other, up to the first whose key is there, from before or from the iterator (ours).
     /// That one is answered as the new item beside the one that is there, which is lent; a duplicate needs no memory, and
@@ -32,9 +31,9 @@ impl<T: IdHashItem, S: BuildHasher> IdHashMap<T, S> {
     where
         T: Drop,
         requires keyed { ⟦<Self as Keyed>⟧.keyed self.old }
-        requires ends { IsFiniteIterable U.into_iter_gives U.IntoIter.can_next U.IntoIter.remaining iter }
-        ensures* after { sem 𝓛 (ends_hash_extended S.row T.row T.key T.Key.eq ⟦<Self as Keyed>⟧.keyed (GivesAll U.into_iter_gives U.IntoIter.next_gives iter) (GivesThen U.into_iter_gives U.IntoIter.next_gives iter) self.entry result) }
-        ensures conflict { IfErr result (ShowsFirstConflict T.key T.Key.eq (GivesThen U.into_iter_gives U.IntoIter.next_gives iter) self.old.items) }
+        requires ends { IsFinite U.into_iter_gives U.IntoIter.can_next U.IntoIter.remaining iter }
+        ensures* after { sem 𝓛 (ends_hash_extended S.row T.row T.key T.Key.eq ⟦<Self as Keyed>⟧.keyed U.into_iter_gives U.IntoIter.next_gives iter self.entry result) }
+        ensures conflict { IfErr result (ShowsConflict T.key T.Key.eq U.into_iter_gives U.IntoIter.next_gives iter self.old) }
     {
         match self.add_each(iter) {
             Ok(()) => Ok(&mut self.done),
@@ -51,10 +50,10 @@ impl<T: IdHashItem, S: BuildHasher> IdHashMap<T, S> {
     where
         T: Drop,
         requires keyed { ⟦<Self as Keyed>⟧.keyed self.old }
-        requires ends { IsFiniteIterable U.into_iter_gives U.IntoIter.can_next U.IntoIter.remaining iter }
-        ensures added { OnOk result ((xs : List T) × GivesAll U.into_iter_gives U.IntoIter.next_gives iter xs × AddsAll T.key T.Key.eq xs self.old.items self.new.items) }
-        ensures halted { IfErr result (HaltsAdding T.key T.Key.eq (GivesThen U.into_iter_gives U.IntoIter.next_gives iter) (holding_of self.old) (holding_of self.new)) }
-        ensures spare_first { IfErr result (OnItemBack (self.old.spare + length self.old.items ≤ length self.new.items)) }
+        requires ends { IsFinite U.into_iter_gives U.IntoIter.can_next U.IntoIter.remaining iter }
+        ensures added { OnOk result (AddsIterated T.key T.Key.eq U.into_iter_gives U.IntoIter.next_gives iter self.old self.new) }
+        ensures halted { IfErr result (HaltsIterated T.key T.Key.eq U.into_iter_gives U.IntoIter.next_gives iter self.old self.new) }
+        ensures spare_first { IfErr result (OnItemBack (HasSpareFirst self.old self.new)) }
         ensures fills { HashFills ⟦<Self as Keyed>⟧.keyed self.old self.new }
     {
         let items = iter.into_iter();
@@ -71,7 +70,7 @@ impl<T: IdHashItem, S: BuildHasher> IdHashMap<T, S> {
     // Inserts the item where none of an equal key is there, and else answers that one's slot.
     fn add(&mut self, item: T) -> Result<(), Halt<T>>
         requires keyed { ⟦<Self as Keyed>⟧.keyed self.old }
-        ensures inserted { OnOk result (HashInserts ⟦<Self as Keyed>⟧.keyed item self.old self.new) }
+        ensures inserts { OnOk result (HashInserts ⟦<Self as Keyed>⟧.keyed item self.old self.new) }
         ensures absent { OnOk result (IsAbsent T.key (T.Key.eq (T.key item)) self.old.items) }
         ensures halted { IfErr result (HaltsAt T.key T.Key.eq item (holding_of self.old)) }
         ensures no_spare { IfErr result (OnItemBack (self.old.spare ≡ 0)) }

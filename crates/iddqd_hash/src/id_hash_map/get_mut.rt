@@ -1,8 +1,7 @@
 //! Lending one item for writing, and what lends it.
-ghost use Rattle.std.specs.Prelude.{◌≡◌, IfNone, IfSome, IsSome, Some, None};
+ghost use Rattle.std.specs.Prelude.{◌≡◌, IfNone, IfSome, IsSome, Some};
 ghost use Rattle.std.specs.Borrow.{sem};
-ghost use Rattle.iddqd_store.specs.Contents.{find_item};
-ghost use Rattle.iddqd_store.specs.Hashing.{HashesAs};
+ghost use Rattle.iddqd_store.specs.Contents.{IsAbsent};
 ghost use Rattle.iddqd_store.specs.SlotItems.{item_of_slot};
 
 use super::store_and_index::find_slot;
@@ -35,15 +34,16 @@ impl<T, S> IdHashMap<T, S> {
 
 impl<T: IdHashItem, S: BuildHasher> IdHashMap<T, S> {
     ghost use Rattle.iddqd_hash.specs.Guard.{GuardFinds, GuardKeeps, GuardKeepsAkin, GuardOverwrites, guard_lender, lent_map, rests_at_none};
+    ghost use Rattle.iddqd_hash.specs.HashItems.{HashesAsKeys};
     ghost use Rattle.iddqd_hash.specs.HashMap.{SpareFits};
 
     /// Lends the item that the query finds for writing; `None` where there is none, and then nothing has changed. The
     /// guard has to be spent. It hashes the query once, and makes as many comparisons as `get`.
     pub fn get_mut<Q: Hash + Equivalent<T::Key>>(&mut self, query: &Q) -> Option<RefMut<'_, T, S>>
         requires keyed { ⟦<Self as Keyed>⟧.keyed self.old }
-        requires hashes { HashesAs (Q.equivalent query.now) (Q.hash_input query.now) T.Key.hash_input }
+        requires hashes { HashesAsKeys Q.equivalent Q.hash_input T.Key.hash_input query.now }
         ensures* unchanged_at_none { sem 𝓛 (rests_at_none S.row T.row self.entry result) }
-        ensures absent { IfNone result (find_item T.key (Q.equivalent query.now) self.old.items ≡ None) }
+        ensures absent { IfNone result (IsAbsent T.key (Q.equivalent query.now) self.old.items) }
         ensures same_map { IfSome result (λ r. guard_lender r ≡ self.entry.ghost_name) }
         ensures lent { IfSome result (λ r. lent_map r ≡ self.old) }
         ensures found { IfSome result (GuardFinds T.key (Q.equivalent query.now)) }

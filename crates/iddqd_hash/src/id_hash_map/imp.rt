@@ -1,25 +1,25 @@
 //! Lookups and removals.
-ghost use Rattle.std.specs.Prelude.{◌≡◌, ◌+◌, ◌≤◌, IfNone, IsTrue, option_copied, is_some};
-ghost use Rattle.iddqd_store.specs.Contents.{find_item, items_without};
-ghost use Rattle.iddqd_store.specs.Hashing.{HashesAs, hash_under};
+ghost use Rattle.std.specs.Prelude.{◌≡◌, ◌+◌, ◌≤◌, IfNone, option_copied, is_some};
+ghost use Rattle.iddqd_store.specs.Contents.{find_item};
+ghost use Rattle.iddqd_store.specs.Hashing.{hash_under};
 ghost use Rattle.iddqd_store.specs.Holding.{Removes};
 
-use super::store_and_index::{find_slot, find_slot_counted, take_out};
+use super::store_and_index::{find_slot, take_out};
 use super::{IdHashMap, Keyed};
 use iddqd_store::{Equivalent, IdHashItem, Steps};
 use std::hash::{BuildHasher, Hash};
 
 impl<T: IdHashItem, S: BuildHasher> IdHashMap<T, S> {
-    ghost use Rattle.iddqd_hash.specs.HashItems.{holding_of, of_stored_hash};
-    ghost use Rattle.iddqd_hash.specs.HashMap.{HashStays, SpareFits};
+    ghost use Rattle.iddqd_hash.specs.HashItems.{HashesAsKeys, holding_of, of_same_hash};
+    ghost use Rattle.iddqd_hash.specs.HashMap.{HashStays, IsFound, KeepsOthers, SpareFits};
 
     /// The item that the query finds, or `None`, by as many comparisons as `get_counted`. It hashes the query once, and
     /// fetches the item found once more to lend it.
     #[inline]
     pub fn get<Q: Hash + Equivalent<T::Key>>(&self, query: &Q) -> Option<&T>
         requires keyed { ⟦<Self as Keyed>⟧.keyed self.now }
-        requires hashes { HashesAs (Q.equivalent query.now) (Q.hash_input query.now) T.Key.hash_input }
-        ensures found { option_copied result ≡ find_item T.key (Q.equivalent query.now) self.now.items }
+        requires hashes { HashesAsKeys Q.equivalent Q.hash_input T.Key.hash_input query.now }
+        ensures found { IsFound T.key (Q.equivalent query.now) self.now (option_copied result) }
         ensures spare { SpareFits self.now }
     {
         self.get_counted(query, &mut Steps::new())
@@ -33,30 +33,14 @@ impl<T: IdHashItem, S: BuildHasher> IdHashMap<T, S> {
         steps: &mut Steps,
     ) -> Option<&T>
         requires keyed { ⟦<Self as Keyed>⟧.keyed self.now }
-        requires hashes { HashesAs (Q.equivalent query.now) (Q.hash_input query.now) T.Key.hash_input }
-        ensures found { option_copied result ≡ find_item T.key (Q.equivalent query.now) self.now.items }
+        requires hashes { HashesAsKeys Q.equivalent Q.hash_input T.Key.hash_input query.now }
+        ensures found { IsFound T.key (Q.equivalent query.now) self.now (option_copied result) }
         ensures spare { SpareFits self.now }
-        ensures steps { steps.new ≤ steps.old + of_stored_hash self.now (hash_under S.BuildHasher S.Hasher.Hasher self.now.hasher (Q.hash_input query.now)) }
+        ensures steps { steps.new ≤ steps.old + of_same_hash (hash_under S.BuildHasher S.Hasher.Hasher) self.now (Q.hash_input query.now) }
         ensures never_resets { steps.old ≤ steps.new }
     {
-        self.get_hashed(self.hasher.hash_one(query), query, steps)
-    }
-
-    // The same, where the query's hash is known.
-    #[inline]
-    pub(super) fn get_hashed<Q: Equivalent<T::Key>>(
-        &self,
-        hash: u64,
-        query: &Q,
-        steps: &mut Steps,
-    ) -> Option<&T>
-        requires keyed { ⟦<Self as Keyed>⟧.keyed self.now }
-        requires hash { (k : T.Key) → IsTrue (Q.equivalent query.now k) → hash_under S.BuildHasher S.Hasher.Hasher self.now.hasher (T.Key.hash_input k) ≡ hash }
-        ensures found { option_copied result ≡ find_item T.key (Q.equivalent query.now) self.now.items }
-        ensures steps { steps.new ≤ steps.old + of_stored_hash self.now hash }
-        ensures never_resets { steps.old ≤ steps.new }
-    {
-        let slot = find_slot_counted(&self.store, &self.index, hash, query, steps)?;
+        let hash = self.hasher.hash_one(query);
+        let slot = self.index.find(&self.store, hash, query, steps)?;
         self.store.get(slot)
     }
 
@@ -64,7 +48,7 @@ impl<T: IdHashItem, S: BuildHasher> IdHashMap<T, S> {
     #[inline]
     pub fn contains_key<Q: Hash + Equivalent<T::Key>>(&self, query: &Q) -> bool
         requires keyed { ⟦<Self as Keyed>⟧.keyed self.now }
-        requires hashes { HashesAs (Q.equivalent query.now) (Q.hash_input query.now) T.Key.hash_input }
+        requires hashes { HashesAsKeys Q.equivalent Q.hash_input T.Key.hash_input query.now }
         ensures { result ≡ is_some (find_item T.key (Q.equivalent query.now) self.now.items) }
     {
         self.get(query).is_some()
@@ -74,9 +58,9 @@ impl<T: IdHashItem, S: BuildHasher> IdHashMap<T, S> {
     /// changed. The item's slot is vacant then, and its room is spare. It hashes the query once, and takes no memory.
     pub fn remove<Q: Hash + Equivalent<T::Key>>(&mut self, query: &Q) -> Option<T>
         requires keyed { ⟦<Self as Keyed>⟧.keyed self.old }
-        requires hashes { HashesAs (Q.equivalent query.now) (Q.hash_input query.now) T.Key.hash_input }
-        ensures value { result ≡ find_item T.key (Q.equivalent query.now) self.old.items }
-        ensures items { self.new.items ≡ items_without T.key (Q.equivalent query.now) self.old.items }
+        requires hashes { HashesAsKeys Q.equivalent Q.hash_input T.Key.hash_input query.now }
+        ensures value { IsFound T.key (Q.equivalent query.now) self.old result }
+        ensures items { KeepsOthers T.key (Q.equivalent query.now) self.old self.new }
         ensures removed { Removes result (holding_of self.old) (holding_of self.new) }
         ensures unchanged { IfNone result (self.new ≡ self.old) }
         ensures stays { HashStays ⟦<Self as Keyed>⟧.keyed self.old self.new }

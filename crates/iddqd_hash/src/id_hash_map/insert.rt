@@ -1,9 +1,9 @@
 //! Insertions. An akin item is looked for first, then the limit, then memory, and only then is anything changed.
-ghost use Rattle.std.specs.Prelude.{◌≡◌, IfOk, IfErr, IfNone, OnOk, OnErr, OnSome, Err, Some};
+ghost use Rattle.std.specs.Prelude.{◌≡◌, IfOk, IfErr, OnOk, OnErr};
 ghost use Rattle.std.specs.Borrow.{sem};
-ghost use Rattle.iddqd_store.specs.Contents.{IsAbsent, find_item, items_overwritten};
+ghost use Rattle.iddqd_store.specs.Contents.{IsAbsent};
 ghost use Rattle.iddqd_store.specs.Hashing.{hash_under};
-ghost use Rattle.iddqd_store.specs.Refusal.{OnRefused, RefusesInsertion};
+ghost use Rattle.iddqd_store.specs.Refusal.{OnRefused};
 
 use super::store_and_index::{exchange, find_slot, put_in, reserve_one};
 use super::{IdHashMap, Keyed};
@@ -11,7 +11,7 @@ use iddqd_store::{DuplicateItem, Few, IdHashItem, InsertError, Refused};
 use std::hash::BuildHasher;
 
 impl<T: IdHashItem, S: BuildHasher> IdHashMap<T, S> {
-    ghost use Rattle.iddqd_hash.specs.HashMap.{HandsBack, HashInserts, HashKeeps, HashStays, TakesSlot, ends_hash_inserted, lends_nothing};
+    ghost use Rattle.iddqd_hash.specs.HashMap.{HandsBack, HasItemOf, HashInserts, HashKeeps, HashStays, InsertsIfAbsent, IsFound, RefusesItem, ReplacesIfFound, TakesSlot, ends_hash_inserted, lends_nothing};
 
     /// Inserts the item where none of an equal key is there. A duplicate needs no memory and lends the item that is there;
     /// then the map is as it was. A full map and refused memory hand the item back, and then the items are as they were
@@ -23,7 +23,7 @@ impl<T: IdHashItem, S: BuildHasher> IdHashMap<T, S> {
         requires keyed { ⟦<Self as Keyed>⟧.keyed self.old }
         ensures* after { sem 𝓛 (ends_hash_inserted S.row T.row ⟦<Self as Keyed>⟧.keyed self.entry result item) }
         ensures absent { OnOk result (IsAbsent T.key (T.Key.eq (T.key item)) self.old.items) }
-        ensures refused { IfErr result (RefusesInsertion T.key T.Key.eq self.old.limit self.old.items item) }
+        ensures refused { IfErr result (RefusesItem T.key T.Key.eq self.old item) }
         ensures no_spare { IfErr result (OnRefused (self.old.spare ≡ 0)) }
     {
         let hash = self.hasher.hash_one(item.key());
@@ -43,10 +43,10 @@ impl<T: IdHashItem, S: BuildHasher> IdHashMap<T, S> {
     /// crate panics or aborts for want of room). It hashes the key once and searches once.
     pub fn insert_overwrite(&mut self, item: T) -> Result<Option<T>, Refused<T>>
         requires keyed { ⟦<Self as Keyed>⟧.keyed self.old }
-        ensures found { IfOk result (λ found. found ≡ find_item T.key (T.Key.eq (T.key item)) self.old.items) }
-        ensures replaced { IfOk result (λ found. OnSome found (self.new ≡ record self.old { items = items_overwritten T.key (T.Key.eq (T.key item)) item self.old.items })) }
-        ensures inserted { IfOk result (λ found. IfNone found (HashInserts ⟦<Self as Keyed>⟧.keyed item self.old self.new)) }
-        ensures there { OnOk result (find_item T.key (T.Key.eq (T.key item)) self.new.items ≡ Some item) }
+        ensures found { IfOk result (IsFound T.key (T.Key.eq (T.key item)) self.old) }
+        ensures replaced { IfOk result (ReplacesIfFound T.key T.Key.eq item self.old self.new) }
+        ensures inserted { IfOk result (InsertsIfAbsent ⟦<Self as Keyed>⟧.keyed item self.old self.new) }
+        ensures there { OnOk result (HasItemOf T.key T.Key.eq item self.new) }
         ensures refused { IfErr result (HandsBack T.key T.Key.eq self.old item) }
         ensures kept { OnErr result (HashKeeps ⟦<Self as Keyed>⟧.keyed self.old self.new) }
         ensures stays { HashStays ⟦<Self as Keyed>⟧.keyed self.old self.new }
@@ -75,7 +75,7 @@ impl<T: IdHashItem, S: BuildHasher> IdHashMap<T, S> {
         requires keyed { ⟦<Self as Keyed>⟧.keyed self.old }
         requires absent { IsAbsent T.key (T.Key.eq (T.key item)) self.old.items }
         requires hash { hash ≡ hash_under S.BuildHasher S.Hasher.Hasher self.old.hasher (T.Key.hash_input (T.key item)) }
-        ensures inserted { OnOk result (HashInserts ⟦<Self as Keyed>⟧.keyed item self.old self.new) }
+        ensures inserts { OnOk result (HashInserts ⟦<Self as Keyed>⟧.keyed item self.old self.new) }
         ensures placed { IfOk result (TakesSlot item hash self.old self.new) }
         ensures kept { OnErr result (HashKeeps ⟦<Self as Keyed>⟧.keyed self.old self.new) }
         ensures refused { IfErr result (HandsBack T.key T.Key.eq self.old item) }

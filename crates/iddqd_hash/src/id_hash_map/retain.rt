@@ -12,7 +12,7 @@ use iddqd_store::{IdHashItem, Visit};
 use std::hash::BuildHasher;
 
 impl<T: IdHashItem, S: BuildHasher> IdHashMap<T, S> {
-    ghost use Rattle.iddqd_hash.specs.Guard.{with_item_in};
+    ghost use Rattle.iddqd_hash.specs.Guard.{VisitsSlot};
     ghost use Rattle.iddqd_hash.specs.HashItems.{holding_of};
     ghost use Rattle.iddqd_hash.specs.HashMap.{HashStays, LosesPlaceOf};
 
@@ -63,7 +63,7 @@ impl<T: IdHashItem, S: BuildHasher> IdHashMap<T, S> {
         requires keyed { ⟦<Self as Keyed>⟧.keyed self.old }
         requires keeps_keys { VisitsKeepKeys T.key T.Key.eq V.visits }
         requires there { IsSome (item_of_slot self.old.slots self.old.items slot) }
-        ensures visited { (x y : T) × (item_of_slot self.old.slots self.old.items slot ≡ Some x) × (V.visits visitor.old x ≡ (visitor.new, y, result)) × (self.new ≡ with_item_in self.old slot y) }
+        ensures visited { VisitsSlot V.visits visitor.old visitor.new slot self.old self.new result }
         ensures keyed { ⟦<Self as Keyed>⟧.keyed self.new }
     {
         visitor.visit(self.item_in_slot_mut(slot))

@@ -1,7 +1,7 @@
 //! Room for items.
-ghost use Rattle.std.specs.Prelude.{◌≡◌, ◌+◌, ◌<◌, ◌≤◌, [], length, IfOk, IfErr, OnOk, OnErr};
+ghost use Rattle.std.specs.Prelude.{◌≡◌, ◌<◌, ◌≤◌, length, IfOk, IfErr, OnOk, OnErr};
 ghost use Rattle.iddqd_store.specs.Refusal.{memory_refused, reservation_kind};
-ghost use Rattle.iddqd_hash.specs.HashMap.{HashKeeps, HashShrinks, SpareFits};
+ghost use Rattle.iddqd_hash.specs.HashMap.{HasNoItems, HashKeeps, HashShrinks, LacksRoomFor, Reserves, SpareFits};
 
 use super::compact::compact;
 use super::store_and_index::{reserve_room, shrink_room};
@@ -14,7 +14,7 @@ use std::hash::BuildHasher;
 impl<T: IdHashItem> IdHashMap<T> {
     /// As `with_capacity_and_hasher`, over the default hasher.
     pub fn with_capacity(alloc: Global, capacity: usize) -> Result<Self, TryReserveError>
-        ensures empty { IfOk result (λ m. m ≡ record m { items = []; slots = []; hashes = []; vacant = 0; limit = MAX_ITEMS }) }
+        ensures empty { IfOk result (HasNoItems MAX_ITEMS) }
         ensures spare { IfOk result (λ m. capacity ≤ m.spare) }
         ensures within_limit { IfOk result SpareFits }
         ensures capacity { IfOk result (λ m. capacity ≤ m.capacity) }
@@ -37,7 +37,7 @@ impl<T: IdHashItem, S: BuildHasher> IdHashMap<T, S> {
     ) -> Result<Self, TryReserveError>
     where
         S: Drop,
-        ensures empty { IfOk result (λ m. m ≡ record m { items = []; slots = []; hashes = []; vacant = 0; limit = MAX_ITEMS }) }
+        ensures empty { IfOk result (HasNoItems MAX_ITEMS) }
         ensures spare { IfOk result (λ m. capacity ≤ m.spare) }
         ensures within_limit { IfOk result SpareFits }
         ensures capacity { IfOk result (λ m. capacity ≤ m.capacity) }
@@ -60,11 +60,8 @@ impl<T: IdHashItem, S: BuildHasher> IdHashMap<T, S> {
     /// which it needs only where the spare is short. The items stay, and the spare is no less. It hashes no key.
     pub fn reserve(&mut self, additional: usize) -> Result<(), TryReserveError>
         requires keyed { ⟦<Self as Keyed>⟧.keyed self.old }
-        ensures spare { OnOk result (additional ≤ self.new.spare) }
-        ensures capacity { OnOk result (length self.old.items + additional ≤ self.new.capacity) }
-        ensures in_limit { OnOk result (length self.old.items + additional ≤ self.old.limit) }
-        ensures refused { IfErr result (λ e. e ≡ reservation_kind self.old.limit (length self.old.items + additional)) }
-        ensures needed { OnErr result (self.old.spare < additional) }
+        ensures reserves { OnOk result (Reserves additional self.old self.new) }
+        ensures refused { IfErr result (LacksRoomFor additional self.old) }
         ensures kept { HashKeeps ⟦<Self as Keyed>⟧.keyed self.old self.new }
     {
         reserve_room(&mut self.store, &mut self.index, additional)
@@ -73,11 +70,8 @@ impl<T: IdHashItem, S: BuildHasher> IdHashMap<T, S> {
     /// The same call by its other name.
     pub fn try_reserve(&mut self, additional: usize) -> Result<(), TryReserveError>
         requires keyed { ⟦<Self as Keyed>⟧.keyed self.old }
-        ensures spare { OnOk result (additional ≤ self.new.spare) }
-        ensures capacity { OnOk result (length self.old.items + additional ≤ self.new.capacity) }
-        ensures in_limit { OnOk result (length self.old.items + additional ≤ self.old.limit) }
-        ensures refused { IfErr result (λ e. e ≡ reservation_kind self.old.limit (length self.old.items + additional)) }
-        ensures needed { OnErr result (self.old.spare < additional) }
+        ensures reserves { OnOk result (Reserves additional self.old self.new) }
+        ensures refused { IfErr result (LacksRoomFor additional self.old) }
         ensures kept { HashKeeps ⟦<Self as Keyed>⟧.keyed self.old self.new }
     {
         self.reserve(additional)

@@ -1,7 +1,7 @@
 //! From slot to slot, in the order of their numbers.
-ghost use Rattle.std.specs.Prelude.{ℕ, ◌≡◌, ◌<◌, ◌≤◌, length, IfNone, IfSome, Some, slice_get};
+ghost use Rattle.std.specs.Prelude.{◌≡◌, ◌<◌, length, IfNone, IfSome};
 ghost use Rattle.iddqd_store.specs.SlotItems.{HaveSlots};
-ghost use Rattle.iddqd_hash.specs.SlotOrder.{behind, slots_below};
+ghost use Rattle.iddqd_hash.specs.SlotOrder.{AreRising, IsNext, slots_below};
 
 use super::IdHashMap;
 
@@ -10,10 +10,10 @@ impl<T, S> IdHashMap<T, S> {
 
     // The first slot from this number on that has an item, or `None`. It looks at each slot up to that one.
     pub(super) fn slot_from(&self, from: u32) -> Option<u32>
-        ensures there { IfSome result (λ slot. slice_get self.now.slots (slots_below from self.now.slots) ≡ Some slot) }
+        ensures there { IfSome result (IsNext self.now.slots from) }
         ensures fits { IfSome result (λ slot. slot < u32.MAX) }
         ensures none { IfNone result (slots_below from self.now.slots ≡ length self.now.slots) }
-        ensures rises { (n : ℕ) → n ≤ length self.now.slots → slots_below (behind self.now.slots n) self.now.slots ≡ n }
+        ensures rises { AreRising self.now.slots }
         ensures spare { SpareFits self.now }
         ensures own { HaveSlots self.now.slots self.now.items }
     {

@@ -1,17 +1,16 @@
 //! What looks into the store and the index together, or changes both. Only the search looks at keys.
-ghost use Rattle.std.specs.Prelude.{◌≡◌, ℕ, ◌+◌, ◌-◌, ◌<◌, ◌≤◌, length, IfErr, IfSome, OnOk, OnErr, Some, None, IsTrue, Contains};
+ghost use Rattle.std.specs.Prelude.{◌≡◌, ◌+◌, ◌-◌, ◌<◌, ◌≤◌, length, IfErr, IfSome, OnOk, OnErr, Some, None, Contains};
 ghost use Rattle.std.specs.Prelude.{min as least};
-ghost use Rattle.std.specs.Option.{option_and_then};
-ghost use Rattle.iddqd_store.specs.Contents.{NoTwoAkin, find_item};
-ghost use Rattle.iddqd_hash_index.specs.HashPairs.{HasOneMore, SamePairs, of_hash};
-ghost use Rattle.iddqd_store.specs.Refusal.{memory_refused, refusal_kind, reservation_kind};
+ghost use Rattle.iddqd_store.specs.Contents.{NoTwoAkin};
+ghost use Rattle.iddqd_hash_index.specs.HashPairs.{HasOneMore, SamePairs};
+ghost use Rattle.iddqd_store.specs.Refusal.{memory_refused, refusal_kind};
 ghost use Rattle.iddqd_store.specs.Store.{item_at, store_len, vacant, HasRoomFor, Updates};
-ghost use Rattle.iddqd_hash.specs.StoreAndIndex.{PairsOccupied, hash_of_slot, items_in, spare_in};
+ghost use Rattle.iddqd_hash.specs.StoreAndIndex.{AreHashed, GrowsRoom, IsKindOf, IsSlotFound, KeepsBounds, PairsOccupied, items_in, room_in, spare_in};
 
 use iddqd_hash_index::HashIndex;
 use iddqd_store::{Equivalent, IdHashItem, ItemStore, Steps, TryReserveError};
 
-// The slot of the item that the query finds, by as many comparisons as `find_slot_counted`.
+// Returns the slot of the item that the query finds. Keys are compared only at slots that are listed with this hash.
 #[inline]
 pub(super) fn find_slot<T: IdHashItem, Q: Equivalent<T::Key>>(
     store: &ItemStore<T>,
@@ -21,31 +20,11 @@ pub(super) fn find_slot<T: IdHashItem, Q: Equivalent<T::Key>>(
 ) -> Option<u32>
     requires paired { PairsOccupied store.now index.now.pairs }
     requires differ { NoTwoAkin T.key T.Key.eq (items_in store.now) }
-    requires stored { (slot : ℕ) (x : T) → item_at store.now slot ≡ Some x → IsTrue (Q.equivalent query.now (T.key x)) → hash_of_slot index.now.pairs slot ≡ hash }
-    ensures item { option_and_then (item_at store.now) result ≡ find_item T.key (Q.equivalent query.now) (items_in store.now) }
+    requires stored { AreHashed T.key (Q.equivalent query.now) store.now index.now.pairs hash }
+    ensures item { IsSlotFound T.key (Q.equivalent query.now) store.now result }
     ensures listed { IfSome result (λ slot. Contains index.now.pairs (hash, slot)) }
 {
-    find_slot_counted(store, index, hash, query, &mut Steps::new())
-}
-
-// The same with the comparisons counted. Keys are compared only at slots that are listed with this hash.
-#[inline]
-pub(super) fn find_slot_counted<T: IdHashItem, Q: Equivalent<T::Key>>(
-    store: &ItemStore<T>,
-    index: &HashIndex,
-    hash: u64,
-    query: &Q,
-    steps: &mut Steps,
-) -> Option<u32>
-    requires paired { PairsOccupied store.now index.now.pairs }
-    requires differ { NoTwoAkin T.key T.Key.eq (items_in store.now) }
-    requires stored { (slot : ℕ) (x : T) → item_at store.now slot ≡ Some x → IsTrue (Q.equivalent query.now (T.key x)) → hash_of_slot index.now.pairs slot ≡ hash }
-    ensures item { option_and_then (item_at store.now) result ≡ find_item T.key (Q.equivalent query.now) (items_in store.now) }
-    ensures listed { IfSome result (λ slot. Contains index.now.pairs (hash, slot)) }
-    ensures steps { steps.new ≤ steps.old + of_hash index.now.pairs hash }
-    ensures never_resets { steps.old ≤ steps.new }
-{
-    index.find(store, hash, query, steps)
+    index.find(store, hash, query, &mut Steps::new())
 }
 
 // Makes room for one more item in both: the limit is asked first, then memory.
@@ -61,10 +40,7 @@ pub(super) fn reserve_one<T>(
     ensures listable { OnOk result (0 < index.new.spare) }
     ensures kind { IfErr result (λ e. e ≡ refusal_kind store.old.limit index.old.pairs) }
     ensures needed { OnErr result (spare_in store.old index.old ≡ 0) }
-    ensures store { store.new ≡ record store.old { capacity = store.new.capacity } }
-    ensures capacity { store.old.capacity ≤ store.new.capacity }
-    ensures pairs { SamePairs index.old.pairs index.new.pairs }
-    ensures spare { index.old.spare ≤ index.new.spare }
+    ensures grows { GrowsRoom store.old store.new index.old index.new }
 {
     if store.len() == store.limit() as usize {
         return Err(TryReserveError::capacity_overflow());
@@ -84,12 +60,9 @@ pub(super) fn reserve_room<T>(
     ensures in_limit { OnOk result (length index.old.pairs + additional ≤ store.old.limit) }
     ensures spare_left { OnOk result (additional ≤ spare_in store.new index.new) }
     ensures capacity_left { OnOk result (length index.old.pairs + additional ≤ store.new.capacity) }
-    ensures kind { IfErr result (λ e. e ≡ reservation_kind store.old.limit (length index.old.pairs + additional)) }
+    ensures kind { IfErr result (IsKindOf store.old.limit (length index.old.pairs + additional)) }
     ensures needed { OnErr result (spare_in store.old index.old < additional) }
-    ensures store { store.new ≡ record store.old { capacity = store.new.capacity } }
-    ensures capacity { store.old.capacity ≤ store.new.capacity }
-    ensures pairs { SamePairs index.old.pairs index.new.pairs }
-    ensures spare { index.old.spare ≤ index.new.spare }
+    ensures grows { GrowsRoom store.old store.new index.old index.new }
 {
     store.try_reserve(additional)?;
     index.try_reserve(additional)
@@ -111,7 +84,7 @@ pub(super) fn shrink_room<T>(
     ensures keeps_min { least min store.old.capacity ≤ store.new.capacity }
     ensures frees { store_len store.old ≡ 0 → min ≡ 0 → OnOk result (store.new.capacity ≡ 0) }
     ensures pairs { SamePairs index.old.pairs index.new.pairs }
-    ensures spare { least min (spare_in store.old index.old + store_len store.old) ≤ spare_in store.new index.new + store_len store.new }
+    ensures spare { least min (room_in store.old index.old) ≤ room_in store.new index.new }
 {
     index.shrink(min)?;
     store.shrink_to(min)
@@ -130,8 +103,7 @@ pub(super) fn put_in<T>(store: &mut ItemStore<T>, index: &mut HashIndex, hash: u
     ensures spare { index.old.spare ≤ index.new.spare + 1 }
     ensures len { store_len store.new ≡ store_len store.old + 1 }
     ensures vacant { vacant store.new ≡ vacant store.old - 1 }
-    ensures capacity { store.new.capacity ≡ store.old.capacity }
-    ensures limit { store.new.limit ≡ store.old.limit }
+    ensures bounds { KeepsBounds store.old store.new }
 {
     let slot = store.insert_reserved(item);
     index.add_reserved(hash, slot);
@@ -155,8 +127,7 @@ pub(super) fn take_out<T>(
     ensures spare { index.old.spare + 1 ≤ index.new.spare }
     ensures len { store_len store.new + 1 ≡ store_len store.old }
     ensures vacant { vacant store.new ≡ vacant store.old + 1 }
-    ensures capacity { store.new.capacity ≡ store.old.capacity }
-    ensures limit { store.new.limit ≡ store.old.limit }
+    ensures bounds { KeepsBounds store.old store.new }
 {
     index.remove(hash, slot);
     store.remove(slot)
@@ -178,8 +149,7 @@ pub(super) fn exchange<T>(
     ensures updates { Updates store.old store.new slot (Some item) }
     ensures spare { spare_in store.new index.now ≡ spare_in store.old index.now }
     ensures vacant { vacant store.new ≡ vacant store.old }
-    ensures capacity { store.new.capacity ≡ store.old.capacity }
-    ensures limit { store.new.limit ≡ store.old.limit }
+    ensures bounds { KeepsBounds store.old store.new }
 {
     store.replace(slot, item)
 }

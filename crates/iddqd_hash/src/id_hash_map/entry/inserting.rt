@@ -13,7 +13,7 @@ impl<T: IdHashItem, S: BuildHasher> IdHashMap<T, S> {
     pub(super) fn insert_absent(&mut self, item: T) -> Result<(u32, u64), Refused<T>>
         requires keyed { ⟦<Self as Keyed>⟧.keyed self.old }
         requires absent { IsAbsent T.key (T.Key.eq (T.key item)) self.old.items }
-        ensures inserted { OnOk result (HashInserts ⟦<Self as Keyed>⟧.keyed item self.old self.new) }
+        ensures inserts { OnOk result (HashInserts ⟦<Self as Keyed>⟧.keyed item self.old self.new) }
         ensures placed { IfOk result (λ at. TakesSlot item at.1 self.old self.new at.0) }
         ensures kept { OnErr result (HashKeeps ⟦<Self as Keyed>⟧.keyed self.old self.new) }
         ensures refused { IfErr result (HandsBack T.key T.Key.eq self.old item) }

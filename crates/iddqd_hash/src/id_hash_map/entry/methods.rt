@@ -1,9 +1,8 @@
 //! The calls of an entry that is occupied or vacant.
-ghost use Rattle.std.specs.Prelude.{◌≡◌, IfErr, IfOk, IfSome, IsSome, IsTrue, None};
+ghost use Rattle.std.specs.Prelude.{◌≡◌, IfErr, IfOk, None};
 ghost use Rattle.std.specs.Borrow.{sem};
-ghost use Rattle.iddqd_hash.specs.Entry.{LacksKeyOf, LendsFound, LendsIfVacant, LendsMade, ModifiesEntry, entry_item, entry_map, entry_lender, lends_or_keeps};
+ghost use Rattle.iddqd_hash.specs.Entry.{HandsBackFrom, LacksKeyOf, LendsIfOccupied, LendsIfVacant, LendsMade, ModifiesEntry, VisitKeepsKey, entry_item, entry_map, entry_lender, lends_or_keeps};
 ghost use Rattle.iddqd_hash.specs.Guard.{GuardKeeps, GuardKeepsAkin, guard_lender};
-ghost use Rattle.iddqd_hash.specs.HashMap.{HandsBack};
 
 use super::{Entry, OccupiedEntry};
 use crate::id_hash_map::{IdHashMap, Keyed, RefMut};
@@ -21,13 +20,13 @@ impl<'a, T: IdHashItem, S: BuildHasher> Entry<'a, T, S> {
         requires keyed { ⟦<IdHashMap<T, S> as Keyed>⟧.keyed (entry_map self) }
         requires absent { entry_item self ≡ None → LacksKeyOf T.key T.Key.eq item self }
         ensures same_map { IfOk result (λ r. guard_lender r ≡ entry_lender self.entry) }
-        ensures found { IfOk result (λ r. IsSome (entry_item self.entry) → LendsFound self.entry r) }
+        ensures found { IfOk result (LendsIfOccupied self.entry) }
         ensures inserted { IfOk result (LendsIfVacant ⟦<IdHashMap<T, S> as Keyed>⟧.keyed item self.entry) }
         ensures keyed { IfOk result (GuardKeeps T.key ⟦<IdHashMap<T, S> as Keyed>⟧.keyed) }
         ensures keyed_akin { IfOk result (GuardKeepsAkin T.key T.Key.eq ⟦<IdHashMap<T, S> as Keyed>⟧.keyed) }
         ensures* kept { sem 𝓛 (lends_or_keeps S.row T.row ⟦<IdHashMap<T, S> as Keyed>⟧.keyed self.entry result) }
         ensures absent { IfErr result (λ refused. entry_item self.entry ≡ None) }
-        ensures refused { IfErr result (HandsBack T.key T.Key.eq (entry_map self.entry) item) }
+        ensures refused { IfErr result (HandsBackFrom T.key T.Key.eq self.entry item) }
     {
         match self {
             Entry::Occupied(entry) => {
@@ -48,14 +47,14 @@ impl<'a, T: IdHashItem, S: BuildHasher> Entry<'a, T, S> {
         requires callable { entry_item self ≡ None → F.pre make }
         requires absent { entry_item self ≡ None → (x : T) → F.post make x → LacksKeyOf T.key T.Key.eq x self }
         ensures same_map { IfOk result (λ r. guard_lender r ≡ entry_lender self.entry) }
-        ensures found { IfOk result (λ r. IsSome (entry_item self.entry) → LendsFound self.entry r) }
+        ensures found { IfOk result (LendsIfOccupied self.entry) }
         ensures inserted { IfOk result (LendsMade ⟦<IdHashMap<T, S> as Keyed>⟧.keyed (F.post make) self.entry) }
         ensures keyed { IfOk result (GuardKeeps T.key ⟦<IdHashMap<T, S> as Keyed>⟧.keyed) }
         ensures keyed_akin { IfOk result (GuardKeepsAkin T.key T.Key.eq ⟦<IdHashMap<T, S> as Keyed>⟧.keyed) }
         ensures* kept { sem 𝓛 (lends_or_keeps S.row T.row ⟦<IdHashMap<T, S> as Keyed>⟧.keyed self.entry result) }
         ensures absent { IfErr result (λ refused. entry_item self.entry ≡ None) }
         ensures item { IfErr result (λ refused. F.post make refused.item) }
-        ensures refused { IfErr result (λ e. HandsBack T.key T.Key.eq (entry_map self.entry) e.item e) }
+        ensures refused { IfErr result (λ e. HandsBackFrom T.key T.Key.eq self.entry e.item e) }
     {
         match self {
             Entry::Occupied(entry) => {
@@ -74,7 +73,7 @@ impl<'a, T: IdHashItem, S: BuildHasher> Entry<'a, T, S> {
     /// guard to a closure). The visit may not change the key. It hashes and compares no keys.
     pub fn and_modify<V: Visit<T>>(self, visitor: &mut V) -> Entry<'a, T, S>
         requires keyed { ⟦<IdHashMap<T, S> as Keyed>⟧.keyed (entry_map self) }
-        requires keeps_key { IfSome (entry_item self) (λ x. IsTrue (T.Key.eq (T.key x) (T.key (V.visits visitor.old x).1))) }
+        requires keeps_key { VisitKeepsKey T.key T.Key.eq V.visits visitor.old self }
         ensures same_map { entry_lender result ≡ entry_lender self.entry }
         ensures modified { ModifiesEntry V.visits visitor.old self.entry visitor.new result }
         ensures keyed { ⟦<IdHashMap<T, S> as Keyed>⟧.keyed (entry_map result) }

@@ -1,11 +1,8 @@
 //! The item of an entry: read, lent, replaced, taken out. None of this looks for it again, and none takes memory.
-ghost use Rattle.std.specs.Prelude.{◌≡◌, IfSome, IsTrue, Some};
+ghost use Rattle.std.specs.Prelude.{◌≡◌, IfSome, Some};
 ghost use Rattle.std.specs.Borrow.{sem};
-ghost use Rattle.iddqd_store.specs.Holding.{Removes};
-ghost use Rattle.iddqd_hash.specs.Entry.{EntryKeeps, EntryKeepsAkin, Occupied, entry_follows, entry_item, entry_map, entry_lender, entry_others, entry_slot, entry_with};
+ghost use Rattle.iddqd_hash.specs.Entry.{EntryKeeps, EntryKeepsAkin, HasKeyOf, Occupied, RemovesEntry, entry_follows, entry_item, entry_map, entry_lender, entry_others, entry_slot, entry_with};
 ghost use Rattle.iddqd_hash.specs.Guard.{GuardKeeps, GuardKeepsAkin, lent_map, guard_lender, lent_slot, shown_item, shown_map, shown_lender};
-ghost use Rattle.iddqd_hash.specs.HashItems.{holding_of};
-ghost use Rattle.iddqd_hash.specs.HashMap.{HashStays};
 
 use super::OccupiedEntry;
 use crate::id_hash_map::{IdHashMap, Keyed, RefMut, Shown};
@@ -70,7 +67,7 @@ impl<'a, T: IdHashItem, S: BuildHasher> OccupiedEntry<'a, T, S> {
     /// its key's spelling too. It hashes and compares no keys.
     pub fn insert(&mut self, item: T) -> T
         requires keyed { ⟦<IdHashMap<T, S> as Keyed>⟧.keyed (entry_map (Occupied self.old)) }
-        requires akin { IfSome (entry_item (Occupied self.old)) (λ x. IsTrue (T.Key.eq (T.key item) (T.key x))) }
+        requires akin { IfSome (entry_item (Occupied self.old)) (HasKeyOf T.key T.Key.eq item) }
         ensures old { entry_item (Occupied self.old) ≡ Some result }
         ensures new { entry_item (Occupied self.new) ≡ Some item }
         ensures same_map { entry_lender (Occupied self.new) ≡ entry_lender (Occupied self.old) }
@@ -85,10 +82,7 @@ impl<'a, T: IdHashItem, S: BuildHasher> OccupiedEntry<'a, T, S> {
     /// Takes the item out, and answers it. Its slot is vacant then, and its room is spare. It hashes and compares no keys.
     pub fn remove(self) -> T
         requires keyed { ⟦<IdHashMap<T, S> as Keyed>⟧.keyed (entry_map (Occupied self)) }
-        ensures value { entry_item (Occupied self.entry) ≡ Some result }
-        ensures items { self.exit.0.now.items ≡ entry_others (Occupied self.entry) }
-        ensures removed { Removes (Some result) (holding_of (entry_map (Occupied self.entry))) (holding_of self.exit.0.now) }
-        ensures stays { HashStays ⟦<IdHashMap<T, S> as Keyed>⟧.keyed (entry_map (Occupied self.entry)) self.exit.0.now }
+        ensures removed { RemovesEntry ⟦<IdHashMap<T, S> as Keyed>⟧.keyed result self.entry self.exit.0.now }
     {
         let slot = self.slot;
         let hash = self.hash;

@@ -1,9 +1,8 @@
 //! Insertions where no item was found. The limit is looked at first, then memory, and only then is anything changed.
 ghost use Rattle.std.specs.Prelude.{◌≡◌, IfErr, IfOk};
 ghost use Rattle.std.specs.Borrow.{sem};
-ghost use Rattle.iddqd_hash.specs.Entry.{EntersInserted, LacksKeyOf, LendsInserted, Occupied, Vacant, entry_map, entry_lender, enters_or_keeps, lends_or_keeps};
+ghost use Rattle.iddqd_hash.specs.Entry.{EntersInserted, HandsBackFrom, LacksKeyOf, LendsInserted, Occupied, Vacant, entry_map, entry_lender, enters_or_keeps, lends_or_keeps};
 ghost use Rattle.iddqd_hash.specs.Guard.{GuardKeeps, GuardKeepsAkin, guard_lender};
-ghost use Rattle.iddqd_hash.specs.HashMap.{HandsBack};
 
 use super::{OccupiedEntry, VacantEntry};
 use crate::id_hash_map::{IdHashMap, Keyed, RefMut};
@@ -25,7 +24,7 @@ impl<'a, T: IdHashItem, S: BuildHasher> VacantEntry<'a, T, S> {
         ensures keyed { IfOk result (GuardKeeps T.key ⟦<IdHashMap<T, S> as Keyed>⟧.keyed) }
         ensures keyed_akin { IfOk result (GuardKeepsAkin T.key T.Key.eq ⟦<IdHashMap<T, S> as Keyed>⟧.keyed) }
         ensures* kept { sem 𝓛 (lends_or_keeps S.row T.row ⟦<IdHashMap<T, S> as Keyed>⟧.keyed (Vacant self.entry) result) }
-        ensures refused { IfErr result (HandsBack T.key T.Key.eq (entry_map (Vacant self.entry)) item) }
+        ensures refused { IfErr result (HandsBackFrom T.key T.Key.eq (Vacant self.entry) item) }
     {
         let VacantEntry { map } = self;
         match map.insert_absent(item) {
@@ -45,7 +44,7 @@ impl<'a, T: IdHashItem, S: BuildHasher> VacantEntry<'a, T, S> {
         ensures same_map { IfOk result (λ e. entry_lender (Occupied e) ≡ entry_lender (Vacant self.entry)) }
         ensures inserted { IfOk result (EntersInserted ⟦<IdHashMap<T, S> as Keyed>⟧.keyed item (Vacant self.entry)) }
         ensures* kept { sem 𝓛 (enters_or_keeps S.row T.row ⟦<IdHashMap<T, S> as Keyed>⟧.keyed (Vacant self.entry) result) }
-        ensures refused { IfErr result (HandsBack T.key T.Key.eq (entry_map (Vacant self.entry)) item) }
+        ensures refused { IfErr result (HandsBackFrom T.key T.Key.eq (Vacant self.entry) item) }
     {
         let VacantEntry { map } = self;
         match map.insert_absent(item) {

@@ -1,8 +1,8 @@
 //! Making a writing walk, and its steps.
-ghost use Rattle.std.specs.Prelude.{◌≡◌, ◌-◌, ◌<◌, ◌↔◌, IsSome, length, slice_get};
+ghost use Rattle.std.specs.Prelude.{◌≡◌, ◌-◌, ◌<◌, ◌↔◌, IsSome, length};
 ghost use Rattle.std.specs.Borrow.{sem};
 ghost use Rattle.std.specs.Option.{option_copied_mut};
-ghost use Rattle.iddqd_hash.specs.WritingWalk.{WalkKeeps, WalkKeepsAkin, walk_done, walk_lends, walk_map, walk_lender};
+ghost use Rattle.iddqd_hash.specs.WritingWalk.{WalkKeeps, WalkKeepsAkin, walk_done, walk_item, walk_lends, walk_map, walk_lender};
 
 use super::IterMut;
 use crate::id_hash_map::{IdHashMap, Keyed};
@@ -42,7 +42,7 @@ impl<T: IdHashItem, S: BuildHasher> IterMut<'_, T, S> {
     /// map stays keyed if the key written is equal to the item's.
     pub fn next(&mut self) -> Option<&mut T>
         ensures* writes_back { sem 𝓛 (walk_lends S.row T.row self.entry result) }
-        ensures value { option_copied_mut result ≡ slice_get (walk_map self.old).items (walk_done self.old) }
+        ensures value { option_copied_mut result ≡ walk_item self.old }
         ensures found { IsSome result ↔ (walk_done self.old < length (walk_map self.old).items) }
         ensures keyed { WalkKeeps T.key ⟦<IdHashMap<T, S> as Keyed>⟧.keyed self.old result }
         ensures keyed_akin { WalkKeepsAkin T.key ⟦<IdHashMap<T, S> as Keyed>⟧.keyed T.Key.eq self.old result }

@@ -1,7 +1,7 @@
 use Rattle.std.proofs.Common.{ap, subst, arith}
 use Rattle.iddqd_store.specs.Hashing.{hash_under}
 use Rattle.iddqd_hash.specs.HashMap.{KeepsSpare}
-use Rattle.iddqd_hash.specs.StoreAndIndex.{hash_items_of}
+use Rattle.iddqd_hash.specs.StoreAndIndex.{map_of}
 use Rattle.iddqd_hash.proofs.MapLemmas.{emptied_keyed, emptied_spare}
 use Rattle.iddqd_hash.proofs.StoreAndIndexLemmas.{paired_empty}
 use Rattle.iddqd_hash.specs.HashItems.{IsKeyed}
@@ -14,7 +14,7 @@ pub returns-clause-stays : goal.returns-clause-stays
 unfolding IsKeyed
 returns-clause-stays g c =
     let m = c.self.inside in
-    let new = hash_items_of c.clear.new.self c.clear-2.new.self m.hasher in
+    let new = map_of c.clear.new.self c.clear-2.new.self m.hasher in
     let none = ap (λ s. s.slots) c.clear.ensures in
     let capacity = ap (λ s. s.capacity) c.clear.ensures in
     record {

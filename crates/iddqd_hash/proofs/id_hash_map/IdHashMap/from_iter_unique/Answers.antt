@@ -13,7 +13,7 @@ loop-item-preserved g c =
     let x = c.in-Some.item in
     let inv = c.loop-item.invariant in
     let goes = on x c.in-Some.is c.next.ensures.goes inv.1 in
-    let put = c.in_ok-insert_first.ensures.inserted in (
+    let put = c.in_ok-insert_first.ensures.inserts in (
       goes.0,
       goes.1,
       collects_last x c.loop-item.yielded c.loop-item.map.items c.insert_first.new.self.items inv.2 put.takes.added,
@@ -28,11 +28,7 @@ pub returns-in-Err : goal.returns-in-Err
 returns-in-Err g c = record {
   items = tt;
   repeat = tt;
-  vacant = tt;
-  limit = tt;
-  spare = tt;
-  hasher = tt;
-  keyed = tt;
+  collected = tt;
 }
 
 pub returns-in_err-insert_first : goal.returns-in_err-insert_first
@@ -45,11 +41,7 @@ returns-in_err-insert_first g c =
     rw back.1 (record {
       items = tt;
       repeat = shows_first key g.met.T.Key.Eq.laws c.loop-item.yielded items inv.2 inv.7.differ gives c.in-Some.item _ (gives_then g.U.IntoIterator.into_iter_gives g.U.IntoIter.Iterator.next_gives c.args.iter c.loop-item.yielded c.in-Some.item (search rules)) (rw back.2 c.in_err-insert_first.ensures.akin);
-      vacant = tt;
-      limit = tt;
-      spare = tt;
-      hasher = tt;
-      keyed = tt;
+      collected = tt;
     })
 
 pub returns : goal.returns
@@ -60,11 +52,7 @@ returns g c =
     record {
       items = (c.loop-item.yielded, gives_all g.U.IntoIterator.into_iter_gives g.U.IntoIter.Iterator.next_gives c.args.iter c.loop-item.yielded (search rules), collected_differ key g.met.T.Key.Eq.laws c.loop-item.yielded c.loop-item.map.items inv.2 inv.7.differ, inv.2);
       repeat = tt;
-      vacant = inv.4;
-      limit = inv.5;
-      spare = inv.3;
-      hasher = search rules;
-      keyed = inv.7;
+      collected = record { vacant = inv.4; limit = inv.5; spare = inv.3; hasher = search rules; keyed = inv.7 };
     }
 
 pub loop-item-init : goal.loop-item-init

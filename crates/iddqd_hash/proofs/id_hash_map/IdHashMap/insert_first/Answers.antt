@@ -2,12 +2,12 @@ use Rattle.std.proofs.Common.{◌∙◌, ◌≡◌, Some, sym, ap, subst}
 use Rattle.iddqd_store.specs.Contents.{find_item}
 use Rattle.iddqd_store.specs.Hashing.{hash_under}
 use Rattle.iddqd_hash.specs.HashItems.{IsKeyed, KeyedItems}
-use Rattle.iddqd_hash.specs.StoreAndIndex.{items_in, hash_items_of}
+use Rattle.iddqd_hash.specs.StoreAndIndex.{items_in, map_of}
 use Rattle.iddqd_hash.proofs.MapLemmas.{listed_under_query}
 use Rattle.iddqd_hash.proofs.id_hash_map.IdHashMap.insert_first.Given.{Over}
 use Rattle.iddqd_hash.proofs.id_hash_map.IdHashMap.insert_first.Goals as goal
 
-keyed_inside : (g : Over) (c : goal.After-key-2 g) → KeyedItems g.T.IdHashItem.key g.T.Key.PartialEq.eq g.T.Key.Hash.hash_input (hash_under g.S.BuildHasher g.S.Hasher.Hasher) (hash_items_of c.self.inside.store c.self.inside.index c.self.inside.hasher)
+keyed_inside : (g : Over) (c : goal.After-key-2 g) → KeyedItems g.T.IdHashItem.key g.T.Key.PartialEq.eq g.T.Key.Hash.hash_input (hash_under g.S.BuildHasher g.S.Hasher.Hasher) (map_of c.self.inside.store c.self.inside.index c.self.inside.hasher)
 unfolding IsKeyed
 keyed_inside g c = subst (KeyedItems g.T.IdHashItem.key g.T.Key.PartialEq.eq g.T.Key.Hash.hash_input (hash_under g.S.BuildHasher g.S.Hasher.Hasher)) (sym c.self.view_is) c.requires.keyed
 

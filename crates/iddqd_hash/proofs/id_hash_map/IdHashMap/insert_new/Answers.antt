@@ -9,7 +9,7 @@ use Rattle.iddqd_store.proofs.RefusalLemmas.{kind_by_length}
 use Rattle.iddqd_store.proofs.WrittenLemmas.{told_of_slot}
 use Rattle.iddqd_hash.specs.HashItems.{IsKeyed, KeyedItems}
 use Rattle.iddqd_hash.specs.HashMap.{HashInserts, HashKeeps}
-use Rattle.iddqd_hash.specs.StoreAndIndex.{items_in, hash_items_of}
+use Rattle.iddqd_hash.specs.StoreAndIndex.{items_in, map_of}
 use Rattle.iddqd_hash.proofs.EntryLemmas.{added_item, added_others, added_written}
 use Rattle.iddqd_hash.proofs.MapLemmas.{inserted_after, map_inserted, map_kept}
 use Rattle.iddqd_hash.proofs.SlotItemLemmas.{length-items}
@@ -33,12 +33,12 @@ returns-in-Err-clause-kept g c =
     let m = c.self.inside in
     let room = c.reserve_one.new in
     let keyed = subst (KeyedItems key eq input hash) (sym c.self.view_is) c.requires.keyed in
-    subst (λ old. HashKeeps (KeyedItems key eq input hash) old (hash_items_of room.store room.index m.hasher)) c.self.view_is
-    (map_kept key eq input hash m.hasher m.store room.store m.index room.index c.self.invariant c.reserve_one.ensures.paired keyed c.reserve_one.ensures.store c.reserve_one.ensures.capacity c.reserve_one.ensures.pairs c.reserve_one.ensures.spare)
+    subst (λ old. HashKeeps (KeyedItems key eq input hash) old (map_of room.store room.index m.hasher)) c.self.view_is
+    (map_kept key eq input hash m.hasher m.store room.store m.index room.index c.self.invariant c.reserve_one.ensures.paired keyed c.reserve_one.ensures.grows.store c.reserve_one.ensures.grows.capacity c.reserve_one.ensures.grows.pairs c.reserve_one.ensures.grows.spare)
 
-pub returns-clause-inserted : goal.returns-clause-inserted
+pub returns-clause-inserts : goal.returns-clause-inserts
 unfolding IsKeyed
-returns-clause-inserted g c =
+returns-clause-inserts g c =
     let key = g.T.IdHashItem.key in
     let eq = g.T.Key.PartialEq.eq in
     let input = g.T.Key.Hash.hash_input in
@@ -48,7 +48,7 @@ returns-clause-inserted g c =
     let put = c.put_in in
     let x = c.args.item in
     let keyed = subst (KeyedItems key eq input hash) (sym c.self.view_is) c.requires.keyed in
-    let kept = map_kept key eq input hash m.hasher m.store room.store m.index room.index c.self.invariant c.reserve_one.ensures.paired keyed c.reserve_one.ensures.store c.reserve_one.ensures.capacity c.reserve_one.ensures.pairs c.reserve_one.ensures.spare in
+    let kept = map_kept key eq input hash m.hasher m.store room.store m.index room.index c.self.invariant c.reserve_one.ensures.paired keyed c.reserve_one.ensures.grows.store c.reserve_one.ensures.grows.capacity c.reserve_one.ensures.grows.pairs c.reserve_one.ensures.grows.spare in
     let absent = subst (λ v. IsAbsent key (eq (key x)) v.items) (sym c.self.view_is) c.requires.absent in
     let told = c.requires.hash ∙ ap (λ v. hash v.hasher (input (key x))) (sym c.self.view_is) in
     let below : length (items_in m.store) < m.store.limit = omega (arith, c.in_default.ensures.below_limit, c.self.invariant.counted, length-items m.store.slots) in
@@ -57,9 +57,9 @@ returns-clause-inserted g c =
     (subst (IsAbsent key (eq (key x))) (sym kept.keeps.items) absent)
     room_left
     (subst (λ h. HasOneMore room.index.pairs put.new.index.pairs (h, put.result)) told put.ensures.pairs)
-    put.ensures.was_vacant put.ensures.updates put.ensures.spare put.ensures.len put.ensures.vacant put.ensures.capacity put.ensures.limit in
-    subst (λ old. HashInserts (KeyedItems key eq input hash) x old (hash_items_of put.new.store put.new.index m.hasher)) c.self.view_is
-    (inserted_after key eq input hash x (hash_items_of m.store m.index m.hasher) (hash_items_of room.store room.index m.hasher) (hash_items_of put.new.store put.new.index m.hasher) kept inserted)
+    put.ensures.was_vacant put.ensures.updates put.ensures.spare put.ensures.len put.ensures.vacant put.ensures.bounds.capacity put.ensures.bounds.limit in
+    subst (λ old. HashInserts (KeyedItems key eq input hash) x old (map_of put.new.store put.new.index m.hasher)) c.self.view_is
+    (inserted_after key eq input hash x (map_of m.store m.index m.hasher) (map_of room.store room.index m.hasher) (map_of put.new.store put.new.index m.hasher) kept inserted)
 
 pub returns-clause-placed : goal.returns-clause-placed
 unfolding IsKeyed
@@ -71,14 +71,14 @@ returns-clause-placed g c =
     let x = c.args.item in
     let room = c.reserve_one.new.store in
     let put = c.put_in in
-    let new = hash_items_of put.new.store put.new.index m.hasher in
+    let new = map_of put.new.store put.new.index m.hasher in
     let slot = put.result in
     let tell = λ (y : g.row.T.Denot). hash m.hasher (input (key y)) in
     let there = added_item room put.new.store slot x put.ensures.was_vacant put.ensures.updates in
-    let same = ap (λ s. items_in s) c.reserve_one.ensures.store ∙ ap (λ v. v.items) c.self.view_is in
+    let same = ap (λ s. items_in s) c.reserve_one.ensures.grows.store ∙ ap (λ v. v.items) c.self.view_is in
     record {
       there = there;
-      listed = ap (λ hashes. item_of_slot new.slots hashes slot) (returns-clause-inserted g c).stays.keyed.stored
+      listed = ap (λ hashes. item_of_slot new.slots hashes slot) (returns-clause-inserts g c).stays.keyed.stored
           ∙ told_of_slot tell new.slots new.items slot
           ∙ ap (option_map tell) there
           ∙ ap (λ v. Some (hash v.hasher (input (key x)))) c.self.view_is

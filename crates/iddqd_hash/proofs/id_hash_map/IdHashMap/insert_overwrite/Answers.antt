@@ -5,13 +5,13 @@ use Rattle.iddqd_store.specs.Contents.{find_item, items_overwritten}
 use Rattle.iddqd_store.specs.Hashing.{hash_under}
 use Rattle.iddqd_hash.specs.HashItems.{IsKeyed, KeyedItems}
 use Rattle.iddqd_hash.specs.HashMap.{KeepsSpare}
-use Rattle.iddqd_hash.specs.StoreAndIndex.{hash_of_slot, hashes_in, items_in, hash_items_of, slots_in}
+use Rattle.iddqd_hash.specs.StoreAndIndex.{hash_of_slot, hashes_in, items_in, map_of, slots_in}
 use Rattle.iddqd_hash.proofs.FoundLemmas.{found_passes}
 use Rattle.iddqd_hash.proofs.MapLemmas.{exchanged_numbers, exchanged_items, exchanged_keyed, keeps_spare, listed_under_query}
 use Rattle.iddqd_hash.proofs.id_hash_map.IdHashMap.insert_overwrite.Given.{Over}
 use Rattle.iddqd_hash.proofs.id_hash_map.IdHashMap.insert_overwrite.Goals as goal
 
-keyed_inside : (g : Over) (c : goal.After-key-2 g) → KeyedItems g.T.IdHashItem.key g.T.Key.PartialEq.eq g.T.Key.Hash.hash_input (hash_under g.S.BuildHasher g.S.Hasher.Hasher) (hash_items_of c.self.inside.store c.self.inside.index c.self.inside.hasher)
+keyed_inside : (g : Over) (c : goal.After-key-2 g) → KeyedItems g.T.IdHashItem.key g.T.Key.PartialEq.eq g.T.Key.Hash.hash_input (hash_under g.S.BuildHasher g.S.Hasher.Hasher) (map_of c.self.inside.store c.self.inside.index c.self.inside.hasher)
 unfolding IsKeyed
 keyed_inside g c = subst (KeyedItems g.T.IdHashItem.key g.T.Key.PartialEq.eq g.T.Key.Hash.hash_input (hash_under g.S.BuildHasher g.S.Hasher.Hasher)) (sym c.self.view_is) c.requires.keyed
 
@@ -40,8 +40,8 @@ returns-in-Some-clause-stays g c =
     let paired = c.exchange.ensures.paired in
     record {
       keyed = exchanged_keyed key eq input hash m.hasher m.store new m.index g.met.T.Key.Eq.laws keyed c.in-Some.slot x y c.exchange.ensures.item alike c.exchange.ensures.updates g.met.T.Key.Hash.respects_eq;
-      spare = subst (λ old. KeepsSpare old (hash_items_of new m.index m.hasher)) c.self.view_is
-          (keeps_spare key eq input hash m.hasher m.store new m.index m.index c.self.invariant paired (omega (arith, c.self.invariant.counted, paired.counted)) (omega (arith, c.exchange.ensures.capacity)) c.exchange.ensures.limit);
+      spare = subst (λ old. KeepsSpare old (map_of new m.index m.hasher)) c.self.view_is
+          (keeps_spare key eq input hash m.hasher m.store new m.index m.index c.self.invariant paired (omega (arith, c.self.invariant.counted, paired.counted)) (omega (arith, c.exchange.ensures.bounds.capacity)) c.exchange.ensures.bounds.limit);
       hasher = ap (λ v. v.hasher) c.self.view_is;
     }
 
@@ -81,8 +81,8 @@ returns-in-Some-clause-replaced g c =
     let hasher = ap (λ v. v.hasher) c.self.view_is in
     let spare = c.exchange.ensures.spare ∙ ap (λ v. v.spare) c.self.view_is in
     let vacant = c.exchange.ensures.vacant ∙ ap (λ v. v.vacant) c.self.view_is in
-    let capacity = c.exchange.ensures.capacity ∙ ap (λ v. v.capacity) c.self.view_is in
-    let limit = c.exchange.ensures.limit ∙ ap (λ v. v.limit) c.self.view_is in
+    let capacity = c.exchange.ensures.bounds.capacity ∙ ap (λ v. v.capacity) c.self.view_is in
+    let limit = c.exchange.ensures.bounds.limit ∙ ap (λ v. v.limit) c.self.view_is in
     cc
 
 pub returns-in_err-insert_new-in-None : goal.returns-in_err-insert_new-in-None
@@ -104,7 +104,7 @@ returns-in_ok-insert_new-in-None g c =
     let key = g.T.IdHashItem.key in
     let eq = g.T.Key.PartialEq.eq in
     let absent : find_item key (eq (key c.args.item)) c.args.self.now.items ≡ None = ap (λ v. find_item key (eq (key c.args.item)) v.items) (sym c.self.view_is) ∙ ap (λ k. find_item key (eq k) (items_in c.self.inside.store)) (sym c.key-2.ensures) ∙ sym c.in-None.ensures.item in
-    let put = c.in_ok-insert_new-in-None.ensures.inserted in
+    let put = c.in_ok-insert_new-in-None.ensures.inserts in
     record {
       found = sym absent;
       replaced = tt;

@@ -4,7 +4,7 @@ use Rattle.iddqd_store.specs.Contents.{IsAbsent, items_without}
 use Rattle.iddqd_store.specs.Hashing.{hash_under}
 use Rattle.iddqd_hash.specs.HashItems.{IsKeyed, KeyedItems}
 use Rattle.iddqd_hash.specs.HashMap.{KeepsSpare}
-use Rattle.iddqd_hash.specs.StoreAndIndex.{items_in, hash_items_of}
+use Rattle.iddqd_hash.specs.StoreAndIndex.{items_in, map_of}
 use Rattle.iddqd_hash.proofs.FoundLemmas.{found_passes, without_absent}
 use Rattle.iddqd_hash.proofs.MapLemmas.{listed_under_query, same_spare, taken_items, taken_keyed, taken_spare}
 use Rattle.iddqd_hash.proofs.SlotItemLemmas.{slot_left}
@@ -67,8 +67,8 @@ returns-clause-stays g c =
     let one_key = g.met.Q.Equivalent.one_key c.args.query.now in
     record {
       keyed = taken_keyed key eq input hash m.hasher m.store new.store m.index new.index c.self.invariant out.ensures.paired g.met.T.Key.Eq.laws test one_key keyed c.in_ok-slot.slot x out.ensures.item passes c.hash_one-hash.result out.ensures.pairs out.ensures.updates;
-      spare = subst (λ old. KeepsSpare old (hash_items_of new.store new.index m.hasher)) c.self.view_is
-          (taken_spare key eq input hash m.hasher m.store new.store m.index new.index c.self.invariant out.ensures.paired g.met.T.Key.Eq.laws test one_key keyed c.in_ok-slot.slot x out.ensures.item passes out.ensures.spare out.ensures.len out.ensures.capacity out.ensures.limit);
+      spare = subst (λ old. KeepsSpare old (map_of new.store new.index m.hasher)) c.self.view_is
+          (taken_spare key eq input hash m.hasher m.store new.store m.index new.index c.self.invariant out.ensures.paired g.met.T.Key.Eq.laws test one_key keyed c.in_ok-slot.slot x out.ensures.item passes out.ensures.spare out.ensures.len out.ensures.bounds.capacity out.ensures.bounds.limit);
       hasher = ap (λ v. v.hasher) c.self.view_is;
     }
 
@@ -84,8 +84,8 @@ returns-clause-removed g c =
       };
       vacant = out.vacant ∙ ap (λ v. v.vacant + 1) c.self.view_is;
       unchanged = tt;
-      capacity = out.capacity ∙ ap (λ v. v.capacity) c.self.view_is;
-      limit = out.limit ∙ ap (λ v. v.limit) c.self.view_is;
+      capacity = out.bounds.capacity ∙ ap (λ v. v.capacity) c.self.view_is;
+      limit = out.bounds.limit ∙ ap (λ v. v.limit) c.self.view_is;
     }
 
 pub returns-clause-value : goal.returns-clause-value

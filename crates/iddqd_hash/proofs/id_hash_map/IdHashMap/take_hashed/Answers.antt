@@ -7,7 +7,7 @@ use Rattle.iddqd_store.specs.Store.{item_at}
 use Rattle.iddqd_store.proofs.StoreLemmas.{updates-set}
 use Rattle.iddqd_hash.specs.HashItems.{IsKeyed, KeyedItems}
 use Rattle.iddqd_hash.specs.HashMap.{KeepsSpare}
-use Rattle.iddqd_hash.specs.StoreAndIndex.{hash_items_of}
+use Rattle.iddqd_hash.specs.StoreAndIndex.{map_of}
 use Rattle.iddqd_hash.proofs.FoundLemmas.{same_numbers}
 use Rattle.iddqd_hash.proofs.SlotItemLemmas.{same_items, slot_left}
 use Rattle.iddqd_hash.proofs.EntryLemmas.{listed_told}
@@ -58,8 +58,8 @@ returns-clause-stays g c =
     let keyed = subst (KeyedItems key eq input hash) (sym c.self.view_is) c.requires.keyed in
     record {
       keyed = taken_keyed key eq input hash m.hasher m.store out.new.store m.index out.new.index c.self.invariant out.ensures.paired equivalence (eq (key x)) (equivalence.congr (key x)) keyed c.args.slot x out.ensures.item (equivalence.refl (key x)) c.args.hash out.ensures.pairs out.ensures.updates;
-      spare = subst (λ old. KeepsSpare old (hash_items_of out.new.store out.new.index m.hasher)) c.self.view_is
-          (taken_spare key eq input hash m.hasher m.store out.new.store m.index out.new.index c.self.invariant out.ensures.paired equivalence (eq (key x)) (equivalence.congr (key x)) keyed c.args.slot x out.ensures.item (equivalence.refl (key x)) out.ensures.spare out.ensures.len out.ensures.capacity out.ensures.limit);
+      spare = subst (λ old. KeepsSpare old (map_of out.new.store out.new.index m.hasher)) c.self.view_is
+          (taken_spare key eq input hash m.hasher m.store out.new.store m.index out.new.index c.self.invariant out.ensures.paired equivalence (eq (key x)) (equivalence.congr (key x)) keyed c.args.slot x out.ensures.item (equivalence.refl (key x)) out.ensures.spare out.ensures.len out.ensures.bounds.capacity out.ensures.bounds.limit);
       hasher = ap (λ v. v.hasher) c.self.view_is;
     }
 
@@ -75,8 +75,8 @@ returns-clause-removed g c =
       };
       vacant = out.vacant ∙ ap (λ v. v.vacant + 1) c.self.view_is;
       unchanged = tt;
-      capacity = out.capacity ∙ ap (λ v. v.capacity) c.self.view_is;
-      limit = out.limit ∙ ap (λ v. v.limit) c.self.view_is;
+      capacity = out.bounds.capacity ∙ ap (λ v. v.capacity) c.self.view_is;
+      limit = out.bounds.limit ∙ ap (λ v. v.limit) c.self.view_is;
     }
 
 pub invariant_of-self : goal.invariant_of-self

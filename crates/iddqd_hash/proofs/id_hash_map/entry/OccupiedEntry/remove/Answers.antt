@@ -1,14 +1,17 @@
 use Rattle.std.proofs.Common.{◌∙◌, sym}
-use Rattle.iddqd_store.proofs.WrittenLemmas.{SlotPlace, slot_place}
-use Rattle.iddqd_hash.proofs.id_hash_map.entry.OccupiedEntry.remove.Given.{Over}
+use Rattle.iddqd_store.proofs.WrittenLemmas.{slot_place}
 use Rattle.iddqd_hash.proofs.id_hash_map.entry.OccupiedEntry.remove.Goals as goal
 
-place : (g : Over) (c : goal.After-take_hashed g) → SlotPlace c.args.self.map.now.slots c.args.self.map.now.items c.args.self.slot c.take_hashed.result
-place g c =
+pub returns : goal.returns
+returns g c =
     let e = c.args.self in
-    slot_place e.map.now.slots e.map.now.items e.slot c.take_hashed.result c.take_hashed.ensures.value
-
-pub returns-clause-items : goal.returns-clause-items
-returns-clause-items g c =
-    let p = place g c in
-    (c.take_hashed.ensures.gone p.place p.slot_there).0 ∙ sym p.others
+    let taken = c.take_hashed.ensures in
+    let p = slot_place e.map.now.slots e.map.now.items e.slot c.take_hashed.result taken.value in
+    record {
+      removed = record {
+        item = taken.value;
+        others = (taken.gone p.place p.slot_there).0 ∙ sym p.others;
+        removes = taken.removed;
+        stays = taken.stays;
+      };
+    }

@@ -1,5 +1,5 @@
 use Rattle.iddqd_hash.proofs.MapLemmas.{search_item}
-use Rattle.iddqd_hash.proofs.id_hash_map.store_and_index.find_slot_counted.Goals as goal
+use Rattle.iddqd_hash.proofs.id_hash_map.store_and_index.find_slot.Goals as goal
 
 pub returns-clause-item : goal.returns-clause-item
 returns-clause-item g c =
