@@ -9,7 +9,7 @@
 --     HashFills, HashShrinks      items were inserted; the slots were closed up, and memory was given back
 --     IsEmptyMap, HasNoItems, SpareFits, KeepsSpare      no item and no room; no item; the room fits the limit; the spare stays
 --     Reserves, LacksRoomFor      room was made, or refused
---     InsertsIfAbsent, ReplacesIfFound      what `insert_overwrite` leaves
+--     InsertsNew, ReplacesIfFound      what `insert_overwrite` leaves
 --     OverwritesGiven, StopsOverwriting, SpareFirst, KeepsIfNoItem      what `extend` leaves
 --     Collects, HoldsAll, IsCollected      what a map collects
 --     RefusesItem, ShowsConflict      what `insert_unique` and `extend_unique` show
@@ -22,16 +22,16 @@
 --     lends_item, item_follows, guard_follows, rests_at_none, with_item_in      what a guard leaves
 --     Occupied, Vacant, entry_map, entry_lender, entry_item, entry_slot, entry_with, entry_others      what an entry holds
 --     IsEntryOf, IsEntryFor, PassesTest      what `entry` finds
---     LacksKeyOf, HasKeyOf, VisitKeepsKey      what the calls of an entry ask of the item
+--     LacksKeyOf, LacksKeysOf, HasKeyOf, VisitKeepsKey      what the calls of an entry ask of the item
 --     LendsFound, LendsInserted, LendsIfOccupied, LendsIfVacant, LendsMade, EntersInserted      what they lend
---     HandsBackFrom, ModifiesEntry, RemovesEntry      what else they leave
+--     HandsBackFrom, ModifiesEntry, RemovesAt      what else they leave
 --     EntryKeeps, EntryKeepsAkin, entry_follows, rests_if_refused, lends_or_keeps, enters_or_keeps      what an entry leaves
 --     walk_map, walk_lender, walk_done, walk_with      what a walk that lends items for writing holds
 --     WalkKeeps, WalkKeepsAkin, walk_lends      what a step of such a walk leaves
 unfoldable pub use Rattle.iddqd_hash.specs.HashItems.{IsKeyed}
 pub use Rattle.iddqd_hash.specs.HashItems.{HashItems, HashesAsKeys, IsKeyedByText, default_hash, differ_from_keyed, holding_of, of_same_hash, of_stored_hash, text_writes}
-pub use Rattle.iddqd_hash.specs.HashMap.{CloneHashesAlike, Collects, FindsEqual, HandsBack, HasItemOf, HasNoItems, HashFills, HashInserts, HashKeeps, HashShrinks, HashStays, HaveEqualItems, HoldsAll, InsertsIfAbsent, IsCollected, IsEmptyMap, IsFound, KeepsIfNoItem, KeepsOthers, KeepsSpare, LacksRoomFor, OverwritesGiven, RefusesItem, ReplacesIfFound, Reserves, ShowsConflict, SpareFirst, SpareFits, StopsOverwriting, ends_hash_extended, ends_hash_inserted, lends_nothing}
+pub use Rattle.iddqd_hash.specs.HashMap.{CloneHashesAlike, Collects, FindsEqual, HandsBack, HasItemOf, HasNoItems, HashFills, HashInserts, HashKeeps, HashShrinks, HashStays, HaveEqualItems, HoldsAll, InsertsNew, IsCollected, IsEmptyMap, IsFound, KeepsIfNoItem, KeepsOthers, KeepsSpare, LacksRoomFor, OverwritesGiven, RefusesItem, ReplacesIfFound, Reserves, ShowsConflict, SpareFirst, SpareFits, StopsOverwriting, ends_hash_extended, ends_hash_inserted, lends_nothing}
 pub use Rattle.iddqd_hash.specs.Guard.{GuardFinds, GuardKeeps, GuardKeepsAkin, GuardOverwrites, guard_follows, item_follows, lends_item, lent_item, lent_map, guard_lender, lent_slot, lent_with, rests_at_none, shown_item, shown_map, shown_lender, with_item_in}
 pub use Rattle.iddqd_hash.specs.declared.id_hash_map.entry.Entry.TheVariants.{Occupied, Vacant}
-pub use Rattle.iddqd_hash.specs.Entry.{EntersInserted, EntryKeeps, EntryKeepsAkin, HandsBackFrom, HasKeyOf, IsEntryFor, IsEntryOf, LacksKeyOf, LendsFound, LendsIfOccupied, LendsIfVacant, LendsInserted, LendsMade, ModifiesEntry, PassesTest, RemovesEntry, VisitKeepsKey, enters_or_keeps, entry_follows, entry_item, entry_map, entry_lender, entry_others, entry_slot, entry_with, lends_or_keeps, rests_if_refused}
+pub use Rattle.iddqd_hash.specs.Entry.{EntersInserted, EntryKeeps, EntryKeepsAkin, HandsBackFrom, HasKeyOf, IsEntryFor, IsEntryOf, LacksKeyOf, LacksKeysOf, LendsFound, LendsIfOccupied, LendsIfVacant, LendsInserted, LendsMade, ModifiesEntry, PassesTest, RemovesAt, VisitKeepsKey, enters_or_keeps, entry_follows, entry_item, entry_map, entry_lender, entry_others, entry_slot, entry_with, lends_or_keeps, rests_if_refused}
 pub use Rattle.iddqd_hash.specs.WritingWalk.{WalkKeeps, WalkKeepsAkin, walk_done, walk_item, walk_lends, walk_map, walk_lender, walk_with}

@@ -3,11 +3,11 @@
 --     entry_item, entry_slot      the item there, if there is one, and the slot of an occupied entry
 --     entry_with e w      the map once w stands in the entry's place; where there is none, the map
 --     entry_others e      the items but for the entry's
---     LacksKeyOf      no item of the entry's map has a key equal to this item's
+--     LacksKeyOf, LacksKeysOf      no item of the entry's map has a key equal to this item's, or to that of one that a closure makes
 --     IsEntryOf, IsEntryFor      the entry of an item, or of none; the entry of what a query finds
 --     PassesTest, HasKeyOf, VisitKeepsKey      the key of an item, and after a visit
 --     HandsBackFrom      the refused item is returned
---     RemovesEntry      the entry's item was taken out
+--     RemovesAt      the entry's item was taken out
 --     LendsIfOccupied      if the entry is occupied, its item is lent
 --     LendsFound, LendsInserted, EntersInserted      the entry's item is lent; the inserted one is, or has this entry
 --     LendsIfVacant, LendsMade      if the entry is vacant, the inserted item is lent, this one or one that a closure made
@@ -110,6 +110,10 @@ module _ {S T K : Type 0} (key : T → K) where
   abbrev pub LacksKeyOf : (K → K → Bool) → T → Entry T S → Type 0
   LacksKeyOf eq x e = IsAbsent key (eq (key x)) (entry_map e).items
 
+  -- the same of each item that a closure makes
+  abbrev pub LacksKeysOf : (K → K → Bool) → (T → Type 0) → Entry T S → Type 0
+  LacksKeysOf eq made e = (x : T) → made x → LacksKeyOf eq x e
+
   -- the visit of the entry's item would leave it an equal key
   abbrev pub VisitKeepsKey : {V : Type 0} → (K → K → Bool) → (V → T → V × T × Bool) → V → Entry T S → Type 0
   VisitKeepsKey eq visits v e = IfSome (entry_item e) (λ x. HasKeyOf key eq x (visits v x).1)
@@ -120,7 +124,7 @@ module _ {S T K : Type 0} (key : T → K) where
 
 module _ {S T : Type 0} (IsKeyed : HashItems S T → Type 0) where
   -- the entry's item was taken out of its map
-  pub record RemovesEntry (x : T) (e : OccupiedEntry T S) (new : HashItems S T) : Type 0 where
+  pub record RemovesAt (x : T) (e : OccupiedEntry T S) (new : HashItems S T) : Type 0 where
     pub item : entry_item (Occupied e) ≡ Some x
     pub others : new.items ≡ entry_others (Occupied e)
     pub removes : Removes (Some x) (holding_of (entry_map (Occupied e))) (holding_of new)
@@ -134,6 +138,7 @@ module _ {S T : Type 0} (IsKeyed : HashItems S T → Type 0) where
 
   -- x was inserted into the entry's map, and this is its entry
   pub record EntersInserted (x : T) (e : Entry T S) (found : OccupiedEntry T S) : Type 0 where
+    pub lender : entry_lender (Occupied found) ≡ entry_lender e
     pub inserts : HashInserts IsKeyed x (entry_map e) (entry_map (Occupied found))
     pub item : entry_item (Occupied found) ≡ Some x
     pub written : (w : T) → AddsItem w (entry_map e).items (entry_with (Occupied found) w).items

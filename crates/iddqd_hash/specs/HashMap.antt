@@ -10,16 +10,16 @@
 --     HashKeeps      nothing has changed but the room, which may have grown
 --     HashFills      items were inserted
 --     HashShrinks      the slots were closed up, and memory was given back
---     ReplacesIfFound, InsertsIfAbsent      what an overwriting leaves, if an item was found and if none was
+--     ReplacesIfFound, InsertsNew      what an overwriting leaves, if an item was found and if none was
 --     Reserves, LacksRoomFor      room was made, or refused
 --     OverwritesGiven, StopsOverwriting, HasSpareFirst, SpareFirst, KeepsIfNoItem      what `extend` leaves
 --     Collects, HoldsAll, IsCollected      what a map collects
---     AddsIterated, ShowsConflict, HaltsIterated      what `extend_unique` leaves and shows
+--     ShowsConflict, AddsEach      what `extend_unique` leaves and shows
 --     IsFound, HasItemOf, KeepsOthers      an item is found, has the place of its key, or has left
 --     HandsBack      an item was refused for want of room, and is returned
 --     HaveEqualItems      what `eq` of two maps says
 --     CloneHashesAlike      a hasher's clone hashes as it does
-use Rattle.std.specs.Prelude.{◌≡◌, ℕ, ◌+◌, ◌<◌, ◌≤◌, [], List, length, Bool, true, All, IfErr, IfNone, IfSome, OnSome, Option, IsPermutation, IsSomeAnd, Result, Some, remove, slice_get}
+use Rattle.std.specs.Prelude.{◌≡◌, ℕ, ◌+◌, ◌<◌, ◌≤◌, [], List, length, Bool, true, All, IfErr, IfNone, IfSome, OnOk, OnSome, Option, IsPermutation, IsSomeAnd, Result, Some, remove, slice_get}
 use Rattle.std.specs.Prelude.{min as least}
 use Rattle.std.specs.Borrow.{Fml, RattleType, MutBor, Lends, LendsSoOk, unit}
 use Rattle.std.specs.Hash.{HashWrites}
@@ -100,8 +100,8 @@ module _ {S T : Type 0} where
       pub stays : HashStays old new
 
     -- if no item was found, x was inserted
-    abbrev pub InsertsIfAbsent : T → HashItems S T → HashItems S T → Option T → Type 0
-    InsertsIfAbsent x old new found = IfNone found (HashInserts x old new)
+    abbrev pub InsertsNew : T → HashItems S T → HashItems S T → Option T → Type 0
+    InsertsNew x old new found = IfNone found (HashInserts x old new)
 
     -- if no item came back, nothing has changed but the room
     abbrev pub KeepsIfNoItem : HashItems S T → HashItems S T → ExtendError T → Type 0
@@ -179,13 +179,11 @@ module _ {S T K : Type 0} (key : T → K) (eq : K → K → Bool) where
     abbrev pub ShowsConflict : HashItems S T → ExtendUniqueError T → Type 0
     ShowsConflict m e = ShowsFirstConflict key eq (GivesThen becomes steps iter) m.items e
 
-    -- all items were inserted
-    abbrev pub AddsIterated : HashItems S T → HashItems S T → Type 0
-    AddsIterated old new = AddsGiven key eq (GivesAll becomes steps iter) old.items new.items
-
-    -- an item was not, and those before it were
-    abbrev pub HaltsIterated : HashItems S T → HashItems S T → Halt T → Type 0
-    HaltsIterated old new halt = HaltsAdding key eq (GivesThen becomes steps iter) (holding_of old) (holding_of new) halt
+    -- all items were inserted; or one was not, and those before it were
+    abbrev pub AddsEach : {A : Type 0} → HashItems S T → HashItems S T → Result A (Halt T) → Type 0
+    AddsEach old new result =
+        OnOk result (AddsGiven key eq (GivesAll becomes steps iter) old.items new.items)
+        × IfErr result (HaltsAdding key eq (GivesThen becomes steps iter) (holding_of old) (holding_of new))
 
 -- x was refused for want of room, which a spare one would have had, and is returned
 pub record HandsBack {S T K : Type 0} (key : T → K) (eq : K → K → Bool) (m : HashItems S T) (x : T) (refused : Refused T) : Type 0 where
@@ -193,9 +191,9 @@ pub record HandsBack {S T K : Type 0} (key : T → K) (eq : K → K → Bool) (m
   pub no_room : FindsNoRoom key eq m.limit m.items x refused.error
   pub no_spare : m.spare ≡ 0
 
--- each clone of the hasher gives every value the hash that the hasher gives it (ours, a premise of `clone`)
-abbrev pub CloneHashesAlike : {S : Type 0} → (S → S → Type 0) → (S → HashWrites → ℕ) → S → Type 0
-CloneHashesAlike is_clone hash hasher = (copy : _) → is_clone hasher copy → (writes : HashWrites) → hash copy writes ≡ hash hasher writes
+-- with a clone of its hasher the map hashes every value as it does (a premise of `clone`)
+abbrev pub CloneHashesAlike : {S T : Type 0} → (S → S → Type 0) → (HashItems S T → HashWrites → ℕ) → HashItems S T → Type 0
+CloneHashesAlike is_clone hash m = (copy : _) → is_clone m.hasher copy → (writes : HashWrites) → hash (record m { hasher = copy }) writes ≡ hash m writes
 
 -- what the map is once what an insertion shows is let go: at `Ok` the item is in; at `Err` the items are as they were, and beside a duplicate all is
 abbrev pub ends_hash_inserted : (S T : RattleType) (IsKeyed : HashItems S.Denot T.Denot → Type 0) → MutBor (HashItems S.Denot T.Denot) → Result (MutBor unit.Denot) (InsertError T.Denot) → T.Denot → Fml

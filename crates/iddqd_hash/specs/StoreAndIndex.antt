@@ -93,7 +93,7 @@ module _ {T : Type 0} where
 
   -- a slot is listed exactly where it is occupied, and once; there is memory for the items, and no more of them than the limit
   pub record PairsOccupied (store : Store T) (pairs : List (ℕ × ℕ)) : Type 0 where
-    pub each_once : (slot : ℕ) → of_slot pairs slot ≡ (if is_some (item_at store slot) then 1 else 0)
+    pub each_once : (n : ℕ) → of_slot pairs n ≡ (if is_some (item_at store n) then 1 else 0)
     pub counted : length pairs ≡ store_len store
     pub in_memory : store_len store ≤ store.capacity
     pub in_limit : store_len store ≤ store.limit

@@ -78,14 +78,22 @@ impl<T, S> Model for IdHashMap<T, S> {
 
 /// What a map asks of its items before they can be looked for (ours). It has no code: contracts cite it.
 pub trait Keyed {
+    ghost use Rattle.std.specs.Prelude.{ℕ};
+    ghost use Rattle.std.specs.Hash.{HashWrites};
+
     // The items lie as lookups expect them.
     ghost keyed: { Self → Type 0 };
+
+    // The hash that the map's hasher makes of these writes.
+    ghost hash: { Self → HashWrites → ℕ };
 }
 
 impl<T: IdHashItem, S: BuildHasher> Keyed for IdHashMap<T, S> {
     ghost use Rattle.iddqd_hash.specs.HashItems.{IsKeyed};
 
     ghost keyed = { IsKeyed T.key T.Key.eq T.Key.hash_input (hash_under S.BuildHasher S.Hasher.Hasher) };
+
+    ghost hash = { λ m. hash_under S.BuildHasher S.Hasher.Hasher m.hasher };
 }
 
 impl<T, S> IdHashMap<T, S> {

@@ -2,7 +2,6 @@
 ghost use Rattle.std.specs.Prelude.{◌≡◌, IfErr, IfOk};
 ghost use Rattle.std.specs.List.{AllZip};
 ghost use Rattle.iddqd_store.specs.Contents.{ClonesKeepKeys};
-ghost use Rattle.iddqd_store.specs.Hashing.{hash_under};
 ghost use Rattle.iddqd_store.specs.Refusal.{memory_refused};
 
 use super::{IdHashMap, Keyed};
@@ -21,7 +20,7 @@ impl<T: IdHashItem, S: BuildHasher> IdHashMap<T, S> {
         S: Clone,
         requires keyed { ⟦<Self as Keyed>⟧.keyed self.now }
         requires keeps_keys { ClonesKeepKeys T.key T.Key.eq T.is_clone }
-        requires hashes_alike { CloneHashesAlike S.is_clone (hash_under S.BuildHasher S.Hasher.Hasher) self.now.hasher }
+        requires hashes_alike { CloneHashesAlike S.is_clone ⟦<Self as Keyed>⟧.hash self.now }
         ensures items { IfOk result (λ copy. AllZip T.is_clone self.now.items copy.items) }
         ensures slots { IfOk result (λ copy. copy.slots ≡ self.now.slots) }
         ensures vacant { IfOk result (λ copy. copy.vacant ≡ self.now.vacant) }

@@ -1,7 +1,6 @@
 //! Lookups and removals.
 ghost use Rattle.std.specs.Prelude.{◌≡◌, ◌+◌, ◌≤◌, IfNone, option_copied, is_some};
 ghost use Rattle.iddqd_store.specs.Contents.{find_item};
-ghost use Rattle.iddqd_store.specs.Hashing.{hash_under};
 ghost use Rattle.iddqd_store.specs.Holding.{Removes};
 
 use super::store_and_index::{find_slot, take_out};
@@ -36,7 +35,7 @@ impl<T: IdHashItem, S: BuildHasher> IdHashMap<T, S> {
         requires hashes { HashesAsKeys Q.equivalent Q.hash_input T.Key.hash_input query.now }
         ensures found { IsFound T.key (Q.equivalent query.now) self.now (option_copied result) }
         ensures spare { SpareFits self.now }
-        ensures steps { steps.new ≤ steps.old + of_same_hash (hash_under S.BuildHasher S.Hasher.Hasher) self.now (Q.hash_input query.now) }
+        ensures steps { steps.new ≤ steps.old + of_same_hash ⟦<Self as Keyed>⟧.hash self.now (Q.hash_input query.now) }
         ensures never_resets { steps.old ≤ steps.new }
     {
         let hash = self.hasher.hash_one(query);

@@ -2,7 +2,6 @@
 ghost use Rattle.std.specs.Prelude.{◌≡◌, IfOk, IfErr, OnOk, OnErr};
 ghost use Rattle.std.specs.Borrow.{sem};
 ghost use Rattle.iddqd_store.specs.Contents.{IsAbsent};
-ghost use Rattle.iddqd_store.specs.Hashing.{hash_under};
 ghost use Rattle.iddqd_store.specs.Refusal.{OnRefused};
 
 use super::store_and_index::{exchange, find_slot, put_in, reserve_one};
@@ -11,7 +10,7 @@ use iddqd_store::{DuplicateItem, Few, IdHashItem, InsertError, Refused};
 use std::hash::BuildHasher;
 
 impl<T: IdHashItem, S: BuildHasher> IdHashMap<T, S> {
-    ghost use Rattle.iddqd_hash.specs.HashMap.{HandsBack, HasItemOf, HashInserts, HashKeeps, HashStays, InsertsIfAbsent, IsFound, RefusesItem, ReplacesIfFound, TakesSlot, ends_hash_inserted, lends_nothing};
+    ghost use Rattle.iddqd_hash.specs.HashMap.{HandsBack, HasItemOf, HashInserts, HashKeeps, HashStays, InsertsNew, IsFound, RefusesItem, ReplacesIfFound, TakesSlot, ends_hash_inserted, lends_nothing};
 
     /// Inserts the item where none of an equal key is there. A duplicate needs no memory and lends the item that is there;
     /// then the map is as it was. A full map and refused memory hand the item back, and then the items are as they were
@@ -45,7 +44,7 @@ impl<T: IdHashItem, S: BuildHasher> IdHashMap<T, S> {
         requires keyed { ⟦<Self as Keyed>⟧.keyed self.old }
         ensures found { IfOk result (IsFound T.key (T.Key.eq (T.key item)) self.old) }
         ensures replaced { IfOk result (ReplacesIfFound T.key T.Key.eq item self.old self.new) }
-        ensures inserted { IfOk result (InsertsIfAbsent ⟦<Self as Keyed>⟧.keyed item self.old self.new) }
+        ensures inserted { IfOk result (InsertsNew ⟦<Self as Keyed>⟧.keyed item self.old self.new) }
         ensures there { OnOk result (HasItemOf T.key T.Key.eq item self.new) }
         ensures refused { IfErr result (HandsBack T.key T.Key.eq self.old item) }
         ensures kept { OnErr result (HashKeeps ⟦<Self as Keyed>⟧.keyed self.old self.new) }
@@ -74,7 +73,7 @@ impl<T: IdHashItem, S: BuildHasher> IdHashMap<T, S> {
     pub(super) fn insert_new(&mut self, hash: u64, item: T) -> Result<u32, Refused<T>>
         requires keyed { ⟦<Self as Keyed>⟧.keyed self.old }
         requires absent { IsAbsent T.key (T.Key.eq (T.key item)) self.old.items }
-        requires hash { hash ≡ hash_under S.BuildHasher S.Hasher.Hasher self.old.hasher (T.Key.hash_input (T.key item)) }
+        requires hash { hash ≡ ⟦<Self as Keyed>⟧.hash self.old (T.Key.hash_input (T.key item)) }
         ensures inserts { OnOk result (HashInserts ⟦<Self as Keyed>⟧.keyed item self.old self.new) }
         ensures placed { IfOk result (TakesSlot item hash self.old self.new) }
         ensures kept { OnErr result (HashKeeps ⟦<Self as Keyed>⟧.keyed self.old self.new) }

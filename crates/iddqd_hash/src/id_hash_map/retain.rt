@@ -63,7 +63,7 @@ impl<T: IdHashItem, S: BuildHasher> IdHashMap<T, S> {
         requires keyed { ⟦<Self as Keyed>⟧.keyed self.old }
         requires keeps_keys { VisitsKeepKeys T.key T.Key.eq V.visits }
         requires there { IsSome (item_of_slot self.old.slots self.old.items slot) }
-        ensures visited { VisitsSlot V.visits visitor.old visitor.new slot self.old self.new result }
+        ensures visits { VisitsSlot V.visits visitor.old visitor.new slot self.old self.new result }
         ensures keyed { ⟦<Self as Keyed>⟧.keyed self.new }
     {
         visitor.visit(self.item_in_slot_mut(slot))

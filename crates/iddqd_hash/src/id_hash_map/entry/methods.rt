@@ -1,7 +1,7 @@
 //! The calls of an entry that is occupied or vacant.
 ghost use Rattle.std.specs.Prelude.{◌≡◌, IfErr, IfOk, None};
 ghost use Rattle.std.specs.Borrow.{sem};
-ghost use Rattle.iddqd_hash.specs.Entry.{HandsBackFrom, LacksKeyOf, LendsIfOccupied, LendsIfVacant, LendsMade, ModifiesEntry, VisitKeepsKey, entry_item, entry_map, entry_lender, lends_or_keeps};
+ghost use Rattle.iddqd_hash.specs.Entry.{HandsBackFrom, LacksKeyOf, LacksKeysOf, LendsIfOccupied, LendsIfVacant, LendsMade, ModifiesEntry, VisitKeepsKey, entry_item, entry_map, entry_lender, lends_or_keeps};
 ghost use Rattle.iddqd_hash.specs.Guard.{GuardKeeps, GuardKeepsAkin, guard_lender};
 
 use super::{Entry, OccupiedEntry};
@@ -45,7 +45,7 @@ impl<'a, T: IdHashItem, S: BuildHasher> Entry<'a, T, S> {
     pub fn or_insert_with<F: FnOnce() -> T>(self, make: F) -> Result<RefMut<'a, T, S>, Refused<T>>
         requires keyed { ⟦<IdHashMap<T, S> as Keyed>⟧.keyed (entry_map self) }
         requires callable { entry_item self ≡ None → F.pre make }
-        requires absent { entry_item self ≡ None → (x : T) → F.post make x → LacksKeyOf T.key T.Key.eq x self }
+        requires absent { entry_item self ≡ None → LacksKeysOf T.key T.Key.eq (F.post make) self }
         ensures same_map { IfOk result (λ r. guard_lender r ≡ entry_lender self.entry) }
         ensures found { IfOk result (LendsIfOccupied self.entry) }
         ensures inserted { IfOk result (LendsMade ⟦<IdHashMap<T, S> as Keyed>⟧.keyed (F.post make) self.entry) }

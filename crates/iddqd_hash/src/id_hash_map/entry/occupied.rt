@@ -1,7 +1,7 @@
 //! The item of an entry: read, lent, replaced, taken out. None of this looks for it again, and none takes memory.
 ghost use Rattle.std.specs.Prelude.{◌≡◌, IfSome, Some};
 ghost use Rattle.std.specs.Borrow.{sem};
-ghost use Rattle.iddqd_hash.specs.Entry.{EntryKeeps, EntryKeepsAkin, HasKeyOf, Occupied, RemovesEntry, entry_follows, entry_item, entry_map, entry_lender, entry_others, entry_slot, entry_with};
+ghost use Rattle.iddqd_hash.specs.Entry.{EntryKeeps, EntryKeepsAkin, HasKeyOf, Occupied, RemovesAt, entry_follows, entry_item, entry_map, entry_lender, entry_others, entry_slot, entry_with};
 ghost use Rattle.iddqd_hash.specs.Guard.{GuardKeeps, GuardKeepsAkin, lent_map, guard_lender, lent_slot, shown_item, shown_map, shown_lender};
 
 use super::OccupiedEntry;
@@ -82,7 +82,7 @@ impl<'a, T: IdHashItem, S: BuildHasher> OccupiedEntry<'a, T, S> {
     /// Takes the item out, and answers it. Its slot is vacant then, and its room is spare. It hashes and compares no keys.
     pub fn remove(self) -> T
         requires keyed { ⟦<IdHashMap<T, S> as Keyed>⟧.keyed (entry_map (Occupied self)) }
-        ensures removed { RemovesEntry ⟦<IdHashMap<T, S> as Keyed>⟧.keyed result self.entry self.exit.0.now }
+        ensures { RemovesAt ⟦<IdHashMap<T, S> as Keyed>⟧.keyed result self.entry self.exit.0.now }
     {
         let slot = self.slot;
         let hash = self.hash;

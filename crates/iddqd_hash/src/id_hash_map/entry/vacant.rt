@@ -1,7 +1,7 @@
 //! Insertions where no item was found. The limit is looked at first, then memory, and only then is anything changed.
 ghost use Rattle.std.specs.Prelude.{◌≡◌, IfErr, IfOk};
 ghost use Rattle.std.specs.Borrow.{sem};
-ghost use Rattle.iddqd_hash.specs.Entry.{EntersInserted, HandsBackFrom, LacksKeyOf, LendsInserted, Occupied, Vacant, entry_map, entry_lender, enters_or_keeps, lends_or_keeps};
+ghost use Rattle.iddqd_hash.specs.Entry.{EntersInserted, HandsBackFrom, LacksKeyOf, LendsInserted, Vacant, entry_map, entry_lender, enters_or_keeps, lends_or_keeps};
 ghost use Rattle.iddqd_hash.specs.Guard.{GuardKeeps, GuardKeepsAkin, guard_lender};
 
 use super::{OccupiedEntry, VacantEntry};
@@ -41,7 +41,6 @@ impl<'a, T: IdHashItem, S: BuildHasher> VacantEntry<'a, T, S> {
     pub fn insert_entry(self, item: T) -> Result<OccupiedEntry<'a, T, S>, Refused<T>>
         requires keyed { ⟦<IdHashMap<T, S> as Keyed>⟧.keyed (entry_map (Vacant self)) }
         requires absent { LacksKeyOf T.key T.Key.eq item (Vacant self) }
-        ensures same_map { IfOk result (λ e. entry_lender (Occupied e) ≡ entry_lender (Vacant self.entry)) }
         ensures inserted { IfOk result (EntersInserted ⟦<IdHashMap<T, S> as Keyed>⟧.keyed item (Vacant self.entry)) }
         ensures* kept { sem 𝓛 (enters_or_keeps S.row T.row ⟦<IdHashMap<T, S> as Keyed>⟧.keyed (Vacant self.entry) result) }
         ensures refused { IfErr result (HandsBackFrom T.key T.Key.eq (Vacant self.entry) item) }

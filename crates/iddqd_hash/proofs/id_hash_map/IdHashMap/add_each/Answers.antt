@@ -45,8 +45,7 @@ pub returns-in-Err : goal.returns-in-Err
 returns-in-Err g c =
     let kept = c.in-Err.ensures.kept in
     record {
-      added = tt;
-      halted = search rules;
+      adds = (tt, search rules);
       spare_first = tt;
       fills = record { fills = fills_kept (holding_of c.args.self.now) (holding_of c.reserve.new.self) c.len.ensures.slots kept.keeps; stays = kept.stays };
     }
@@ -59,8 +58,7 @@ returns-in_err-add g c =
     let stopped = c.in_err-add.ensures in
     let gives = GivesThen g.U.IntoIterator.into_iter_gives g.U.IntoIter.Iterator.next_gives c.args.iter in
     rw back.1 (record {
-      added = tt;
-      halted = halts_adding g.T.IdHashItem.key g.met.T.Key.Eq.laws gives (holding_of old) (holding_of c.loop-item.self) (holding_of c.add.new.self) c.loop-item.yielded inv.2 inv.3.fills.limit stopped.kept.keeps c.in-Some.item (gives_then g.U.IntoIterator.into_iter_gives g.U.IntoIter.Iterator.next_gives c.args.iter c.loop-item.yielded c.in-Some.item (search rules)) _ (rw back.2 stopped.halted);
+      adds = (tt, halts_adding g.T.IdHashItem.key g.met.T.Key.Eq.laws gives (holding_of old) (holding_of c.loop-item.self) (holding_of c.add.new.self) c.loop-item.yielded inv.2 inv.3.fills.limit stopped.kept.keeps c.in-Some.item (gives_then g.U.IntoIterator.into_iter_gives g.U.IntoIter.Iterator.next_gives c.args.iter c.loop-item.yielded c.in-Some.item (search rules)) _ (rw back.2 stopped.halted));
       spare_first = search rules;
       fills = search rules;
     })
@@ -70,8 +68,7 @@ unfolding IsKeyed
 returns g c =
     let inv = c.loop-item.invariant in
     record {
-      added = (c.loop-item.yielded, gives_all g.U.IntoIterator.into_iter_gives g.U.IntoIter.Iterator.next_gives c.args.iter c.loop-item.yielded (search rules), inv.2);
-      halted = tt;
+      adds = ((c.loop-item.yielded, gives_all g.U.IntoIterator.into_iter_gives g.U.IntoIter.Iterator.next_gives c.args.iter c.loop-item.yielded (search rules), inv.2), tt);
       spare_first = tt;
       fills = inv.3;
     }

@@ -43,7 +43,7 @@ returns-clause-keyed g c =
     let m = c.self.inside in
     let copy = c.in-Ok-try_clone.store in
     copied_keyed g.T.Clone.is_clone m.store copy c.in-Ok-try_clone.ensures.clones m.index c.in_ok-index.index c.in_ok-index.ensures.pairs
-    key input hash g.met.T.Key.Eq.laws g.met.T.Key.Hash.respects_eq c.requires.keeps_keys m.hasher c.in-Ok.hasher (subst (λ v. CloneHashesAlike g.S.Clone.is_clone hash v.hasher) (sym c.self.view_is) c.requires.hashes_alike c.in-Ok.hasher c.in-Ok.ensures.cases)
+    key input hash g.met.T.Key.Eq.laws g.met.T.Key.Hash.respects_eq c.requires.keeps_keys m.hasher c.in-Ok.hasher (subst (λ v. CloneHashesAlike g.S.Clone.is_clone (λ m. hash m.hasher) v) (sym c.self.view_is) c.requires.hashes_alike c.in-Ok.hasher c.in-Ok.ensures.cases)
     (subst (KeyedItems key eq input hash) (sym c.self.view_is) c.requires.keyed)
 
 pub returns-clause-vacant : goal.returns-clause-vacant

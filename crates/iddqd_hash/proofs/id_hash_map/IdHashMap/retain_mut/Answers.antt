@@ -40,7 +40,7 @@ take_slot-requires-clause-there g c =
     let m = c.loop-slot.self in
     let slot = c.in-Some.slot in
     let some = there_listed m.slots (slots_below c.loop-slot.next m.slots) slot c.in-Some.ensures.there m.items c.in-Some.ensures.own in
-    rw (c.visit_slot.ensures.visited.4) (still_there m.slots m.items slot c.visit_slot.ensures.visited.1 some)
+    rw (c.visit_slot.ensures.visits.4) (still_there m.slots m.items slot c.visit_slot.ensures.visits.1 some)
 
 pub loop-slot-preserved : goal.loop-slot-preserved
 unfolding IsKeyed
@@ -51,7 +51,7 @@ loop-slot-preserved g c =
     let at = slots_below l.next m.slots in
     let found = c.in-Some.ensures in
     let visits = g.V.Visit.visits in
-    let saw = c.visit_slot.ensures.visited in
+    let saw = c.visit_slot.ensures.visits in
     let x = saw.0 in
     let y = saw.1 in
     let v = c.visit_slot.new.visitor in
@@ -104,7 +104,7 @@ loop-slot-smaller g c =
     let slot = c.in-Some.slot in
     let at = slots_below l.next m.slots in
     let found = c.in-Some.ensures in
-    let saw = c.visit_slot.ensures.visited in
+    let saw = c.visit_slot.ensures.visits in
     let slots = ap (λ n. n.slots) saw.4 in
     let within = slice_get_within m.slots at slot found.there in
     elim c.if-not-visit_slot.branch [

@@ -8,10 +8,8 @@ returns g c =
     let taken = c.take_hashed.ensures in
     let p = slot_place e.map.now.slots e.map.now.items e.slot c.take_hashed.result taken.value in
     record {
-      removed = record {
-        item = taken.value;
-        others = (taken.gone p.place p.slot_there).0 ∙ sym p.others;
-        removes = taken.removed;
-        stays = taken.stays;
-      };
+      item = taken.value;
+      others = (taken.gone p.place p.slot_there).0 ∙ sym p.others;
+      removes = taken.removed;
+      stays = taken.stays;
     }
