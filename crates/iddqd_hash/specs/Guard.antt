@@ -67,8 +67,8 @@ module _ {S T K : Type 0} (key : T → K) where
   abbrev pub GuardFinds : (K → Bool) → RefMut T S → Type 0
   GuardFinds test r = find_item key test (lent_map r).items ≡ lent_item r
 
-  abbrev pub GuardOverwrites : (K → Bool) → RefMut T S → Type 0
-  GuardOverwrites test r = (w : T) → (lent_with r w).items ≡ items_overwritten key test w (lent_map r).items
+  abbrev pub GuardOverwrites : (K → Bool) → HashItems S T → RefMut T S → Type 0
+  GuardOverwrites test m r = (w : T) → (with_item_in m (lent_slot r) w).items ≡ items_overwritten key test w m.items
 
   -- the map is keyed after a write of an item of the same key, or of an equal one
   abbrev pub GuardKeeps : (HashItems S T → Type 0) → RefMut T S → Type 0

@@ -36,22 +36,22 @@ use std::alloc::Global;
 use std::hash::{BuildHasher, BuildHasherDefault, FoldHasher, Hasher};
 use std::marker::Model;
 
-/// The hasher's builder where none is named: std's, with the fixed seed. Where strangers choose the keys, hand in a
-/// `RandomState` instead.
+/// The default hasher's builder: std's, with a fixed seed. If strangers choose the keys, pass a `RandomState` instead.
 pub type DefaultHashBuilder = BuildHasherDefault<FoldHasher>;
 
-/// Items of pairwise different keys, in no order that a caller may rely on (the crate's `IdHashMap`). Each item lies in
-/// a numbered slot of a store, and an index finds the slot by the hash of the key that the item shows. Contracts see the
-/// items, each with its slot and its stored hash, the hasher, `spare`, how many slots are vacant, the capacity and the limit.
+/// A map of items with pairwise different keys, in no particular order. Each item lies in a numbered slot of a store.
+/// An index finds the slot by the hash of the item's key. Contracts see the items with their slots and stored hashes,
+/// the hasher, `spare`, `vacant`, the capacity and the limit.
 pub struct IdHashMap<T, S = DefaultHashBuilder> {
     store: ItemStore<T>,
     index: HashIndex,
     hasher: S,
-    // What an insertion lends where it succeeds, so that its caller learns what the map is then.
+    // An insertion returns a reference to this if it succeeds. So its caller learns what the map is then.
     done: (),
 }
 
-// Not derived: the proof of a function has a derived drop field by field wherever it drops a map, and this one as a call.
+// Not derived: a proof goes through a derived drop field by field wherever a map is dropped. It cites this one as a
+// call.
 impl<T: Drop, S: Drop> Drop for IdHashMap<T, S> {
     fn drop(self) {
         let IdHashMap {
@@ -76,15 +76,15 @@ impl<T, S> Model for IdHashMap<T, S> {
     ghost invariant = { λ m. PairsOccupied m.store m.index.pairs };
 }
 
-/// What a map asks of its items before they can be looked for (ours). It has no code: contracts cite it.
+/// What a lookup requires of a map, for contracts to cite (ours). It has no code.
 pub trait Keyed {
     ghost use Rattle.std.specs.Prelude.{ℕ};
     ghost use Rattle.std.specs.Hash.{HashWrites};
 
-    // The items lie as lookups expect them.
+    // No two items have equal keys, and a lookup finds each.
     ghost keyed: { Self → Type 0 };
 
-    // The hash that the map's hasher makes of these writes.
+    // The map's hasher gives this hash after these writes.
     ghost hash: { Self → HashWrites → ℕ };
 }
 
@@ -99,7 +99,7 @@ impl<T: IdHashItem, S: BuildHasher> Keyed for IdHashMap<T, S> {
 impl<T, S> IdHashMap<T, S> {
     ghost use Rattle.iddqd_hash.specs.HashMap.{SpareFits};
 
-    /// How many items there are. It counts none of them.
+    /// The number of items, in constant time.
     #[inline]
     pub fn len(&self) -> usize
         ensures len { result ≡ length self.now.items }
@@ -110,7 +110,7 @@ impl<T, S> IdHashMap<T, S> {
         self.store.len()
     }
 
-    /// Whether there is no item.
+    /// Whether the map has no items.
     #[inline]
     pub fn is_empty(&self) -> bool
         ensures { IsTrue result ↔ (self.now.items ≡ []) }
@@ -118,7 +118,7 @@ impl<T, S> IdHashMap<T, S> {
         self.len() == 0
     }
 
-    /// How many items fit before the store needs memory.
+    /// The number of items that the store holds before it allocates.
     #[inline]
     pub fn capacity(&self) -> usize
         ensures number { result ≡ self.now.capacity }
@@ -127,7 +127,7 @@ impl<T, S> IdHashMap<T, S> {
         self.store.capacity()
     }
 
-    /// How many items of new keys the map takes without a refusal (ours). It counts none of them.
+    /// The number of new keys that the map accepts without a refusal, in constant time (ours).
     #[inline]
     pub fn spare(&self) -> usize
         ensures number { result ≡ self.now.spare }
@@ -138,7 +138,7 @@ impl<T, S> IdHashMap<T, S> {
         self.index.spare().min(in_store)
     }
 
-    /// How many slots are vacant, as removed items left them (ours). It counts none of them.
+    /// The number of slots that removed items have left vacant, in constant time (ours).
     #[inline]
     pub fn vacant(&self) -> u32
         ensures { result ≡ self.now.vacant }
@@ -158,7 +158,7 @@ impl<T, S> IdHashMap<T, S> {
 impl<T: IdHashItem> IdHashMap<T> {
     ghost use Rattle.iddqd_hash.specs.HashMap.{IsEmptyMap};
 
-    /// A map without items, over the default hasher. It takes no memory.
+    /// Makes a map without items, over the default hasher. Does not allocate.
     pub fn new(alloc: Global) -> Self
         ensures empty { IsEmptyMap MAX_ITEMS result }
         ensures keyed { ⟦<Self as Keyed>⟧.keyed result }
@@ -171,7 +171,7 @@ impl<T: IdHashItem, S: BuildHasher> IdHashMap<T, S> {
     ghost use Rattle.iddqd_hash.specs.HashMap.{HashStays, IsEmptyMap};
     ghost use Rattle.iddqd_hash.specs.StoreAndIndex.{empty_map_of};
 
-    /// A map without items, over the hasher that is handed in. It takes no memory.
+    /// Makes a map without items, over this hasher. Does not allocate.
     pub fn with_hasher(alloc: Global, hasher: S) -> Self
         ensures empty { IsEmptyMap MAX_ITEMS result }
         ensures hasher { result.hasher ≡ hasher }
@@ -180,8 +180,7 @@ impl<T: IdHashItem, S: BuildHasher> IdHashMap<T, S> {
         IdHashMap::with_limit(alloc, MAX_ITEMS, hasher)
     }
 
-    /// A map without items that never holds more than `limit` (ours: the crate leaves open where a map is full). It takes
-    /// no memory.
+    /// Makes a map without items that never holds more than `limit` (ours). Does not allocate.
     pub fn with_limit(alloc: Global, limit: u32, hasher: S) -> Self
         ensures empty { IsEmptyMap limit result }
         ensures hasher { result.hasher ≡ hasher }
@@ -205,13 +204,17 @@ impl<T: IdHashItem, S: BuildHasher> IdHashMap<T, S> {
         }
     }
 
-    /// Drops every item, and leaves no slot. The capacity stays, and the room of the items is spare again. It takes no memory.
+    /// Drops every item, and leaves no slot. The capacity stays, and the room of the items is spare again. Does not
+    /// allocate.
     pub fn clear(&mut self)
     where
         T: Drop,
+        // what goes
         ensures items { self.new.items ≡ [] }
         ensures slots { self.new.slots ≡ [] }
         ensures vacant { self.new.vacant ≡ 0 }
+
+        // what stays
         ensures capacity { self.new.capacity ≡ self.old.capacity }
         ensures limit { self.new.limit ≡ self.old.limit }
         ensures stays { HashStays ⟦<Self as Keyed>⟧.keyed self.old self.new }

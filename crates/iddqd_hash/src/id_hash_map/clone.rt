@@ -11,9 +11,9 @@ use std::hash::BuildHasher;
 impl<T: IdHashItem, S: BuildHasher> IdHashMap<T, S> {
     ghost use Rattle.iddqd_hash.specs.HashMap.{CloneHashesAlike, SpareFits};
 
-    /// A map of the items' clones, in the same slots and under the same limit, over the hasher's clone (a function: the
-    /// crate's is the trait `Clone`, which cannot refuse). `Err` where memory for a clone, for the slots or for the index
-    /// was refused, and then nothing is made. It hashes and compares no keys.
+    /// Makes a map of the items' clones, in the same slots, over the hasher's clone (a function, since the trait
+    /// `Clone` cannot refuse). If memory is refused, it returns `Err`, and drops what it has made. Hashes and compares
+    /// no keys.
     pub fn clone(&self) -> Result<Self, TryReserveError>
     where
         T: Clone,
@@ -21,6 +21,8 @@ impl<T: IdHashItem, S: BuildHasher> IdHashMap<T, S> {
         requires keyed { ⟦<Self as Keyed>⟧.keyed self.now }
         requires keeps_keys { ClonesKeepKeys T.key T.Key.eq T.is_clone }
         requires hashes_alike { CloneHashesAlike S.is_clone ⟦<Self as Keyed>⟧.hash self.now }
+
+        // on success
         ensures items { IfOk result (λ copy. AllZip T.is_clone self.now.items copy.items) }
         ensures slots { IfOk result (λ copy. copy.slots ≡ self.now.slots) }
         ensures vacant { IfOk result (λ copy. copy.vacant ≡ self.now.vacant) }
@@ -28,6 +30,8 @@ impl<T: IdHashItem, S: BuildHasher> IdHashMap<T, S> {
         ensures hasher { IfOk result (λ copy. S.is_clone self.now.hasher copy.hasher) }
         ensures spare { IfOk result SpareFits }
         ensures keyed { IfOk result ⟦<Self as Keyed>⟧.keyed }
+
+        // on refusal
         ensures only_memory { IfErr result (λ e. e ≡ memory_refused) }
     {
         let index = self.index.try_clone()?;

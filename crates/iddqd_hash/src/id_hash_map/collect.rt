@@ -15,21 +15,28 @@ use std::hash::BuildHasher;
 impl<T: IdHashItem, S: BuildHasher> IdHashMap<T, S> {
     ghost use Rattle.iddqd_hash.specs.HashMap.{Collects, HashFills, HashInserts, HoldsAll, IsCollected, KeepsIfNoItem, OverwritesGiven, SpareFirst, StopsOverwriting};
 
-    /// Puts in the items one after the other, each in the stead of one of an equal key (the crate's `Extend`, a function
-    /// here, since it can refuse). Room is made before an item is asked for: for as many as the iterator announces at least
-    /// where the map is empty, and else for half of them, rounded up; where that is refused, the error has no item and the
-    /// items are as they were. Else the first item that is refused comes back, those before it stay, and the rest of the
-    /// iterator is dropped; as many new keys as were spare are taken before that. What an iterator announces costs at most
-    /// a refusal or memory. It hashes each item's key once and searches once for it.
+    /// Inserts the items one after the other, each in the place of the item of equal key, if there is one. It is a
+    /// function, since the trait `Extend` cannot refuse. Before it asks for an item, it makes room for as many as the
+    /// iterator announces at least, if the map is empty. In a map with items, it makes room for half of them, rounded
+    /// up. If that is refused, the error has no item, and no item has changed. If an item is refused later, it is
+    /// returned, the items before it stay, and the rest of the iterator is dropped. As many new keys as were spare are
+    /// accepted before that. What an iterator announces costs at most a refusal or memory. Hashes each item's key once
+    /// and searches once for it.
     pub fn extend<U: IntoIterator<Item = T>>(&mut self, iter: U) -> Result<(), ExtendError<T>>
     where
         T: Drop,
         requires keyed { ⟦<Self as Keyed>⟧.keyed self.old }
         requires ends { IsFinite U.into_iter_gives U.IntoIter.can_next U.IntoIter.remaining iter }
+
+        // on success
         ensures taken { OnOk result (OverwritesGiven T.key T.Key.eq U.into_iter_gives U.IntoIter.next_gives iter self.old self.new) }
+
+        // on refusal
         ensures stopped { IfErr result (StopsOverwriting T.key T.Key.eq U.into_iter_gives U.IntoIter.next_gives iter self.old self.new) }
         ensures spare_first { IfErr result (SpareFirst self.old self.new) }
         ensures not_begun { IfErr result (KeepsIfNoItem ⟦<Self as Keyed>⟧.keyed self.old self.new) }
+
+        // either way
         ensures fills { HashFills ⟦<Self as Keyed>⟧.keyed self.old self.new }
     {
         let items = iter.into_iter();
@@ -51,9 +58,9 @@ impl<T: IdHashItem, S: BuildHasher> IdHashMap<T, S> {
         Ok(())
     }
 
-    /// A map of the iterator's items, as `extend` puts them into one without items, over the hasher of `S::default`: of
-    /// equal keys the last item stays (the crate's `FromIterator`, a function here, since it can refuse). Where room is
-    /// refused, what was collected is dropped.
+    /// Makes a map of the iterator's items as `extend` does, over the hasher of `S::default`. Of equal keys the last
+    /// item stays. It is a function, since the trait `FromIterator` cannot refuse. If room is refused, what was
+    /// collected is dropped.
     pub fn from_iter<U: IntoIterator<Item = T>>(
         alloc: Global,
         iter: U,
@@ -72,11 +79,10 @@ impl<T: IdHashItem, S: BuildHasher> IdHashMap<T, S> {
         }
     }
 
-    /// A map of the iterator's items, if no two have equal keys, over the hasher of `S::default` (the crate's call, which
-    /// answers the duplicate alone where it does not panic or abort). At the first item whose key came before it stops, and
-    /// answers it as the new one beside the earlier one, which is taken out. Room for as many items as the iterator
-    /// announces at least is made before one is asked for. In each error all else that was collected is dropped, and so is
-    /// the rest of the iterator. It hashes each item's key once and searches once for it.
+    /// Makes a map of the iterator's items, if no two have equal keys, over the hasher of `S::default`. It stops at the
+    /// first item whose key an earlier one has, and returns both in its error. Before it asks for an item, it makes
+    /// room for as many as the iterator announces at least. On an error all other items are dropped, and so is the rest
+    /// of the iterator. Hashes each item's key once and searches once for it.
     pub fn from_iter_unique<U: IntoIterator<Item = T>>(
         alloc: Global,
         iter: U,
@@ -101,7 +107,7 @@ impl<T: IdHashItem, S: BuildHasher> IdHashMap<T, S> {
         Ok(map)
     }
 
-    // Inserts the item where none of an equal key is there; else takes that one out and answers both.
+    // Inserts the item, if no item has an equal key. Otherwise removes that one and returns both.
     fn insert_first(&mut self, item: T) -> Result<(), FromIterError<T>>
     where
         T: Drop,

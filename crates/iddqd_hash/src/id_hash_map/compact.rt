@@ -1,4 +1,4 @@
-//! Closing up the slots, so that none is vacant (the crate's `compact`).
+//! Closing up the slots, so that none is vacant.
 ghost use Rattle.std.specs.Prelude.{◌≡◌, ◌<◌};
 ghost use Rattle.iddqd_store.specs.Store.{EndsOccupied, vacant};
 ghost use Rattle.iddqd_hash.specs.StoreAndIndex.{MovesItems, PairsOccupied, map_of};
@@ -8,7 +8,7 @@ use iddqd_hash_index::HashIndex;
 use iddqd_store::{IdHashItem, ItemStore};
 use std::hash::BuildHasher;
 
-// Moves the item of the last slot into a vacant one, and goes on until no slot is vacant. It takes no memory.
+// Moves the item of the last slot into a vacant one, until no slot is vacant. Does not allocate.
 pub(super) fn compact<T: IdHashItem, S: BuildHasher>(
     store: &mut ItemStore<T>,
     index: &mut HashIndex,
@@ -16,10 +16,14 @@ pub(super) fn compact<T: IdHashItem, S: BuildHasher>(
 )
     requires paired { PairsOccupied store.old index.old.pairs }
     requires keyed { ⟦<IdHashMap<T, S> as Keyed>⟧.keyed (map_of store.old index.old hasher.now) }
-    ensures paired { PairsOccupied store.new index.new.pairs }
-    ensures keyed { ⟦<IdHashMap<T, S> as Keyed>⟧.keyed (map_of store.new index.new hasher.now) }
+
+    // what moves
     ensures moves { MovesItems store.old store.new index.old index.new }
     ensures vacant { vacant store.new ≡ 0 }
+
+    // what stays
+    ensures paired { PairsOccupied store.new index.new.pairs }
+    ensures keyed { ⟦<IdHashMap<T, S> as Keyed>⟧.keyed (map_of store.new index.new hasher.now) }
 {
     store.cut_end();
     while store.vacant() > 0 {
@@ -27,7 +31,8 @@ pub(super) fn compact<T: IdHashItem, S: BuildHasher>(
     }
 }
 
-// Moves the item of the last slot into a vacant one, and lists that one in its stead. It hashes the item's key once.
+// Moves the item of the last slot into a vacant one, and lists the item's hash with that slot. Hashes the item's key
+// once.
 fn move_last<T: IdHashItem, S: BuildHasher>(
     store: &mut ItemStore<T>,
     index: &mut HashIndex,
@@ -37,11 +42,15 @@ fn move_last<T: IdHashItem, S: BuildHasher>(
     requires keyed { ⟦<IdHashMap<T, S> as Keyed>⟧.keyed (map_of store.old index.old hasher.now) }
     requires cut { EndsOccupied store.old.slots }
     requires some { 0 < vacant store.old }
+
+    // what moves
+    ensures moves { MovesItems store.old store.new index.old index.new }
+    ensures fewer { vacant store.new < vacant store.old }
+
+    // what stays
     ensures paired { PairsOccupied store.new index.new.pairs }
     ensures keyed { ⟦<IdHashMap<T, S> as Keyed>⟧.keyed (map_of store.new index.new hasher.now) }
-    ensures moves { MovesItems store.old store.new index.old index.new }
     ensures cut { EndsOccupied store.new.slots }
-    ensures fewer { vacant store.new < vacant store.old }
 {
     let last = store.slots() - 1;
     let hash = hasher.hash_one(store.get(last).unwrap().key());

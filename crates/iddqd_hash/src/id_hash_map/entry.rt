@@ -1,4 +1,4 @@
-//! Entries: the place of an item in a map, or a map that lacks one.
+//! Entries: an item of a map, or a map that lacks one.
 ghost use Rattle.std.specs.Prelude.{◌≡◌, IfSome, IsSome, Some};
 ghost use Rattle.iddqd_store.specs.SlotItems.{item_of_slot};
 
@@ -12,7 +12,7 @@ use super::{DefaultHashBuilder, IdHashMap, Keyed};
 use iddqd_store::{Equivalent, IdHashItem};
 use std::hash::{BuildHasher, Hash};
 
-/// What `entry` finds (the crate's `Entry`). One that is let go changes nothing more.
+/// What `entry` returns. An entry that is dropped changes nothing more.
 #[derive(Drop)]
 pub enum Entry<'a, T, S = DefaultHashBuilder> {
     /// No item has a key that the query stands for.
@@ -21,13 +21,13 @@ pub enum Entry<'a, T, S = DefaultHashBuilder> {
     Occupied(OccupiedEntry<'a, T, S>),
 }
 
-/// A map that lacks the item that was asked for (the crate's `VacantEntry`).
+/// A map that lacks the item that was asked for.
 #[derive(Drop)]
 pub struct VacantEntry<'a, T, S = DefaultHashBuilder> {
     pub(super) map: &'a mut IdHashMap<T, S>,
 }
 
-/// An item of a map (the crate's `OccupiedEntry`). It holds the item's slot, and the hash that a removal needs.
+/// An item of a map. It holds the item's slot, and the hash that a removal needs.
 #[derive(Drop)]
 pub struct OccupiedEntry<'a, T, S = DefaultHashBuilder> {
     pub(super) map: &'a mut IdHashMap<T, S>,
@@ -41,8 +41,8 @@ impl<T: IdHashItem, S: BuildHasher> IdHashMap<T, S> {
     ghost use Rattle.iddqd_hash.specs.Entry.{IsEntryFor, PassesTest, entry_item};
     ghost use Rattle.iddqd_hash.specs.HashItems.{HashesAsKeys};
 
-    /// The entry of the query: occupied where it finds an item. It hashes the query once, makes as many comparisons as `get`,
-    /// takes no memory, and changes nothing.
+    /// Returns the entry of the query, which is occupied if the query finds an item. Changes nothing. Hashes the query
+    /// once, and makes as many comparisons as `get`. Does not allocate.
     pub fn entry<Q: Hash + Equivalent<T::Key>>(&mut self, query: &Q) -> Entry<'_, T, S>
         requires keyed { ⟦<Self as Keyed>⟧.keyed self.old }
         requires hashes { HashesAsKeys Q.equivalent Q.hash_input T.Key.hash_input query.now }

@@ -8,9 +8,9 @@ use std::hash::BuildHasher;
 impl<T: IdHashItem, S: BuildHasher> IdHashMap<T, S> {
     ghost use Rattle.iddqd_hash.specs.HashMap.{FindsEqual, HaveEqualItems};
 
-    /// Whether there are as many items in both, and each item's key finds an equal item in the other, by the items' own
-    /// `==`. No order and no hasher plays a part (a function: the crate's is the trait `PartialEq`, which asks nothing of
-    /// the maps). It looks each item up, and takes no memory.
+    /// Whether both maps have as many items, and each item's key finds an equal item in the other, by the items' own
+    /// `==`. No order and no hasher plays a part. It is a function, since the trait `PartialEq` cannot require a keyed
+    /// map. Looks each item up. Does not allocate.
     pub fn eq(&self, other: &Self) -> bool
     where
         T: PartialEq,

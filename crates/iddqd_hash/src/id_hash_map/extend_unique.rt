@@ -1,4 +1,4 @@
-//! Many items at once, none in the stead of another.
+//! Many items at once, of which none replaces another.
 ghost use Rattle.std.specs.Prelude.{◌≡◌, IfErr, OnErr, OnOk};
 ghost use Rattle.std.specs.Borrow.{sem};
 ghost use Rattle.std.specs.Iterator.{IsFiniteIterable as IsFinite};
@@ -16,14 +16,14 @@ impl<T: IdHashItem, S: BuildHasher> IdHashMap<T, S> {
     ghost use Rattle.iddqd_hash.specs.HashItems.{holding_of};
     ghost use Rattle.iddqd_hash.specs.HashMap.{AddsEach, HasSpareFirst, HashFills, HashInserts, HashKeeps, ShowsConflict, ends_hash_extended};
 
-    /// Inserts the items one after the other, up to the first whose key is there, from before or from the iterator (ours).
-    /// That one is answered as the new item beside the one that is there, which is lent; a duplicate needs no memory, and
-    /// comes before a full map. Room is made before an item is asked for, as `extend` makes it; where that is refused, the
-    /// error has no item and the items are as they were. Else the first item that is refused comes back; as many new keys
-    /// as were spare are taken before that. In each error the items before it stay, and the rest of the iterator is
-    /// dropped. It hashes each item's key once and searches once for it.
-    /// In a caller's proof, match the error by a name, as in `Err(_error)`. `Err(_)` in the last `match` of a function leaves
-    /// nothing known of the map, if the items own memory.
+    /// Inserts the items one after the other, up to the first whose key an item has, from before or from the iterator
+    /// (ours). The error has that item, and a reference to the existing one. A duplicate needs no memory, and is
+    /// reported even if the map is full. Before it asks for an item, it makes room as `extend` does. If that is
+    /// refused, the error has no item, and no item has changed. If an item is refused later, it is returned. As many
+    /// new keys as were spare are accepted before that. On an error the items before it stay, and the rest of the
+    /// iterator is dropped. Hashes each item's key once and searches once for it.
+    /// In a caller's proof, match the error by a name, as in `Err(_error)`. `Err(_)` in the last `match` of a function
+    /// leaves nothing known of the map, if the items own memory.
     pub fn extend_unique<U: IntoIterator<Item = T>>(
         &mut self,
         iter: U,
@@ -45,7 +45,7 @@ impl<T: IdHashItem, S: BuildHasher> IdHashMap<T, S> {
         }
     }
 
-    // The same, but that it answers the slot of the item that is there in place of lending it: a loan cannot leave a loop.
+    // The same, with the slot of the existing item in place of a reference: a loan cannot leave a loop.
     fn add_each<U: IntoIterator<Item = T>>(&mut self, iter: U) -> Result<(), Halt<T>>
     where
         T: Drop,
@@ -66,11 +66,15 @@ impl<T: IdHashItem, S: BuildHasher> IdHashMap<T, S> {
         Ok(())
     }
 
-    // Inserts the item where none of an equal key is there, and else answers that one's slot.
+    // Inserts the item, if no item has an equal key. Otherwise returns that one's slot.
     fn add(&mut self, item: T) -> Result<(), Halt<T>>
         requires keyed { ⟦<Self as Keyed>⟧.keyed self.old }
+
+        // on success
         ensures inserts { OnOk result (HashInserts ⟦<Self as Keyed>⟧.keyed item self.old self.new) }
         ensures absent { OnOk result (IsAbsent T.key (T.Key.eq (T.key item)) self.old.items) }
+
+        // on refusal
         ensures halted { IfErr result (HaltsAt T.key T.Key.eq item (holding_of self.old)) }
         ensures no_spare { IfErr result (OnItemBack (self.old.spare ≡ 0)) }
         ensures kept { OnErr result (HashKeeps ⟦<Self as Keyed>⟧.keyed self.old self.new) }

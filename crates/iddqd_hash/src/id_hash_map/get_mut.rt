@@ -37,19 +37,25 @@ impl<T: IdHashItem, S: BuildHasher> IdHashMap<T, S> {
     ghost use Rattle.iddqd_hash.specs.HashItems.{HashesAsKeys};
     ghost use Rattle.iddqd_hash.specs.HashMap.{SpareFits};
 
-    /// Lends the item that the query finds for writing; `None` where there is none, and then nothing has changed. The
-    /// guard has to be spent. It hashes the query once, and makes as many comparisons as `get`.
+    /// Returns a guard of the item that the query finds. If it finds none, nothing has changed. The guard has to be
+    /// spent. Hashes the query once, and makes as many comparisons as `get`.
     pub fn get_mut<Q: Hash + Equivalent<T::Key>>(&mut self, query: &Q) -> Option<RefMut<'_, T, S>>
         requires keyed { ⟦<Self as Keyed>⟧.keyed self.old }
         requires hashes { HashesAsKeys Q.equivalent Q.hash_input T.Key.hash_input query.now }
-        ensures* unchanged_at_none { sem 𝓛 (rests_at_none S.row T.row self.entry result) }
-        ensures absent { IfNone result (IsAbsent T.key (Q.equivalent query.now) self.old.items) }
+
+        // if an item is found
         ensures same_map { IfSome result (λ r. guard_lender r ≡ self.entry.ghost_name) }
         ensures lent { IfSome result (λ r. lent_map r ≡ self.old) }
         ensures found { IfSome result (GuardFinds T.key (Q.equivalent query.now)) }
-        ensures written { IfSome result (GuardOverwrites T.key (Q.equivalent query.now)) }
+        ensures written { IfSome result (GuardOverwrites T.key (Q.equivalent query.now) self.old) }
         ensures keyed { IfSome result (GuardKeeps T.key ⟦<Self as Keyed>⟧.keyed) }
         ensures keyed_akin { IfSome result (GuardKeepsAkin T.key T.Key.eq ⟦<Self as Keyed>⟧.keyed) }
+
+        // if none is
+        ensures* unchanged_at_none { sem 𝓛 (rests_at_none S.row T.row self.entry result) }
+        ensures absent { IfNone result (IsAbsent T.key (Q.equivalent query.now) self.old.items) }
+
+        // room
         ensures spare { SpareFits self.old }
     {
         let hash = self.hasher.hash_one(query);

@@ -12,8 +12,8 @@ impl<T: IdHashItem, S: BuildHasher> IdHashMap<T, S> {
     ghost use Rattle.iddqd_hash.specs.HashItems.{HashesAsKeys, holding_of, of_same_hash};
     ghost use Rattle.iddqd_hash.specs.HashMap.{HashStays, IsFound, KeepsOthers, SpareFits};
 
-    /// The item that the query finds, or `None`, by as many comparisons as `get_counted`. It hashes the query once, and
-    /// fetches the item found once more to lend it.
+    /// Returns the item that the query finds, with as many comparisons as `get_counted`. Hashes the query once. Fetches
+    /// the item once more than it compares.
     #[inline]
     pub fn get<Q: Hash + Equivalent<T::Key>>(&self, query: &Q) -> Option<&T>
         requires keyed { ⟦<Self as Keyed>⟧.keyed self.now }
@@ -24,7 +24,8 @@ impl<T: IdHashItem, S: BuildHasher> IdHashMap<T, S> {
         self.get_counted(query, &mut Steps::new())
     }
 
-    /// As `get`, with the comparisons counted (ours): at most as many as there are items whose key has the query's hash.
+    /// As `get`, and counts the comparisons (ours). They are at most as many as the items whose keys have the query's
+    /// hash.
     #[inline]
     pub fn get_counted<Q: Hash + Equivalent<T::Key>>(
         &self,
@@ -33,8 +34,12 @@ impl<T: IdHashItem, S: BuildHasher> IdHashMap<T, S> {
     ) -> Option<&T>
         requires keyed { ⟦<Self as Keyed>⟧.keyed self.now }
         requires hashes { HashesAsKeys Q.equivalent Q.hash_input T.Key.hash_input query.now }
+
+        // what is found
         ensures found { IsFound T.key (Q.equivalent query.now) self.now (option_copied result) }
         ensures spare { SpareFits self.now }
+
+        // comparisons
         ensures steps { steps.new ≤ steps.old + of_same_hash ⟦<Self as Keyed>⟧.hash self.now (Q.hash_input query.now) }
         ensures never_resets { steps.old ≤ steps.new }
     {
@@ -43,7 +48,7 @@ impl<T: IdHashItem, S: BuildHasher> IdHashMap<T, S> {
         self.store.get(slot)
     }
 
-    /// Whether the query finds an item, by as many comparisons as `get`.
+    /// Whether the query finds an item, with as many comparisons as `get`.
     #[inline]
     pub fn contains_key<Q: Hash + Equivalent<T::Key>>(&self, query: &Q) -> bool
         requires keyed { ⟦<Self as Keyed>⟧.keyed self.now }
@@ -53,15 +58,19 @@ impl<T: IdHashItem, S: BuildHasher> IdHashMap<T, S> {
         self.get(query).is_some()
     }
 
-    /// Takes out the item that the query finds, and answers it; `None` where there is none, and then nothing has
-    /// changed. The item's slot is vacant then, and its room is spare. It hashes the query once, and takes no memory.
+    /// Removes and returns the item that the query finds. If it finds none, nothing changes. The item's slot is vacant
+    /// then, and its room is spare. Hashes the query once. Does not allocate.
     pub fn remove<Q: Hash + Equivalent<T::Key>>(&mut self, query: &Q) -> Option<T>
         requires keyed { ⟦<Self as Keyed>⟧.keyed self.old }
         requires hashes { HashesAsKeys Q.equivalent Q.hash_input T.Key.hash_input query.now }
+
+        // what is removed
         ensures value { IsFound T.key (Q.equivalent query.now) self.old result }
         ensures items { KeepsOthers T.key (Q.equivalent query.now) self.old self.new }
         ensures removed { Removes result (holding_of self.old) (holding_of self.new) }
         ensures unchanged { IfNone result (self.new ≡ self.old) }
+
+        // what stays
         ensures stays { HashStays ⟦<Self as Keyed>⟧.keyed self.old self.new }
     {
         let hash = self.hasher.hash_one(query);

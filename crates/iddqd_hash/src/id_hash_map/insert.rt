@@ -1,4 +1,5 @@
-//! Insertions. An akin item is looked for first, then the limit, then memory, and only then is anything changed.
+//! Insertions. Each looks for an item of equal key first, then at the limit, then for memory, and only then changes
+//! anything.
 ghost use Rattle.std.specs.Prelude.{◌≡◌, IfOk, IfErr, OnOk, OnErr};
 ghost use Rattle.std.specs.Borrow.{sem};
 ghost use Rattle.iddqd_store.specs.Contents.{IsAbsent};
@@ -12,12 +13,12 @@ use std::hash::BuildHasher;
 impl<T: IdHashItem, S: BuildHasher> IdHashMap<T, S> {
     ghost use Rattle.iddqd_hash.specs.HashMap.{HandsBack, HasItemOf, HashInserts, HashKeeps, HashStays, InsertsNew, IsFound, RefusesItem, ReplacesIfFound, TakesSlot, ends_hash_inserted, lends_nothing};
 
-    /// Inserts the item where none of an equal key is there. A duplicate needs no memory and lends the item that is there;
-    /// then the map is as it was. A full map and refused memory hand the item back, and then the items are as they were
-    /// (ours: the crate panics or aborts for want of room). Where `spare` is above 0 a new key is never refused. It hashes
-    /// the key once and searches once; a growth reads each pair of the index.
-    /// In a caller's proof, match the error by a name, as in `Err(_error)`. `Err(_)` in the last `match` of a function leaves
-    /// nothing known of the map, if the items own memory.
+    /// Inserts the item, if no item has an equal key. A duplicate needs no memory: the error has a reference to the
+    /// existing item, and the map is unchanged. If the limit or memory refuses the item, it is returned, and no item
+    /// has changed. If `spare` is above 0, a new key is never refused. Hashes the key once and searches once. If the
+    /// index grows, it reads each of its pairs.
+    /// In a caller's proof, match the error by a name, as in `Err(_error)`. `Err(_)` in the last `match` of a function
+    /// leaves nothing known of the map, if the items own memory.
     pub fn insert_unique(&mut self, item: T) -> Result<&mut (), InsertError<'_, T>>
         requires keyed { ⟦<Self as Keyed>⟧.keyed self.old }
         ensures* after { sem 𝓛 (ends_hash_inserted S.row T.row ⟦<Self as Keyed>⟧.keyed self.entry result item) }
@@ -36,18 +37,24 @@ impl<T: IdHashItem, S: BuildHasher> IdHashMap<T, S> {
         }
     }
 
-    /// Puts the item in the stead of one of an equal key, which it answers: the whole item, its key's spelling too.
-    /// That needs no memory and is never refused. Where there is none, it inserts the item as `insert_unique` does and
-    /// answers `None`; a full map and refused memory hand the item back, and then the items are as they were (ours: the
-    /// crate panics or aborts for want of room). It hashes the key once and searches once.
+    /// Replaces the item of equal key, which it returns: the whole item, its key's spelling too. A replacement needs no
+    /// memory and is never refused. If no item has an equal key, inserts the item as `insert_unique` does, and returns
+    /// `None`. If the limit or memory refuses the item, it is returned, and no item has changed. Hashes the key once
+    /// and searches once.
     pub fn insert_overwrite(&mut self, item: T) -> Result<Option<T>, Refused<T>>
         requires keyed { ⟦<Self as Keyed>⟧.keyed self.old }
+
+        // on success
         ensures found { IfOk result (IsFound T.key (T.Key.eq (T.key item)) self.old) }
         ensures replaced { IfOk result (ReplacesIfFound T.key T.Key.eq item self.old self.new) }
         ensures inserted { IfOk result (InsertsNew ⟦<Self as Keyed>⟧.keyed item self.old self.new) }
         ensures there { OnOk result (HasItemOf T.key T.Key.eq item self.new) }
+
+        // on refusal
         ensures refused { IfErr result (HandsBack T.key T.Key.eq self.old item) }
         ensures kept { OnErr result (HashKeeps ⟦<Self as Keyed>⟧.keyed self.old self.new) }
+
+        // either way
         ensures stays { HashStays ⟦<Self as Keyed>⟧.keyed self.old self.new }
     {
         let hash = self.hasher.hash_one(item.key());
@@ -60,8 +67,8 @@ impl<T: IdHashItem, S: BuildHasher> IdHashMap<T, S> {
         }
     }
 
-    /// Lends nothing: what a call answers that lends an item where it refuses, as `insert_unique` does, for such calls of
-    /// crates above.
+    /// Returns a reference to nothing of the map. A call of another crate returns it if it returns a reference in its
+    /// error, as `insert_unique` does.
     #[doc(hidden)]
     pub fn lend_nothing(&mut self) -> &mut ()
         ensures* lends { sem 𝓛 (lends_nothing S.row T.row self.entry result) }
@@ -69,15 +76,19 @@ impl<T: IdHashItem, S: BuildHasher> IdHashMap<T, S> {
         &mut self.done
     }
 
-    // Puts in an item whose key no other has, and answers its slot.
+    // Inserts an item whose key no other has, and returns its slot.
     pub(super) fn insert_new(&mut self, hash: u64, item: T) -> Result<u32, Refused<T>>
         requires keyed { ⟦<Self as Keyed>⟧.keyed self.old }
         requires absent { IsAbsent T.key (T.Key.eq (T.key item)) self.old.items }
         requires hash { hash ≡ ⟦<Self as Keyed>⟧.hash self.old (T.Key.hash_input (T.key item)) }
+
+        // on success
         ensures inserts { OnOk result (HashInserts ⟦<Self as Keyed>⟧.keyed item self.old self.new) }
         ensures placed { IfOk result (TakesSlot item hash self.old self.new) }
-        ensures kept { OnErr result (HashKeeps ⟦<Self as Keyed>⟧.keyed self.old self.new) }
+
+        // on refusal
         ensures refused { IfErr result (HandsBack T.key T.Key.eq self.old item) }
+        ensures kept { OnErr result (HashKeeps ⟦<Self as Keyed>⟧.keyed self.old self.new) }
     {
         if let Err(error) = reserve_one(&mut self.store, &mut self.index) {
             return Err(Refused { item, error });

@@ -1,4 +1,4 @@
-//! The items of a map that is gone, in no order that a caller may rely on. Contracts see the items that are still to come.
+//! The items of a consumed map, in no particular order. Contracts see the items to come.
 ghost use Rattle.std.specs.Prelude.{◌≡◌, length, IfSome};
 ghost use Rattle.std.specs.Iterator.{UpTo, YieldsFirst, at_most, item_count};
 ghost use Rattle.std.specs.Iterator.SizeHint.{IsWithinCount};
@@ -9,11 +9,11 @@ use iddqd_store::ItemStore;
 use std::iter::FusedIterator;
 use std::marker::Model;
 
-/// The items of a map that is gone, in no order that a caller may rely on (the crate's `IntoIter`). All steps
-/// together look at every slot once. Those that have not come are dropped with it.
+/// The items of a consumed map, in no particular order. All steps together look at every slot once. It drops the items
+/// that it has not returned.
 #[derive(Drop)]
 pub struct IntoIter<T> {
-    // The items that are still to come.
+    // The items to come.
     store: ItemStore<T>,
     // The slot to go on from.
     next: u32,

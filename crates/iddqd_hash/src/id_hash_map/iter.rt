@@ -1,4 +1,4 @@
-//! Reading walks, in no order that a caller may rely on. Contracts see the items that are still to come.
+//! Reading walks, in no particular order. Contracts see the items to come.
 ghost use Rattle.std.specs.Prelude.{◌≡◌, ◌<◌, ◌≤◌, length, IfNone, IfSome, None};
 ghost use Rattle.std.specs.Iterator.{UpTo, YieldsFirstRef, at_most, item_count};
 ghost use Rattle.std.specs.Iterator.SizeHint.{IsWithinCount};
@@ -9,14 +9,14 @@ use iddqd_store::ItemStore;
 use std::iter::FusedIterator;
 use std::marker::Model;
 
-/// The items of a map, lent one after the other in no order that a caller may rely on (the crate's `Iter`). The whole
-/// walk looks at each slot once, and compares no keys.
+/// References to the items of a map, in no particular order. The whole walk looks at each slot once, and compares no
+/// keys.
 #[derive(Drop)]
 pub struct Iter<'a, T> {
     store: &'a ItemStore<T>,
     // The slot to go on from.
     next: u32,
-    // How many items are still to come.
+    // The number of items to come.
     left: usize,
 }
 
@@ -66,7 +66,7 @@ impl<'a, T> ExactSizeIterator for Iter<'a, T> {
 impl<'a, T> FusedIterator for Iter<'a, T> {}
 
 impl<T, S> IdHashMap<T, S> {
-    /// The items, in no order that a caller may rely on. The walk looks at vacant slots too; it takes no memory.
+    /// Returns a walk over the items, in no particular order. It looks at vacant slots too. Does not allocate.
     pub fn iter(&self) -> Iter<'_, T>
         ensures { result ≡ self.now.items }
     {
@@ -90,7 +90,7 @@ impl<'a, T, S> IntoIterator for &'a IdHashMap<T, S> {
     }
 }
 
-// The first occupied slot from there on.
+// Returns the first occupied slot from this one on.
 pub(super) fn occupied_from<T>(store: &ItemStore<T>, from: u32) -> Option<u32>
     ensures some { IfSome result (IsFirstOccupied store.now from) }
     ensures none { IfNone result (AreVacant store.now from (length store.now.slots)) }

@@ -6,12 +6,12 @@ mod steps;
 
 use super::{DefaultHashBuilder, IdHashMap};
 
-/// Lends the items of a map for writing, in no order that a caller may rely on (the crate's `IterMut`; ours lends a plain
-/// reference, one at a time, so that its caller learns what the map is then).
+/// The items of a map, for writing, in no particular order. It returns a plain reference to one item at a time. So its
+/// caller learns what the map is then.
 #[derive(Drop)]
 pub struct IterMut<'a, T, S = DefaultHashBuilder> {
     map: &'a mut IdHashMap<T, S>,
-    // How many items it has lent.
+    // The number of items that it has returned.
     done: usize,
     // The number behind the slot of the last of them.
     next: u32,

@@ -7,13 +7,13 @@ mod reading;
 
 use super::{DefaultHashBuilder, IdHashMap};
 
-/// One item, lent for writing (the crate's `RefMut`). Each read and each write of it is one access to the store. Spend it
-/// by `finish`, `into_ref` or `into_mut`: a program that lets one go unspent is not accepted (ours: the crate looks at the
-/// key when the guard is dropped, and panics).
+/// One item, lent for writing. Each read and each write of it is one access to the store. Spend it by `finish`,
+/// `into_ref` or `into_mut`: a program that drops a guard is not accepted (the crate's guard panics if the key has
+/// changed).
 pub struct RefMut<'a, T, S = DefaultHashBuilder> {
     pub(super) map: &'a mut IdHashMap<T, S>,
     pub(super) slot: u32,
-    // Always false: nothing can show that a guard may be let go.
+    // Always false, so nothing can show that a guard may be dropped.
     pub(super) spent: bool,
     ghost there: { IsSome (item_of_slot map.now.slots map.now.items slot) },
 }
@@ -30,8 +30,7 @@ impl<'a, T, S> Drop for RefMut<'a, T, S> {
     }
 }
 
-/// The item of a guard that was spent, for reading (ours: the crate's `into_ref` answers a plain reference). While it is
-/// there the map stays as it is.
+/// The item of a spent guard, for reading. The map stays as it is while this value exists.
 #[derive(Drop)]
 pub struct Shown<'a, T, S = DefaultHashBuilder> {
     pub(super) map: &'a mut IdHashMap<T, S>,

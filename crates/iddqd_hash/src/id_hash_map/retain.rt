@@ -16,9 +16,8 @@ impl<T: IdHashItem, S: BuildHasher> IdHashMap<T, S> {
     ghost use Rattle.iddqd_hash.specs.HashItems.{holding_of};
     ghost use Rattle.iddqd_hash.specs.HashMap.{HashStays, LosesPlaceOf};
 
-    /// Asks once about each item, in no order that a caller may rely on, and takes out each that is answered false (the
-    /// crate's `retain`, over a closure that only reads). It looks at every slot, hashes the key of each item that goes,
-    /// once, and compares none. It takes no memory.
+    /// Calls `keep` once with each item, in no particular order, and removes each for which it returns false. Looks at
+    /// every slot. Hashes the key of each removed item once, and compares none. Does not allocate.
     pub fn retain<F: FnMut(&T) -> bool>(&mut self, mut keep: F)
     where
         T: Drop,
@@ -37,16 +36,20 @@ impl<T: IdHashItem, S: BuildHasher> IdHashMap<T, S> {
         }
     }
 
-    /// Visits each item once, in no order that a caller may rely on, and takes out each that is answered false (ours: the
-    /// crate's `retain` hands its closure a guard). No visit may change a key. It costs what `retain` does.
+    /// Visits each item once, in no particular order, and removes each for which the visit returns false (the crate's
+    /// `retain` passes its closure a guard). No visit may change a key. Costs what `retain` does.
     pub fn retain_mut<V: Visit<T>>(&mut self, visitor: &mut V)
     where
         T: Drop,
         requires keyed { ⟦<Self as Keyed>⟧.keyed self.old }
         requires keeps_keys { VisitsKeepKeys T.key T.Key.eq V.visits }
+
+        // what is kept
         ensures items { self.new.items ≡ kept_by V.visits visitor.old self.old.items }
         ensures visitor { visitor.new ≡ visitor_after V.visits visitor.old self.old.items }
         ensures leaves { LeavesSlots (holding_of self.old) (holding_of self.new) }
+
+        // what stays
         ensures stays { HashStays ⟦<Self as Keyed>⟧.keyed self.old self.new }
     {
         let mut next = 0;
@@ -69,7 +72,7 @@ impl<T: IdHashItem, S: BuildHasher> IdHashMap<T, S> {
         visitor.visit(self.item_in_slot_mut(slot))
     }
 
-    // Takes out the item of the slot. It hashes its key once.
+    // Removes the item of the slot. Hashes its key once.
     fn take_slot(&mut self, slot: u32) -> T
         requires keyed { ⟦<Self as Keyed>⟧.keyed self.old }
         requires there { IsSome (item_of_slot self.old.slots self.old.items slot) }
@@ -81,14 +84,18 @@ impl<T: IdHashItem, S: BuildHasher> IdHashMap<T, S> {
         self.take_hashed(hash, slot)
     }
 
-    // The same, where the hash that is stored for the slot is known.
+    // The same, with the hash that is stored for the slot.
     pub(super) fn take_hashed(&mut self, hash: u64, slot: u32) -> T
         requires keyed { ⟦<Self as Keyed>⟧.keyed self.old }
         requires there { IsSome (item_of_slot self.old.slots self.old.items slot) }
         requires listed { item_of_slot self.old.slots self.old.hashes slot ≡ Some hash }
+
+        // what is removed
         ensures value { item_of_slot self.old.slots self.old.items slot ≡ Some result }
         ensures gone { LosesPlaceOf slot self.old self.new }
         ensures removed { Removes (Some result) (holding_of self.old) (holding_of self.new) }
+
+        // what stays
         ensures stays { HashStays ⟦<Self as Keyed>⟧.keyed self.old self.new }
     {
         take_out(&mut self.store, &mut self.index, hash, slot)

@@ -14,22 +14,25 @@ use std::hash::BuildHasher;
 impl<T: IdHashItem> IdHashMap<T> {
     /// As `with_capacity_and_hasher`, over the default hasher.
     pub fn with_capacity(alloc: Global, capacity: usize) -> Result<Self, TryReserveError>
+        // on success
         ensures empty { IfOk result (HasNoItems MAX_ITEMS) }
         ensures spare { IfOk result (λ m. capacity ≤ m.spare) }
         ensures within_limit { IfOk result SpareFits }
         ensures capacity { IfOk result (λ m. capacity ≤ m.capacity) }
         ensures in_limit { OnOk result (capacity ≤ MAX_ITEMS) }
+        ensures keyed { IfOk result ⟦<Self as Keyed>⟧.keyed }
+
+        // on refusal
         ensures refused { IfErr result (λ e. e ≡ reservation_kind MAX_ITEMS capacity) }
         ensures asked { OnErr result (0 < capacity) }
-        ensures keyed { IfOk result ⟦<Self as Keyed>⟧.keyed }
     {
         IdHashMap::with_capacity_and_hasher(alloc, capacity, DefaultHashBuilder::new())
     }
 }
 
 impl<T: IdHashItem, S: BuildHasher> IdHashMap<T, S> {
-    /// A map without items, with so many spare: the next `capacity` new keys meet no refusal. It is refused by the limit
-    /// where `capacity` is above `MAX_ITEMS`, and else for want of memory, which it needs only for more than none.
+    /// Makes a map without items that accepts the next `capacity` new keys. The limit refuses it if `capacity` is above
+    /// `MAX_ITEMS`. Memory can refuse it only if `capacity` is above 0.
     pub fn with_capacity_and_hasher(
         alloc: Global,
         capacity: usize,
@@ -37,15 +40,18 @@ impl<T: IdHashItem, S: BuildHasher> IdHashMap<T, S> {
     ) -> Result<Self, TryReserveError>
     where
         S: Drop,
+        // on success
         ensures empty { IfOk result (HasNoItems MAX_ITEMS) }
         ensures spare { IfOk result (λ m. capacity ≤ m.spare) }
         ensures within_limit { IfOk result SpareFits }
         ensures capacity { IfOk result (λ m. capacity ≤ m.capacity) }
         ensures hasher { IfOk result (λ m. m.hasher ≡ hasher) }
         ensures in_limit { OnOk result (capacity ≤ MAX_ITEMS) }
+        ensures keyed { IfOk result ⟦<Self as Keyed>⟧.keyed }
+
+        // on refusal
         ensures refused { IfErr result (λ e. e ≡ reservation_kind MAX_ITEMS capacity) }
         ensures asked { OnErr result (0 < capacity) }
-        ensures keyed { IfOk result ⟦<Self as Keyed>⟧.keyed }
     {
         if capacity > MAX_ITEMS as usize {
             return Err(TryReserveError::capacity_overflow());
@@ -55,9 +61,9 @@ impl<T: IdHashItem, S: BuildHasher> IdHashMap<T, S> {
         Ok(IdHashMap::over(store, index, hasher))
     }
 
-    /// Makes room for `additional` more items, in the store and in the index: as many new keys then meet no refusal. It is
-    /// refused by the limit where that has no room for them, before any memory is asked for, and else for want of memory,
-    /// which it needs only where the spare is short. The items stay, and the spare is no less. It hashes no key.
+    /// Makes room for `additional` more items, in the store and in the index: the next `additional` new keys are
+    /// accepted. If the limit lacks room for them, it is refused before any memory is asked for. Memory can refuse it
+    /// only if `spare` is below `additional`. The items stay, and `spare` is no less. Hashes no key.
     pub fn reserve(&mut self, additional: usize) -> Result<(), TryReserveError>
         requires keyed { ⟦<Self as Keyed>⟧.keyed self.old }
         ensures reserves { OnOk result (Reserves additional self.old self.new) }
@@ -77,7 +83,7 @@ impl<T: IdHashItem, S: BuildHasher> IdHashMap<T, S> {
         self.reserve(additional)
     }
 
-    /// As `shrink_to(0)`: gives back what memory the items do not need, and without items all that the store has.
+    /// As `shrink_to(0)`: gives back the memory that the items do not need. Without items the store gives back all.
     pub fn shrink_to_fit(&mut self) -> Result<(), TryReserveError>
         requires keyed { ⟦<Self as Keyed>⟧.keyed self.old }
         ensures shrinks { HashShrinks ⟦<Self as Keyed>⟧.keyed 0 self.old self.new }
@@ -87,11 +93,10 @@ impl<T: IdHashItem, S: BuildHasher> IdHashMap<T, S> {
         self.shrink_to(0)
     }
 
-    /// Closes up the slots, and gives memory back, in the store and in the index, but for room for `min` items and for those
-    /// that are there: the items and the spare are then at least `min`, or as many as before. It is refused only for want of
-    /// memory: what is smaller is made beside what there is. Refused or not, the items stay and no slot is vacant then (the
-    /// crate says that it does nothing where `min` is above the capacity, and closes up all the same). Each item that moves
-    /// into a vacant slot has its key hashed once; an index that gives memory back reads each of its pairs.
+    /// Closes up the slots, and gives memory back, in the store and in the index. Room stays for the items, and for
+    /// `min` in all, or as much as there was. It can be refused only for memory, since the smaller arrays are made
+    /// before the old ones are dropped. Refused or not, the items stay and no slot is vacant then. Hashes the key of
+    /// each item that moves into a vacant slot once. An index that gives memory back reads each of its pairs.
     pub fn shrink_to(&mut self, min: usize) -> Result<(), TryReserveError>
         requires keyed { ⟦<Self as Keyed>⟧.keyed self.old }
         ensures shrinks { HashShrinks ⟦<Self as Keyed>⟧.keyed min self.old self.new }

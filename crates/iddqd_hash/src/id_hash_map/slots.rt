@@ -8,11 +8,16 @@ use super::IdHashMap;
 impl<T, S> IdHashMap<T, S> {
     ghost use Rattle.iddqd_hash.specs.HashMap.{SpareFits};
 
-    // The first slot from this number on that has an item, or `None`. It looks at each slot up to that one.
+    // Returns the first slot from this number on that has an item. Looks at each slot up to that one.
     pub(super) fn slot_from(&self, from: u32) -> Option<u32>
+        // if a slot has an item
         ensures there { IfSome result (IsNext self.now.slots from) }
         ensures fits { IfSome result (λ slot. slot < u32.MAX) }
+
+        // if none has
         ensures none { IfNone result (slots_below from self.now.slots ≡ length self.now.slots) }
+
+        // either way
         ensures rises { AreRising self.now.slots }
         ensures spare { SpareFits self.now }
         ensures own { HaveSlots self.now.slots self.now.items }

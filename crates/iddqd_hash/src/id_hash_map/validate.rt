@@ -1,4 +1,4 @@
-//! What the structure is asked.
+//! Checks of the structure.
 ghost use Rattle.std.specs.Prelude.{◌↔◌, IsErr};
 ghost use Rattle.iddqd_store.specs.Validation.{IsNotCompact};
 
@@ -7,8 +7,8 @@ use iddqd_store::{IdHashItem, ValidateCompact, ValidationError};
 use std::hash::BuildHasher;
 
 impl<T: IdHashItem, S: BuildHasher> IdHashMap<T, S> {
-    /// `Err` exactly where slots are vacant and none may be. That keys and index agree is known (the crate looks each key
-    /// up again). It takes no memory.
+    /// Returns `Err` exactly if slots are vacant and none may be. Keys and index agree by proof, so no key is looked
+    /// up. Does not allocate.
     #[doc(hidden)]
     pub fn validate(&self, compact: ValidateCompact) -> Result<(), ValidationError>
         requires keyed { ⟦<Self as Keyed>⟧.keyed self.now }
@@ -19,7 +19,7 @@ impl<T: IdHashItem, S: BuildHasher> IdHashMap<T, S> {
 }
 
 impl<T, S> IdHashMap<T, S> {
-    /// The same of a map that need not be keyed.
+    /// The same for a map that need not be keyed.
     #[doc(hidden)]
     pub fn validate_structural(&self, compact: ValidateCompact) -> Result<(), ValidationError>
         ensures { IsErr result ↔ IsNotCompact compact self.now.vacant }

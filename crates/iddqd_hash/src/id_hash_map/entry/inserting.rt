@@ -1,4 +1,4 @@
-//! What each insertion by an entry does to the map.
+//! The insertion that all calls of an entry share.
 ghost use Rattle.std.specs.Prelude.{IfErr, IfOk, OnErr, OnOk};
 ghost use Rattle.iddqd_store.specs.Contents.{IsAbsent};
 
@@ -9,12 +9,16 @@ use std::hash::BuildHasher;
 impl<T: IdHashItem, S: BuildHasher> IdHashMap<T, S> {
     ghost use Rattle.iddqd_hash.specs.HashMap.{HandsBack, HashInserts, HashKeeps, TakesSlot};
 
-    // Puts in an item whose key no other has, and answers its slot and its hash.
+    // Inserts an item whose key no other has, and returns its slot and its hash.
     pub(super) fn insert_absent(&mut self, item: T) -> Result<(u32, u64), Refused<T>>
         requires keyed { ⟦<Self as Keyed>⟧.keyed self.old }
         requires absent { IsAbsent T.key (T.Key.eq (T.key item)) self.old.items }
+
+        // on success
         ensures inserts { OnOk result (HashInserts ⟦<Self as Keyed>⟧.keyed item self.old self.new) }
         ensures placed { IfOk result (λ at. TakesSlot item at.1 self.old self.new at.0) }
+
+        // on refusal
         ensures kept { OnErr result (HashKeeps ⟦<Self as Keyed>⟧.keyed self.old self.new) }
         ensures refused { IfErr result (HandsBack T.key T.Key.eq self.old item) }
     {

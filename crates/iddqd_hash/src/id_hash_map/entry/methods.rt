@@ -10,20 +10,24 @@ use iddqd_store::{IdHashItem, Refused, Visit};
 use std::hash::BuildHasher;
 
 impl<'a, T: IdHashItem, S: BuildHasher> Entry<'a, T, S> {
-    /// Lends the item there and drops this one; where there is none, inserts this one as `VacantEntry::insert` does and lends
-    /// it. The guard has to be spent.
-    /// Match the refusal by a name, as in `Err(_refused)`: beside a guard that is moved out of `Ok`, `Err(_)` gets no proof, if
-    /// the items are not `Copy`.
+    /// Returns a guard of the entry's item, and drops this item. If the entry is vacant, inserts this item as
+    /// `VacantEntry::insert` does, and returns a guard of it. The guard has to be spent.
+    /// Match the refusal by a name, as in `Err(_refused)`. Beside a guard that is moved out of `Ok`, `Err(_)` gets no
+    /// proof, if the items are not `Copy`.
     pub fn or_insert(self, item: T) -> Result<RefMut<'a, T, S>, Refused<T>>
     where
         T: Drop,
         requires keyed { ⟦<IdHashMap<T, S> as Keyed>⟧.keyed (entry_map self) }
         requires absent { entry_item self ≡ None → LacksKeyOf T.key T.Key.eq item self }
+
+        // on success
         ensures same_map { IfOk result (λ r. guard_lender r ≡ entry_lender self.entry) }
         ensures found { IfOk result (LendsIfOccupied self.entry) }
         ensures inserted { IfOk result (LendsIfVacant ⟦<IdHashMap<T, S> as Keyed>⟧.keyed item self.entry) }
         ensures keyed { IfOk result (GuardKeeps T.key ⟦<IdHashMap<T, S> as Keyed>⟧.keyed) }
         ensures keyed_akin { IfOk result (GuardKeepsAkin T.key T.Key.eq ⟦<IdHashMap<T, S> as Keyed>⟧.keyed) }
+
+        // on refusal
         ensures* kept { sem 𝓛 (lends_or_keeps S.row T.row ⟦<IdHashMap<T, S> as Keyed>⟧.keyed self.entry result) }
         ensures absent { IfErr result (λ refused. entry_item self.entry ≡ None) }
         ensures refused { IfErr result (HandsBackFrom T.key T.Key.eq self.entry item) }
@@ -41,24 +45,28 @@ impl<'a, T: IdHashItem, S: BuildHasher> Entry<'a, T, S> {
         }
     }
 
-    /// As `or_insert`, with the item that the closure makes. It is called only where there is none.
+    /// As `or_insert`, with the item that the closure makes. Calls it only if the entry is vacant.
     pub fn or_insert_with<F: FnOnce() -> T>(self, make: F) -> Result<RefMut<'a, T, S>, Refused<T>>
         requires keyed { ⟦<IdHashMap<T, S> as Keyed>⟧.keyed (entry_map self) }
         requires callable { entry_item self ≡ None → F.pre make }
         requires absent { entry_item self ≡ None → LacksKeysOf T.key T.Key.eq (F.post make) self }
+
+        // on success
         ensures same_map { IfOk result (λ r. guard_lender r ≡ entry_lender self.entry) }
         ensures found { IfOk result (LendsIfOccupied self.entry) }
         ensures inserted { IfOk result (LendsMade ⟦<IdHashMap<T, S> as Keyed>⟧.keyed (F.post make) self.entry) }
         ensures keyed { IfOk result (GuardKeeps T.key ⟦<IdHashMap<T, S> as Keyed>⟧.keyed) }
         ensures keyed_akin { IfOk result (GuardKeepsAkin T.key T.Key.eq ⟦<IdHashMap<T, S> as Keyed>⟧.keyed) }
+
+        // on refusal
         ensures* kept { sem 𝓛 (lends_or_keeps S.row T.row ⟦<IdHashMap<T, S> as Keyed>⟧.keyed self.entry result) }
         ensures absent { IfErr result (λ refused. entry_item self.entry ≡ None) }
         ensures item { IfErr result (λ refused. F.post make refused.item) }
         ensures refused { IfErr result (λ e. HandsBackFrom T.key T.Key.eq self.entry e.item e) }
     {
         match self {
-            Entry::Occupied(entry) => {
-                let OccupiedEntry { map, slot, hash: _ } = entry;
+            Entry::Occupied(found) => {
+                let OccupiedEntry { map, slot, hash: _ } = found;
                 Ok(RefMut {
                     map,
                     slot,
@@ -69,8 +77,8 @@ impl<'a, T: IdHashItem, S: BuildHasher> Entry<'a, T, S> {
         }
     }
 
-    /// Visits the item there, once, and ignores the answer; where there is none, it does nothing (ours: the crate's hands a
-    /// guard to a closure). The visit may not change the key. It hashes and compares no keys.
+    /// Visits the entry's item once, and ignores the result. If the entry is vacant, it does nothing (the crate passes
+    /// a guard to a closure). The visit may not change the key. Hashes and compares no keys.
     pub fn and_modify<V: Visit<T>>(self, visitor: &mut V) -> Entry<'a, T, S>
         requires keyed { ⟦<IdHashMap<T, S> as Keyed>⟧.keyed (entry_map self) }
         requires keeps_key { VisitKeepsKey T.key T.Key.eq V.visits visitor.old self }

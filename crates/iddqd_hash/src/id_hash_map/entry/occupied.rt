@@ -1,4 +1,4 @@
-//! The item of an entry: read, lent, replaced, taken out. None of this looks for it again, and none takes memory.
+//! The item of an entry: read, lent, replaced, removed. No call looks for it again, and none allocates.
 ghost use Rattle.std.specs.Prelude.{◌≡◌, IfSome, Some};
 ghost use Rattle.std.specs.Borrow.{sem};
 ghost use Rattle.iddqd_hash.specs.Entry.{EntryKeeps, EntryKeepsAkin, HasKeyOf, Occupied, RemovesAt, entry_follows, entry_item, entry_map, entry_lender, entry_others, entry_slot, entry_with};
@@ -19,7 +19,7 @@ impl<'a, T, S> OccupiedEntry<'a, T, S> {
         self.map.item_in_slot(self.slot)
     }
 
-    /// Shows the item for as long as the map is lent (ours: the crate's answers a plain reference).
+    /// Returns the item, for reading while the map is borrowed (the crate returns a plain reference).
     #[inline]
     pub fn into_ref(self) -> Shown<'a, T, S>
         ensures same_map { shown_lender result ≡ entry_lender (Occupied self.entry) }
@@ -45,13 +45,17 @@ impl<'a, T: IdHashItem, S: BuildHasher> OccupiedEntry<'a, T, S> {
         self.map.item_in_slot_mut(slot)
     }
 
-    /// Lends the item for as long as the map is lent. The guard has to be spent.
+    /// Returns a guard of the item, for writing while the map is borrowed. The guard has to be spent.
     #[inline]
     pub fn into_mut(self) -> RefMut<'a, T, S>
         requires keyed { ⟦<IdHashMap<T, S> as Keyed>⟧.keyed (entry_map (Occupied self)) }
+
+        // what is lent
         ensures same_map { guard_lender result ≡ entry_lender (Occupied self.entry) }
         ensures lent { lent_map result ≡ entry_map (Occupied self.entry) }
         ensures slot { lent_slot result ≡ entry_slot self.entry }
+
+        // what may be written
         ensures keyed { GuardKeeps T.key ⟦<IdHashMap<T, S> as Keyed>⟧.keyed result }
         ensures keyed_akin { GuardKeepsAkin T.key T.Key.eq ⟦<IdHashMap<T, S> as Keyed>⟧.keyed result }
     {
@@ -63,15 +67,19 @@ impl<'a, T: IdHashItem, S: BuildHasher> OccupiedEntry<'a, T, S> {
         }
     }
 
-    /// Puts the item, whose key is equal to the entry's, in the stead of the one there, which it answers: the whole item,
-    /// its key's spelling too. It hashes and compares no keys.
+    /// Replaces the entry's item by one of equal key, and returns the old one: the whole item, its key's spelling too.
+    /// Hashes and compares no keys.
     pub fn insert(&mut self, item: T) -> T
         requires keyed { ⟦<IdHashMap<T, S> as Keyed>⟧.keyed (entry_map (Occupied self.old)) }
         requires akin { IfSome (entry_item (Occupied self.old)) (HasKeyOf T.key T.Key.eq item) }
+
+        // what is replaced
         ensures old { entry_item (Occupied self.old) ≡ Some result }
         ensures new { entry_item (Occupied self.new) ≡ Some item }
-        ensures same_map { entry_lender (Occupied self.new) ≡ entry_lender (Occupied self.old) }
         ensures map { entry_map (Occupied self.new) ≡ entry_with (Occupied self.old) item }
+
+        // what stays
+        ensures same_map { entry_lender (Occupied self.new) ≡ entry_lender (Occupied self.old) }
         ensures slot { entry_slot self.new ≡ entry_slot self.old }
         ensures others { entry_others (Occupied self.new) ≡ entry_others (Occupied self.old) }
         ensures keyed { ⟦<IdHashMap<T, S> as Keyed>⟧.keyed (entry_map (Occupied self.new)) }
@@ -79,7 +87,7 @@ impl<'a, T: IdHashItem, S: BuildHasher> OccupiedEntry<'a, T, S> {
         mem::replace(self.get_mut(), item)
     }
 
-    /// Takes the item out, and answers it. Its slot is vacant then, and its room is spare. It hashes and compares no keys.
+    /// Removes and returns the item. Its slot is vacant then, and its room is spare. Hashes and compares no keys.
     pub fn remove(self) -> T
         requires keyed { ⟦<IdHashMap<T, S> as Keyed>⟧.keyed (entry_map (Occupied self)) }
         ensures { RemovesAt ⟦<IdHashMap<T, S> as Keyed>⟧.keyed result self.entry self.exit.0.now }

@@ -1,4 +1,4 @@
-//! Insertions where no item was found. The limit is looked at first, then memory, and only then is anything changed.
+//! Insertions by a vacant entry. Each looks at the limit first, then asks for memory, and only then changes anything.
 ghost use Rattle.std.specs.Prelude.{◌≡◌, IfErr, IfOk};
 ghost use Rattle.std.specs.Borrow.{sem};
 ghost use Rattle.iddqd_hash.specs.Entry.{EntersInserted, HandsBackFrom, LacksKeyOf, LendsInserted, Vacant, entry_map, entry_lender, enters_or_keeps, lends_or_keeps};
@@ -10,19 +10,23 @@ use iddqd_store::{IdHashItem, Refused};
 use std::hash::BuildHasher;
 
 impl<'a, T: IdHashItem, S: BuildHasher> VacantEntry<'a, T, S> {
-    /// Inserts the item under the hash of its own key, which no item has and which need not be the one that was asked for,
-    /// and lends it. A full map and refused memory hand the item back, and then the items are as they were (ours: the crate
-    /// panics or aborts for want of room). Where `spare` is above 0 it is never refused. It hashes the key once, and compares
-    /// none; a growth reads each pair of the index. The guard has to be spent.
-    /// Match the refusal by a name, as in `Err(_refused)`: beside a guard that is moved out of `Ok`, `Err(_)` gets no proof, if
-    /// the items are not `Copy`.
+    /// Inserts the item and returns a guard of it, which has to be spent. No item may have the item's key, which need
+    /// not be the key that was asked for. If the limit or memory refuses the item, it is returned, and no item has
+    /// changed. If `spare` is above 0, it is never refused. Hashes the key once, and compares none. If the index grows,
+    /// it reads each of its pairs.
+    /// Match the refusal by a name, as in `Err(_refused)`. Beside a guard that is moved out of `Ok`, `Err(_)` gets no
+    /// proof, if the items are not `Copy`.
     pub fn insert(self, item: T) -> Result<RefMut<'a, T, S>, Refused<T>>
         requires keyed { ⟦<IdHashMap<T, S> as Keyed>⟧.keyed (entry_map (Vacant self)) }
         requires absent { LacksKeyOf T.key T.Key.eq item (Vacant self) }
+
+        // on success
         ensures same_map { IfOk result (λ r. guard_lender r ≡ entry_lender (Vacant self.entry)) }
         ensures inserted { IfOk result (LendsInserted ⟦<IdHashMap<T, S> as Keyed>⟧.keyed item (Vacant self.entry)) }
         ensures keyed { IfOk result (GuardKeeps T.key ⟦<IdHashMap<T, S> as Keyed>⟧.keyed) }
         ensures keyed_akin { IfOk result (GuardKeepsAkin T.key T.Key.eq ⟦<IdHashMap<T, S> as Keyed>⟧.keyed) }
+
+        // on refusal
         ensures* kept { sem 𝓛 (lends_or_keeps S.row T.row ⟦<IdHashMap<T, S> as Keyed>⟧.keyed (Vacant self.entry) result) }
         ensures refused { IfErr result (HandsBackFrom T.key T.Key.eq (Vacant self.entry) item) }
     {
@@ -37,7 +41,7 @@ impl<'a, T: IdHashItem, S: BuildHasher> VacantEntry<'a, T, S> {
         }
     }
 
-    /// Inserts the item as `insert` does, and answers its entry.
+    /// Inserts the item as `insert` does, and returns its entry.
     pub fn insert_entry(self, item: T) -> Result<OccupiedEntry<'a, T, S>, Refused<T>>
         requires keyed { ⟦<IdHashMap<T, S> as Keyed>⟧.keyed (entry_map (Vacant self)) }
         requires absent { LacksKeyOf T.key T.Key.eq item (Vacant self) }

@@ -1,4 +1,4 @@
-//! Making a writing walk, and its steps.
+//! How a writing walk begins, and its steps.
 ghost use Rattle.std.specs.Prelude.{◌≡◌, ◌-◌, ◌<◌, ◌↔◌, IsSome, length};
 ghost use Rattle.std.specs.Borrow.{sem};
 ghost use Rattle.std.specs.Option.{option_copied_mut};
@@ -10,8 +10,8 @@ use iddqd_store::IdHashItem;
 use std::hash::BuildHasher;
 
 impl<T: IdHashItem, S: BuildHasher> IdHashMap<T, S> {
-    /// A walk over the items that lends each once. It hashes nothing, compares no keys and does not allocate. The map stays
-    /// keyed unless you change an item's key.
+    /// Returns a walk that lends each item once. The map stays keyed unless you change an item's key. Hashes nothing
+    /// and compares no keys. Does not allocate.
     #[inline]
     pub fn iter_mut(&mut self) -> IterMut<'_, T, S>
         requires keyed { ⟦<Self as Keyed>⟧.keyed self.old }

@@ -1,4 +1,4 @@
-use Rattle.std.proofs.Common.{◌∙◌, ◌<◌, Some, length, refl, sym, ap, subst, arith}
+use Rattle.std.proofs.Common.{◌∙◌, ◌<◌, Some, length, refl, sym, ap, subst, arith, rules}
 use Rattle.std.specs.Option.{option_map}
 use Rattle.iddqd_store.specs.Contents.{AddsItem, IsAbsent}
 use Rattle.iddqd_store.specs.Hashing.{hash_under}
@@ -86,3 +86,6 @@ returns-clause-placed g c =
       written = λ w. subst (λ items. AddsItem w items (written_to_slot new.slots new.items slot w)) same (added_written room put.new.store slot x put.ensures.was_vacant put.ensures.updates w);
       others = added_others room put.new.store slot x put.ensures.was_vacant put.ensures.updates ∙ same;
     }
+
+pub returns-in-Err-clause-inserts : goal.returns-in-Err-clause-inserts
+returns-in-Err-clause-inserts g c = search rules

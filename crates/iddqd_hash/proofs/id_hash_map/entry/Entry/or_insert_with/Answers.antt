@@ -8,7 +8,7 @@ use Rattle.iddqd_hash.proofs.id_hash_map.entry.Entry.or_insert_with.Goals as goa
 pub returns-in-Occupied : goal.returns-in-Occupied
 unfolding IsKeyed
 returns-in-Occupied g c =
-    let e = c.in-Occupied.entry in
+    let e = c.in-Occupied.found in
     let is = c.in-Occupied.is in
     let sorted = subst (λ s. KeyedItems g.T.IdHashItem.key g.T.Key.PartialEq.eq g.T.Key.Hash.hash_input (hash_under g.S.BuildHasher g.S.Hasher.Hasher) (entry_map s)) is c.requires.keyed in
     let absurdly = λ (none : entry_item c.args.self ≡ None). true≢false (sym e.there ∙ ap (λ s. is_some (entry_item s)) (sym is) ∙ ap is_some none) in (
