@@ -1,13 +1,13 @@
 -- What a contract sees of an entry of a hash map.
 --     entry_map, entry_lender      the map as the entry holds it, the name of the reference to the map
---     entry_item, entry_slot      the item there, if there is one, and the slot of an occupied entry
---     entry_with e w      the map once w stands in the entry's place; where there is none, the map
+--     entry_item, entry_slot      its item, if it has one, and the slot of an occupied entry
+--     entry_with e w      the map once w is written to the entry's item; if the entry is vacant, the map
 --     entry_others e      the items but for the entry's
---     LacksKeyOf, LacksKeysOf      no item of the entry's map has a key equal to this item's, or to that of one that a closure makes
+--     LacksKeyOf, LacksKeysOf      no item of its map has a key equal to this item's, or to that of one that a closure makes
 --     IsEntryOf, IsEntryFor      the entry of an item, or of none; the entry of what a query finds
 --     PassesTest, HasKeyOf, VisitKeepsKey      the key of an item, and after a visit
---     HandsBackFrom      the refused item is returned
---     RemovesAt      the entry's item was taken out
+--     HandsBackFrom      the item was refused for lack of room, and is returned
+--     RemovesAt      the entry's item was removed
 --     LendsIfOccupied      if the entry is occupied, its item is lent
 --     LendsFound, LendsInserted, EntersInserted      the entry's item is lent; the inserted one is, or has this entry
 --     LendsIfVacant, LendsMade      if the entry is vacant, the inserted item is lent, this one or one that a closure made
@@ -123,7 +123,7 @@ module _ {S T K : Type 0} (key : T → K) where
   HandsBackFrom eq e x refused = HandsBack key eq (entry_map e) x refused
 
 module _ {S T : Type 0} (IsKeyed : HashItems S T → Type 0) where
-  -- the entry's item was taken out of its map
+  -- the entry's item was removed from its map
   pub record RemovesAt (x : T) (e : OccupiedEntry T S) (new : HashItems S T) : Type 0 where
     pub item : entry_item (Occupied e) ≡ Some x
     pub others : new.items ≡ entry_others (Occupied e)
@@ -150,7 +150,7 @@ module _ {S T : Type 0} (IsKeyed : HashItems S T → Type 0) where
   abbrev pub LendsMade : (T → Type 0) → Entry T S → RefMut T S → Type 0
   LendsMade made e r = entry_item e ≡ None → (x : T) × made x × LendsInserted x e r
 
--- in a keyed map an item of the same key, or of an equal one, may be written to the entry: the map is keyed then
+-- if the map is keyed, it is so after a write of an item of the same key, or of an equal one
 module _ {S T K : Type 0} (key : T → K) (IsKeyed : HashItems S T → Type 0) where
   abbrev pub EntryKeeps : OccupiedEntry T S → MutBor T → Type 0
   EntryKeeps e lent =
@@ -166,7 +166,7 @@ module _ (S T : RattleType) where
   entry_follows e x =
       follows (occupied.the_row (record { mir = named 1; lft = [] }) T S) T e.ghost_name x.ghost_name (with_entry_item e.now)
 
-  -- where the item was refused, the map behind the entry keeps its items; what it is given to else holds the map under the name
+  -- if an item was refused, the map behind the entry keeps its items; otherwise the result holds the map under this name
   abbrev pub rests_if_refused : {A E : Type 0} → (HashItems S.Denot T.Denot → Type 0) → (A → GName) → Entry T.Denot S.Denot → Result A E → Fml
   rests_if_refused IsKeyed name e r = RestsIfErr (map.the_row T S) (entry_map_ref e) name r (HashKeeps IsKeyed (entry_map e))
 

@@ -1,11 +1,12 @@
 -- What a contract sees of a guard of a hash map.
---     with_item_in m slot w      the map, once w stands in the slot
+--     with_item_in m slot w      the map, once w is written to the slot
 --     VisitsSlot      the slot's item was visited
---     lent_map, lent_slot, lent_item, guard_lender      the map as the guard holds it, the slot, its item, the name of the reference to the map
+--     lent_map, lent_slot, lent_item      the map as the guard holds it, the slot, its item
+--     guard_lender      the name of the guard's reference to the map
 --     lent_with r w      the map once w is written through the guard
---     GuardFinds, GuardOverwrites      it lends the item that a query finds, and what is written stands in the place of that item
+--     GuardFinds, GuardOverwrites      it lends the item that a query finds, and a write overwrites that item
 --     GuardKeeps, GuardKeepsAkin      an item of the same key, or of an equal one, may be written
---     shown_map, shown_item, shown_lender      the same of what `into_ref` answers
+--     shown_map, shown_item, shown_lender      the same of what `into_ref` returns
 --     lends_item, item_follows, guard_follows      the map, or the guard, ends with the last value written
 --     rests_at_none      with no guard the map stays as it is
 use Rattle.std.specs.Prelude.{◌≡◌, ℕ, [], Bool, IsTrue, Option, Some}
@@ -23,7 +24,7 @@ module _ {S T : Type 0} where
   abbrev pub with_item_in : HashItems S T → ℕ → T → HashItems S T
   with_item_in m slot w = record m { items = written_to_slot m.slots m.items slot w }
 
-  -- a visit of the slot's item left the item that it told, and the visitor too
+  -- the slot's item was visited, and now is as the visit left it; so is the visitor
   abbrev pub VisitsSlot : {V : Type 0} → (V → T → V × T × Bool) → V → V → ℕ → HashItems S T → HashItems S T → Bool → Type 0
   VisitsSlot visits before after slot old new kept = (x y : T)
       × (item_of_slot old.slots old.items slot ≡ Some x)

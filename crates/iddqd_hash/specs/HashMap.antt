@@ -1,24 +1,28 @@
--- What the calls of a hash map leave. `IsKeyed` tells that its items lie as lookups expect them.
---     IsEmptyMap      there is no item, and no memory has been taken
---     HasNoItems      there is no item; memory may have been taken
---     SpareFits      what is there and what is spare fit the limit together
---     KeepsSpare      what is there and what is spare are no fewer together, and fit the limit
---     TakesSlot      an item that was inserted lies in this slot
---     LosesPlaceOf      a slot and its item have left their place
+-- What the calls of a hash map return and leave. `IsKeyed` says that no two items have equal keys, and that a lookup finds each.
+-- Room:
+--     SpareFits      the items and the spare together fit the limit
+--     KeepsSpare      together they are no fewer than before, and fit the limit
+--     Reserves, LacksRoomFor      there is room for n more items, or it was refused
+-- Changes:
+--     IsEmptyMap, HasNoItems      a map without items, before it allocates and after
 --     HashStays      what stays in each call that changes a keyed map: it is keyed, keeps the spare, and has the same hasher
---     HashInserts      the item was inserted
+--     HashInserts, HashFills      an item was inserted, or several
 --     HashKeeps      nothing has changed but the room, which may have grown
---     HashFills      items were inserted
 --     HashShrinks      the slots were closed up, and memory was given back
---     ReplacesIfFound, InsertsNew      what an overwriting leaves, if an item was found and if none was
---     Reserves, LacksRoomFor      room was made, or refused
---     OverwritesGiven, StopsOverwriting, HasSpareFirst, SpareFirst, KeepsIfNoItem      what `extend` leaves
---     Collects, HoldsAll, IsCollected      what a map collects
---     ShowsConflict, AddsEach      what `extend_unique` leaves and shows
---     IsFound, HasItemOf, KeepsOthers      an item is found, has the place of its key, or has left
---     HandsBack      an item was refused for want of room, and is returned
---     HaveEqualItems      what `eq` of two maps says
---     CloneHashesAlike      a hasher's clone hashes as it does
+--     TakesSlot, LosesPlaceOf      an inserted item has this slot; a slot is gone
+-- Searches, insertions and refusals:
+--     IsFound, HasItemOf, KeepsOthers      what a search finds, the item of a key, all items but one
+--     ReplacesIfFound, InsertsNew      what `insert_overwrite` leaves, if it finds an item and if it finds none
+--     RefusesItem, HandsBack      a refused item is returned, beside the existing one or for lack of room
+-- Many items:
+--     OverwritesGiven, StopsOverwriting, SpareFirst, KeepsIfNoItem      what `extend` leaves
+--     Collects, HoldsAll, IsCollected      the map that `from_iter` and `from_iter_unique` make
+--     AddsEach, ShowsConflict      what `extend_unique` leaves and returns
+-- Copies:
+--     HaveEqualItems, FindsEqual      what `eq` of two maps says
+--     CloneHashesAlike      a hasher's clone hashes as the hasher does
+-- After a loan:
+--     ends_hash_inserted, ends_hash_extended, lends_nothing      what the map is once the result is dropped
 use Rattle.std.specs.Prelude.{◌≡◌, ℕ, ◌+◌, ◌<◌, ◌≤◌, [], List, length, Bool, true, All, IfErr, IfNone, IfSome, OnOk, OnSome, Option, IsPermutation, IsSomeAnd, Result, Some, remove, slice_get}
 use Rattle.std.specs.Prelude.{min as least}
 use Rattle.std.specs.Borrow.{Fml, RattleType, MutBor, Lends, LendsSoOk, unit}
@@ -38,9 +42,11 @@ use Rattle.iddqd_hash.specs.HashItems.{HashItems, holding_of}
 use Rattle.iddqd_hash.specs.contracts.id_hash_map.IdHashMap.{the_row}
 
 module _ {S T : Type 0} where
+  -- no item, no slot and so no stored hash; nothing is spare, since nothing is allocated
   abbrev pub IsEmptyMap : ℕ → HashItems S T → Type 0
   IsEmptyMap limit m = m ≡ record m { items = []; slots = []; hashes = []; spare = 0; vacant = 0; capacity = 0; limit = limit }
 
+  -- no item, no slot and no stored hash; memory may be allocated
   abbrev pub HasNoItems : ℕ → HashItems S T → Type 0
   HasNoItems limit m = m ≡ record m { items = []; slots = []; hashes = []; vacant = 0; limit = limit }
 
@@ -57,7 +63,7 @@ module _ {S T : Type 0} where
     pub capacity : length old.items + n ≤ new.capacity
     pub in_limit : length old.items + n ≤ old.limit
 
-  -- room for n more items was refused, which as many spare ones would have had
+  -- room for n more items was refused, and fewer were spare
   pub record LacksRoomFor (n : ℕ) (m : HashItems S T) (refused : RefusalKind) : Type 0 where
     pub kind : refused ≡ reservation_kind m.limit (length m.items + n)
     pub needed : m.spare < n
@@ -69,14 +75,14 @@ module _ {S T : Type 0} where
   abbrev pub SpareFirst : HashItems S T → HashItems S T → ExtendError T → Type 0
   SpareFirst old new e = OnSome e.item (HasSpareFirst old new)
 
-  -- x was inserted and lies in this slot, under this hash; a write to the slot is as if that item had been inserted
+  -- the inserted x has this slot and this stored hash; a write to the slot is as if that item had been inserted
   pub record TakesSlot (x : T) (hash : ℕ) (old new : HashItems S T) (slot : ℕ) : Type 0 where
     pub there : item_of_slot new.slots new.items slot ≡ Some x
     pub listed : item_of_slot new.slots new.hashes slot ≡ Some hash
     pub written : (w : T) → AddsItem w old.items (written_to_slot new.slots new.items slot w)
     pub others : without_slot new.slots new.items slot ≡ old.items
 
-  -- the slot's place is gone, and its item with it
+  -- the slot and its item are gone from their place
   abbrev pub LosesPlaceOf : ℕ → HashItems S T → HashItems S T → Type 0
   LosesPlaceOf slot old new =
       (place : ℕ) → slice_get old.slots place ≡ Some slot → (new.items ≡ remove old.items place) × (new.slots ≡ remove old.slots place)
@@ -103,10 +109,11 @@ module _ {S T : Type 0} where
     abbrev pub InsertsNew : T → HashItems S T → HashItems S T → Option T → Type 0
     InsertsNew x old new found = IfNone found (HashInserts x old new)
 
-    -- if no item came back, nothing has changed but the room
+    -- if the error has no item, nothing has changed but the room
     abbrev pub KeepsIfNoItem : HashItems S T → HashItems S T → ExtendError T → Type 0
     KeepsIfNoItem old new e = IfNone e.item (HashKeeps old new)
 
+    -- a new map of the default limit, over a default hasher
     pub record IsCollected (is_default : S → Type 0) (m : HashItems S T) : Type 0 where
       pub vacant : m.vacant ≡ 0
       pub limit : m.limit ≡ max_items
@@ -114,7 +121,7 @@ module _ {S T : Type 0} where
       pub hasher : is_default m.hasher
       pub keyed : IsKeyed m
 
-    -- room for so many items is left, or as much as there was; the spare may be less
+    -- there is room for `min` items in all, or for as many as before; the spare may be less
     pub record HashShrinks (min : ℕ) (old new : HashItems S T) : Type 0 where
       pub items : IsPermutation old.items new.items
       pub shrinks : Shrinks min (holding_of old) (holding_of new)
@@ -128,17 +135,17 @@ module _ {S T K : Type 0} (key : T → K) (key_eq : K → K → Bool) (eq : T �
   abbrev pub FindsEqual : HashItems S T → T → Type 0
   FindsEqual m x = IsSomeAnd (find_item key (key_eq (key x)) m.items) (λ y. eq x y ≡ true)
 
-  -- as many items in both, and each one's key finds an equal item in the other; no order plays a part (the crate's `==`)
+  -- both have as many items, and each one's key finds an equal item in the other; no order plays a part
   pub record HaveEqualItems (one other : HashItems S T) : Type 0 where
     pub as_many : length one.items ≡ length other.items
     pub each_found : All (FindsEqual other) one.items
 
 module _ {S T K : Type 0} (key : T → K) where
-  -- this is what a search through the items finds
+  -- a search through the list of items finds this
   abbrev pub IsFound : (K → Bool) → HashItems S T → Option T → Type 0
   IsFound test m found = found ≡ find_item key test m.items
 
-  -- the items but for the one whose key passes the test
+  -- the new items are the old ones, but for the one whose key passes the test
   abbrev pub KeepsOthers : (K → Bool) → HashItems S T → HashItems S T → Type 0
   KeepsOthers test old new = new.items ≡ items_without key test old.items
 
@@ -151,31 +158,31 @@ module _ {S T K : Type 0} (key : T → K) (eq : K → K → Bool) where
   abbrev pub ReplacesIfFound : T → HashItems S T → HashItems S T → Option T → Type 0
   ReplacesIfFound x old new found = OnSome found (new ≡ record old { items = items_overwritten key (eq (key x)) x old.items })
 
-  -- the item of an equal key is shown, or there was no room
+  -- the error has x, beside the item of equal key, or for lack of room
   abbrev pub RefusesItem : HashItems S T → T → InsertError T → Type 0
   RefusesItem m x e = RefusesInsertion key eq m.limit m.items x e
 
   module _ {U I : Type 0} (becomes : U → I → Type 0) (steps : I → Option T → I → Type 0) (iter : U) where
-    -- all items came, each in the place of one of an equal key
+    -- the iterator's items were inserted, each in the place of the item of equal key, if there was one
     abbrev pub OverwritesGiven : HashItems S T → HashItems S T → Type 0
     OverwritesGiven old new = (xs : List T) × GivesAll becomes steps iter xs × OverwritesAll key eq old.limit xs old.items new.items
 
-    -- an item found no room and comes back, after those before it came
+    -- the error has an item that found no room, and the items before it were inserted
     abbrev pub StopsOverwriting : HashItems S T → HashItems S T → ExtendError T → Type 0
     StopsOverwriting old new e = IfSome e.item (λ x. (xs : List T)
         × GivesThen becomes steps iter xs x
         × OverwritesAll key eq old.limit xs old.items new.items
         × FindsNoRoom key eq old.limit new.items x e.error)
 
-    -- the items that came, of equal keys the last
+    -- the map has the iterator's items, of equal keys the last
     abbrev pub Collects : HashItems S T → Type 0
     Collects m = (xs : List T) × GivesAll becomes steps iter xs × OverwritesAll key eq max_items xs [] m.items
 
-    -- all items that came, whose keys differ
+    -- the map has all of the iterator's items, and no two have equal keys
     abbrev pub HoldsAll : HashItems S T → Type 0
     HoldsAll m = (xs : List T) × GivesAll becomes steps iter xs × NoTwoAkin key eq xs × IsPermutation xs m.items
 
-    -- the first item is shown whose key was there, from before or from the iterator
+    -- the error has the first item whose key another has, from the map or from the iterator
     abbrev pub ShowsConflict : HashItems S T → ExtendUniqueError T → Type 0
     ShowsConflict m e = ShowsFirstConflict key eq (GivesThen becomes steps iter) m.items e
 
@@ -185,7 +192,7 @@ module _ {S T K : Type 0} (key : T → K) (eq : K → K → Bool) where
         OnOk result (AddsGiven key eq (GivesAll becomes steps iter) old.items new.items)
         × IfErr result (HaltsAdding key eq (GivesThen becomes steps iter) (holding_of old) (holding_of new))
 
--- x was refused for want of room, which a spare one would have had, and is returned
+-- x was refused for lack of room, since nothing was spare, and is returned
 pub record HandsBack {S T K : Type 0} (key : T → K) (eq : K → K → Bool) (m : HashItems S T) (x : T) (refused : Refused T) : Type 0 where
   pub item : refused.item ≡ x
   pub no_room : FindsNoRoom key eq m.limit m.items x refused.error
@@ -195,7 +202,7 @@ pub record HandsBack {S T K : Type 0} (key : T → K) (eq : K → K → Bool) (m
 abbrev pub CloneHashesAlike : {S T : Type 0} → (S → S → Type 0) → (HashItems S T → HashWrites → ℕ) → HashItems S T → Type 0
 CloneHashesAlike is_clone hash m = (copy : _) → is_clone m.hasher copy → (writes : HashWrites) → hash (record m { hasher = copy }) writes ≡ hash m writes
 
--- what the map is once what an insertion shows is let go: at `Ok` the item is in; at `Err` the items are as they were, and beside a duplicate all is
+-- once the result of an insertion is dropped: at `Ok` the map has the item; at `Err` it keeps its items, and beside a duplicate nothing has changed
 abbrev pub ends_hash_inserted : (S T : RattleType) (IsKeyed : HashItems S.Denot T.Denot → Type 0) → MutBor (HashItems S.Denot T.Denot) → Result (MutBor unit.Denot) (InsertError T.Denot) → T.Denot → Fml
 ends_hash_inserted S T IsKeyed map result x =
     LendsSoOk (the_row T S) unit map result
@@ -206,8 +213,8 @@ ends_hash_inserted S T IsKeyed map result x =
 abbrev pub lends_nothing : (S T : RattleType) → MutBor (HashItems S.Denot T.Denot) → MutBor unit.Denot → Fml
 lends_nothing S T map result = Lends (the_row T S) unit map result (λ _. map.now)
 
--- what the map is once what `extend_unique` shows is let go: at `Ok` all items are in, and at `Err` those before the one that was not put in; as many new keys
--- as were spare are taken before one finds no room
+-- once the result of `extend_unique` is dropped: at `Ok` the map has all items, and at `Err` those before the one that was not inserted;
+-- as many new keys as were spare are inserted before one finds no room
 abbrev pub ends_hash_extended : (S T : RattleType) {K U I : Type 0} (key : T.Denot → K) (eq : K → K → Bool) (IsKeyed : HashItems S.Denot T.Denot → Type 0) (becomes : U → I → Type 0) (steps : I → Option T.Denot → I → Type 0) (iter : U) → MutBor (HashItems S.Denot T.Denot) → Result (MutBor unit.Denot) (ExtendUniqueError T.Denot) → Fml
 ends_hash_extended S T key eq IsKeyed becomes steps iter map result =
     LendsSoOk (the_row T S) unit map result

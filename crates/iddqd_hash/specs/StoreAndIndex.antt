@@ -4,6 +4,10 @@
 --     hash_of_slot pairs slot      the hash that is listed with a slot
 --     hashes_in store pairs      the hash that is stored for each item, in the items' order
 --     spare_in store index      how many new items fit without memory: in the index, in the store, and within the limit
+--     room_in store index      how many items fit in all
+--     KeepsBounds, GrowsRoom, MovesItems      what the private calls leave
+--     PairsOccupied      the index lists exactly the occupied slots, and the items fit
+--     AreHashed, IsSlotFound      what a search requires, and what it returns
 --     AreListedUnder tell store pairs      each item's slot is listed with the hash that is told of the item
 --     map_of, empty_map_of      what a contract sees of a map of these
 use Rattle.std.specs.Prelude.{◌≡◌, ℕ, ◌+◌, ◌-◌, ◌≤◌, ◌==◌, min, Bool, IsPermutation, IsTrue, List, [], ◌∷◌, length, Option, Some, None, is_some, if◌then◌else◌}
@@ -68,7 +72,7 @@ module _ {T : Type 0} where
     limit = store.limit;
   }
 
-  -- as many items as there are, and as many as are spare
+  -- the number of items, and of those that are spare
   abbrev pub room_in : Store T → HashPairs → ℕ
   room_in store index = spare_in store index + store_len store
 
@@ -91,7 +95,7 @@ module _ {T : Type 0} where
     pub spare : moved.spare ≡ index.spare
     pub bounds : KeepsBounds old new
 
-  -- a slot is listed exactly where it is occupied, and once; there is memory for the items, and no more of them than the limit
+  -- a slot is listed once if it is occupied, and else not; the items fit the capacity and the limit
   pub record PairsOccupied (store : Store T) (pairs : List (ℕ × ℕ)) : Type 0 where
     pub each_once : (n : ℕ) → of_slot pairs n ≡ (if is_some (item_at store n) then 1 else 0)
     pub counted : length pairs ≡ store_len store

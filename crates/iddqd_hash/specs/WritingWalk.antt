@@ -1,5 +1,6 @@
--- What a contract sees of a walk that lends the items of a hash map for writing (the crate's `IterMut`).
---     walk_map, walk_lender, walk_done      the map as the walk holds it, the name of the reference to it, how many items it has lent
+-- What a contract sees of a walk that lends the items of a hash map for writing (`IterMut`).
+--     walk_map, walk_lender      the map as the walk holds it, the name of the reference to it
+--     walk_done      how many items it has returned
 --     walk_item w      the item that it lends next
 --     walk_with w x      the map once x is written to the item that the walk lends next
 --     walk_lends      the walk ends with the last value written to the item, and one item further
@@ -44,7 +45,7 @@ module _ (S T : RattleType) where
   abbrev pub walk_lends : MutBor (IterMut T.Denot S.Denot) → Option (MutBor T.Denot) → Fml
   walk_lends w r = LendsIf (walk.the_row (record { mir = named 1; lft = [] }) T S) T w r (with_next w.now) w.now
 
--- in a keyed map an item of the same key, or of an equal one, may be written in the place of the one lent: the map is keyed then
+-- if the map is keyed, it is so after a write of an item of the same key, or of an equal one
 module _ {S T K : Type 0} (key : T → K) (IsKeyed : HashItems S T → Type 0) where
   abbrev pub WalkKeeps : IterMut T S → Option (MutBor T) → Type 0
   WalkKeeps walk result =
