@@ -1,6 +1,7 @@
 //! The first and the last item.
-ghost use Rattle.std.specs.Prelude.{◌≡◌, ◌+◌, ◌-◌, length, drop, take, IfNone, OnSome, option_copied, slice_get};
+ghost use Rattle.std.specs.Prelude.{◌≡◌, ◌-◌, length, drop, take, option_copied, slice_get};
 ghost use Rattle.iddqd_store.specs.Contents.{Ascends};
+ghost use Rattle.iddqd_store.specs.Holding.{Removes};
 
 use super::IdOrdMap;
 use super::store_and_index::take_out;
@@ -30,10 +31,7 @@ impl<T: IdOrdItem> IdOrdMap<T> {
         ensures value { result ≡ slice_get self.old.items 0 }
         ensures items { self.new.items ≡ drop 1 self.old.items }
         ensures slots { self.new.slots ≡ drop 1 self.old.slots }
-        ensures vacant { OnSome result (self.new.vacant ≡ self.old.vacant + 1) }
-        ensures unchanged { IfNone result (self.new ≡ self.old) }
-        ensures capacity { self.new.capacity ≡ self.old.capacity }
-        ensures limit { self.new.limit ≡ self.old.limit }
+        ensures removed { Removes result self.old self.new }
         ensures keyed { Ascends T.key T.Key.cmp self.new.items }
     {
         if self.is_empty() {
@@ -50,10 +48,7 @@ impl<T: IdOrdItem> IdOrdMap<T> {
         ensures value { result ≡ slice_get self.old.items (length self.old.items - 1) }
         ensures items { self.new.items ≡ take (length self.old.items - 1) self.old.items }
         ensures slots { self.new.slots ≡ take (length self.old.slots - 1) self.old.slots }
-        ensures vacant { OnSome result (self.new.vacant ≡ self.old.vacant + 1) }
-        ensures unchanged { IfNone result (self.new ≡ self.old) }
-        ensures capacity { self.new.capacity ≡ self.old.capacity }
-        ensures limit { self.new.limit ≡ self.old.limit }
+        ensures removed { Removes result self.old self.new }
         ensures keyed { Ascends T.key T.Key.cmp self.new.items }
     {
         if self.is_empty() {

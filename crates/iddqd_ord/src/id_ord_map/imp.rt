@@ -1,8 +1,8 @@
 //! Lookups and removals.
-ghost use Rattle.std.specs.Prelude.{◌≡◌, ◌+◌, ◌*◌, ◌<◌, ◌≤◌, length, IfNone, IfSome, OnSome, Some, option_copied, is_some, slice_get};
+ghost use Rattle.std.specs.Prelude.{◌≡◌, ◌+◌, ◌*◌, ◌<◌, ◌≤◌, length, Some, option_copied, is_some, slice_get};
 ghost use Rattle.iddqd_store.specs.Contents.{Ascends, find_item, items_without};
 ghost use Rattle.iddqd_ord_index.specs.Digits.{digits};
-ghost use Rattle.iddqd_store.specs.Holding.{LeavesSlot};
+ghost use Rattle.iddqd_store.specs.Holding.{Removes};
 
 use super::IdOrdMap;
 use super::store_and_index::take_out;
@@ -57,11 +57,7 @@ impl<T: IdOrdItem> IdOrdMap<T> {
         requires keyed { Ascends T.key T.Key.cmp self.old.items }
         ensures value { result ≡ find_item T.key (Q.equivalent query.now) self.old.items }
         ensures items { self.new.items ≡ items_without T.key (Q.equivalent query.now) self.old.items }
-        ensures slots { IfSome result (λ taken. LeavesSlot taken self.old self.new) }
-        ensures vacant { OnSome result (self.new.vacant ≡ self.old.vacant + 1) }
-        ensures unchanged { IfNone result (self.new ≡ self.old) }
-        ensures capacity { self.new.capacity ≡ self.old.capacity }
-        ensures limit { self.new.limit ≡ self.old.limit }
+        ensures removed { Removes result self.old self.new }
         ensures keyed { Ascends T.key T.Key.cmp self.new.items }
     {
         self.remove_counted(query, &mut Steps::new())
@@ -77,11 +73,7 @@ impl<T: IdOrdItem> IdOrdMap<T> {
         requires keyed { Ascends T.key T.Key.cmp self.old.items }
         ensures value { result ≡ find_item T.key (Q.equivalent query.now) self.old.items }
         ensures items { self.new.items ≡ items_without T.key (Q.equivalent query.now) self.old.items }
-        ensures slots { IfSome result (λ taken. LeavesSlot taken self.old self.new) }
-        ensures vacant { OnSome result (self.new.vacant ≡ self.old.vacant + 1) }
-        ensures unchanged { IfNone result (self.new ≡ self.old) }
-        ensures capacity { self.new.capacity ≡ self.old.capacity }
-        ensures limit { self.new.limit ≡ self.old.limit }
+        ensures removed { Removes result self.old self.new }
         ensures keyed { Ascends T.key T.Key.cmp self.new.items }
         ensures steps { steps.new ≤ steps.old + 4 + 2 * digits (length self.old.items) }
         ensures never_resets { steps.old ≤ steps.new }

@@ -1,9 +1,9 @@
 //! Keeping some of the items.
-ghost use Rattle.std.specs.Prelude.{◌≡◌, ◌+◌, ◌<◌, length, remove, slice_get, Some, slice_set};
+ghost use Rattle.std.specs.Prelude.{◌≡◌, ◌<◌, length, remove, slice_get, Some, slice_set};
 ghost use Rattle.std.specs.Fn.{CalledAt};
 ghost use Rattle.std.specs.List.Retain.{IsFiltered};
 ghost use Rattle.iddqd_store.specs.Contents.{Ascends};
-ghost use Rattle.iddqd_store.specs.Holding.{LeavesSlots};
+ghost use Rattle.iddqd_store.specs.Holding.{LeavesSlots, Removes};
 ghost use Rattle.iddqd_store.specs.SlotItems.{HaveSlots};
 ghost use Rattle.iddqd_store.specs.Visiting.{VisitsKeepKeys, kept_by, visitor_after};
 
@@ -75,9 +75,7 @@ impl<T: IdOrdItem> IdOrdMap<T> {
         requires keyed { Ascends T.key T.Key.cmp self.old.items }
         requires in_list { at < length self.old.items }
         ensures items { self.new.items ≡ remove self.old.items at }
-        ensures vacant { self.new.vacant ≡ self.old.vacant + 1 }
-        ensures capacity { self.new.capacity ≡ self.old.capacity }
-        ensures limit { self.new.limit ≡ self.old.limit }
+        ensures removed { Removes (Some result) self.old self.new }
         ensures keyed { Ascends T.key T.Key.cmp self.new.items }
     {
         let place = self.index.place(at);
@@ -92,9 +90,7 @@ impl<T: IdOrdItem> IdOrdMap<T> {
         ensures items { self.new.items ≡ remove self.old.items place }
         ensures slots { self.new.slots ≡ remove self.old.slots place }
         ensures own { HaveSlots self.old.slots self.old.items }
-        ensures vacant { self.new.vacant ≡ self.old.vacant + 1 }
-        ensures capacity { self.new.capacity ≡ self.old.capacity }
-        ensures limit { self.new.limit ≡ self.old.limit }
+        ensures removed { Removes (Some result) self.old self.new }
         ensures keyed { Ascends T.key T.Key.cmp self.new.items }
     {
         take_out(&mut self.store, &mut self.index, place)

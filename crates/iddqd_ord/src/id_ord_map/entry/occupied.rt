@@ -1,8 +1,8 @@
 //! The item of an entry: read, lent, replaced, taken out. None of this looks for it again, and none takes memory.
-ghost use Rattle.std.specs.Prelude.{◌≡◌, ◌+◌, IfSome, IsTrue, Some};
+ghost use Rattle.std.specs.Prelude.{◌≡◌, IfSome, IsTrue, Some};
 ghost use Rattle.std.specs.Borrow.{sem};
 ghost use Rattle.iddqd_store.specs.Contents.{Ascends};
-ghost use Rattle.iddqd_store.specs.Holding.{LeavesSlot};
+ghost use Rattle.iddqd_store.specs.Holding.{Removes};
 ghost use Rattle.iddqd_ord.specs.Entry.{EntryKeeps, EntryKeepsAkin, Occupied, entry_follows, entry_item, entry_map, entry_lender, entry_others, entry_slot, entry_with};
 ghost use Rattle.iddqd_ord.specs.Guard.{lent_item, lent_map, guard_lender, lent_slot, lent_with, shown_item, shown_map, shown_lender};
 
@@ -93,10 +93,7 @@ impl<'a, T: IdOrdItem> OccupiedEntry<'a, T> {
         requires keyed { Ascends T.key T.Key.cmp (entry_map (Occupied self)).items }
         ensures value { entry_item (Occupied self.entry) ≡ Some result }
         ensures items { self.exit.0.now.items ≡ entry_others (Occupied self.entry) }
-        ensures slots { LeavesSlot result (entry_map (Occupied self.entry)) self.exit.0.now }
-        ensures vacant { self.exit.0.now.vacant ≡ (entry_map (Occupied self.entry)).vacant + 1 }
-        ensures capacity { self.exit.0.now.capacity ≡ (entry_map (Occupied self.entry)).capacity }
-        ensures limit { self.exit.0.now.limit ≡ (entry_map (Occupied self.entry)).limit }
+        ensures removed { Removes (Some result) (entry_map (Occupied self.entry)) self.exit.0.now }
         ensures keyed { Ascends T.key T.Key.cmp self.exit.0.now.items }
     {
         let place = self.place;

@@ -31,9 +31,9 @@ loop-at-preserved g c =
       callable = search of_calls;
       asked = subst (λ xs. IsAsked (CalledAt g.F.FnMut) c.args.keep c.args.self.now.items c.keep.new.self xs at.at) (sym c.take_at.ensures.items) asked;
       within = omega (arith, c.loop-at-test.true, c.len.ensures.len, fewer, items);
-      vacant = omega (arith, at.invariant.vacant, c.take_at.ensures.vacant, fewer, items);
-      capacity = c.take_at.ensures.capacity ∙ at.invariant.capacity;
-      limit = c.take_at.ensures.limit ∙ at.invariant.limit;
+      vacant = omega (arith, at.invariant.vacant, c.take_at.ensures.removed.vacant, fewer, items);
+      capacity = c.take_at.ensures.removed.capacity ∙ at.invariant.capacity;
+      limit = c.take_at.ensures.removed.limit ∙ at.invariant.limit;
       keyed = c.take_at.ensures.keyed;
     }
 

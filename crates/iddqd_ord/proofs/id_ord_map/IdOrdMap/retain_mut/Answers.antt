@@ -41,9 +41,9 @@ loop-at-preserved g c =
       items = at.invariant.items ∙ visited_dropped visits at.visitor c.visit_at.new.visitor x y at.self.items at.at there told ∙ ap (λ xs. take at.at xs ++ kept_by visits c.visit_at.new.visitor (drop at.at xs)) (sym items);
       visitor = at.invariant.visitor ∙ visitor_dropped visits at.visitor c.visit_at.new.visitor x y at.self.items at.at false there told ∙ ap (λ xs. visitor_after visits c.visit_at.new.visitor (drop at.at xs)) (sym items);
       within = omega (arith, c.loop-at-test.true, c.len.ensures.len, fewer, many);
-      vacant = omega (arith, at.invariant.vacant, c.take_at.ensures.vacant, ap (λ m. m.vacant) c.visit_at.ensures.visited.4, fewer, many);
-      capacity = c.take_at.ensures.capacity ∙ ap (λ m. m.capacity) c.visit_at.ensures.visited.4 ∙ at.invariant.capacity;
-      limit = c.take_at.ensures.limit ∙ ap (λ m. m.limit) c.visit_at.ensures.visited.4 ∙ at.invariant.limit;
+      vacant = omega (arith, at.invariant.vacant, c.take_at.ensures.removed.vacant, ap (λ m. m.vacant) c.visit_at.ensures.visited.4, fewer, many);
+      capacity = c.take_at.ensures.removed.capacity ∙ ap (λ m. m.capacity) c.visit_at.ensures.visited.4 ∙ at.invariant.capacity;
+      limit = c.take_at.ensures.removed.limit ∙ ap (λ m. m.limit) c.visit_at.ensures.visited.4 ∙ at.invariant.limit;
       keyed = c.take_at.ensures.keyed;
     }
 

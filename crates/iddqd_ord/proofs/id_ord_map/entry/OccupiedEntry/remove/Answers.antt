@@ -14,8 +14,8 @@ returns-clause-value g c = (read g c).item ∙ c.take_placed.ensures.item
 pub returns-clause-items : goal.returns-clause-items
 returns-clause-items g c = c.take_placed.ensures.items ∙ sym (read g c).others
 
-pub returns-clause-slots : goal.returns-clause-slots
-returns-clause-slots g c = search rules
+pub returns-clause-removed : goal.returns-clause-removed
+returns-clause-removed g c = search rules
 
 pub returns-clause-keyed : goal.returns-clause-keyed
 returns-clause-keyed g c = search rules
