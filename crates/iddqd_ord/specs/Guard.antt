@@ -5,9 +5,13 @@
 --     shown_map, shown_item, shown_lender      the same of what `into_ref` answers
 --     lends_item, item_follows, guard_follows      the map, or the guard, ends with the last value written
 --     rests_at_none      with no guard the map stays as it is
-use Rattle.std.specs.Prelude.{◌≡◌, ℕ, [], Option}
+--     GuardFinds, GuardOverwrites      the guard lends the item whose key passes the test, and a write replaces that one
+--     GuardKeeps, GuardKeepsAkin      an item of the same key, or of an equal one, may be written
+use Rattle.std.specs.Prelude.{◌≡◌, ℕ, [], Bool, IsTrue, Option, Some}
 use Rattle.std.specs.Borrow.{Fml, GName, RattleType, MutBor, Lends, RestsIfNone, follows}
+use Rattle.std.specs.declared.cmp.Ordering.{Ordering}
 use mir.Syntax.{named}
+use Rattle.iddqd_store.specs.Contents.{Ascends, find_item, items_overwritten}
 use Rattle.iddqd_store.specs.Holding.{Holding}
 use Rattle.iddqd_store.specs.SlotItems.{item_of_slot, still_there, written_to_slot}
 use Rattle.iddqd_ord.specs.declared.id_ord_map.ref_mut.RefMut.{RefMut}
@@ -51,6 +55,22 @@ module _ {T : Type 0} where
 
   abbrev pub shown_lender : Shown T → GName
   shown_lender s = s.map.ghost_name
+
+module _ {T K : Type 0} (key : T → K) where
+  abbrev pub GuardFinds : (K → Bool) → RefMut T → Type 0
+  GuardFinds test r = find_item key test (lent_map r).items ≡ lent_item r
+
+  abbrev pub GuardOverwrites : (K → Bool) → RefMut T → Type 0
+  GuardOverwrites test r = (w : T) → (lent_with r w).items ≡ items_overwritten key test w (lent_map r).items
+
+  -- if the map was keyed, it is so after a write of an item of the same key, or of an equal one
+  module _ (cmp : K → K → Ordering) where
+    abbrev pub GuardKeeps : RefMut T → Type 0
+    GuardKeeps r = (x w : T) → lent_item r ≡ Some x → key w ≡ key x → Ascends key cmp (lent_with r w).items
+
+    abbrev pub GuardKeepsAkin : (K → K → Bool) → RefMut T → Type 0
+    GuardKeepsAkin eq r =
+        (x w : T) → lent_item r ≡ Some x → IsTrue (eq (key x) (key w)) → Ascends key cmp (lent_with r w).items
 
 module _ (T : RattleType) where
   abbrev pub lends_item : MutBor (Holding T.Denot) → ℕ → MutBor T.Denot → Fml

@@ -1,7 +1,7 @@
 //! Lending one item for writing, and what lends it.
-ghost use Rattle.std.specs.Prelude.{◌≡◌, ◌<◌, length, remove, IfNone, IfSome, IsSome, IsTrue, Some, None, slice_get, slice_set};
+ghost use Rattle.std.specs.Prelude.{◌≡◌, ◌<◌, length, remove, IfNone, IfSome, IsSome, Some, None, slice_get, slice_set};
 ghost use Rattle.std.specs.Borrow.{sem};
-ghost use Rattle.iddqd_store.specs.Contents.{Ascends, find_item, items_overwritten};
+ghost use Rattle.iddqd_store.specs.Contents.{Ascends, find_item};
 ghost use Rattle.iddqd_store.specs.SlotItems.{item_of_slot, without_slot, written_to_slot};
 
 use super::{IdOrdMap, RefMut};
@@ -55,7 +55,7 @@ impl<T> IdOrdMap<T> {
 }
 
 impl<T: IdOrdItem> IdOrdMap<T> {
-    ghost use Rattle.iddqd_ord.specs.Guard.{rests_at_none, guard_lender, lent_map, lent_slot, lent_item};
+    ghost use Rattle.iddqd_ord.specs.Guard.{GuardFinds, GuardKeeps, GuardKeepsAkin, GuardOverwrites, rests_at_none, guard_lender, lent_map};
 
     /// Lends the item that the query finds for writing; `None` where there is none, and then nothing has changed. The
     /// guard has to be spent. It makes as many comparisons as `get`.
@@ -65,10 +65,10 @@ impl<T: IdOrdItem> IdOrdMap<T> {
         ensures absent { IfNone result (find_item T.key (Q.equivalent query.now) self.old.items ≡ None) }
         ensures same_map { IfSome result (λ r. guard_lender r ≡ self.entry.ghost_name) }
         ensures lent { IfSome result (λ r. lent_map r ≡ self.old) }
-        ensures found { IfSome result (λ r. find_item T.key (Q.equivalent query.now) self.old.items ≡ lent_item r) }
-        ensures written { IfSome result (λ r. (w : T) → written_to_slot self.old.slots self.old.items (lent_slot r) w ≡ items_overwritten T.key (Q.equivalent query.now) w self.old.items) }
-        ensures keyed { IfSome result (λ r. (x w : T) → lent_item r ≡ Some x → T.key w ≡ T.key x → Ascends T.key T.Key.cmp (written_to_slot self.old.slots self.old.items (lent_slot r) w)) }
-        ensures keyed_akin { IfSome result (λ r. (x w : T) → lent_item r ≡ Some x → IsTrue (T.Key.eq (T.key x) (T.key w)) → Ascends T.key T.Key.cmp (written_to_slot self.old.slots self.old.items (lent_slot r) w)) }
+        ensures found { IfSome result (GuardFinds T.key (Q.equivalent query.now)) }
+        ensures written { IfSome result (GuardOverwrites T.key (Q.equivalent query.now)) }
+        ensures keyed { IfSome result (GuardKeeps T.key T.Key.cmp) }
+        ensures keyed_akin { IfSome result (GuardKeepsAkin T.key T.Key.cmp T.Key.eq) }
     {
         let slot = self.index.get(&self.store, query, &mut Steps::new())?;
         Some(RefMut {

@@ -4,7 +4,7 @@ ghost use Rattle.std.specs.Borrow.{sem};
 ghost use Rattle.iddqd_store.specs.Contents.{AddsItem, Ascends, IsAbsent};
 ghost use Rattle.iddqd_store.specs.Refusal.{FindsNoRoom};
 ghost use Rattle.iddqd_ord.specs.Entry.{entry_item, entry_map, entry_lender, entry_others, entry_with, rests_if_refused};
-ghost use Rattle.iddqd_ord.specs.Guard.{lent_item, lent_map, guard_lender, lent_with, shown_item, shown_map, shown_lender};
+ghost use Rattle.iddqd_ord.specs.Guard.{GuardKeeps, GuardKeepsAkin, lent_item, lent_map, guard_lender, lent_with, shown_item, shown_map, shown_lender};
 ghost use Rattle.iddqd_ord.specs.OrdMap.{OrdInserts};
 
 use super::{Entry, OccupiedEntry};
@@ -27,8 +27,8 @@ impl<'a, T: IdOrdItem> Entry<'a, T> {
         ensures found_written { IfOk result (λ r. IsSome (entry_item self.entry) → (w : T) → lent_with r w ≡ entry_with self.entry w) }
         ensures inserted { IfOk result (λ r. entry_item self.entry ≡ None → OrdInserts T.key T.Key.cmp item (entry_map self.entry) (lent_map r) × (lent_item r ≡ Some item)) }
         ensures inserted_written { IfOk result (λ r. entry_item self.entry ≡ None → (w : T) → AddsItem w (entry_map self.entry).items (lent_with r w).items) }
-        ensures keyed { IfOk result (λ r. (x w : T) → lent_item r ≡ Some x → T.key w ≡ T.key x → Ascends T.key T.Key.cmp (lent_with r w).items) }
-        ensures keyed_akin { IfOk result (λ r. (x w : T) → lent_item r ≡ Some x → IsTrue (T.Key.eq (T.key x) (T.key w)) → Ascends T.key T.Key.cmp (lent_with r w).items) }
+        ensures keyed { IfOk result (GuardKeeps T.key T.Key.cmp) }
+        ensures keyed_akin { IfOk result (GuardKeepsAkin T.key T.Key.cmp T.Key.eq) }
         ensures absent { IfErr result (λ refused. entry_item self.entry ≡ None) }
         ensures item { IfErr result (λ refused. refused.item ≡ item) }
         ensures refused { IfErr result (λ refused. FindsNoRoom T.key T.Key.eq (entry_map self.entry).limit (entry_map self.entry).items item refused.error) }
@@ -61,8 +61,8 @@ impl<'a, T: IdOrdItem> Entry<'a, T> {
         ensures found_written { IfOk result (λ r. IsSome (entry_item self.entry) → (w : T) → lent_with r w ≡ entry_with self.entry w) }
         ensures inserted { IfOk result (λ r. entry_item self.entry ≡ None → (x : T) × F.post make x × OrdInserts T.key T.Key.cmp x (entry_map self.entry) (lent_map r) × (lent_item r ≡ Some x)) }
         ensures inserted_written { IfOk result (λ r. entry_item self.entry ≡ None → (w : T) → AddsItem w (entry_map self.entry).items (lent_with r w).items) }
-        ensures keyed { IfOk result (λ r. (x w : T) → lent_item r ≡ Some x → T.key w ≡ T.key x → Ascends T.key T.Key.cmp (lent_with r w).items) }
-        ensures keyed_akin { IfOk result (λ r. (x w : T) → lent_item r ≡ Some x → IsTrue (T.Key.eq (T.key x) (T.key w)) → Ascends T.key T.Key.cmp (lent_with r w).items) }
+        ensures keyed { IfOk result (GuardKeeps T.key T.Key.cmp) }
+        ensures keyed_akin { IfOk result (GuardKeepsAkin T.key T.Key.cmp T.Key.eq) }
         ensures absent { IfErr result (λ refused. entry_item self.entry ≡ None) }
         ensures item { IfErr result (λ refused. F.post make refused.item) }
         ensures refused { IfErr result (λ refused. FindsNoRoom T.key T.Key.eq (entry_map self.entry).limit (entry_map self.entry).items refused.item refused.error) }

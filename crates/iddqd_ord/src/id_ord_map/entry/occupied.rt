@@ -4,7 +4,7 @@ ghost use Rattle.std.specs.Borrow.{sem};
 ghost use Rattle.iddqd_store.specs.Contents.{Ascends};
 ghost use Rattle.iddqd_store.specs.Holding.{Removes};
 ghost use Rattle.iddqd_ord.specs.Entry.{EntryKeeps, EntryKeepsAkin, Occupied, entry_follows, entry_item, entry_map, entry_lender, entry_others, entry_slot, entry_with};
-ghost use Rattle.iddqd_ord.specs.Guard.{lent_item, lent_map, guard_lender, lent_slot, lent_with, shown_item, shown_map, shown_lender};
+ghost use Rattle.iddqd_ord.specs.Guard.{GuardKeeps, GuardKeepsAkin, lent_map, guard_lender, lent_slot, shown_item, shown_map, shown_lender};
 
 use super::OccupiedEntry;
 use crate::id_ord_map::{RefMut, Shown};
@@ -57,8 +57,8 @@ impl<'a, T: IdOrdItem> OccupiedEntry<'a, T> {
         ensures same_map { guard_lender result ≡ entry_lender (Occupied self.entry) }
         ensures lent { lent_map result ≡ entry_map (Occupied self.entry) }
         ensures slot { lent_slot result ≡ entry_slot self.entry }
-        ensures keyed { (x w : T) → lent_item result ≡ Some x → T.key w ≡ T.key x → Ascends T.key T.Key.cmp (lent_with result w).items }
-        ensures keyed_akin { (x w : T) → lent_item result ≡ Some x → IsTrue (T.Key.eq (T.key x) (T.key w)) → Ascends T.key T.Key.cmp (lent_with result w).items }
+        ensures keyed { GuardKeeps T.key T.Key.cmp result }
+        ensures keyed_akin { GuardKeepsAkin T.key T.Key.cmp T.Key.eq result }
     {
         let OccupiedEntry {
             map,

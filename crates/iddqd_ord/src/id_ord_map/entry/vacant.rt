@@ -1,10 +1,10 @@
 //! Insertions where no item was found. The limit is looked at first, then memory, and only then is anything changed.
-ghost use Rattle.std.specs.Prelude.{◌≡◌, IfErr, IfOk, IsTrue, Some};
+ghost use Rattle.std.specs.Prelude.{◌≡◌, IfErr, IfOk, Some};
 ghost use Rattle.std.specs.Borrow.{sem};
 ghost use Rattle.iddqd_store.specs.Contents.{AddsItem, Ascends, IsAbsent};
 ghost use Rattle.iddqd_store.specs.Refusal.{FindsNoRoom};
 ghost use Rattle.iddqd_ord.specs.Entry.{Occupied, Vacant, entry_item, entry_map, entry_lender, entry_others, entry_with, rests_if_refused};
-ghost use Rattle.iddqd_ord.specs.Guard.{lent_item, lent_map, guard_lender, lent_with, shown_item, shown_map, shown_lender};
+ghost use Rattle.iddqd_ord.specs.Guard.{GuardKeeps, GuardKeepsAkin, lent_item, lent_map, guard_lender, lent_with, shown_item, shown_map, shown_lender};
 ghost use Rattle.iddqd_ord.specs.OrdMap.{OrdInserts};
 
 use super::{OccupiedEntry, VacantEntry};
@@ -25,8 +25,8 @@ impl<'a, T: IdOrdItem> VacantEntry<'a, T> {
         ensures inserted { IfOk result (λ r. OrdInserts T.key T.Key.cmp item (entry_map (Vacant self.entry)) (lent_map r)) }
         ensures lent { IfOk result (λ r. lent_item r ≡ Some item) }
         ensures written { IfOk result (λ r. (w : T) → AddsItem w (entry_map (Vacant self.entry)).items (lent_with r w).items) }
-        ensures keyed { IfOk result (λ r. (x w : T) → lent_item r ≡ Some x → T.key w ≡ T.key x → Ascends T.key T.Key.cmp (lent_with r w).items) }
-        ensures keyed_akin { IfOk result (λ r. (x w : T) → lent_item r ≡ Some x → IsTrue (T.Key.eq (T.key x) (T.key w)) → Ascends T.key T.Key.cmp (lent_with r w).items) }
+        ensures keyed { IfOk result (GuardKeeps T.key T.Key.cmp) }
+        ensures keyed_akin { IfOk result (GuardKeepsAkin T.key T.Key.cmp T.Key.eq) }
         ensures item { IfErr result (λ refused. refused.item ≡ item) }
         ensures refused { IfErr result (λ refused. FindsNoRoom T.key T.Key.eq (entry_map (Vacant self.entry)).limit (entry_map (Vacant self.entry)).items item refused.error) }
     {
