@@ -1,6 +1,6 @@
 //! Entries: the place of an item in a map, or a map that lacks one.
 ghost use Rattle.std.specs.Prelude.{◌≡◌, IfSome, IsSome, IsTrue, Some, slice_get};
-ghost use Rattle.iddqd_store.specs.Contents.{Ascends, find_item, items_overwritten, items_without};
+ghost use Rattle.iddqd_store.specs.Contents.{Ascends};
 ghost use Rattle.iddqd_store.specs.SlotItems.{item_of_slot};
 
 mod first_last;
@@ -39,18 +39,14 @@ pub struct OccupiedEntry<'a, T> {
 }
 
 impl<T: IdOrdItem> IdOrdMap<T> {
-    ghost use Rattle.iddqd_ord.specs.Entry.{entry_item, entry_map, entry_lender, entry_others, entry_with};
+    ghost use Rattle.iddqd_ord.specs.Entry.{IsEntryFor, entry_item};
 
     /// The entry of the query: occupied where it finds an item. It makes as many comparisons as `get`, takes no memory, and
     /// changes nothing.
     pub fn entry<Q: Comparable<T::Key>>(&mut self, query: &Q) -> Entry<'_, T>
         requires keyed { Ascends T.key T.Key.cmp self.old.items }
-        ensures same_map { entry_lender result ≡ self.entry.ghost_name }
-        ensures unchanged { entry_map result ≡ self.old }
-        ensures found { entry_item result ≡ find_item T.key (Q.equivalent query.now) self.old.items }
-        ensures answers { IfSome (entry_item result) (λ x. IsTrue (Q.equivalent query.now (T.key x))) }
-        ensures written { (w : T) → (entry_with result w).items ≡ items_overwritten T.key (Q.equivalent query.now) w self.old.items }
-        ensures others { entry_others result ≡ items_without T.key (Q.equivalent query.now) self.old.items }
+        ensures entry { IsEntryFor T.key (Q.equivalent query.now) self.entry result }
+        ensures equal { IfSome (entry_item result) (λ x. IsTrue (Q.equivalent query.now (T.key x))) }
     {
         match self.index.find(&self.store, query, &mut Steps::new()) {
             Ok(place) => {

@@ -3,7 +3,7 @@ ghost use Rattle.std.specs.Prelude.{◌≡◌, ◌+◌, ◌*◌, ◌≤◌, leng
 ghost use Rattle.std.specs.Borrow.{sem};
 ghost use Rattle.iddqd_store.specs.Contents.{Ascends, IsAbsent, find_item, keys, items_overwritten};
 ghost use Rattle.iddqd_ord_index.specs.Digits.{digits};
-ghost use Rattle.iddqd_store.specs.Refusal.{FindsNoRoom, RefusesInsertion, refusal_kind};
+ghost use Rattle.iddqd_store.specs.Refusal.{RefusesInsertion, refusal_kind};
 ghost use Rattle.iddqd_ord_index.specs.Search.{IsPlaceAmong};
 
 use super::IdOrdMap;
@@ -12,7 +12,7 @@ use iddqd_ord_index::Place;
 use iddqd_store::{DuplicateItem, Few, IdOrdItem, InsertError, Refused, Steps};
 
 impl<T: IdOrdItem> IdOrdMap<T> {
-    ghost use Rattle.iddqd_ord.specs.OrdMap.{OrdInserts, OrdKeeps, ends_ord_inserted, lends_nothing};
+    ghost use Rattle.iddqd_ord.specs.OrdMap.{HandsBack, OrdInserts, OrdKeeps, ends_ord_inserted, lends_nothing};
 
     /// Inserts the item where none of an equal key is there, by as many comparisons as `insert_unique_counted`. A duplicate
     /// needs no memory and lends the item that is there; then the map is as it was. A full map and refused memory hand the
@@ -66,8 +66,7 @@ impl<T: IdOrdItem> IdOrdMap<T> {
         ensures replaced { IfOk result (λ found. OnSome found (self.new ≡ record self.old { items = items_overwritten T.key (T.Key.eq (T.key item)) item self.old.items })) }
         ensures inserted { IfOk result (λ found. IfNone found (OrdInserts T.key T.Key.cmp item self.old self.new)) }
         ensures there { OnOk result (find_item T.key (T.Key.eq (T.key item)) self.new.items ≡ Some item) }
-        ensures item { IfErr result (λ refused. refused.item ≡ item) }
-        ensures refused { IfErr result (λ refused. FindsNoRoom T.key T.Key.eq self.old.limit self.old.items item refused.error) }
+        ensures refused { IfErr result (HandsBack T.key T.Key.eq self.old item) }
         ensures kept { OnErr result (OrdKeeps T.key T.Key.cmp self.old self.new) }
         ensures keyed { Ascends T.key T.Key.cmp self.new.items }
     {

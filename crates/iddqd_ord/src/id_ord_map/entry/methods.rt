@@ -1,11 +1,10 @@
 //! The calls of an entry that is occupied or vacant.
-ghost use Rattle.std.specs.Prelude.{◌≡◌, IfErr, IfNone, IfOk, IfSome, IsSome, IsTrue, None, Some, option_map};
+ghost use Rattle.std.specs.Prelude.{◌≡◌, IfErr, IfNone, IfOk, IfSome, IsSome, IsTrue, None, option_map};
 ghost use Rattle.std.specs.Borrow.{sem};
-ghost use Rattle.iddqd_store.specs.Contents.{AddsItem, Ascends, IsAbsent};
-ghost use Rattle.iddqd_store.specs.Refusal.{FindsNoRoom};
-ghost use Rattle.iddqd_ord.specs.Entry.{entry_item, entry_map, entry_lender, entry_others, entry_with, rests_if_refused};
-ghost use Rattle.iddqd_ord.specs.Guard.{GuardKeeps, GuardKeepsAkin, lent_item, lent_map, guard_lender, lent_with, shown_item, shown_map, shown_lender};
-ghost use Rattle.iddqd_ord.specs.OrdMap.{OrdInserts};
+ghost use Rattle.iddqd_store.specs.Contents.{Ascends};
+ghost use Rattle.iddqd_ord.specs.Entry.{LacksKeyOf, LendsFound, LendsIfVacant, LendsMade, ShowsFound, ShowsIfVacant, ShowsMade, entry_item, entry_map, entry_lender, entry_others, entry_with, lends_or_keeps, shows_or_keeps};
+ghost use Rattle.iddqd_ord.specs.Guard.{GuardKeeps, GuardKeepsAkin, guard_lender, shown_lender};
+ghost use Rattle.iddqd_ord.specs.OrdMap.{HandsBack};
 
 use super::{Entry, OccupiedEntry};
 use crate::id_ord_map::{RefMut, Shown};
@@ -20,18 +19,15 @@ impl<'a, T: IdOrdItem> Entry<'a, T> {
     where
         T: Drop,
         requires keyed { Ascends T.key T.Key.cmp (entry_map self).items }
-        requires absent { entry_item self ≡ None → IsAbsent T.key (T.Key.eq (T.key item)) (entry_map self).items }
-        ensures* kept { sem 𝓛 (rests_if_refused T.row T.key T.Key.cmp guard_lender self.entry result) }
+        requires absent { entry_item self ≡ None → LacksKeyOf T.key T.Key.eq item self }
+        ensures* kept { sem 𝓛 (lends_or_keeps T.row T.key T.Key.cmp self.entry result) }
         ensures same_map { IfOk result (λ r. guard_lender r ≡ entry_lender self.entry) }
-        ensures found { IfOk result (λ r. IsSome (entry_item self.entry) → (lent_map r ≡ entry_map self.entry) × (lent_item r ≡ entry_item self.entry)) }
-        ensures found_written { IfOk result (λ r. IsSome (entry_item self.entry) → (w : T) → lent_with r w ≡ entry_with self.entry w) }
-        ensures inserted { IfOk result (λ r. entry_item self.entry ≡ None → OrdInserts T.key T.Key.cmp item (entry_map self.entry) (lent_map r) × (lent_item r ≡ Some item)) }
-        ensures inserted_written { IfOk result (λ r. entry_item self.entry ≡ None → (w : T) → AddsItem w (entry_map self.entry).items (lent_with r w).items) }
+        ensures found { IfOk result (λ r. IsSome (entry_item self.entry) → LendsFound self.entry r) }
+        ensures inserted { IfOk result (LendsIfVacant T.key T.Key.cmp item self.entry) }
         ensures keyed { IfOk result (GuardKeeps T.key T.Key.cmp) }
         ensures keyed_akin { IfOk result (GuardKeepsAkin T.key T.Key.cmp T.Key.eq) }
         ensures absent { IfErr result (λ refused. entry_item self.entry ≡ None) }
-        ensures item { IfErr result (λ refused. refused.item ≡ item) }
-        ensures refused { IfErr result (λ refused. FindsNoRoom T.key T.Key.eq (entry_map self.entry).limit (entry_map self.entry).items item refused.error) }
+        ensures refused { IfErr result (HandsBack T.key T.Key.eq (entry_map self.entry) item) }
     {
         match self {
             Entry::Occupied(entry) => {
@@ -54,18 +50,16 @@ impl<'a, T: IdOrdItem> Entry<'a, T> {
     pub fn or_insert_with<F: FnOnce() -> T>(self, make: F) -> Result<RefMut<'a, T>, Refused<T>>
         requires keyed { Ascends T.key T.Key.cmp (entry_map self).items }
         requires callable { entry_item self ≡ None → F.pre make }
-        requires absent { entry_item self ≡ None → (x : T) → F.post make x → IsAbsent T.key (T.Key.eq (T.key x)) (entry_map self).items }
-        ensures* kept { sem 𝓛 (rests_if_refused T.row T.key T.Key.cmp guard_lender self.entry result) }
+        requires absent { entry_item self ≡ None → (x : T) → F.post make x → LacksKeyOf T.key T.Key.eq x self }
+        ensures* kept { sem 𝓛 (lends_or_keeps T.row T.key T.Key.cmp self.entry result) }
         ensures same_map { IfOk result (λ r. guard_lender r ≡ entry_lender self.entry) }
-        ensures found { IfOk result (λ r. IsSome (entry_item self.entry) → (lent_map r ≡ entry_map self.entry) × (lent_item r ≡ entry_item self.entry)) }
-        ensures found_written { IfOk result (λ r. IsSome (entry_item self.entry) → (w : T) → lent_with r w ≡ entry_with self.entry w) }
-        ensures inserted { IfOk result (λ r. entry_item self.entry ≡ None → (x : T) × F.post make x × OrdInserts T.key T.Key.cmp x (entry_map self.entry) (lent_map r) × (lent_item r ≡ Some x)) }
-        ensures inserted_written { IfOk result (λ r. entry_item self.entry ≡ None → (w : T) → AddsItem w (entry_map self.entry).items (lent_with r w).items) }
+        ensures found { IfOk result (λ r. IsSome (entry_item self.entry) → LendsFound self.entry r) }
+        ensures inserted { IfOk result (LendsMade T.key T.Key.cmp (F.post make) self.entry) }
         ensures keyed { IfOk result (GuardKeeps T.key T.Key.cmp) }
         ensures keyed_akin { IfOk result (GuardKeepsAkin T.key T.Key.cmp T.Key.eq) }
         ensures absent { IfErr result (λ refused. entry_item self.entry ≡ None) }
         ensures item { IfErr result (λ refused. F.post make refused.item) }
-        ensures refused { IfErr result (λ refused. FindsNoRoom T.key T.Key.eq (entry_map self.entry).limit (entry_map self.entry).items refused.item refused.error) }
+        ensures refused { IfErr result (λ e. HandsBack T.key T.Key.eq (entry_map self.entry) e.item e) }
     {
         match self {
             Entry::Occupied(found) => {
@@ -89,14 +83,13 @@ impl<'a, T: IdOrdItem> Entry<'a, T> {
     where
         T: Drop,
         requires keyed { Ascends T.key T.Key.cmp (entry_map self).items }
-        requires absent { entry_item self ≡ None → IsAbsent T.key (T.Key.eq (T.key item)) (entry_map self).items }
-        ensures* kept { sem 𝓛 (rests_if_refused T.row T.key T.Key.cmp shown_lender self.entry result) }
+        requires absent { entry_item self ≡ None → LacksKeyOf T.key T.Key.eq item self }
+        ensures* kept { sem 𝓛 (shows_or_keeps T.row T.key T.Key.cmp self.entry result) }
         ensures same_map { IfOk result (λ s. shown_lender s ≡ entry_lender self.entry) }
-        ensures found { IfOk result (λ s. IsSome (entry_item self.entry) → (shown_map s ≡ entry_map self.entry) × (shown_item s ≡ entry_item self.entry)) }
-        ensures inserted { IfOk result (λ s. entry_item self.entry ≡ None → OrdInserts T.key T.Key.cmp item (entry_map self.entry) (shown_map s) × (shown_item s ≡ Some item)) }
+        ensures found { IfOk result (λ s. IsSome (entry_item self.entry) → ShowsFound self.entry s) }
+        ensures inserted { IfOk result (ShowsIfVacant T.key T.Key.cmp item self.entry) }
         ensures absent { IfErr result (λ refused. entry_item self.entry ≡ None) }
-        ensures item { IfErr result (λ refused. refused.item ≡ item) }
-        ensures refused { IfErr result (λ refused. FindsNoRoom T.key T.Key.eq (entry_map self.entry).limit (entry_map self.entry).items item refused.error) }
+        ensures refused { IfErr result (HandsBack T.key T.Key.eq (entry_map self.entry) item) }
     {
         match self {
             Entry::Occupied(entry) => {
@@ -115,14 +108,14 @@ impl<'a, T: IdOrdItem> Entry<'a, T> {
     pub fn or_insert_with_ref<F: FnOnce() -> T>(self, make: F) -> Result<Shown<'a, T>, Refused<T>>
         requires keyed { Ascends T.key T.Key.cmp (entry_map self).items }
         requires callable { entry_item self ≡ None → F.pre make }
-        requires absent { entry_item self ≡ None → (x : T) → F.post make x → IsAbsent T.key (T.Key.eq (T.key x)) (entry_map self).items }
-        ensures* kept { sem 𝓛 (rests_if_refused T.row T.key T.Key.cmp shown_lender self.entry result) }
+        requires absent { entry_item self ≡ None → (x : T) → F.post make x → LacksKeyOf T.key T.Key.eq x self }
+        ensures* kept { sem 𝓛 (shows_or_keeps T.row T.key T.Key.cmp self.entry result) }
         ensures same_map { IfOk result (λ s. shown_lender s ≡ entry_lender self.entry) }
-        ensures found { IfOk result (λ s. IsSome (entry_item self.entry) → (shown_map s ≡ entry_map self.entry) × (shown_item s ≡ entry_item self.entry)) }
-        ensures inserted { IfOk result (λ s. entry_item self.entry ≡ None → (x : T) × F.post make x × OrdInserts T.key T.Key.cmp x (entry_map self.entry) (shown_map s) × (shown_item s ≡ Some x)) }
+        ensures found { IfOk result (λ s. IsSome (entry_item self.entry) → ShowsFound self.entry s) }
+        ensures inserted { IfOk result (ShowsMade T.key T.Key.cmp (F.post make) self.entry) }
         ensures absent { IfErr result (λ refused. entry_item self.entry ≡ None) }
         ensures item { IfErr result (λ refused. F.post make refused.item) }
-        ensures refused { IfErr result (λ refused. FindsNoRoom T.key T.Key.eq (entry_map self.entry).limit (entry_map self.entry).items refused.item refused.error) }
+        ensures refused { IfErr result (λ e. HandsBack T.key T.Key.eq (entry_map self.entry) e.item e) }
     {
         match self {
             Entry::Occupied(entry) => {

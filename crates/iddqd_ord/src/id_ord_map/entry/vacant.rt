@@ -1,11 +1,10 @@
 //! Insertions where no item was found. The limit is looked at first, then memory, and only then is anything changed.
-ghost use Rattle.std.specs.Prelude.{◌≡◌, IfErr, IfOk, Some};
+ghost use Rattle.std.specs.Prelude.{◌≡◌, IfErr, IfOk};
 ghost use Rattle.std.specs.Borrow.{sem};
-ghost use Rattle.iddqd_store.specs.Contents.{AddsItem, Ascends, IsAbsent};
-ghost use Rattle.iddqd_store.specs.Refusal.{FindsNoRoom};
-ghost use Rattle.iddqd_ord.specs.Entry.{Occupied, Vacant, entry_item, entry_map, entry_lender, entry_others, entry_with, rests_if_refused};
-ghost use Rattle.iddqd_ord.specs.Guard.{GuardKeeps, GuardKeepsAkin, lent_item, lent_map, guard_lender, lent_with, shown_item, shown_map, shown_lender};
-ghost use Rattle.iddqd_ord.specs.OrdMap.{OrdInserts};
+ghost use Rattle.iddqd_store.specs.Contents.{Ascends};
+ghost use Rattle.iddqd_ord.specs.Entry.{EntersInserted, LacksKeyOf, LendsInserted, Occupied, ShowsInserted, Vacant, entry_map, entry_lender, enters_or_keeps, lends_or_keeps, shows_or_keeps};
+ghost use Rattle.iddqd_ord.specs.Guard.{GuardKeeps, GuardKeepsAkin, guard_lender, shown_lender};
+ghost use Rattle.iddqd_ord.specs.OrdMap.{HandsBack};
 
 use super::{OccupiedEntry, VacantEntry};
 use crate::id_ord_map::{RefMut, Shown};
@@ -19,16 +18,13 @@ impl<'a, T: IdOrdItem> VacantEntry<'a, T> {
     /// the items are not `Copy`.
     pub fn insert(self, item: T) -> Result<RefMut<'a, T>, Refused<T>>
         requires keyed { Ascends T.key T.Key.cmp (entry_map (Vacant self)).items }
-        requires absent { IsAbsent T.key (T.Key.eq (T.key item)) (entry_map (Vacant self)).items }
-        ensures* kept { sem 𝓛 (rests_if_refused T.row T.key T.Key.cmp guard_lender (Vacant self.entry) result) }
+        requires absent { LacksKeyOf T.key T.Key.eq item (Vacant self) }
+        ensures* kept { sem 𝓛 (lends_or_keeps T.row T.key T.Key.cmp (Vacant self.entry) result) }
         ensures same_map { IfOk result (λ r. guard_lender r ≡ entry_lender (Vacant self.entry)) }
-        ensures inserted { IfOk result (λ r. OrdInserts T.key T.Key.cmp item (entry_map (Vacant self.entry)) (lent_map r)) }
-        ensures lent { IfOk result (λ r. lent_item r ≡ Some item) }
-        ensures written { IfOk result (λ r. (w : T) → AddsItem w (entry_map (Vacant self.entry)).items (lent_with r w).items) }
+        ensures inserted { IfOk result (LendsInserted T.key T.Key.cmp item (Vacant self.entry)) }
         ensures keyed { IfOk result (GuardKeeps T.key T.Key.cmp) }
         ensures keyed_akin { IfOk result (GuardKeepsAkin T.key T.Key.cmp T.Key.eq) }
-        ensures item { IfErr result (λ refused. refused.item ≡ item) }
-        ensures refused { IfErr result (λ refused. FindsNoRoom T.key T.Key.eq (entry_map (Vacant self.entry)).limit (entry_map (Vacant self.entry)).items item refused.error) }
+        ensures refused { IfErr result (HandsBack T.key T.Key.eq (entry_map (Vacant self.entry)) item) }
     {
         let VacantEntry { map } = self;
         match map.insert_absent(item) {
@@ -44,13 +40,11 @@ impl<'a, T: IdOrdItem> VacantEntry<'a, T> {
     /// Inserts the item as `insert` does, and shows it (ours: the crate's answers a plain reference).
     pub fn insert_ref(self, item: T) -> Result<Shown<'a, T>, Refused<T>>
         requires keyed { Ascends T.key T.Key.cmp (entry_map (Vacant self)).items }
-        requires absent { IsAbsent T.key (T.Key.eq (T.key item)) (entry_map (Vacant self)).items }
-        ensures* kept { sem 𝓛 (rests_if_refused T.row T.key T.Key.cmp shown_lender (Vacant self.entry) result) }
+        requires absent { LacksKeyOf T.key T.Key.eq item (Vacant self) }
+        ensures* kept { sem 𝓛 (shows_or_keeps T.row T.key T.Key.cmp (Vacant self.entry) result) }
         ensures same_map { IfOk result (λ s. shown_lender s ≡ entry_lender (Vacant self.entry)) }
-        ensures inserted { IfOk result (λ s. OrdInserts T.key T.Key.cmp item (entry_map (Vacant self.entry)) (shown_map s)) }
-        ensures shown { IfOk result (λ s. shown_item s ≡ Some item) }
-        ensures item { IfErr result (λ refused. refused.item ≡ item) }
-        ensures refused { IfErr result (λ refused. FindsNoRoom T.key T.Key.eq (entry_map (Vacant self.entry)).limit (entry_map (Vacant self.entry)).items item refused.error) }
+        ensures inserted { IfOk result (ShowsInserted T.key T.Key.cmp item (Vacant self.entry)) }
+        ensures refused { IfErr result (HandsBack T.key T.Key.eq (entry_map (Vacant self.entry)) item) }
     {
         let VacantEntry { map } = self;
         match map.insert_absent(item) {
@@ -62,15 +56,11 @@ impl<'a, T: IdOrdItem> VacantEntry<'a, T> {
     /// Inserts the item as `insert` does, and answers its entry.
     pub fn insert_entry(self, item: T) -> Result<OccupiedEntry<'a, T>, Refused<T>>
         requires keyed { Ascends T.key T.Key.cmp (entry_map (Vacant self)).items }
-        requires absent { IsAbsent T.key (T.Key.eq (T.key item)) (entry_map (Vacant self)).items }
-        ensures* kept { sem 𝓛 (rests_if_refused T.row T.key T.Key.cmp (λ e. entry_lender (Occupied e)) (Vacant self.entry) result) }
+        requires absent { LacksKeyOf T.key T.Key.eq item (Vacant self) }
+        ensures* kept { sem 𝓛 (enters_or_keeps T.row T.key T.Key.cmp (Vacant self.entry) result) }
         ensures same_map { IfOk result (λ e. entry_lender (Occupied e) ≡ entry_lender (Vacant self.entry)) }
-        ensures inserted { IfOk result (λ e. OrdInserts T.key T.Key.cmp item (entry_map (Vacant self.entry)) (entry_map (Occupied e))) }
-        ensures found { IfOk result (λ e. entry_item (Occupied e) ≡ Some item) }
-        ensures written { IfOk result (λ e. (w : T) → AddsItem w (entry_map (Vacant self.entry)).items (entry_with (Occupied e) w).items) }
-        ensures others { IfOk result (λ e. entry_others (Occupied e) ≡ (entry_map (Vacant self.entry)).items) }
-        ensures item { IfErr result (λ refused. refused.item ≡ item) }
-        ensures refused { IfErr result (λ refused. FindsNoRoom T.key T.Key.eq (entry_map (Vacant self.entry)).limit (entry_map (Vacant self.entry)).items item refused.error) }
+        ensures inserted { IfOk result (EntersInserted T.key T.Key.cmp item (Vacant self.entry)) }
+        ensures refused { IfErr result (HandsBack T.key T.Key.eq (entry_map (Vacant self.entry)) item) }
     {
         let VacantEntry { map } = self;
         match map.insert_absent(item) {

@@ -1,4 +1,4 @@
-use Rattle.std.proofs.Common.{◌∙◌, sym, ap}
+use Rattle.std.proofs.Common.{◌∙◌, sym, ap, refl}
 use Rattle.iddqd_store.specs.SlotItems.{item_of_slot}
 use Rattle.iddqd_store.proofs.OrderLemmas.{found_answers}
 use Rattle.iddqd_store.proofs.QueryLemmas.{OrderedQuery, place_there, find_nowhere, replaced_nowhere, replaced_there, without_nowhere, without_there}
@@ -16,48 +16,41 @@ query g q = record {
   below = g.met.Q.Comparable.greater_below q;
 }
 
-pub returns-in-Ok-clause-found : goal.returns-in-Ok-clause-found
-returns-in-Ok-clause-found g c =
+pub returns-in-Ok-clause-entry : goal.returns-in-Ok-clause-entry
+returns-in-Ok-clause-entry g c =
     let key = g.T.IdOrdItem.key in
+    let items = c.args.self.now.items in
+    let place = c.in-Ok.place in
+    let slot = c.slot_at-slot.ensures in
     let p = rw (ap (λ m. m.items) c.self.view_is) at c.in-Ok.ensures.place in
-    c.slot_at-slot.ensures.item ∙ sym (place_there key (query g c.args.query.now) c.args.self.now.items c.requires.keyed c.in-Ok.place p.0 p.1)
+    record {
+      lender = refl;
+      map = refl;
+      item = slot.item ∙ sym (place_there key (query g c.args.query.now) items c.requires.keyed place p.0 p.1);
+      written = λ w. slot.written w ∙ replaced_there key (query g c.args.query.now) items c.requires.keyed place w p.0 p.1;
+      others = slot.others ∙ without_there key (query g c.args.query.now) items c.requires.keyed place p.0 p.1;
+    }
 
-pub returns-in-Ok-clause-answers : goal.returns-in-Ok-clause-answers
-returns-in-Ok-clause-answers g c =
+pub returns-in-Ok-clause-equal : goal.returns-in-Ok-clause-equal
+returns-in-Ok-clause-equal g c =
     let key = g.T.IdOrdItem.key in
     let test = g.Q.Equivalent.equivalent c.args.query.now in
     let now = c.args.self.now in
-    found_answers (λ x. test (key x)) now.items (item_of_slot now.slots now.items c.slot_at-slot.result) (returns-in-Ok-clause-found g c)
+    found_answers (λ x. test (key x)) now.items (item_of_slot now.slots now.items c.slot_at-slot.result) (returns-in-Ok-clause-entry g c).item
 
-pub returns-in-Ok-clause-written : goal.returns-in-Ok-clause-written
-returns-in-Ok-clause-written g c w =
+pub returns-in-Err-clause-entry : goal.returns-in-Err-clause-entry
+returns-in-Err-clause-entry g c =
     let key = g.T.IdOrdItem.key in
-    let p = rw (ap (λ m. m.items) c.self.view_is) at c.in-Ok.ensures.place in
-    c.slot_at-slot.ensures.written w ∙ replaced_there key (query g c.args.query.now) c.args.self.now.items c.requires.keyed c.in-Ok.place w p.0 p.1
-
-pub returns-in-Ok-clause-others : goal.returns-in-Ok-clause-others
-returns-in-Ok-clause-others g c =
-    let key = g.T.IdOrdItem.key in
-    let p = rw (ap (λ m. m.items) c.self.view_is) at c.in-Ok.ensures.place in
-    c.slot_at-slot.ensures.others ∙ without_there key (query g c.args.query.now) c.args.self.now.items c.requires.keyed c.in-Ok.place p.0 p.1
-
-pub returns-in-Err-clause-found : goal.returns-in-Err-clause-found
-returns-in-Err-clause-found g c =
-    let key = g.T.IdOrdItem.key in
+    let items = c.args.self.now.items in
+    let place = c.in-Err.field-0 in
     let p = rw (ap (λ m. m.items) c.self.view_is) at c.in-Err.ensures.place in
-    find_nowhere key (query g c.args.query.now) c.args.self.now.items c.requires.keyed c.in-Err.field-0 p.1 p.2
-
-pub returns-in-Err-clause-written : goal.returns-in-Err-clause-written
-returns-in-Err-clause-written g c w =
-    let key = g.T.IdOrdItem.key in
-    let p = rw (ap (λ m. m.items) c.self.view_is) at c.in-Err.ensures.place in
-    replaced_nowhere key (query g c.args.query.now) c.args.self.now.items c.requires.keyed c.in-Err.field-0 w p.1 p.2
-
-pub returns-in-Err-clause-others : goal.returns-in-Err-clause-others
-returns-in-Err-clause-others g c =
-    let key = g.T.IdOrdItem.key in
-    let p = rw (ap (λ m. m.items) c.self.view_is) at c.in-Err.ensures.place in
-    without_nowhere key (query g c.args.query.now) c.args.self.now.items c.requires.keyed c.in-Err.field-0 p.1 p.2
+    record {
+      lender = refl;
+      map = refl;
+      item = find_nowhere key (query g c.args.query.now) items c.requires.keyed place p.1 p.2;
+      written = λ w. replaced_nowhere key (query g c.args.query.now) items c.requires.keyed place w p.1 p.2;
+      others = without_nowhere key (query g c.args.query.now) items c.requires.keyed place p.1 p.2;
+    }
 
 pub invariant_of-result : goal.invariant_of-result
 invariant_of-result g c = record { there = c.slot_at-slot.ensures.there; placed = c.slot_at-slot.ensures.placed }

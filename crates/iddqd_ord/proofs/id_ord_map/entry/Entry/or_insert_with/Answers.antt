@@ -14,10 +14,12 @@ returns-in-Occupied g c =
       record {
         kept = tt;
         same_map = ap entry_lender (sym is);
-        found = λ some. (ap entry_map (sym is), ap entry_item (sym is));
-        found_written = λ some w. ap (λ s. entry_with s w) (sym is);
+        found = λ some. record {
+          map = ap entry_map (sym is);
+          item = ap entry_item (sym is);
+          written = λ w. ap (λ s. entry_with s w) (sym is);
+        };
         inserted = λ none. absurd (absurdly none);
-        inserted_written = λ none. absurd (absurdly none);
         keyed = λ x w at same. same_key_kept g.T.IdOrdItem.key e.map.now.slots e.map.now.items e.slot x w at g.T.Key.Ord.cmp same sorted;
         keyed_akin = λ x w at akin. akin_key_kept g.T.IdOrdItem.key e.map.now.slots e.map.now.items e.slot x w at g.met.T.Key.Eq.laws akin g.met.T.Key.Ord.total g.met.T.Key.Ord.matches_eq sorted;
         absent = tt;
