@@ -1,7 +1,7 @@
 -- What a contract sees of an entry of an ordered map.
 --     entry_map, entry_lender      the map as the entry holds it, the name of the reference to the map
---     entry_item, entry_slot      the item there, if there is one, and the slot of an occupied entry
---     entry_with e w      the map once w stands in the entry's place; where there is none, the map
+--     entry_item, entry_slot      the entry's item, if it is occupied, and the slot of an occupied entry
+--     entry_with e w      the map once w is written to the entry; of a vacant one, the map
 --     entry_others e      the items but for the entry's
 --     entry_follows      the entry ends with the last value written to its item
 --     IsEntryOf      what the entry holds of a map: the item, what a write to it leaves, and the others
@@ -11,23 +11,29 @@
 --     ShowsFound, ShowsInserted      the same of what is shown
 --     EntersInserted      the same of the entry of an inserted item
 --     LendsIfVacant, LendsMade, ShowsIfVacant, ShowsMade      if the entry is vacant, this item is inserted, or one that a closure made
---     LacksKeyOf      no item of the entry's map has a key equal to this item's
+--     LendsIfOccupied, ShowsIfOccupied      if the entry is occupied, its item is lent, or shown
+--     VisitsEntry, VisitKeepsKey      what a visit leaves, and that it keeps the key
+--     LacksKeyOf, MakesAbsent      no item of the entry's map has a key equal to this item's, or to that of one that a closure makes
+--     HasKeyOf      the entry's item has a key equal to this item's
+--     EntryHandsBack, EntryRefuses      there was no room for this item, or for the one that is returned
 --     rests_if_refused, lends_or_keeps, shows_or_keeps, enters_or_keeps      if an item is refused, the map keeps its items
 --     rests_without_entry      with no entry the map stays as it is
 pub use Rattle.iddqd_ord.specs.declared.id_ord_map.entry.Entry.TheVariants.{Vacant, Occupied}
-use Rattle.std.specs.Prelude.{◌≡◌, ◌-◌, ℕ, [], Bool, IsSome, IsTrue, List, Option, None, Some, Result, drop, length, slice_get, slice_set, take}
+use Rattle.std.specs.Prelude.{◌≡◌, ◌-◌, ℕ, [], Bool, IfNone, IfSome, IsSome, IsTrue, List, Option, None, Some, Result, drop, length, option_map, slice_get, slice_set, take}
 use Rattle.std.specs.Borrow.{Fml, GName, RattleType, MutBor, RestsIfErr, RestsIfNone, follows}
 use Rattle.std.specs.declared.cmp.Ordering.{Ordering}
 use mir.Syntax.{named}
 use Rattle.iddqd_store.specs.Contents.{AddsItem, Ascends, IsAbsent, find_item, items_overwritten, items_without}
 use Rattle.iddqd_store.specs.Holding.{Holding}
+use Rattle.iddqd_store.specs.Refusal.{FindsNoRoom}
 use Rattle.iddqd_store.specs.SlotItems.{item_of_slot, still_there, without_slot}
+use Rattle.iddqd_store.specs.declared.errors.Refused.{Refused}
 use Rattle.iddqd_ord.specs.declared.id_ord_map.entry.Entry.{Entry}
 use Rattle.iddqd_ord.specs.declared.id_ord_map.entry.OccupiedEntry.{OccupiedEntry}
 use Rattle.iddqd_ord.specs.declared.id_ord_map.ref_mut.RefMut.{RefMut}
 use Rattle.iddqd_ord.specs.declared.id_ord_map.ref_mut.Shown.{Shown}
 use Rattle.iddqd_ord.specs.Guard.{guard_lender, lent_item, lent_map, lent_with, shown_item, shown_lender, shown_map, with_item_in}
-use Rattle.iddqd_ord.specs.OrdMap.{OrdInserts, OrdKeeps}
+use Rattle.iddqd_ord.specs.OrdMap.{HandsBack, OrdInserts, OrdKeeps}
 use Rattle.iddqd_ord.specs.contracts.id_ord_map.IdOrdMap as map
 use Rattle.iddqd_ord.specs.contracts.id_ord_map.entry.OccupiedEntry as occupied
 
@@ -89,10 +95,26 @@ module _ {T : Type 0} where
     pub item : lent_item r ≡ entry_item e
     pub written : (w : T) → lent_with r w ≡ entry_with e w
 
+  abbrev pub LendsIfOccupied : Entry T → RefMut T → Type 0
+  LendsIfOccupied e r = IsSome (entry_item e) → LendsFound e r
+
   -- the entry's item is shown
   pub record ShowsFound (e : Entry T) (s : Shown T) : Type 0 where
     pub map : shown_map s ≡ entry_map e
     pub item : shown_item s ≡ entry_item e
+
+  abbrev pub ShowsIfOccupied : Entry T → Shown T → Type 0
+  ShowsIfOccupied e s = IsSome (entry_item e) → ShowsFound e s
+
+  -- if the entry is occupied its item was visited once, and is what the visit made of it; else nothing has changed
+  pub record VisitsEntry {V : Type 0} (visits : V → T → V × T × Bool) (v : V) (e after : Entry T) (then : V) : Type 0 where
+    pub item : entry_item after ≡ option_map (λ x. (visits v x).1) (entry_item e)
+    pub map : IfSome (entry_item e) (λ x. entry_map after ≡ entry_with e (visits v x).1)
+    pub visitor : IfSome (entry_item e) (λ x. then ≡ (visits v x).0)
+    pub unchanged : IfNone (entry_item e) (entry_map after ≡ entry_map e)
+    pub unvisited : IfNone (entry_item e) (then ≡ v)
+    pub written : (w : T) → entry_with after w ≡ entry_with e w
+    pub others : entry_others after ≡ entry_others e
 
 module _ {T K : Type 0} (key : T → K) where
   abbrev pub IsEntryFor : (K → Bool) → MutBor (Holding T) → Entry T → Type 0
@@ -101,6 +123,23 @@ module _ {T K : Type 0} (key : T → K) where
 
   abbrev pub LacksKeyOf : (K → K → Bool) → T → Entry T → Type 0
   LacksKeyOf eq x e = IsAbsent key (eq (key x)) (entry_map e).items
+
+  abbrev pub MakesAbsent : (K → K → Bool) → (T → Type 0) → Entry T → Type 0
+  MakesAbsent eq made e = entry_item e ≡ None → (x : T) → made x → LacksKeyOf eq x e
+
+  abbrev pub HasKeyOf : (K → K → Bool) → T → Entry T → Type 0
+  HasKeyOf eq x e = IfSome (entry_item e) (λ y. IsTrue (eq (key x) (key y)))
+
+  abbrev pub VisitKeepsKey : {V : Type 0} → (K → K → Bool) → (V → T → V × T × Bool) → V → Entry T → Type 0
+  VisitKeepsKey eq visits v e = IfSome (entry_item e) (λ x. IsTrue (eq (key x) (key (visits v x).1)))
+
+  -- the item is returned: the entry's map is full, or memory was refused
+  abbrev pub EntryHandsBack : (K → K → Bool) → T → Entry T → Refused T → Type 0
+  EntryHandsBack eq x e = HandsBack key eq (entry_map e) x
+
+  -- the same of whatever item is returned
+  abbrev pub EntryRefuses : (K → K → Bool) → Entry T → Refused T → Type 0
+  EntryRefuses eq e refused = FindsNoRoom key eq (entry_map e).limit (entry_map e).items refused.item refused.error
 
 module _ {T K : Type 0} (key : T → K) (cmp : K → K → Ordering) where
   -- x was inserted into the entry's map, and the guard lends it; a write through it is as if that item had been inserted
@@ -116,6 +155,7 @@ module _ {T K : Type 0} (key : T → K) (cmp : K → K → Ordering) where
 
   -- x was inserted into the entry's map, and this is its entry
   pub record EntersInserted (x : T) (e : Entry T) (found : OccupiedEntry T) : Type 0 where
+    pub lender : entry_lender (Occupied found) ≡ entry_lender e
     pub inserts : OrdInserts key cmp x (entry_map e) (entry_map (Occupied found))
     pub item : entry_item (Occupied found) ≡ Some x
     pub written : (w : T) → AddsItem w (entry_map e).items (entry_with (Occupied found) w).items

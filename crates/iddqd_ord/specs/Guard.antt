@@ -1,19 +1,21 @@
 -- What a contract sees of a guard of an ordered map.
---     with_item_in m slot w      the map, once w stands in the slot
+--     item_in m slot, with_item_in m slot w      the item of the slot, and the map once w is written to it
+--     IsSlotAt m place slot      the slot of the item at the place: what it shows, what a write and a removal leave
+--     IsInsertedAt x old new at      x was inserted: its slot and its place
 --     lent_map, lent_slot, lent_item, guard_lender      the map as the guard holds it, the slot, its item, the name of the reference to the map
 --     lent_with r w      the map once w is written through the guard
---     shown_map, shown_item, shown_lender      the same of what `into_ref` answers
+--     shown_map, shown_item, shown_lender      the same of what `into_ref` returns
 --     lends_item, item_follows, guard_follows      the map, or the guard, ends with the last value written
 --     rests_at_none      with no guard the map stays as it is
 --     GuardFinds, GuardOverwrites      the guard lends the item whose key passes the test, and a write replaces that one
 --     GuardKeeps, GuardKeepsAkin      an item of the same key, or of an equal one, may be written
-use Rattle.std.specs.Prelude.{◌≡◌, ℕ, [], Bool, IsTrue, Option, Some}
+use Rattle.std.specs.Prelude.{◌≡◌, ℕ, [], Bool, IsSome, IsTrue, Option, Some, remove, slice_get, slice_set}
 use Rattle.std.specs.Borrow.{Fml, GName, RattleType, MutBor, Lends, RestsIfNone, follows}
 use Rattle.std.specs.declared.cmp.Ordering.{Ordering}
 use mir.Syntax.{named}
-use Rattle.iddqd_store.specs.Contents.{Ascends, find_item, items_overwritten}
+use Rattle.iddqd_store.specs.Contents.{AddsItem, Ascends, find_item, items_overwritten}
 use Rattle.iddqd_store.specs.Holding.{Holding}
-use Rattle.iddqd_store.specs.SlotItems.{item_of_slot, still_there, written_to_slot}
+use Rattle.iddqd_store.specs.SlotItems.{item_of_slot, still_there, without_slot, written_to_slot}
 use Rattle.iddqd_ord.specs.declared.id_ord_map.ref_mut.RefMut.{RefMut}
 use Rattle.iddqd_ord.specs.declared.id_ord_map.ref_mut.Shown.{Shown}
 use Rattle.iddqd_ord.specs.contracts.id_ord_map.IdOrdMap as map
@@ -22,6 +24,22 @@ use Rattle.iddqd_ord.specs.contracts.id_ord_map.ref_mut.RefMut as guard
 module _ {T : Type 0} where
   abbrev pub with_item_in : Holding T → ℕ → T → Holding T
   with_item_in m slot w = record m { items = written_to_slot m.slots m.items slot w }
+
+  abbrev pub item_in : Holding T → ℕ → Option T
+  item_in m slot = item_of_slot m.slots m.items slot
+
+  pub record IsSlotAt (m : Holding T) (place slot : ℕ) : Type 0 where
+    pub item : item_in m slot ≡ slice_get m.items place
+    pub there : IsSome (item_in m slot)
+    pub written : (w : T) → written_to_slot m.slots m.items slot w ≡ slice_set m.items place w
+    pub others : without_slot m.slots m.items slot ≡ remove m.items place
+    pub placed : slice_get m.slots place ≡ Some slot
+
+  pub record IsInsertedAt (x : T) (old new : Holding T) (at : ℕ × ℕ) : Type 0 where
+    pub there : item_in new at.0 ≡ Some x
+    pub placed : slice_get new.slots at.1 ≡ Some at.0
+    pub written : (w : T) → AddsItem w old.items (with_item_in new at.0 w).items
+    pub others : without_slot new.slots new.items at.0 ≡ old.items
 
   abbrev pub lent_map : RefMut T → Holding T
   lent_map r = r.map.now

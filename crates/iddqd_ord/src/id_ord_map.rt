@@ -33,17 +33,17 @@ pub use ref_mut::{RefMut, Shown};
 use std::alloc::Global;
 use std::marker::Model;
 
-/// Items of pairwise different keys, in ascending order of the keys that they show (the crate's `IdOrdMap`). Each item
-/// lies in a numbered slot of a store, and an index lists the slots in the order of the keys. Contracts see the items
-/// in that order, the slot of each, how many slots are vacant, the capacity and the limit.
+/// Items of pairwise different keys, in ascending order of the keys that they show. Each item lies in a numbered slot
+/// of a store, and an index lists the slots in the order of the keys. Contracts see the items in that order, the slot
+/// of each, the number of vacant slots, the capacity and the limit.
 pub struct IdOrdMap<T> {
     store: ItemStore<T>,
     index: OrdIndex,
-    // What an insertion lends where it succeeds, so that its caller learns what the map is then.
+    // What an insertion lends if it succeeds, so that its caller learns what the map is then.
     done: (),
 }
 
-// Not derived: the proof of a function has a derived drop field by field wherever it drops a map, and this one as a call.
+// Not derived: wherever a function drops a map, its proof has a derived drop field by field, and this one as a call.
 impl<T: Drop> Drop for IdOrdMap<T> {
     fn drop(self) {
         let IdOrdMap {
@@ -76,7 +76,7 @@ impl<T> Model for IdOrdMap<T> {
 }
 
 impl<T> IdOrdMap<T> {
-    /// How many items there are. It counts none of them.
+    /// Returns the number of items, in constant time.
     #[inline]
     pub fn len(&self) -> usize
         ensures len { result ≡ length self.now.items }
@@ -86,7 +86,7 @@ impl<T> IdOrdMap<T> {
         self.store.len()
     }
 
-    /// Whether there is no item.
+    /// Returns true if the map has no items.
     #[inline]
     pub fn is_empty(&self) -> bool
         ensures { IsTrue result ↔ (self.now.items ≡ []) }
@@ -94,7 +94,7 @@ impl<T> IdOrdMap<T> {
         self.len() == 0
     }
 
-    /// How many items fit before the store needs memory.
+    /// Returns the number of items that fit before the store allocates.
     #[inline]
     pub fn capacity(&self) -> usize
         ensures number { result ≡ self.now.capacity }
@@ -103,7 +103,7 @@ impl<T> IdOrdMap<T> {
         self.store.capacity()
     }
 
-    /// How many slots are vacant, as removed items left them (ours). It counts none of them.
+    /// Returns the number of vacant slots, which removed items left, in constant time.
     #[inline]
     pub fn vacant(&self) -> u32
         ensures { result ≡ self.now.vacant }
@@ -111,7 +111,7 @@ impl<T> IdOrdMap<T> {
         self.store.vacant()
     }
 
-    /// The most items that the map ever holds (ours).
+    /// Returns the greatest number of items that the map can hold.
     #[inline]
     pub fn limit(&self) -> u32
         ensures { result ≡ self.now.limit }
@@ -121,18 +121,19 @@ impl<T> IdOrdMap<T> {
 }
 
 impl<T: IdOrdItem> IdOrdMap<T> {
-    /// A map without items. It takes no memory.
+    ghost use Rattle.iddqd_ord.specs.OrdMap.{empty_map};
+
+    /// Returns a map without items. Does not allocate.
     pub fn new(alloc: Global) -> Self
-        ensures empty { result ≡ record { items = []; slots = []; vacant = 0; capacity = 0; limit = MAX_ITEMS } }
+        ensures empty { result ≡ empty_map 0 MAX_ITEMS }
         ensures keyed { Ascends T.key T.Key.cmp result.items }
     {
         IdOrdMap::with_limit(alloc, MAX_ITEMS)
     }
 
-    /// A map without items that never holds more than `limit` (ours: the crate leaves open where a map is full). It takes
-    /// no memory.
+    /// Returns a map without items that never holds more than `limit`. Does not allocate.
     pub fn with_limit(alloc: Global, limit: u32) -> Self
-        ensures empty { result ≡ record { items = []; slots = []; vacant = 0; capacity = 0; limit = limit } }
+        ensures empty { result ≡ empty_map 0 limit }
         ensures keyed { Ascends T.key T.Key.cmp result.items }
     {
         IdOrdMap::over(ItemStore::new(alloc, limit), alloc)
@@ -141,7 +142,7 @@ impl<T: IdOrdItem> IdOrdMap<T> {
     // The map over a store without slots.
     fn over(store: ItemStore<T>, alloc: Global) -> Self
         requires empty { store.slots ≡ [] }
-        ensures empty { result ≡ record { items = []; slots = []; vacant = 0; capacity = store.capacity; limit = store.limit } }
+        ensures empty { result ≡ empty_map store.capacity store.limit }
         ensures keyed { Ascends T.key T.Key.cmp result.items }
     {
         IdOrdMap {
@@ -151,7 +152,7 @@ impl<T: IdOrdItem> IdOrdMap<T> {
         }
     }
 
-    /// Drops every item, and leaves no slot. The capacity stays. It takes no memory.
+    /// Drops every item and every slot, and keeps the capacity. Does not allocate.
     pub fn clear(&mut self)
     where
         T: Drop,

@@ -8,19 +8,23 @@ use super::IdOrdMap;
 use iddqd_store::{IdOrdItem, TryReserveError};
 
 impl<T: IdOrdItem> IdOrdMap<T> {
-    /// A map of the items' clones, in the same slots and under the same limit (a function: the crate's is the trait
-    /// `Clone`, which cannot refuse). `Err` where memory for a clone, for the slots or for the index was refused, and then
-    /// nothing is made. It compares no keys.
+    /// Returns a map of the items' clones, in the same slots and under the same limit. It returns `Err` if memory for a
+    /// clone, for the slots or for the index was refused, and drops what was cloned. Compares no keys. This is no
+    /// `Clone`, which cannot refuse.
     pub fn clone(&self) -> Result<Self, TryReserveError>
     where
         T: Clone,
         requires keyed { Ascends T.key T.Key.cmp self.now.items }
         requires keeps_keys { ClonesKeepKeys T.key T.Key.eq T.is_clone }
+
+        // On success.
         ensures items { IfOk result (λ copy. AllZip T.is_clone self.now.items copy.items) }
         ensures slots { IfOk result (λ copy. copy.slots ≡ self.now.slots) }
         ensures vacant { IfOk result (λ copy. copy.vacant ≡ self.now.vacant) }
         ensures limit { IfOk result (λ copy. copy.limit ≡ self.now.limit) }
         ensures keyed { IfOk result (λ copy. Ascends T.key T.Key.cmp copy.items) }
+
+        // On refusal.
         ensures only_memory { IfErr result (λ e. e ≡ memory_refused) }
     {
         let index = self.index.try_clone()?;

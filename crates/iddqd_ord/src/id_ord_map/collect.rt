@@ -1,10 +1,9 @@
 //! Many items at once, from an iterator.
-ghost use Rattle.std.specs.Prelude.{◌≡◌, [], List, IfOk, IfErr, IfNone, IfSome, OnOk, IsPermutation};
+ghost use Rattle.std.specs.Prelude.{◌≡◌, IfOk, IfErr, OnOk};
 ghost use Rattle.std.specs.Iterator.{IsFiniteIterable};
-ghost use Rattle.iddqd_store.specs.Collecting.{GivesAll, GivesThen, OverwritesAll, ShowsAkin, ShowsFirstRepeat};
-ghost use Rattle.iddqd_store.specs.Contents.{Ascends, IsAbsent, NoTwoAkin};
-ghost use Rattle.iddqd_store.specs.Holding.{FillsSlots, KeepsItems};
-ghost use Rattle.iddqd_store.specs.Refusal.{FindsNoRoom};
+ghost use Rattle.iddqd_store.specs.Collecting.{GivesThen, ShowsAkin, ShowsFirstRepeat};
+ghost use Rattle.iddqd_store.specs.Contents.{Ascends, IsAbsent};
+ghost use Rattle.iddqd_store.specs.Holding.{FillsSlots};
 
 use super::IdOrdMap;
 use super::store_and_index::take_out;
@@ -15,22 +14,27 @@ use iddqd_store::{
 use std::alloc::Global;
 
 impl<T: IdOrdItem> IdOrdMap<T> {
-    ghost use Rattle.iddqd_ord.specs.OrdMap.{OrdInserts};
+    ghost use Rattle.iddqd_ord.specs.OrdMap.{CollectsAll, CollectsUnique, InsertsAll, OrdInserts, StopsInserting};
 
-    /// Puts in the items one after the other, each in the stead of one of an equal key (the crate's `Extend`, a function
-    /// here, since it can refuse). Room in the store is made before an item is asked for: for as many as the iterator
-    /// announces at least where the map is empty, and else for half of them, rounded up; where that is refused, the error
-    /// has no item and the items are as they were. Else the first item that is refused comes back, those before it stay,
-    /// and the rest of the iterator is dropped. What an iterator announces costs at most a refusal or memory. It makes as
-    /// many comparisons as that many calls of `insert_overwrite`.
+    /// Inserts the items one after the other. Each replaces the one of an equal key. This is no `Extend`, which cannot
+    /// refuse. Room in the store is reserved before an item is asked for. An empty map reserves for the lower bound of
+    /// the iterator's `size_hint`, and another for half of it, rounded up. If that is refused, the error has no item,
+    /// and the items are as they were. Else the first item that is refused is returned, those before it stay, and the
+    /// rest of the iterator is dropped. A wrong `size_hint` costs at most a refusal or memory. It makes as many
+    /// comparisons as that many calls of `insert_overwrite`.
     pub fn extend<U: IntoIterator<Item = T>>(&mut self, iter: U) -> Result<(), ExtendError<T>>
     where
         T: Drop,
         requires keyed { Ascends T.key T.Key.cmp self.old.items }
         requires ends { IsFiniteIterable U.into_iter_gives U.IntoIter.can_next U.IntoIter.remaining iter }
-        ensures taken { OnOk result ((xs : List T) × GivesAll U.into_iter_gives U.IntoIter.next_gives iter xs × OverwritesAll T.key T.Key.eq self.old.limit xs self.old.items self.new.items) }
-        ensures stopped { IfErr result (λ e. IfSome e.item (λ x. (xs : List T) × GivesThen U.into_iter_gives U.IntoIter.next_gives iter xs x × OverwritesAll T.key T.Key.eq self.old.limit xs self.old.items self.new.items × FindsNoRoom T.key T.Key.eq self.old.limit self.new.items x e.error)) }
-        ensures not_begun { IfErr result (λ e. IfNone e.item (KeepsItems self.old self.new)) }
+
+        // On success.
+        ensures taken { OnOk result (InsertsAll T.key T.Key.eq U.into_iter_gives U.IntoIter.next_gives iter self.old self.new) }
+
+        // On refusal.
+        ensures stopped { IfErr result (StopsInserting T.key T.Key.eq U.into_iter_gives U.IntoIter.next_gives iter self.old self.new) }
+
+        // In either case.
         ensures fills { FillsSlots self.old self.new }
         ensures keyed { Ascends T.key T.Key.cmp self.new.items }
     {
@@ -53,8 +57,8 @@ impl<T: IdOrdItem> IdOrdMap<T> {
         Ok(())
     }
 
-    /// A map of the iterator's items, as `extend` puts them into one without items: of equal keys the last item stays (the
-    /// crate's `FromIterator`, a function here, since it can refuse). Where room is refused, what was collected is dropped.
+    /// Returns a map of the iterator's items, as `extend` inserts them into an empty one. Of equal keys the last item
+    /// stays. If room is refused, what was collected is dropped. This is no `FromIterator`, which cannot refuse.
     pub fn from_iter<U: IntoIterator<Item = T>>(
         alloc: Global,
         iter: U,
@@ -62,7 +66,7 @@ impl<T: IdOrdItem> IdOrdMap<T> {
     where
         T: Drop,
         requires ends { IsFiniteIterable U.into_iter_gives U.IntoIter.can_next U.IntoIter.remaining iter }
-        ensures items { IfOk result (λ m. (xs : List T) × GivesAll U.into_iter_gives U.IntoIter.next_gives iter xs × OverwritesAll T.key T.Key.eq MAX_ITEMS xs [] m.items) }
+        ensures items { IfOk result (CollectsAll T.key T.Key.eq U.into_iter_gives U.IntoIter.next_gives iter) }
         ensures vacant { IfOk result (λ m. m.vacant ≡ 0) }
         ensures limit { IfOk result (λ m. m.limit ≡ MAX_ITEMS) }
         ensures keyed { IfOk result (λ m. Ascends T.key T.Key.cmp m.items) }
@@ -74,11 +78,10 @@ impl<T: IdOrdItem> IdOrdMap<T> {
         }
     }
 
-    /// A map of the iterator's items, if no two have equal keys (the crate's call, which answers the duplicate alone where
-    /// it does not panic or abort). At the first item whose key came before it stops, and answers it as the new one beside
-    /// the earlier one, which is taken out. Room for as many items as the iterator announces at least is made before one is
-    /// asked for. In each error all else that was collected is dropped, and so is the rest of the iterator. It makes as many
-    /// comparisons as that many calls of `insert_unique`.
+    /// Returns a map of the iterator's items, if no two have equal keys. It stops at the first item whose key came
+    /// before, and returns it as the new one beside the earlier one, which is removed. Room for the lower bound of the
+    /// iterator's `size_hint` is reserved before an item is asked for. After an error all else that was collected is
+    /// dropped, and so is the rest of the iterator. It makes as many comparisons as that many calls of `insert_unique`.
     pub fn from_iter_unique<U: IntoIterator<Item = T>>(
         alloc: Global,
         iter: U,
@@ -86,11 +89,15 @@ impl<T: IdOrdItem> IdOrdMap<T> {
     where
         T: Drop,
         requires ends { IsFiniteIterable U.into_iter_gives U.IntoIter.can_next U.IntoIter.remaining iter }
-        ensures items { IfOk result (λ m. (xs : List T) × GivesAll U.into_iter_gives U.IntoIter.next_gives iter xs × NoTwoAkin T.key T.Key.eq xs × IsPermutation xs m.items) }
-        ensures repeat { IfErr result (ShowsFirstRepeat T.key T.Key.eq (GivesThen U.into_iter_gives U.IntoIter.next_gives iter)) }
+
+        // On success.
+        ensures items { IfOk result (CollectsUnique T.key T.Key.eq U.into_iter_gives U.IntoIter.next_gives iter) }
         ensures vacant { IfOk result (λ m. m.vacant ≡ 0) }
         ensures limit { IfOk result (λ m. m.limit ≡ MAX_ITEMS) }
         ensures keyed { IfOk result (λ m. Ascends T.key T.Key.cmp m.items) }
+
+        // On refusal.
+        ensures repeat { IfErr result (ShowsFirstRepeat T.key T.Key.eq (GivesThen U.into_iter_gives U.IntoIter.next_gives iter)) }
     {
         let items = iter.into_iter();
         let mut map = match IdOrdMap::with_capacity(alloc, items.size_hint().0) {
@@ -103,7 +110,7 @@ impl<T: IdOrdItem> IdOrdMap<T> {
         Ok(map)
     }
 
-    // Inserts the item where none of an equal key is there; else takes that one out and answers both.
+    // Inserts the item if no item has an equal key. Else it removes that one and returns both.
     fn insert_first(&mut self, item: T) -> Result<(), FromIterError<T>>
     where
         T: Drop,

@@ -1,4 +1,4 @@
-//! Entries: the place of an item in a map, or a map that lacks one.
+//! Entries: an item of a map, or a map that lacks one.
 ghost use Rattle.std.specs.Prelude.{◌≡◌, IfSome, IsSome, IsTrue, Some, slice_get};
 ghost use Rattle.iddqd_store.specs.Contents.{Ascends};
 ghost use Rattle.iddqd_store.specs.SlotItems.{item_of_slot};
@@ -13,7 +13,7 @@ use super::IdOrdMap;
 use iddqd_ord_index::Place;
 use iddqd_store::{Comparable, IdOrdItem, Steps};
 
-/// What `entry` finds (the crate's `Entry`). One that is let go changes nothing more.
+/// What `entry` finds. Dropping it changes nothing.
 #[derive(Drop)]
 pub enum Entry<'a, T> {
     /// No item has a key that the query stands for.
@@ -22,13 +22,13 @@ pub enum Entry<'a, T> {
     Occupied(OccupiedEntry<'a, T>),
 }
 
-/// A map that lacks the item that was asked for (the crate's `VacantEntry`).
+/// A map that lacks the item that was asked for.
 #[derive(Drop)]
 pub struct VacantEntry<'a, T> {
     pub(super) map: &'a mut IdOrdMap<T>,
 }
 
-/// An item of a map (the crate's `OccupiedEntry`). It holds the item's slot, and the place that a removal needs.
+/// An item of a map. It holds the item's slot, and the place that a removal needs.
 #[derive(Drop)]
 pub struct OccupiedEntry<'a, T> {
     pub(super) map: &'a mut IdOrdMap<T>,
@@ -41,12 +41,12 @@ pub struct OccupiedEntry<'a, T> {
 impl<T: IdOrdItem> IdOrdMap<T> {
     ghost use Rattle.iddqd_ord.specs.Entry.{IsEntryFor, entry_item};
 
-    /// The entry of the query: occupied where it finds an item. It makes as many comparisons as `get`, takes no memory, and
-    /// changes nothing.
+    /// Returns the entry of the query, which is occupied if the query finds an item. It makes as many comparisons as
+    /// `get`. Does not allocate, and changes nothing.
     pub fn entry<Q: Comparable<T::Key>>(&mut self, query: &Q) -> Entry<'_, T>
         requires keyed { Ascends T.key T.Key.cmp self.old.items }
         ensures entry { IsEntryFor T.key (Q.equivalent query.now) self.entry result }
-        ensures equal { IfSome (entry_item result) (λ x. IsTrue (Q.equivalent query.now (T.key x))) }
+        ensures akin { IfSome (entry_item result) (λ x. IsTrue (Q.equivalent query.now (T.key x))) }
     {
         match self.index.find(&self.store, query, &mut Steps::new()) {
             Ok(place) => {

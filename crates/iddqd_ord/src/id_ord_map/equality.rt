@@ -1,8 +1,8 @@
 //! Equality of two maps.
 use super::IdOrdMap;
 
-/// As many items, and those at each place equal by their own `==`. Keys are not compared, so where items do not compare
-/// theirs, maps of different keys can be equal.
+/// Two maps are equal if they have as many items, and those at each place are equal by their own `==`. Keys are not
+/// compared. So maps of different keys can be equal, if the items do not compare theirs.
 impl<T: PartialEq> PartialEq for IdOrdMap<T> {
     ghost use Rattle.iddqd_ord.specs.OrdMap.{have_equal_items};
     ghost use Rattle.std.specs.Cmp.{on_per};

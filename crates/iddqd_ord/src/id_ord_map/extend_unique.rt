@@ -1,9 +1,8 @@
-//! Many items at once, none in the stead of another.
-ghost use Rattle.std.specs.Prelude.{List, IfErr, OnErr, OnOk};
+//! Many items at once, none in place of another.
+ghost use Rattle.std.specs.Prelude.{IfErr, OnErr, OnOk};
 ghost use Rattle.std.specs.Borrow.{sem};
 ghost use Rattle.std.specs.Iterator.{IsFiniteIterable};
-ghost use Rattle.iddqd_store.specs.Adding.{HaltsAdding, HaltsAt, ShowsFirstConflict};
-ghost use Rattle.iddqd_store.specs.Collecting.{AddsAll, GivesAll, GivesThen};
+ghost use Rattle.iddqd_store.specs.Adding.{HaltsAt};
 ghost use Rattle.iddqd_store.specs.Contents.{Ascends, IsAbsent};
 
 use super::IdOrdMap;
@@ -12,16 +11,16 @@ use iddqd_store::{
 };
 
 impl<T: IdOrdItem> IdOrdMap<T> {
-    ghost use Rattle.iddqd_ord.specs.OrdMap.{OrdFills, OrdInserts, OrdKeeps, ends_ord_extended};
+    ghost use Rattle.iddqd_ord.specs.OrdMap.{AddsEach, HaltsEach, OrdFills, OrdInserts, OrdKeeps, ShowsConflict, ends_added};
 
-    /// Inserts the items one after the other, up to the first whose key is there, from before or from the iterator (ours).
-    /// That one is answered as the new item beside the one that is there, which is lent; a duplicate needs no memory, and
-    /// comes before a full map. Room in the store is made before an item is asked for, as `extend` makes it; where that is
-    /// refused, the error has no item and the items are as they were. Else the first item that is refused comes back. In
-    /// each error the items before it stay, and the rest of the iterator is dropped. It makes as many comparisons as that
-    /// many calls of `insert_unique`.
-    /// In a caller's proof, match the error by a name, as in `Err(_error)`. `Err(_)` in the last `match` of a function leaves
-    /// nothing known of the map, if the items own memory.
+    /// Inserts the items one after the other, up to the first whose key is there, from before or from the iterator.
+    /// That one is returned as the new item beside a reference to the existing one. A duplicate allocates nothing, and
+    /// is reported before a full map. Room in the store is reserved before an item is asked for, as `extend` does. If
+    /// that is refused, the error has no item, and the items are as they were. Else the first item that is refused is
+    /// returned. After an error the items before it stay, and the rest of the iterator is dropped. It makes as many
+    /// comparisons as that many calls of `insert_unique`.
+    /// In a caller's proof, match the error by a name, as in `Err(_error)`. `Err(_)` in the last `match` of a function
+    /// leaves nothing known of the map, if the items own memory.
     pub fn extend_unique<U: IntoIterator<Item = T>>(
         &mut self,
         iter: U,
@@ -30,8 +29,8 @@ impl<T: IdOrdItem> IdOrdMap<T> {
         T: Drop,
         requires keyed { Ascends T.key T.Key.cmp self.old.items }
         requires ends { IsFiniteIterable U.into_iter_gives U.IntoIter.can_next U.IntoIter.remaining iter }
-        ensures* after { sem 𝓛 (ends_ord_extended T.row T.key T.Key.eq T.Key.cmp (GivesAll U.into_iter_gives U.IntoIter.next_gives iter) (GivesThen U.into_iter_gives U.IntoIter.next_gives iter) self.entry result) }
-        ensures conflict { IfErr result (ShowsFirstConflict T.key T.Key.eq (GivesThen U.into_iter_gives U.IntoIter.next_gives iter) self.old.items) }
+        ensures* after { sem 𝓛 (ends_added T.row T.key T.Key.eq T.Key.cmp U.into_iter_gives U.IntoIter.next_gives iter self.entry result) }
+        ensures conflict { IfErr result (ShowsConflict T.key T.Key.eq U.into_iter_gives U.IntoIter.next_gives iter self.old) }
     {
         match self.add_each(iter) {
             Ok(()) => Ok(&mut self.done),
@@ -43,14 +42,14 @@ impl<T: IdOrdItem> IdOrdMap<T> {
         }
     }
 
-    // The same, but that it answers the slot of the item that is there in place of lending it: a loan cannot leave a loop.
+    // As `extend_unique`, but returns the slot of the existing item in place of the item: a loan cannot leave a loop.
     fn add_each<U: IntoIterator<Item = T>>(&mut self, iter: U) -> Result<(), Halt<T>>
     where
         T: Drop,
         requires keyed { Ascends T.key T.Key.cmp self.old.items }
         requires ends { IsFiniteIterable U.into_iter_gives U.IntoIter.can_next U.IntoIter.remaining iter }
-        ensures added { OnOk result ((xs : List T) × GivesAll U.into_iter_gives U.IntoIter.next_gives iter xs × AddsAll T.key T.Key.eq xs self.old.items self.new.items) }
-        ensures halted { IfErr result (HaltsAdding T.key T.Key.eq (GivesThen U.into_iter_gives U.IntoIter.next_gives iter) self.old self.new) }
+        ensures added { OnOk result (AddsEach T.key T.Key.eq U.into_iter_gives U.IntoIter.next_gives iter self.old self.new) }
+        ensures halted { IfErr result (HaltsEach T.key T.Key.eq U.into_iter_gives U.IntoIter.next_gives iter self.old self.new) }
         ensures fills { OrdFills T.key T.Key.cmp self.old self.new }
     {
         let items = iter.into_iter();
@@ -64,7 +63,7 @@ impl<T: IdOrdItem> IdOrdMap<T> {
         Ok(())
     }
 
-    // Inserts the item where none of an equal key is there, and else answers that one's slot.
+    // Inserts the item if no item has an equal key, and else returns that one's slot.
     fn add(&mut self, item: T) -> Result<(), Halt<T>>
         requires keyed { Ascends T.key T.Key.cmp self.old.items }
         ensures inserted { OnOk result (OrdInserts T.key T.Key.cmp item self.old self.new) }

@@ -8,14 +8,14 @@ use super::store_and_index::take_out;
 use iddqd_store::IdOrdItem;
 
 impl<T> IdOrdMap<T> {
-    /// The item of the least key, or `None` where there is none. It compares no keys.
+    /// Returns the item of the least key, or `None` if the map has no items. Compares no keys.
     pub fn first(&self) -> Option<&T>
         ensures { option_copied result ≡ slice_get self.now.items 0 }
     {
         self.store.get(self.index.first()?)
     }
 
-    /// The item of the greatest key, or `None` where there is none. It compares no keys.
+    /// Returns the item of the greatest key, or `None` if the map has no items. Compares no keys.
     pub fn last(&self) -> Option<&T>
         ensures { option_copied result ≡ slice_get self.now.items (length self.now.items - 1) }
     {
@@ -24,11 +24,13 @@ impl<T> IdOrdMap<T> {
 }
 
 impl<T: IdOrdItem> IdOrdMap<T> {
-    /// Takes out the item of the least key, and answers it; `None` where there is none, and then nothing has changed. Its
-    /// slot is vacant then. It takes no memory and compares no keys.
+    /// Removes and returns the item of the least key. Its slot becomes vacant. Without items it returns `None` and
+    /// changes nothing. Does not allocate, and compares no keys.
     pub fn pop_first(&mut self) -> Option<T>
         requires keyed { Ascends T.key T.Key.cmp self.old.items }
         ensures value { result ≡ slice_get self.old.items 0 }
+
+        // What is left.
         ensures items { self.new.items ≡ drop 1 self.old.items }
         ensures slots { self.new.slots ≡ drop 1 self.old.slots }
         ensures removed { Removes result self.old self.new }
@@ -41,11 +43,13 @@ impl<T: IdOrdItem> IdOrdMap<T> {
         Some(take_out(&mut self.store, &mut self.index, first))
     }
 
-    /// Takes out the item of the greatest key, and answers it; `None` where there is none, and then nothing has changed.
-    /// Its slot is vacant then. It takes no memory and compares no keys.
+    /// Removes and returns the item of the greatest key. Its slot becomes vacant. Without items it returns `None` and
+    /// changes nothing. Does not allocate, and compares no keys.
     pub fn pop_last(&mut self) -> Option<T>
         requires keyed { Ascends T.key T.Key.cmp self.old.items }
         ensures value { result ≡ slice_get self.old.items (length self.old.items - 1) }
+
+        // What is left.
         ensures items { self.new.items ≡ take (length self.old.items - 1) self.old.items }
         ensures slots { self.new.slots ≡ take (length self.old.slots - 1) self.old.slots }
         ensures removed { Removes result self.old self.new }

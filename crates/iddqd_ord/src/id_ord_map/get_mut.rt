@@ -1,54 +1,48 @@
 //! Lending one item for writing, and what lends it.
-ghost use Rattle.std.specs.Prelude.{◌≡◌, ◌<◌, length, remove, IfNone, IfSome, IsSome, Some, None, slice_get, slice_set};
+ghost use Rattle.std.specs.Prelude.{◌≡◌, ◌<◌, length, IfNone, IfSome, IsSome, Some};
 ghost use Rattle.std.specs.Borrow.{sem};
-ghost use Rattle.iddqd_store.specs.Contents.{Ascends, find_item};
-ghost use Rattle.iddqd_store.specs.SlotItems.{item_of_slot, without_slot, written_to_slot};
+ghost use Rattle.iddqd_store.specs.Contents.{Ascends, IsAbsent};
 
 use super::{IdOrdMap, RefMut};
 use iddqd_ord_index::Place;
 use iddqd_store::{Comparable, IdOrdItem, Steps};
 
 impl<T> IdOrdMap<T> {
-    ghost use Rattle.iddqd_ord.specs.Guard.{lends_item};
+    ghost use Rattle.iddqd_ord.specs.Guard.{IsSlotAt, item_in, lends_item};
 
-    // The item of the slot.
+    // Returns the item of the slot.
     #[inline]
     pub(super) fn item_in_slot(&self, slot: u32) -> &T
-        requires { IsSome (item_of_slot self.now.slots self.now.items slot) }
-        ensures { item_of_slot self.now.slots self.now.items slot ≡ Some result.now }
+        requires { IsSome (item_in self.now slot) }
+        ensures { item_in self.now slot ≡ Some result.now }
     {
         self.store.get(slot).unwrap()
     }
 
-    // The item of the slot, for writing.
+    // Returns the item of the slot, for writing.
     #[inline]
     pub(super) fn item_in_slot_mut(&mut self, slot: u32) -> &mut T
-        requires { IsSome (item_of_slot self.old.slots self.old.items slot) }
+        requires { IsSome (item_in self.old slot) }
         ensures* writes_back { sem 𝓛 (lends_item T.row self.entry slot result) }
-        ensures value { item_of_slot self.old.slots self.old.items slot ≡ Some result.now }
+        ensures value { item_in self.old slot ≡ Some result.now }
     {
         self.store.get_mut(slot)
     }
 
-    // The slot of the item at the place. It goes down the index once.
+    // Returns the slot of the item at this position. It goes down the index once.
     #[inline]
     pub(super) fn slot_at_position(&self, at: usize) -> u32
         requires { at < length self.now.items }
-        ensures item { item_of_slot self.now.slots self.now.items result ≡ slice_get self.now.items at }
-        ensures written { (w : T) → written_to_slot self.now.slots self.now.items result w ≡ slice_set self.now.items at w }
+        ensures { IsSlotAt self.now at result }
     {
         self.slot_at(self.index.place(at))
     }
 
-    // The slot at the place. It goes down the index once.
+    // Returns the slot at the place. It goes down the index once.
     #[inline]
     pub(super) fn slot_at(&self, place: Place) -> u32
         requires { place < length self.now.items }
-        ensures item { item_of_slot self.now.slots self.now.items result ≡ slice_get self.now.items place }
-        ensures there { IsSome (item_of_slot self.now.slots self.now.items result) }
-        ensures written { (w : T) → written_to_slot self.now.slots self.now.items result w ≡ slice_set self.now.items place w }
-        ensures others { without_slot self.now.slots self.now.items result ≡ remove self.now.items place }
-        ensures placed { slice_get self.now.slots place ≡ Some result }
+        ensures { IsSlotAt self.now place result }
     {
         self.index.slot_at(place)
     }
@@ -57,15 +51,19 @@ impl<T> IdOrdMap<T> {
 impl<T: IdOrdItem> IdOrdMap<T> {
     ghost use Rattle.iddqd_ord.specs.Guard.{GuardFinds, GuardKeeps, GuardKeepsAkin, GuardOverwrites, rests_at_none, guard_lender, lent_map};
 
-    /// Lends the item that the query finds for writing; `None` where there is none, and then nothing has changed. The
-    /// guard has to be spent. It makes as many comparisons as `get`.
+    /// Returns a guard for the item that the query finds, or `None`, and then nothing has changed. The guard has to be
+    /// spent. It makes as many comparisons as `get`.
     pub fn get_mut<Q: Comparable<T::Key>>(&mut self, query: &Q) -> Option<RefMut<'_, T>>
         requires keyed { Ascends T.key T.Key.cmp self.old.items }
         ensures* unchanged_at_none { sem 𝓛 (rests_at_none T.row self.entry result) }
-        ensures absent { IfNone result (find_item T.key (Q.equivalent query.now) self.old.items ≡ None) }
+        ensures absent { IfNone result (IsAbsent T.key (Q.equivalent query.now) self.old.items) }
+
+        // If an item is found.
         ensures same_map { IfSome result (λ r. guard_lender r ≡ self.entry.ghost_name) }
         ensures lent { IfSome result (λ r. lent_map r ≡ self.old) }
         ensures found { IfSome result (GuardFinds T.key (Q.equivalent query.now)) }
+
+        // After a write.
         ensures written { IfSome result (GuardOverwrites T.key (Q.equivalent query.now)) }
         ensures keyed { IfSome result (GuardKeeps T.key T.Key.cmp) }
         ensures keyed_akin { IfSome result (GuardKeepsAkin T.key T.Key.cmp T.Key.eq) }

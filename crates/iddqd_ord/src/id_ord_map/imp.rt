@@ -10,8 +10,8 @@ use iddqd_ord_index::Place;
 use iddqd_store::{Comparable, IdOrdItem, Steps};
 
 impl<T: IdOrdItem> IdOrdMap<T> {
-    /// The item that the query finds, or `None`, by as many comparisons as `get_counted`. It goes down the index once, and
-    /// fetches the item found once more to lend it.
+    /// Returns the item that the query finds, or `None`, by as many comparisons as `get_counted`. It goes down the
+    /// index once, and fetches the item once more to lend it.
     #[inline]
     pub fn get<Q: Comparable<T::Key>>(&self, query: &Q) -> Option<&T>
         requires keyed { Ascends T.key T.Key.cmp self.now.items }
@@ -20,7 +20,7 @@ impl<T: IdOrdItem> IdOrdMap<T> {
         self.get_counted(query, &mut Steps::new())
     }
 
-    /// As `get`, with the comparisons counted (ours): at most 4 + 2 d, where d is the number of binary digits of `len`.
+    /// As `get`, with the comparisons counted: at most 4 + 2 d, d the number of binary digits of `len`.
     #[inline]
     pub fn get_counted<Q: Comparable<T::Key>>(&self, query: &Q, steps: &mut Steps) -> Option<&T>
         requires keyed { Ascends T.key T.Key.cmp self.now.items }
@@ -32,7 +32,7 @@ impl<T: IdOrdItem> IdOrdMap<T> {
         self.store.get(slot)
     }
 
-    // The item at the place.
+    // Returns the item at the place.
     #[inline]
     pub(super) fn item_at_place(&self, place: Place) -> &T
         requires { place < length self.now.items }
@@ -41,7 +41,7 @@ impl<T: IdOrdItem> IdOrdMap<T> {
         self.store.get(self.index.slot_at(place)).unwrap()
     }
 
-    /// Whether the query finds an item, by as many comparisons as `get`.
+    /// Returns true if the query finds an item, by as many comparisons as `get`.
     #[inline]
     pub fn contains_key<Q: Comparable<T::Key>>(&self, query: &Q) -> bool
         requires keyed { Ascends T.key T.Key.cmp self.now.items }
@@ -50,8 +50,8 @@ impl<T: IdOrdItem> IdOrdMap<T> {
         self.get(query).is_some()
     }
 
-    /// Takes out the item that the query finds, and answers it; `None` where there is none, and then nothing has
-    /// changed. The item's slot is vacant then. It takes no memory, and makes as many comparisons as `remove_counted`.
+    /// Removes and returns the item that the query finds. Its slot becomes vacant. If there is none, it returns `None`
+    /// and changes nothing. Does not allocate, and makes as many comparisons as `remove_counted`.
     #[inline]
     pub fn remove<Q: Comparable<T::Key>>(&mut self, query: &Q) -> Option<T>
         requires keyed { Ascends T.key T.Key.cmp self.old.items }
@@ -63,8 +63,8 @@ impl<T: IdOrdItem> IdOrdMap<T> {
         self.remove_counted(query, &mut Steps::new())
     }
 
-    /// As `remove`, with the comparisons counted (ours): at most 4 + 2 d, where d is the number of binary digits of `len`
-    /// before the call.
+    /// As `remove`, with the comparisons counted: at most 4 + 2 d, d the number of binary digits of `len` before the
+    /// call.
     pub fn remove_counted<Q: Comparable<T::Key>>(
         &mut self,
         query: &Q,
@@ -75,6 +75,8 @@ impl<T: IdOrdItem> IdOrdMap<T> {
         ensures items { self.new.items ≡ items_without T.key (Q.equivalent query.now) self.old.items }
         ensures removed { Removes result self.old self.new }
         ensures keyed { Ascends T.key T.Key.cmp self.new.items }
+
+        // Comparisons.
         ensures steps { steps.new ≤ steps.old + 4 + 2 * digits (length self.old.items) }
         ensures never_resets { steps.old ≤ steps.new }
     {

@@ -1,10 +1,9 @@
-//! Insertions. An akin item is looked for first, then the limit, then memory, and only then is anything changed.
-ghost use Rattle.std.specs.Prelude.{◌≡◌, ◌+◌, ◌*◌, ◌≤◌, length, insert, IfOk, IfErr, IfNone, OnOk, OnErr, OnSome, Err, Some, slice_get};
+//! Insertions. They look for an equal key first, then at the limit, then ask for memory, and only then change anything.
+ghost use Rattle.std.specs.Prelude.{◌≡◌, ◌+◌, ◌*◌, ◌≤◌, length, insert, IfOk, IfErr, OnOk, OnErr, Some, slice_get};
 ghost use Rattle.std.specs.Borrow.{sem};
-ghost use Rattle.iddqd_store.specs.Contents.{Ascends, IsAbsent, find_item, keys, items_overwritten};
+ghost use Rattle.iddqd_store.specs.Contents.{Ascends, IsAbsent};
 ghost use Rattle.iddqd_ord_index.specs.Digits.{digits};
-ghost use Rattle.iddqd_store.specs.Refusal.{RefusesInsertion, refusal_kind};
-ghost use Rattle.iddqd_ord_index.specs.Search.{IsPlaceAmong};
+ghost use Rattle.iddqd_store.specs.Refusal.{refusal_kind};
 
 use super::IdOrdMap;
 use super::store_and_index::{exchange, put_in, reserve_one};
@@ -12,25 +11,26 @@ use iddqd_ord_index::Place;
 use iddqd_store::{DuplicateItem, Few, IdOrdItem, InsertError, Refused, Steps};
 
 impl<T: IdOrdItem> IdOrdMap<T> {
-    ghost use Rattle.iddqd_ord.specs.OrdMap.{HandsBack, OrdInserts, OrdKeeps, ends_ord_inserted, lends_nothing};
+    ghost use Rattle.iddqd_ord.specs.OrdMap.{BelongsAt, HandsBack, OrdInserts, OrdKeeps, OrdOverwrites, RefusesItem, ends_ord_inserted, lends_nothing};
 
-    /// Inserts the item where none of an equal key is there, by as many comparisons as `insert_unique_counted`. A duplicate
-    /// needs no memory and lends the item that is there; then the map is as it was. A full map and refused memory hand the
-    /// item back, and then the items are as they were (ours: the crate panics or aborts for want of room).
-    /// In a caller's proof, match the error by a name, as in `Err(_error)`. `Err(_)` in the last `match` of a function leaves
-    /// nothing known of the map, if the items own memory.
+    /// Inserts the item if no item has an equal key, by as many comparisons as `insert_unique_counted`. A duplicate is
+    /// returned beside a reference to the existing item; nothing is allocated, and the map is as it was. If the map is
+    /// full or memory is refused, the item is returned, and the items are as they were. The crate panics or aborts
+    /// there.
+    /// In a caller's proof, match the error by a name, as in `Err(_error)`. `Err(_)` in the last `match` of a function
+    /// leaves nothing known of the map, if the items own memory.
     #[inline]
     pub fn insert_unique(&mut self, item: T) -> Result<&mut (), InsertError<'_, T>>
         requires keyed { Ascends T.key T.Key.cmp self.old.items }
         ensures* after { sem 𝓛 (ends_ord_inserted T.row T.key T.Key.cmp self.entry result item) }
         ensures absent { OnOk result (IsAbsent T.key (T.Key.eq (T.key item)) self.old.items) }
-        ensures refused { IfErr result (RefusesInsertion T.key T.Key.eq self.old.limit self.old.items item) }
+        ensures refused { IfErr result (RefusesItem T.key T.Key.eq self.old item) }
     {
         self.insert_unique_counted(item, &mut Steps::new())
     }
 
-    /// As `insert_unique`, with the comparisons counted (ours): at most 4 + 2 d, where d is the number of binary digits of
-    /// `len` before the call.
+    /// As `insert_unique`, with the comparisons counted: at most 4 + 2 d, d the number of binary digits of `len` before
+    /// the call.
     pub fn insert_unique_counted(
         &mut self,
         item: T,
@@ -38,8 +38,14 @@ impl<T: IdOrdItem> IdOrdMap<T> {
     ) -> Result<&mut (), InsertError<'_, T>>
         requires keyed { Ascends T.key T.Key.cmp self.old.items }
         ensures* after { sem 𝓛 (ends_ord_inserted T.row T.key T.Key.cmp self.entry result item) }
+
+        // On success.
         ensures absent { OnOk result (IsAbsent T.key (T.Key.eq (T.key item)) self.old.items) }
-        ensures refused { IfErr result (RefusesInsertion T.key T.Key.eq self.old.limit self.old.items item) }
+
+        // On refusal.
+        ensures refused { IfErr result (RefusesItem T.key T.Key.eq self.old item) }
+
+        // Comparisons.
         ensures steps { steps.new ≤ steps.old + 4 + 2 * digits (length self.old.items) }
         ensures never_resets { steps.old ≤ steps.new }
     {
@@ -56,18 +62,21 @@ impl<T: IdOrdItem> IdOrdMap<T> {
         }
     }
 
-    /// Puts the item in the stead of one of an equal key, which it answers: the whole item, its key's spelling too.
-    /// That needs no memory and is never refused. Where there is none, it inserts the item as `insert_unique` does and
-    /// answers `None`; a full map and refused memory hand the item back, and then the items are as they were. It compares
-    /// as often as `insert_unique`.
+    /// Replaces the item of an equal key, and returns the old one. The whole item is replaced, its key's spelling too.
+    /// That does not allocate and is never refused. If no item has an equal key, it inserts the item as `insert_unique`
+    /// does and returns `None`. If the map is full or memory is refused, the item is returned, and the items are as
+    /// they were. It compares as often as `insert_unique`.
     pub fn insert_overwrite(&mut self, item: T) -> Result<Option<T>, Refused<T>>
         requires keyed { Ascends T.key T.Key.cmp self.old.items }
-        ensures found { IfOk result (λ found. found ≡ find_item T.key (T.Key.eq (T.key item)) self.old.items) }
-        ensures replaced { IfOk result (λ found. OnSome found (self.new ≡ record self.old { items = items_overwritten T.key (T.Key.eq (T.key item)) item self.old.items })) }
-        ensures inserted { IfOk result (λ found. IfNone found (OrdInserts T.key T.Key.cmp item self.old self.new)) }
-        ensures there { OnOk result (find_item T.key (T.Key.eq (T.key item)) self.new.items ≡ Some item) }
+
+        // On success.
+        ensures put { IfOk result (OrdOverwrites T.key T.Key.eq T.Key.cmp item self.old self.new) }
+
+        // On refusal.
         ensures refused { IfErr result (HandsBack T.key T.Key.eq self.old item) }
         ensures kept { OnErr result (OrdKeeps T.key T.Key.cmp self.old self.new) }
+
+        // In either case.
         ensures keyed { Ascends T.key T.Key.cmp self.new.items }
     {
         match self.index.find(&self.store, item.key(), &mut Steps::new()) {
@@ -79,8 +88,7 @@ impl<T: IdOrdItem> IdOrdMap<T> {
         }
     }
 
-    /// Lends nothing: what a call answers that lends an item where it refuses, as `insert_unique` does, for such calls of
-    /// crates above.
+    /// Lends nothing, for calls of crates above that lend an item if they refuse one, as `insert_unique` does.
     #[doc(hidden)]
     pub fn lend_nothing(&mut self) -> &mut ()
         ensures* lends { sem 𝓛 (lends_nothing T.row self.entry result) }
@@ -88,16 +96,20 @@ impl<T: IdOrdItem> IdOrdMap<T> {
         &mut self.done
     }
 
-    // Puts the item in at the place where its key belongs, and answers its slot.
+    // Inserts the item at the place where its key belongs, and returns its slot.
     pub(super) fn insert_at(&mut self, place: Place, item: T) -> Result<u32, Refused<T>>
         requires keyed { Ascends T.key T.Key.cmp self.old.items }
-        requires place { IsPlaceAmong (T.Key.cmp (T.key item)) (keys T.key self.old.items) (Err place) }
+        requires place { BelongsAt T.key T.Key.cmp item self.old place }
+
+        // On success.
         ensures inserted { OnOk result (OrdInserts T.key T.Key.cmp item self.old self.new) }
         ensures put { OnOk result (self.new.items ≡ insert self.old.items place item) }
         ensures slot { IfOk result (λ slot. slice_get self.new.slots place ≡ Some slot) }
+
+        // On refusal.
         ensures kept { OnErr result (OrdKeeps T.key T.Key.cmp self.old self.new) }
-        ensures item { IfErr result (λ refused. refused.item ≡ item) }
-        ensures kind { IfErr result (λ refused. refused.error ≡ refusal_kind self.old.limit self.old.items) }
+        ensures item { IfErr result (λ e. e.item ≡ item) }
+        ensures kind { IfErr result (λ e. e.error ≡ refusal_kind self.old.limit self.old.items) }
     {
         if let Err(error) = reserve_one(&mut self.store, &mut self.index) {
             return Err(Refused { item, error });

@@ -1,4 +1,5 @@
-//! The items of a map that is gone, in ascending order of the keys. Contracts see the items that are still to come.
+//! The items of a map that was consumed, in ascending order of the keys. Contracts see the items that are still to
+//! come.
 ghost use Rattle.std.specs.Prelude.{◌≡◌, length, IfSome};
 ghost use Rattle.std.specs.Iterator.{UpTo, YieldsFirst, at_most, item_count};
 ghost use Rattle.std.specs.Iterator.SizeHint.{IsWithinCount};
@@ -9,8 +10,8 @@ use iddqd_store::ItemStore;
 use std::iter::FusedIterator;
 use std::marker::Model;
 
-/// The items of a map that is gone, in ascending order of their keys (the crate's `IntoIter`). A step goes down the
-/// index by positions, and compares no keys. Those that have not come are dropped with it.
+/// The items of a map that was consumed, in ascending order of their keys. A step goes down the index by positions, and
+/// compares no keys. Items that were not returned are dropped with it.
 #[derive(Drop)]
 pub struct IntoIter<T> {
     store: ItemStore<T>,

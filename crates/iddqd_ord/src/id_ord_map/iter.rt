@@ -9,8 +9,8 @@ use iddqd_store::ItemStore;
 use std::iter::FusedIterator;
 use std::marker::Model;
 
-/// The items of a map, lent one after the other in ascending order of their keys (the crate's `Iter`). A step goes along
-/// the index, and compares no keys.
+/// The items of a map, lent one after the other in ascending order of their keys. A step goes along the index, and
+/// compares no keys.
 #[derive(Drop)]
 pub struct Iter<'a, T> {
     store: &'a ItemStore<T>,
@@ -60,8 +60,8 @@ impl<'a, T> ExactSizeIterator for Iter<'a, T> {
 impl<'a, T> FusedIterator for Iter<'a, T> {}
 
 impl<T> IdOrdMap<T> {
-    /// The items in ascending order of their keys. It takes no memory, and the whole walk looks at each slot of the
-    /// index once.
+    /// Returns the items in ascending order of their keys. Does not allocate, and the whole walk looks at each slot of
+    /// the index once.
     pub fn iter(&self) -> Iter<'_, T>
         ensures { result ≡ self.now.items }
     {

@@ -7,13 +7,13 @@ mod reading;
 
 use super::IdOrdMap;
 
-/// One item, lent for writing (the crate's `RefMut`). Each read and each write of it is one access to the store. Spend it
-/// by `finish`, `into_ref` or `into_mut`: a program that lets one go unspent is not accepted (ours: the crate looks at the
-/// key when the guard is dropped, and panics).
+/// One item, lent for writing. Each read and each write of it is one access to the store. Spend it by `finish`,
+/// `into_ref` or `into_mut`: the prover refuses a program that drops one unspent. The crate looks at the key when the
+/// guard is dropped, and panics if it changed.
 pub struct RefMut<'a, T> {
     pub(super) map: &'a mut IdOrdMap<T>,
     pub(super) slot: u32,
-    // Always false: nothing can show that a guard may be let go.
+    // Always false: nothing can show that a guard may be dropped.
     pub(super) spent: bool,
     ghost there: { IsSome (item_of_slot map.now.slots map.now.items slot) },
 }
@@ -30,8 +30,8 @@ impl<'a, T> Drop for RefMut<'a, T> {
     }
 }
 
-/// The item of a guard that was spent, for reading (ours: the crate's `into_ref` answers a plain reference). While it is
-/// there the map stays as it is.
+/// The item of a guard that was spent, for reading. The map stays as it is until this is dropped. The crate's
+/// `into_ref` returns a plain reference.
 #[derive(Drop)]
 pub struct Shown<'a, T> {
     pub(super) map: &'a mut IdOrdMap<T>,

@@ -1,5 +1,5 @@
 //! Keeping some of the items.
-ghost use Rattle.std.specs.Prelude.{◌≡◌, ◌<◌, length, remove, slice_get, Some, slice_set};
+ghost use Rattle.std.specs.Prelude.{◌≡◌, ◌<◌, length, remove, slice_get, Some};
 ghost use Rattle.std.specs.Fn.{CalledAt};
 ghost use Rattle.std.specs.List.Retain.{IsFiltered};
 ghost use Rattle.iddqd_store.specs.Contents.{Ascends};
@@ -13,9 +13,11 @@ use iddqd_ord_index::Place;
 use iddqd_store::{IdOrdItem, Visit};
 
 impl<T: IdOrdItem> IdOrdMap<T> {
-    /// Asks once about each item, ascending, and takes out each that is answered false (the crate's `retain`, over a
-    /// closure that only reads). It compares no keys; each item that goes costs two descents of the index, one that stays
-    /// one. It takes no memory.
+    ghost use Rattle.iddqd_ord.specs.OrdMap.{VisitsAt};
+
+    /// Calls the closure once for each item, ascending, and drops each item for which it returns false. The closure
+    /// only reads. Compares no keys, and does not allocate. An item that goes costs two descents of the index, one that
+    /// stays one.
     pub fn retain<F: FnMut(&T) -> bool>(&mut self, mut keep: F)
     where
         T: Drop,
@@ -36,13 +38,15 @@ impl<T: IdOrdItem> IdOrdMap<T> {
         }
     }
 
-    /// Visits each item once, ascending, and takes out each that is answered false (ours: the crate's `retain` hands its
-    /// closure a guard). No visit may change a key. It costs what `retain` does.
+    /// Visits each item once, ascending, and drops each item for which the visit returns false. No visit may change a
+    /// key. It costs what `retain` does.
     pub fn retain_mut<V: Visit<T>>(&mut self, visitor: &mut V)
     where
         T: Drop,
         requires keyed { Ascends T.key T.Key.cmp self.old.items }
         requires keeps_keys { VisitsKeepKeys T.key T.Key.eq V.visits }
+
+        // What the visits leave.
         ensures items { self.new.items ≡ kept_by V.visits visitor.old self.old.items }
         ensures visitor { visitor.new ≡ visitor_after V.visits visitor.old self.old.items }
         ensures leaves { LeavesSlots self.old self.new }
@@ -58,19 +62,19 @@ impl<T: IdOrdItem> IdOrdMap<T> {
         }
     }
 
-    // Visits the item at the place.
+    // Visits the item at this position.
     fn visit_at<V: Visit<T>>(&mut self, at: usize, visitor: &mut V) -> bool
         requires keyed { Ascends T.key T.Key.cmp self.old.items }
         requires keeps_keys { VisitsKeepKeys T.key T.Key.eq V.visits }
         requires in_list { at < length self.old.items }
-        ensures visited { (x y : T) × (slice_get self.old.items at ≡ Some x) × (V.visits visitor.old x ≡ (visitor.new, y, result)) × (self.new ≡ record self.old { items = slice_set self.old.items at y }) }
+        ensures visited { VisitsAt V.visits at visitor.old self.old result visitor.new self.new }
         ensures keyed { Ascends T.key T.Key.cmp self.new.items }
     {
         let slot = self.slot_at_position(at);
         visitor.visit(self.item_in_slot_mut(slot))
     }
 
-    // Takes out the item at the place.
+    // Removes and returns the item at this position.
     fn take_at(&mut self, at: usize) -> T
         requires keyed { Ascends T.key T.Key.cmp self.old.items }
         requires in_list { at < length self.old.items }
@@ -82,11 +86,13 @@ impl<T: IdOrdItem> IdOrdMap<T> {
         self.take_placed(place)
     }
 
-    // The same, where the place is known.
+    // Removes and returns the item at the place.
     pub(super) fn take_placed(&mut self, place: Place) -> T
         requires keyed { Ascends T.key T.Key.cmp self.old.items }
         requires in_list { place < length self.old.slots }
         ensures item { slice_get self.old.items place ≡ Some result }
+
+        // What is left.
         ensures items { self.new.items ≡ remove self.old.items place }
         ensures slots { self.new.slots ≡ remove self.old.slots place }
         ensures own { HaveSlots self.old.slots self.old.items }

@@ -1,24 +1,29 @@
-//! What changes the store and the index together. No key plays a part here.
+//! What changes the store and the index together. Nothing here looks at a key.
 ghost use Rattle.std.specs.Prelude.{◌≡◌, ◌+◌, ◌-◌, ◌<◌, ◌≤◌, length, insert, remove, set, IsTrue, IfErr, OnErr, OnOk, Err, Some, slice_get};
-ghost use Rattle.iddqd_ord_index.specs.Listed.{listed_items};
 ghost use Rattle.iddqd_store.specs.Refusal.{memory_refused, refusal_kind, reservation_kind};
 ghost use Rattle.iddqd_store.specs.Store.{vacant, HasRoomFor};
-ghost use Rattle.iddqd_ord.specs.StoreAndIndex.{ListsOccupied};
+ghost use Rattle.iddqd_ord.specs.StoreAndIndex.{KeepsBounds, ListsOccupied, items_in};
 
 use iddqd_ord_index::{OrdIndex, Place};
 use iddqd_store::{ItemStore, TryReserveError};
 
-// Makes room for one more item in both: the limit is asked first, then memory.
+// Makes room for one more item in both. It asks the limit first, then for memory.
 #[inline]
 pub(super) fn reserve_one<T>(
     store: &mut ItemStore<T>,
     index: &mut OrdIndex,
 ) -> Result<(), TryReserveError>
     requires paired { ListsOccupied store.old index.old.slots }
+
+    // On success.
     ensures below_limit { OnOk result (length index.old.slots < store.old.limit) }
     ensures room { OnOk result (HasRoomFor store.new 1) }
     ensures prepared { OnOk result (IsTrue index.new.prepared) }
+
+    // On refusal.
     ensures kind { IfErr result (λ e. e ≡ refusal_kind store.old.limit index.old.slots) }
+
+    // In either case.
     ensures store { store.new ≡ record store.old { capacity = store.new.capacity } }
     ensures capacity { store.old.capacity ≤ store.new.capacity }
     ensures slots { index.new.slots ≡ index.old.slots }
@@ -30,18 +35,24 @@ pub(super) fn reserve_one<T>(
     index.prepare()
 }
 
-// Makes room for so many more items in the store: the limit is asked first, then memory.
+// Makes room for `additional` more items in the store. It asks the limit first, then for memory.
 pub(super) fn reserve_slots<T>(
     store: &mut ItemStore<T>,
     index: &OrdIndex,
     additional: usize,
 ) -> Result<(), TryReserveError>
     requires paired { ListsOccupied store.old index.now.slots }
+
+    // On success.
     ensures room { OnOk result (length index.now.slots + additional ≤ store.new.capacity) }
     ensures in_limit { OnOk result (length index.now.slots + additional ≤ store.old.limit) }
+
+    // On refusal.
     ensures kind { IfErr result (λ e. e ≡ reservation_kind store.old.limit (length index.now.slots + additional)) }
     ensures needed { result ≡ Err memory_refused → store.old.capacity < length index.now.slots + additional }
     ensures asked { OnErr result (0 < additional) }
+
+    // In either case.
     ensures store { store.new ≡ record store.old { capacity = store.new.capacity } }
     ensures capacity { store.old.capacity ≤ store.new.capacity }
 {
@@ -49,7 +60,7 @@ pub(super) fn reserve_slots<T>(
     store.try_reserve(additional)
 }
 
-// Puts the item into a slot, which it answers, and the slot into the index at the place. It takes no memory.
+// Inserts the item into a slot, which is returned, and the slot into the index at the place. Does not allocate.
 #[inline]
 pub(super) fn put_in<T>(
     store: &mut ItemStore<T>,
@@ -61,46 +72,51 @@ pub(super) fn put_in<T>(
     requires room { HasRoomFor store.old 1 }
     requires prepared { IsTrue index.old.prepared }
     requires in_list { place ≤ length index.old.slots }
+
+    // Both have one more.
     ensures paired { ListsOccupied store.new index.new.slots }
-    ensures items { listed_items store.new index.new.slots ≡ insert (listed_items store.old index.old.slots) place item }
+    ensures put { items_in store.new index.new ≡ insert (items_in store.old index.old) place item }
     ensures slots { index.new.slots ≡ insert index.old.slots place result }
     ensures vacant { vacant store.new ≡ vacant store.old - 1 }
-    ensures capacity { store.new.capacity ≡ store.old.capacity }
-    ensures limit { store.new.limit ≡ store.old.limit }
+
+    // The rest stays.
+    ensures bounds { KeepsBounds store.old store.new }
 {
     let slot = store.insert_reserved(item);
     index.add_prepared(place, slot);
     slot
 }
 
-// Takes the slot at the place out of the index, and its item out of the store.
+// Removes the slot at the place from the index, and its item from the store.
 #[inline]
 pub(super) fn take_out<T>(store: &mut ItemStore<T>, index: &mut OrdIndex, place: Place) -> T
     requires paired { ListsOccupied store.old index.old.slots }
     requires in_list { place < length index.old.slots }
+    ensures item { slice_get (items_in store.old index.old) place ≡ Some result }
+
+    // What is left.
     ensures paired { ListsOccupied store.new index.new.slots }
-    ensures item { slice_get (listed_items store.old index.old.slots) place ≡ Some result }
-    ensures items { listed_items store.new index.new.slots ≡ remove (listed_items store.old index.old.slots) place }
+    ensures items { items_in store.new index.new ≡ remove (items_in store.old index.old) place }
     ensures slots { index.new.slots ≡ remove index.old.slots place }
     ensures vacant { vacant store.new ≡ vacant store.old + 1 }
-    ensures capacity { store.new.capacity ≡ store.old.capacity }
-    ensures limit { store.new.limit ≡ store.old.limit }
+    ensures bounds { KeepsBounds store.old store.new }
 {
     let slot = index.remove(place);
     store.remove(slot)
 }
 
-// Puts the item in the stead of the one at the place, which it answers. The index stays.
+// Replaces the item at the place, and returns the old one. The index stays.
 #[inline]
 pub(super) fn exchange<T>(store: &mut ItemStore<T>, index: &OrdIndex, place: Place, item: T) -> T
     requires paired { ListsOccupied store.old index.now.slots }
     requires in_list { place < length index.now.slots }
+    ensures item { slice_get (items_in store.old index.now) place ≡ Some result }
+
+    // What is left.
     ensures paired { ListsOccupied store.new index.now.slots }
-    ensures item { slice_get (listed_items store.old index.now.slots) place ≡ Some result }
-    ensures items { listed_items store.new index.now.slots ≡ set (listed_items store.old index.now.slots) place item }
+    ensures items { items_in store.new index.now ≡ set (items_in store.old index.now) place item }
     ensures vacant { vacant store.new ≡ vacant store.old }
-    ensures capacity { store.new.capacity ≡ store.old.capacity }
-    ensures limit { store.new.limit ≡ store.old.limit }
+    ensures bounds { KeepsBounds store.old store.new }
 {
     store.replace(index.slot_at(place), item)
 }

@@ -1,4 +1,4 @@
-//! What the structure is asked.
+//! Checks of the structure.
 ghost use Rattle.std.specs.Prelude.{◌↔◌, IsErr};
 ghost use Rattle.iddqd_store.specs.Contents.{Ascends};
 ghost use Rattle.iddqd_store.specs.Validation.{IsNotCompact};
@@ -7,8 +7,8 @@ use super::IdOrdMap;
 use iddqd_store::{IdOrdItem, ValidateCompact, ValidationError};
 
 impl<T: IdOrdItem> IdOrdMap<T> {
-    /// `Err` exactly where slots are vacant and none may be. That keys and index agree is known (the crate looks each key
-    /// up again, and panics). It takes no memory.
+    /// Returns `Err` exactly if slots are vacant and none may be. That keys and index agree is proved. Does not
+    /// allocate.
     #[doc(hidden)]
     pub fn validate(&self, compact: ValidateCompact) -> Result<(), ValidationError>
         requires keyed { Ascends T.key T.Key.cmp self.now.items }
@@ -19,7 +19,7 @@ impl<T: IdOrdItem> IdOrdMap<T> {
 }
 
 impl<T> IdOrdMap<T> {
-    /// The same of a map that need not be keyed.
+    /// As `validate`, of a map that need not be keyed.
     #[doc(hidden)]
     pub fn validate_structural(&self, compact: ValidateCompact) -> Result<(), ValidationError>
         ensures { IsErr result ↔ IsNotCompact compact self.now.vacant }

@@ -10,7 +10,7 @@ use iddqd_store::IdOrdItem;
 impl<T: IdOrdItem> IdOrdMap<T> {
     ghost use Rattle.iddqd_ord.specs.Entry.{IsFirstEntry, IsLastEntry, rests_without_entry};
 
-    /// The entry of the item of the least key, or `None` where there is none. It compares no keys.
+    /// Returns the entry of the item of the least key, or `None` if the map has no items. Compares no keys.
     pub fn first_entry(&mut self) -> Option<OccupiedEntry<'_, T>>
         requires keyed { Ascends T.key T.Key.cmp self.old.items }
         ensures* unchanged_at_none { sem 𝓛 (rests_without_entry T.row self.entry result) }
@@ -29,7 +29,7 @@ impl<T: IdOrdItem> IdOrdMap<T> {
         })
     }
 
-    /// The entry of the item of the greatest key, or `None` where there is none. It compares no keys.
+    /// Returns the entry of the item of the greatest key, or `None` if the map has no items. Compares no keys.
     pub fn last_entry(&mut self) -> Option<OccupiedEntry<'_, T>>
         requires keyed { Ascends T.key T.Key.cmp self.old.items }
         ensures* unchanged_at_none { sem 𝓛 (rests_without_entry T.row self.entry result) }

@@ -1,33 +1,36 @@
 //! The calls of an entry that is occupied or vacant.
-ghost use Rattle.std.specs.Prelude.{◌≡◌, IfErr, IfNone, IfOk, IfSome, IsSome, IsTrue, None, option_map};
+ghost use Rattle.std.specs.Prelude.{◌≡◌, IfErr, IfOk, None};
 ghost use Rattle.std.specs.Borrow.{sem};
 ghost use Rattle.iddqd_store.specs.Contents.{Ascends};
-ghost use Rattle.iddqd_ord.specs.Entry.{LacksKeyOf, LendsFound, LendsIfVacant, LendsMade, ShowsFound, ShowsIfVacant, ShowsMade, entry_item, entry_map, entry_lender, entry_others, entry_with, lends_or_keeps, shows_or_keeps};
+ghost use Rattle.iddqd_ord.specs.Entry.{EntryHandsBack, EntryRefuses, LacksKeyOf, LendsIfOccupied, LendsIfVacant, LendsMade, MakesAbsent, ShowsIfOccupied, ShowsIfVacant, ShowsMade, VisitKeepsKey, VisitsEntry, entry_item, entry_map, entry_lender, lends_or_keeps, shows_or_keeps};
 ghost use Rattle.iddqd_ord.specs.Guard.{GuardKeeps, GuardKeepsAkin, guard_lender, shown_lender};
-ghost use Rattle.iddqd_ord.specs.OrdMap.{HandsBack};
 
 use super::{Entry, OccupiedEntry};
 use crate::id_ord_map::{RefMut, Shown};
 use iddqd_store::{IdOrdItem, Refused, Visit};
 
 impl<'a, T: IdOrdItem> Entry<'a, T> {
-    /// Lends the item there and drops this one; where there is none, inserts this one as `VacantEntry::insert` does and lends
-    /// it. The guard has to be spent.
-    /// Match the refusal by a name, as in `Err(_refused)`: beside a guard that is moved out of `Ok`, `Err(_)` gets no proof, if
-    /// the items are not `Copy`.
+    /// Returns a guard for the entry's item, and drops this one. If the entry is vacant, it inserts this one as
+    /// `VacantEntry::insert` does. The guard has to be spent.
+    /// Match the refusal by a name, as in `Err(_refused)`: beside a guard that is moved out of `Ok`, `Err(_)` gets no
+    /// proof, if the items are not `Copy`.
     pub fn or_insert(self, item: T) -> Result<RefMut<'a, T>, Refused<T>>
     where
         T: Drop,
         requires keyed { Ascends T.key T.Key.cmp (entry_map self).items }
         requires absent { entry_item self ≡ None → LacksKeyOf T.key T.Key.eq item self }
         ensures* kept { sem 𝓛 (lends_or_keeps T.row T.key T.Key.cmp self.entry result) }
+
+        // On success.
         ensures same_map { IfOk result (λ r. guard_lender r ≡ entry_lender self.entry) }
-        ensures found { IfOk result (λ r. IsSome (entry_item self.entry) → LendsFound self.entry r) }
+        ensures found { IfOk result (LendsIfOccupied self.entry) }
         ensures inserted { IfOk result (LendsIfVacant T.key T.Key.cmp item self.entry) }
         ensures keyed { IfOk result (GuardKeeps T.key T.Key.cmp) }
         ensures keyed_akin { IfOk result (GuardKeepsAkin T.key T.Key.cmp T.Key.eq) }
+
+        // On refusal.
         ensures absent { IfErr result (λ refused. entry_item self.entry ≡ None) }
-        ensures refused { IfErr result (HandsBack T.key T.Key.eq (entry_map self.entry) item) }
+        ensures refused { IfErr result (EntryHandsBack T.key T.Key.eq item self.entry) }
     {
         match self {
             Entry::Occupied(entry) => {
@@ -46,20 +49,24 @@ impl<'a, T: IdOrdItem> Entry<'a, T> {
         }
     }
 
-    /// As `or_insert`, with the item that the closure makes. It is called only where there is none.
+    /// As `or_insert`, with the item that the closure returns. It is called only if the entry is vacant.
     pub fn or_insert_with<F: FnOnce() -> T>(self, make: F) -> Result<RefMut<'a, T>, Refused<T>>
         requires keyed { Ascends T.key T.Key.cmp (entry_map self).items }
         requires callable { entry_item self ≡ None → F.pre make }
-        requires absent { entry_item self ≡ None → (x : T) → F.post make x → LacksKeyOf T.key T.Key.eq x self }
+        requires absent { MakesAbsent T.key T.Key.eq (F.post make) self }
         ensures* kept { sem 𝓛 (lends_or_keeps T.row T.key T.Key.cmp self.entry result) }
+
+        // On success.
         ensures same_map { IfOk result (λ r. guard_lender r ≡ entry_lender self.entry) }
-        ensures found { IfOk result (λ r. IsSome (entry_item self.entry) → LendsFound self.entry r) }
+        ensures found { IfOk result (LendsIfOccupied self.entry) }
         ensures inserted { IfOk result (LendsMade T.key T.Key.cmp (F.post make) self.entry) }
         ensures keyed { IfOk result (GuardKeeps T.key T.Key.cmp) }
         ensures keyed_akin { IfOk result (GuardKeepsAkin T.key T.Key.cmp T.Key.eq) }
+
+        // On refusal.
         ensures absent { IfErr result (λ refused. entry_item self.entry ≡ None) }
         ensures item { IfErr result (λ refused. F.post make refused.item) }
-        ensures refused { IfErr result (λ e. HandsBack T.key T.Key.eq (entry_map self.entry) e.item e) }
+        ensures refused { IfErr result (EntryRefuses T.key T.Key.eq self.entry) }
     {
         match self {
             Entry::Occupied(found) => {
@@ -78,18 +85,22 @@ impl<'a, T: IdOrdItem> Entry<'a, T> {
         }
     }
 
-    /// As `or_insert`, and shows the item (ours: the crate's answers a plain reference).
+    /// As `or_insert`, for reading.
     pub fn or_insert_ref(self, item: T) -> Result<Shown<'a, T>, Refused<T>>
     where
         T: Drop,
         requires keyed { Ascends T.key T.Key.cmp (entry_map self).items }
         requires absent { entry_item self ≡ None → LacksKeyOf T.key T.Key.eq item self }
         ensures* kept { sem 𝓛 (shows_or_keeps T.row T.key T.Key.cmp self.entry result) }
+
+        // On success.
         ensures same_map { IfOk result (λ s. shown_lender s ≡ entry_lender self.entry) }
-        ensures found { IfOk result (λ s. IsSome (entry_item self.entry) → ShowsFound self.entry s) }
+        ensures found { IfOk result (ShowsIfOccupied self.entry) }
         ensures inserted { IfOk result (ShowsIfVacant T.key T.Key.cmp item self.entry) }
+
+        // On refusal.
         ensures absent { IfErr result (λ refused. entry_item self.entry ≡ None) }
-        ensures refused { IfErr result (HandsBack T.key T.Key.eq (entry_map self.entry) item) }
+        ensures refused { IfErr result (EntryHandsBack T.key T.Key.eq item self.entry) }
     {
         match self {
             Entry::Occupied(entry) => {
@@ -104,18 +115,22 @@ impl<'a, T: IdOrdItem> Entry<'a, T> {
         }
     }
 
-    /// As `or_insert_with`, and shows the item (ours: the crate's answers a plain reference).
+    /// As `or_insert_with`, for reading.
     pub fn or_insert_with_ref<F: FnOnce() -> T>(self, make: F) -> Result<Shown<'a, T>, Refused<T>>
         requires keyed { Ascends T.key T.Key.cmp (entry_map self).items }
         requires callable { entry_item self ≡ None → F.pre make }
-        requires absent { entry_item self ≡ None → (x : T) → F.post make x → LacksKeyOf T.key T.Key.eq x self }
+        requires absent { MakesAbsent T.key T.Key.eq (F.post make) self }
         ensures* kept { sem 𝓛 (shows_or_keeps T.row T.key T.Key.cmp self.entry result) }
+
+        // On success.
         ensures same_map { IfOk result (λ s. shown_lender s ≡ entry_lender self.entry) }
-        ensures found { IfOk result (λ s. IsSome (entry_item self.entry) → ShowsFound self.entry s) }
+        ensures found { IfOk result (ShowsIfOccupied self.entry) }
         ensures inserted { IfOk result (ShowsMade T.key T.Key.cmp (F.post make) self.entry) }
+
+        // On refusal.
         ensures absent { IfErr result (λ refused. entry_item self.entry ≡ None) }
         ensures item { IfErr result (λ refused. F.post make refused.item) }
-        ensures refused { IfErr result (λ e. HandsBack T.key T.Key.eq (entry_map self.entry) e.item e) }
+        ensures refused { IfErr result (EntryRefuses T.key T.Key.eq self.entry) }
     {
         match self {
             Entry::Occupied(entry) => {
@@ -130,19 +145,13 @@ impl<'a, T: IdOrdItem> Entry<'a, T> {
         }
     }
 
-    /// Visits the item there, once, and ignores the answer; where there is none, it does nothing (ours: the crate's hands a
-    /// guard to a closure). The visit may not change the key. It compares no keys.
+    /// Visits the entry's item, once, and ignores what the visit returns. If the entry is vacant, nothing happens. The
+    /// visit may not change the key. Compares no keys.
     pub fn and_modify<V: Visit<T>>(self, visitor: &mut V) -> Entry<'a, T>
         requires keyed { Ascends T.key T.Key.cmp (entry_map self).items }
-        requires keeps_key { IfSome (entry_item self) (λ x. IsTrue (T.Key.eq (T.key x) (T.key (V.visits visitor.old x).1))) }
+        requires keeps_key { VisitKeepsKey T.key T.Key.eq V.visits visitor.old self }
         ensures same_map { entry_lender result ≡ entry_lender self.entry }
-        ensures item { entry_item result ≡ option_map (λ x. (V.visits visitor.old x).1) (entry_item self.entry) }
-        ensures map { IfSome (entry_item self.entry) (λ x. entry_map result ≡ entry_with self.entry (V.visits visitor.old x).1) }
-        ensures visitor { IfSome (entry_item self.entry) (λ x. visitor.new ≡ (V.visits visitor.old x).0) }
-        ensures unchanged { IfNone (entry_item self.entry) (entry_map result ≡ entry_map self.entry) }
-        ensures unvisited { IfNone (entry_item self.entry) (visitor.new ≡ visitor.old) }
-        ensures written { (w : T) → entry_with result w ≡ entry_with self.entry w }
-        ensures others { entry_others result ≡ entry_others self.entry }
+        ensures visited { VisitsEntry V.visits visitor.old self.entry result visitor.new }
         ensures keyed { Ascends T.key T.Key.cmp (entry_map result).items }
     {
         match self {

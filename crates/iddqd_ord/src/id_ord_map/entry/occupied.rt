@@ -1,9 +1,9 @@
-//! The item of an entry: read, lent, replaced, taken out. None of this looks for it again, and none takes memory.
-ghost use Rattle.std.specs.Prelude.{◌≡◌, IfSome, IsTrue, Some};
+//! The item of an entry: read, lent, replaced, removed. Nothing here looks for it again, and nothing allocates.
+ghost use Rattle.std.specs.Prelude.{◌≡◌, Some};
 ghost use Rattle.std.specs.Borrow.{sem};
 ghost use Rattle.iddqd_store.specs.Contents.{Ascends};
 ghost use Rattle.iddqd_store.specs.Holding.{Removes};
-ghost use Rattle.iddqd_ord.specs.Entry.{EntryKeeps, EntryKeepsAkin, Occupied, entry_follows, entry_item, entry_map, entry_lender, entry_others, entry_slot, entry_with};
+ghost use Rattle.iddqd_ord.specs.Entry.{EntryKeeps, EntryKeepsAkin, HasKeyOf, Occupied, entry_follows, entry_item, entry_map, entry_lender, entry_others, entry_slot, entry_with};
 ghost use Rattle.iddqd_ord.specs.Guard.{GuardKeeps, GuardKeepsAkin, lent_map, guard_lender, lent_slot, shown_item, shown_map, shown_lender};
 
 use super::OccupiedEntry;
@@ -12,7 +12,7 @@ use iddqd_store::IdOrdItem;
 use std::mem;
 
 impl<'a, T> OccupiedEntry<'a, T> {
-    /// The item.
+    /// Returns the item.
     #[inline]
     pub fn get(&self) -> &T
         ensures { entry_item (Occupied self.now) ≡ Some result.now }
@@ -20,7 +20,7 @@ impl<'a, T> OccupiedEntry<'a, T> {
         self.map.item_in_slot(self.slot)
     }
 
-    /// Shows the item for as long as the map is lent (ours: the crate's answers a plain reference).
+    /// Returns the item, for reading as long as the map is borrowed. The crate returns a plain reference.
     #[inline]
     pub fn into_ref(self) -> Shown<'a, T>
         ensures same_map { shown_lender result ≡ entry_lender (Occupied self.entry) }
@@ -37,8 +37,8 @@ impl<'a, T> OccupiedEntry<'a, T> {
 }
 
 impl<'a, T: IdOrdItem> OccupiedEntry<'a, T> {
-    /// Returns the item, for writing while the entry is borrowed (the crate returns a guard). A keyed map stays keyed if the
-    /// key written is equal to the entry's.
+    /// Returns the item, for writing while the entry is borrowed (the crate returns a guard). A keyed map stays keyed
+    /// if the key written is equal to the entry's.
     #[inline]
     pub fn get_mut(&mut self) -> &mut T
         ensures* writes_back { sem 𝓛 (entry_follows T.row self.entry result) }
@@ -50,13 +50,15 @@ impl<'a, T: IdOrdItem> OccupiedEntry<'a, T> {
         self.map.item_in_slot_mut(slot)
     }
 
-    /// Lends the item for as long as the map is lent. The guard has to be spent.
+    /// Returns a guard for the item, as long as the map is borrowed. The guard has to be spent.
     #[inline]
     pub fn into_mut(self) -> RefMut<'a, T>
         requires keyed { Ascends T.key T.Key.cmp (entry_map (Occupied self)).items }
         ensures same_map { guard_lender result ≡ entry_lender (Occupied self.entry) }
         ensures lent { lent_map result ≡ entry_map (Occupied self.entry) }
         ensures slot { lent_slot result ≡ entry_slot self.entry }
+
+        // After a write.
         ensures keyed { GuardKeeps T.key T.Key.cmp result }
         ensures keyed_akin { GuardKeepsAkin T.key T.Key.cmp T.Key.eq result }
     {
@@ -72,15 +74,17 @@ impl<'a, T: IdOrdItem> OccupiedEntry<'a, T> {
         }
     }
 
-    /// Puts the item, whose key is equal to the entry's, in the stead of the one there, which it answers: the whole item,
-    /// its key's spelling too. It compares no keys.
+    /// Replaces the entry's item by this one, whose key is equal, and returns the old one. The whole item is replaced,
+    /// its key's spelling too. Compares no keys.
     pub fn insert(&mut self, item: T) -> T
         requires keyed { Ascends T.key T.Key.cmp (entry_map (Occupied self.old)).items }
-        requires akin { IfSome (entry_item (Occupied self.old)) (λ x. IsTrue (T.Key.eq (T.key item) (T.key x))) }
+        requires akin { HasKeyOf T.key T.Key.eq item (Occupied self.old) }
         ensures old { entry_item (Occupied self.old) ≡ Some result }
         ensures new { entry_item (Occupied self.new) ≡ Some item }
-        ensures same_map { entry_lender (Occupied self.new) ≡ entry_lender (Occupied self.old) }
         ensures map { entry_map (Occupied self.new) ≡ entry_with (Occupied self.old) item }
+
+        // The rest stays.
+        ensures same_map { entry_lender (Occupied self.new) ≡ entry_lender (Occupied self.old) }
         ensures slot { entry_slot self.new ≡ entry_slot self.old }
         ensures others { entry_others (Occupied self.new) ≡ entry_others (Occupied self.old) }
         ensures keyed { Ascends T.key T.Key.cmp (entry_map (Occupied self.new)).items }
@@ -88,7 +92,7 @@ impl<'a, T: IdOrdItem> OccupiedEntry<'a, T> {
         mem::replace(self.get_mut(), item)
     }
 
-    /// Takes the item out, and answers it. Its slot is vacant then. It compares no keys.
+    /// Removes and returns the item. Its slot becomes vacant. Compares no keys.
     pub fn remove(self) -> T
         requires keyed { Ascends T.key T.Key.cmp (entry_map (Occupied self)).items }
         ensures value { entry_item (Occupied self.entry) ≡ Some result }

@@ -7,7 +7,7 @@ use super::RefMut;
 use std::ops::{Deref, DerefMut};
 
 impl<'a, T> RefMut<'a, T> {
-    /// Spends the guard (ours). The item stands in the map as it was written.
+    /// Spends the guard. The item stays in the map as it was written.
     #[inline]
     pub fn finish(self)
         ensures { self.exit.0.now ≡ lent_map self.entry }
@@ -19,8 +19,7 @@ impl<'a, T> RefMut<'a, T> {
         } = self;
     }
 
-    /// The guard itself, lent once more (the crate answers a guard of its own). When that loan is over, this guard has still
-    /// to be spent.
+    /// Lends the guard itself. When that loan is over, this guard has still to be spent.
     #[inline]
     pub fn reborrow(&mut self) -> &mut RefMut<'a, T>
         ensures same { result.ghost_name ≡ self.entry.ghost_name }
@@ -29,7 +28,7 @@ impl<'a, T> RefMut<'a, T> {
         self
     }
 
-    /// Spends the guard, and goes on lending the item (ours).
+    /// Spends the guard, and returns the item for writing.
     #[inline]
     pub fn into_mut(self) -> &'a mut T
         ensures* writes_back { sem 𝓛 (item_follows T.row self.entry result) }

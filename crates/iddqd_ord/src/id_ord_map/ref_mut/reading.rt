@@ -1,4 +1,4 @@
-//! Reading an item that a guard was spent on.
+//! Reading the item of a guard that was spent.
 ghost use Rattle.std.specs.Prelude.{◌≡◌, Some};
 ghost use Rattle.iddqd_ord.specs.Guard.{lent_map, lent_item, guard_lender, shown_map, shown_item, shown_lender};
 
@@ -6,7 +6,7 @@ use super::{RefMut, Shown};
 use std::ops::Deref;
 
 impl<'a, T> RefMut<'a, T> {
-    /// Spends the guard, and goes on showing the item.
+    /// Spends the guard, and returns the item for reading.
     #[inline]
     pub fn into_ref(self) -> Shown<'a, T>
         ensures same_map { shown_lender result ≡ guard_lender self.entry }

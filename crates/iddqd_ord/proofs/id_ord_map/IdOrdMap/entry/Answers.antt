@@ -31,8 +31,8 @@ returns-in-Ok-clause-entry g c =
       others = slot.others ∙ without_there key (query g c.args.query.now) items c.requires.keyed place p.0 p.1;
     }
 
-pub returns-in-Ok-clause-equal : goal.returns-in-Ok-clause-equal
-returns-in-Ok-clause-equal g c =
+pub returns-in-Ok-clause-akin : goal.returns-in-Ok-clause-akin
+returns-in-Ok-clause-akin g c =
     let key = g.T.IdOrdItem.key in
     let test = g.Q.Equivalent.equivalent c.args.query.now in
     let now = c.args.self.now in

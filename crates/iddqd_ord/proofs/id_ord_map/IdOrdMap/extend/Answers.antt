@@ -14,7 +14,7 @@ loop-item-preserved g c =
     let new = c.insert_overwrite.new.self in
     let x = c.in-Some.item in
     let back = c.in-Ok.replaced in
-    let told = c.in-Ok.ensures in
+    let told = c.in-Ok.ensures.put in
     let inv = c.loop-item.invariant in
     let goes = on x c.in-Some.is c.next.ensures.goes inv.1 in
     let put = overwritten key eq x between new inv.3.slots (λ h. h) (λ h. h.takes) back told.found told.replaced told.inserted in (
@@ -23,7 +23,7 @@ loop-item-preserved g c =
       overwrites_last key eq old.limit x c.loop-item.yielded old.items between.items back new.items inv.2
           (subst (λ limit. OverwritesItem key eq x limit between.items back new.items) inv.3.limit put.0),
       fills_on old between new inv.3 put.1,
-      told.keyed,
+      c.in-Ok.ensures.keyed,
     )
 
 pub loop-item-init : goal.loop-item-init
@@ -37,8 +37,7 @@ returns-in-Err g c =
     let kept : KeepsItems old new = record { items = ap (λ m. m.items) rest; slots = ap (λ m. m.slots) rest; vacant = ap (λ m. m.vacant) rest; capacity = c.reserve.ensures.capacity; limit = ap (λ m. m.limit) rest } in
     record {
       taken = tt;
-      stopped = tt;
-      not_begun = kept;
+      stopped = (tt, kept);
       fills = fills_kept old new c.len.ensures.slots kept;
       keyed = c.reserve.ensures.keyed;
     }
@@ -52,7 +51,6 @@ returns-in-Err-insert_overwrite g c =
     record {
       taken = tt;
       stopped = (let gave = gives_then g.U.IntoIterator.into_iter_gives g.U.IntoIter.Iterator.next_gives c.args.iter c.loop-item.yielded c.in-Some.item (search rules) in search rules);
-      not_begun = tt;
       fills = fills_on c.args.self.now between new inv.3 (fills_kept between new inv.3.slots told.kept.keeps);
       keyed = told.keyed;
     }
@@ -63,7 +61,6 @@ returns g c =
     record {
       taken = (c.loop-item.yielded, gives_all g.U.IntoIterator.into_iter_gives g.U.IntoIter.Iterator.next_gives c.args.iter c.loop-item.yielded (search rules), inv.2);
       stopped = tt;
-      not_begun = tt;
       fills = inv.3;
       keyed = inv.4;
     }

@@ -22,29 +22,18 @@ unreachable-requires g c =
 pub returns-clause-there : goal.returns-clause-there
 returns-clause-there g c =
     let items = c.args.self.now.items in
+    let place = c.in-Err.place in
+    let slot = c.in_ok-slot-in-Err.slot in
     let p = rw (ap (λ m. m.items) c.self.view_is) at c.in-Err.ensures.place in
-    let within : c.in-Err.place ≤ length items = omega (arith, p.0, length-map items g.T.IdOrdItem.key) in
+    let within : place ≤ length items = omega (arith, p.0, length-map items g.T.IdOrdItem.key) in
     let new = c.insert_at.new.self in
     let e = c.in_ok-slot-in-Err.ensures in
-    put_item new.slots items new.items c.in-Err.place c.in_ok-slot-in-Err.slot c.args.item e.inserted.takes.slots e.slot within e.put
-
-pub returns-clause-written : goal.returns-clause-written
-returns-clause-written g c =
-    let items = c.args.self.now.items in
-    let p = rw (ap (λ m. m.items) c.self.view_is) at c.in-Err.ensures.place in
-    let within : c.in-Err.place ≤ length items = omega (arith, p.0, length-map items g.T.IdOrdItem.key) in
-    let new = c.insert_at.new.self in
-    let e = c.in_ok-slot-in-Err.ensures in
-    put_written new.slots items new.items c.in-Err.place c.in_ok-slot-in-Err.slot c.args.item e.inserted.takes.slots e.slot within e.put
-
-pub returns-clause-others : goal.returns-clause-others
-returns-clause-others g c =
-    let items = c.args.self.now.items in
-    let p = rw (ap (λ m. m.items) c.self.view_is) at c.in-Err.ensures.place in
-    let within : c.in-Err.place ≤ length items = omega (arith, p.0, length-map items g.T.IdOrdItem.key) in
-    let new = c.insert_at.new.self in
-    let e = c.in_ok-slot-in-Err.ensures in
-    put_others new.slots items new.items c.in-Err.place c.in_ok-slot-in-Err.slot c.args.item e.inserted.takes.slots e.slot within e.put
+    record {
+      there = put_item new.slots items new.items place slot c.args.item e.inserted.takes.slots e.slot within e.put;
+      placed = e.slot;
+      written = put_written new.slots items new.items place slot c.args.item e.inserted.takes.slots e.slot within e.put;
+      others = put_others new.slots items new.items place slot c.args.item e.inserted.takes.slots e.slot within e.put;
+    }
 
 pub returns-clause-inserted : goal.returns-clause-inserted
 returns-clause-inserted g c = search rules

@@ -32,15 +32,15 @@ returns-clause-inserted g c =
     let room = c.reserve_one.new in
     let kept : listed_items room.store room.index.slots ≡ items =
     ap (λ s. listed_items s room.index.slots) c.in_default.ensures.store ∙ ap (listed_items m.store) c.in_default.ensures.slots ∙ ap (λ v. v.items) c.self.view_is in
-    let put : listed_items c.put_in.new.store c.put_in.new.index.slots ≡ insert items place c.args.item = c.put_in.ensures.items ∙ ap (λ xs. insert xs place c.args.item) kept in
+    let put : listed_items c.put_in.new.store c.put_in.new.index.slots ≡ insert items place c.args.item = c.put_in.ensures.put ∙ ap (λ xs. insert xs place c.args.item) kept in
     record {
       takes = record {
         room = omega (arith, c.in_default.ensures.below_limit, length-listed m.store m.index.slots c.self.invariant.occupied, ap (λ v. length v.items) c.self.view_is, ap (λ v. v.limit) c.self.view_is);
         added = record { place = place; within = omega (arith, c.requires.place.0, length-map items key); put = put };
         slots = have_slots c.put_in.new.store c.put_in.new.index.slots c.put_in.ensures.paired;
         vacant = c.put_in.ensures.vacant ∙ ap (λ s. vacant s - 1) c.in_default.ensures.store ∙ ap (λ v. v.vacant - 1) c.self.view_is;
-        capacity = omega (arith, c.put_in.ensures.capacity, c.in_default.ensures.capacity, ap (λ v. v.capacity) c.self.view_is);
-        limit = c.put_in.ensures.limit ∙ ap (λ s. s.limit) c.in_default.ensures.store ∙ ap (λ v. v.limit) c.self.view_is;
+        capacity = omega (arith, c.put_in.ensures.bounds.0, c.in_default.ensures.capacity, ap (λ v. v.capacity) c.self.view_is);
+        limit = c.put_in.ensures.bounds.1 ∙ ap (λ s. s.limit) c.in_default.ensures.store ∙ ap (λ v. v.limit) c.self.view_is;
       };
       keyed = subst (Ascends key g.T.Key.Ord.cmp) (sym put) (ascends_insert key g.met.T.Key.Ord.total c.args.item items place c.requires.keyed c.requires.place.0 c.requires.place.1 c.requires.place.2);
     }

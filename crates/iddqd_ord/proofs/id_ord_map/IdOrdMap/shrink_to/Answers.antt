@@ -10,7 +10,7 @@ counted : (g : Over) (c : goal.After-shrink_to g) → store_len c.compact.new.st
 counted g c = sym (items_counted c.compact.new.store c.compact.new.index.slots c.compact.ensures.paired) ∙ ap length c.compact.ensures.items ∙ ap (λ v. length v.items) c.self.view_is
 
 room : (g : Over) (c : goal.After-shrink_to g) → c.compact.new.store.capacity ≡ c.args.self.now.capacity
-room g c = c.compact.ensures.capacity ∙ ap (λ v. v.capacity) c.self.view_is
+room g c = c.compact.ensures.bounds.0 ∙ ap (λ v. v.capacity) c.self.view_is
 
 pub returns-clause-shrinks : goal.returns-clause-shrinks
 returns-clause-shrinks g c =
@@ -24,7 +24,7 @@ returns-clause-shrinks g c =
       holds_items = omega (arith, c.shrink_to.ensures.keeps_items, counted g c);
       holds_min = subst (λ n. least c.args.min n ≤ new.capacity) (room g c) c.shrink_to.ensures.keeps_room;
       slots = have_slots new slots (paired_same old new slots c.compact.ensures.paired (ap store_len rest) (λ slot. ap (λ s. item_at s slot) rest));
-      limit = ap (λ s. s.limit) rest ∙ c.compact.ensures.limit ∙ ap (λ v. v.limit) c.self.view_is;
+      limit = ap (λ s. s.limit) rest ∙ c.compact.ensures.bounds.1 ∙ ap (λ v. v.limit) c.self.view_is;
     }
 
 pub returns-clause-needed : goal.returns-clause-needed

@@ -22,17 +22,15 @@ read g c =
     let m = c.self.inside in
     place_read m.index.slots (listed_items m.store m.index.slots) c.args.place c.slot_at.result (have_slots m.store m.index.slots c.self.invariant) c.slot_at.ensures
 
-pub returns-clause-item : goal.returns-clause-item
-returns-clause-item g c =
-    ap (λ v. item_of_slot v.slots v.items c.slot_at.result) (sym c.self.view_is) ∙ (read g c).item ∙ ap (λ v. slice_get v.items c.args.place) c.self.view_is
-
-pub returns-clause-there : goal.returns-clause-there
-returns-clause-there g c = subst IsSome (sym (returns-clause-item g c)) (within c.args.self.now.items c.args.place c.requires)
-
-pub returns-clause-written : goal.returns-clause-written
-returns-clause-written g c w =
-    ap (λ v. written_to_slot v.slots v.items c.slot_at.result w) (sym c.self.view_is) ∙ (read g c).written w ∙ ap (λ v. set v.items c.args.place w) c.self.view_is
-
-pub returns-clause-others : goal.returns-clause-others
-returns-clause-others g c =
-    ap (λ v. without_slot v.slots v.items c.slot_at.result) (sym c.self.view_is) ∙ (read g c).others ∙ ap (λ v. remove v.items c.args.place) c.self.view_is
+pub returns : goal.returns
+returns g c =
+    let slot = c.slot_at.result in
+    let place = c.args.place in
+    let item = ap (λ v. item_of_slot v.slots v.items slot) (sym c.self.view_is) ∙ (read g c).item ∙ ap (λ v. slice_get v.items place) c.self.view_is in
+    record {
+      item = item;
+      there = subst IsSome (sym item) (within c.args.self.now.items place c.requires);
+      written = λ w. ap (λ v. written_to_slot v.slots v.items slot w) (sym c.self.view_is) ∙ (read g c).written w ∙ ap (λ v. set v.items place w) c.self.view_is;
+      others = ap (λ v. without_slot v.slots v.items slot) (sym c.self.view_is) ∙ (read g c).others ∙ ap (λ v. remove v.items place) c.self.view_is;
+      placed = ap (λ v. slice_get v.slots place) (sym c.self.view_is) ∙ c.slot_at.ensures;
+    }
