@@ -1,9 +1,9 @@
 -- What contracts of a hash map say, for callers who cite them.
---     IsKeyedByText, IsKeyed      its items lie as lookups expect them, with text keys and the default hasher, or with any
+--     IsKeyedByText, IsKeyed      lookups find its items, with text keys and the default hasher, or with any
 --     differ_from_keyed, default_hash, text_writes      what that tells, and what the default hasher returns
 --     HashItems, holding_of, of_stored_hash, of_same_hash      what contracts see of a map
 --     HashesAsKeys      a query hashes as the keys that it stands for
---     IsFound, HasItemOf, KeepsOthers      an item is found, has the place of its key, or has left
+--     IsFound, HasItemOf      an item is found, has the place of its key
 --     HashStays      what stays in each call that changes a keyed map: it is keyed, keeps the spare, and has the same hasher
 --     HashInserts, HashKeeps      an item was inserted; nothing has changed but the room, which may have grown
 --     HashFills, HashShrinks      items were inserted; the slots were closed up, and memory was given back
@@ -11,10 +11,10 @@
 --     Reserves, LacksRoomFor      room was made, or refused
 --     InsertsNew, ReplacesIfFound      what `insert_overwrite` leaves
 --     OverwritesGiven, StopsOverwriting, SpareFirst, KeepsIfNoItem      what `extend` leaves
---     Collects, HoldsAll, IsCollected      what a map collects
+--     Collects, CollectsUnique, IsCollected      what a map collects
 --     RefusesItem, ShowsConflict      what `insert_unique` and `extend_unique` show
 --     ends_hash_inserted, ends_hash_extended, lends_nothing      what the map is once the result of such a call is dropped
---     HandsBack      an item was refused for want of room, and is returned
+--     HashHandsBack      an item was refused room, and is returned
 --     HaveEqualItems, FindsEqual, CloneHashesAlike      what `eq` returns, and what `clone` asks of the hasher
 --     lent_map, lent_slot, lent_item, guard_lender, lent_with      what a guard lends
 --     GuardFinds, GuardOverwrites, GuardKeeps, GuardKeepsAkin      what it lends, and what may be written through it
@@ -24,14 +24,14 @@
 --     IsEntryOf, IsEntryFor, PassesTest      what `entry` finds
 --     LacksKeyOf, LacksKeysOf, HasKeyOf, VisitKeepsKey      what the calls of an entry ask of the item
 --     LendsFound, LendsInserted, LendsIfOccupied, LendsIfVacant, LendsMade, EntersInserted      what they lend
---     HandsBackFrom, ModifiesEntry, RemovesAt      what else they leave
+--     EntryHandsBack, VisitsEntry, RemovesAt      what else they leave
 --     EntryKeeps, EntryKeepsAkin, entry_follows, rests_if_refused, lends_or_keeps, enters_or_keeps      what an entry leaves
 --     walk_map, walk_lender, walk_done, walk_with      what a walk that lends items for writing holds
 --     WalkKeeps, WalkKeepsAkin, walk_lends      what a step of such a walk leaves
 unfoldable pub use Rattle.iddqd_hash.specs.HashItems.{IsKeyed}
 pub use Rattle.iddqd_hash.specs.HashItems.{HashItems, HashesAsKeys, IsKeyedByText, default_hash, differ_from_keyed, holding_of, of_same_hash, of_stored_hash, text_writes}
-pub use Rattle.iddqd_hash.specs.HashMap.{CloneHashesAlike, Collects, FindsEqual, HandsBack, HasItemOf, HasNoItems, HashFills, HashInserts, HashKeeps, HashShrinks, HashStays, HaveEqualItems, HoldsAll, InsertsNew, IsCollected, IsEmptyMap, IsFound, KeepsIfNoItem, KeepsOthers, KeepsSpare, LacksRoomFor, OverwritesGiven, RefusesItem, ReplacesIfFound, Reserves, ShowsConflict, SpareFirst, SpareFits, StopsOverwriting, ends_hash_extended, ends_hash_inserted, lends_nothing}
+pub use Rattle.iddqd_hash.specs.HashMap.{CloneHashesAlike, Collects, CollectsUnique, FindsEqual, HasItemOf, HasNoItems, HashFills, HashHandsBack, HashInserts, HashKeeps, HashShrinks, HashStays, HaveEqualItems, InsertsNew, IsCollected, IsEmptyMap, IsFound, KeepsIfNoItem, KeepsSpare, LacksRoomFor, OverwritesGiven, RefusesItem, ReplacesIfFound, Reserves, ShowsConflict, SpareFirst, SpareFits, StopsOverwriting, ends_hash_extended, ends_hash_inserted, lends_nothing}
 pub use Rattle.iddqd_hash.specs.Guard.{GuardFinds, GuardKeeps, GuardKeepsAkin, GuardOverwrites, guard_follows, item_follows, lends_item, lent_item, lent_map, guard_lender, lent_slot, lent_with, rests_at_none, shown_item, shown_map, shown_lender, with_item_in}
 pub use Rattle.iddqd_hash.specs.declared.id_hash_map.entry.Entry.TheVariants.{Occupied, Vacant}
-pub use Rattle.iddqd_hash.specs.Entry.{EntersInserted, EntryKeeps, EntryKeepsAkin, HandsBackFrom, HasKeyOf, IsEntryFor, IsEntryOf, LacksKeyOf, LacksKeysOf, LendsFound, LendsIfOccupied, LendsIfVacant, LendsInserted, LendsMade, ModifiesEntry, PassesTest, RemovesAt, VisitKeepsKey, enters_or_keeps, entry_follows, entry_item, entry_map, entry_lender, entry_others, entry_slot, entry_with, lends_or_keeps, rests_if_refused}
+pub use Rattle.iddqd_hash.specs.Entry.{EntersInserted, EntryKeeps, EntryKeepsAkin, EntryHandsBack, HasKeyOf, IsEntryFor, IsEntryOf, LacksKeyOf, LacksKeysOf, LendsFound, LendsIfOccupied, LendsIfVacant, LendsInserted, LendsMade, VisitsEntry, PassesTest, RemovesAt, VisitKeepsKey, enters_or_keeps, entry_follows, entry_item, entry_map, entry_lender, entry_others, entry_slot, entry_with, lends_or_keeps, rests_if_refused}
 pub use Rattle.iddqd_hash.specs.WritingWalk.{WalkKeeps, WalkKeepsAkin, walk_done, walk_item, walk_lends, walk_map, walk_lender, walk_with}

@@ -17,7 +17,7 @@
 --     EntryKeeps, EntryKeepsAkin, entry_follows, rests_if_refused, rests_without_entry      what an entry leaves
 --     walk_map, walk_lender, walk_done, walk_with      what a walk that lends items for writing holds
 --     WalkKeeps, WalkKeepsAkin, walk_lends      what a step of such a walk leaves
-pub use Rattle.iddqd_ord.specs.OrdMap.{HandsBack, OrdFills, OrdInserts, OrdKeeps, OrdOverwrites, RefusesItem, empty_map, ends_ord_extended, ends_ord_inserted, have_equal_items, lends_nothing, map_overwritten}
+pub use Rattle.iddqd_ord.specs.OrdMap.{OrdFills, OrdInserts, OrdKeeps, OrdOverwrites, empty_map, ends_ord_extended, ends_ord_inserted, have_equal_items, lends_nothing, map_overwritten}
 pub use Rattle.iddqd_ord.specs.Guard.{GuardFinds, GuardKeeps, GuardKeepsAkin, GuardOverwrites, guard_follows, item_follows, lends_item, lent_item, lent_map, guard_lender, lent_slot, lent_with, rests_at_none, shown_item, shown_map, shown_lender, with_item_in}
 pub use Rattle.iddqd_ord.specs.declared.id_ord_map.entry.Entry.TheVariants.{Occupied, Vacant}
 pub use Rattle.iddqd_ord.specs.Entry.{EntersInserted, EntryKeeps, EntryKeepsAkin, HasKeyOf, IsEntryFor, IsEntryOf, IsFirstEntry, IsLastEntry, LacksKeyOf, LendsFound, LendsInserted, ShowsFound, ShowsInserted, VisitsEntry, entry_follows, entry_item, entry_map, entry_lender, entry_others, entry_slot, entry_with, rests_if_refused, rests_without_entry}

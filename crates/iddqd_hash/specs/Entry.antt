@@ -6,12 +6,12 @@
 --     LacksKeyOf, LacksKeysOf      no item of its map has a key equal to this item's, or to that of one that a closure makes
 --     IsEntryOf, IsEntryFor      the entry of an item, or of none; the entry of what a query finds
 --     PassesTest, HasKeyOf, VisitKeepsKey      the key of an item, and after a visit
---     HandsBackFrom      the item was refused for lack of room, and is returned
+--     EntryHandsBack      the item was refused for lack of room, and is returned
 --     RemovesAt      the entry's item was removed
 --     LendsIfOccupied      if the entry is occupied, its item is lent
 --     LendsFound, LendsInserted, EntersInserted      the entry's item is lent; the inserted one is, or has this entry
 --     LendsIfVacant, LendsMade      if the entry is vacant, the inserted item is lent, this one or one that a closure made
---     ModifiesEntry      the entry's item was visited
+--     VisitsEntry      the entry's item was visited
 --     entry_follows      the entry ends with the last value written to its item
 --     EntryKeeps, EntryKeepsAkin      an item of the same key, or of an equal one, may be written
 --     rests_if_refused, lends_or_keeps, enters_or_keeps      if an item was refused, the map keeps its items
@@ -28,7 +28,7 @@ use Rattle.iddqd_hash.specs.declared.id_hash_map.entry.OccupiedEntry.{OccupiedEn
 use Rattle.iddqd_hash.specs.declared.id_hash_map.ref_mut.RefMut.{RefMut}
 use Rattle.iddqd_hash.specs.Guard.{guard_lender, lent_item, lent_map, lent_with, with_item_in}
 use Rattle.iddqd_hash.specs.HashItems.{HashItems, holding_of}
-use Rattle.iddqd_hash.specs.HashMap.{HandsBack, HashInserts, HashKeeps, HashStays}
+use Rattle.iddqd_hash.specs.HashMap.{HashHandsBack, HashInserts, HashKeeps, HashStays}
 use Rattle.iddqd_hash.specs.contracts.id_hash_map.IdHashMap as map
 use Rattle.iddqd_hash.specs.contracts.id_hash_map.entry.OccupiedEntry as occupied
 
@@ -86,7 +86,7 @@ module _ {S T : Type 0} where
   LendsIfOccupied e r = IsSome (entry_item e) → LendsFound e r
 
   -- the item of an occupied entry was visited once, and a vacant one is as it was
-  pub record ModifiesEntry {V : Type 0} (visits : V → T → V × T × Bool) (v : V) (e : Entry T S) (after : V) (r : Entry T S) : Type 0 where
+  pub record VisitsEntry {V : Type 0} (visits : V → T → V × T × Bool) (v : V) (e : Entry T S) (after : V) (r : Entry T S) : Type 0 where
     pub item : entry_item r ≡ option_map (λ x. (visits v x).1) (entry_item e)
     pub map : IfSome (entry_item e) (λ x. entry_map r ≡ entry_with e (visits v x).1)
     pub visitor : IfSome (entry_item e) (λ x. after ≡ (visits v x).0)
@@ -119,8 +119,8 @@ module _ {S T K : Type 0} (key : T → K) where
   VisitKeepsKey eq visits v e = IfSome (entry_item e) (λ x. HasKeyOf key eq x (visits v x).1)
 
   -- the refused item is returned, and the entry's map lacked room for it
-  abbrev pub HandsBackFrom : (K → K → Bool) → Entry T S → T → Refused T → Type 0
-  HandsBackFrom eq e x refused = HandsBack key eq (entry_map e) x refused
+  abbrev pub EntryHandsBack : (K → K → Bool) → Entry T S → T → Refused T → Type 0
+  EntryHandsBack eq e x refused = HashHandsBack key eq (entry_map e) x refused
 
 module _ {S T : Type 0} (IsKeyed : HashItems S T → Type 0) where
   -- the entry's item was removed from its map

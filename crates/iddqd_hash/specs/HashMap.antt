@@ -11,27 +11,30 @@
 --     HashShrinks      the slots were closed up, and memory was given back
 --     TakesSlot, LosesPlaceOf      an inserted item has this slot; a slot is gone
 -- Searches, insertions and refusals:
---     IsFound, HasItemOf, KeepsOthers      what a search finds, the item of a key, all items but one
+--     IsFound, HasItemOf      what a search finds, the item of a key
 --     ReplacesIfFound, InsertsNew      what `insert_overwrite` leaves, if it finds an item and if it finds none
---     RefusesItem, HandsBack      a refused item is returned, beside the existing one or for lack of room
+--     RefusesItem, HashHandsBack      a refused item is returned, beside the existing one or because there is no room
 -- Many items:
 --     OverwritesGiven, StopsOverwriting, SpareFirst, KeepsIfNoItem      what `extend` leaves
---     Collects, HoldsAll, IsCollected      the map that `from_iter` and `from_iter_unique` make
---     AddsEach, ShowsConflict      what `extend_unique` leaves and returns
+--     Collects, CollectsUnique, IsCollected      the map that `from_iter` and `from_iter_unique` make
+--     AddsEach, HaltsEach, ShowsConflict      what `extend_unique` leaves and returns
 -- Copies:
 --     HaveEqualItems, FindsEqual      what `eq` of two maps says
 --     CloneHashesAlike      a hasher's clone hashes as the hasher does
 -- After a loan:
 --     ends_hash_inserted, ends_hash_extended, lends_nothing      what the map is once the result is dropped
-use Rattle.std.specs.Prelude.{◌≡◌, ℕ, ◌+◌, ◌<◌, ◌≤◌, [], List, length, Bool, true, All, IfErr, IfNone, IfSome, OnOk, OnSome, Option, IsPermutation, IsSomeAnd, Result, Some, remove, slice_get}
+use Rattle.std.specs.Prelude.{◌≡◌, ℕ, ◌+◌, ◌<◌, ◌≤◌, [], List, length, Bool, true, All, IfErr, IfNone, OnSome, Option, IsPermutation, IsSomeAnd, Result, Some, remove, slice_get}
 use Rattle.std.specs.Prelude.{min as least}
 use Rattle.std.specs.Borrow.{Fml, RattleType, MutBor, Lends, LendsSoOk, unit}
 use Rattle.std.specs.Hash.{HashWrites}
-use Rattle.iddqd_store.specs.Adding.{AddsGiven, HaltsAdding, OnItemRefused, ShowsFirstConflict, StopsAdding}
-use Rattle.iddqd_store.specs.Collecting.{GivesAll, GivesThen, OverwritesAll}
-use Rattle.iddqd_store.specs.Contents.{AddsItem, NoTwoAkin, find_item, items_overwritten, items_without}
+use Rattle.iddqd_store.specs.Adding as adding
+use Rattle.iddqd_store.specs.Adding.{AddsGiven, OnItemRefused, StopsAdding}
+use Rattle.iddqd_store.specs.Collecting as collecting
+use Rattle.iddqd_store.specs.Collecting.{GivesAll, GivesThen}
+use Rattle.iddqd_store.specs.Contents.{AddsItem, find_item, items_overwritten}
 use Rattle.iddqd_store.specs.Holding.{FillsSlots, InsertsItem, KeepsItems, Shrinks, max_items}
-use Rattle.iddqd_store.specs.Refusal.{FindsNoRoom, OnDuplicate, RefusalKind, RefusesInsertion, reservation_kind}
+use Rattle.iddqd_store.specs.Refusal as refusal
+use Rattle.iddqd_store.specs.Refusal.{HandsBack, OnDuplicate, RefusalKind, reservation_kind}
 use Rattle.iddqd_store.specs.SlotItems.{item_of_slot, without_slot, written_to_slot}
 use Rattle.iddqd_store.specs.declared.errors.ExtendError.{ExtendError}
 use Rattle.iddqd_store.specs.declared.errors.ExtendUniqueError.{ExtendUniqueError}
@@ -145,10 +148,6 @@ module _ {S T K : Type 0} (key : T → K) where
   abbrev pub IsFound : (K → Bool) → HashItems S T → Option T → Type 0
   IsFound test m found = found ≡ find_item key test m.items
 
-  -- the new items are the old ones, but for the one whose key passes the test
-  abbrev pub KeepsOthers : (K → Bool) → HashItems S T → HashItems S T → Type 0
-  KeepsOthers test old new = new.items ≡ items_without key test old.items
-
 module _ {S T K : Type 0} (key : T → K) (eq : K → K → Bool) where
   -- x is the item that its key finds
   abbrev pub HasItemOf : T → HashItems S T → Type 0
@@ -158,44 +157,35 @@ module _ {S T K : Type 0} (key : T → K) (eq : K → K → Bool) where
   abbrev pub ReplacesIfFound : T → HashItems S T → HashItems S T → Option T → Type 0
   ReplacesIfFound x old new found = OnSome found (new ≡ record old { items = items_overwritten key (eq (key x)) x old.items })
 
-  -- the error has x, beside the item of equal key, or for lack of room
+  -- the same words as of an ordered map, of what the map holds
   abbrev pub RefusesItem : HashItems S T → T → InsertError T → Type 0
-  RefusesItem m x e = RefusesInsertion key eq m.limit m.items x e
+  RefusesItem m = refusal.RefusesItem key eq (holding_of m)
 
   module _ {U I : Type 0} (becomes : U → I → Type 0) (steps : I → Option T → I → Type 0) (iter : U) where
-    -- the iterator's items were inserted, each in the place of the item of equal key, if there was one
-    abbrev pub OverwritesGiven : HashItems S T → HashItems S T → Type 0
-    OverwritesGiven old new = (xs : List T) × GivesAll becomes steps iter xs × OverwritesAll key eq old.limit xs old.items new.items
+    abbrev pub OverwritesGiven : (old new : HashItems S T) → Type 0
+    OverwritesGiven old new = collecting.OverwritesGiven key eq becomes steps iter (holding_of old) (holding_of new)
 
-    -- the error has an item that found no room, and the items before it were inserted
-    abbrev pub StopsOverwriting : HashItems S T → HashItems S T → ExtendError T → Type 0
-    StopsOverwriting old new e = IfSome e.item (λ x. (xs : List T)
-        × GivesThen becomes steps iter xs x
-        × OverwritesAll key eq old.limit xs old.items new.items
-        × FindsNoRoom key eq old.limit new.items x e.error)
+    abbrev pub StopsOverwriting : (old new : HashItems S T) → ExtendError T → Type 0
+    StopsOverwriting old new = collecting.StopsOverwriting key eq becomes steps iter (holding_of old) (holding_of new)
 
-    -- the map has the iterator's items, of equal keys the last
     abbrev pub Collects : HashItems S T → Type 0
-    Collects m = (xs : List T) × GivesAll becomes steps iter xs × OverwritesAll key eq max_items xs [] m.items
+    Collects m = collecting.Collects key eq becomes steps iter (holding_of m)
 
-    -- the map has all of the iterator's items, and no two have equal keys
-    abbrev pub HoldsAll : HashItems S T → Type 0
-    HoldsAll m = (xs : List T) × GivesAll becomes steps iter xs × NoTwoAkin key eq xs × IsPermutation xs m.items
+    abbrev pub CollectsUnique : HashItems S T → Type 0
+    CollectsUnique m = collecting.CollectsUnique key eq becomes steps iter (holding_of m)
 
-    -- the error has the first item whose key another has, from the map or from the iterator
+    abbrev pub AddsEach : (old new : HashItems S T) → Type 0
+    AddsEach old new = adding.AddsEach key eq becomes steps iter (holding_of old) (holding_of new)
+
+    abbrev pub HaltsEach : (old new : HashItems S T) → Halt T → Type 0
+    HaltsEach old new = adding.HaltsEach key eq becomes steps iter (holding_of old) (holding_of new)
+
     abbrev pub ShowsConflict : HashItems S T → ExtendUniqueError T → Type 0
-    ShowsConflict m e = ShowsFirstConflict key eq (GivesThen becomes steps iter) m.items e
+    ShowsConflict old = adding.ShowsConflict key eq becomes steps iter (holding_of old)
 
-    -- all items were inserted; or one was not, and those before it were
-    abbrev pub AddsEach : {A : Type 0} → HashItems S T → HashItems S T → Result A (Halt T) → Type 0
-    AddsEach old new result =
-        OnOk result (AddsGiven key eq (GivesAll becomes steps iter) old.items new.items)
-        × IfErr result (HaltsAdding key eq (GivesThen becomes steps iter) (holding_of old) (holding_of new))
-
--- x was refused for lack of room, since nothing was spare, and is returned
-pub record HandsBack {S T K : Type 0} (key : T → K) (eq : K → K → Bool) (m : HashItems S T) (x : T) (refused : Refused T) : Type 0 where
-  pub item : refused.item ≡ x
-  pub no_room : FindsNoRoom key eq m.limit m.items x refused.error
+-- x was refused room, since nothing was spare, and is returned
+pub record HashHandsBack {S T K : Type 0} (key : T → K) (eq : K → K → Bool) (m : HashItems S T) (x : T) (refused : Refused T) : Type 0 where
+  pub back : HandsBack key eq (holding_of m) x refused
   pub no_spare : m.spare ≡ 0
 
 -- with a clone of its hasher the map hashes every value as it does (a premise of `clone`)

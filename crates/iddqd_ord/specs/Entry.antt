@@ -25,7 +25,7 @@ use Rattle.std.specs.declared.cmp.Ordering.{Ordering}
 use mir.Syntax.{named}
 use Rattle.iddqd_store.specs.Contents.{AddsItem, Ascends, IsAbsent, find_item, items_overwritten, items_without}
 use Rattle.iddqd_store.specs.Holding.{Holding}
-use Rattle.iddqd_store.specs.Refusal.{FindsNoRoom}
+use Rattle.iddqd_store.specs.Refusal.{FindsNoRoom, HandsBack}
 use Rattle.iddqd_store.specs.SlotItems.{item_of_slot, still_there, without_slot}
 use Rattle.iddqd_store.specs.declared.errors.Refused.{Refused}
 use Rattle.iddqd_ord.specs.declared.id_ord_map.entry.Entry.{Entry}
@@ -33,7 +33,7 @@ use Rattle.iddqd_ord.specs.declared.id_ord_map.entry.OccupiedEntry.{OccupiedEntr
 use Rattle.iddqd_ord.specs.declared.id_ord_map.ref_mut.RefMut.{RefMut}
 use Rattle.iddqd_ord.specs.declared.id_ord_map.ref_mut.Shown.{Shown}
 use Rattle.iddqd_ord.specs.Guard.{guard_lender, lent_item, lent_map, lent_with, shown_item, shown_lender, shown_map, with_item_in}
-use Rattle.iddqd_ord.specs.OrdMap.{HandsBack, OrdInserts, OrdKeeps}
+use Rattle.iddqd_ord.specs.OrdMap.{OrdInserts, OrdKeeps}
 use Rattle.iddqd_ord.specs.contracts.id_ord_map.IdOrdMap as map
 use Rattle.iddqd_ord.specs.contracts.id_ord_map.entry.OccupiedEntry as occupied
 

@@ -3,9 +3,10 @@
 --     ShowsFirstConflict      what it shows of the iterator's items
 --     StopsAdding      what it shows, and what is in the map then
 --     HaltsAdding, HaltsAt      the same while the existing item is known by its slot alone, and one step of it
+--     AddsEach, HaltsEach, ShowsConflict      the same of what an iterable gives
 --     OnItemRefused, OnItemBack      what holds if an item is returned because there is no room, of the error and of a halt
-use Rattle.std.specs.Prelude.{◌≡◌, Bool, List, Some, IfSome, IfNone, OnSome}
-use Rattle.iddqd_store.specs.Collecting.{AddsAll, IsFirstConflict}
+use Rattle.std.specs.Prelude.{◌≡◌, Bool, List, Option, Some, IfSome, IfNone, OnSome}
+use Rattle.iddqd_store.specs.Collecting.{AddsAll, GivesAll, GivesThen, IsFirstConflict}
 use Rattle.iddqd_store.specs.Contents.{find_item}
 use Rattle.iddqd_store.specs.Errors.{new_item_of, duplicates_of}
 use Rattle.iddqd_store.specs.Holding.{Holding, KeepsItems}
@@ -58,3 +59,17 @@ OnItemRefused P (Refused e) = OnSome e.item P
 abbrev pub OnItemBack : {T : Type 0} → Type 0 → Halt T → Type 0
 OnItemBack P (Akin x slot) = Unit
 OnItemBack P (NoRoom e) = OnSome e.item P
+
+-- of what an iterable gives, as `becomes` and `steps` say
+module _ {T K U I : Type 0} (key : T → K) (eq : K → K → Bool) (becomes : U → I → Type 0) (steps : I → Option T → I → Type 0) (iter : U) where
+  -- all items were inserted beside the old ones
+  abbrev pub AddsEach : (old new : Holding T) → Type 0
+  AddsEach old new = AddsGiven key eq (GivesAll becomes steps iter) old.items new.items
+
+  -- the first item that was not inserted, and what the map holds then
+  abbrev pub HaltsEach : (old new : Holding T) → Halt T → Type 0
+  HaltsEach old new = HaltsAdding key eq (GivesThen becomes steps iter) old new
+
+  -- the first item whose key one in the map had is shown beside that one
+  abbrev pub ShowsConflict : Holding T → ExtendUniqueError T → Type 0
+  ShowsConflict old = ShowsFirstConflict key eq (GivesThen becomes steps iter) old.items

@@ -7,11 +7,16 @@
 --     AddsAll      the items are added, and no two of all have equal keys (`extend_unique`)
 --     IsFirstConflict      the first item whose key one in the map has by then, and that one
 --     ShowsAkin      one step of `from_iter_unique`
-use Rattle.std.specs.Prelude.{◌≡◌, ℕ, ◌+◌, ◌/◌, ◌==◌, if◌then◌else◌, Bool, List, [], ◌∷◌, ◌++◌, Option, Some, IsPermutation}
+--     OverwritesGiven, StopsOverwriting      what `extend` leaves
+--     Collects, CollectsUnique      what `from_iter` and `from_iter_unique` make
+use Rattle.std.specs.Prelude.{◌≡◌, ℕ, ◌+◌, ◌/◌, ◌==◌, if◌then◌else◌, Bool, List, [], ◌∷◌, ◌++◌, Option, Some, IfSome, IsPermutation}
 use Rattle.std.specs.Iterator.{YieldsThen}
 use Rattle.std.specs.Iterator.Runs.{WholeRun}
 use Rattle.iddqd_store.specs.Contents.{NoTwoAkin, OverwritesItem, find_item}
 use Rattle.iddqd_store.specs.Errors.{new_item_of, duplicates_of}
+use Rattle.iddqd_store.specs.Holding.{Holding, max_items}
+use Rattle.iddqd_store.specs.Refusal.{FindsNoRoom}
+use Rattle.iddqd_store.specs.declared.errors.ExtendError.{ExtendError}
 use Rattle.iddqd_store.specs.declared.errors.FromIterError.{FromIterError}
 use Rattle.iddqd_store.specs.declared.errors.FromIterError.TheVariants.{Duplicate, Refused}
 
@@ -58,3 +63,22 @@ module _ {T K : Type 0} (key : T → K) (eq : K → K → Bool) where
   abbrev pub ShowsAkin : List T → T → FromIterError T → Type 0
   ShowsAkin items x (Duplicate d) = (new_item_of d ≡ x) × (akin : T) × (find_item key (eq (key x)) items ≡ Some akin) × (duplicates_of d ≡ akin ∷ [])
   ShowsAkin items x (Refused e) = Unit
+
+-- of what an iterable gives, as `becomes` and `steps` say
+module _ {T K U I : Type 0} (key : T → K) (eq : K → K → Bool) (becomes : U → I → Type 0) (steps : I → Option T → I → Type 0) (iter : U) where
+  -- all items were inserted, each in place of the one of an equal key
+  abbrev pub OverwritesGiven : (old new : Holding T) → Type 0
+  OverwritesGiven old new = (xs : List T) × GivesAll becomes steps iter xs × OverwritesAll key eq old.limit xs old.items new.items
+
+  -- an item found no room and is returned, and those before it were inserted
+  abbrev pub StopsOverwriting : (old new : Holding T) → ExtendError T → Type 0
+  StopsOverwriting old new e =
+      IfSome e.item (λ x. (xs : List T) × GivesThen becomes steps iter xs x × OverwritesAll key eq old.limit xs old.items new.items × FindsNoRoom key eq old.limit new.items x e.error)
+
+  -- a new map has the items, of equal keys the last
+  abbrev pub Collects : Holding T → Type 0
+  Collects m = (xs : List T) × GivesAll becomes steps iter xs × OverwritesAll key eq max_items xs [] m.items
+
+  -- a new map has the items, and no two of them have equal keys
+  abbrev pub CollectsUnique : Holding T → Type 0
+  CollectsUnique m = (xs : List T) × GivesAll becomes steps iter xs × NoTwoAkin key eq xs × IsPermutation xs m.items

@@ -4,6 +4,8 @@ use Rattle.std.specs.Prelude.{◌≡◌, ℕ, Bool, List, [], ◌∷◌, Some, l
 use Rattle.std.specs.Borrow.{Bor}
 use Rattle.iddqd_store.specs.Contents.{find_item, IsAbsent}
 use Rattle.iddqd_store.specs.Errors.{new_item_of, duplicates_of}
+use Rattle.iddqd_store.specs.Holding.{Holding}
+use Rattle.iddqd_store.specs.declared.errors.Refused as refused
 use Rattle.iddqd_store.specs.declared.errors.TryReserveError.{TryReserveError}
 use Rattle.iddqd_store.specs.declared.errors.TryReserveErrorKind.TheVariants.{CapacityOverflow, AllocError}
 use Rattle.iddqd_store.specs.declared.errors.InsertError.{InsertError}
@@ -46,6 +48,15 @@ module _ {T K : Type 0} (key : T → K) (eq : K → K → Bool) (limit : ℕ) wh
   abbrev pub RefusesInsertion : List T → T → InsertError T → Type 0
   RefusesInsertion items x (Duplicate d) = (new_item_of d ≡ x) × (y : T) × IsOnly (duplicates_of d) y × (find_item key (eq (key x)) items ≡ Some y)
   RefusesInsertion items x (Refused r) = (r.item ≡ x) × FindsNoRoom items x r.error
+
+module _ {T K : Type 0} (key : T → K) (eq : K → K → Bool) where
+  -- x is returned, and no item of the map has its key: the map is full, or memory was refused
+  abbrev pub HandsBack : Holding T → T → refused.Refused T → Type 0
+  HandsBack m x r = (r.item ≡ x) × FindsNoRoom key eq m.limit m.items x r.error
+
+  -- x is returned: beside the item of an equal key, or because there was no room
+  abbrev pub RefusesItem : Holding T → T → InsertError T → Type 0
+  RefusesItem m x = RefusesInsertion key eq m.limit m.items x
 
 -- what holds if the item is returned because there is no room
 abbrev pub OnRefused : {T : Type 0} → Type 0 → InsertError T → Type 0

@@ -13,7 +13,7 @@ use std::alloc::Global;
 use std::hash::BuildHasher;
 
 impl<T: IdHashItem, S: BuildHasher> IdHashMap<T, S> {
-    ghost use Rattle.iddqd_hash.specs.HashMap.{Collects, HashFills, HashInserts, HoldsAll, IsCollected, KeepsIfNoItem, OverwritesGiven, SpareFirst, StopsOverwriting};
+    ghost use Rattle.iddqd_hash.specs.HashMap.{Collects, HashFills, HashInserts, CollectsUnique, IsCollected, KeepsIfNoItem, OverwritesGiven, SpareFirst, StopsOverwriting};
 
     /// Inserts the items one after the other, each in the place of the item of equal key, if there is one. It is a
     /// function, since the trait `Extend` cannot refuse. Before it asks for an item, it makes room for as many as the
@@ -91,7 +91,7 @@ impl<T: IdHashItem, S: BuildHasher> IdHashMap<T, S> {
         T: Drop,
         S: Default + Drop,
         requires ends { IsFinite U.into_iter_gives U.IntoIter.can_next U.IntoIter.remaining iter }
-        ensures items { IfOk result (HoldsAll T.key T.Key.eq U.into_iter_gives U.IntoIter.next_gives iter) }
+        ensures items { IfOk result (CollectsUnique T.key T.Key.eq U.into_iter_gives U.IntoIter.next_gives iter) }
         ensures repeat { IfErr result (ShowsFirstRepeat T.key T.Key.eq (GivesThen U.into_iter_gives U.IntoIter.next_gives iter)) }
         ensures collected { IfOk result (IsCollected ⟦<Self as Keyed>⟧.keyed S.is_default) }
     {

@@ -14,7 +14,7 @@ use std::hash::BuildHasher;
 
 impl<T: IdHashItem, S: BuildHasher> IdHashMap<T, S> {
     ghost use Rattle.iddqd_hash.specs.HashItems.{holding_of};
-    ghost use Rattle.iddqd_hash.specs.HashMap.{AddsEach, HasSpareFirst, HashFills, HashInserts, HashKeeps, ShowsConflict, ends_hash_extended};
+    ghost use Rattle.iddqd_hash.specs.HashMap.{AddsEach, HaltsEach, HasSpareFirst, HashFills, HashInserts, HashKeeps, ShowsConflict, ends_hash_extended};
 
     /// Inserts the items one after the other, up to the first whose key an item has, from before or from the iterator
     /// (ours). The error has that item, and a reference to the existing one. A duplicate needs no memory, and is
@@ -51,7 +51,8 @@ impl<T: IdHashItem, S: BuildHasher> IdHashMap<T, S> {
         T: Drop,
         requires keyed { ⟦<Self as Keyed>⟧.keyed self.old }
         requires ends { IsFinite U.into_iter_gives U.IntoIter.can_next U.IntoIter.remaining iter }
-        ensures adds { AddsEach T.key T.Key.eq U.into_iter_gives U.IntoIter.next_gives iter self.old self.new result }
+        ensures added { OnOk result (AddsEach T.key T.Key.eq U.into_iter_gives U.IntoIter.next_gives iter self.old self.new) }
+        ensures halted { IfErr result (HaltsEach T.key T.Key.eq U.into_iter_gives U.IntoIter.next_gives iter self.old self.new) }
         ensures spare_first { IfErr result (OnItemBack (HasSpareFirst self.old self.new)) }
         ensures fills { HashFills ⟦<Self as Keyed>⟧.keyed self.old self.new }
     {

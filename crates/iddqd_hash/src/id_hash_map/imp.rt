@@ -1,6 +1,6 @@
 //! Lookups and removals.
 ghost use Rattle.std.specs.Prelude.{◌≡◌, ◌+◌, ◌≤◌, IfNone, option_copied, is_some};
-ghost use Rattle.iddqd_store.specs.Contents.{find_item};
+ghost use Rattle.iddqd_store.specs.Contents.{find_item, items_without};
 ghost use Rattle.iddqd_store.specs.Holding.{Removes};
 
 use super::store_and_index::{find_slot, take_out};
@@ -10,7 +10,7 @@ use std::hash::{BuildHasher, Hash};
 
 impl<T: IdHashItem, S: BuildHasher> IdHashMap<T, S> {
     ghost use Rattle.iddqd_hash.specs.HashItems.{HashesAsKeys, holding_of, of_same_hash};
-    ghost use Rattle.iddqd_hash.specs.HashMap.{HashStays, IsFound, KeepsOthers, SpareFits};
+    ghost use Rattle.iddqd_hash.specs.HashMap.{HashStays, SpareFits};
 
     /// Returns the item that the query finds, with as many comparisons as `get_counted`. Hashes the query once. Fetches
     /// the item once more than it compares.
@@ -18,7 +18,7 @@ impl<T: IdHashItem, S: BuildHasher> IdHashMap<T, S> {
     pub fn get<Q: Hash + Equivalent<T::Key>>(&self, query: &Q) -> Option<&T>
         requires keyed { ⟦<Self as Keyed>⟧.keyed self.now }
         requires hashes { HashesAsKeys Q.equivalent Q.hash_input T.Key.hash_input query.now }
-        ensures found { IsFound T.key (Q.equivalent query.now) self.now (option_copied result) }
+        ensures found { option_copied result ≡ find_item T.key (Q.equivalent query.now) self.now.items }
         ensures spare { SpareFits self.now }
     {
         self.get_counted(query, &mut Steps::new())
@@ -36,7 +36,7 @@ impl<T: IdHashItem, S: BuildHasher> IdHashMap<T, S> {
         requires hashes { HashesAsKeys Q.equivalent Q.hash_input T.Key.hash_input query.now }
 
         // what is found
-        ensures found { IsFound T.key (Q.equivalent query.now) self.now (option_copied result) }
+        ensures found { option_copied result ≡ find_item T.key (Q.equivalent query.now) self.now.items }
         ensures spare { SpareFits self.now }
 
         // comparisons
@@ -65,8 +65,8 @@ impl<T: IdHashItem, S: BuildHasher> IdHashMap<T, S> {
         requires hashes { HashesAsKeys Q.equivalent Q.hash_input T.Key.hash_input query.now }
 
         // what is removed
-        ensures value { IsFound T.key (Q.equivalent query.now) self.old result }
-        ensures items { KeepsOthers T.key (Q.equivalent query.now) self.old self.new }
+        ensures value { result ≡ find_item T.key (Q.equivalent query.now) self.old.items }
+        ensures items { self.new.items ≡ items_without T.key (Q.equivalent query.now) self.old.items }
         ensures removed { Removes result (holding_of self.old) (holding_of self.new) }
         ensures unchanged { IfNone result (self.new ≡ self.old) }
 

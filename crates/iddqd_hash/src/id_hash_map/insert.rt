@@ -11,7 +11,7 @@ use iddqd_store::{DuplicateItem, Few, IdHashItem, InsertError, Refused};
 use std::hash::BuildHasher;
 
 impl<T: IdHashItem, S: BuildHasher> IdHashMap<T, S> {
-    ghost use Rattle.iddqd_hash.specs.HashMap.{HandsBack, HasItemOf, HashInserts, HashKeeps, HashStays, InsertsNew, IsFound, RefusesItem, ReplacesIfFound, TakesSlot, ends_hash_inserted, lends_nothing};
+    ghost use Rattle.iddqd_hash.specs.HashMap.{HasItemOf, HashHandsBack, HashInserts, HashKeeps, HashStays, InsertsNew, IsFound, RefusesItem, ReplacesIfFound, TakesSlot, ends_hash_inserted, lends_nothing};
 
     /// Inserts the item, if no item has an equal key. A duplicate needs no memory: the error has a reference to the
     /// existing item, and the map is unchanged. If the limit or memory refuses the item, it is returned, and no item
@@ -51,7 +51,7 @@ impl<T: IdHashItem, S: BuildHasher> IdHashMap<T, S> {
         ensures there { OnOk result (HasItemOf T.key T.Key.eq item self.new) }
 
         // on refusal
-        ensures refused { IfErr result (HandsBack T.key T.Key.eq self.old item) }
+        ensures refused { IfErr result (HashHandsBack T.key T.Key.eq self.old item) }
         ensures kept { OnErr result (HashKeeps ⟦<Self as Keyed>⟧.keyed self.old self.new) }
 
         // either way
@@ -87,7 +87,7 @@ impl<T: IdHashItem, S: BuildHasher> IdHashMap<T, S> {
         ensures placed { IfOk result (TakesSlot item hash self.old self.new) }
 
         // on refusal
-        ensures refused { IfErr result (HandsBack T.key T.Key.eq self.old item) }
+        ensures refused { IfErr result (HashHandsBack T.key T.Key.eq self.old item) }
         ensures kept { OnErr result (HashKeeps ⟦<Self as Keyed>⟧.keyed self.old self.new) }
     {
         if let Err(error) = reserve_one(&mut self.store, &mut self.index) {

@@ -17,14 +17,14 @@ impl<T: IdOrdItem> IdOrdMap<T> {
         requires keyed { Ascends T.key T.Key.cmp self.now.items }
         requires keeps_keys { ClonesKeepKeys T.key T.Key.eq T.is_clone }
 
-        // On success.
+        // on success
         ensures items { IfOk result (λ copy. AllZip T.is_clone self.now.items copy.items) }
         ensures slots { IfOk result (λ copy. copy.slots ≡ self.now.slots) }
         ensures vacant { IfOk result (λ copy. copy.vacant ≡ self.now.vacant) }
         ensures limit { IfOk result (λ copy. copy.limit ≡ self.now.limit) }
         ensures keyed { IfOk result (λ copy. Ascends T.key T.Key.cmp copy.items) }
 
-        // On refusal.
+        // on refusal
         ensures only_memory { IfErr result (λ e. e ≡ memory_refused) }
     {
         let index = self.index.try_clone()?;

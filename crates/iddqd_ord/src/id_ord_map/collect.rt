@@ -1,7 +1,7 @@
 //! Many items at once, from an iterator.
 ghost use Rattle.std.specs.Prelude.{◌≡◌, IfOk, IfErr, OnOk};
 ghost use Rattle.std.specs.Iterator.{IsFiniteIterable};
-ghost use Rattle.iddqd_store.specs.Collecting.{GivesThen, ShowsAkin, ShowsFirstRepeat};
+ghost use Rattle.iddqd_store.specs.Collecting.{Collects, CollectsUnique, GivesThen, OverwritesGiven, ShowsAkin, ShowsFirstRepeat};
 ghost use Rattle.iddqd_store.specs.Contents.{Ascends, IsAbsent};
 ghost use Rattle.iddqd_store.specs.Holding.{FillsSlots};
 
@@ -14,7 +14,7 @@ use iddqd_store::{
 use std::alloc::Global;
 
 impl<T: IdOrdItem> IdOrdMap<T> {
-    ghost use Rattle.iddqd_ord.specs.OrdMap.{CollectsAll, CollectsUnique, InsertsAll, OrdInserts, StopsInserting};
+    ghost use Rattle.iddqd_ord.specs.OrdMap.{OrdInserts, StopsInserting};
 
     /// Inserts the items one after the other. Each replaces the one of an equal key. This is no `Extend`, which cannot
     /// refuse. Room in the store is reserved before an item is asked for. An empty map reserves for the lower bound of
@@ -28,13 +28,13 @@ impl<T: IdOrdItem> IdOrdMap<T> {
         requires keyed { Ascends T.key T.Key.cmp self.old.items }
         requires ends { IsFiniteIterable U.into_iter_gives U.IntoIter.can_next U.IntoIter.remaining iter }
 
-        // On success.
-        ensures taken { OnOk result (InsertsAll T.key T.Key.eq U.into_iter_gives U.IntoIter.next_gives iter self.old self.new) }
+        // on success
+        ensures taken { OnOk result (OverwritesGiven T.key T.Key.eq U.into_iter_gives U.IntoIter.next_gives iter self.old self.new) }
 
-        // On refusal.
+        // on refusal
         ensures stopped { IfErr result (StopsInserting T.key T.Key.eq U.into_iter_gives U.IntoIter.next_gives iter self.old self.new) }
 
-        // In either case.
+        // in either case
         ensures fills { FillsSlots self.old self.new }
         ensures keyed { Ascends T.key T.Key.cmp self.new.items }
     {
@@ -66,7 +66,7 @@ impl<T: IdOrdItem> IdOrdMap<T> {
     where
         T: Drop,
         requires ends { IsFiniteIterable U.into_iter_gives U.IntoIter.can_next U.IntoIter.remaining iter }
-        ensures items { IfOk result (CollectsAll T.key T.Key.eq U.into_iter_gives U.IntoIter.next_gives iter) }
+        ensures items { IfOk result (Collects T.key T.Key.eq U.into_iter_gives U.IntoIter.next_gives iter) }
         ensures vacant { IfOk result (λ m. m.vacant ≡ 0) }
         ensures limit { IfOk result (λ m. m.limit ≡ MAX_ITEMS) }
         ensures keyed { IfOk result (λ m. Ascends T.key T.Key.cmp m.items) }
@@ -90,13 +90,13 @@ impl<T: IdOrdItem> IdOrdMap<T> {
         T: Drop,
         requires ends { IsFiniteIterable U.into_iter_gives U.IntoIter.can_next U.IntoIter.remaining iter }
 
-        // On success.
+        // on success
         ensures items { IfOk result (CollectsUnique T.key T.Key.eq U.into_iter_gives U.IntoIter.next_gives iter) }
         ensures vacant { IfOk result (λ m. m.vacant ≡ 0) }
         ensures limit { IfOk result (λ m. m.limit ≡ MAX_ITEMS) }
         ensures keyed { IfOk result (λ m. Ascends T.key T.Key.cmp m.items) }
 
-        // On refusal.
+        // on refusal
         ensures repeat { IfErr result (ShowsFirstRepeat T.key T.Key.eq (GivesThen U.into_iter_gives U.IntoIter.next_gives iter)) }
     {
         let items = iter.into_iter();

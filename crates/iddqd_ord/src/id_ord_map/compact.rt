@@ -12,10 +12,10 @@ pub(super) fn compact<T: IdOrdItem>(store: &mut ItemStore<T>, index: &mut OrdInd
     requires paired { ListsOccupied store.old index.old.slots }
     requires keyed { Ascends T.key T.Key.cmp (items_in store.old index.old) }
 
-    // No slot is vacant.
+    // no slot is vacant
     ensures vacant { vacant store.new ≡ 0 }
 
-    // The rest stays.
+    // the rest stays
     ensures paired { ListsOccupied store.new index.new.slots }
     ensures items { items_in store.new index.new ≡ items_in store.old index.old }
     ensures bounds { KeepsBounds store.old store.new }
@@ -34,11 +34,11 @@ fn move_last<T: IdOrdItem>(store: &mut ItemStore<T>, index: &mut OrdIndex)
     requires cut { EndsOccupied store.old.slots }
     requires some { 0 < vacant store.old }
 
-    // One slot fewer is vacant.
+    // one slot fewer is vacant
     ensures cut { EndsOccupied store.new.slots }
     ensures fewer { vacant store.new < vacant store.old }
 
-    // The rest stays.
+    // the rest stays
     ensures paired { ListsOccupied store.new index.new.slots }
     ensures items { items_in store.new index.new ≡ items_in store.old index.old }
     ensures bounds { KeepsBounds store.old store.new }

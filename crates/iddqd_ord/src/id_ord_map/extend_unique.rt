@@ -2,7 +2,7 @@
 ghost use Rattle.std.specs.Prelude.{IfErr, OnErr, OnOk};
 ghost use Rattle.std.specs.Borrow.{sem};
 ghost use Rattle.std.specs.Iterator.{IsFiniteIterable};
-ghost use Rattle.iddqd_store.specs.Adding.{HaltsAt};
+ghost use Rattle.iddqd_store.specs.Adding.{AddsEach, HaltsAt, HaltsEach, ShowsConflict};
 ghost use Rattle.iddqd_store.specs.Contents.{Ascends, IsAbsent};
 
 use super::IdOrdMap;
@@ -11,7 +11,7 @@ use iddqd_store::{
 };
 
 impl<T: IdOrdItem> IdOrdMap<T> {
-    ghost use Rattle.iddqd_ord.specs.OrdMap.{AddsEach, HaltsEach, OrdFills, OrdInserts, OrdKeeps, ShowsConflict, ends_added};
+    ghost use Rattle.iddqd_ord.specs.OrdMap.{OrdFills, OrdInserts, OrdKeeps, ends_added};
 
     /// Inserts the items one after the other, up to the first whose key is there, from before or from the iterator.
     /// That one is returned as the new item beside a reference to the existing one. A duplicate allocates nothing, and

@@ -30,7 +30,7 @@ impl<T: IdOrdItem> IdOrdMap<T> {
         requires keyed { Ascends T.key T.Key.cmp self.old.items }
         ensures value { result ≡ slice_get self.old.items 0 }
 
-        // What is left.
+        // what is left
         ensures items { self.new.items ≡ drop 1 self.old.items }
         ensures slots { self.new.slots ≡ drop 1 self.old.slots }
         ensures removed { Removes result self.old self.new }
@@ -49,7 +49,7 @@ impl<T: IdOrdItem> IdOrdMap<T> {
         requires keyed { Ascends T.key T.Key.cmp self.old.items }
         ensures value { result ≡ slice_get self.old.items (length self.old.items - 1) }
 
-        // What is left.
+        // what is left
         ensures items { self.new.items ≡ take (length self.old.items - 1) self.old.items }
         ensures slots { self.new.slots ≡ take (length self.old.slots - 1) self.old.slots }
         ensures removed { Removes result self.old self.new }

@@ -58,12 +58,12 @@ impl<T: IdOrdItem> IdOrdMap<T> {
         ensures* unchanged_at_none { sem 𝓛 (rests_at_none T.row self.entry result) }
         ensures absent { IfNone result (IsAbsent T.key (Q.equivalent query.now) self.old.items) }
 
-        // If an item is found.
+        // if an item is found
         ensures same_map { IfSome result (λ r. guard_lender r ≡ self.entry.ghost_name) }
         ensures lent { IfSome result (λ r. lent_map r ≡ self.old) }
         ensures found { IfSome result (GuardFinds T.key (Q.equivalent query.now)) }
 
-        // After a write.
+        // after a write
         ensures written { IfSome result (GuardOverwrites T.key (Q.equivalent query.now)) }
         ensures keyed { IfSome result (GuardKeeps T.key T.Key.cmp) }
         ensures keyed_akin { IfSome result (GuardKeepsAkin T.key T.Key.cmp T.Key.eq) }

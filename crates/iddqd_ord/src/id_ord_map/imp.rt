@@ -76,7 +76,7 @@ impl<T: IdOrdItem> IdOrdMap<T> {
         ensures removed { Removes result self.old self.new }
         ensures keyed { Ascends T.key T.Key.cmp self.new.items }
 
-        // Comparisons.
+        // comparisons
         ensures steps { steps.new ≤ steps.old + 4 + 2 * digits (length self.old.items) }
         ensures never_resets { steps.old ≤ steps.new }
     {

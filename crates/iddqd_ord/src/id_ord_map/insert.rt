@@ -3,7 +3,7 @@ ghost use Rattle.std.specs.Prelude.{◌≡◌, ◌+◌, ◌*◌, ◌≤◌, leng
 ghost use Rattle.std.specs.Borrow.{sem};
 ghost use Rattle.iddqd_store.specs.Contents.{Ascends, IsAbsent};
 ghost use Rattle.iddqd_ord_index.specs.Digits.{digits};
-ghost use Rattle.iddqd_store.specs.Refusal.{refusal_kind};
+ghost use Rattle.iddqd_store.specs.Refusal.{HandsBack, RefusesItem, refusal_kind};
 
 use super::IdOrdMap;
 use super::store_and_index::{exchange, put_in, reserve_one};
@@ -11,7 +11,7 @@ use iddqd_ord_index::Place;
 use iddqd_store::{DuplicateItem, Few, IdOrdItem, InsertError, Refused, Steps};
 
 impl<T: IdOrdItem> IdOrdMap<T> {
-    ghost use Rattle.iddqd_ord.specs.OrdMap.{BelongsAt, HandsBack, OrdInserts, OrdKeeps, OrdOverwrites, RefusesItem, ends_ord_inserted, lends_nothing};
+    ghost use Rattle.iddqd_ord.specs.OrdMap.{BelongsAt, OrdInserts, OrdKeeps, OrdOverwrites, ends_ord_inserted, lends_nothing};
 
     /// Inserts the item if no item has an equal key, by as many comparisons as `insert_unique_counted`. A duplicate is
     /// returned beside a reference to the existing item; nothing is allocated, and the map is as it was. If the map is
@@ -39,13 +39,13 @@ impl<T: IdOrdItem> IdOrdMap<T> {
         requires keyed { Ascends T.key T.Key.cmp self.old.items }
         ensures* after { sem 𝓛 (ends_ord_inserted T.row T.key T.Key.cmp self.entry result item) }
 
-        // On success.
+        // on success
         ensures absent { OnOk result (IsAbsent T.key (T.Key.eq (T.key item)) self.old.items) }
 
-        // On refusal.
+        // on refusal
         ensures refused { IfErr result (RefusesItem T.key T.Key.eq self.old item) }
 
-        // Comparisons.
+        // comparisons
         ensures steps { steps.new ≤ steps.old + 4 + 2 * digits (length self.old.items) }
         ensures never_resets { steps.old ≤ steps.new }
     {
@@ -69,14 +69,14 @@ impl<T: IdOrdItem> IdOrdMap<T> {
     pub fn insert_overwrite(&mut self, item: T) -> Result<Option<T>, Refused<T>>
         requires keyed { Ascends T.key T.Key.cmp self.old.items }
 
-        // On success.
+        // on success
         ensures put { IfOk result (OrdOverwrites T.key T.Key.eq T.Key.cmp item self.old self.new) }
 
-        // On refusal.
+        // on refusal
         ensures refused { IfErr result (HandsBack T.key T.Key.eq self.old item) }
         ensures kept { OnErr result (OrdKeeps T.key T.Key.cmp self.old self.new) }
 
-        // In either case.
+        // in either case
         ensures keyed { Ascends T.key T.Key.cmp self.new.items }
     {
         match self.index.find(&self.store, item.key(), &mut Steps::new()) {
@@ -101,12 +101,12 @@ impl<T: IdOrdItem> IdOrdMap<T> {
         requires keyed { Ascends T.key T.Key.cmp self.old.items }
         requires place { BelongsAt T.key T.Key.cmp item self.old place }
 
-        // On success.
+        // on success
         ensures inserted { OnOk result (OrdInserts T.key T.Key.cmp item self.old self.new) }
         ensures put { OnOk result (self.new.items ≡ insert self.old.items place item) }
         ensures slot { IfOk result (λ slot. slice_get self.new.slots place ≡ Some slot) }
 
-        // On refusal.
+        // on refusal
         ensures kept { OnErr result (OrdKeeps T.key T.Key.cmp self.old self.new) }
         ensures item { IfErr result (λ e. e.item ≡ item) }
         ensures kind { IfErr result (λ e. e.error ≡ refusal_kind self.old.limit self.old.items) }

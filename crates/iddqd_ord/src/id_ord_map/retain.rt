@@ -46,7 +46,7 @@ impl<T: IdOrdItem> IdOrdMap<T> {
         requires keyed { Ascends T.key T.Key.cmp self.old.items }
         requires keeps_keys { VisitsKeepKeys T.key T.Key.eq V.visits }
 
-        // What the visits leave.
+        // what the visits leave
         ensures items { self.new.items ≡ kept_by V.visits visitor.old self.old.items }
         ensures visitor { visitor.new ≡ visitor_after V.visits visitor.old self.old.items }
         ensures leaves { LeavesSlots self.old self.new }
@@ -92,7 +92,7 @@ impl<T: IdOrdItem> IdOrdMap<T> {
         requires in_list { place < length self.old.slots }
         ensures item { slice_get self.old.items place ≡ Some result }
 
-        // What is left.
+        // what is left
         ensures items { self.new.items ≡ remove self.old.items place }
         ensures slots { self.new.slots ≡ remove self.old.slots place }
         ensures own { HaveSlots self.old.slots self.old.items }

@@ -16,13 +16,13 @@ impl<T: IdOrdItem> IdOrdMap<T> {
     /// Returns a map without items, with room for at least `capacity` in the store. The limit refuses a `capacity`
     /// above `MAX_ITEMS`. Else it is refused only if memory is, and allocates nothing for 0.
     pub fn with_capacity(alloc: Global, capacity: usize) -> Result<Self, TryReserveError>
-        // On success.
+        // on success
         ensures empty { IfOk result (λ m. m ≡ empty_map m.capacity MAX_ITEMS) }
         ensures room { IfOk result (λ m. capacity ≤ m.capacity) }
         ensures in_limit { OnOk result (capacity ≤ MAX_ITEMS) }
         ensures keyed { IfOk result (λ m. Ascends T.key T.Key.cmp m.items) }
 
-        // On refusal.
+        // on refusal
         ensures refused { IfErr result (λ e. e ≡ reservation_kind MAX_ITEMS capacity) }
         ensures asked { OnErr result (0 < capacity) }
     {
@@ -36,16 +36,16 @@ impl<T: IdOrdItem> IdOrdMap<T> {
     pub fn reserve(&mut self, additional: usize) -> Result<(), TryReserveError>
         requires keyed { Ascends T.key T.Key.cmp self.old.items }
 
-        // On success.
+        // on success
         ensures room { OnOk result (length self.old.items + additional ≤ self.new.capacity) }
         ensures in_limit { OnOk result (length self.old.items + additional ≤ self.old.limit) }
 
-        // On refusal.
+        // on refusal
         ensures refused { IfErr result (λ e. e ≡ reservation_refusal self.old additional) }
         ensures needed { result ≡ Err memory_refused → IsShortOf self.old additional }
         ensures asked { OnErr result (0 < additional) }
 
-        // In either case.
+        // in either case
         ensures rest { self.new ≡ record self.old { capacity = self.new.capacity } }
         ensures capacity { self.old.capacity ≤ self.new.capacity }
         ensures keyed { Ascends T.key T.Key.cmp self.new.items }
@@ -57,14 +57,14 @@ impl<T: IdOrdItem> IdOrdMap<T> {
     pub fn shrink_to_fit(&mut self) -> Result<(), TryReserveError>
         requires keyed { Ascends T.key T.Key.cmp self.old.items }
 
-        // On success.
+        // on success
         ensures frees { length self.old.items ≡ 0 → OnOk result (self.new.capacity ≡ 0) }
 
-        // On refusal.
+        // on refusal
         ensures only_memory { IfErr result (λ e. e ≡ memory_refused) }
         ensures needed { OnErr result (length self.old.items < self.old.capacity) }
 
-        // In either case.
+        // in either case
         ensures items { self.new.items ≡ self.old.items }
         ensures shrinks { Shrinks 0 self.old self.new }
         ensures keyed { Ascends T.key T.Key.cmp self.new.items }
@@ -79,14 +79,14 @@ impl<T: IdOrdItem> IdOrdMap<T> {
     pub fn shrink_to(&mut self, min: usize) -> Result<(), TryReserveError>
         requires keyed { Ascends T.key T.Key.cmp self.old.items }
 
-        // On success.
+        // on success
         ensures frees { length self.old.items ≡ 0 → min ≡ 0 → OnOk result (self.new.capacity ≡ 0) }
 
-        // On refusal.
+        // on refusal
         ensures only_memory { IfErr result (λ e. e ≡ memory_refused) }
         ensures needed { OnErr result (max min (length self.old.items) < self.old.capacity) }
 
-        // In either case.
+        // in either case
         ensures items { self.new.items ≡ self.old.items }
         ensures shrinks { Shrinks min self.old self.new }
         ensures keyed { Ascends T.key T.Key.cmp self.new.items }

@@ -15,15 +15,15 @@ pub(super) fn reserve_one<T>(
 ) -> Result<(), TryReserveError>
     requires paired { ListsOccupied store.old index.old.slots }
 
-    // On success.
+    // on success
     ensures below_limit { OnOk result (length index.old.slots < store.old.limit) }
     ensures room { OnOk result (HasRoomFor store.new 1) }
     ensures prepared { OnOk result (IsTrue index.new.prepared) }
 
-    // On refusal.
+    // on refusal
     ensures kind { IfErr result (λ e. e ≡ refusal_kind store.old.limit index.old.slots) }
 
-    // In either case.
+    // in either case
     ensures store { store.new ≡ record store.old { capacity = store.new.capacity } }
     ensures capacity { store.old.capacity ≤ store.new.capacity }
     ensures slots { index.new.slots ≡ index.old.slots }
@@ -43,16 +43,16 @@ pub(super) fn reserve_slots<T>(
 ) -> Result<(), TryReserveError>
     requires paired { ListsOccupied store.old index.now.slots }
 
-    // On success.
+    // on success
     ensures room { OnOk result (length index.now.slots + additional ≤ store.new.capacity) }
     ensures in_limit { OnOk result (length index.now.slots + additional ≤ store.old.limit) }
 
-    // On refusal.
+    // on refusal
     ensures kind { IfErr result (λ e. e ≡ reservation_kind store.old.limit (length index.now.slots + additional)) }
     ensures needed { result ≡ Err memory_refused → store.old.capacity < length index.now.slots + additional }
     ensures asked { OnErr result (0 < additional) }
 
-    // In either case.
+    // in either case
     ensures store { store.new ≡ record store.old { capacity = store.new.capacity } }
     ensures capacity { store.old.capacity ≤ store.new.capacity }
 {
@@ -73,13 +73,13 @@ pub(super) fn put_in<T>(
     requires prepared { IsTrue index.old.prepared }
     requires in_list { place ≤ length index.old.slots }
 
-    // Both have one more.
+    // both have one more
     ensures paired { ListsOccupied store.new index.new.slots }
     ensures put { items_in store.new index.new ≡ insert (items_in store.old index.old) place item }
     ensures slots { index.new.slots ≡ insert index.old.slots place result }
     ensures vacant { vacant store.new ≡ vacant store.old - 1 }
 
-    // The rest stays.
+    // the rest stays
     ensures bounds { KeepsBounds store.old store.new }
 {
     let slot = store.insert_reserved(item);
@@ -94,7 +94,7 @@ pub(super) fn take_out<T>(store: &mut ItemStore<T>, index: &mut OrdIndex, place:
     requires in_list { place < length index.old.slots }
     ensures item { slice_get (items_in store.old index.old) place ≡ Some result }
 
-    // What is left.
+    // what is left
     ensures paired { ListsOccupied store.new index.new.slots }
     ensures items { items_in store.new index.new ≡ remove (items_in store.old index.old) place }
     ensures slots { index.new.slots ≡ remove index.old.slots place }
@@ -112,7 +112,7 @@ pub(super) fn exchange<T>(store: &mut ItemStore<T>, index: &OrdIndex, place: Pla
     requires in_list { place < length index.now.slots }
     ensures item { slice_get (items_in store.old index.now) place ≡ Some result }
 
-    // What is left.
+    // what is left
     ensures paired { ListsOccupied store.new index.now.slots }
     ensures items { items_in store.new index.now ≡ set (items_in store.old index.now) place item }
     ensures vacant { vacant store.new ≡ vacant store.old }

@@ -1,7 +1,7 @@
 //! The calls of an entry that is occupied or vacant.
 ghost use Rattle.std.specs.Prelude.{◌≡◌, IfErr, IfOk, None};
 ghost use Rattle.std.specs.Borrow.{sem};
-ghost use Rattle.iddqd_hash.specs.Entry.{HandsBackFrom, LacksKeyOf, LacksKeysOf, LendsIfOccupied, LendsIfVacant, LendsMade, ModifiesEntry, VisitKeepsKey, entry_item, entry_map, entry_lender, lends_or_keeps};
+ghost use Rattle.iddqd_hash.specs.Entry.{EntryHandsBack, LacksKeyOf, LacksKeysOf, LendsIfOccupied, LendsIfVacant, LendsMade, VisitsEntry, VisitKeepsKey, entry_item, entry_map, entry_lender, lends_or_keeps};
 ghost use Rattle.iddqd_hash.specs.Guard.{GuardKeeps, GuardKeepsAkin, guard_lender};
 
 use super::{Entry, OccupiedEntry};
@@ -30,7 +30,7 @@ impl<'a, T: IdHashItem, S: BuildHasher> Entry<'a, T, S> {
         // on refusal
         ensures* kept { sem 𝓛 (lends_or_keeps S.row T.row ⟦<IdHashMap<T, S> as Keyed>⟧.keyed self.entry result) }
         ensures absent { IfErr result (λ refused. entry_item self.entry ≡ None) }
-        ensures refused { IfErr result (HandsBackFrom T.key T.Key.eq self.entry item) }
+        ensures refused { IfErr result (EntryHandsBack T.key T.Key.eq self.entry item) }
     {
         match self {
             Entry::Occupied(entry) => {
@@ -62,7 +62,7 @@ impl<'a, T: IdHashItem, S: BuildHasher> Entry<'a, T, S> {
         ensures* kept { sem 𝓛 (lends_or_keeps S.row T.row ⟦<IdHashMap<T, S> as Keyed>⟧.keyed self.entry result) }
         ensures absent { IfErr result (λ refused. entry_item self.entry ≡ None) }
         ensures item { IfErr result (λ refused. F.post make refused.item) }
-        ensures refused { IfErr result (λ e. HandsBackFrom T.key T.Key.eq self.entry e.item e) }
+        ensures refused { IfErr result (λ e. EntryHandsBack T.key T.Key.eq self.entry e.item e) }
     {
         match self {
             Entry::Occupied(found) => {
@@ -83,7 +83,7 @@ impl<'a, T: IdHashItem, S: BuildHasher> Entry<'a, T, S> {
         requires keyed { ⟦<IdHashMap<T, S> as Keyed>⟧.keyed (entry_map self) }
         requires keeps_key { VisitKeepsKey T.key T.Key.eq V.visits visitor.old self }
         ensures same_map { entry_lender result ≡ entry_lender self.entry }
-        ensures modified { ModifiesEntry V.visits visitor.old self.entry visitor.new result }
+        ensures modified { VisitsEntry V.visits visitor.old self.entry visitor.new result }
         ensures keyed { ⟦<IdHashMap<T, S> as Keyed>⟧.keyed (entry_map result) }
     {
         match self {

@@ -1,5 +1,6 @@
 //! What each insertion by an entry does to the map.
 ghost use Rattle.std.specs.Prelude.{IfErr, IfOk, OnErr, OnOk};
+ghost use Rattle.iddqd_store.specs.Refusal.{HandsBack};
 ghost use Rattle.iddqd_store.specs.Contents.{Ascends, IsAbsent};
 
 use crate::id_ord_map::IdOrdMap;
@@ -8,18 +9,18 @@ use iddqd_store::{IdOrdItem, Refused, Steps};
 
 impl<T: IdOrdItem> IdOrdMap<T> {
     ghost use Rattle.iddqd_ord.specs.Guard.{IsInsertedAt};
-    ghost use Rattle.iddqd_ord.specs.OrdMap.{HandsBack, OrdInserts, OrdKeeps};
+    ghost use Rattle.iddqd_ord.specs.OrdMap.{OrdInserts, OrdKeeps};
 
     // Inserts an item whose key no other has, and returns its slot and its place.
     pub(super) fn insert_absent(&mut self, item: T) -> Result<(u32, Place), Refused<T>>
         requires keyed { Ascends T.key T.Key.cmp self.old.items }
         requires absent { IsAbsent T.key (T.Key.eq (T.key item)) self.old.items }
 
-        // On success.
+        // on success
         ensures inserted { OnOk result (OrdInserts T.key T.Key.cmp item self.old self.new) }
         ensures there { IfOk result (IsInsertedAt item self.old self.new) }
 
-        // On refusal.
+        // on refusal
         ensures kept { OnErr result (OrdKeeps T.key T.Key.cmp self.old self.new) }
         ensures refused { IfErr result (HandsBack T.key T.Key.eq self.old item) }
     {

@@ -21,14 +21,14 @@ impl<'a, T: IdOrdItem> Entry<'a, T> {
         requires absent { entry_item self ≡ None → LacksKeyOf T.key T.Key.eq item self }
         ensures* kept { sem 𝓛 (lends_or_keeps T.row T.key T.Key.cmp self.entry result) }
 
-        // On success.
+        // on success
         ensures same_map { IfOk result (λ r. guard_lender r ≡ entry_lender self.entry) }
         ensures found { IfOk result (LendsIfOccupied self.entry) }
         ensures inserted { IfOk result (LendsIfVacant T.key T.Key.cmp item self.entry) }
         ensures keyed { IfOk result (GuardKeeps T.key T.Key.cmp) }
         ensures keyed_akin { IfOk result (GuardKeepsAkin T.key T.Key.cmp T.Key.eq) }
 
-        // On refusal.
+        // on refusal
         ensures absent { IfErr result (λ refused. entry_item self.entry ≡ None) }
         ensures refused { IfErr result (EntryHandsBack T.key T.Key.eq item self.entry) }
     {
@@ -56,14 +56,14 @@ impl<'a, T: IdOrdItem> Entry<'a, T> {
         requires absent { MakesAbsent T.key T.Key.eq (F.post make) self }
         ensures* kept { sem 𝓛 (lends_or_keeps T.row T.key T.Key.cmp self.entry result) }
 
-        // On success.
+        // on success
         ensures same_map { IfOk result (λ r. guard_lender r ≡ entry_lender self.entry) }
         ensures found { IfOk result (LendsIfOccupied self.entry) }
         ensures inserted { IfOk result (LendsMade T.key T.Key.cmp (F.post make) self.entry) }
         ensures keyed { IfOk result (GuardKeeps T.key T.Key.cmp) }
         ensures keyed_akin { IfOk result (GuardKeepsAkin T.key T.Key.cmp T.Key.eq) }
 
-        // On refusal.
+        // on refusal
         ensures absent { IfErr result (λ refused. entry_item self.entry ≡ None) }
         ensures item { IfErr result (λ refused. F.post make refused.item) }
         ensures refused { IfErr result (EntryRefuses T.key T.Key.eq self.entry) }
@@ -93,12 +93,12 @@ impl<'a, T: IdOrdItem> Entry<'a, T> {
         requires absent { entry_item self ≡ None → LacksKeyOf T.key T.Key.eq item self }
         ensures* kept { sem 𝓛 (shows_or_keeps T.row T.key T.Key.cmp self.entry result) }
 
-        // On success.
+        // on success
         ensures same_map { IfOk result (λ s. shown_lender s ≡ entry_lender self.entry) }
         ensures found { IfOk result (ShowsIfOccupied self.entry) }
         ensures inserted { IfOk result (ShowsIfVacant T.key T.Key.cmp item self.entry) }
 
-        // On refusal.
+        // on refusal
         ensures absent { IfErr result (λ refused. entry_item self.entry ≡ None) }
         ensures refused { IfErr result (EntryHandsBack T.key T.Key.eq item self.entry) }
     {
@@ -122,12 +122,12 @@ impl<'a, T: IdOrdItem> Entry<'a, T> {
         requires absent { MakesAbsent T.key T.Key.eq (F.post make) self }
         ensures* kept { sem 𝓛 (shows_or_keeps T.row T.key T.Key.cmp self.entry result) }
 
-        // On success.
+        // on success
         ensures same_map { IfOk result (λ s. shown_lender s ≡ entry_lender self.entry) }
         ensures found { IfOk result (ShowsIfOccupied self.entry) }
         ensures inserted { IfOk result (ShowsMade T.key T.Key.cmp (F.post make) self.entry) }
 
-        // On refusal.
+        // on refusal
         ensures absent { IfErr result (λ refused. entry_item self.entry ≡ None) }
         ensures item { IfErr result (λ refused. F.post make refused.item) }
         ensures refused { IfErr result (EntryRefuses T.key T.Key.eq self.entry) }

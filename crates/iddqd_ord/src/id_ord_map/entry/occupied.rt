@@ -58,7 +58,7 @@ impl<'a, T: IdOrdItem> OccupiedEntry<'a, T> {
         ensures lent { lent_map result ≡ entry_map (Occupied self.entry) }
         ensures slot { lent_slot result ≡ entry_slot self.entry }
 
-        // After a write.
+        // after a write
         ensures keyed { GuardKeeps T.key T.Key.cmp result }
         ensures keyed_akin { GuardKeepsAkin T.key T.Key.cmp T.Key.eq result }
     {
@@ -83,7 +83,7 @@ impl<'a, T: IdOrdItem> OccupiedEntry<'a, T> {
         ensures new { entry_item (Occupied self.new) ≡ Some item }
         ensures map { entry_map (Occupied self.new) ≡ entry_with (Occupied self.old) item }
 
-        // The rest stays.
+        // the rest stays
         ensures same_map { entry_lender (Occupied self.new) ≡ entry_lender (Occupied self.old) }
         ensures slot { entry_slot self.new ≡ entry_slot self.old }
         ensures others { entry_others (Occupied self.new) ≡ entry_others (Occupied self.old) }

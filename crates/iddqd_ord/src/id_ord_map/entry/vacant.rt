@@ -20,13 +20,13 @@ impl<'a, T: IdOrdItem> VacantEntry<'a, T> {
         requires absent { LacksKeyOf T.key T.Key.eq item (Vacant self) }
         ensures* kept { sem 𝓛 (lends_or_keeps T.row T.key T.Key.cmp (Vacant self.entry) result) }
 
-        // On success.
+        // on success
         ensures same_map { IfOk result (λ r. guard_lender r ≡ entry_lender (Vacant self.entry)) }
         ensures inserted { IfOk result (LendsInserted T.key T.Key.cmp item (Vacant self.entry)) }
         ensures keyed { IfOk result (GuardKeeps T.key T.Key.cmp) }
         ensures keyed_akin { IfOk result (GuardKeepsAkin T.key T.Key.cmp T.Key.eq) }
 
-        // On refusal.
+        // on refusal
         ensures refused { IfErr result (EntryHandsBack T.key T.Key.eq item (Vacant self.entry)) }
     {
         let VacantEntry { map } = self;
@@ -46,11 +46,11 @@ impl<'a, T: IdOrdItem> VacantEntry<'a, T> {
         requires absent { LacksKeyOf T.key T.Key.eq item (Vacant self) }
         ensures* kept { sem 𝓛 (shows_or_keeps T.row T.key T.Key.cmp (Vacant self.entry) result) }
 
-        // On success.
+        // on success
         ensures same_map { IfOk result (λ s. shown_lender s ≡ entry_lender (Vacant self.entry)) }
         ensures inserted { IfOk result (ShowsInserted T.key T.Key.cmp item (Vacant self.entry)) }
 
-        // On refusal.
+        // on refusal
         ensures refused { IfErr result (EntryHandsBack T.key T.Key.eq item (Vacant self.entry)) }
     {
         let VacantEntry { map } = self;
@@ -66,10 +66,10 @@ impl<'a, T: IdOrdItem> VacantEntry<'a, T> {
         requires absent { LacksKeyOf T.key T.Key.eq item (Vacant self) }
         ensures* kept { sem 𝓛 (enters_or_keeps T.row T.key T.Key.cmp (Vacant self.entry) result) }
 
-        // On success.
+        // on success
         ensures inserted { IfOk result (EntersInserted T.key T.Key.cmp item (Vacant self.entry)) }
 
-        // On refusal.
+        // on refusal
         ensures refused { IfErr result (EntryHandsBack T.key T.Key.eq item (Vacant self.entry)) }
     {
         let VacantEntry { map } = self;

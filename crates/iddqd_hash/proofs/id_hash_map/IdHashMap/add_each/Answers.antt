@@ -45,7 +45,8 @@ pub returns-in-Err : goal.returns-in-Err
 returns-in-Err g c =
     let kept = c.in-Err.ensures.kept in
     record {
-      adds = (tt, search rules);
+      added = tt;
+      halted = search rules;
       spare_first = tt;
       fills = record { fills = fills_kept (holding_of c.args.self.now) (holding_of c.reserve.new.self) c.len.ensures.slots kept.keeps; stays = kept.stays };
     }
@@ -58,7 +59,8 @@ returns-in_err-add g c =
     let stopped = c.in_err-add.ensures in
     let gives = GivesThen g.U.IntoIterator.into_iter_gives g.U.IntoIter.Iterator.next_gives c.args.iter in
     rw back.1 (record {
-      adds = (tt, halts_adding g.T.IdHashItem.key g.met.T.Key.Eq.laws gives (holding_of old) (holding_of c.loop-item.self) (holding_of c.add.new.self) c.loop-item.yielded inv.2 inv.3.fills.limit stopped.kept.keeps c.in-Some.item (gives_then g.U.IntoIterator.into_iter_gives g.U.IntoIter.Iterator.next_gives c.args.iter c.loop-item.yielded c.in-Some.item (search rules)) _ (rw back.2 stopped.halted));
+      added = tt;
+      halted = halts_adding g.T.IdHashItem.key g.met.T.Key.Eq.laws gives (holding_of old) (holding_of c.loop-item.self) (holding_of c.add.new.self) c.loop-item.yielded inv.2 inv.3.fills.limit stopped.kept.keeps c.in-Some.item (gives_then g.U.IntoIterator.into_iter_gives g.U.IntoIter.Iterator.next_gives c.args.iter c.loop-item.yielded c.in-Some.item (search rules)) _ (rw back.2 stopped.halted);
       spare_first = search rules;
       fills = search rules;
     })
@@ -68,7 +70,8 @@ unfolding IsKeyed
 returns g c =
     let inv = c.loop-item.invariant in
     record {
-      adds = ((c.loop-item.yielded, gives_all g.U.IntoIterator.into_iter_gives g.U.IntoIter.Iterator.next_gives c.args.iter c.loop-item.yielded (search rules), inv.2), tt);
+      added = (c.loop-item.yielded, gives_all g.U.IntoIterator.into_iter_gives g.U.IntoIter.Iterator.next_gives c.args.iter c.loop-item.yielded (search rules), inv.2);
+      halted = tt;
       spare_first = tt;
       fills = inv.3;
     }

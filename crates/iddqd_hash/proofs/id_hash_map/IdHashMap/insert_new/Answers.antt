@@ -21,7 +21,7 @@ returns-in-Err-clause-refused g c =
     let kind = c.in-Err.ensures.kind
     ∙ kind_by_length m.store.limit m.index.pairs (items_in m.store) (c.self.invariant.counted ∙ sym (length-items m.store.slots))
     ∙ ap (λ v. refusal_kind v.limit v.items) c.self.view_is in
-    record { item = refl; no_room = (c.requires.absent, kind); no_spare = sym (ap (λ v. v.spare) c.self.view_is) ∙ c.in-Err.ensures.needed }
+    record { back = (refl, (c.requires.absent, kind)); no_spare = sym (ap (λ v. v.spare) c.self.view_is) ∙ c.in-Err.ensures.needed }
 
 pub returns-in-Err-clause-kept : goal.returns-in-Err-clause-kept
 unfolding IsKeyed
