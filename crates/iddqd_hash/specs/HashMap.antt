@@ -203,8 +203,8 @@ ends_hash_inserted S T IsKeyed map result x =
 abbrev pub lends_nothing : (S T : RattleType) → MutBor (HashItems S.Denot T.Denot) → MutBor unit.Denot → Fml
 lends_nothing S T map result = Lends (the_row T S) unit map result (λ _. map.now)
 
--- once the result of `extend_unique` is dropped: at `Ok` the map has all items, and at `Err` those before the one that was not inserted;
--- as many new keys as were spare are inserted before one finds no room
+-- Once the result of `extend_unique` is dropped: at `Ok` the map has all items, and at `Err` those before the one that was not inserted.
+-- As many new keys as were spare are inserted before one finds no room.
 abbrev pub ends_hash_extended : (S T : RattleType) {K U I : Type 0} (key : T.Denot → K) (eq : K → K → Bool) (IsKeyed : HashItems S.Denot T.Denot → Type 0) (becomes : U → I → Type 0) (steps : I → Option T.Denot → I → Type 0) (iter : U) → MutBor (HashItems S.Denot T.Denot) → Result (MutBor unit.Denot) (ExtendUniqueError T.Denot) → Fml
 ends_hash_extended S T key eq IsKeyed becomes steps iter map result =
     LendsSoOk (the_row T S) unit map result

@@ -116,7 +116,7 @@ module _ {T : Type 0} (old new : Store T) (slots : List ℕ) (paired : ListsOccu
           counted = size ∙ paired.counted ∙ sym len;
         }
 
--- another slot in the stead of one, with the same item in it
+-- a slot is replaced by another that has the same item
 pub renamed : {T : Type 0} (old new : Store T) (slots : List ℕ) (i last hole : ℕ) → slice_get slots i ≡ Some last → item_at new hole ≡ item_at old last → ((k d : ℕ) → k < length slots → k ≢ i → item_at new (get_or slots k d) ≡ item_at old (get_or slots k d)) → listed_items new (set slots i hole) ≡ listed_items old slots
 renamed old new [] i last hole at moved kept = refl
 renamed old new (s ∷ ss) zero last hole at moved kept =
