@@ -1,6 +1,6 @@
-use Rattle.std.proofs.Common.{◌+◌, ◌∙◌, sym, ap, subst, arith, rules}
+use Rattle.std.proofs.Common.{◌∙◌, sym, ap, subst, arith, rules}
 use Rattle.std.proofs.lemmas.Grind.{common_steps}
-use Rattle.std.specs.List.{remove, slice_get}
+use Rattle.std.specs.List.{remove}
 use Rattle.iddqd_store.specs.Contents.{Ascends}
 use Rattle.iddqd_store.proofs.KeepsLemmas.{ascends_remove}
 use Rattle.iddqd_ord.proofs.id_ord_map.IdOrdMap.pop_last.Goals as goal

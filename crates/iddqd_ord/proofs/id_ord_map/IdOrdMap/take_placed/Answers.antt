@@ -1,5 +1,5 @@
-use Rattle.std.proofs.Common.{◌+◌, ◌∙◌, sym, ap, subst, rules}
-use Rattle.std.specs.List.{remove, slice_get}
+use Rattle.std.proofs.Common.{◌∙◌, sym, ap, subst, rules}
+use Rattle.std.specs.List.{remove}
 use Rattle.iddqd_store.specs.Contents.{Ascends}
 use Rattle.iddqd_store.specs.SlotItems.{HaveSlots}
 use Rattle.iddqd_store.proofs.KeepsLemmas.{ascends_remove}
