@@ -1,3 +1,4 @@
+-- For speed alone: the prover finds these proofs by itself, but later.
 use Rattle.std.proofs.Common.{arith, rules}
 use Rattle.std.proofs.lemmas.Grind.{common_steps}
 use Rattle.idtable_lines.proofs.arguments.after_name.Goals as goal

@@ -1,3 +1,4 @@
+-- For speed alone: the prover finds these proofs by itself, but later.
 use Rattle.std.proofs.Common.{rules}
 use Rattle.iddqd_hash.proofs.id_hash_map.IdHashMap.has_equal.Goals as goal
 

@@ -1,3 +1,4 @@
+-- For speed alone: the prover finds these proofs by itself, but later.
 use Rattle.std.proofs.Common.{rules}
 use Rattle.iddqd_store.proofs.errors.Few.len.Goals as goal
 

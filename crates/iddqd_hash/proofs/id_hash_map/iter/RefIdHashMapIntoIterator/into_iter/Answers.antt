@@ -1,3 +1,4 @@
+-- For speed alone: the prover finds these proofs by itself, but later.
 use Rattle.std.proofs.Common.{rules}
 use Rattle.iddqd_hash.proofs.id_hash_map.iter.RefIdHashMapIntoIterator.into_iter.Goals as goal
 

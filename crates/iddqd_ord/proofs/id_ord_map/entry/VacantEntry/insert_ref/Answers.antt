@@ -1,3 +1,4 @@
+-- For speed alone: the prover finds these proofs by itself, but later.
 use Rattle.std.proofs.Common.{rules}
 use Rattle.iddqd_ord.proofs.id_ord_map.entry.VacantEntry.insert_ref.Goals as goal
 

@@ -1,3 +1,4 @@
+-- For speed alone: the prover finds these proofs by itself, but later.
 use Rattle.std.proofs.Common.{rules, arith}
 use Rattle.std.proofs.lemmas.Grind.{common_steps}
 use Rattle.iddqd_ord_index.proofs.tree.spare.Spare.prepare.Goals as goal

@@ -1,3 +1,4 @@
+-- For speed alone: the prover finds these proofs by itself, but later.
 use Rattle.std.proofs.Common.{rules}
 use Rattle.idtable_commands.proofs.keyed_map.ord.IdOrdMapKeyedMap.reserve.Goals as goal
 
