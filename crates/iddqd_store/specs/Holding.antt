@@ -84,8 +84,3 @@ pub record Shrinks {T : Type 0} (min : ℕ) (old new : Holding T) : Type 0 where
   pub holds_min : least min old.capacity ≤ new.capacity
   pub slots : HaveSlots new.slots new.items
   pub limit : new.limit ≡ old.limit
-
--- the sum of the items and the spare room never falls, and never passes the limit (`reserve` of the hash map)
-pub record SpareStays {T : Type 0} (limit old_spare : ℕ) (old : List T) (new_spare : ℕ) (new : List T) : Type 0 where
-  pub never_less : old_spare + length old ≤ new_spare + length new
-  pub in_limit : new_spare + length new ≤ limit
