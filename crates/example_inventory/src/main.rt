@@ -1,10 +1,11 @@
-//! An inventory: parts by number, whose counts are written through guards. It leans on this promise: a part that is there twice
-//! is refused with both shown, and nothing has changed.
+//! An inventory: parts by number, whose counts are written through guards. It relies on this promise: a part of a number
+//! that exists is refused with both shown, and nothing has changed.
 #![tactic(auto)]
 
-ghost use Rattle.std.specs.Prelude.{List, ◌≡◌, ◌==◌, ◌+◌, IfNone, IfSome};
+ghost use Rattle.std.specs.Prelude.{List, ◌≡◌, IfNone, IfSome};
 ghost use Rattle.std.specs.Ordering.{nat_cmp};
-ghost use Rattle.iddqd.specs.Contents.{Ascends, find_item, items_overwritten};
+ghost use Rattle.iddqd.specs.Contents.{Ascends};
+ghost use Rattle.example_inventory.specs.Inventory.{IsTaken};
 ghost use Rattle.example_inventory.specs.declared.Part.{Part};
 
 use iddqd::errors::InsertError;
@@ -43,11 +44,11 @@ impl Model for Inventory {
 }
 
 impl Inventory {
-    /// Takes some of a part, and tells how many are left; `None`, where there are too few, has changed nothing. Its contract
-    /// took two lines of proof: that the new count keeps the part's number.
+    /// Takes some of a part, and returns how many are left. It returns `None` if there are too few, and then nothing has
+    /// changed. Its contract took two lines of proof: that the new count keeps the part's number.
     fn take(&mut self, number: u32, count: u32) -> Option<u32>
         ensures unchanged { IfNone result (self.new ≡ self.old) }
-        ensures taken { IfSome result (λ left. IfSome (find_item (λ p. p.number) (λ k. number == k) self.old) (λ x. (x.count ≡ left + count) × (self.new ≡ items_overwritten (λ p. p.number) (λ k. number == k) (record x { count = left }) self.old))) }
+        ensures taken { IfSome result (λ left. IsTaken number count left self.old self.new) }
     {
         let left = self.0.get(&number)?.count.checked_sub(count)?;
         let mut part = self.0.get_mut(&number)?;

@@ -2,8 +2,8 @@
 //! overwrites one of an equal key takes its place whole, the spelling of its key too.
 #![tactic(auto)]
 
-ghost use Rattle.std.specs.Prelude.{◌≡◌, IfNone, IfSome, OnSome};
-ghost use Rattle.iddqd.specs.Contents.{AddsItem, find_item, items_overwritten};
+ghost use Rattle.std.specs.Prelude.{◌≡◌, IfNone};
+ghost use Rattle.example_registry.specs.Registry.{VisitsAgain, VisitsFirst};
 
 mod sign;
 
@@ -28,12 +28,12 @@ impl IdHashItem for Guest {
     }
 }
 
-/// Counts a visit: one more where the sign is known, which is written as this one from now on; else the first. Its contract
-/// took no line of proof.
+/// Counts a visit: one more if the sign is known, which is spelled as this one from now on, and else the first. It returns
+/// the count, or `None` if there was no room. Its contract took no line of proof.
 fn visit(guests: &mut IdHashMap<Guest>, sign: Sign) -> Option<u32>
     requires keyed { ⟦<IdHashMap<Guest> as Keyed>⟧.keyed guests.old }
-    ensures again { IfSome (find_item (λ g. g.sign) (⟦<Sign as PartialEq>⟧.eq sign) guests.old.items) (λ g. IfSome result (λ n. guests.new.items ≡ items_overwritten (λ g. g.sign) (⟦<Sign as PartialEq>⟧.eq sign) (record { sign = sign; visits = n }) guests.old.items)) }
-    ensures first { IfNone (find_item (λ g. g.sign) (⟦<Sign as PartialEq>⟧.eq sign) guests.old.items) (OnSome result (AddsItem (record { sign = sign; visits = 1 }) guests.old.items guests.new.items)) }
+    ensures again { VisitsAgain ⟦<Sign as PartialEq>⟧.eq sign guests.old.items guests.new.items result }
+    ensures first { VisitsFirst ⟦<Sign as PartialEq>⟧.eq sign guests.old.items guests.new.items result }
     ensures kept { IfNone result (guests.new.items ≡ guests.old.items) }
     ensures keyed { ⟦<IdHashMap<Guest> as Keyed>⟧.keyed guests.new }
 {
