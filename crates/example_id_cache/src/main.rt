@@ -49,7 +49,7 @@ impl std::marker::Model for Cache {
     ghost invariant = { λ all. ⟦<IdHashMap<Entry, RandomState> as Keyed>⟧.keyed all.0 × Ascends (λ e. e.born) ⟦<u32 as Ord>⟧.cmp all.1.items };
 }
 
-/// Takes out the oldest entry, from both maps, where there is one. Its contract took no line of proof.
+/// Removes the oldest entry from both maps, if there is one. Its contract took no line of proof.
 fn drop_oldest(all: &mut Cache)
     ensures by_age { all.new.1 ≡ drop 1 all.old.1 }
     ensures by_id { IfSome (slice_get all.old.1 0) (λ oldest. all.new.0 ≡ items_without (λ e. e.id) (λ k. oldest.id == k) all.old.0) }
@@ -59,7 +59,7 @@ fn drop_oldest(all: &mut Cache)
     }
 }
 
-/// Puts the entry in both maps, or in neither: an insertion that is refused leaves a map as it was.
+/// Inserts the entry into both maps, or into neither: an insertion that is refused leaves a map as it was.
 fn add(
     by_id: &mut IdHashMap<Entry, RandomState>,
     by_age: &mut IdOrdMap<Entry>,
@@ -67,10 +67,14 @@ fn add(
 ) -> bool
     requires ids { ⟦<IdHashMap<Entry, RandomState> as Keyed>⟧.keyed by_id.old }
     requires ages { Ascends (λ e. e.born) ⟦<u32 as Ord>⟧.cmp by_age.old.items }
+
+    // in both maps, or in neither
     ensures both { IsTrue result → AddsItem entry by_id.old.items by_id.new.items
         × AddsItem entry by_age.old.items by_age.new.items }
     ensures neither { result ≡ false → (by_id.new.items ≡ by_id.old.items)
         × (by_age.new.items ≡ by_age.old.items) }
+
+    // either way
     ensures ids { ⟦<IdHashMap<Entry, RandomState> as Keyed>⟧.keyed by_id.new }
     ensures ages { Ascends (λ e. e.born) ⟦<u32 as Ord>⟧.cmp by_age.new.items }
 {
@@ -89,8 +93,8 @@ fn add(
     }
 }
 
-/// Puts the entry in over one of its id, and over the oldest if the cache is full. False if memory was refused, or if
-/// another entry is as old.
+/// Replaces the entry of its id, and the oldest if the cache is full. Returns false if memory was refused, or if another
+/// entry is as old.
 fn put(all: &mut Cache, entry: Entry) -> bool {
     if let Some(old) = all.0.remove(&entry.id) {
         let _ = all.1.remove(&old.born);
