@@ -1,10 +1,10 @@
 //! Entries of a hash map.
-ghost use Rattle.std.specs.Prelude.{◌≡◌, ◌==◌, IfNone, IfSome, IsTrue, OnSome, Some, false, option_map};
+ghost use Rattle.std.specs.Prelude.{◌≡◌, IfNone, IfSome, IsTrue, OnSome, Some, false, option_map};
 ghost use Rattle.std.specs.Str.{bytes_eq};
 ghost use Rattle.std.specs.String.{string_bytes};
-ghost use Rattle.iddqd.specs.Contents.{AddsItem, find_item, items_overwritten, items_without};
+ghost use Rattle.iddqd.specs.Contents.{AddsItem, items_without};
 ghost use Rattle.iddqd.specs.IdHashMap.{IsKeyedByText};
-ghost use Rattle.test_callers.specs.Lookups.{of_key, of_name, put_at_key, with_value};
+ghost use Rattle.test_callers.specs.Lookups.{of_key, of_name, pair_at, put_at_key, with_value};
 
 use iddqd::errors::Refused;
 use iddqd::id_hash_map::Entry;
@@ -105,8 +105,8 @@ fn value_or(map: &mut IdHashMap<Named>, item: Named) -> Option<u32>
 /// Shows the value of the key, or adds the key with this one.
 fn show_or_add<S: BuildHasher>(map: &mut IdHashMap<Pair, S>, key: u32, value: u32) -> Option<u32>
     requires keyed { ⟦<IdHashMap<Pair, S> as Keyed>⟧.keyed map.old }
-    ensures found { IfSome (find_item (λ p. p.key) (λ k. key == k) map.old.items) (λ x. (result ≡ Some x.value) × (map.new ≡ map.old)) }
-    ensures added { IfNone (find_item (λ p. p.key) (λ k. key == k) map.old.items) (OnSome result (AddsItem (record { key = key; value = value }) map.old.items map.new.items)) }
+    ensures found { IfSome (pair_at key map.old.items) (λ x. (result ≡ Some x.value) × (map.new ≡ map.old)) }
+    ensures added { IfNone (pair_at key map.old.items) (OnSome result (AddsItem (record { key = key; value = value }) map.old.items map.new.items)) }
     ensures kept { IfNone result (map.new.items ≡ map.old.items) }
 {
     match map.entry(&key).or_insert_with(|| Pair { key, value }) {

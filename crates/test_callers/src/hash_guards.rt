@@ -1,9 +1,9 @@
 //! Writing through the guard of a hash map.
-ghost use Rattle.std.specs.Prelude.{◌≡◌, ◌==◌, IfSome, IfNone, IsTrue, is_some, option_map};
-ghost use Rattle.iddqd.specs.Contents.{find_item, items_overwritten};
+ghost use Rattle.std.specs.Prelude.{◌≡◌, IfSome, IfNone, IsTrue, is_some, option_map};
+ghost use Rattle.iddqd.specs.Contents.{find_item};
 ghost use Rattle.iddqd.specs.IdHashMap.{IsKeyedByText};
 ghost use Rattle.iddqd.specs.Hashing.{HashesAs};
-ghost use Rattle.test_callers.specs.Lookups.{of_name, of_number, put_at_name, put_at_number};
+ghost use Rattle.test_callers.specs.Lookups.{PutsOverFound, SetsPair, of_name, of_number, pair_at, put_at_name, put_at_number};
 
 use crate::items::Noted;
 use iddqd::errors::InsertError;
@@ -19,7 +19,7 @@ fn put<T: IdHashItem + Drop, S: BuildHasher, Q: Hash + Equivalent<T::Key>>(
 )
     requires keyed { ⟦<IdHashMap<T, S> as Keyed>⟧.keyed map.old }
     requires hashes { HashesAs (Q.equivalent query.now) (Q.hash_input query.now) T.Key.hash_input }
-    ensures written { IfSome (find_item T.key (Q.equivalent query.now) map.old.items) (λ x. map.new.items ≡ items_overwritten T.key (Q.equivalent query.now) item map.old.items) }
+    ensures written { PutsOverFound T.key (Q.equivalent query.now) item map.old.items map.new.items }
     ensures absent { IfNone (find_item T.key (Q.equivalent query.now) map.old.items) (map.new ≡ map.old) }
     ensures keyed { IfSome (find_item T.key (Q.equivalent query.now) map.old.items) (λ x. IsTrue (T.Key.eq (T.key x) (T.key item)) → ⟦<IdHashMap<T, S> as Keyed>⟧.keyed map.new) }
 {
@@ -33,7 +33,7 @@ fn put<T: IdHashItem + Drop, S: BuildHasher, Q: Hash + Equivalent<T::Key>>(
 #[tactic(auto, using(iddqd::proofs::GuardLemmas::read_back, iddqd::proofs::GuardLemmas::written_twice))]
 fn set_twice<S: BuildHasher>(map: &mut IdHashMap<Pair, S>, key: u32, first: u32, then: u32)
     requires keyed { ⟦<IdHashMap<Pair, S> as Keyed>⟧.keyed map.old }
-    ensures written { IfSome (find_item (λ p. p.key) (λ k. key == k) map.old.items) (λ x. map.new.items ≡ items_overwritten (λ p. p.key) (λ k. key == k) (record x { value = then }) map.old.items) }
+    ensures written { SetsPair key then map.old.items map.new.items }
 {
     if let Some(mut found) = map.get_mut(&key) {
         found.value = first;
@@ -98,7 +98,7 @@ fn note(map: &mut IdHashMap<Noted>, number: u32, note: String) -> bool
 /// Writes by a plain reference at the end.
 fn set_plainly<S: BuildHasher>(map: &mut IdHashMap<Pair, S>, key: u32, value: u32)
     requires keyed { ⟦<IdHashMap<Pair, S> as Keyed>⟧.keyed map.old }
-    ensures written { IfSome (find_item (λ p. p.key) (λ k. key == k) map.old.items) (λ x. map.new.items ≡ items_overwritten (λ p. p.key) (λ k. key == k) (record x { value = value }) map.old.items) }
+    ensures written { SetsPair key value map.old.items map.new.items }
 {
     if let Some(found) = map.get_mut(&key) {
         let item = found.into_mut();
@@ -114,8 +114,8 @@ fn set_by_reborrow<S: BuildHasher>(
     value: u32,
 ) -> Option<u32>
     requires keyed { ⟦<IdHashMap<Pair, S> as Keyed>⟧.keyed map.old }
-    ensures read { result ≡ option_map (λ _. value) (find_item (λ p. p.key) (λ k. key == k) map.old.items) }
-    ensures written { IfSome (find_item (λ p. p.key) (λ k. key == k) map.old.items) (λ x. map.new.items ≡ items_overwritten (λ p. p.key) (λ k. key == k) (record x { value = value }) map.old.items) }
+    ensures read { result ≡ option_map (λ _. value) (pair_at key map.old.items) }
+    ensures written { SetsPair key value map.old.items map.new.items }
 {
     match map.get_mut(&key) {
         Some(mut found) => {
@@ -131,7 +131,7 @@ fn set_by_reborrow<S: BuildHasher>(
 /// Writes by a function that takes the item.
 fn set_by_function<S: BuildHasher>(map: &mut IdHashMap<Pair, S>, key: u32, value: u32)
     requires keyed { ⟦<IdHashMap<Pair, S> as Keyed>⟧.keyed map.old }
-    ensures written { IfSome (find_item (λ p. p.key) (λ k. key == k) map.old.items) (λ x. map.new.items ≡ items_overwritten (λ p. p.key) (λ k. key == k) (record x { value = value }) map.old.items) }
+    ensures written { SetsPair key value map.old.items map.new.items }
 {
     if let Some(mut found) = map.get_mut(&key) {
         write_value(&mut found, value);

@@ -3,8 +3,8 @@ ghost use Rattle.std.specs.Prelude.{◌≡◌, ◌-◌, ◌==◌, IfNone, IfSome
 ghost use Rattle.std.specs.Ordering.{nat_cmp};
 ghost use Rattle.std.specs.Str.{bytes_eq};
 ghost use Rattle.std.specs.String.{string_bytes, string_cmp};
-ghost use Rattle.iddqd.specs.Contents.{AddsItem, Ascends, find_item, items_overwritten, items_without};
-ghost use Rattle.test_callers.specs.Lookups.{of_key, of_name, put_at_key, with_value};
+ghost use Rattle.iddqd.specs.Contents.{AddsItem, Ascends, items_without};
+ghost use Rattle.test_callers.specs.Lookups.{of_key, of_name, pair_at, put_at_key, with_value};
 
 use iddqd::errors::Refused;
 use iddqd::id_ord_map::Entry;
@@ -104,8 +104,8 @@ fn value_or(map: &mut IdOrdMap<Named>, item: Named) -> Option<u32>
 /// Shows the value of the key, or adds the key with this one.
 fn show_or_add(map: &mut IdOrdMap<Pair>, key: u32, value: u32) -> Option<u32>
     requires keyed { Ascends (λ p. p.key) nat_cmp map.old.items }
-    ensures found { IfSome (find_item (λ p. p.key) (λ k. key == k) map.old.items) (λ x. (result ≡ Some x.value) × (map.new ≡ map.old)) }
-    ensures added { IfNone (find_item (λ p. p.key) (λ k. key == k) map.old.items) (OnSome result (AddsItem (record { key = key; value = value }) map.old.items map.new.items)) }
+    ensures found { IfSome (pair_at key map.old.items) (λ x. (result ≡ Some x.value) × (map.new ≡ map.old)) }
+    ensures added { IfNone (pair_at key map.old.items) (OnSome result (AddsItem (record { key = key; value = value }) map.old.items map.new.items)) }
     ensures kept { IfNone result (map.new.items ≡ map.old.items) }
 {
     match map.entry(&key).or_insert_with_ref(|| Pair { key, value }) {

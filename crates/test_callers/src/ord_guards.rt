@@ -1,10 +1,10 @@
 //! Writing through the guard of an ordered map.
-ghost use Rattle.std.specs.Prelude.{◌≡◌, ◌==◌, IfSome, IfNone, IsTrue, is_some, option_map};
+ghost use Rattle.std.specs.Prelude.{◌≡◌, IfSome, IfNone, IsTrue, is_some, option_map};
 ghost use Rattle.std.specs.Ordering.{nat_cmp};
 ghost use Rattle.std.specs.Str.{bytes_eq};
 ghost use Rattle.std.specs.String.{string_bytes, string_cmp};
-ghost use Rattle.iddqd.specs.Contents.{Ascends, find_item, items_overwritten};
-ghost use Rattle.test_callers.specs.Lookups.{of_name, of_number, put_at_name, put_at_number};
+ghost use Rattle.iddqd.specs.Contents.{Ascends, find_item};
+ghost use Rattle.test_callers.specs.Lookups.{PutsOverFound, SetsPair, of_name, of_number, pair_at, put_at_name, put_at_number};
 
 use crate::items::Noted;
 use iddqd::{Comparable, IdOrdItem, IdOrdMap, Text};
@@ -13,7 +13,7 @@ use test_writers::items::{Named, Pair, write_value};
 /// Writes a whole item in the place of the one found; one of an equal key, however it is spelled, leaves the map keyed.
 fn put<T: IdOrdItem + Drop, Q: Comparable<T::Key>>(map: &mut IdOrdMap<T>, query: &Q, item: T)
     requires keyed { Ascends T.key T.Key.cmp map.old.items }
-    ensures written { IfSome (find_item T.key (Q.equivalent query.now) map.old.items) (λ x. map.new.items ≡ items_overwritten T.key (Q.equivalent query.now) item map.old.items) }
+    ensures written { PutsOverFound T.key (Q.equivalent query.now) item map.old.items map.new.items }
     ensures absent { IfNone (find_item T.key (Q.equivalent query.now) map.old.items) (map.new ≡ map.old) }
     ensures keyed { IfSome (find_item T.key (Q.equivalent query.now) map.old.items) (λ x. IsTrue (T.Key.eq (T.key x) (T.key item)) → Ascends T.key T.Key.cmp map.new.items) }
 {
@@ -27,7 +27,7 @@ fn put<T: IdOrdItem + Drop, Q: Comparable<T::Key>>(map: &mut IdOrdMap<T>, query:
 #[tactic(auto, using(iddqd::proofs::GuardLemmas::read_back, iddqd::proofs::GuardLemmas::written_twice))]
 fn set_twice(map: &mut IdOrdMap<Pair>, key: u32, first: u32, then: u32)
     requires keyed { Ascends (λ p. p.key) nat_cmp map.old.items }
-    ensures written { IfSome (find_item (λ p. p.key) (λ k. key == k) map.old.items) (λ x. map.new.items ≡ items_overwritten (λ p. p.key) (λ k. key == k) (record x { value = then }) map.old.items) }
+    ensures written { SetsPair key then map.old.items map.new.items }
 {
     if let Some(mut found) = map.get_mut(&key) {
         found.value = first;
@@ -92,7 +92,7 @@ fn note(map: &mut IdOrdMap<Noted>, number: u32, note: String) -> bool
 /// Writes by a plain reference at the end.
 fn set_plainly(map: &mut IdOrdMap<Pair>, key: u32, value: u32)
     requires keyed { Ascends (λ p. p.key) nat_cmp map.old.items }
-    ensures written { IfSome (find_item (λ p. p.key) (λ k. key == k) map.old.items) (λ x. map.new.items ≡ items_overwritten (λ p. p.key) (λ k. key == k) (record x { value = value }) map.old.items) }
+    ensures written { SetsPair key value map.old.items map.new.items }
 {
     if let Some(found) = map.get_mut(&key) {
         let item = found.into_mut();
@@ -104,8 +104,8 @@ fn set_plainly(map: &mut IdOrdMap<Pair>, key: u32, value: u32)
 #[tactic(auto, using(iddqd::proofs::GuardLemmas::read_back))]
 fn set_by_reborrow(map: &mut IdOrdMap<Pair>, key: u32, value: u32) -> Option<u32>
     requires keyed { Ascends (λ p. p.key) nat_cmp map.old.items }
-    ensures read { result ≡ option_map (λ _. value) (find_item (λ p. p.key) (λ k. key == k) map.old.items) }
-    ensures written { IfSome (find_item (λ p. p.key) (λ k. key == k) map.old.items) (λ x. map.new.items ≡ items_overwritten (λ p. p.key) (λ k. key == k) (record x { value = value }) map.old.items) }
+    ensures read { result ≡ option_map (λ _. value) (pair_at key map.old.items) }
+    ensures written { SetsPair key value map.old.items map.new.items }
 {
     match map.get_mut(&key) {
         Some(mut found) => {
@@ -121,7 +121,7 @@ fn set_by_reborrow(map: &mut IdOrdMap<Pair>, key: u32, value: u32) -> Option<u32
 /// Writes by a function that takes the item.
 fn set_by_function(map: &mut IdOrdMap<Pair>, key: u32, value: u32)
     requires keyed { Ascends (λ p. p.key) nat_cmp map.old.items }
-    ensures written { IfSome (find_item (λ p. p.key) (λ k. key == k) map.old.items) (λ x. map.new.items ≡ items_overwritten (λ p. p.key) (λ k. key == k) (record x { value = value }) map.old.items) }
+    ensures written { SetsPair key value map.old.items map.new.items }
 {
     if let Some(mut found) = map.get_mut(&key) {
         write_value(&mut found, value);
