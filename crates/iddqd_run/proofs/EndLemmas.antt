@@ -3,7 +3,8 @@
 --     unsupported_pop, plain_pop      `popfirst` and `poplast`
 --     lists_items      `list`
 use Rattle.std.proofs.Common.{◌≡◌, ℕ, suc, ◌-◌, List, [], ◌∷◌, ◌++◌, length, drop, take, Option, sym, ap, ◌∙◌, subst, arith, append-nil, append_assoc, IsPermutation}
-use Rattle.std.specs.Prelude.{codes, decimal}
+use Rattle.std.specs.Global.{Global}
+use Rattle.std.specs.Prelude.{String, codes, decimal}
 use Rattle.std.proofs.lemmas.List.{drop_all, length-map}
 use Rattle.std.proofs.lemmas.List.Sorted.{IsPermutation-refl}
 use Rattle.std.proofs.lemmas.Option.{slice_get-map}
@@ -14,7 +15,7 @@ use Rattle.iddqd.proofs.MappedLemmas.{remove-map}
 use Rattle.iddqd_run.specs.Answer as answer
 use Rattle.iddqd_run.specs.Answer.{by_ends, end_text, entries_after, line_reply, list_text, name_of, name_cmp}
 use Rattle.idtable_lines.specs.Lines.{Request, First, Last, PopFirst, PopLast}
-use Rattle.iddqd_run.specs.Shown.{AnswersPlainly, AnswersRequest, AreByName, HasEnds, ListsItems, ShowsEntries, entries_of, entry_of, refusals_of, reply_text}
+use Rattle.iddqd_run.specs.Shown.{AnswersPlainly, AnswersRequest, AppendsList, AreByName, HasEnds, ListsItems, ShowsEntries, entries_of, entry_of, refusals_of, reply_text}
 use Rattle.idtable_lines.specs.declared.arguments.Kind.{Kind}
 use Rattle.idtable_lines.specs.declared.arguments.Kind.TheVariants.{Hash, Ord}
 use Rattle.iddqd_run.specs.declared.entries.Entry.{Entry}
@@ -106,7 +107,7 @@ module _ (kind : Kind) where
             })
 
 -- the items were written, in the order of their names
-pub lists_items : (items sorted : List Entry) (before after : List ℕ) → IsPermutation items sorted → AreByName sorted → after ≡ before ++ (codes "list " ++ decimal (length sorted) ++ list_text (entries_of sorted)) → ListsItems items before after
+pub lists_items : (items sorted : List Entry) (before after : String Global) → IsPermutation items sorted → AreByName sorted → AppendsList sorted before after → ListsItems items before after
 lists_items items sorted before after same ascending written = record {
   listed = codes "list " ++ decimal (length sorted) ++ list_text (entries_of sorted);
   written = written;

@@ -1,9 +1,11 @@
 -- The reply to one line more.
 use Rattle.std.proofs.Common.{◌≡◌, ◌≤◌, ℕ, ◌+◌, List, [], ◌∷◌, ◌++◌, refl, sym, ap, ◌∙◌, subst, arith, inl, inr, ⊎_elim, Result, Ok, Err, IfOk, OnOk}
+use Rattle.std.specs.Global.{Global}
+use Rattle.std.specs.Prelude.{String}
 use Rattle.iddqd_run.specs.Answer as answer
 use Rattle.iddqd_run.specs.Answer.{RepliesWithRefusals, replies, line_reply, entries_after}
 use Rattle.idtable_lines.specs.Lines.{Request, request_of}
-use Rattle.iddqd_run.specs.Shown.{reply_text, refusals_of, AnswersInText, AnswersRequest, ShowsEntries, WritesReply}
+use Rattle.iddqd_run.specs.Shown.{reply_text, refusals_of, AppendsBytes, line_of, AnswersInText, AnswersRequest, ShowsEntries, Replies}
 use Rattle.idtable_lines.specs.declared.arguments.Kind.{Kind}
 use Rattle.iddqd_run.specs.declared.entries.Entry.{Entry}
 use Rattle.iddqd_run.specs.declared.entries.LineReply.{LineReply}
@@ -39,7 +41,7 @@ module _ (kind : Kind) (request : Request) (old new : List Entry) where
   in_text reply answers = λ entries shows. inl (refl, answers entries shows)
 
   -- a reply that was written as a line
-  pub written : {E : Type 0} (reply : LineReply) (before after : List ℕ) (result : Result ℕ E) → AnswersRequest kind request old reply new → IfOk result (λ refusals. refusals ≡ refusals_of reply) → OnOk result (after ≡ before ++ (reply_text reply ++ 10 ∷ [])) → IfOk result (λ refusals. WritesReply kind request old refusals new before after)
+  pub written : {E : Type 0} (reply : LineReply) (before after : String Global) (result : Result ℕ E) → AnswersRequest kind request old reply new → IfOk result (λ refusals. refusals ≡ refusals_of reply) → OnOk result (AppendsBytes (line_of (reply_text reply)) before after) → IfOk result (Replies kind request old new before after)
   written reply before after (Ok refusals) answers count line = record { reply = reply_text reply; written = line; answers = subst (λ n. AnswersInText kind request old n (reply_text reply) new) (sym count) (in_text reply answers) }
   written reply before after (Err e) answers count line = tt
 

@@ -68,8 +68,15 @@ abbrev pub end_text : Option Entry → List ℕ
 end_text None = codes "none"
 end_text (Some entry) = name_of entry ++ codes " " ++ decimal entry.1
 
-abbrev pub last_of : List Entry → Option Entry
-last_of entries = slice_get entries (length entries - 1)
+-- the number of entries, and each of them (`list`)
+abbrev pub whole_list : List Entry → List ℕ
+whole_list entries = codes "list " ++ decimal (length entries) ++ list_text entries
+
+abbrev pub last_of : {T : Type 0} → List T → Option T
+last_of xs = slice_get xs (length xs - 1)
+
+abbrev pub without_last : {T : Type 0} → List T → List T
+without_last xs = take (length xs - 1) xs
 
 -- what is so of a kind that has no ends, or of one that has
 abbrev pub by_ends : {A : Type 0} → Kind → A → A → A
@@ -90,7 +97,7 @@ module _ (kind : Kind) where
   line_reply Shrink entries = codes "ok"
   line_reply (AddAll pairs) entries = if lacks_room pairs entries then codes "refused capacity" else (let count = how_many_fit pairs entries in added_text count (drop count pairs) (all_placed (take count pairs) entries))
   line_reply Len entries = decimal (length entries)
-  line_reply ListAll entries = codes "list " ++ decimal (length entries) ++ list_text entries
+  line_reply ListAll entries = whole_list entries
   line_reply First entries = by_ends kind (codes "unsupported") (end_text (slice_get entries 0))
   line_reply Last entries = by_ends kind (codes "unsupported") (end_text (last_of entries))
   line_reply PopFirst entries = by_ends kind (codes "unsupported") (end_text (slice_get entries 0))
@@ -114,7 +121,7 @@ module _ (kind : Kind) where
   entries_after First entries = entries
   entries_after Last entries = entries
   entries_after PopFirst entries = by_ends kind entries (drop 1 entries)
-  entries_after PopLast entries = by_ends kind entries (take (length entries - 1) entries)
+  entries_after PopLast entries = by_ends kind entries (without_last entries)
   entries_after Bad entries = entries
 
   -- the replies to lines, from some entries on, each ended by the byte 10

@@ -1,9 +1,11 @@
 -- What `serve` has read and written, of a reader and a writer whose bytes are known.
-use Rattle.std.specs.Prelude.{ℕ, List, Option}
+use Rattle.std.specs.Prelude.{◌≡◌, ◌≢◌, ℕ, List, Option}
 use Rattle.std.specs.Io.{StartsWith}
-use Rattle.std.specs.Io.KnownBytes.{Appends, Consumes, IsAtEnd}
+use Rattle.std.specs.Io.KnownBytes.{Appends, Consumes, IsAtEnd, Keeps}
 use Rattle.iddqd_run.specs.Answer.{AnswersWithRefusals}
 use Rattle.idtable_lines.specs.declared.arguments.Kind.{Kind}
+use Rattle.iddqd_run.specs.declared.serving.Fault.{Fault}
+use Rattle.iddqd_run.specs.declared.serving.Fault.TheVariants.{Write}
 
 -- all bytes that a reader had left were read, and the text has the replies to them
 pub record AnswersAll (kind : Kind) (old new : Option (List ℕ)) (refusals : ℕ) (text : List ℕ) : Type 0 where
@@ -15,3 +17,17 @@ pub record AnswersAll (kind : Kind) (old new : Option (List ℕ)) (refusals : �
 -- a beginning of the text was appended, and nothing else
 abbrev pub AppendsBeginning : Option (List ℕ) → Option (List ℕ) → List ℕ → Type 0
 AppendsBeginning old new text = (written : List ℕ) × StartsWith text written × Appends old new written
+
+-- what a reader has left and what a writer has, before and after
+module _ {R W : Type 0} (left : R → Option (List ℕ)) (written : W → Option (List ℕ)) (kind : Kind) (reader reader' : R) (writer writer' : W) where
+  -- all input was read, the replies to it were written, and this many lines were refused memory
+  abbrev pub ServesAll : ℕ → Type 0
+  ServesAll refusals = (text : List ℕ) × AnswersAll kind (left reader) (left reader') refusals text × Appends (written writer) (written writer') text
+
+  -- if the writer failed: all input was read, and a beginning of the replies was written
+  abbrev pub ServesBeginning : Fault → Type 0
+  ServesBeginning fault = fault ≡ Write → (refusals : ℕ) × (text : List ℕ) × AnswersAll kind (left reader) (left reader') refusals text × AppendsBeginning (written writer) (written writer') text
+
+-- if something other than the writer failed, nothing was written
+abbrev pub WritesNothing : Option (List ℕ) → Option (List ℕ) → Fault → Type 0
+WritesNothing old new fault = fault ≢ Write → Keeps old new

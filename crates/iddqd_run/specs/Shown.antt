@@ -1,14 +1,17 @@
 -- What the program's own types for an entry and a reply stand for.
-use Rattle.std.specs.Prelude.{◌≡◌, ℕ, Bool, List, [], ◌∷◌, length, map, ◌++◌, ◌⊎◌, ◌==◌, nat_lt, if◌then◌else◌, decimal, codes, bytes_eq, string_bytes, String, IsPermutation}
+use Rattle.std.specs.Prelude.{◌≡◌, ℕ, Bool, List, [], ◌∷◌, length, map, ◌++◌, Option, None, Some, filter, option_copied, ◌⊎◌, ◌==◌, nat_lt, if◌then◌else◌, decimal, codes, bytes_eq, string_bytes, String, IsPermutation}
 use Rattle.std.specs.Borrow.{Bor}
-use Rattle.std.specs.Global.{Global}
+use Rattle.std.specs.Global.{Global, Vec}
+use Rattle.std.specs.Option.{option_map}
 use Rattle.iddqd_run.specs.Answer as answer
-use Rattle.iddqd.specs.Contents.{Ascends}
+use Rattle.iddqd.specs.Contents.{Ascends, find_item, items_without}
 use Rattle.iddqd.specs.Holding.{max_items}
-use Rattle.idtable_lines.specs.Lines.{Request}
-use Rattle.idtable_commands.specs.Step.{MapState}
+use Rattle.idtable_lines.specs.Lines.{Request, paired_request, pairs_of, words_of}
+use Rattle.idtable_commands.specs.Step.{MapState, VisitsItem}
 use Rattle.idtable_lines.specs.declared.arguments.Kind.{Kind}
-use Rattle.idtable_lines.specs.declared.arguments.Kind.TheVariants.{Ord}
+use Rattle.idtable_lines.specs.declared.arguments.Kind.TheVariants.{Hash, Ord}
+use Rattle.iddqd_run.specs.declared.by_name.ListStop.{ListStop}
+use Rattle.iddqd_run.specs.declared.by_name.ListStop.TheVariants.{Entries}
 use Rattle.iddqd_run.specs.declared.entries.Entry.{Entry}
 use Rattle.iddqd_run.specs.declared.entries.LineReply.{LineReply}
 use Rattle.iddqd_run.specs.declared.entries.LineReply.TheVariants.{Added, Duplicate, New, Replaced, Found, Removed, Named, Absent, Within, Length, Unsupported, Bad, RefusedCapacity, RefusedMemory, Set, Kept, Done, AddedAll, DuplicateAfter}
@@ -67,11 +70,52 @@ pub record ShowsEntries (items : List Entry) (entries : List answer.Entry) : Typ
 abbrev pub AreByName : List Entry → Type 0
 AreByName items = Ascends answer.name_of answer.name_cmp (entries_of items)
 
+-- the bytes were written to the end of a text
+abbrev pub AppendsBytes : List ℕ → String Global → String Global → Type 0
+AppendsBytes bytes before after = string_bytes after ≡ string_bytes before ++ bytes
+
+-- the text of one line
+abbrev pub line_of : List ℕ → List ℕ
+line_of bytes = bytes ++ 10 ∷ []
+
+-- the number of the items and each of them, in their order, were written to the end of a text
+abbrev pub AppendsList : List Entry → String Global → String Global → Type 0
+AppendsList items = AppendsBytes (codes "list " ++ decimal (length items) ++ answer.list_text (entries_of items))
+
 -- the entries of the items were written to the end of a text, as `list` shows them
-pub record ListsItems (items : List Entry) (before after : List ℕ) : Type 0 where
+pub record ListsItems (items : List Entry) (before after : String Global) : Type 0 where
   pub listed : List ℕ
-  pub written : after ≡ before ++ listed
-  pub shows : (entries : List answer.Entry) → ShowsEntries items entries → listed ≡ codes "list " ++ decimal (length entries) ++ answer.list_text entries
+  pub written : AppendsBytes listed before after
+  pub shows : (all : List answer.Entry) → ShowsEntries items all → listed ≡ answer.whole_list all
+
+-- the list was refused, and nothing was written: memory to sort a map that keeps no order
+abbrev pub RefusesList : Kind → String Global → String Global → ListStop → Type 0
+RefusesList kind before after stop = stop ≡ Entries → (kind ≡ Hash) × (string_bytes after ≡ string_bytes before)
+
+-- the map has those of its items that pass the test
+abbrev pub KeepsOnly : {M T : Type 0} → (M → MapState T) → (T → Bool) → M → M → Type 0
+KeepsOnly state test old new = (state new).items ≡ filter test (state old).items
+
+-- what a map holds is searched for an item whose key is the text
+module _ {M T K : Type 0} (key : T → K) (is_text : List ℕ → K → Bool) (state : M → MapState T) where
+  -- the item is lent, if there is one
+  abbrev pub FindsNamed : M → List ℕ → Option (Bor T) → Type 0
+  FindsNamed map name found = option_copied found ≡ find_item key (is_text name) (state map).items
+
+  -- the item is gone, and returned if there was one
+  pub record RemovesNamed (name : List ℕ) (old new : M) (back : Option T) : Type 0 where
+    pub back_is : back ≡ find_item key (is_text name) (state old).items
+    pub left : (state new).items ≡ items_without key (is_text name) (state old).items
+
+  -- the item is absent, and nothing has changed
+  pub record LacksNamed (name : List ℕ) (old new : M) : Type 0 where
+    pub absent : find_item key (is_text name) (state old).items ≡ None
+    pub unchanged : new ≡ old
+
+  -- the item was visited, and this is what the visit returned; or there is none, and nothing has changed
+  abbrev pub VisitsNamed : {V : Type 0} → (V → T → V × T × Bool) → List ℕ → V → V → M → M → Option Bool → Type 0
+  VisitsNamed visits name v v' old new (Some told) = VisitsItem key visits (is_text name) v v' told (state old).items (state new).items
+  VisitsNamed visits name v v' old new None = LacksNamed name old new
 
 -- the map is of the kind that has ends, and its items ascend by name
 abbrev pub HasEnds : Kind → List Entry → Type 0
@@ -110,8 +154,20 @@ module _ (kind : Kind) (request : Request) where
   AnswersInText old refusals text new = (entries : List answer.Entry) → ShowsEntries old entries
       → ((refusals ≡ 0) × AnswersPlainly entries text new) ⊎ ((refusals ≡ 1) × (text ≡ reply_text RefusedMemory) × LeavesRefused entries new)
 
-  -- the reply to the request was written to the end of a text, as a line
-  pub record WritesReply (old : List Entry) (refusals : ℕ) (new : List Entry) (before after : List ℕ) : Type 0 where
+  -- the reply to the request was written to the end of the text, as a line, and reports this many refusals of memory
+  pub record Replies (old new : List Entry) (before after : String Global) (refusals : ℕ) : Type 0 where
     pub reply : List ℕ
-    pub written : after ≡ before ++ (reply ++ 10 ∷ [])
+    pub written : AppendsBytes (line_of reply) before after
     pub answers : AnswersInText old refusals reply new
+
+-- the text is the replies to the input, with this many lines refused memory
+abbrev pub AnswersAsText : Kind → List ℕ → String Global × ℕ → Type 0
+AnswersAsText kind input (text, refusals) = answer.AnswersWithRefusals kind input refusals (string_bytes text)
+
+-- what a line asks that adds the pairs that these fields are
+abbrev pub adding_asked : List ℕ → Request
+adding_asked fields = paired_request (pairs_of (words_of fields))
+
+-- the entries are of the pairs that these fields are; there are none if the fields follow no form
+abbrev pub IsPairs : List ℕ → Option (Vec Entry) → Type 0
+IsPairs fields made = option_map (λ entries. entries_of entries.items) made ≡ pairs_of (words_of fields)

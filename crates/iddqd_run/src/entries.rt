@@ -1,9 +1,9 @@
 //! The entries that lines put into a map, and the replies to lines.
-ghost use Rattle.std.specs.Prelude.{◌≡◌, ◌++◌, ◌∷◌, [], IfOk, OnOk, Some, true, nat_lt, codes, decimal, string_bytes};
+ghost use Rattle.std.specs.Prelude.{◌≡◌, ◌++◌, ◌∷◌, [], IfOk, OnOk, Some, true, nat_lt, codes, decimal};
 ghost use Rattle.iddqd_run.specs.Answer.{list_text};
-ghost use Rattle.iddqd_run.specs.Shown.{entry_of, refusals_of, reply_text};
+ghost use Rattle.iddqd_run.specs.Shown.{AppendsBytes, entry_of, line_of, refusals_of, reply_text};
 
-use crate::table::Keeps;
+use crate::by_name::Keeps;
 use iddqd::{IdHashItem, IdOrdItem, Visit};
 use std::alloc::AllocError;
 use std::fmt::{self, Display, Formatter, Write};
@@ -147,7 +147,7 @@ impl Display for LineReply<'_> {
 /// Writes the reply as a line of its own, and returns how many refusals of memory it reports.
 pub(crate) fn write_reply(text: &mut String, reply: LineReply<'_>) -> Result<u64, AllocError>
     ensures refusals { IfOk result (λ refusals. refusals ≡ refusals_of reply.entry) }
-    ensures line { OnOk result (string_bytes text.new ≡ string_bytes text.old ++ (reply_text reply.entry ++ 10 ∷ [])) }
+    ensures line { OnOk result (AppendsBytes (line_of (reply_text reply.entry)) text.old text.new) }
 {
     writeln!(text, "{reply}")?;
     Ok(reply.refusals())
@@ -155,7 +155,7 @@ pub(crate) fn write_reply(text: &mut String, reply: LineReply<'_>) -> Result<u64
 
 /// Begins a list of this many entries.
 pub(crate) fn begin_list(text: &mut String, count: usize) -> Result<(), AllocError>
-    ensures { OnOk result (string_bytes text.new ≡ string_bytes text.old ++ (codes "list " ++ decimal count)) }
+    ensures { OnOk result (AppendsBytes (codes "list " ++ decimal count) text.old text.new) }
 {
     write!(text, "list {count}")?;
     Ok(())
@@ -163,7 +163,7 @@ pub(crate) fn begin_list(text: &mut String, count: usize) -> Result<(), AllocErr
 
 /// Writes one entry of a list.
 pub(crate) fn write_entry(text: &mut String, entry: &Entry) -> Result<(), AllocError>
-    ensures { OnOk result (string_bytes text.new ≡ string_bytes text.old ++ list_text (entry_of entry.now ∷ [])) }
+    ensures { OnOk result (AppendsBytes (list_text (entry_of entry.now ∷ [])) text.old text.new) }
 {
     let Entry { name, value } = entry;
     write!(text, " {name}={value}")?;

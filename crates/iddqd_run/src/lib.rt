@@ -3,6 +3,7 @@
 
 mod adding;
 mod answering;
+mod by_name;
 mod ends;
 mod entries;
 mod requests;

@@ -1,10 +1,11 @@
 //! From a reader to a writer.
-ghost use Rattle.std.specs.Prelude.{◌≡◌, ◌≢◌, ℕ, List, OnOk, OnErr, IfOk, IfErr};
-ghost use Rattle.std.specs.Io.KnownBytes.{Appends, Consumes, IsAtEnd, Keeps};
-ghost use Rattle.iddqd_run.specs.Served.{AnswersAll, AppendsBeginning};
+ghost use Rattle.std.specs.Prelude.{◌≡◌, ◌≢◌, OnOk, OnErr, IfOk, IfErr};
+ghost use Rattle.std.specs.Io.KnownBytes.{Appends, Consumes, IsAtEnd};
+ghost use Rattle.iddqd_run.specs.Served.{AppendsBeginning, ServesAll, ServesBeginning, WritesNothing};
 ghost use Rattle.iddqd_run.specs.Words.{text_for};
 
 use crate::answering::answer;
+use crate::table::Table;
 use iddqd::{IdHashMap, IdOrdMap};
 use idtable_lines::Kind;
 use std::alloc::Global;
@@ -44,14 +45,14 @@ pub fn serve<R: Read, W: Write>(
     reader: &mut R,
     writer: &mut W,
 ) -> Result<u64, Fault>
-    ensures answered { IfOk result (λ refusals. (text : List ℕ) × AnswersAll kind (R.remaining reader.old) (R.remaining reader.new) refusals text × Appends (W.contents writer.old) (W.contents writer.new) text) }
-    ensures begun { IfErr result (λ fault. fault ≡ Fault.Write → (refusals : ℕ) × (text : List ℕ) × AnswersAll kind (R.remaining reader.old) (R.remaining reader.new) refusals text × AppendsBeginning (W.contents writer.old) (W.contents writer.new) text) }
-    ensures unwritten { IfErr result (λ fault. fault ≢ Fault.Write → Keeps (W.contents writer.old) (W.contents writer.new)) }
+    ensures answered { IfOk result (ServesAll R.remaining W.contents kind reader.old reader.new writer.old writer.new) }
+    ensures begun { IfErr result (ServesBeginning R.remaining W.contents kind reader.old reader.new writer.old writer.new) }
+    ensures unwritten { IfErr result (WritesNothing (W.contents writer.old) (W.contents writer.new)) }
 {
     let input = read_whole(alloc, reader)?;
     let answered = match kind {
-        Kind::Hash => answer(alloc, IdHashMap::new(alloc), input.as_slice()),
-        Kind::Ord => answer(alloc, IdOrdMap::new(alloc), input.as_slice()),
+        Kind::Hash => answer(alloc, Table::new(IdHashMap::new(alloc)), input.as_slice()),
+        Kind::Ord => answer(alloc, Table::new(IdOrdMap::new(alloc)), input.as_slice()),
     };
     let Ok((text, refusals)) = answered else {
         return Err(Fault::Memory);

@@ -3,7 +3,7 @@ use Rattle.std.proofs.lemmas.Bool.{eqb-true}
 use Rattle.std.proofs.lemmas.List.{nil_from_length}
 use Rattle.iddqd_run.specs.Answer.{RepliesWithRefusals}
 use Rattle.idtable_lines.specs.Lines.{lines_of}
-use Rattle.iddqd_run.specs.Shown.{WritesReply}
+use Rattle.iddqd_run.specs.Shown.{Replies}
 use Rattle.iddqd_run.proofs.ReplyLemmas.{line_step, plain_replies}
 use Rattle.iddqd_run.proofs.ShownLemmas.{nothing_shown}
 use Rattle.iddqd_run.proofs.answering.answer.Goals as goal
@@ -14,9 +14,8 @@ joined front reply text = sym (append_assoc front (reply ++ 10 ∷ []) text ∙ 
 pub loop-rest-init : goal.loop-rest-init
 loop-rest-init g c = let kind = g.M.ByName.kind in record {
   entries = [];
-  shows = nothing_shown (g.M.KeyedMap.state c.args.map).items c.requires.empty;
+  shows = nothing_shown c.args.table c.requires.empty;
   replied = λ more text later. subst (λ bytes. RepliesWithRefusals kind (lines_of c.args.input.now) [] (0 + more) (bytes ++ text)) (sym c.new-text.ensures.bytes) (subst (λ n. RepliesWithRefusals kind (lines_of c.args.input.now) [] n text) (sym (zero-add more)) later);
-  table = c.requires.table;
   counted = omega arith;
 }
 
@@ -27,12 +26,12 @@ loop-rest-preserved g c =
     let line = c.first_line.result.0.now in
     let after = c.first_line.result.1.now in
     let refusals = c.in_ok-refusals.field-0 in
-    let old = (g.M.KeyedMap.state c.loop-rest.map).items in
-    let new = (g.M.KeyedMap.state c.answer_line.new.map).items in
+    let old = c.loop-rest.table in
+    let new = c.answer_line.new.self in
     let input = c.args.input.now in
     let front = string_bytes c.loop-rest.text in
     let line_text = string_bytes c.answer_line.new.text in
-    let answered = subst (λ request. WritesReply kind request old refusals new front line_text) c.parse.ensures c.in_ok-refusals.ensures.answered in
+    let answered = subst (λ request. Replies kind request old new c.loop-rest.text c.answer_line.new.text refusals) c.parse.ensures c.in_ok-refusals.ensures in
     let reply = answered.reply in
     let step = line_step kind line (lines_of after) old new kept.entries kept.shows refusals reply answered.answers in
     record {
@@ -44,7 +43,6 @@ loop-rest-preserved g c =
           let count : c.loop-rest.refusals + (refusals + more) ≡ c.loop-rest.refusals + refusals + more = omega arith in
           let bytes : front ++ (reply ++ 10 ∷ text) ≡ line_text ++ text = joined front reply text ∙ ap (λ bs. bs ++ text) (sym answered.written) in
           subst (λ n. RepliesWithRefusals kind (lines_of input) [] n (line_text ++ text)) count (subst (λ bs. RepliesWithRefusals kind (lines_of input) [] (c.loop-rest.refusals + (refusals + more)) bs) bytes all);
-      table = c.answer_line.ensures.table;
       counted = omega (arith, kept.counted, c.first_line.ensures.shorter, step.few);
     }
 

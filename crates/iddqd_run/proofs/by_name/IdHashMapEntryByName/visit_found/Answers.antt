@@ -1,0 +1,13 @@
+use Rattle.std.proofs.Common.{rules}
+use Rattle.iddqd_run.proofs.by_name.IdHashMapEntryByName.visit_found.Goals as goal
+
+pub returns-clause-visited : goal.returns-clause-visited
+returns-clause-visited g c =
+    let written = c.in_ok-found.ensures.written c.visit-answer.new.item in
+    (c.deref_mut.result.now, c.visit-answer.new.item, search rules, c.visit-answer.ensures, search rules)
+
+pub get_mut-requires-clause-keyed : goal.get_mut-requires-clause-keyed
+get_mut-requires-clause-keyed g c = search rules
+
+pub get_mut-requires-clause-hashes : goal.get_mut-requires-clause-hashes
+get_mut-requires-clause-hashes g c = search rules
