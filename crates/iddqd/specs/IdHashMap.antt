@@ -3,13 +3,12 @@
 --     differ_from_keyed, default_hash, text_writes      what that tells, and what the default hasher returns
 --     HashItems, holding_of, of_stored_hash, of_same_hash      what contracts see of a map
 --     HashesAsKeys      a query hashes as the keys that it stands for
---     IsFound, HasItemOf      an item is found, has the place of its key
 --     HashStays      what stays in each call that changes a keyed map: it is keyed, keeps the spare, and has the same hasher
 --     HashInserts, HashKeeps      an item was inserted; nothing has changed but the room, which may have grown
 --     HashFills, HashShrinks      items were inserted; the slots were closed up, and memory was given back
 --     IsEmptyMap, HasNoItems, SpareFits, KeepsSpare      no item and no room; no item; the room fits the limit; the spare stays
 --     Reserves, LacksRoomFor      room was made, or refused
---     InsertsNew, ReplacesIfFound      what `insert_overwrite` leaves
+--     HashOverwrites, map_overwritten      an item replaced the one of an equal key, or was inserted
 --     OverwritesGiven, StopsOverwriting, SpareFirst, KeepsIfNoItem      what `extend` leaves
 --     Collects, CollectsUnique, IsCollected      what a map collects
 --     RefusesItem, ShowsConflict      what `insert_unique` and `extend_unique` show
@@ -30,7 +29,7 @@
 --     WalkKeeps, WalkKeepsAkin, walk_lends      what a step of such a walk leaves
 unfoldable pub use Rattle.iddqd_hash.specs.HashItems.{IsKeyed}
 pub use Rattle.iddqd_hash.specs.HashItems.{HashItems, HashesAsKeys, IsKeyedByText, default_hash, differ_from_keyed, holding_of, of_same_hash, of_stored_hash, text_writes}
-pub use Rattle.iddqd_hash.specs.HashMap.{CloneHashesAlike, Collects, CollectsUnique, FindsEqual, HasItemOf, HasNoItems, HashFills, HashHandsBack, HashInserts, HashKeeps, HashShrinks, HashStays, HaveEqualItems, InsertsNew, IsCollected, IsEmptyMap, IsFound, KeepsIfNoItem, KeepsSpare, LacksRoomFor, OverwritesGiven, RefusesItem, ReplacesIfFound, Reserves, ShowsConflict, SpareFirst, SpareFits, StopsOverwriting, ends_hash_extended, ends_hash_inserted, lends_nothing}
+pub use Rattle.iddqd_hash.specs.HashMap.{CloneHashesAlike, Collects, CollectsUnique, FindsEqual, HasNoItems, HashFills, HashHandsBack, HashInserts, HashKeeps, HashOverwrites, HashShrinks, HashStays, HaveEqualItems, IsCollected, IsEmptyMap, KeepsIfNoItem, KeepsSpare, LacksRoomFor, OverwritesGiven, RefusesItem, Reserves, ShowsConflict, SpareFirst, SpareFits, StopsOverwriting, ends_hash_extended, ends_hash_inserted, lends_nothing, map_overwritten}
 pub use Rattle.iddqd_hash.specs.Guard.{GuardFinds, GuardKeeps, GuardKeepsAkin, GuardOverwrites, guard_follows, item_follows, lends_item, lent_item, lent_map, guard_lender, lent_slot, lent_with, rests_at_none, shown_item, shown_map, shown_lender, with_item_in}
 pub use Rattle.iddqd_hash.specs.declared.id_hash_map.entry.Entry.TheVariants.{Occupied, Vacant}
 pub use Rattle.iddqd_hash.specs.Entry.{EntersInserted, EntryKeeps, EntryKeepsAkin, EntryHandsBack, HasKeyOf, IsEntryFor, IsEntryOf, LacksKeyOf, LacksKeysOf, LendsFound, LendsIfOccupied, LendsIfVacant, LendsInserted, LendsMade, VisitsEntry, PassesTest, RemovesAt, VisitKeepsKey, enters_or_keeps, entry_follows, entry_item, entry_map, entry_lender, entry_others, entry_slot, entry_with, lends_or_keeps, rests_if_refused}

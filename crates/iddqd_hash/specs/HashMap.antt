@@ -11,8 +11,7 @@
 --     HashShrinks      the slots were closed up, and memory was given back
 --     TakesSlot, LosesPlaceOf      an inserted item has this slot; a slot is gone
 -- Searches, insertions and refusals:
---     IsFound, HasItemOf      what a search finds, the item of a key
---     ReplacesIfFound, InsertsNew      what `insert_overwrite` leaves, if it finds an item and if it finds none
+--     HashOverwrites, map_overwritten      the item replaced the one of an equal key, which is returned, or was inserted
 --     RefusesItem, HashHandsBack      a refused item is returned, beside the existing one or because there is no room
 -- Many items:
 --     OverwritesGiven, StopsOverwriting, SpareFirst, KeepsIfNoItem      what `extend` leaves
@@ -108,10 +107,6 @@ module _ {S T : Type 0} where
       pub fills : FillsSlots (holding_of old) (holding_of new)
       pub stays : HashStays old new
 
-    -- if no item was found, x was inserted
-    abbrev pub InsertsNew : T → HashItems S T → HashItems S T → Option T → Type 0
-    InsertsNew x old new found = IfNone found (HashInserts x old new)
-
     -- if the error has no item, nothing has changed but the room
     abbrev pub KeepsIfNoItem : HashItems S T → HashItems S T → ExtendError T → Type 0
     KeepsIfNoItem old new e = IfNone e.item (HashKeeps old new)
@@ -143,19 +138,10 @@ module _ {S T K : Type 0} (key : T → K) (key_eq : K → K → Bool) (eq : T �
     pub as_many : length one.items ≡ length other.items
     pub each_found : All (FindsEqual other) one.items
 
-module _ {S T K : Type 0} (key : T → K) where
-  -- a search through the list of items finds this
-  abbrev pub IsFound : (K → Bool) → HashItems S T → Option T → Type 0
-  IsFound test m found = found ≡ find_item key test m.items
-
 module _ {S T K : Type 0} (key : T → K) (eq : K → K → Bool) where
-  -- x is the item that its key finds
-  abbrev pub HasItemOf : T → HashItems S T → Type 0
-  HasItemOf x m = find_item key (eq (key x)) m.items ≡ Some x
-
-  -- if an item was found, x stands in its place, and all else is as it was
-  abbrev pub ReplacesIfFound : T → HashItems S T → HashItems S T → Option T → Type 0
-  ReplacesIfFound x old new found = OnSome found (new ≡ record old { items = items_overwritten key (eq (key x)) x old.items })
+  -- the map with x in place of the item of an equal key
+  abbrev pub map_overwritten : T → HashItems S T → HashItems S T
+  map_overwritten x m = record m { items = items_overwritten key (eq (key x)) x m.items }
 
   -- the same words as of an ordered map, of what the map holds
   abbrev pub RefusesItem : HashItems S T → T → InsertError T → Type 0
@@ -182,6 +168,13 @@ module _ {S T K : Type 0} (key : T → K) (eq : K → K → Bool) where
 
     abbrev pub ShowsConflict : HashItems S T → ExtendUniqueError T → Type 0
     ShowsConflict old = adding.ShowsConflict key eq becomes steps iter (holding_of old)
+
+-- x replaced the item of an equal key, which is returned, or was inserted if there was none
+pub record HashOverwrites {S T K : Type 0} (key : T → K) (eq : K → K → Bool) (IsKeyed : HashItems S T → Type 0) (x : T) (old new : HashItems S T) (back : Option T) : Type 0 where
+  pub found : back ≡ find_item key (eq (key x)) old.items
+  pub replaced : OnSome back (new ≡ map_overwritten key eq x old)
+  pub inserted : IfNone back (HashInserts IsKeyed x old new)
+  pub there : find_item key (eq (key x)) new.items ≡ Some x
 
 -- x was refused room, since nothing was spare, and is returned
 pub record HashHandsBack {S T K : Type 0} (key : T → K) (eq : K → K → Bool) (m : HashItems S T) (x : T) (refused : Refused T) : Type 0 where

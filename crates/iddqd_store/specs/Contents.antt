@@ -2,8 +2,9 @@
 -- no part.
 --     key      the key that an item shows, by the item's value alone
 --     a test of keys      what a query returns for each key; for a key as a query, the key's own `==`
+use Rattle.std.specs.Borrow.{Bor}
 use Rattle.std.specs.declared.cmp.Ordering.{Ordering}
-use Rattle.std.specs.Prelude.{◌≡◌, ℕ, ◌<◌, ◌≤◌, Bool, true, not, List, Option, Some, None, length, map, filter, find, insert, IsPermutation, ◌∷◌, ◌++◌, if◌then◌else◌}
+use Rattle.std.specs.Prelude.{◌≡◌, ℕ, ◌<◌, ◌≤◌, Bool, true, not, List, Option, Some, None, length, map, filter, find, insert, option_copied, IsPermutation, ◌∷◌, ◌++◌, if◌then◌else◌}
 use Rattle.std.specs.List.{IsDistinct}
 use Rattle.std.specs.List.Sorted.{IsStrictlySortedBy}
 use Rattle.std.specs.Ordering.{is_lt}
@@ -34,6 +35,10 @@ module _ {T K : Type 0} (key : T → K) where
   -- the item whose key passes the test, or none (`get`)
   abbrev pub find_item : (K → Bool) → List T → Option T
   find_item test items = find (λ x. test (key x)) items
+
+  -- a search finds this item and lends it, or there is none (`get`)
+  abbrev pub Finds : (K → Bool) → List T → Option (Bor T) → Type 0
+  Finds test items lent = option_copied lent ≡ find_item test items
 
   -- no item's key passes the test
   abbrev pub IsAbsent : (K → Bool) → List T → Type 0

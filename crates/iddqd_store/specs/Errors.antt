@@ -1,7 +1,9 @@
 -- What a contract reads of an error.
 --     values_of few      the values of a `Few`, in order
 --     new_item_of, duplicates_of      what a `DuplicateItem` holds
-use Rattle.std.specs.Prelude.{List, [], ◌∷◌}
+--     OwnsDuplicatesOf      what `into_owned` returns
+use Rattle.std.specs.Borrow.{Bor}
+use Rattle.std.specs.Prelude.{◌≡◌, List, [], ◌∷◌, map}
 use Rattle.iddqd_store.specs.declared.errors.Few.{Few}
 use Rattle.iddqd_store.specs.declared.errors.Few.TheVariants.{One, Two, Three}
 use Rattle.iddqd_store.specs.declared.errors.DuplicateItem.{DuplicateItem}
@@ -20,3 +22,7 @@ module _ {T D : Type 0} where
   -- the existing items of an equal key
   abbrev pub duplicates_of : DuplicateItem T D → List D
   duplicates_of d = values_of d.duplicates
+
+-- the same error, with the values themselves in place of references to them
+abbrev pub OwnsDuplicatesOf : {T : Type 0} → DuplicateItem T (Bor T) → DuplicateItem T T → Type 0
+OwnsDuplicatesOf lent owned = duplicates_of owned ≡ map (λ one. one.now) (duplicates_of lent)

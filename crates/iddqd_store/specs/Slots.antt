@@ -41,6 +41,22 @@ module _ {T : Type 0} where
 abbrev pub links_without : (ℕ → Option (ℕ × ℕ)) → ℕ → ℕ → Option (ℕ × ℕ)
 links_without links at slot = if slot == at then None else links slot
 
+-- all links but those of one slot stay; all stay if there is no such slot
+abbrev pub KeepsOtherLinks : (ℕ → Option (ℕ × ℕ)) → (ℕ → Option (ℕ × ℕ)) → ℕ → Type 0
+KeepsOtherLinks old new at = (s : ℕ) → (at ≢ no_slot → s ≢ at) → new s ≡ old s
+
+-- the slot's next is this, if there is such a slot
+abbrev pub SetsNext : (ℕ → Option (ℕ × ℕ)) → (ℕ → Option (ℕ × ℕ)) → ℕ → ℕ → Type 0
+SetsNext old new at next = at ≢ no_slot → (p n : ℕ) → old at ≡ Some (p, n) → new at ≡ Some (p, next)
+
+-- the slot's previous is this, if there is such a slot
+abbrev pub SetsPrevious : (ℕ → Option (ℕ × ℕ)) → (ℕ → Option (ℕ × ℕ)) → ℕ → ℕ → Type 0
+SetsPrevious old new at previous = at ≢ no_slot → (p n : ℕ) → old at ≡ Some (p, n) → new at ≡ Some (previous, n)
+
+-- the next of a vacant slot names it as its previous, and has a lower rank
+abbrev pub LinksBack : (ℕ → Option (ℕ × ℕ)) → (ℕ → ℕ) → (s n : ℕ) → Type 0
+LinksBack links rank s n = (m : ℕ) × (links n ≡ Some (s, m)) × (rank n < rank s)
+
 -- the links (previous, next) of the vacant slots form one chain from `first`. A rank falls along it, so it ends
 pub record IsChained (links : ℕ → Option (ℕ × ℕ)) (first : ℕ) : Type 0 where
   pub rank : ℕ → ℕ
@@ -51,7 +67,7 @@ pub record IsChained (links : ℕ → Option (ℕ × ℕ)) (first : ℕ) : Type 
   pub head : first ≢ no_slot → (n : ℕ) × (links first ≡ Some (no_slot, n))
   pub start : (s n : ℕ) → links s ≡ Some (no_slot, n) → s ≡ first
   -- the next names this one as its previous, and the previous names it as its next
-  pub forth : (s p n : ℕ) → links s ≡ Some (p, n) → n ≢ no_slot → (m : ℕ) × (links n ≡ Some (s, m)) × (rank n < rank s)
+  pub forth : (s p n : ℕ) → links s ≡ Some (p, n) → n ≢ no_slot → LinksBack links rank s n
   pub back : (s p n : ℕ) → links s ≡ Some (p, n) → p ≢ no_slot → (q : ℕ) × (links p ≡ Some (q, s))
   pub below : (s p n : ℕ) → links s ≡ Some (p, n) → rank s < top
 

@@ -2,7 +2,7 @@
 ghost use Rattle.std.specs.Prelude.{◌≡◌, ◌↔◌, IsTrue, IfOk, IfErr, Some, map, length, slice_get, option_copied};
 ghost use Rattle.std.specs.Iterator.{YieldsFirstRef, item_count};
 ghost use Rattle.iddqd_store.specs.Contents.{ClonesAreEqual};
-ghost use Rattle.iddqd_store.specs.Errors.{new_item_of, duplicates_of, values_of};
+ghost use Rattle.iddqd_store.specs.Errors.{OwnsDuplicatesOf, new_item_of, duplicates_of, values_of};
 ghost use Rattle.iddqd_store.specs.Refusal.{limit_refused, memory_refused};
 
 use std::alloc;
@@ -201,7 +201,7 @@ impl<'a, T: Clone> DuplicateItem<T, &'a T> {
     pub fn into_owned(self) -> Result<DuplicateItem<T>, Self>
         requires clones { ClonesAreEqual T.is_clone }
         ensures new { IfOk result (λ owned. new_item_of owned ≡ new_item_of self.entry) }
-        ensures duplicates { IfOk result (λ owned. duplicates_of owned ≡ map (λ lent. lent.now) (duplicates_of self.entry)) }
+        ensures duplicates { IfOk result (OwnsDuplicatesOf self.entry) }
         ensures back { IfErr result (λ back. back ≡ self.entry) }
     {
         match self.duplicates.cloned() {

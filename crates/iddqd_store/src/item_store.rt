@@ -5,7 +5,7 @@ mod room;
 
 ghost use Rattle.std.specs.Prelude.{◌≡◌, ◌+◌, ◌-◌, ◌<◌, ◌≤◌, [], length, IfSome, IfNone, IfOk, Some, None, OnSome, option_copied, slice_set, vec_capacity, Err};
 ghost use Rattle.std.specs.Borrow.{sem};
-ghost use Rattle.iddqd_store.specs.Store.{item_at, IsOccupied, store_len, vacant, HasRoomFor, Updates, SameItems, MovesLast, EndsOccupied, IsStoreClone};
+ghost use Rattle.iddqd_store.specs.Store.{item_at, IsOccupied, store_len, vacant, HasRoomFor, Updates, SameItems, MovesLast, EndsOccupied, IsStoreClone, with_item};
 
 use crate::errors::TryReserveError;
 use chain::{NO_SLOT, Slot, fill_first, vacate};
@@ -174,7 +174,7 @@ impl<T> ItemStore<T> {
     pub fn replace(&mut self, slot: u32, item: T) -> T
         requires { IsOccupied self.old slot }
         ensures item { item_at self.old slot ≡ Some result }
-        ensures store { self.new ≡ record self.old { slots = slice_set self.old.slots slot (Some item) } }
+        ensures store { self.new ≡ with_item self.old slot item }
         ensures len { store_len self.new ≡ store_len self.old }
         ensures vacant { vacant self.new ≡ vacant self.old }
     {

@@ -51,9 +51,15 @@ impl<T: IdHashItem, S: BuildHasher> IdHashMap<T, S> {
         T: Drop,
         requires keyed { ⟦<Self as Keyed>⟧.keyed self.old }
         requires ends { IsFinite U.into_iter_gives U.IntoIter.can_next U.IntoIter.remaining iter }
+
+        // on success
         ensures added { OnOk result (AddsEach T.key T.Key.eq U.into_iter_gives U.IntoIter.next_gives iter self.old self.new) }
+
+        // on a halt
         ensures halted { IfErr result (HaltsEach T.key T.Key.eq U.into_iter_gives U.IntoIter.next_gives iter self.old self.new) }
         ensures spare_first { IfErr result (OnItemBack (HasSpareFirst self.old self.new)) }
+
+        // either way
         ensures fills { HashFills ⟦<Self as Keyed>⟧.keyed self.old self.new }
     {
         let items = iter.into_iter();

@@ -1,6 +1,6 @@
 //! Lookups and removals.
-ghost use Rattle.std.specs.Prelude.{◌≡◌, ◌+◌, ◌≤◌, IfNone, option_copied, is_some};
-ghost use Rattle.iddqd_store.specs.Contents.{find_item, items_without};
+ghost use Rattle.std.specs.Prelude.{◌≡◌, ◌+◌, ◌≤◌, IfNone, is_some};
+ghost use Rattle.iddqd_store.specs.Contents.{Finds, find_item, items_without};
 ghost use Rattle.iddqd_store.specs.Holding.{Removes};
 
 use super::store_and_index::{find_slot, take_out};
@@ -18,7 +18,7 @@ impl<T: IdHashItem, S: BuildHasher> IdHashMap<T, S> {
     pub fn get<Q: Hash + Equivalent<T::Key>>(&self, query: &Q) -> Option<&T>
         requires keyed { ⟦<Self as Keyed>⟧.keyed self.now }
         requires hashes { HashesAsKeys Q.equivalent Q.hash_input T.Key.hash_input query.now }
-        ensures found { option_copied result ≡ find_item T.key (Q.equivalent query.now) self.now.items }
+        ensures found { Finds T.key (Q.equivalent query.now) self.now.items result }
         ensures spare { SpareFits self.now }
     {
         self.get_counted(query, &mut Steps::new())
@@ -36,7 +36,7 @@ impl<T: IdHashItem, S: BuildHasher> IdHashMap<T, S> {
         requires hashes { HashesAsKeys Q.equivalent Q.hash_input T.Key.hash_input query.now }
 
         // what is found
-        ensures found { option_copied result ≡ find_item T.key (Q.equivalent query.now) self.now.items }
+        ensures found { Finds T.key (Q.equivalent query.now) self.now.items result }
         ensures spare { SpareFits self.now }
 
         // comparisons

@@ -11,7 +11,7 @@ use iddqd_store::{DuplicateItem, Few, IdHashItem, InsertError, Refused};
 use std::hash::BuildHasher;
 
 impl<T: IdHashItem, S: BuildHasher> IdHashMap<T, S> {
-    ghost use Rattle.iddqd_hash.specs.HashMap.{HasItemOf, HashHandsBack, HashInserts, HashKeeps, HashStays, InsertsNew, IsFound, RefusesItem, ReplacesIfFound, TakesSlot, ends_hash_inserted, lends_nothing};
+    ghost use Rattle.iddqd_hash.specs.HashMap.{HashHandsBack, HashInserts, HashKeeps, HashOverwrites, HashStays, RefusesItem, TakesSlot, ends_hash_inserted, lends_nothing};
 
     /// Inserts the item, if no item has an equal key. A duplicate needs no memory: the error has a reference to the
     /// existing item, and the map is unchanged. If the limit or memory refuses the item, it is returned, and no item
@@ -45,10 +45,7 @@ impl<T: IdHashItem, S: BuildHasher> IdHashMap<T, S> {
         requires keyed { ⟦<Self as Keyed>⟧.keyed self.old }
 
         // on success
-        ensures found { IfOk result (IsFound T.key (T.Key.eq (T.key item)) self.old) }
-        ensures replaced { IfOk result (ReplacesIfFound T.key T.Key.eq item self.old self.new) }
-        ensures inserted { IfOk result (InsertsNew ⟦<Self as Keyed>⟧.keyed item self.old self.new) }
-        ensures there { OnOk result (HasItemOf T.key T.Key.eq item self.new) }
+        ensures put { IfOk result (HashOverwrites T.key T.Key.eq ⟦<Self as Keyed>⟧.keyed item self.old self.new) }
 
         // on refusal
         ensures refused { IfErr result (HashHandsBack T.key T.Key.eq self.old item) }

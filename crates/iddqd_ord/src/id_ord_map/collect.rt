@@ -1,6 +1,6 @@
 //! Many items at once, from an iterator.
 ghost use Rattle.std.specs.Prelude.{◌≡◌, IfOk, IfErr, OnOk};
-ghost use Rattle.std.specs.Iterator.{IsFiniteIterable};
+ghost use Rattle.std.specs.Iterator.{IsFiniteIterable as IsFinite};
 ghost use Rattle.iddqd_store.specs.Collecting.{Collects, CollectsUnique, GivesThen, OverwritesGiven, ShowsAkin, ShowsFirstRepeat};
 ghost use Rattle.iddqd_store.specs.Contents.{Ascends, IsAbsent};
 ghost use Rattle.iddqd_store.specs.Holding.{FillsSlots};
@@ -26,7 +26,7 @@ impl<T: IdOrdItem> IdOrdMap<T> {
     where
         T: Drop,
         requires keyed { Ascends T.key T.Key.cmp self.old.items }
-        requires ends { IsFiniteIterable U.into_iter_gives U.IntoIter.can_next U.IntoIter.remaining iter }
+        requires ends { IsFinite U.into_iter_gives U.IntoIter.can_next U.IntoIter.remaining iter }
 
         // on success
         ensures taken { OnOk result (OverwritesGiven T.key T.Key.eq U.into_iter_gives U.IntoIter.next_gives iter self.old self.new) }
@@ -65,7 +65,7 @@ impl<T: IdOrdItem> IdOrdMap<T> {
     ) -> Result<Self, TryReserveError>
     where
         T: Drop,
-        requires ends { IsFiniteIterable U.into_iter_gives U.IntoIter.can_next U.IntoIter.remaining iter }
+        requires ends { IsFinite U.into_iter_gives U.IntoIter.can_next U.IntoIter.remaining iter }
         ensures items { IfOk result (Collects T.key T.Key.eq U.into_iter_gives U.IntoIter.next_gives iter) }
         ensures vacant { IfOk result (λ m. m.vacant ≡ 0) }
         ensures limit { IfOk result (λ m. m.limit ≡ MAX_ITEMS) }
@@ -88,7 +88,7 @@ impl<T: IdOrdItem> IdOrdMap<T> {
     ) -> Result<Self, FromIterError<T>>
     where
         T: Drop,
-        requires ends { IsFiniteIterable U.into_iter_gives U.IntoIter.can_next U.IntoIter.remaining iter }
+        requires ends { IsFinite U.into_iter_gives U.IntoIter.can_next U.IntoIter.remaining iter }
 
         // on success
         ensures items { IfOk result (CollectsUnique T.key T.Key.eq U.into_iter_gives U.IntoIter.next_gives iter) }

@@ -1,7 +1,7 @@
 //! Many items at once, none in place of another.
 ghost use Rattle.std.specs.Prelude.{IfErr, OnErr, OnOk};
 ghost use Rattle.std.specs.Borrow.{sem};
-ghost use Rattle.std.specs.Iterator.{IsFiniteIterable};
+ghost use Rattle.std.specs.Iterator.{IsFiniteIterable as IsFinite};
 ghost use Rattle.iddqd_store.specs.Adding.{AddsEach, HaltsAt, HaltsEach, ShowsConflict};
 ghost use Rattle.iddqd_store.specs.Contents.{Ascends, IsAbsent};
 
@@ -28,7 +28,7 @@ impl<T: IdOrdItem> IdOrdMap<T> {
     where
         T: Drop,
         requires keyed { Ascends T.key T.Key.cmp self.old.items }
-        requires ends { IsFiniteIterable U.into_iter_gives U.IntoIter.can_next U.IntoIter.remaining iter }
+        requires ends { IsFinite U.into_iter_gives U.IntoIter.can_next U.IntoIter.remaining iter }
         ensures* after { sem 𝓛 (ends_added T.row T.key T.Key.eq T.Key.cmp U.into_iter_gives U.IntoIter.next_gives iter self.entry result) }
         ensures conflict { IfErr result (ShowsConflict T.key T.Key.eq U.into_iter_gives U.IntoIter.next_gives iter self.old) }
     {
@@ -47,7 +47,7 @@ impl<T: IdOrdItem> IdOrdMap<T> {
     where
         T: Drop,
         requires keyed { Ascends T.key T.Key.cmp self.old.items }
-        requires ends { IsFiniteIterable U.into_iter_gives U.IntoIter.can_next U.IntoIter.remaining iter }
+        requires ends { IsFinite U.into_iter_gives U.IntoIter.can_next U.IntoIter.remaining iter }
         ensures added { OnOk result (AddsEach T.key T.Key.eq U.into_iter_gives U.IntoIter.next_gives iter self.old self.new) }
         ensures halted { IfErr result (HaltsEach T.key T.Key.eq U.into_iter_gives U.IntoIter.next_gives iter self.old self.new) }
         ensures fills { OrdFills T.key T.Key.cmp self.old self.new }

@@ -1,6 +1,6 @@
 //! Lookups and removals.
-ghost use Rattle.std.specs.Prelude.{◌≡◌, ◌+◌, ◌*◌, ◌<◌, ◌≤◌, length, Some, option_copied, is_some, slice_get};
-ghost use Rattle.iddqd_store.specs.Contents.{Ascends, find_item, items_without};
+ghost use Rattle.std.specs.Prelude.{◌≡◌, ◌+◌, ◌*◌, ◌<◌, ◌≤◌, length, Some, is_some, slice_get};
+ghost use Rattle.iddqd_store.specs.Contents.{Ascends, Finds, find_item, items_without};
 ghost use Rattle.iddqd_ord_index.specs.Digits.{digits};
 ghost use Rattle.iddqd_store.specs.Holding.{Removes};
 
@@ -15,7 +15,7 @@ impl<T: IdOrdItem> IdOrdMap<T> {
     #[inline]
     pub fn get<Q: Comparable<T::Key>>(&self, query: &Q) -> Option<&T>
         requires keyed { Ascends T.key T.Key.cmp self.now.items }
-        ensures { option_copied result ≡ find_item T.key (Q.equivalent query.now) self.now.items }
+        ensures { Finds T.key (Q.equivalent query.now) self.now.items result }
     {
         self.get_counted(query, &mut Steps::new())
     }
@@ -24,7 +24,7 @@ impl<T: IdOrdItem> IdOrdMap<T> {
     #[inline]
     pub fn get_counted<Q: Comparable<T::Key>>(&self, query: &Q, steps: &mut Steps) -> Option<&T>
         requires keyed { Ascends T.key T.Key.cmp self.now.items }
-        ensures found { option_copied result ≡ find_item T.key (Q.equivalent query.now) self.now.items }
+        ensures found { Finds T.key (Q.equivalent query.now) self.now.items result }
         ensures steps { steps.new ≤ steps.old + 4 + 2 * digits (length self.now.items) }
         ensures never_resets { steps.old ≤ steps.new }
     {

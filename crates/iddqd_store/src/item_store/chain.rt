@@ -1,6 +1,6 @@
 //! Slots, and the chain that links the vacant ones both ways.
 ghost use Rattle.std.specs.Prelude.{◌≡◌, ◌≢◌, ℕ, ◌<◌, IsSome, Some, None, slice_index_or, slice_set};
-ghost use Rattle.iddqd_store.specs.Slots.{no_slot, item_of, items_of, links_at, links_without, IsChained};
+ghost use Rattle.iddqd_store.specs.Slots.{no_slot, item_of, items_of, links_at, links_without, IsChained, KeepsOtherLinks, SetsNext, SetsPrevious};
 ghost use Rattle.std.specs.Borrow.{Lends, sem};
 
 use std::alloc::AllocError;
@@ -56,9 +56,8 @@ impl<T> Slot<T> {
 fn set_next<T>(slots: &mut [Slot<T>], at: u32, next: u32)
     requires { at ≢ no_slot → IsSome (links_at slots.old at) }
     ensures items { items_of slots.new ≡ items_of slots.old }
-    ensures links { at ≢ no_slot → (p n : ℕ) → links_at slots.old at ≡ Some (p, n)
-        → links_at slots.new at ≡ Some (p, next) }
-    ensures others { (s : ℕ) → (at ≢ no_slot → s ≢ at) → links_at slots.new s ≡ links_at slots.old s }
+    ensures links { SetsNext (links_at slots.old) (links_at slots.new) at next }
+    ensures others { KeepsOtherLinks (links_at slots.old) (links_at slots.new) at }
 {
     if at == NO_SLOT {
         return;
@@ -73,9 +72,8 @@ fn set_next<T>(slots: &mut [Slot<T>], at: u32, next: u32)
 fn set_previous<T>(slots: &mut [Slot<T>], at: u32, previous: u32)
     requires { at ≢ no_slot → IsSome (links_at slots.old at) }
     ensures items { items_of slots.new ≡ items_of slots.old }
-    ensures links { at ≢ no_slot → (p n : ℕ) → links_at slots.old at ≡ Some (p, n)
-        → links_at slots.new at ≡ Some (previous, n) }
-    ensures others { (s : ℕ) → (at ≢ no_slot → s ≢ at) → links_at slots.new s ≡ links_at slots.old s }
+    ensures links { SetsPrevious (links_at slots.old) (links_at slots.new) at previous }
+    ensures others { KeepsOtherLinks (links_at slots.old) (links_at slots.new) at }
 {
     if at == NO_SLOT {
         return;

@@ -1,7 +1,7 @@
 //! Making room for items, and giving it back.
 ghost use Rattle.std.specs.Prelude.{◌≡◌, ◌+◌, ◌<◌, ◌≤◌, ◌↔◌, [], IfOk, IfErr, OnOk, OnErr, Err, min, max};
 ghost use Rattle.iddqd_store.specs.Refusal.{limit_refused, memory_refused, reservation_kind};
-ghost use Rattle.iddqd_store.specs.Store.{store_len, vacant, HasRoomFor};
+ghost use Rattle.iddqd_store.specs.Store.{store_len, vacant, ExceedsCapacity, ExceedsLimit, HasRoomFor, IsEmptyStore};
 
 use super::ItemStore;
 use crate::errors::TryReserveError;
@@ -16,7 +16,7 @@ impl<T> ItemStore<T> {
         limit: u32,
         capacity: usize,
     ) -> Result<Self, TryReserveError>
-        ensures empty { IfOk result (λ s. s ≡ record { slots = []; capacity = s.capacity; limit = limit }) }
+        ensures empty { IfOk result (IsEmptyStore limit) }
         ensures room { IfOk result (λ s. capacity ≤ s.capacity) }
         ensures in_limit { OnOk result (capacity ≤ limit) }
         ensures refused { IfErr result (λ e. e ≡ reservation_kind limit capacity) }
@@ -36,8 +36,8 @@ impl<T> ItemStore<T> {
     #[inline]
     pub fn try_reserve(&mut self, additional: usize) -> Result<(), TryReserveError>
         ensures ok { OnOk result (HasRoomFor self.new additional) }
-        ensures overflow { (result ≡ Err limit_refused) ↔ (self.old.limit < store_len self.old + additional) }
-        ensures memory { result ≡ Err memory_refused → self.old.capacity < store_len self.old + additional }
+        ensures overflow { (result ≡ Err limit_refused) ↔ ExceedsLimit self.old additional }
+        ensures memory { result ≡ Err memory_refused → ExceedsCapacity self.old additional }
         ensures rest { self.new ≡ record self.old { capacity = self.new.capacity } }
         ensures capacity { self.old.capacity ≤ self.new.capacity }
     {
@@ -55,7 +55,7 @@ impl<T> ItemStore<T> {
     #[inline(never)]
     fn grow(&mut self, additional: usize) -> Result<(), TryReserveError>
         requires limit { store_len self.old + additional ≤ self.old.limit }
-        requires needed { self.old.capacity < store_len self.old + additional }
+        requires needed { ExceedsCapacity self.old additional }
 
         // on success
         ensures ok { OnOk result (HasRoomFor self.new additional) }

@@ -20,7 +20,7 @@ loop-item-preserved g c =
     let told = c.in-Ok.ensures in
     let inv = c.loop-item.invariant in
     let goes = on x c.in-Some.is c.next.ensures.goes inv.1 in
-    let put = overwritten key eq x (holding_of between) (holding_of new) inv.3.fills.slots (λ h. ap holding_of h) (λ h. h.takes) back told.found told.replaced told.inserted in (
+    let put = overwritten key eq x (holding_of between) (holding_of new) inv.3.fills.slots (λ h. ap holding_of h) (λ h. h.takes) back told.put.found told.put.replaced told.put.inserted in (
       goes.0,
       goes.1,
       overwrites_last key eq old.limit x c.loop-item.yielded old.items between.items back new.items inv.2

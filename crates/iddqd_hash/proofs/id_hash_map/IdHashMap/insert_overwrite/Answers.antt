@@ -45,9 +45,9 @@ returns-in-Some-clause-stays g c =
       hasher = ap (λ v. v.hasher) c.self.view_is;
     }
 
-pub returns-in-Some-clause-there : goal.returns-in-Some-clause-there
+pub returns-in-Some-clause-put : goal.returns-in-Some-clause-put
 unfolding IsKeyed
-returns-in-Some-clause-there g c =
+returns-in-Some-clause-put g c =
     let key = g.T.IdHashItem.key in
     let eq = g.T.Key.PartialEq.eq in
     let input = g.T.Key.Hash.hash_input in
@@ -57,22 +57,7 @@ returns-in-Some-clause-there g c =
     let x = c.exchange.result in
     let keyed = subst (KeyedItems key eq input hash) (sym c.self.view_is) c.requires.keyed in
     let found : find_item key (eq (key y)) (items_in m.store) ≡ Some x = ap (λ k. find_item key (eq k) (items_in m.store)) (sym c.key-2.ensures) ∙ sym c.in-Some.ensures.item ∙ c.exchange.ensures.item in
-    let alike = found_passes key (eq (key y)) (items_in m.store) x found in
-    let items : items_in c.exchange.new.store ≡ items_overwritten key (eq (key y)) y c.args.self.now.items = exchanged_items key eq input hash m.hasher m.store c.exchange.new.store m.index g.met.T.Key.Eq.laws keyed c.in-Some.slot x y c.exchange.ensures.item alike c.exchange.ensures.updates ∙ ap (λ v. items_overwritten key (eq (key y)) y v.items) c.self.view_is in
-    find_replaced (λ z. eq (key y) (key z)) (λ z. cond (eq (key y) (key z)) y z) c.args.self.now.items (items_in c.exchange.new.store) y x items refl (ap (λ v. find_item key (eq (key y)) v.items) (sym c.self.view_is) ∙ found) (g.met.T.Key.Eq.laws.refl (key y))
-
-pub returns-in-Some-clause-replaced : goal.returns-in-Some-clause-replaced
-unfolding IsKeyed
-returns-in-Some-clause-replaced g c =
-    let key = g.T.IdHashItem.key in
-    let eq = g.T.Key.PartialEq.eq in
-    let input = g.T.Key.Hash.hash_input in
-    let hash = hash_under g.S.BuildHasher g.S.Hasher.Hasher in
-    let m = c.self.inside in
-    let y = c.args.item in
-    let x = c.exchange.result in
-    let keyed = subst (KeyedItems key eq input hash) (sym c.self.view_is) c.requires.keyed in
-    let found : find_item key (eq (key y)) (items_in m.store) ≡ Some x = ap (λ k. find_item key (eq k) (items_in m.store)) (sym c.key-2.ensures) ∙ sym c.in-Some.ensures.item ∙ c.exchange.ensures.item in
+    let found_before : find_item key (eq (key y)) c.args.self.now.items ≡ Some x = ap (λ v. find_item key (eq (key y)) v.items) (sym c.self.view_is) ∙ found in
     let alike = found_passes key (eq (key y)) (items_in m.store) x found in
     let items : items_in c.exchange.new.store ≡ items_overwritten key (eq (key y)) y c.args.self.now.items = exchanged_items key eq input hash m.hasher m.store c.exchange.new.store m.index g.met.T.Key.Eq.laws keyed c.in-Some.slot x y c.exchange.ensures.item alike c.exchange.ensures.updates ∙ ap (λ v. items_overwritten key (eq (key y)) y v.items) c.self.view_is in
     let same = exchanged_numbers key eq input hash m.hasher m.store c.exchange.new.store m.index g.met.T.Key.Eq.laws keyed c.in-Some.slot x y c.exchange.ensures.item alike c.exchange.ensures.updates in
@@ -83,17 +68,19 @@ returns-in-Some-clause-replaced g c =
     let vacant = c.exchange.ensures.vacant ∙ ap (λ v. v.vacant) c.self.view_is in
     let capacity = c.exchange.ensures.bounds.capacity ∙ ap (λ v. v.capacity) c.self.view_is in
     let limit = c.exchange.ensures.bounds.limit ∙ ap (λ v. v.limit) c.self.view_is in
-    cc
+    record {
+      found = sym found_before;
+      replaced = cc;
+      inserted = tt;
+      there = find_replaced (λ z. eq (key y) (key z)) (λ z. cond (eq (key y) (key z)) y z) c.args.self.now.items (items_in c.exchange.new.store) y x items refl found_before (g.met.T.Key.Eq.laws.refl (key y));
+    }
 
 pub returns-in_err-insert_new-in-None : goal.returns-in_err-insert_new-in-None
 returns-in_err-insert_new-in-None g c =
     let back = err_from_is_err_and c.from_residual.result c.from_residual.ensures.1 in
     let told = c.in_err-insert_new-in-None.ensures in
     rw back.1 (record {
-      found = tt;
-      replaced = tt;
-      inserted = tt;
-      there = tt;
+      put = tt;
       refused = rw back.2 told.refused;
       kept = told.kept;
       stays = told.kept.stays;
@@ -106,10 +93,12 @@ returns-in_ok-insert_new-in-None g c =
     let absent : find_item key (eq (key c.args.item)) c.args.self.now.items ≡ None = ap (λ v. find_item key (eq (key c.args.item)) v.items) (sym c.self.view_is) ∙ ap (λ k. find_item key (eq k) (items_in c.self.inside.store)) (sym c.key-2.ensures) ∙ sym c.in-None.ensures.item in
     let put = c.in_ok-insert_new-in-None.ensures.inserts in
     record {
-      found = sym absent;
-      replaced = tt;
-      inserted = put;
-      there = find_inserted (λ z. eq (key c.args.item) (key z)) _ _ c.args.item put.takes.added absent (g.met.T.Key.Eq.laws.refl (key c.args.item));
+      put = record {
+        found = sym absent;
+        replaced = tt;
+        inserted = put;
+        there = find_inserted (λ z. eq (key c.args.item) (key z)) _ _ c.args.item put.takes.added absent (g.met.T.Key.Eq.laws.refl (key c.args.item));
+      };
       refused = tt;
       kept = tt;
       stays = put.stays;
