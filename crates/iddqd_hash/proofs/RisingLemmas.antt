@@ -3,7 +3,7 @@
 --     first_from, none_from      the first slot from a number on
 --     slot_removed      the numbers and the items without a slot
 --     below_removed      how many lie below, when one of them has gone
-use Rattle.std.proofs.Common.{◌≡◌, ℕ, zero, suc, ◌+◌, ◌<◌, ◌≤◌, true, false, List, [], ◌∷◌, length, set, get_or, Option, Some, None, refl, sym, ap, ◌∙◌, arith, ⊎_elim, add-one, is_some, Bor, option_copied, true≢false}
+use Rattle.std.proofs.Common.{◌≡◌, ℕ, zero, suc, ◌+◌, ◌<◌, ◌≤◌, true, List, [], ◌∷◌, length, set, get_or, Option, Some, None, refl, sym, ap, ◌∙◌, arith, ⊎_elim, add-one, is_some}
 use Rattle.std.proofs.lemmas.Bool.{cases_lt, le-ltb, lt-ltb}
 use Rattle.std.proofs.lemmas.Option.{get_or_from_slice_get, slice_get_within}
 use Rattle.std.specs.List.{remove, slice_get}
@@ -113,13 +113,3 @@ module _ (slots : List ℕ) (at slot : ℕ) (there : slice_get slots at ≡ Some
 
     pub below_gone : slots_below (slot + 1) (remove slots at) ≡ at
     below_gone = omega (arith, below_next, below_removed slots (slot + 1) at slot there (omega arith))
-
-module _ {T : Type 0} where
-  -- what is lent of a slot is there, or not
-  pub lent_there : (lent : Option (Bor T)) (o : Option T) → option_copied lent ≡ o → is_some lent ≡ true → (x : T) × (o ≡ Some x)
-  lent_there None o e some = absurd (true≢false (sym some))
-  lent_there (Some x) o e some = (x.now, sym e)
-
-  pub lent_none : (lent : Option (Bor T)) (o : Option T) → option_copied lent ≡ o → is_some lent ≡ false → o ≡ None
-  lent_none None o e some = sym e
-  lent_none (Some x) o e some = absurd (true≢false some)

@@ -3,16 +3,16 @@
 --     found_next      the item of the first occupied slot comes next
 --     taken_next      so it does where it is taken out
 --     none_before      where the slots before are vacant, the items are those from there on
---     yields_lent, gets_on      a step of an iterator that lends
-use Rattle.std.proofs.Common.{◌≡◌, ℕ, zero, suc, ◌+◌, ◌-◌, ◌≤◌, List, [], ◌∷◌, length, drop, Option, Some, None, IsSome, refl, sym, ap, ◌∙◌, arith, ⊎_elim, true≢false, Bor, option_copied}
+--     gets_on      a step of an iterator that lends
+use Rattle.std.proofs.Common.{◌≡◌, ℕ, zero, suc, ◌+◌, ◌-◌, ◌≤◌, List, [], ◌∷◌, length, drop, Option, Some, None, refl, sym, ap, ◌∙◌, arith, ⊎_elim, Bor}
 use Rattle.std.proofs.lemmas.Bool.{cases_lt}
 use Rattle.std.proofs.lemmas.List.{drop_all, get_or-drop}
 use Rattle.std.specs.Prelude.{⊤}
 use Rattle.std.specs.Iterator.{YieldsFirstRef, MakesProgress, item_count}
 use Rattle.std.specs.List.{cons_option}
-use Rattle.iddqd_store.specs.Store.{Store, item_at, Updates}
+use Rattle.iddqd_store.specs.Store.{Store, item_at, AreVacant, IsFirstOccupied, Updates}
 use Rattle.iddqd_hash.specs.StoreAndIndex.{items_in}
-use Rattle.iddqd_hash.specs.Walked.{items_from, AreVacant, IsFirstOccupied}
+use Rattle.iddqd_hash.specs.Walked.{items_from}
 use Rattle.iddqd_hash.proofs.SlotItemLemmas.{at, items_of, same_items}
 
 module _ {T : Type 0} where
@@ -21,10 +21,6 @@ module _ {T : Type 0} where
   item_on [] (suc n) = refl
   item_on (x ∷ xs) zero = refl
   item_on (x ∷ xs) (suc n) = item_on xs n
-
-  pub some_at : (o : Option T) → IsSome o → (x : T) × (o ≡ Some x)
-  some_at None some = absurd (true≢false (sym some))
-  some_at (Some x) some = (x, refl)
 
   pub empty_from_length : (xs : List T) → length xs ≡ 0 → xs ≡ []
   empty_from_length [] e = refl
@@ -72,10 +68,6 @@ module _ {T : Type 0} where
         ∙ ap (λ xs. x ∷ xs) (sym same_behind ∙ sym (none_before new (slot + 1) vacant_before))
 
   -- what is lent comes first
-  pub yields_lent : (lent : Option (Bor T)) (all rest : List T) → IsSome lent → all ≡ cons_option (option_copied lent) rest → YieldsFirstRef (λ xs. xs) all lent rest
-  yields_lent None all rest some e = absurd (true≢false (sym some))
-  yields_lent (Some x) all rest some e = e
-
   pub gets_on : (lent : Option (Bor T)) (all rest : List T) → YieldsFirstRef (λ xs. xs) all lent rest → MakesProgress (λ xs. ⊤) (item_count (λ xs. xs)) all lent rest
   gets_on None all rest e = record { on = λ finite. tt; keeps = tt; rests = λ finite. tt }
   gets_on (Some x) all rest e = record { on = λ finite. (tt, tt, omega (arith, ap length e)); keeps = tt; rests = λ finite. tt }

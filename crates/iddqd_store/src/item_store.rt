@@ -5,7 +5,7 @@ mod room;
 
 ghost use Rattle.std.specs.Prelude.{◌≡◌, ◌+◌, ◌-◌, ◌<◌, ◌≤◌, [], length, IfSome, IfNone, IfOk, Some, None, OnSome, option_copied, slice_set, vec_capacity, Err};
 ghost use Rattle.std.specs.Borrow.{sem};
-ghost use Rattle.iddqd_store.specs.Store.{item_at, IsOccupied, store_len, vacant, HasRoomFor, Updates, SameItems, MovesLast, EndsOccupied, IsStoreClone, with_item};
+ghost use Rattle.iddqd_store.specs.Store.{item_at, AreVacant, IsFirstOccupied, IsOccupied, store_len, vacant, HasRoomFor, Updates, SameItems, MovesLast, EndsOccupied, IsStoreClone, with_item};
 
 use crate::errors::TryReserveError;
 use chain::{NO_SLOT, Slot, fill_first, vacate};
@@ -128,6 +128,26 @@ impl<T> ItemStore<T> {
             Some(Slot::Occupied(item)) => Some(item),
             _ => None,
         }
+    }
+
+    /// Returns the first occupied slot from this number on with its item, or `None` if there is none. It looks at
+    /// each slot up to that one once.
+    #[inline]
+    pub fn next_occupied(&self, from: u32) -> Option<(u32, &T)>
+        // if a slot has an item
+        ensures slot { IfSome result (λ found. IsFirstOccupied self.now from found.0) }
+        ensures item { IfSome result (λ found. item_at self.now found.0 ≡ Some found.1.now) }
+        ensures number { IfSome result (λ found. found.0 < u32.MAX) }
+
+        // if none has
+        ensures none { IfNone result (AreVacant self.now from (length self.now.slots)) }
+    {
+        for slot in from as usize..self.slots.len() {
+            if let Slot::Occupied(item) = &self.slots[slot] {
+                return Some((slot as u32, item));
+            }
+        }
+        None
     }
 
     /// Returns the item of an occupied slot, for writing.

@@ -4,7 +4,6 @@ ghost use Rattle.std.specs.Iterator.{UpTo, YieldsFirst, at_most, item_count};
 ghost use Rattle.std.specs.Iterator.SizeHint.{IsWithinCount};
 
 use super::IdHashMap;
-use super::iter::occupied_from;
 use iddqd_store::ItemStore;
 use std::iter::FusedIterator;
 use std::marker::Model;
@@ -22,7 +21,7 @@ pub struct IntoIter<T> {
 impl<T> Model for IntoIter<T> {
     ghost use Rattle.std.specs.Prelude.{List};
     ghost use Rattle.iddqd_hash.specs.StoreAndIndex.{items_in};
-    ghost use Rattle.iddqd_hash.specs.Walked.{AreVacant};
+    ghost use Rattle.iddqd_store.specs.Store.{AreVacant};
 
     ghost Value = { List T };
 
@@ -42,7 +41,7 @@ impl<T: Drop> Iterator for IntoIter<T> {
         if self.store.len() == 0 {
             return None;
         }
-        let slot = occupied_from(&self.store, self.next)?;
+        let (slot, _) = self.store.next_occupied(self.next)?;
         self.next = slot + 1;
         Some(self.store.remove(slot))
     }

@@ -1,8 +1,7 @@
 //! Reading walks, in no particular order. Contracts see the items to come.
-ghost use Rattle.std.specs.Prelude.{◌≡◌, ◌<◌, ◌≤◌, length, IfNone, IfSome, None};
+ghost use Rattle.std.specs.Prelude.{◌≡◌, length, IfSome, None};
 ghost use Rattle.std.specs.Iterator.{UpTo, YieldsFirstRef, at_most, item_count};
 ghost use Rattle.std.specs.Iterator.SizeHint.{IsWithinCount};
-ghost use Rattle.iddqd_hash.specs.Walked.{AreVacant, IsFirstOccupied};
 
 use super::IdHashMap;
 use iddqd_store::ItemStore;
@@ -42,10 +41,10 @@ impl<'a, T> Iterator for Iter<'a, T> {
         if self.left == 0 {
             return None;
         }
-        let slot = occupied_from(self.store, self.next)?;
+        let (slot, item) = self.store.next_occupied(self.next)?;
         self.next = slot + 1;
         self.left -= 1;
-        self.store.get(slot)
+        Some(item)
     }
 
     fn size_hint(&self) -> (usize, Option<usize>)
@@ -88,18 +87,4 @@ impl<'a, T, S> IntoIterator for &'a IdHashMap<T, S> {
     fn into_iter(self) -> Iter<'a, T> {
         self.iter()
     }
-}
-
-// Returns the first occupied slot from this one on.
-pub(super) fn occupied_from<T>(store: &ItemStore<T>, from: u32) -> Option<u32>
-    ensures some { IfSome result (IsFirstOccupied store.now from) }
-    ensures none { IfNone result (AreVacant store.now from (length store.now.slots)) }
-    ensures below { IfSome result (λ slot. slot < u32.MAX) }
-{
-    for slot in from..store.slots() {
-        if store.get(slot).is_some() {
-            return Some(slot);
-        }
-    }
-    None
 }

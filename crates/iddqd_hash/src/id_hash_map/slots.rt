@@ -22,11 +22,7 @@ impl<T, S> IdHashMap<T, S> {
         ensures spare { SpareFits self.now }
         ensures own { HaveSlots self.now.slots self.now.items }
     {
-        for slot in from..self.store.slots() {
-            if self.store.get(slot).is_some() {
-                return Some(slot);
-            }
-        }
-        None
+        let (slot, _) = self.store.next_occupied(from)?;
+        Some(slot)
     }
 }

@@ -21,7 +21,7 @@ pub returns-clause-steps : goal.returns-clause-steps
 returns-clause-steps g c =
     let it = c.self.inside in
     let slot = c.in_ok-slot.slot in
-    let first = c.in_ok-slot.ensures.some in
+    let first = c.in_ok-slot.ensures.slot in
     let updates = subst (λ s. Updates it.store s slot None) (sym c.remove.ensures.store) (updates-set it.store slot None first.occupied) in
     sym c.self.view_is ∙ taken_next it.store c.remove.new.self it.next slot c.self.invariant first updates c.remove.result c.remove.ensures.item
 

@@ -1,8 +1,7 @@
-use Rattle.std.proofs.Common.{◌+◌, ◌∙◌, length, sym, ap, arith}
+use Rattle.std.proofs.Common.{◌+◌, ◌∙◌, Some, length, sym, ap, arith}
 use Rattle.std.specs.List.{cons_option}
-use Rattle.iddqd_store.proofs.StoreLemmas.{some_lent}
 use Rattle.iddqd_hash.specs.Walked.{items_from}
-use Rattle.iddqd_hash.proofs.WalkedLemmas.{nothing_left, found_next, some_at, yields_lent, gets_on}
+use Rattle.iddqd_hash.proofs.WalkedLemmas.{nothing_left, found_next, gets_on}
 use Rattle.iddqd_hash.proofs.id_hash_map.iter.IterIterator.next.Goals as goal
 
 pub returns-in_err-slot-clause-steps : goal.returns-in_err-slot-clause-steps
@@ -14,18 +13,16 @@ pub returns-clause-steps : goal.returns-clause-steps
 returns-clause-steps g c =
     let it = c.self.inside in
     let slot = c.in_ok-slot.slot in
-    let first = c.in_ok-slot.ensures.some in
-    yields_lent c.get.result _ (items_from it.store.now (slot + 1)) (some_lent c.get.result _ c.get.ensures first.occupied)
-    (sym c.self.view_is ∙ found_next it.store.now it.next slot first ∙ ap (λ o. cons_option o (items_from it.store.now (slot + 1))) (sym c.get.ensures))
+    let found = c.in_ok-slot.ensures in
+    sym c.self.view_is ∙ found_next it.store.now it.next slot found.slot ∙ ap (λ o. cons_option o (items_from it.store.now (slot + 1))) found.item
 
 pub returns-clause-goes : goal.returns-clause-goes
-returns-clause-goes g c = gets_on c.get.result _ _ (returns-clause-steps g c)
+returns-clause-goes g c = gets_on (Some c.in_ok-slot.item) _ _ (returns-clause-steps g c)
 
 pub invariant_of-self : goal.invariant_of-self
 invariant_of-self g c =
     let it = c.self.inside in
     let slot = c.in_ok-slot.slot in
-    let first = c.in_ok-slot.ensures.some in
-    let given = some_at _ first.occupied in
-    let fewer = ap length (found_next it.store.now it.next slot first ∙ ap (λ o. cons_option o (items_from it.store.now (slot + 1))) given.1) in
+    let found = c.in_ok-slot.ensures in
+    let fewer = ap length (found_next it.store.now it.next slot found.slot ∙ ap (λ o. cons_option o (items_from it.store.now (slot + 1))) found.item) in
     omega (arith, c.self.invariant, fewer)

@@ -1,0 +1,29 @@
+use Rattle.std.proofs.Common.{◌≡◌, ◌<◌, ◌∙◌, None, length, ap, sym, arith, ⊎_elim}
+use Rattle.std.proofs.lemmas.Bool.{cases_lt}
+use Rattle.std.proofs.lemmas.Grind.{common_steps}
+use Rattle.std.proofs.lemmas.List.{get_or-map, length-map}
+use Rattle.iddqd_store.specs.Slots.{item_of}
+use Rattle.iddqd_store.specs.Store.{item_at}
+use Rattle.iddqd_store.proofs.item_store.ItemStore.next_occupied.Goals as goal
+
+pub loop-slot-preserved : goal.loop-slot-preserved
+loop-slot-preserved g c =
+    let es = c.self.inside.slots.items in
+    let slot = c.loop-slot.slot in
+    let within : slot < length es = omega (arith, c.loop-slot-test.true, c.loop-slot.invariant.1, ap (λ v. length v.slots) c.self.view_is, length-map es item_of) in
+    let here : item_at c.args.self.now slot ≡ None =
+    ap (λ v. item_at v slot) (sym c.self.view_is) ∙ get_or-map item_of es slot c.index.result.now None within
+    ∙ ap item_of (sym c.index.ensures ∙ c.in_default.is) in (
+      omega (arith, c.loop-slot.invariant.0),
+      c.loop-slot.invariant.1,
+      λ other above below. ⊎_elim
+          (λ l. c.loop-slot.invariant.2 other above l)
+          (λ l. let same : other ≡ slot = omega (arith, l, below) in ap (item_at c.args.self.now) same ∙ here)
+          (cases_lt other slot),
+    )
+
+pub returns-in-Occupied-clause-slot : goal.returns-in-Occupied-clause-slot
+returns-in-Occupied-clause-slot g c = grind (arith, common_steps)
+
+pub returns-in-Occupied-clause-item : goal.returns-in-Occupied-clause-item
+returns-in-Occupied-clause-item g c = grind (arith, common_steps)
