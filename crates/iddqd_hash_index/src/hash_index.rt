@@ -5,11 +5,10 @@ mod probe;
 mod regroup;
 mod walk;
 
-ghost use Rattle.std.specs.Prelude.{◌≡◌, ℕ, ◌+◌, ◌*◌, ◌-◌, ◌<◌, ◌≤◌, [], length, max, OnOk, OnErr, IfOk, IfErr, IfSome, IfNone, Contains};
+ghost use Rattle.std.specs.Prelude.{◌≡◌, ℕ, ◌+◌, ◌-◌, ◌<◌, ◌≤◌, [], length, max, OnOk, OnErr, IfOk, IfErr, Contains};
 ghost use Rattle.std.specs.Prelude.{min as least};
-ghost use Rattle.iddqd_hash_index.specs.HashPairs.{SamePairs, HasOneMore, HasInstead, HalfIsEnough, IsMatch, index_room, of_hash, of_slot};
+ghost use Rattle.iddqd_hash_index.specs.HashPairs.{SamePairs, AreOccupied, Doubles, Finds, GivesRoomBack, HasOneMore, HasInstead, Lacks, index_room, of_hash, of_slot};
 ghost use Rattle.iddqd_hash_index.specs.Groups.{room_for};
-ghost use Rattle.iddqd_store.specs.Store.{IsOccupied};
 ghost use Rattle.iddqd_store.specs.Refusal.{memory_refused};
 
 use change::{place, rename_in, take};
@@ -109,7 +108,7 @@ impl HashIndex {
 
         // the room
         ensures spare { self.old.spare ≤ self.new.spare }
-        ensures doubles { OnOk result (self.old.spare < additional → least (2 * index_room self.old) u32.MAX ≤ index_room self.new) }
+        ensures doubles { OnOk result (self.old.spare < additional → Doubles self.old self.new) }
     {
         if additional <= self.room - self.len {
             return Ok(());
@@ -125,7 +124,7 @@ impl HashIndex {
         ensures pairs { SamePairs self.old.pairs self.new.pairs }
         ensures ok { OnOk result (additional ≤ self.new.spare) }
         ensures spare { self.old.spare ≤ self.new.spare }
-        ensures doubles { OnOk result (least (2 * index_room self.old) u32.MAX ≤ index_room self.new) }
+        ensures doubles { OnOk result (Doubles self.old self.new) }
     {
         if additional > MOST_ROOM - self.len {
             return Err(AllocError);
@@ -170,9 +169,9 @@ impl HashIndex {
         query: &Q,
         steps: &mut Steps,
     ) -> Option<u32>
-        requires occupied { (slot : ℕ) → Contains self.now.pairs (hash, slot) → IsOccupied store.now slot }
-        ensures found { IfSome result (IsMatch store.now self.now.pairs hash (λ x. Q.equivalent query.now (T.key x))) }
-        ensures absent { IfNone result ((slot : ℕ) → ¬ IsMatch store.now self.now.pairs hash (λ x. Q.equivalent query.now (T.key x)) slot) }
+        requires occupied { AreOccupied store.now self.now.pairs hash }
+        ensures found { Finds T.key (Q.equivalent query.now) store.now self.now.pairs hash result }
+        ensures absent { Lacks T.key (Q.equivalent query.now) store.now self.now.pairs hash result }
         ensures steps { steps.new ≤ steps.old + of_hash self.now.pairs hash }
         ensures never_resets { steps.old ≤ steps.new }
     {
@@ -254,11 +253,11 @@ impl HashIndex {
 
         // on refusal
         ensures only_memory { IfErr result (λ e. e ≡ memory_refused) }
-        ensures needed { OnErr result (max min (length self.old.pairs) < self.old.spare + length self.old.pairs) }
+        ensures needed { OnErr result (max min (length self.old.pairs) < index_room self.old) }
 
         // the room
-        ensures gives_back { OnOk result (HalfIsEnough self.old min → self.new.spare + length self.new.pairs < self.old.spare + length self.old.pairs) }
-        ensures room { least min (self.old.spare + length self.old.pairs) ≤ self.new.spare + length self.new.pairs }
+        ensures gives_back { OnOk result (GivesRoomBack self.old self.new min) }
+        ensures room { least min (index_room self.old) ≤ index_room self.new }
         ensures refused { OnErr result (self.old.spare ≤ self.new.spare) }
     {
         let least = min.max(self.len).min(self.room);
@@ -271,7 +270,7 @@ impl HashIndex {
         Ok(())
     }
 
-    /// Returns an index of the same pairs. It copies each pair. It returns an error only if memory is refused.
+    /// Returns an index of the same pairs. It copies them as they lie. It returns an error only if memory is refused.
     pub fn try_clone(&self) -> Result<Self, TryReserveError>
         ensures pairs { IfOk result (λ copy. SamePairs self.now.pairs copy.pairs) }
         ensures only_memory { IfErr result (λ e. e ≡ memory_refused) }
@@ -283,9 +282,10 @@ impl HashIndex {
     fn copy(&self) -> Result<Self, AllocError>
         ensures pairs { IfOk result (λ copy. SamePairs self.now.pairs copy.pairs) }
     {
+        let alloc = *self.groups.allocator();
         Ok(HashIndex {
-            groups: self.groups.clone()?,
-            hashes: self.hashes.clone()?,
+            groups: Vec::from_slice(alloc, self.groups.as_slice())?,
+            hashes: Vec::from_slice(alloc, self.hashes.as_slice())?,
             len: self.len,
             room: self.room,
         })

@@ -1,9 +1,7 @@
 //! The walk for the item that a query stands for.
-ghost use Rattle.std.specs.Prelude.{◌≡◌, ℕ, ◌+◌, ◌*◌, ◌/◌, ◌<◌, ◌≤◌, length, slice_index, true, IfSome, IfNone, Contains, IsSomeAnd};
-ghost use Rattle.iddqd_hash_index.specs.Groups.{group_at, mixed, pair_at, pairs_of, tag_at, Compared, IsPlaced};
-ghost use Rattle.iddqd_hash_index.specs.HashPairs.{IsMatch, of_hash};
-ghost use Rattle.iddqd_hash_index.specs.Lanes.{slot_in, tag_in, tag_of};
-ghost use Rattle.iddqd_store.specs.Store.{IsOccupied, item_at};
+ghost use Rattle.std.specs.Prelude.{◌≡◌, ◌+◌, ◌*◌, ◌<◌, ◌≤◌, length};
+ghost use Rattle.iddqd_hash_index.specs.Groups.{pairs_of, ComparedAt, FindsIn, IsPlaced, LacksAt, LacksIn};
+ghost use Rattle.iddqd_hash_index.specs.HashPairs.{AreOccupied, of_hash};
 
 use super::group::{Group, LANES};
 use super::walk::{after, home, tag};
@@ -22,14 +20,14 @@ fn find_at<T: IdHashItem, Q: Equivalent<T::Key>>(
 ) -> Option<u32>
     requires within { at < length groups.now }
     requires long { length hashes.now ≡ 12 * length groups.now }
-    requires occupied { (slot : ℕ) → Contains (pairs_of groups.now hashes.now) (hash, slot) → IsOccupied store.now slot }
+    requires occupied { AreOccupied store.now (pairs_of groups.now hashes.now) hash }
 
     // what it finds
-    ensures found { IfSome result (IsMatch store.now (pairs_of groups.now hashes.now) hash (λ x. Q.equivalent query.now (T.key x))) }
-    ensures missed { IfNone result ((k : ℕ) → k < 12 → tag_in (group_at groups.now at) k ≡ tag_of (mixed hash) → slice_index hashes.now (12 * at + k) ≡ hash → ¬ IsSomeAnd (item_at store.now (slot_in (group_at groups.now at) k)) (λ x. Q.equivalent query.now (T.key x) ≡ true)) }
+    ensures found { FindsIn groups.now hashes.now hash T.key (Q.equivalent query.now) store.now result }
+    ensures missed { LacksAt groups.now hashes.now hash T.key (Q.equivalent query.now) store.now at result }
 
     // what it costs
-    ensures compared { Compared (12 * length groups.now) (tag_at groups.now) (pair_at groups.now hashes.now) hash (λ c. c / 12 ≡ at) steps.old steps.new }
+    ensures compared { ComparedAt groups.now hashes.now hash at steps.old steps.new }
     ensures never_resets { steps.old ≤ steps.new }
 {
     let group = &groups[at];
@@ -59,11 +57,11 @@ pub(super) fn find_among<T: IdHashItem, Q: Equivalent<T::Key>>(
 ) -> Option<u32>
     requires long { length hashes.now ≡ 12 * length groups.now }
     requires placed { IsPlaced groups.now hashes.now }
-    requires occupied { (slot : ℕ) → Contains (pairs_of groups.now hashes.now) (hash, slot) → IsOccupied store.now slot }
+    requires occupied { AreOccupied store.now (pairs_of groups.now hashes.now) hash }
 
     // what it finds
-    ensures found { IfSome result (IsMatch store.now (pairs_of groups.now hashes.now) hash (λ x. Q.equivalent query.now (T.key x))) }
-    ensures absent { IfNone result ((slot : ℕ) → ¬ IsMatch store.now (pairs_of groups.now hashes.now) hash (λ x. Q.equivalent query.now (T.key x)) slot) }
+    ensures found { FindsIn groups.now hashes.now hash T.key (Q.equivalent query.now) store.now result }
+    ensures absent { LacksIn groups.now hashes.now hash T.key (Q.equivalent query.now) store.now result }
 
     // what it costs
     ensures steps { steps.new ≤ steps.old + of_hash (pairs_of groups.now hashes.now) hash }
