@@ -2,8 +2,8 @@
 mod change;
 mod group;
 mod probe;
+mod probe_sequence;
 mod regroup;
-mod walk;
 
 ghost use Rattle.std.specs.Prelude.{◌≡◌, ℕ, ◌+◌, ◌-◌, ◌<◌, ◌≤◌, [], length, max, OnOk, OnErr, IfOk, IfErr, Contains};
 ghost use Rattle.std.specs.Prelude.{min as least};
@@ -248,6 +248,7 @@ impl HashIndex {
     /// Gives memory back, except for room for `min` pairs and for the existing ones. It gives some back if half the
     /// room is enough for them. It makes the smaller table beside the old one, so memory may be refused. Refused or
     /// not, the pairs stay, and a refusal leaves the room as it was. If it gives some back, it reads every pair.
+    #[tactic(auto, unfolding(crate::specs::HashPairs::least_room))]
     pub fn shrink(&mut self, min: usize) -> Result<(), TryReserveError>
         ensures pairs { SamePairs self.old.pairs self.new.pairs }
 

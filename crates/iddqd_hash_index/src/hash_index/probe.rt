@@ -4,7 +4,7 @@ ghost use Rattle.iddqd_hash_index.specs.Groups.{pairs_of, ComparedAt, FindsIn, I
 ghost use Rattle.iddqd_hash_index.specs.HashPairs.{AreOccupied, of_hash};
 
 use super::group::{Group, LANES};
-use super::walk::{after, home, tag};
+use super::probe_sequence::{after, home, tag};
 use iddqd_store::{Equivalent, IdHashItem, ItemStore, Steps};
 
 // The slot in this group whose item has the query's key. It compares keys at lanes of exactly this hash.
@@ -76,7 +76,7 @@ pub(super) fn find_among<T: IdHashItem, Q: Equivalent<T::Key>>(
         if let Some(slot) = find_at(groups, hashes, at, store, hash, query, steps) {
             return Some(slot);
         }
-        if groups[at].none_passed() {
+        if groups[at].has_no_overflow() {
             return None;
         }
         at = after(at, count);

@@ -18,13 +18,13 @@ walk-init g c = record {
 pub returns-in-Some-clause-steps : goal.returns-in-Some-clause-steps
 returns-in-Some-clause-steps g c = Compared-le _ _ _ _ _ _ _ (Compared-group _ _ _ _ _ _ _ _ _ _ (c.walk.invariant.here c.walk-test.true) c.walk.invariant.compared c.find_at.ensures.compared)
 
-pub returns-then-none_passed-clause-steps : goal.returns-then-none_passed-clause-steps
-returns-then-none_passed-clause-steps g c = Compared-le _ _ _ _ _ _ _ (Compared-group _ _ _ _ _ _ _ _ _ _ (c.walk.invariant.here c.walk-test.true) c.walk.invariant.compared c.find_at.ensures.compared)
+pub returns-then-has_no_overflow-clause-steps : goal.returns-then-has_no_overflow-clause-steps
+returns-then-has_no_overflow-clause-steps g c = Compared-le _ _ _ _ _ _ _ (Compared-group _ _ _ _ _ _ _ _ _ _ (c.walk.invariant.here c.walk-test.true) c.walk.invariant.compared c.find_at.ensures.compared)
 
-pub returns-then-none_passed-clause-absent : goal.returns-then-none_passed-clause-absent
-returns-then-none_passed-clause-absent g c = λ slot found.
+pub returns-then-has_no_overflow-clause-absent : goal.returns-then-has_no_overflow-clause-absent
+returns-then-has_no_overflow-clause-absent g c = λ slot found.
     none_at_stop _ _ _ (λ s. IsSomeAnd (item_at c.args.store.now s) (λ x. g.Q.Equivalent.equivalent c.args.query.now (g.T.IdHashItem.key x) ≡ true)) c.requires.placed c.walk.at c.walk.step c.walk.invariant.within (c.walk.invariant.here c.walk-test.true) c.walk.invariant.missed
-    c.in_default.ensures.missed (c.none_passed.ensures.0 c.if-none_passed.true) slot found.0 found.1
+    c.in_default.ensures.missed (c.has_no_overflow.ensures.0 c.if-has_no_overflow.true) slot found.0 found.1
 
 pub walk-preserved : goal.walk-preserved
 walk-preserved g c =
