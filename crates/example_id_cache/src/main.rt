@@ -3,8 +3,9 @@
 //! maps or in neither.
 #![tactic(auto)]
 
-ghost use Rattle.std.specs.Prelude.{List, ◌≡◌, ◌==◌, IfSome, IsTrue, slice_get, drop, false};
-ghost use Rattle.iddqd.specs.Contents.{AddsItem, Ascends, items_without};
+ghost use Rattle.std.specs.Prelude.{List, ◌≡◌, IfSome, IsTrue, slice_get, drop, false};
+ghost use Rattle.iddqd.specs.Contents.{AddsItem, Ascends};
+ghost use Rattle.example_id_cache.specs.Cache.{without_id};
 ghost use Rattle.example_id_cache.specs.declared.Entry.{Entry};
 
 use iddqd::id_ord_map::Entry as Place;
@@ -52,7 +53,7 @@ impl std::marker::Model for Cache {
 /// Removes the oldest entry from both maps, if there is one. Its contract took no line of proof.
 fn drop_oldest(all: &mut Cache)
     ensures by_age { all.new.1 ≡ drop 1 all.old.1 }
-    ensures by_id { IfSome (slice_get all.old.1 0) (λ oldest. all.new.0 ≡ items_without (λ e. e.id) (λ k. oldest.id == k) all.old.0) }
+    ensures by_id { IfSome (slice_get all.old.1 0) (λ e. all.new.0 ≡ without_id e.id all.old.0) }
 {
     if let Some(oldest) = all.1.pop_first() {
         let _ = all.0.remove(&oldest.id);
@@ -69,10 +70,10 @@ fn add(
     requires ages { Ascends (λ e. e.born) ⟦<u32 as Ord>⟧.cmp by_age.old.items }
 
     // in both maps, or in neither
-    ensures both { IsTrue result → AddsItem entry by_id.old.items by_id.new.items
-        × AddsItem entry by_age.old.items by_age.new.items }
-    ensures neither { result ≡ false → (by_id.new.items ≡ by_id.old.items)
-        × (by_age.new.items ≡ by_age.old.items) }
+    ensures by_id { IsTrue result → AddsItem entry by_id.old.items by_id.new.items }
+    ensures by_age { IsTrue result → AddsItem entry by_age.old.items by_age.new.items }
+    ensures id_kept { result ≡ false → by_id.new.items ≡ by_id.old.items }
+    ensures age_kept { result ≡ false → by_age.new.items ≡ by_age.old.items }
 
     // either way
     ensures ids { ⟦<IdHashMap<Entry, RandomState> as Keyed>⟧.keyed by_id.new }

@@ -32,8 +32,8 @@ impl IdHashItem for Guest {
 /// the count, or `None` if there was no room. Its contract took no line of proof.
 fn visit(guests: &mut IdHashMap<Guest>, sign: Sign) -> Option<u32>
     requires keyed { ⟦<IdHashMap<Guest> as Keyed>⟧.keyed guests.old }
-    ensures again { VisitsAgain ⟦<Sign as PartialEq>⟧.eq sign guests.old.items guests.new.items result }
-    ensures first { VisitsFirst ⟦<Sign as PartialEq>⟧.eq sign guests.old.items guests.new.items result }
+    ensures again { VisitsAgain sign guests.old.items guests.new.items result }
+    ensures first { VisitsFirst sign guests.old.items guests.new.items result }
     ensures kept { IfNone result (guests.new.items ≡ guests.old.items) }
     ensures keyed { ⟦<IdHashMap<Guest> as Keyed>⟧.keyed guests.new }
 {

@@ -1,4 +1,4 @@
-use Rattle.std.specs.Prelude.{ℕ, List, Option, String, string_bytes}
+use Rattle.std.specs.Prelude.{◌≡◌, ℕ, IfSome, List, Option, String, string_bytes}
 use Rattle.std.specs.Str.{bytes_eq}
 use Rattle.std.specs.String.{string_eq}
 use Rattle.std.specs.declared.alloc.Global.{Global}
@@ -11,3 +11,7 @@ setting_at name all = find_item (λ s. s.name) (λ k. bytes_eq name (string_byte
 
 abbrev pub setting_named : String Global → List Setting → Option Setting
 setting_named name all = find_item (λ s. s.name) (string_eq name) all
+
+-- beside the setting, this is the value of the one of its name
+abbrev pub ShowsExisting : List Setting → Setting × ℕ → Type 0
+ShowsExisting all shown = IfSome (setting_named shown.0.name all) (λ s. shown.1 ≡ s.value)

@@ -6,7 +6,7 @@
 ghost use Rattle.std.specs.Prelude.{◌≡◌, List, IfNone, IfOk, IfSome, option_map};
 ghost use Rattle.iddqd.specs.Contents.{AddsItem};
 ghost use Rattle.iddqd.specs.IdHashMap.{IsKeyedByText};
-ghost use Rattle.example_settings.specs.Settings.{setting_at, setting_named};
+ghost use Rattle.example_settings.specs.Settings.{ShowsExisting, setting_at};
 ghost use Rattle.example_settings.specs.declared.Setting.{Setting};
 
 use iddqd::errors::{FromIterError, InsertError, TryReserveError};
@@ -47,8 +47,7 @@ impl Model for Settings {
 fn add(all: &mut Settings, setting: Setting) -> Result<Option<(Setting, u32)>, TryReserveError>
     ensures added { IfOk result (λ known. IfNone known (AddsItem setting all.old all.new)) }
     ensures new { IfOk result (λ known. IfSome known (λ both. both.0 ≡ setting)) }
-    ensures there { IfOk result (λ known. IfSome known (λ both.
-        IfSome (setting_named setting.name all.old) (λ s. both.1 ≡ s.value))) }
+    ensures there { IfOk result (λ known. IfSome known (ShowsExisting all.old)) }
 {
     match all.0.insert_unique(setting) {
         Ok(()) => Ok(None),

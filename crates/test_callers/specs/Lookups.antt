@@ -1,11 +1,13 @@
--- What a lookup by a text, by a key or by a number finds, and the items with another one in its place.
-use Rattle.std.specs.Prelude.{◌≡◌, ℕ, ◌==◌, Bool, List, Option, IfSome, String, string_bytes}
+-- What a lookup by a text, by a key or by a number finds, the items with another one in its place, and what a caller writes, adds
+-- or removes by them.
+use Rattle.std.specs.Prelude.{◌≡◌, ℕ, ◌-◌, ◌==◌, Bool, IsTrue, List, Option, IfNone, IfSome, String, length, slice_get, slice_set, string_bytes}
 use Rattle.std.specs.Str.{bytes_eq}
 use Rattle.std.specs.String.{string_eq}
 use Rattle.std.specs.declared.alloc.Global.{Global}
-use Rattle.iddqd.specs.Contents.{find_item, items_overwritten, items_without}
+use Rattle.iddqd.specs.Contents.{AddsItem, find_item, items_overwritten, items_without}
 use Rattle.test_writers.specs.declared.items.Named.{Named}
 use Rattle.test_writers.specs.declared.items.Pair.{Pair}
+use Rattle.test_writers.specs.Pairs.{pair_at}
 use Rattle.test_callers.specs.declared.items.Noted.{Noted}
 
 abbrev pub of_name : List ℕ → List Named → Option Named
@@ -34,14 +36,40 @@ with_value value x = record x { value = value }
 abbrev pub without_name : List ℕ → List Named → List Named
 without_name name items = items_without (λ x. x.name) (λ k. bytes_eq name (string_bytes k)) items
 
-abbrev pub pair_at : ℕ → List Pair → Option Pair
-pair_at key pairs = find_item (λ p. p.key) (λ k. key == k) pairs
+-- the last of them, or none
+abbrev pub last_of : {T : Type 0} → List T → Option T
+last_of items = slice_get items (length items - 1)
 
--- if there is a pair of the key, the value is written to it, and all else is as it was
-abbrev pub SetsPair : (key value : ℕ) → (old new : List Pair) → Type 0
-SetsPair key value old new =
-    IfSome (pair_at key old) (λ p. new ≡ items_overwritten (λ p. p.key) (λ k. key == k) (record p { value = value }) old)
+-- if there is an item of the name, by a text or by a key, the value is written to it, and all else is as it was
+abbrev pub SetsAtName : List ℕ → ℕ → (old new : List Named) → Type 0
+SetsAtName name value old new = IfSome (of_name name old) (λ x. new ≡ put_at_name name (with_value value x) old)
+
+abbrev pub SetsAtKey : String Global → ℕ → (old new : List Named) → Type 0
+SetsAtKey name value old new = IfSome (of_key name old) (λ x. new ≡ put_at_key name (with_value value x) old)
+
+-- if there is an item of the number, the note is written to it, and all else is as it was
+abbrev pub SetsNote : ℕ → String Global → (old new : List Noted) → Type 0
+SetsNote number note old new = IfSome (of_number number old) (λ x. new ≡ put_at_number number (record x { note = note }) old)
+
+-- if there is a first pair, the value is written to it, and all else is as it was
+abbrev pub SetsFirst : ℕ → (old new : List Pair) → Type 0
+SetsFirst value old new = IfSome (slice_get old 0) (λ p. new ≡ slice_set old 0 (record p { value = value }))
+
+-- if there is an item of this one's name, this one is in its place, and all else is as it was
+abbrev pub Replaces : Named → (old new : List Named) → Type 0
+Replaces item old new = IfSome (of_key item.name old) (λ _. new ≡ put_at_key item.name item old)
+
+-- if there is no item of its name, or no pair of the key, it is added beside the others
+abbrev pub AddsIfNew : Named → (old new : List Named) → Type 0
+AddsIfNew item old new = IfNone (of_key item.name old) (AddsItem item old new)
+
+abbrev pub AddsPairIfNew : (key value : ℕ) → (old new : List Pair) → Type 0
+AddsPairIfNew key value old new = IfNone (pair_at key old) (AddsItem (record { key = key; value = value }) old new)
+
+-- if there is an item whose key passes the test, its key is equal to y's
+abbrev pub FindsEqualKey : {T K : Type 0} → (T → K) → (K → K → Bool) → (K → Bool) → T → List T → Type 0
+FindsEqualKey key eq test y items = IfSome (find_item key test items) (λ x. IsTrue (eq (key x) (key y)))
 
 -- if there is an item whose key passes the test, y is in its place, and all else is as it was
-abbrev pub PutsOverFound : {T K : Type 0} → (T → K) → (K → Bool) → T → (old new : List T) → Type 0
-PutsOverFound key test y old new = IfSome (find_item key test old) (λ _. new ≡ items_overwritten key test y old)
+abbrev pub PutsInPlace : {T K : Type 0} → (T → K) → (K → Bool) → T → (old new : List T) → Type 0
+PutsInPlace key test y old new = IfSome (find_item key test old) (λ _. new ≡ items_overwritten key test y old)

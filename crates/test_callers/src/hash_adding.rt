@@ -1,11 +1,10 @@
 //! Adding many items to a hash map.
-ghost use Rattle.std.specs.Prelude.{◌≡◌, ◌≤◌, ◌++◌, List, [], IfSome, IsTrue, nat_eq, IsPermutation};
+ghost use Rattle.std.specs.Prelude.{◌≡◌, ◌≤◌, ◌++◌, [], IfSome, IsTrue, IsPermutation};
 ghost use Rattle.std.specs.List.{AllZip};
 ghost use Rattle.std.specs.String.{string_eq};
-ghost use Rattle.iddqd.specs.Given.{BeginsWith};
-ghost use Rattle.iddqd.specs.Collecting.{AddsAll, IsFirstConflict, OverwritesAll};
 ghost use Rattle.iddqd.specs.Contents.{NoTwoAkin};
 ghost use Rattle.iddqd.specs.IdHashMap.{IsKeyedByText};
+ghost use Rattle.test_callers.specs.Adding.{ComesBehindNew, PutsAll, ShowsConflict};
 
 use crate::hash_insertions;
 use iddqd::errors::ExtendUniqueError;
@@ -20,12 +19,8 @@ fn add_and_show<S: BuildHasher>(
     pairs: Vec<Pair>,
 ) -> Option<(Pair, Pair)>
     requires keyed { ⟦<IdHashMap<Pair, S> as Keyed>⟧.keyed map.old }
-    ensures conflict { IfSome result (λ shown. (before : List Pair)
-        × IsFirstConflict (λ p. p.key) nat_eq map.old.items before shown.0 shown.1
-        × AddsAll (λ p. p.key) nat_eq before map.old.items map.new.items) }
-    ensures given { IfSome result (λ shown. (before : List Pair)
-        × BeginsWith before shown.0 pairs.items
-        × NoTwoAkin (λ p. p.key) nat_eq (map.old.items ++ before)) }
+    ensures conflict { IfSome result (ShowsConflict map.old.items map.new.items) }
+    ensures given { IfSome result (ComesBehindNew pairs.items map.old.items) }
     ensures keyed { ⟦<IdHashMap<Pair, S> as Keyed>⟧.keyed map.new }
 {
     match map.extend_unique(pairs) {
@@ -78,8 +73,7 @@ fn add_all(all: &mut IdHashMap<Named>, items: Vec<Named>) -> bool
 /// Puts all items in, each in the place of one of its name, and tells whether all are in.
 fn put_all(all: &mut IdHashMap<Named>, items: Vec<Named>) -> bool
     requires keyed { IsKeyedByText (λ x. x.name) all.old }
-    ensures put { IsTrue result → OverwritesAll (λ x. x.name) string_eq
-        all.old.limit items.items all.old.items all.new.items }
+    ensures put { IsTrue result → PutsAll all.old.limit items.items all.old.items all.new.items }
     ensures keyed { IsKeyedByText (λ x. x.name) all.new }
 {
     match all.extend(items) {
@@ -90,8 +84,7 @@ fn put_all(all: &mut IdHashMap<Named>, items: Vec<Named>) -> bool
 
 /// Collects the items, of each name the last one.
 fn collect(alloc: Global, items: Vec<Named>) -> Option<IdHashMap<Named>>
-    ensures { IfSome result (λ m. OverwritesAll (λ x. x.name) string_eq
-        MAX_ITEMS items.items [] m.items) }
+    ensures { IfSome result (λ m. PutsAll MAX_ITEMS items.items [] m.items) }
 {
     match IdHashMap::from_iter(alloc, items) {
         Ok(map) => Some(map),

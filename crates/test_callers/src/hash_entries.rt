@@ -1,10 +1,9 @@
 //! Entries of a hash map.
 ghost use Rattle.std.specs.Prelude.{◌≡◌, IfNone, IfSome, IsTrue, OnSome, Some, false, option_map};
-ghost use Rattle.std.specs.Str.{bytes_eq};
-ghost use Rattle.std.specs.String.{string_bytes};
-ghost use Rattle.iddqd.specs.Contents.{AddsItem, items_without};
+ghost use Rattle.iddqd.specs.Contents.{AddsItem};
 ghost use Rattle.iddqd.specs.IdHashMap.{IsKeyedByText};
-ghost use Rattle.test_callers.specs.Lookups.{of_key, of_name, pair_at, put_at_key, with_value};
+ghost use Rattle.test_callers.specs.Lookups.{AddsIfNew, AddsPairIfNew, Replaces, SetsAtKey, of_key, of_name, with_value, without_name};
+ghost use Rattle.test_writers.specs.Pairs.{pair_at};
 
 use iddqd::errors::Refused;
 use iddqd::id_hash_map::Entry;
@@ -16,8 +15,7 @@ use test_writers::items::{Named, Pair, SetsValue};
 #[tactic(auto, using(iddqd::proofs::GuardLemmas::hash_key_kept))]
 fn add_and_write(map: &mut IdHashMap<Named>, item: Named, then: u32) -> bool
     requires keyed { IsKeyedByText (λ x. x.name) map.old }
-    ensures added { IsTrue result → AddsItem
-        (record item { value = then }) map.old.items map.new.items }
+    ensures added { IsTrue result → AddsItem (with_value then item) map.old.items map.new.items }
     ensures kept { result ≡ false → map.new.items ≡ map.old.items }
     ensures keyed { IsKeyedByText (λ x. x.name) map.new }
 {
@@ -38,8 +36,7 @@ fn add_and_write(map: &mut IdHashMap<Named>, item: Named, then: u32) -> bool
 fn replace(map: &mut IdHashMap<Named>, item: Named) -> Option<Named>
     requires keyed { IsKeyedByText (λ x. x.name) map.old }
     ensures found { result ≡ of_key item.name map.old.items }
-    ensures replaced { IfSome (of_key item.name map.old.items)
-        (λ x. map.new.items ≡ put_at_key item.name item map.old.items) }
+    ensures replaced { Replaces item map.old.items map.new.items }
     ensures keyed { IsKeyedByText (λ x. x.name) map.new }
 {
     match map.entry(&item.name) {
@@ -52,8 +49,7 @@ fn replace(map: &mut IdHashMap<Named>, item: Named) -> Option<Named>
 fn take(map: &mut IdHashMap<Named>, name: &str) -> Option<Named>
     requires keyed { IsKeyedByText (λ x. x.name) map.old }
     ensures found { result ≡ of_name name.now map.old.items }
-    ensures left { map.new.items ≡ items_without (λ x. x.name)
-        (λ k. bytes_eq name.now (string_bytes k)) map.old.items }
+    ensures left { map.new.items ≡ without_name name.now map.old.items }
     ensures keyed { IsKeyedByText (λ x. x.name) map.new }
 {
     match map.entry(&Text(name)) {
@@ -65,10 +61,8 @@ fn take(map: &mut IdHashMap<Named>, name: &str) -> Option<Named>
 /// Writes the value of the item of that name, or adds the item.
 fn set_or_add(map: &mut IdHashMap<Named>, set: u32, item: Named) -> bool
     requires keyed { IsKeyedByText (λ x. x.name) map.old }
-    ensures set { IfSome (of_key item.name map.old.items)
-        (λ x. map.new.items ≡ put_at_key item.name (record x { value = set }) map.old.items) }
-    ensures added { IfNone (of_key item.name map.old.items)
-        (IsTrue result → AddsItem item map.old.items map.new.items) }
+    ensures set { SetsAtKey item.name set map.old.items map.new.items }
+    ensures added { IsTrue result → AddsIfNew item map.old.items map.new.items }
     ensures kept { result ≡ false → map.new.items ≡ map.old.items }
     ensures keyed { IsKeyedByText (λ x. x.name) map.new }
 {
@@ -87,10 +81,9 @@ fn set_or_add(map: &mut IdHashMap<Named>, set: u32, item: Named) -> bool
 /// The value of the item of that name, or of this one, which is added.
 fn value_or(map: &mut IdHashMap<Named>, item: Named) -> Option<u32>
     requires keyed { IsKeyedByText (λ x. x.name) map.old }
-    ensures found { IfSome (of_key item.name map.old.items)
-        (λ x. (result ≡ Some x.value) × (map.new ≡ map.old)) }
-    ensures added { IfNone (of_key item.name map.old.items)
-        (OnSome result (AddsItem item map.old.items map.new.items)) }
+    ensures found { IfSome (of_key item.name map.old.items) (λ x. result ≡ Some x.value) }
+    ensures unchanged { IfSome (of_key item.name map.old.items) (λ _. map.new ≡ map.old) }
+    ensures added { OnSome result (AddsIfNew item map.old.items map.new.items) }
     ensures kept { IfNone result (map.new.items ≡ map.old.items) }
 {
     match map.entry(&item.name).or_insert(item) {
@@ -105,8 +98,9 @@ fn value_or(map: &mut IdHashMap<Named>, item: Named) -> Option<u32>
 /// Shows the value of the key, or adds the key with this one.
 fn show_or_add<S: BuildHasher>(map: &mut IdHashMap<Pair, S>, key: u32, value: u32) -> Option<u32>
     requires keyed { ⟦<IdHashMap<Pair, S> as Keyed>⟧.keyed map.old }
-    ensures found { IfSome (pair_at key map.old.items) (λ x. (result ≡ Some x.value) × (map.new ≡ map.old)) }
-    ensures added { IfNone (pair_at key map.old.items) (OnSome result (AddsItem (record { key = key; value = value }) map.old.items map.new.items)) }
+    ensures found { IfSome (pair_at key map.old.items) (λ p. result ≡ Some p.value) }
+    ensures unchanged { IfSome (pair_at key map.old.items) (λ _. map.new ≡ map.old) }
+    ensures added { OnSome result (AddsPairIfNew key value map.old.items map.new.items) }
     ensures kept { IfNone result (map.new.items ≡ map.old.items) }
 {
     match map.entry(&key).or_insert_with(|| Pair { key, value }) {
@@ -143,10 +137,8 @@ fn add_or_pass_on(map: &mut IdHashMap<Named>, item: Named) -> Result<(), Refused
 #[tactic(auto, using(iddqd::proofs::GuardLemmas::read_back, iddqd::proofs::GuardLemmas::others_written))]
 fn write_and_take(map: &mut IdHashMap<Named>, name: &str, value: u32) -> Option<Named>
     requires keyed { IsKeyedByText (λ x. x.name) map.old }
-    ensures taken { result ≡ option_map (with_value value)
-        (of_name name.now map.old.items) }
-    ensures left { map.new.items ≡ items_without (λ x. x.name)
-        (λ k. bytes_eq name.now (string_bytes k)) map.old.items }
+    ensures taken { result ≡ option_map (with_value value) (of_name name.now map.old.items) }
+    ensures left { map.new.items ≡ without_name name.now map.old.items }
     ensures keyed { IsKeyedByText (λ x. x.name) map.new }
 {
     match map.entry(&Text(name)) {
@@ -162,8 +154,7 @@ fn write_and_take(map: &mut IdHashMap<Named>, name: &str, value: u32) -> Option<
 #[tactic(auto, using(iddqd::proofs::GuardLemmas::read_back))]
 fn write_and_replace(map: &mut IdHashMap<Named>, item: Named, value: u32) -> Option<Named>
     requires keyed { IsKeyedByText (λ x. x.name) map.old }
-    ensures found { result ≡ option_map (with_value value)
-        (of_key item.name map.old.items) }
+    ensures found { result ≡ option_map (with_value value) (of_key item.name map.old.items) }
     ensures keyed { IsKeyedByText (λ x. x.name) map.new }
 {
     match map.entry(&item.name) {

@@ -1,9 +1,10 @@
 //! Writing through the guard of a hash map.
-ghost use Rattle.std.specs.Prelude.{◌≡◌, IfSome, IfNone, IsTrue, is_some, option_map};
-ghost use Rattle.iddqd.specs.Contents.{find_item};
+ghost use Rattle.std.specs.Prelude.{◌≡◌, IfNone, is_some, option_map};
+ghost use Rattle.iddqd.specs.Contents.{IsAbsent, find_item};
 ghost use Rattle.iddqd.specs.IdHashMap.{IsKeyedByText};
 ghost use Rattle.iddqd.specs.Hashing.{HashesAs};
-ghost use Rattle.test_callers.specs.Lookups.{PutsOverFound, SetsPair, of_name, of_number, pair_at, put_at_name, put_at_number};
+ghost use Rattle.test_callers.specs.Lookups.{FindsEqualKey, PutsInPlace, SetsAtName, SetsNote, of_name};
+ghost use Rattle.test_writers.specs.Pairs.{SetsPair, pair_at};
 
 use crate::items::Noted;
 use iddqd::errors::InsertError;
@@ -19,9 +20,9 @@ fn put<T: IdHashItem + Drop, S: BuildHasher, Q: Hash + Equivalent<T::Key>>(
 )
     requires keyed { ⟦<IdHashMap<T, S> as Keyed>⟧.keyed map.old }
     requires hashes { HashesAs (Q.equivalent query.now) (Q.hash_input query.now) T.Key.hash_input }
-    ensures written { PutsOverFound T.key (Q.equivalent query.now) item map.old.items map.new.items }
-    ensures absent { IfNone (find_item T.key (Q.equivalent query.now) map.old.items) (map.new ≡ map.old) }
-    ensures keyed { IfSome (find_item T.key (Q.equivalent query.now) map.old.items) (λ x. IsTrue (T.Key.eq (T.key x) (T.key item)) → ⟦<IdHashMap<T, S> as Keyed>⟧.keyed map.new) }
+    ensures written { PutsInPlace T.key (Q.equivalent query.now) item map.old.items map.new.items }
+    ensures absent { IsAbsent T.key (Q.equivalent query.now) map.old.items → map.new ≡ map.old }
+    ensures keyed { FindsEqualKey T.key T.Key.eq (Q.equivalent query.now) item map.old.items → ⟦<IdHashMap<T, S> as Keyed>⟧.keyed map.new }
 {
     if let Some(mut place) = map.get_mut(query) {
         *place = item;
@@ -62,8 +63,7 @@ fn set_and_read(map: &mut IdHashMap<Named>, name: &str, value: u32) -> Option<u3
 #[tactic(auto, using(iddqd::proofs::GuardLemmas::hash_key_kept))]
 fn set_value(map: &mut IdHashMap<Named>, name: &str, value: u32) -> bool
     requires keyed { IsKeyedByText (λ x. x.name) map.old }
-    ensures written { IfSome (of_name name.now map.old.items)
-        (λ x. map.new.items ≡ put_at_name name.now (record x { value = value }) map.old.items) }
+    ensures written { SetsAtName name.now value map.old.items map.new.items }
     ensures absent { IfNone (of_name name.now map.old.items) (map.new ≡ map.old) }
     ensures keyed { IsKeyedByText (λ x. x.name) map.new }
 {
@@ -81,8 +81,7 @@ fn set_value(map: &mut IdHashMap<Named>, name: &str, value: u32) -> bool
 #[tactic(auto, using(iddqd::proofs::GuardLemmas::hash_key_kept))]
 fn note(map: &mut IdHashMap<Noted>, number: u32, note: String) -> bool
     requires keyed { ⟦<IdHashMap<Noted> as Keyed>⟧.keyed map.old }
-    ensures written { IfSome (of_number number map.old.items)
-        (λ x. map.new.items ≡ put_at_number number (record x { note = note }) map.old.items) }
+    ensures written { SetsNote number note map.old.items map.new.items }
     ensures keyed { ⟦<IdHashMap<Noted> as Keyed>⟧.keyed map.new }
 {
     match map.get_mut(&number) {
@@ -147,7 +146,7 @@ fn put_and_ask<T: IdHashItem + Drop, S: BuildHasher, Q: Hash + Equivalent<T::Key
 ) -> bool
     requires keyed { ⟦<IdHashMap<T, S> as Keyed>⟧.keyed map.old }
     requires hashes { HashesAs (Q.equivalent query.now) (Q.hash_input query.now) T.Key.hash_input }
-    requires akin { IfSome (find_item T.key (Q.equivalent query.now) map.old.items) (λ x. IsTrue (T.Key.eq (T.key x) (T.key item))) }
+    requires akin { FindsEqualKey T.key T.Key.eq (Q.equivalent query.now) item map.old.items }
     ensures told { result ≡ is_some (find_item T.key (Q.equivalent query.now) map.new.items) }
     ensures keyed { ⟦<IdHashMap<T, S> as Keyed>⟧.keyed map.new }
 {

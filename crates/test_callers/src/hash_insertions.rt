@@ -1,5 +1,5 @@
 //! Insertions into a hash map, with the result matched in each form.
-ghost use Rattle.std.specs.Prelude.{◌≡◌, ◌≢◌, ◌==◌, ◌+◌, IfNone, IfSome, IsTrue, None, OnOk, Some, false, is_some, length};
+ghost use Rattle.std.specs.Prelude.{◌≡◌, ◌≢◌, ◌==◌, ◌+◌, IfSome, IsTrue, None, OnOk, Some, false, is_some, length};
 ghost use Rattle.iddqd.specs.IdHashMap.{IsKeyedByText};
 ghost use Rattle.test_callers.specs.Lookups.{of_key, of_name, of_number};
 
@@ -11,8 +11,7 @@ use test_writers::items::Named;
 /// Three arms: the value of the item that is there, or of the one that was refused.
 fn add_or_show(all: &mut IdHashMap<Named>, item: Named) -> Option<u32>
     requires keyed { IsKeyedByText (λ x. x.name) all.old }
-    ensures shown { IfSome result
-        (λ value. IfSome (of_key item.name all.old.items) (λ x. value ≡ x.value)) }
+    ensures shown { IfSome (of_key item.name all.old.items) (λ x. result ≡ Some x.value) }
     ensures keyed { IsKeyedByText (λ x. x.name) all.new }
 {
     match all.insert_unique(item) {
@@ -120,9 +119,7 @@ fn remove(all: &mut IdHashMap<Named>, name: &str) -> bool
 fn remove_beside(all: &mut IdHashMap<Noted>, number: u32, other: u32) -> bool
     requires keyed { ⟦<IdHashMap<Noted> as Keyed>⟧.keyed all.old }
     requires apart { other ≢ number }
-    ensures kept { IfSome (of_number other all.old.items)
-        (λ x. of_number other all.new.items ≡ Some x) }
-    ensures absent { IfNone (of_number other all.old.items) (of_number other all.new.items ≡ None) }
+    ensures same { of_number other all.new.items ≡ of_number other all.old.items }
 {
     all.remove(&number).is_some()
 }

@@ -30,8 +30,7 @@ fn hash_value_of(map: &IdHashMap<Named>, name: &str) -> Option<u32>
 /// The note of the number, in a hash map under any hasher.
 fn note_of<S: BuildHasher>(map: &IdHashMap<Noted, S>, number: u32) -> Option<&String>
     requires keyed { ⟦<IdHashMap<Noted, S> as Keyed>⟧.keyed map.now }
-    ensures { option_map (λ note. note.now) result ≡ option_map
-        (λ x. x.note) (of_number number map.now.items) }
+    ensures { option_copied result ≡ option_map (λ x. x.note) (of_number number map.now.items) }
 {
     Some(&map.get(&number)?.note)
 }

@@ -1,11 +1,10 @@
 //! Adding many items to an ordered map.
-ghost use Rattle.std.specs.Prelude.{◌≡◌, ◌≤◌, ◌++◌, List, [], IfSome, IsTrue, nat_eq, IsPermutation};
+ghost use Rattle.std.specs.Prelude.{◌≡◌, ◌≤◌, ◌++◌, [], IfSome, IsTrue, IsPermutation};
 ghost use Rattle.std.specs.List.{AllZip};
 ghost use Rattle.std.specs.Ordering.{nat_cmp};
 ghost use Rattle.std.specs.String.{string_cmp, string_eq};
-ghost use Rattle.iddqd.specs.Given.{BeginsWith};
-ghost use Rattle.iddqd.specs.Collecting.{AddsAll, IsFirstConflict, OverwritesAll};
 ghost use Rattle.iddqd.specs.Contents.{Ascends, NoTwoAkin};
+ghost use Rattle.test_callers.specs.Adding.{ComesBehindNew, PutsAll, ShowsConflict};
 
 use crate::ord_insertions;
 use iddqd::errors::ExtendUniqueError;
@@ -16,12 +15,8 @@ use test_writers::items::{Named, Pair};
 /// Adds pairs up to the first whose key is there, and shows that one and the one that is there.
 fn add_and_show(map: &mut IdOrdMap<Pair>, pairs: Vec<Pair>) -> Option<(Pair, Pair)>
     requires keyed { Ascends (λ p. p.key) nat_cmp map.old.items }
-    ensures conflict { IfSome result (λ shown. (before : List Pair)
-        × IsFirstConflict (λ p. p.key) nat_eq map.old.items before shown.0 shown.1
-        × AddsAll (λ p. p.key) nat_eq before map.old.items map.new.items) }
-    ensures given { IfSome result (λ shown. (before : List Pair)
-        × BeginsWith before shown.0 pairs.items
-        × NoTwoAkin (λ p. p.key) nat_eq (map.old.items ++ before)) }
+    ensures conflict { IfSome result (ShowsConflict map.old.items map.new.items) }
+    ensures given { IfSome result (ComesBehindNew pairs.items map.old.items) }
     ensures keyed { Ascends (λ p. p.key) nat_cmp map.new.items }
 {
     match map.extend_unique(pairs) {
@@ -74,8 +69,7 @@ fn add_all(all: &mut IdOrdMap<Named>, items: Vec<Named>) -> bool
 /// Puts all items in, each in the place of one of its name, and tells whether all are in.
 fn put_all(all: &mut IdOrdMap<Named>, items: Vec<Named>) -> bool
     requires keyed { Ascends (λ x. x.name) string_cmp all.old.items }
-    ensures put { IsTrue result → OverwritesAll (λ x. x.name) string_eq
-        all.old.limit items.items all.old.items all.new.items }
+    ensures put { IsTrue result → PutsAll all.old.limit items.items all.old.items all.new.items }
     ensures keyed { Ascends (λ x. x.name) string_cmp all.new.items }
 {
     match all.extend(items) {
@@ -86,8 +80,7 @@ fn put_all(all: &mut IdOrdMap<Named>, items: Vec<Named>) -> bool
 
 /// Collects the items, of each name the last one.
 fn collect(alloc: Global, items: Vec<Named>) -> Option<IdOrdMap<Named>>
-    ensures { IfSome result (λ m. OverwritesAll (λ x. x.name) string_eq
-        MAX_ITEMS items.items [] m.items) }
+    ensures { IfSome result (λ m. PutsAll MAX_ITEMS items.items [] m.items) }
 {
     match IdOrdMap::from_iter(alloc, items) {
         Ok(map) => Some(map),

@@ -1,10 +1,10 @@
 //! Entries of an ordered map.
-ghost use Rattle.std.specs.Prelude.{◌≡◌, ◌-◌, ◌==◌, IfNone, IfSome, IsTrue, OnSome, Some, false, length, option_map, slice_get, slice_set, take};
+ghost use Rattle.std.specs.Prelude.{◌≡◌, ◌-◌, IfNone, IfSome, IsTrue, OnSome, Some, false, length, option_map, take};
 ghost use Rattle.std.specs.Ordering.{nat_cmp};
-ghost use Rattle.std.specs.Str.{bytes_eq};
-ghost use Rattle.std.specs.String.{string_bytes, string_cmp};
-ghost use Rattle.iddqd.specs.Contents.{AddsItem, Ascends, items_without};
-ghost use Rattle.test_callers.specs.Lookups.{of_key, of_name, pair_at, put_at_key, with_value};
+ghost use Rattle.std.specs.String.{string_cmp};
+ghost use Rattle.iddqd.specs.Contents.{AddsItem, Ascends};
+ghost use Rattle.test_callers.specs.Lookups.{AddsIfNew, AddsPairIfNew, Replaces, SetsAtKey, SetsFirst, last_of, of_key, of_name, with_value, without_name};
+ghost use Rattle.test_writers.specs.Pairs.{pair_at};
 
 use iddqd::errors::Refused;
 use iddqd::id_ord_map::Entry;
@@ -15,8 +15,7 @@ use test_writers::items::{Named, Pair, SetsValue};
 #[tactic(auto, using(iddqd::proofs::GuardLemmas::same_key_kept))]
 fn add_and_write(map: &mut IdOrdMap<Named>, item: Named, then: u32) -> bool
     requires keyed { Ascends (λ x. x.name) string_cmp map.old.items }
-    ensures added { IsTrue result → AddsItem
-        (record item { value = then }) map.old.items map.new.items }
+    ensures added { IsTrue result → AddsItem (with_value then item) map.old.items map.new.items }
     ensures kept { result ≡ false → map.new.items ≡ map.old.items }
     ensures keyed { Ascends (λ x. x.name) string_cmp map.new.items }
 {
@@ -37,8 +36,7 @@ fn add_and_write(map: &mut IdOrdMap<Named>, item: Named, then: u32) -> bool
 fn replace(map: &mut IdOrdMap<Named>, item: Named) -> Option<Named>
     requires keyed { Ascends (λ x. x.name) string_cmp map.old.items }
     ensures found { result ≡ of_key item.name map.old.items }
-    ensures replaced { IfSome (of_key item.name map.old.items)
-        (λ x. map.new.items ≡ put_at_key item.name item map.old.items) }
+    ensures replaced { Replaces item map.old.items map.new.items }
     ensures keyed { Ascends (λ x. x.name) string_cmp map.new.items }
 {
     match map.entry(&item.name) {
@@ -51,8 +49,7 @@ fn replace(map: &mut IdOrdMap<Named>, item: Named) -> Option<Named>
 fn take(map: &mut IdOrdMap<Named>, name: &str) -> Option<Named>
     requires keyed { Ascends (λ x. x.name) string_cmp map.old.items }
     ensures found { result ≡ of_name name.now map.old.items }
-    ensures left { map.new.items ≡ items_without (λ x. x.name)
-        (λ k. bytes_eq name.now (string_bytes k)) map.old.items }
+    ensures left { map.new.items ≡ without_name name.now map.old.items }
     ensures keyed { Ascends (λ x. x.name) string_cmp map.new.items }
 {
     match map.entry(&Text(name)) {
@@ -64,10 +61,8 @@ fn take(map: &mut IdOrdMap<Named>, name: &str) -> Option<Named>
 /// Writes the value of the item of that name, or adds the item.
 fn set_or_add(map: &mut IdOrdMap<Named>, set: u32, item: Named) -> bool
     requires keyed { Ascends (λ x. x.name) string_cmp map.old.items }
-    ensures set { IfSome (of_key item.name map.old.items)
-        (λ x. map.new.items ≡ put_at_key item.name (record x { value = set }) map.old.items) }
-    ensures added { IfNone (of_key item.name map.old.items)
-        (IsTrue result → AddsItem item map.old.items map.new.items) }
+    ensures set { SetsAtKey item.name set map.old.items map.new.items }
+    ensures added { IsTrue result → AddsIfNew item map.old.items map.new.items }
     ensures kept { result ≡ false → map.new.items ≡ map.old.items }
     ensures keyed { Ascends (λ x. x.name) string_cmp map.new.items }
 {
@@ -86,10 +81,9 @@ fn set_or_add(map: &mut IdOrdMap<Named>, set: u32, item: Named) -> bool
 /// The value of the item of that name, or of this one, which is added.
 fn value_or(map: &mut IdOrdMap<Named>, item: Named) -> Option<u32>
     requires keyed { Ascends (λ x. x.name) string_cmp map.old.items }
-    ensures found { IfSome (of_key item.name map.old.items)
-        (λ x. (result ≡ Some x.value) × (map.new ≡ map.old)) }
-    ensures added { IfNone (of_key item.name map.old.items)
-        (OnSome result (AddsItem item map.old.items map.new.items)) }
+    ensures found { IfSome (of_key item.name map.old.items) (λ x. result ≡ Some x.value) }
+    ensures unchanged { IfSome (of_key item.name map.old.items) (λ _. map.new ≡ map.old) }
+    ensures added { OnSome result (AddsIfNew item map.old.items map.new.items) }
     ensures kept { IfNone result (map.new.items ≡ map.old.items) }
 {
     match map.entry(&item.name).or_insert(item) {
@@ -104,8 +98,9 @@ fn value_or(map: &mut IdOrdMap<Named>, item: Named) -> Option<u32>
 /// Shows the value of the key, or adds the key with this one.
 fn show_or_add(map: &mut IdOrdMap<Pair>, key: u32, value: u32) -> Option<u32>
     requires keyed { Ascends (λ p. p.key) nat_cmp map.old.items }
-    ensures found { IfSome (pair_at key map.old.items) (λ x. (result ≡ Some x.value) × (map.new ≡ map.old)) }
-    ensures added { IfNone (pair_at key map.old.items) (OnSome result (AddsItem (record { key = key; value = value }) map.old.items map.new.items)) }
+    ensures found { IfSome (pair_at key map.old.items) (λ p. result ≡ Some p.value) }
+    ensures unchanged { IfSome (pair_at key map.old.items) (λ _. map.new ≡ map.old) }
+    ensures added { OnSome result (AddsPairIfNew key value map.old.items map.new.items) }
     ensures kept { IfNone result (map.new.items ≡ map.old.items) }
 {
     match map.entry(&key).or_insert_with_ref(|| Pair { key, value }) {
@@ -117,8 +112,7 @@ fn show_or_add(map: &mut IdOrdMap<Pair>, key: u32, value: u32) -> Option<u32>
 /// Writes the first pair's value.
 fn set_first(map: &mut IdOrdMap<Pair>, value: u32)
     requires keyed { Ascends (λ p. p.key) nat_cmp map.old.items }
-    ensures set { IfSome (slice_get map.old.items 0)
-        (λ x. map.new.items ≡ slice_set map.old.items 0 (record x { value = value })) }
+    ensures set { SetsFirst value map.old.items map.new.items }
     ensures keyed { Ascends (λ p. p.key) nat_cmp map.new.items }
 {
     if let Some(mut entry) = map.first_entry() {
@@ -151,10 +145,8 @@ fn add_or_pass_on(map: &mut IdOrdMap<Named>, item: Named) -> Result<(), Refused<
 #[tactic(auto, using(iddqd::proofs::GuardLemmas::read_back, iddqd::proofs::GuardLemmas::others_written))]
 fn write_and_take(map: &mut IdOrdMap<Named>, name: &str, value: u32) -> Option<Named>
     requires keyed { Ascends (λ x. x.name) string_cmp map.old.items }
-    ensures taken { result ≡ option_map (with_value value)
-        (of_name name.now map.old.items) }
-    ensures left { map.new.items ≡ items_without (λ x. x.name)
-        (λ k. bytes_eq name.now (string_bytes k)) map.old.items }
+    ensures taken { result ≡ option_map (with_value value) (of_name name.now map.old.items) }
+    ensures left { map.new.items ≡ without_name name.now map.old.items }
     ensures keyed { Ascends (λ x. x.name) string_cmp map.new.items }
 {
     match map.entry(&Text(name)) {
@@ -170,8 +162,7 @@ fn write_and_take(map: &mut IdOrdMap<Named>, name: &str, value: u32) -> Option<N
 #[tactic(auto, using(iddqd::proofs::GuardLemmas::read_back))]
 fn write_and_replace(map: &mut IdOrdMap<Named>, item: Named, value: u32) -> Option<Named>
     requires keyed { Ascends (λ x. x.name) string_cmp map.old.items }
-    ensures found { result ≡ option_map (with_value value)
-        (of_key item.name map.old.items) }
+    ensures found { result ≡ option_map (with_value value) (of_key item.name map.old.items) }
     ensures keyed { Ascends (λ x. x.name) string_cmp map.new.items }
 {
     match map.entry(&item.name) {
@@ -216,11 +207,16 @@ fn add_and_take(map: &mut IdOrdMap<Named>, item: Named) -> Option<Named>
 /// Removes the item of the greatest name, if its value is this one.
 fn take_last_of(map: &mut IdOrdMap<Named>, value: u32) -> Option<Named>
     requires keyed { Ascends (λ x. x.name) string_cmp map.old.items }
-    ensures taken { IfSome result
-        (λ x. (slice_get map.old.items (length map.old.items - 1) ≡ Some x) × (x.value ≡ value)) }
-    ensures left { OnSome result
-        (map.new.items ≡ take (length map.old.items - 1) map.old.items) }
+
+    // if it is taken
+    ensures last { IfSome result (λ x. last_of map.old.items ≡ Some x) }
+    ensures value { IfSome result (λ x. x.value ≡ value) }
+    ensures left { OnSome result (map.new.items ≡ take (length map.old.items - 1) map.old.items) }
+
+    // if it is not
     ensures kept { IfNone result (map.new ≡ map.old) }
+
+    // either way
     ensures keyed { Ascends (λ x. x.name) string_cmp map.new.items }
 {
     let entry = map.last_entry()?;

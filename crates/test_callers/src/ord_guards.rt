@@ -1,10 +1,10 @@
 //! Writing through the guard of an ordered map.
-ghost use Rattle.std.specs.Prelude.{◌≡◌, IfSome, IfNone, IsTrue, is_some, option_map};
+ghost use Rattle.std.specs.Prelude.{◌≡◌, IfNone, is_some, option_map};
 ghost use Rattle.std.specs.Ordering.{nat_cmp};
-ghost use Rattle.std.specs.Str.{bytes_eq};
-ghost use Rattle.std.specs.String.{string_bytes, string_cmp};
-ghost use Rattle.iddqd.specs.Contents.{Ascends, find_item};
-ghost use Rattle.test_callers.specs.Lookups.{PutsOverFound, SetsPair, of_name, of_number, pair_at, put_at_name, put_at_number};
+ghost use Rattle.std.specs.String.{string_cmp};
+ghost use Rattle.iddqd.specs.Contents.{Ascends, IsAbsent, find_item};
+ghost use Rattle.test_callers.specs.Lookups.{FindsEqualKey, PutsInPlace, SetsAtName, SetsNote, of_name};
+ghost use Rattle.test_writers.specs.Pairs.{SetsPair, pair_at};
 
 use crate::items::Noted;
 use iddqd::{Comparable, IdOrdItem, IdOrdMap, Text};
@@ -13,9 +13,9 @@ use test_writers::items::{Named, Pair, write_value};
 /// Writes a whole item in the place of the one found; one of an equal key, however it is spelled, leaves the map keyed.
 fn put<T: IdOrdItem + Drop, Q: Comparable<T::Key>>(map: &mut IdOrdMap<T>, query: &Q, item: T)
     requires keyed { Ascends T.key T.Key.cmp map.old.items }
-    ensures written { PutsOverFound T.key (Q.equivalent query.now) item map.old.items map.new.items }
-    ensures absent { IfNone (find_item T.key (Q.equivalent query.now) map.old.items) (map.new ≡ map.old) }
-    ensures keyed { IfSome (find_item T.key (Q.equivalent query.now) map.old.items) (λ x. IsTrue (T.Key.eq (T.key x) (T.key item)) → Ascends T.key T.Key.cmp map.new.items) }
+    ensures written { PutsInPlace T.key (Q.equivalent query.now) item map.old.items map.new.items }
+    ensures absent { IsAbsent T.key (Q.equivalent query.now) map.old.items → map.new ≡ map.old }
+    ensures keyed { FindsEqualKey T.key T.Key.eq (Q.equivalent query.now) item map.old.items → Ascends T.key T.Key.cmp map.new.items }
 {
     if let Some(mut place) = map.get_mut(query) {
         *place = item;
@@ -56,8 +56,7 @@ fn set_and_read(map: &mut IdOrdMap<Named>, name: &str, value: u32) -> Option<u32
 #[tactic(auto, using(iddqd::proofs::GuardLemmas::same_key_kept))]
 fn set_value(map: &mut IdOrdMap<Named>, name: &str, value: u32) -> bool
     requires keyed { Ascends (λ x. x.name) string_cmp map.old.items }
-    ensures written { IfSome (of_name name.now map.old.items)
-        (λ x. map.new.items ≡ put_at_name name.now (record x { value = value }) map.old.items) }
+    ensures written { SetsAtName name.now value map.old.items map.new.items }
     ensures absent { IfNone (of_name name.now map.old.items) (map.new ≡ map.old) }
     ensures keyed { Ascends (λ x. x.name) string_cmp map.new.items }
 {
@@ -75,8 +74,7 @@ fn set_value(map: &mut IdOrdMap<Named>, name: &str, value: u32) -> bool
 #[tactic(auto, using(iddqd::proofs::GuardLemmas::same_key_kept))]
 fn note(map: &mut IdOrdMap<Noted>, number: u32, note: String) -> bool
     requires keyed { Ascends (λ x. x.number) nat_cmp map.old.items }
-    ensures written { IfSome (of_number number map.old.items)
-        (λ x. map.new.items ≡ put_at_number number (record x { note = note }) map.old.items) }
+    ensures written { SetsNote number note map.old.items map.new.items }
     ensures keyed { Ascends (λ x. x.number) nat_cmp map.new.items }
 {
     match map.get_mut(&number) {
@@ -136,7 +134,7 @@ fn put_and_ask<T: IdOrdItem + Drop, Q: Comparable<T::Key>>(
     item: T,
 ) -> bool
     requires keyed { Ascends T.key T.Key.cmp map.old.items }
-    requires akin { IfSome (find_item T.key (Q.equivalent query.now) map.old.items) (λ x. IsTrue (T.Key.eq (T.key x) (T.key item))) }
+    requires akin { FindsEqualKey T.key T.Key.eq (Q.equivalent query.now) item map.old.items }
     ensures told { result ≡ is_some (find_item T.key (Q.equivalent query.now) map.new.items) }
     ensures keyed { Ascends T.key T.Key.cmp map.new.items }
 {
@@ -148,7 +146,7 @@ fn put_and_ask<T: IdOrdItem + Drop, Q: Comparable<T::Key>>(
 #[tactic(auto, using(iddqd::proofs::GuardLemmas::same_key_kept))]
 fn set_and_ask(map: &mut IdOrdMap<Named>, name: &str, value: u32) -> bool
     requires keyed { Ascends ⟦<Named as IdOrdItem>⟧.key ⟦<String as Ord>⟧.cmp map.old.items }
-    ensures told { result ≡ is_some (find_item ⟦<Named as IdOrdItem>⟧.key (λ k. bytes_eq name.now (string_bytes k)) map.new.items) }
+    ensures told { result ≡ is_some (of_name name.now map.new.items) }
     ensures keyed { Ascends ⟦<Named as IdOrdItem>⟧.key ⟦<String as Ord>⟧.cmp map.new.items }
 {
     if let Some(mut found) = map.get_mut(&Text(name)) {

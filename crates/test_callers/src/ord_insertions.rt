@@ -1,5 +1,5 @@
 //! Insertions into an ordered map, with the result matched in each form.
-ghost use Rattle.std.specs.Prelude.{◌≡◌, ◌≢◌, ◌==◌, ◌+◌, IfNone, IfSome, IsTrue, None, OnOk, Some, false, is_some, length};
+ghost use Rattle.std.specs.Prelude.{◌≡◌, ◌≢◌, ◌==◌, ◌+◌, IfSome, IsTrue, None, OnOk, Some, false, is_some, length};
 ghost use Rattle.std.specs.Ordering.{nat_cmp};
 ghost use Rattle.std.specs.String.{string_cmp};
 ghost use Rattle.iddqd.specs.Contents.{Ascends};
@@ -13,8 +13,7 @@ use test_writers::items::Named;
 /// Three arms: the value of the item that is there, or of the one that was refused.
 fn add_or_show(all: &mut IdOrdMap<Named>, item: Named) -> Option<u32>
     requires keyed { Ascends (λ x. x.name) string_cmp all.old.items }
-    ensures shown { IfSome result
-        (λ value. IfSome (of_key item.name all.old.items) (λ x. value ≡ x.value)) }
+    ensures shown { IfSome (of_key item.name all.old.items) (λ x. result ≡ Some x.value) }
     ensures keyed { Ascends (λ x. x.name) string_cmp all.new.items }
 {
     match all.insert_unique(item) {
@@ -122,9 +121,7 @@ fn remove(all: &mut IdOrdMap<Named>, name: &str) -> bool
 fn remove_beside(all: &mut IdOrdMap<Noted>, number: u32, other: u32) -> bool
     requires keyed { Ascends (λ x. x.number) nat_cmp all.old.items }
     requires apart { other ≢ number }
-    ensures kept { IfSome (of_number other all.old.items)
-        (λ x. of_number other all.new.items ≡ Some x) }
-    ensures absent { IfNone (of_number other all.old.items) (of_number other all.new.items ≡ None) }
+    ensures same { of_number other all.new.items ≡ of_number other all.old.items }
 {
     all.remove(&number).is_some()
 }

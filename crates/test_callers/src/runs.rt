@@ -1,9 +1,9 @@
 //! The same commands over both maps.
-ghost use Rattle.std.specs.Prelude.{◌≡◌, All, IfSome, nat_eq};
+ghost use Rattle.std.specs.Prelude.{All};
 ghost use Rattle.std.specs.Ordering.{nat_cmp};
 ghost use Rattle.iddqd.specs.Contents.{Ascends};
-ghost use Rattle.idtable_commands.specs.SameReplies.{HoldSameItems, IsOrderless};
-ghost use Rattle.test_callers.specs.Runs.{AreUnrefused};
+ghost use Rattle.idtable_commands.specs.SameReplies.{IsOrderless};
+ghost use Rattle.test_callers.specs.Runs.{AreSame, HoldSamePairs, IfUnrefused};
 
 use iddqd::{IdHashMap, IdOrdMap, Keyed, Visit};
 use idtable_commands::{Command, Reply, laws, run};
@@ -46,12 +46,12 @@ fn run_both(
 ) -> Option<BothReplies>
     requires keyed_hashed { ⟦<IdHashMap<Pair> as Keyed>⟧.keyed hashed.old }
     requires keyed_ordered { Ascends (λ p. p.key) nat_cmp ordered.old.items }
-    requires same { HoldSameItems (λ p. p.key) nat_eq hashed.old.items ordered.old.items }
+    requires same { HoldSamePairs hashed.old.items ordered.old.items }
     requires orderless { All IsOrderless commands.items }
 
     // afterwards
-    ensures replies { IfSome result (λ both. AreUnrefused both → both.hashed.items ≡ both.ordered.items) }
-    ensures same { IfSome result (λ both. AreUnrefused both → HoldSameItems (λ p. p.key) nat_eq hashed.new.items ordered.new.items) }
+    ensures replies { IfUnrefused result AreSame }
+    ensures same { IfUnrefused result (λ _. HoldSamePairs hashed.new.items ordered.new.items) }
 {
     laws::same_replies::<Pair, u32, Sets>();
     laws::clones_are_same::<Pair, u32, Sets>();

@@ -1,6 +1,7 @@
 //! An item that is written whole in the place of one of an equal key, which is spelled in another way.
-ghost use Rattle.std.specs.Prelude.{◌≡◌, IfNone, IfSome, IsTrue, is_some};
-ghost use Rattle.iddqd.specs.Contents.{Ascends, find_item, items_overwritten};
+ghost use Rattle.std.specs.Prelude.{◌≡◌, IfNone, is_some};
+ghost use Rattle.iddqd.specs.Contents.{Ascends, find_item};
+ghost use Rattle.test_coarse.specs.Writes.{FindsEqualName, PutsInPlace, coarse_of};
 
 use crate::caseless::{Caseless, Coarse};
 use iddqd::{IdHashItem, IdHashMap, IdOrdItem, IdOrdMap, Keyed};
@@ -9,9 +10,9 @@ use std::hash::BuildHasher;
 /// Writes an item of an equal key over the one found. If there is none, nothing changes. Does not allocate.
 pub fn put(map: &mut IdOrdMap<Coarse>, asked: &Caseless, item: Coarse)
     requires keyed { Ascends ⟦<Coarse as IdOrdItem>⟧.key ⟦<Caseless as Ord>⟧.cmp map.old.items }
-    requires akin { IfSome (find_item ⟦<Coarse as IdOrdItem>⟧.key (⟦<Caseless as PartialEq>⟧.eq asked.now) map.old.items) (λ x. IsTrue (⟦<Caseless as PartialEq>⟧.eq x.name item.name)) }
-    ensures written { IfSome (find_item ⟦<Coarse as IdOrdItem>⟧.key (⟦<Caseless as PartialEq>⟧.eq asked.now) map.old.items) (λ _. map.new.items ≡ items_overwritten ⟦<Coarse as IdOrdItem>⟧.key (⟦<Caseless as PartialEq>⟧.eq asked.now) item map.old.items) }
-    ensures absent { IfNone (find_item ⟦<Coarse as IdOrdItem>⟧.key (⟦<Caseless as PartialEq>⟧.eq asked.now) map.old.items) (map.new ≡ map.old) }
+    requires akin { FindsEqualName asked.now item map.old.items }
+    ensures written { PutsInPlace asked.now item map.old.items map.new.items }
+    ensures absent { IfNone (coarse_of asked.now map.old.items) (map.new ≡ map.old) }
     ensures keyed { Ascends ⟦<Coarse as IdOrdItem>⟧.key ⟦<Caseless as Ord>⟧.cmp map.new.items }
 {
     if let Some(mut found) = map.get_mut(asked) {
@@ -23,9 +24,9 @@ pub fn put(map: &mut IdOrdMap<Coarse>, asked: &Caseless, item: Coarse)
 /// The same of a hash map.
 pub fn hash_put<S: BuildHasher>(map: &mut IdHashMap<Coarse, S>, asked: &Caseless, item: Coarse)
     requires keyed { ⟦<IdHashMap<Coarse, S> as Keyed>⟧.keyed map.old }
-    requires akin { IfSome (find_item ⟦<Coarse as IdOrdItem>⟧.key (⟦<Caseless as PartialEq>⟧.eq asked.now) map.old.items) (λ x. IsTrue (⟦<Caseless as PartialEq>⟧.eq x.name item.name)) }
-    ensures written { IfSome (find_item ⟦<Coarse as IdOrdItem>⟧.key (⟦<Caseless as PartialEq>⟧.eq asked.now) map.old.items) (λ _. map.new.items ≡ items_overwritten ⟦<Coarse as IdOrdItem>⟧.key (⟦<Caseless as PartialEq>⟧.eq asked.now) item map.old.items) }
-    ensures absent { IfNone (find_item ⟦<Coarse as IdOrdItem>⟧.key (⟦<Caseless as PartialEq>⟧.eq asked.now) map.old.items) (map.new ≡ map.old) }
+    requires akin { FindsEqualName asked.now item map.old.items }
+    ensures written { PutsInPlace asked.now item map.old.items map.new.items }
+    ensures absent { IfNone (coarse_of asked.now map.old.items) (map.new ≡ map.old) }
     ensures keyed { ⟦<IdHashMap<Coarse, S> as Keyed>⟧.keyed map.new }
 {
     if let Some(mut lent) = map.get_mut(asked) {

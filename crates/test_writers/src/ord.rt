@@ -1,7 +1,8 @@
 //! A guard, an entry and walks of an ordered map.
-ghost use Rattle.std.specs.Prelude.{◌≡◌, ◌==◌, IfNone, IfSome, is_some, map};
+ghost use Rattle.std.specs.Prelude.{◌≡◌, IfNone, is_some, map};
 ghost use Rattle.std.specs.Ordering.{nat_cmp};
-ghost use Rattle.iddqd.specs.Contents.{Ascends, find_item, items_overwritten};
+ghost use Rattle.iddqd.specs.Contents.{Ascends};
+ghost use Rattle.test_writers.specs.Pairs.{SetsPair, pair_at};
 ghost use Rattle.test_writers.specs.Zeroed.{zeroed};
 
 use crate::items::Pair;
@@ -11,9 +12,9 @@ use iddqd::id_ord_map::Entry;
 /// Writes the value of the key, and tells whether it is there.
 pub fn set_value(map: &mut IdOrdMap<Pair>, key: u32, value: u32) -> bool
     requires keyed { Ascends (λ p. p.key) nat_cmp map.old.items }
-    ensures told { result ≡ is_some (find_item (λ p. p.key) (λ k. key == k) map.old.items) }
-    ensures written { IfSome (find_item (λ p. p.key) (λ k. key == k) map.old.items) (λ x. map.new.items ≡ items_overwritten (λ p. p.key) (λ k. key == k) (record x { value = value }) map.old.items) }
-    ensures absent { IfNone (find_item (λ p. p.key) (λ k. key == k) map.old.items) (map.new ≡ map.old) }
+    ensures told { result ≡ is_some (pair_at key map.old.items) }
+    ensures written { SetsPair key value map.old.items map.new.items }
+    ensures absent { IfNone (pair_at key map.old.items) (map.new ≡ map.old) }
     ensures keyed { Ascends (λ p. p.key) nat_cmp map.new.items }
 {
     match map.get_mut(&key) {
@@ -29,7 +30,7 @@ pub fn set_value(map: &mut IdOrdMap<Pair>, key: u32, value: u32) -> bool
 /// Lets an entry go.
 pub fn looks(map: &mut IdOrdMap<Pair>, key: u32) -> bool
     requires keyed { Ascends (λ p. p.key) nat_cmp map.old.items }
-    ensures told { result ≡ is_some (find_item (λ p. p.key) (λ k. key == k) map.old.items) }
+    ensures told { result ≡ is_some (pair_at key map.old.items) }
     ensures unchanged { map.new ≡ map.old }
 {
     match map.entry(&key) {
