@@ -1,15 +1,23 @@
 -- What a write to the item of a slot leaves, of the store and the index, and of the keys.
 --     item_in_slot      the item of a listed slot is what the store has there
 --     lent_paired, lent_items, lent_vacant      the pair of store and index after the write
-use Rattle.std.proofs.Common.{◌≡◌, ℕ, zero, suc, ◌∙◌, ⊎_elim, Bool, true, false, cond, List, [], ◌∷◌, get_or, Some, is_some, refl, sym, ap, arith, true≢false, nat_eq, suc-le-suc}
+--     slot_is_at      the slot at a place has the item there
+use Rattle.std.proofs.Common.{◌≡◌, ℕ, zero, suc, ◌∙◌, ⊎_elim, Bool, true, false, cond, List, [], ◌∷◌, ◌<◌, length, get_or, slice_get, subst, Some, IsSome, is_some, refl, sym, ap, arith, true≢false, nat_eq, le_of_suc-le-suc, not-suc-le-zero, suc-le-suc}
 use Rattle.std.proofs.lemmas.Bool.{cases_eq, eqb-true}
 use Rattle.iddqd_ord_index.specs.Listed.{listed_items, AreOccupied}
-use Rattle.iddqd_store.specs.SlotItems.{item_of_slot, written_to_slot}
+use Rattle.iddqd_store.specs.Holding.{Holding}
+use Rattle.iddqd_store.specs.SlotItems.{HaveSlots, item_of_slot, written_to_slot}
 use Rattle.iddqd_store.specs.Store.{Store, item_at, IsOccupied, vacant, with_item}
 use Rattle.iddqd_ord_index.proofs.ListedLemmas.{listed-updated}
 use Rattle.iddqd_store.proofs.StoreLemmas.{given, len_lent, updates-set, vacant_lent}
-use Rattle.iddqd_store.proofs.WrittenLemmas.{slot_place}
+use Rattle.iddqd_store.proofs.WrittenLemmas.{place_read, slot_place}
+use Rattle.iddqd_ord.specs.Guard.{IsSlotAt}
 use Rattle.iddqd_ord.specs.StoreAndIndex.{ListsOccupied}
+
+within : {X : Type 0} (xs : List X) (i : ℕ) → i < length xs → IsSome (slice_get xs i)
+within [] i lt = absurd (not-suc-le-zero lt)
+within (x ∷ xs) zero lt = refl
+within (x ∷ xs) (suc i) lt = within xs i (le_of_suc-le-suc lt)
 
 module _ {T : Type 0} where
   -- the item of a listed slot is what the store has there
@@ -52,3 +60,14 @@ module _ {T : Type 0} where
         let x = given (item_of_slot slots (listed_items store slots) slot) some in
         let p = slot_place slots (listed_items store slots) slot x.0 x.1 in
         listed-updated store (with_item store slot w) slots p.place slot w paired.each_once paired.occupied p.slot_there updates.changed updates.others ∙ sym (p.written w)
+
+  pub slot_is_at : (m : Holding T) (place slot : ℕ) → HaveSlots m.slots m.items → place < length m.items → slice_get m.slots place ≡ Some slot → IsSlotAt m place slot
+  slot_is_at m place slot own lt e =
+      let read = place_read m.slots m.items place slot own e in
+      record {
+        item = read.item;
+        there = subst IsSome (sym read.item) (within m.items place lt);
+        written = read.written;
+        others = read.others;
+        placed = e;
+      }

@@ -1,8 +1,9 @@
 -- An index stays one as its list changes.
-use Rattle.std.proofs.Common.{◌≡◌, ℕ, Bool, false, IsTrue, List, [], length, set, sym, ap, ◌∙◌, subst, true≢false, arith, nat_eq}
+use Rattle.std.proofs.Common.{◌≡◌, ℕ, Bool, false, IsTrue, List, [], ◌++◌, length, set, drop, sym, ap, ◌∙◌, subst, true≢false, arith, nat_eq}
 use Rattle.std.specs.Cmp.{nat_eq_equiv}
 use Rattle.std.specs.List.{Contains, IsDistinct, insert, remove}
 use Rattle.iddqd_ord_index.specs.IndexParts.{IsIndex}
+use Rattle.iddqd_ord_index.specs.Runs.{Run, IsRunOf}
 use Rattle.iddqd_ord_index.specs.Shape.{unused}
 use Rattle.iddqd_ord_index.specs.declared.ord_index.OrdIndex.TheInside.{Inside}
 use Rattle.iddqd_store.proofs.DistinctLemmas.{absent_apart, distinct_insert, distinct_remove, distinct_set}
@@ -15,8 +16,12 @@ none_distinct = tt
 pub unready : {P : Type 0} (b : Bool) → b ≡ false → IsTrue b → P
 unready b e t = absurd (true≢false (sym t ∙ e))
 
-pub empty_index : (i : Inside) → i.root ≡ unused → i.len ≡ 0 → i.levels ≡ 1 → i.prepared ≡ false → IsIndex i
-empty_index i r l h p =
+-- no slots are a run anywhere
+pub empty_run : (run : Run) (all : List ℕ) → run.slots ≡ [] → IsRunOf run all
+empty_run run all e = (drop run.start all, sym (ap (λ l. l ++ drop run.start all) e))
+
+pub empty_index : (i : Inside) → i.root ≡ unused → i.len ≡ 0 → i.levels ≡ 1 → i.prepared ≡ false → i.cache.slots ≡ [] → IsIndex i
+empty_index i r l h p e =
     let n : length i.root.slots ≡ 0 = ap (λ t. length t.slots) r in
     let k : i.root.height ≡ 1 = ap (λ t. t.height) r in
     record {
@@ -28,6 +33,7 @@ empty_index i r l h p =
       top = λ lt. absurd (omega arith);
       wanted = λ lt. absurd (omega arith);
       ready = λ t. unready i.prepared p t;
+      cached = empty_run i.cache i.root.slots e;
     }
 
 module _ (slots : List ℕ) (once : IsDistinct nat_eq slots) where

@@ -11,6 +11,7 @@ pub mod FoundLemmas
 pub mod HalfLemmas
 pub mod HeightLemmas
 pub mod IndexLemmas
+pub mod LeafLemmas
 pub mod ListedLemmas
 pub mod MendLemmas
 pub mod OrderLemmas

@@ -118,6 +118,17 @@ module _ {T : Type 0} where
   empty_cells : (us : List (Option T)) → IsPacked us → items_present us ≡ [] → us ≡ replicate 12 none
   empty_cells us p z = p.cells ∙ ap filled z
 
+  -- the cells behind a place, without the empty ones
+  pub tail_cells : (os : List (Option T)) (i n : ℕ) → IsPacked os → n ≡ length (items_present os) → i ≤ n → take (n - i) (drop i os) ≡ map Some (drop i (items_present os))
+  tail_cells os i n p e le =
+      let xs = items_present os in
+      let m : length (map Some xs) ≡ length xs = length-map xs Some in
+      let d : length (drop i (map Some xs)) ≡ n - i = length-drop i (map Some xs) ∙ omega arith in
+      rw (ap (λ l. take (n - i) (drop i l)) p.cells, drop-append-le i (map Some xs) (replicate (12 - length xs) none) (omega arith), take_at (drop i (map Some xs)) (replicate (12 - length xs) none) (n - i) d) (drop-map Some i xs)
+
+  pub held_all : (xs : List T) → items_present (map Some xs) ≡ xs
+  held_all xs = ap items_present (sym (append-nil (map Some xs))) ∙ (held_some xs [] ∙ append-nil xs)
+
   -- what `move_tail` leaves
   pub moved_lower : (os us mid : List (Option T)) (at : ℕ) → IsPacked os → IsPacked us → items_present us ≡ [] → at ≤ length (items_present os)
       → mid ≡ take (12 - at) us → put_mid at (length os - at) os mid ≡ filled (take at (items_present os))

@@ -1,26 +1,41 @@
 -- A list that another one begins with, as both go on.
-use Rattle.std.proofs.Common.{◌≡◌, ℕ, ◌+◌, ◌-◌, ◌<◌, List, [], ◌∷◌, ◌++◌, length, take, drop, get_or, ap, sym, ◌∙◌, arith, append_assoc}
-use Rattle.std.proofs.lemmas.List.{take_rest, drop_more, drop-append-le}
+use Rattle.std.proofs.Common.{◌≡◌, ℕ, ◌+◌, ◌-◌, ◌<◌, ◌≤◌, List, [], ◌∷◌, ◌++◌, length, take, drop, get_or, ap, sym, ◌∙◌, arith, append_assoc, length-drop}
+use Rattle.std.proofs.lemmas.List.{drop_more, get_or-take, length-take-le}
 use Rattle.iddqd_ord_index.specs.Runs.{BeginsWith}
 use Rattle.iddqd_ord_index.specs.Shape.{weave, IsAim}
-use Rattle.iddqd_ord_index.proofs.EditLemmas.{dropped, own_dropped}
+use Rattle.iddqd_ord_index.proofs.EditLemmas.{own_dropped}
 
 -- one slot on
-pub run_more : (run xs : List ℕ) (next : ℕ) → next < length xs → 0 < length run → BeginsWith run (drop next xs) → BeginsWith (take (length run - 1) (drop 1 run)) (drop (next + 1) xs)
-run_more run xs next lt some b = (
-  b.0,
-  sym (ap (λ l. drop 1 l) (drop_more xs next 0 lt))
-      ∙ (ap (λ l. drop 1 l) b.1 ∙ (drop-append-le 1 run b.0 (omega arith) ∙ ap (λ l. l ++ b.0) (sym (take_rest run 1)))),
-)
+module _ (xs old new : List ℕ) (at slot : ℕ) (within : at < length xs) (here : BeginsWith old (drop at xs)) (more : old ≡ slot ∷ new) where
+  whole : get_or xs at 0 ∷ drop (at + 1) xs ≡ slot ∷ (new ++ here.0)
+  whole = sym (drop_more xs at 0 within) ∙ (here.1 ∙ ap (λ l. l ++ here.0) more)
+
+  pub next_is : slot ≡ get_or xs at 0
+  next_is = sym (ap (λ l. get_or l 0 0) whole)
+
+  pub next_begins : BeginsWith new (drop (at + 1) xs)
+  next_begins = (here.0, ap (λ l. drop 1 l) whole)
+
+-- the slots from one position on up to another, one further
+module _ (xs : List ℕ) (next end : ℕ) (some : next < end) (fits : end ≤ length xs) where
+  pub window_front : drop next (take end xs) ≡ get_or xs next 0 ∷ drop (next + 1) (take end xs)
+  window_front =
+      drop_more (take end xs) next 0 (omega (arith, length-take-le end xs fits))
+      ∙ ap (λ s. s ∷ drop (next + 1) (take end xs)) (get_or-take end xs next 0 some)
+
+pub length-window : (xs : List ℕ) (next end : ℕ) → end ≤ length xs → length (drop next (take end xs)) ≡ end - next
+length-window xs next end fits = length-drop next (take end xs) ∙ ap (λ n. n - next) (length-take-le end xs fits)
 
 -- what a run begins with begins with it too
 pub run_of : (a b c : List ℕ) → BeginsWith a b → BeginsWith b c → BeginsWith a c
 run_of a b c p q = (p.0 ++ q.0, q.1 ∙ (ap (λ l. l ++ q.0) p.1 ∙ append_assoc a p.0 q.0))
 
-module _ (ls : List (List ℕ)) (ss : List ℕ) (at i rest : ℕ) (aim : IsAim ls at i rest) (e : length ls ≡ length ss + 1) where
-  pub run_below : BeginsWith (drop rest (get_or ls i [])) (drop at (weave ls ss))
-  run_below = (_, dropped ls ss at i rest aim e)
+-- the front part of it does
+pub front_of : (a b c : List ℕ) → BeginsWith (a ++ b) c → BeginsWith a c
+front_of a b c p = (b ++ p.0, p.1 ∙ append_assoc a b p.0)
 
+-- the own slot of a node at which a position stands
+module _ (ls : List (List ℕ)) (ss : List ℕ) (at i rest : ℕ) (aim : IsAim ls at i rest) (e : length ls ≡ length ss + 1) where
   pub run_own : rest ≡ length (get_or ls i []) → i < length ss → BeginsWith (take (i + 1 - i) (drop i ss)) (drop at (weave ls ss))
   run_own r lt =
       let o = own_dropped ls ss at i rest aim e r lt in

@@ -1,6 +1,7 @@
 -- How an ordered index lies in a tree. No public clause cites this module.
 use Rattle.std.specs.Prelude.{◌≡◌, ◌+◌, ◌<◌, ◌≤◌, IsTrue, length, nat_eq}
 use Rattle.std.specs.List.{IsDistinct}
+use Rattle.iddqd_ord_index.specs.Runs.{IsRunOf}
 use Rattle.iddqd_ord_index.specs.Shape.{IsDense}
 use Rattle.iddqd_ord_index.specs.declared.ord_index.OrdIndex.TheInside.{Inside}
 
@@ -17,3 +18,5 @@ pub record IsIndex (i : Inside) : Type 0 where
   pub wanted : 1 < i.levels → (i.spare.wanted ≡ i.levels + 1) × (i.levels < i.spare.room)
   -- a prepared index has so many, and room for those that it wants when the root rises
   pub ready : IsTrue i.prepared → (length i.root.slots < 4294967295) × (i.levels < i.spare.count) × (i.levels + 1 < i.spare.room)
+  -- what is kept of the slots that were read last
+  pub cached : IsRunOf i.cache i.root.slots

@@ -1,5 +1,5 @@
 -- What the fields of a node show. No public clause cites this module.
-use Rattle.std.specs.Prelude.{◌≡◌, List, length, map, Option}
+use Rattle.std.specs.Prelude.{◌≡◌, ℕ, List, All, length, map, Option}
 use Rattle.std.proofs.Common.{Box, Global}
 use Rattle.iddqd_ord_index.specs.Cells.{items_present, IsPacked}
 use Rattle.iddqd_ord_index.specs.Shape.{Subtree, tree, IsForked}
@@ -26,3 +26,9 @@ seen n = tree (below n.branches) n.slots.items
 pub record IsNode (n : Inside) : Type 0 where
   pub branches : AreBranches n.branches
   pub forked : IsForked (below n.branches) n.slots.items
+
+-- so many leaves, one in each cell
+pub record AreLeaves (os : List (Option (Box Node Global))) (n : ℕ) : Type 0 where
+  pub cells : length os ≡ n
+  pub present : length (subtrees os) ≡ n
+  pub low : All (λ t. t.height ≡ 1) (subtrees os)

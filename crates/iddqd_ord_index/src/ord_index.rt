@@ -5,6 +5,7 @@ ghost use Rattle.iddqd_store.specs.Refusal.{memory_refused};
 
 mod into_walk;
 mod lookups;
+mod run_cache;
 mod walk;
 
 use crate::tree::node::Node;
@@ -12,6 +13,7 @@ use crate::tree::root;
 use crate::tree::spare::Spare;
 use iddqd_store::TryReserveError;
 pub use into_walk::IntoWalk;
+use run_cache::RunCache;
 use std::alloc::Global;
 use std::marker::Model;
 pub use walk::Walk;
@@ -43,6 +45,8 @@ pub struct OrdIndex {
     spare: Spare,
     // Whether an insertion needs no memory.
     prepared: bool,
+    // The slots that `slot_in_turn` has read last.
+    cache: RunCache,
     alloc: Global,
 }
 
@@ -69,6 +73,7 @@ impl OrdIndex {
             levels: 1,
             spare: Spare::new(alloc),
             prepared: false,
+            cache: RunCache::new(),
             alloc,
         }
     }
@@ -101,6 +106,17 @@ impl OrdIndex {
         self.root.slot_at(place.position)
     }
 
+    /// Returns the slot at the place, as `slot_at` does. Calls for one place after the other descend once for several
+    /// slots, as long as the list does not change.
+    #[inline]
+    pub fn slot_in_turn(&mut self, place: Place) -> u32
+        requires { place < length self.old.slots }
+        ensures slot { slice_get self.old.slots place ≡ Some result }
+        ensures unchanged { self.new ≡ self.old }
+    {
+        self.cache.slot_at(&self.root, place.position)
+    }
+
     /// Allocates all that one insertion at any place can need. It returns an error only if memory is refused.
     pub fn prepare(&mut self) -> Result<(), TryReserveError>
         requires { length self.old.slots < u32.MAX }
@@ -125,6 +141,7 @@ impl OrdIndex {
         ensures { self.new ≡ record { slots = insert self.old.slots place slot; prepared = false } }
     {
         self.prepared = false;
+        self.cache.clear();
         self.levels = root::add(
             &mut self.root,
             self.levels,
@@ -144,6 +161,7 @@ impl OrdIndex {
         ensures after { self.new ≡ record { slots = remove self.old.slots place; prepared = false } }
     {
         self.prepared = false;
+        self.cache.clear();
         let (slot, levels) = root::remove(
             &mut self.root,
             self.levels,
@@ -202,6 +220,7 @@ impl OrdIndex {
         ensures { self.new ≡ record { slots = slice_set self.old.slots place new; prepared = false } }
     {
         self.prepared = false;
+        self.cache.clear();
         self.root.rename(place.position, new);
     }
 
@@ -210,6 +229,7 @@ impl OrdIndex {
         ensures { self.new ≡ record { slots = []; prepared = false } }
     {
         self.prepared = false;
+        self.cache.clear();
         self.root = Node::new();
         self.len = 0;
         self.levels = 1;
@@ -219,7 +239,7 @@ impl OrdIndex {
     pub fn walk(&self) -> Walk<'_>
         ensures { result ≡ self.now.slots }
     {
-        Walk::new(&self.root, self.len)
+        Walk::new(&self.root, 0, self.len)
     }
 
     /// Turns the index into an iterator over its slots, in order. Does not allocate.
@@ -246,6 +266,7 @@ impl OrdIndex {
             levels: self.levels,
             spare,
             prepared: false,
+            cache: RunCache::new(),
             alloc: self.alloc,
         })
     }

@@ -29,13 +29,16 @@ impl<T> IdOrdMap<T> {
         self.store.get_mut(slot)
     }
 
-    // Returns the slot of the item at this position. It goes down the index once.
+    // Returns the slot of the item at this position. Calls for one position after the other go down the index once for
+    // several items.
     #[inline]
-    pub(super) fn slot_at_position(&self, at: usize) -> u32
-        requires { at < length self.now.items }
-        ensures { IsSlotAt self.now at result }
+    pub(super) fn slot_at_position(&mut self, at: usize) -> u32
+        requires { at < length self.old.items }
+        ensures slot { IsSlotAt self.old at result }
+        ensures unchanged { self.new ≡ self.old }
     {
-        self.slot_at(self.index.place(at))
+        let place = self.index.place(at);
+        self.index.slot_in_turn(place)
     }
 
     // Returns the slot at the place. It goes down the index once.

@@ -10,8 +10,8 @@ use iddqd_store::ItemStore;
 use std::iter::FusedIterator;
 use std::marker::Model;
 
-/// The items of a map that was consumed, in ascending order of their keys. A step goes down the index by positions, and
-/// compares no keys. Items that were not returned are dropped with it.
+/// The items of a map that was consumed, in ascending order of their keys. A walk goes down the index once for several
+/// items, and compares no keys. Items that were not returned are dropped with it.
 #[derive(Drop)]
 pub struct IntoIter<T> {
     store: ItemStore<T>,

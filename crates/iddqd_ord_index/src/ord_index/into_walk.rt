@@ -3,26 +3,30 @@ ghost use Rattle.std.specs.Prelude.{◌≡◌, length, IfSome};
 ghost use Rattle.std.specs.Iterator.{UpTo, YieldsFirst, at_most, item_count};
 ghost use Rattle.std.specs.Iterator.SizeHint.{IsWithinCount};
 
+use super::run_cache::RunCache;
 use crate::tree::node::Node;
 use std::iter::FusedIterator;
 use std::marker::Model;
 
-/// The slots of an index that is gone, in order, each once. A step goes down from the root by the counts.
+/// The slots of an index that is gone, in order, each once.
 #[derive(Drop)]
 pub struct IntoWalk {
     root: Node,
+    // The slots that were read last.
+    cache: RunCache,
     next: u32,
     end: u32,
 }
 
 impl Model for IntoWalk {
-    ghost use Rattle.std.specs.Prelude.{◌≡◌, ◌≤◌, List, ℕ, drop, length};
+    ghost use Rattle.std.specs.Prelude.{◌≤◌, List, ℕ, drop, length, take};
+    ghost use Rattle.iddqd_ord_index.specs.Runs.{IsRunOf};
 
     ghost Value = { List ℕ };
 
-    ghost view = { λ w. drop w.next w.root.slots };
+    ghost view = { λ w. drop w.next (take w.end w.root.slots) };
 
-    ghost invariant = { λ w. (w.next ≤ w.end) × (w.end ≡ length w.root.slots) };
+    ghost invariant = { λ w. (w.next ≤ w.end) × (w.end ≤ length w.root.slots) × IsRunOf w.cache w.root.slots };
 }
 
 impl IntoWalk {
@@ -32,6 +36,7 @@ impl IntoWalk {
     {
         IntoWalk {
             root,
+            cache: RunCache::new(),
             next: 0,
             end: len,
         }
@@ -49,7 +54,7 @@ impl Iterator for IntoWalk {
         if self.next == self.end {
             return None;
         }
-        let slot = self.root.slot_at(self.next);
+        let slot = self.cache.slot_at(&self.root, self.next);
         self.next += 1;
         Some(slot)
     }

@@ -1,10 +1,10 @@
 //! A walk over the slots of an ordered index. Contracts see the slots that are still to come.
-ghost use Rattle.std.specs.Prelude.{◌≡◌, ◌<◌, length, IfSome};
+ghost use Rattle.std.specs.Prelude.{◌≡◌, ◌+◌, ◌<◌, ◌≤◌, drop, length, slice_index, take, IfSome};
 ghost use Rattle.iddqd_ord_index.specs.Runs.{BeginsWith};
 ghost use Rattle.std.specs.Iterator.{UpTo, YieldsFirst, at_most, item_count};
 ghost use Rattle.std.specs.Iterator.SizeHint.{IsWithinCount};
 
-use crate::tree::node::Node;
+use crate::tree::node::{LeafWalk, Node};
 use std::iter::FusedIterator;
 use std::marker::Model;
 
@@ -12,48 +12,53 @@ use std::marker::Model;
 #[derive(Drop)]
 pub struct Walk<'a> {
     root: &'a Node,
-    // The slots that come next and stand side by side in one node.
-    run: &'a [u32],
+    // The slots from the next one on that lie below one node. They may go on past the end.
+    leaves: LeafWalk<'a>,
     next: u32,
     end: u32,
 }
 
 impl<'a> Model for Walk<'a> {
-    ghost use Rattle.std.specs.Prelude.{◌≡◌, ◌≤◌, List, ℕ, drop, length};
+    ghost use Rattle.std.specs.Prelude.{◌≤◌, List, ℕ, drop, length, take};
     ghost use Rattle.iddqd_ord_index.specs.Runs.{BeginsWith};
 
     ghost Value = { List ℕ };
 
-    ghost view = { λ w. drop w.next w.root.now.slots };
+    ghost view = { λ w. drop w.next (take w.end w.root.now.slots) };
 
-    ghost invariant = { λ w. (w.next ≤ w.end) × (w.end ≡ length w.root.now.slots) × BeginsWith w.run.now (drop w.next w.root.now.slots) };
+    ghost invariant = { λ w. (w.next ≤ w.end) × (w.end ≤ length w.root.now.slots) × BeginsWith w.leaves (drop w.next w.root.now.slots) };
 }
 
 impl<'a> Walk<'a> {
-    pub(crate) fn new(root: &'a Node, len: u32) -> Self
-        requires { len ≡ length root.now.slots }
-        ensures { result ≡ root.now.slots }
+    // The slots from one position on up to another.
+    pub(crate) fn new(root: &'a Node, from: u32, to: u32) -> Self
+        requires forward { from ≤ to }
+        requires in_list { to ≤ length root.now.slots }
+        ensures { result ≡ drop from (take to root.now.slots) }
     {
         Walk {
             root,
-            run: &[],
-            next: 0,
-            end: len,
+            leaves: LeafWalk::along(&[]),
+            next: from,
+            end: to,
         }
     }
 }
 
-impl<'a> Walk<'a> {
-    // Returns the run that comes next: the rest of this one, or the next one if this one is at its end.
-    fn run(&self) -> &'a [u32]
-        requires { 0 < length self.now }
-        ensures some { 0 < length result.now }
-        ensures run { BeginsWith result.now self.now }
-    {
-        if self.run.is_empty() {
-            return self.root.run_at(self.next);
+// Returns the slot at the position, at which the leaves go on. It goes down from the root where they are at their end.
+#[inline]
+fn step<'a>(root: &'a Node, leaves: &mut LeafWalk<'a>, at: u32) -> u32
+    requires in_list { at < length root.now.slots }
+    requires here { BeginsWith leaves.old (drop at root.now.slots) }
+    ensures slot { result ≡ slice_index root.now.slots at }
+    ensures there { BeginsWith leaves.new (drop (at + 1) root.now.slots) }
+{
+    match leaves.next() {
+        Some(slot) => slot,
+        None => {
+            *leaves = root.leaves_at(at);
+            leaves.next().unwrap()
         }
-        self.run
     }
 }
 
@@ -64,14 +69,14 @@ impl Iterator for Walk<'_> {
 
     ghost remaining = { item_count (λ w. w) };
 
+    #[inline]
     fn next(&mut self) -> Option<u32> {
         if self.next == self.end {
             return None;
         }
-        let run = self.run();
-        self.run = &run[1..];
+        let slot = step(self.root, &mut self.leaves, self.next);
         self.next += 1;
-        Some(run[0])
+        Some(slot)
     }
 
     fn size_hint(&self) -> (usize, Option<usize>)

@@ -15,6 +15,7 @@ mod walk;
 
 use arrayvec::ArrayVec;
 use std::marker::Model;
+pub(crate) use walk::LeafWalk;
 
 /// A node: its own slots, and the branches between which they stand. A leaf has no branches.
 #[cycle(tree)]

@@ -1,6 +1,6 @@
 //! The branches of a node and the number of slots below each, changed together.
 ghost use Rattle.std.specs.Prelude.{true, false, ◌≡◌, ◌+◌, ◌^◌, ◌<◌, ◌≤◌, ◌==◌, [], ◌++◌, length, take, drop, insert, remove, slice_index, slice_index_or, slice_set, nat_le, if◌then◌else◌};
-ghost use Rattle.iddqd_ord_index.specs.Nodes.{below, AreBranches};
+ghost use Rattle.iddqd_ord_index.specs.Nodes.{below, subtrees, AreBranches};
 ghost use Rattle.iddqd_ord_index.specs.Shape.{lists, starts, unused, IsAim};
 
 use super::{Branches, Node};
@@ -56,6 +56,17 @@ impl Branches {
             Some(node) => node,
             None => unreachable!(),
         }
+    }
+
+    // The branches behind the i-th one.
+    pub(super) fn behind(&self, i: usize) -> &[Option<Box<Node>>]
+        requires branches { AreBranches self.now }
+        requires in_bounds { i < length (below self.now) }
+        ensures branches { subtrees result.now ≡ drop (i + 1) (below self.now) }
+        ensures present { length (subtrees result.now) ≡ length result.now }
+    {
+        let nodes: &[Option<Box<Node>>] = &self.nodes[..];
+        &nodes[i + 1..self.counts.len()]
     }
 
     // The branch that position `at` lies in or right behind, and the position in it.

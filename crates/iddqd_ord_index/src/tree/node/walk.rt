@@ -1,27 +1,110 @@
-//! A walk goes from slot to slot along runs: the own slots of one node that stand side by side in the list.
-ghost use Rattle.std.specs.Prelude.{◌<◌, drop, length};
+//! A walk goes along the leaves below one node, and takes up that node's own slots between them.
+ghost use Rattle.std.specs.Prelude.{◌≡◌, ◌<◌, [], ◌∷◌, drop, length, slice_index_or, IfNone, IfSome};
+ghost use Rattle.iddqd_ord_index.specs.Nodes.{subtrees, AreLeaves};
 ghost use Rattle.iddqd_ord_index.specs.Runs.{BeginsWith};
+ghost use Rattle.iddqd_ord_index.specs.Shape.{unused};
 
 use super::Node;
+use std::marker::Model;
+
+/// The slots that come next: the rest of a leaf, then what comes behind it below the node above. Contracts see the list.
+#[derive(Drop)]
+pub(crate) struct LeafWalk<'a> {
+    // The rest of a leaf, or one slot.
+    run: &'a [u32],
+    // The own slots that come in the node above, and the leaf behind each.
+    slots: &'a [u32],
+    leaves: &'a [Option<Box<Node>>],
+}
+
+impl<'a> Model for LeafWalk<'a> {
+    ghost use Rattle.std.specs.Prelude.{◌≡◌, ◌++◌, List, ℕ, length};
+    ghost use Rattle.iddqd_ord_index.specs.Nodes.{subtrees, AreLeaves};
+    ghost use Rattle.iddqd_ord_index.specs.Shape.{behind, lists};
+
+    ghost Value = { List ℕ };
+
+    ghost view = { λ w. w.run.now ++ behind (lists (subtrees w.leaves.now)) w.slots.now };
+
+    ghost invariant = { λ w. AreLeaves w.leaves.now (length w.slots.now) };
+}
+
+impl<'a> LeafWalk<'a> {
+    // These slots alone.
+    pub(crate) fn along(run: &'a [u32]) -> Self
+        ensures { result ≡ run.now }
+    {
+        LeafWalk {
+            run,
+            slots: &[],
+            leaves: &[],
+        }
+    }
+
+    // Returns the next slot, or `None` if there is none.
+    #[inline]
+    pub(crate) fn next(&mut self) -> Option<u32>
+        ensures none { IfNone result (self.old ≡ []) }
+        ensures some { IfSome result (λ slot. self.old ≡ slot ∷ self.new) }
+    {
+        match self.run.split_first() {
+            Some((slot, run)) => {
+                self.run = run;
+                Some(*slot)
+            }
+            None => {
+                let (slot, slots) = self.slots.split_first()?;
+                self.run = first_leaf(self.leaves);
+                self.slots = slots;
+                self.leaves = &self.leaves[1..];
+                Some(*slot)
+            }
+        }
+    }
+}
+
+// The slots of the first of these leaves.
+fn first_leaf(leaves: &[Option<Box<Node>>]) -> &[u32]
+    requires leaves { AreLeaves leaves.now (length leaves.now) }
+    requires some { 0 < length leaves.now }
+    ensures { result.now ≡ (slice_index_or (subtrees leaves.now) 0 unused).slots }
+{
+    match &leaves[0] {
+        Some(leaf) => leaf.leaf_slots(),
+        None => unreachable!(),
+    }
+}
 
 impl Node {
-    // The slots from the position on that stand side by side in one node: to the end of a leaf, or an own slot of an inner
-    // node between two branches.
-    pub(crate) fn run_at(&self, at: u32) -> &[u32]
+    // The slots of a leaf.
+    fn leaf_slots(&self) -> &[u32]
+        requires { self.now.height ≡ 1 }
+        ensures { result.now ≡ self.now.slots }
+    {
+        self.slots.as_slice()
+    }
+
+    // The slots from the position on: to the end of the lowest node that is no leaf, or one slot of a higher node.
+    pub(crate) fn leaves_at(&self, at: u32) -> LeafWalk<'_>
         requires { at < length self.now.slots }
-        ensures some { 0 < length result.now }
-        ensures run { BeginsWith result.now (drop at self.now.slots) }
+        ensures some { 0 < length result }
+        ensures walk { BeginsWith result (drop at self.now.slots) }
     {
         let mut node = self;
         let mut place = at;
+        let mut slots: &[u32] = &[];
+        let mut leaves: &[Option<Box<Node>>] = &[];
         'down: while !node.branches.is_empty() {
             let (i, rest) = node.branches.aim(place);
             if rest == node.branches.count(i) {
-                return &node.slots.as_slice()[i..i + 1];
+                return LeafWalk::along(&node.slots.as_slice()[i..i + 1]);
             }
+            slots = &node.slots.as_slice()[i..];
+            leaves = node.branches.behind(i);
             node = node.branches.get(i);
             place = rest;
         }
-        &node.slots.as_slice()[place as usize..]
+        let run = &node.slots.as_slice()[place as usize..];
+        LeafWalk { run, slots, leaves }
     }
 }

@@ -3,7 +3,7 @@ use Rattle.std.proofs.lemmas.List.Edits.{length-insert}
 use Rattle.std.specs.List.{Contains, IsDistinct}
 use Rattle.std.proofs.Common.{nat_eq}
 use Rattle.iddqd_ord_index.proofs.HeightLemmas.{height_most}
-use Rattle.iddqd_ord_index.proofs.IndexLemmas.{once_insert, unready}
+use Rattle.iddqd_ord_index.proofs.IndexLemmas.{empty_run, once_insert, unready}
 use Rattle.iddqd_ord_index.proofs.ord_index.OrdIndex.add_prepared.Goals as goal
 
 pub add-self-inside-requires-clause-low : goal.add-self-inside-requires-clause-low
@@ -30,4 +30,5 @@ invariant_of-self c =
       top = c.add-self-inside.ensures.top;
       wanted = λ lt. (ap (λ s. s.wanted) c.want.ensures, omega (arith, ap (λ s. s.room) c.want.ensures, c.add-self-inside.ensures.spare.1, c.add-self-inside.ensures.higher, ready.2));
       ready = λ t. unready _ refl t;
+      cached = empty_run c.clear.new.self c.add-self-inside.new.root.slots c.clear.ensures;
     }

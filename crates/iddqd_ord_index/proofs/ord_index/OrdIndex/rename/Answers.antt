@@ -1,6 +1,6 @@
 use Rattle.std.proofs.Common.{length, length-set, refl, sym, ap, subst, arith, nat_eq}
 use Rattle.std.specs.List.{Contains, IsDistinct}
-use Rattle.iddqd_ord_index.proofs.IndexLemmas.{once_set, unready}
+use Rattle.iddqd_ord_index.proofs.IndexLemmas.{empty_run, once_set, unready}
 use Rattle.iddqd_ord_index.proofs.ord_index.OrdIndex.rename.Goals as goal
 
 pub invariant_of-self : goal.invariant_of-self
@@ -19,4 +19,5 @@ invariant_of-self c =
       top = λ lt. omega (arith, c.rename.ensures.height, c.rename.ensures.width, c.self.invariant.top (omega (arith, c.rename.ensures.height)));
       wanted = c.self.invariant.wanted;
       ready = λ t. unready _ refl t;
+      cached = empty_run c.clear.new.self c.rename.new.self.slots c.clear.ensures;
     }

@@ -1,19 +1,14 @@
--- For speed alone: the prover finds these proofs by itself, but later.
-use Rattle.std.proofs.Common.{arith, rules}
-use Rattle.std.proofs.lemmas.Grind.{common_steps}
+use Rattle.std.proofs.Common.{◌+◌, ◌∷◌, ◌∙◌, take, drop, sym, ap, arith}
+use Rattle.iddqd_ord_index.proofs.RunLemmas.{window_front}
 use Rattle.iddqd_ord_index.proofs.ord_index.into_walk.IntoWalkIterator.next.Goals as goal
 
-pub returns-then-self-clause-steps : goal.returns-then-self-clause-steps
-returns-then-self-clause-steps c = grind (arith, common_steps)
-
-pub returns-then-self-clause-goes : goal.returns-then-self-clause-goes
-returns-then-self-clause-goes c = search rules
-
 pub invariant_of-self : goal.invariant_of-self
-invariant_of-self c = search rules
+invariant_of-self c =
+    (omega (arith, c.self.invariant.0, c.if-self.false), c.self.invariant.1, c.slot_at-slot.ensures.cached)
 
 pub returns-clause-steps : goal.returns-clause-steps
-returns-clause-steps c = grind (arith, common_steps)
-
-pub returns-clause-goes : goal.returns-clause-goes
-returns-clause-goes c = grind (arith, common_steps)
+returns-clause-steps c =
+    let w = c.self.inside in
+    sym c.self.view_is
+    ∙ (window_front w.root.slots w.next w.end (omega (arith, c.self.invariant.0, c.if-self.false)) c.self.invariant.1
+    ∙ ap (λ s. s ∷ drop (w.next + 1) (take w.end w.root.slots)) (sym c.slot_at-slot.ensures.slot))

@@ -1,0 +1,86 @@
+//! The slots that an index has read last. Reading its slots in turn descends once for several of them.
+ghost use Rattle.std.specs.Prelude.{◌≡◌, ◌<◌, [], ◌++◌, length, slice_index};
+ghost use Rattle.iddqd_ord_index.specs.Runs.{BeginsWith, IsRunOf};
+
+use crate::tree::node::{LeafWalk, Node};
+use arrayvec::ArrayVec;
+use std::marker::Model;
+
+/// Some slots that stand side by side in a list, and the position of the first.
+#[derive(Drop)]
+pub(crate) struct RunCache {
+    slots: ArrayVec<u32, 16>,
+    start: u32,
+}
+
+impl Model for RunCache {
+    ghost use Rattle.iddqd_ord_index.specs.Runs.{Run};
+
+    ghost Value = { Run };
+
+    ghost view = { λ c. record { slots = c.slots.items; start = c.start } };
+}
+
+impl RunCache {
+    // Returns a cache without slots.
+    pub(crate) fn new() -> Self
+        ensures { result.slots ≡ [] }
+    {
+        RunCache {
+            slots: ArrayVec::new(),
+            start: 0,
+        }
+    }
+
+    // Forgets the slots.
+    #[inline]
+    pub(crate) fn clear(&mut self)
+        ensures { self.new.slots ≡ [] }
+    {
+        self.slots.clear();
+    }
+
+    // Returns the slot at the position in the tree, out of the cache if it has it.
+    #[inline]
+    pub(crate) fn slot_at(&mut self, root: &Node, at: u32) -> u32
+        requires in_list { at < length root.now.slots }
+        requires cached { IsRunOf self.old root.now.slots }
+        ensures slot { result ≡ slice_index root.now.slots at }
+        ensures cached { IsRunOf self.new root.now.slots }
+    {
+        if at >= self.start {
+            if let Some(slot) = self.slots.as_slice().get((at - self.start) as usize) {
+                return *slot;
+            }
+        }
+        self.read(root, at)
+    }
+
+    // Reads the slots from the position on, and returns the first.
+    #[inline(never)]
+    fn read(&mut self, root: &Node, at: u32) -> u32
+        requires in_list { at < length root.now.slots }
+        ensures slot { result ≡ slice_index root.now.slots at }
+        ensures cached { IsRunOf self.new root.now.slots }
+    {
+        let mut walk = root.leaves_at(at);
+        let slot = walk.next().unwrap();
+        self.start = at;
+        self.slots.clear();
+        self.slots.push(slot);
+        fill(&mut self.slots, walk);
+        slot
+    }
+}
+
+// Appends the slots of the walk, as far as there is room.
+fn fill(slots: &mut ArrayVec<u32, 16>, mut walk: LeafWalk<'_>)
+    ensures { BeginsWith slots.new.items (slots.old.items ++ walk.entry) }
+{
+    'fill: while slots.len() < 16 {
+        match walk.next() {
+            Some(slot) => slots.push(slot),
+            None => return,
+        }
+    }
+}
