@@ -1,4 +1,5 @@
 pub mod KeyedMap
 pub mod OrderedSteps
+pub mod Running
 pub mod SameReplies
 pub mod Step

@@ -13,10 +13,14 @@ module _ {T K V : Type 0} (key : T → K) (eq : K → K → Bool) (visits : V �
   abbrev pub OrderedStep : MapState T → Command T K V → Reply T → MapState T → Type 0
   OrderedStep = Step key eq visits limit (Ordered compare)
 
+  -- a step inserts x
+  abbrev pub StepInserts : T → (old new : MapState T) → Type 0
+  StepInserts x old new = OrderedStep old (InsertUnique x) Inserted new
+
   -- a shrink leaves the same list, refused or not; an inserted item stands at its place among the others
   pub record TellsOrder (old new : MapState T) : Type 0 where
     pub shrunk : (reply : Reply T) → OrderedStep old Shrink reply new → new.items ≡ old.items
-    pub inserted : (x : T) → OrderedStep old (InsertUnique x) Inserted new → new.items ≡ items_with key compare x old.items
+    pub inserted : (x : T) → StepInserts x old new → new.items ≡ items_with key compare x old.items
 
 -- of items that ascend by a total order
 abbrev pub OrderedSteps : Type 0 → Type 0 → Type 0 → Type 0

@@ -6,7 +6,7 @@ use Rattle.std.specs.Prelude.{◌≡◌, ℕ, Bool, List, IsSome, ⊤, All, IsPe
 use Rattle.std.specs.Cmp.{IsEquivalence}
 use Rattle.std.specs.Global.{Vec}
 use Rattle.std.specs.List.{AllZip}
-use Rattle.iddqd.specs.Contents.{NoTwoAkin}
+use Rattle.iddqd.specs.Contents.{ClonesAreEqual, NoTwoAkin}
 use Rattle.iddqd.specs.Visiting.{VisitsKeepKeys}
 use Rattle.idtable_commands.specs.Step.{MapRule, MapState, Run}
 use Rattle.idtable_commands.specs.declared.commands.Command.{Command}
@@ -31,6 +31,12 @@ IsOrderless _ = ⊤
 abbrev pub SameCommand : {T K V : Type 0} → Command T K V → Command T K V → Type 0
 SameCommand {T} (ExtendUnique xs) other = (ys : Vec T) × (other ≡ ExtendUnique ys) × (ys.items ≡ xs.items)
 SameCommand one other = other ≡ one
+
+-- if clones of items, of keys and of visitors equal their originals, clones of commands are the same commands
+abbrev pub ClonesMatch : {T K V : Type 0} → (T → T → Type 0) → (K → K → Type 0) → (V → V → Type 0) → (Command T K V → Command T K V → Type 0) → Type 0
+ClonesMatch item_clone key_clone visitor_clone is_clone =
+    ClonesAreEqual item_clone → ClonesAreEqual key_clone → ClonesAreEqual visitor_clone
+    → (ones others : List (Command _ _ _)) → AllZip is_clone ones others → AllZip SameCommand ones others
 
 module _ {T K : Type 0} (key : T → K) (eq : K → K → Bool) where
   -- two maps hold the same items, each in an order of its own, and no two of them have equal keys

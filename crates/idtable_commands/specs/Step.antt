@@ -8,6 +8,7 @@
 --     MakesRoom, RefusesRoom      room is made, or refused
 --     IsVisitOrder      in which order the items of a map are visited
 --     VisitsItem, RetainsVisited      an item is visited; all are, in that order, and some stay
+--     InsertsAbsent      an item is inserted whose key no other has
 --     InsertsAll, StopsAt      items are inserted one after another; this many are, and the next one is not
 --     MeetsAkin, FindsFull      why it is not
 --     Answers      the reply to a command, and the items then
@@ -86,6 +87,10 @@ module _ {T K : Type 0} (key : T → K) (eq : K → K → Bool) (limit : ℕ) wh
   abbrev pub RefusesItem : T → MapState T → Option T → RefusalKind → Type 0
   RefusesItem x old back kind = (back ≡ Some x) × FindsNoRoom key eq limit old.items x kind × (old.spare ≡ 0)
 
+  -- x is inserted: no item has its key, and the map is not full
+  abbrev pub InsertsAbsent : T → (old new : List T) → Type 0
+  InsertsAbsent x old new = OverwritesItem key eq x limit old None new
+
   -- the limit has room for as many of the items as are likely new
   abbrev pub FitsLikely : (xs old : List T) → Type 0
   FitsLikely xs old = length old + room_to_reserve (length old) (length xs) ≤ limit
@@ -117,12 +122,13 @@ abbrev pub IsVisitOrder : {T K : Type 0} → MapRule K → (items order : List T
 IsVisitOrder (Ordered compare) items order = order ≡ items
 IsVisitOrder Hashed items order = IsPermutation items order
 
+-- the item whose key passes the test is visited, and stays as the visit made it, whatever the visit returns (`visit`)
 module _ {T K V : Type 0} (key : T → K) (visits : V → T → V × T × Bool) where
-  -- the item whose key passes the test is visited, and stays as the visit made it, whatever the visit returns (`visit`)
   abbrev pub VisitsItem : (K → Bool) → (old_visitor new_visitor : V) → Bool → (old new : List T) → Type 0
   VisitsItem test v w answer old new = (x y : T) × (find_item key test old ≡ Some x) × (visits v x ≡ (w, y, answer)) × (new ≡ items_overwritten key test y old)
 
-  -- each item is visited once, in the order in which the map visits them, and those stay whose visit returns true (`retain_mut`)
+-- each item is visited once, in the order in which the map visits them, and those stay whose visit returns true (`retain_mut`)
+module _ {T K V : Type 0} (visits : V → T → V × T × Bool) where
   abbrev pub RetainsVisited : MapRule K → (old_visitor new_visitor : V) → (old new : List T) → Type 0
   RetainsVisited rule v w old new = (order : List T) × IsVisitOrder rule old order × (w ≡ visitor_after visits v order) × (new ≡ kept_by visits v order)
 
@@ -130,11 +136,11 @@ module _ {T K V : Type 0} (key : T → K) (eq : K → K → Bool) (visits : V �
   -- the reply to each command, and the items then; no other pair of a command and a reply occurs
   abbrev pub Answers : Command T K V → MapState T → Reply T → List T → Type 0
   -- the item is inserted: its key is absent and the map is not full
-  Answers (InsertUnique x) old Inserted new = OverwritesItem key eq x limit old.items None new
+  Answers (InsertUnique x) old Inserted new = InsertsAbsent key eq limit x old.items new
   Answers (InsertUnique x) old (Duplicate back existing) new = (back ≡ x) × (y : T) × (find_item key (eq (key x)) old.items ≡ Some y) × IfSome existing (λ e. e ≡ y) × (new ≡ old.items)
   Answers (InsertUnique x) old (Refused back kind) new = RefusesItem key eq limit x old back kind × (new ≡ old.items)
   -- the same, and an existing item of an equal key is replaced whole and returned
-  Answers (InsertOverwrite x) old Inserted new = OverwritesItem key eq x limit old.items None new
+  Answers (InsertOverwrite x) old Inserted new = InsertsAbsent key eq limit x old.items new
   Answers (InsertOverwrite x) old (Replaced y) new = OverwritesItem key eq x limit old.items (Some y) new
   Answers (InsertOverwrite x) old (Refused back kind) new = RefusesItem key eq limit x old back kind × (new ≡ old.items)
   -- a clone of the item is shown; only memory for the clone can be refused
@@ -147,7 +153,7 @@ module _ {T K V : Type 0} (key : T → K) (eq : K → K → Bool) (visits : V �
   -- the item stays as the visit made it
   Answers (Visit k v) old (Visited answer) new = (w : V) × VisitsItem key visits (eq k) v w answer old.items new
   Answers (Visit k v) old Absent new = IsAbsent key (eq k) old.items × (new ≡ old.items)
-  Answers (RetainMut v) old (Kept n) new = (w : V) × RetainsVisited key visits rule v w old.items new × (n ≡ length new)
+  Answers (RetainMut v) old (Kept n) new = (w : V) × RetainsVisited visits rule v w old.items new × (n ≡ length new)
   Answers Clear old Done new = new ≡ []
   -- the items stay
   Answers (Reserve n) old Done new = (length old.items + n ≤ limit) × (new ≡ old.items)

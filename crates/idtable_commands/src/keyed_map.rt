@@ -1,11 +1,11 @@
 //! What generic code asks of a map of either kind.
-ghost use Rattle.std.specs.Prelude.{◌≡◌, ℕ, [], length, Some, None, IfOk, IfErr, IfNone, IfSome, OnErr, OnOk, option_copied};
+ghost use Rattle.std.specs.Prelude.{◌≡◌, ℕ, [], length, None, IfErr, IfNone, OnErr, OnOk, option_copied};
 ghost use Rattle.std.specs.Borrow.{Lends, sem, unit};
-ghost use Rattle.iddqd.specs.Contents.{NoTwoAkin, OverwritesItem, find_item, items_without};
-ghost use Rattle.iddqd.specs.Refusal.{OnRefused, RefusesInsertion, memory_refused};
-ghost use Rattle.idtable_commands.specs.KeyedMap.{ShrinksMap, StaysKeyed, ends_extended, ends_inserted};
+ghost use Rattle.iddqd.specs.Contents.{NoTwoAkin};
+ghost use Rattle.iddqd.specs.Refusal.{OnRefused, memory_refused};
+ghost use Rattle.idtable_commands.specs.KeyedMap.{MakesRoomIn, Overwrites, RefusesIn, RefusesItemIn, RemovesFrom, RetainsIn, ShrinksMap, StaysKeyed, VisitsIn, ends_extended, ends_inserted, find_akin, find_in};
 ghost use Rattle.iddqd.specs.Visiting.{VisitsKeepKeys};
-ghost use Rattle.idtable_commands.specs.Step.{MapRule, MapState, FitsRoom, LieByRule, MakesRoom, RefusesItem, RefusesRoom, RetainsVisited, VisitsItem};
+ghost use Rattle.idtable_commands.specs.Step.{MapRule, MapState, FitsRoom, LieByRule, RefusesRoom};
 
 mod extend;
 mod hash;
@@ -46,7 +46,7 @@ pub trait KeyedMap {
     fn insert_unique(&mut self, item: Self::Item) -> Result<&mut (), InsertError<'_, Self::Item>>
         requires keyed { keyed self.old }
         ensures* after { sem 𝓛 (ends_inserted Self.row state limit rule keyed key Self.Key.eq self.entry result item) }
-        ensures refused { IfErr result (RefusesInsertion key Self.Key.eq (limit self.old) (state self.old).items item) }
+        ensures refused { IfErr result (RefusesIn state limit key Self.Key.eq self.old item) }
         ensures no_spare { IfErr result (OnRefused ((state self.old).spare ≡ 0)) };
 
     /// Replaces the item of an equal key, and returns it: the whole item, its key's spelling too. That needs no
@@ -57,23 +57,23 @@ pub trait KeyedMap {
         item: Self::Item,
     ) -> Result<Option<Self::Item>, Refused<Self::Item>>
         requires keyed { keyed self.old }
-        ensures overwritten { IfOk result (λ found. OverwritesItem key Self.Key.eq item (limit self.old) (state self.old).items found (state self.new).items) }
-        ensures refused { IfErr result (λ refused. RefusesItem key Self.Key.eq (limit self.old) item (state self.old) (Some refused.item) refused.error) }
+        ensures overwritten { Overwrites state limit key Self.Key.eq item self.old self.new result }
+        ensures refused { IfErr result (RefusesItemIn state limit key Self.Key.eq self.old item) }
         ensures unchanged { OnErr result ((state self.new).items ≡ (state self.old).items) }
         ensures stays { StaysKeyed state limit rule keyed self.old self.new };
 
     /// The item of an equal key, or `None`.
     fn get(&self, query: &Self::Key) -> Option<&Self::Item>
         requires keyed { keyed self.now }
-        ensures found { option_copied result ≡ find_item key (Self.Key.eq query.now) (state self.now).items }
+        ensures found { option_copied result ≡ find_in state key (Self.Key.eq query.now) self.now }
         ensures room { FitsRoom rule (limit self.now) (state self.now) };
 
     /// Removes the item of an equal key and returns it. It returns `None` if there is none, and then nothing has
     /// changed. Does not allocate.
     fn remove(&mut self, query: &Self::Key) -> Option<Self::Item>
         requires keyed { keyed self.old }
-        ensures value { result ≡ find_item key (Self.Key.eq query.now) (state self.old).items }
-        ensures items { (state self.new).items ≡ items_without key (Self.Key.eq query.now) (state self.old).items }
+        ensures value { result ≡ find_in state key (Self.Key.eq query.now) self.old }
+        ensures items { RemovesFrom state key (Self.Key.eq query.now) self.old self.new }
         ensures unchanged { IfNone result (self.new ≡ self.old) }
         ensures stays { StaysKeyed state limit rule keyed self.old self.new };
 
@@ -85,10 +85,10 @@ pub trait KeyedMap {
         requires keeps_keys { VisitsKeepKeys key Self.Key.eq V.visits }
 
         // if it is found
-        ensures visited { IfSome result (λ answer. VisitsItem key V.visits (Self.Key.eq query.now) visitor.old visitor.new answer (state self.old).items (state self.new).items) }
+        ensures visited { VisitsIn state key V.visits (Self.Key.eq query.now) visitor.old visitor.new self.old self.new result }
 
         // if it is absent
-        ensures absent { IfNone result (find_item key (Self.Key.eq query.now) (state self.old).items ≡ None) }
+        ensures absent { IfNone result (find_in state key (Self.Key.eq query.now) self.old ≡ None) }
         ensures unchanged { IfNone result ((self.new ≡ self.old) × (visitor.new ≡ visitor.old)) }
 
         // either way
@@ -101,7 +101,7 @@ pub trait KeyedMap {
         Self::Item: Drop,
         requires keyed { keyed self.old }
         requires keeps_keys { VisitsKeepKeys key Self.Key.eq V.visits }
-        ensures retained { RetainsVisited key V.visits rule visitor.old visitor.new (state self.old).items (state self.new).items }
+        ensures retained { RetainsIn state rule V.visits visitor.old visitor.new self.old self.new }
         ensures stays { StaysKeyed state limit rule keyed self.old self.new };
 
     /// Drops every item. A map that keeps a spare has the items' room as spare again. Does not allocate.
@@ -116,7 +116,7 @@ pub trait KeyedMap {
     /// items stay.
     fn reserve(&mut self, additional: usize) -> Result<(), TryReserveError>
         requires keyed { keyed self.old }
-        ensures made { OnOk result (MakesRoom rule (limit self.old) additional (state self.old) (state self.new)) }
+        ensures made { OnOk result (MakesRoomIn state limit rule additional self.old self.new) }
         ensures refused { IfErr result (RefusesRoom (limit self.old) additional (state self.old)) }
         ensures unchanged { (state self.new).items ≡ (state self.old).items }
         ensures stays { StaysKeyed state limit rule keyed self.old self.new };
@@ -136,7 +136,7 @@ pub trait KeyedMap {
     /// The item of a key equal to that of this item, or `None` (`get`).
     fn akin(&self, item: &Self::Item) -> Option<&Self::Item>
         requires keyed { keyed self.now }
-        ensures found { option_copied result ≡ find_item key (Self.Key.eq (key item.now)) (state self.now).items };
+        ensures found { option_copied result ≡ find_akin state key Self.Key.eq item.now self.now };
 
     /// Lends nothing. It is what a call returns at `Ok` whose error lends an item.
     fn lend_nothing(&mut self) -> &mut ()

@@ -1,8 +1,6 @@
 //! Laws of the definitions that contracts cite. They run nothing.
-ghost use Rattle.std.specs.List.{AllZip};
-ghost use Rattle.iddqd.specs.Contents.{ClonesAreEqual};
 ghost use Rattle.idtable_commands.specs.OrderedSteps.{OrderedSteps};
-ghost use Rattle.idtable_commands.specs.SameReplies.{SameCommand, SameReplies};
+ghost use Rattle.idtable_commands.specs.SameReplies.{ClonesMatch, SameReplies};
 
 use crate::commands::Command;
 
@@ -18,8 +16,7 @@ pub fn same_replies<T, K, V>()
 /// Clones of commands are the same commands, if clones of the items, the keys and the visitors are equal to their
 /// originals.
 pub fn clones_are_same<T: Clone, K: Clone, V: Clone>()
-    ensures { ClonesAreEqual T.is_clone → ClonesAreEqual K.is_clone → ClonesAreEqual V.is_clone
-        → (ones others : _) → AllZip ⟦<Command<T, K, V> as Clone>⟧.is_clone ones others → AllZip SameCommand ones others }
+    ensures { ClonesMatch T.is_clone K.is_clone V.is_clone ⟦<Command<T, K, V> as Clone>⟧.is_clone }
 {}
 
 /// A shrink of an ordered map leaves the list of its items as it was, refused or not, and an insertion puts the

@@ -6,7 +6,8 @@ ghost use Rattle.iddqd.specs.Refusal.{IsOnly};
 ghost use Rattle.iddqd.specs.Visiting.{VisitsKeepKeys};
 ghost use Rattle.idtable_commands.specs.KeyedMap.{StaysKeyed};
 ghost use Rattle.idtable_commands.specs.declared.commands.Command.TheVariants.{InsertUnique, InsertOverwrite, Get, Visit, RetainMut, Reserve, Shrink, ExtendUnique};
-ghost use Rattle.idtable_commands.specs.Step.{Answers, Does, FitsRoom, Run};
+ghost use Rattle.idtable_commands.specs.Running.{DoesIn, Gives, RunsIn};
+ghost use Rattle.idtable_commands.specs.Step.{FitsRoom};
 
 use crate::commands::{Command, Reply, RunStop};
 use crate::keyed_map::KeyedMap;
@@ -33,7 +34,7 @@ where
     requires keeps_keys { VisitsKeepKeys M.key M.Key.eq V.visits }
 
     // on success
-    ensures run { IfOk result (λ replies. Run M.key M.Key.eq V.visits (M.limit map.old) M.rule (M.state map.old) commands.items replies.items (M.state map.new)) }
+    ensures run { IfOk result (RunsIn M.KeyedMap M.Key.eq V.visits commands map.old map.new) }
 
     // on refusal
     ensures handed_back { IfErr result (λ stop. stop.commands ≡ commands) }
@@ -67,7 +68,7 @@ where
     requires keeps_keys { VisitsKeepKeys M.key M.Key.eq V.visits }
 
     // the step
-    ensures does { Does M.key M.Key.eq V.visits (M.limit map.old) M.rule (M.state map.old) command result (M.state map.new) }
+    ensures does { DoesIn M.KeyedMap M.Key.eq V.visits command map.old result map.new }
 
     // the map
     ensures keyed { M.keyed map.new }
@@ -100,7 +101,7 @@ where
     M::Item: Clone,
     requires keyed { M.keyed map.old }
     requires clones { ClonesAreEqual M.Item.is_clone }
-    ensures answers { Answers M.key M.Key.eq V.visits (M.limit map.old) M.rule (InsertUnique item) (M.state map.old) result (M.state map.new).items }
+    ensures reply { Gives M.KeyedMap M.Key.eq V.visits (InsertUnique item) map.old result map.new }
     ensures stays { StaysKeyed M.state M.limit M.rule M.keyed map.old map.new }
 {
     match map.insert_unique(item) {
@@ -122,7 +123,7 @@ fn insert_overwrite<M: KeyedMap, V: Visit<M::Item>>(map: &mut M, item: M::Item) 
 where
     M::Item: Drop,
     requires keyed { M.keyed map.old }
-    ensures answers { Answers M.key M.Key.eq V.visits (M.limit map.old) M.rule (InsertOverwrite item) (M.state map.old) result (M.state map.new).items }
+    ensures reply { Gives M.KeyedMap M.Key.eq V.visits (InsertOverwrite item) map.old result map.new }
     ensures stays { StaysKeyed M.state M.limit M.rule M.keyed map.old map.new }
 {
     match map.insert_overwrite(item) {
@@ -154,7 +155,7 @@ where
     V: Drop,
     requires keyed { M.keyed map.old }
     requires keeps_keys { VisitsKeepKeys M.key M.Key.eq V.visits }
-    ensures answers { Answers M.key M.Key.eq V.visits (M.limit map.old) M.rule (Visit key.now visitor) (M.state map.old) result (M.state map.new).items }
+    ensures reply { Gives M.KeyedMap M.Key.eq V.visits (Visit key.now visitor) map.old result map.new }
     ensures stays { StaysKeyed M.state M.limit M.rule M.keyed map.old map.new }
 {
     match map.visit(key, &mut visitor) {
@@ -170,7 +171,7 @@ where
     V: Drop,
     requires keyed { M.keyed map.old }
     requires keeps_keys { VisitsKeepKeys M.key M.Key.eq V.visits }
-    ensures answers { Answers M.key M.Key.eq V.visits (M.limit map.old) M.rule (RetainMut visitor) (M.state map.old) result (M.state map.new).items }
+    ensures reply { Gives M.KeyedMap M.Key.eq V.visits (RetainMut visitor) map.old result map.new }
     ensures stays { StaysKeyed M.state M.limit M.rule M.keyed map.old map.new }
 {
     map.retain_mut(&mut visitor);
@@ -181,7 +182,7 @@ where
 #[tactic(auto, using(crate::proofs::StepLemmas::room_both))]
 fn reserve<M: KeyedMap, V: Visit<M::Item>>(map: &mut M, additional: usize) -> Reply<M::Item>
     requires keyed { M.keyed map.old }
-    ensures does { Does M.key M.Key.eq V.visits (M.limit map.old) M.rule (M.state map.old) (Reserve additional) result (M.state map.new) }
+    ensures does { DoesIn M.KeyedMap M.Key.eq V.visits (Reserve additional) map.old result map.new }
     ensures stays { StaysKeyed M.state M.limit M.rule M.keyed map.old map.new }
 {
     match map.reserve(additional) {
@@ -193,7 +194,7 @@ fn reserve<M: KeyedMap, V: Visit<M::Item>>(map: &mut M, additional: usize) -> Re
 // `Shrink`.
 fn shrink<M: KeyedMap, V: Visit<M::Item>>(map: &mut M) -> Reply<M::Item>
     requires keyed { M.keyed map.old }
-    ensures does { Does M.key M.Key.eq V.visits (M.limit map.old) M.rule (M.state map.old) Shrink result (M.state map.new) }
+    ensures does { DoesIn M.KeyedMap M.Key.eq V.visits Shrink map.old result map.new }
     ensures keyed { M.keyed map.new }
     ensures limit { M.limit map.new ≡ M.limit map.old }
 {
@@ -209,7 +210,7 @@ where
     M::Item: Clone,
     requires keyed { M.keyed map.now }
     requires clones { ClonesAreEqual M.Item.is_clone }
-    ensures answers { Answers M.key M.Key.eq V.visits (M.limit map.now) M.rule (Get key.now) (M.state map.now) result (M.state map.now).items }
+    ensures reply { Gives M.KeyedMap M.Key.eq V.visits (Get key.now) map.now result map.now }
     ensures room { FitsRoom M.rule (M.limit map.now) (M.state map.now) }
 {
     let Some(item) = map.get(key) else {
@@ -230,7 +231,7 @@ where
     M::Item: Clone,
     requires keyed { M.keyed map.old }
     requires clones { ClonesAreEqual M.Item.is_clone }
-    ensures answers { Answers M.key M.Key.eq V.visits (M.limit map.old) M.rule (ExtendUnique items) (M.state map.old) result (M.state map.new).items }
+    ensures reply { Gives M.KeyedMap M.Key.eq V.visits (ExtendUnique items) map.old result map.new }
     ensures stays { StaysKeyed M.state M.limit M.rule M.keyed map.old map.new }
 {
     let before = map.len();

@@ -1,8 +1,9 @@
 //! Inserting many items, up to the first that is not inserted.
 ghost use Rattle.std.specs.Prelude.{◌≡◌, IfErr, IfOk, OnErr, OnOk};
 ghost use Rattle.std.specs.Borrow.{sem};
-ghost use Rattle.idtable_commands.specs.KeyedMap.{InsertsIntoMap, KeepsMap, RefusesAmong, RefusesOne, StaysKeyed, ends_extended};
-ghost use Rattle.idtable_commands.specs.Step.{FitsLikely, FitsRoom, InsertsAll};
+ghost use Rattle.idtable_commands.specs.KeyedMap.{KeepsMap, StaysKeyed};
+ghost use Rattle.idtable_commands.specs.Running.{InsertsEach, InsertsOne, RefusesEach, RefusesOneIn, ends_extension};
+ghost use Rattle.idtable_commands.specs.Step.{FitsRoom};
 
 use super::KeyedMap;
 use iddqd::errors::{DuplicateItem, ExtendError, ExtendUniqueError, Few, InsertError, Refused};
@@ -25,7 +26,7 @@ pub(super) fn extend_unique<M: KeyedMap>(
 where
     M::Item: Drop,
     requires keyed { M.keyed map.old }
-    ensures* after { sem 𝓛 (ends_extended M.row M.state M.limit M.rule M.keyed M.key M.Key.eq map.entry result items.items) }
+    ensures* after { sem 𝓛 (ends_extension M.row M.KeyedMap M.Key.eq map.entry result items.items) }
 {
     let room = room_to_reserve(map.len(), items.len());
     if let Err(error) = map.reserve(room) {
@@ -50,8 +51,8 @@ where
     M::Item: Drop,
     requires keyed { M.keyed map.old }
     requires room { FitsRoom M.rule (M.limit map.old) (M.state map.old) }
-    ensures taken { OnOk result (InsertsAll M.key M.Key.eq (M.limit map.old) items.items (M.state map.old).items (M.state map.new).items) }
-    ensures refused { IfErr result (RefusesAmong M.key M.Key.eq (M.limit map.old) items.items (M.state map.old) (M.state map.new).items) }
+    ensures taken { OnOk result (InsertsEach M.KeyedMap M.Key.eq items.items map.old map.new) }
+    ensures refused { IfErr result (RefusesEach M.KeyedMap M.Key.eq items.items map.old map.new) }
     ensures stays { StaysKeyed M.state M.limit M.rule M.keyed map.old map.new }
 {
     for item in items {
@@ -65,9 +66,9 @@ fn insert_one<M: KeyedMap>(map: &mut M, item: M::Item) -> Result<(), NotTaken<M:
 where
     M::Item: Drop,
     requires keyed { M.keyed map.old }
-    ensures inserted { OnOk result (InsertsIntoMap M.state M.limit M.rule M.keyed M.key M.Key.eq item map.old map.new) }
+    ensures inserted { OnOk result (InsertsOne M.KeyedMap M.Key.eq item map.old map.new) }
     ensures kept { OnErr result (KeepsMap M.state M.limit M.rule M.keyed map.old map.new) }
-    ensures refused { IfErr result (RefusesOne M.key M.Key.eq (M.limit map.old) (M.state map.old) item) }
+    ensures refused { IfErr result (RefusesOneIn M.KeyedMap M.Key.eq map.old item) }
 {
     match map.insert_unique(item) {
         Ok(()) => Ok(()),

@@ -2,5 +2,5 @@
 use Rattle.std.proofs.Common.{rules}
 use Rattle.idtable_commands.proofs.running.retain_mut.Goals as goal
 
-pub returns-clause-answers : goal.returns-clause-answers
-returns-clause-answers g c = search rules
+pub returns-clause-reply : goal.returns-clause-reply
+returns-clause-reply g c = search rules
