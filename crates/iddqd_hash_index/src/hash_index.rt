@@ -1,4 +1,5 @@
 //! The hash index: pairs of a hash and a slot, found by hash.
+mod cell;
 mod change;
 mod group;
 mod probe;
@@ -11,6 +12,7 @@ ghost use Rattle.iddqd_hash_index.specs.HashPairs.{SamePairs, AreOccupied, Doubl
 ghost use Rattle.iddqd_hash_index.specs.Groups.{room_for};
 ghost use Rattle.iddqd_store.specs.Refusal.{memory_refused};
 
+use cell::Cell;
 use change::{place, rename_in, take};
 use group::Group;
 use iddqd_store::{Equivalent, IdHashItem, ItemStore, Steps, TryReserveError};
@@ -22,13 +24,14 @@ use std::marker::Model;
 /// Pairs of a hash and a slot, each slot once. It computes no hash, and only `find` looks at items. Contracts see
 /// the pairs, in no order, and how many more can be added.
 /// The pairs are in groups of twelve lanes, with room for nine pairs in each group on average, so a pair takes 18
-/// bytes. The hash chooses the group where a search begins, its home. A pair that finds a group full goes to the
-/// next. A removal leaves nothing behind, and a growth reads the stored hashes.
+/// bytes. A group has the tags of its lanes, and the pairs lie apart. The hash chooses the group where a search
+/// begins, its home. A pair that finds a group full goes to the next. A removal leaves nothing behind, and a growth
+/// reads the stored hashes.
 #[derive(Drop)]
 pub struct HashIndex {
     groups: Vec<Group>,
-    // The hash of each lane, group by group.
-    hashes: Vec<u64>,
+    // The pair of each lane, group by group.
+    cells: Vec<Cell>,
     // The number of pairs.
     len: usize,
     // The number of pairs that fit, never more than there are slot numbers.
@@ -42,9 +45,9 @@ impl Model for HashIndex {
 
     ghost Value = { HashPairs };
 
-    ghost view = { λ i. record { pairs = pairs_of i.groups.items i.hashes.items; spare = i.room - i.len } };
+    ghost view = { λ i. record { pairs = pairs_of i.groups.items i.cells.items; spare = i.room - i.len } };
 
-    ghost invariant = { λ i. IsHashIndex i.groups.items i.hashes.items i.len i.room };
+    ghost invariant = { λ i. IsHashIndex i.groups.items i.cells.items i.len i.room };
 }
 
 impl HashIndex {
@@ -55,7 +58,7 @@ impl HashIndex {
     {
         HashIndex {
             groups: Vec::new(alloc),
-            hashes: Vec::new(alloc),
+            cells: Vec::new(alloc),
             len: 0,
             room: 0,
         }
@@ -146,14 +149,14 @@ impl HashIndex {
         ensures room { OnOk result (self.new.spare + length self.new.pairs ≡ room_for count) }
         ensures refused { OnErr result (self.new ≡ self.old) }
     {
-        let (groups, hashes) = regrouped(
+        let (groups, cells) = regrouped(
             *self.groups.allocator(),
             self.groups.as_slice(),
-            self.hashes.as_slice(),
+            self.cells.as_slice(),
             count,
         )?;
         self.groups = groups;
-        self.hashes = hashes;
+        self.cells = cells;
         self.room = room_of(count);
         Ok(())
     }
@@ -177,7 +180,7 @@ impl HashIndex {
     {
         find_among(
             self.groups.as_slice(),
-            self.hashes.as_slice(),
+            self.cells.as_slice(),
             store,
             hash,
             query,
@@ -196,7 +199,7 @@ impl HashIndex {
     {
         place(
             self.groups.as_mut_slice(),
-            self.hashes.as_mut_slice(),
+            self.cells.as_mut_slice(),
             hash,
             slot,
         );
@@ -212,7 +215,7 @@ impl HashIndex {
     {
         take(
             self.groups.as_mut_slice(),
-            self.hashes.as_slice(),
+            self.cells.as_slice(),
             hash,
             slot,
         );
@@ -228,8 +231,8 @@ impl HashIndex {
         ensures spare { self.new.spare ≡ self.old.spare }
     {
         rename_in(
-            self.groups.as_mut_slice(),
-            self.hashes.as_slice(),
+            self.groups.as_slice(),
+            self.cells.as_mut_slice(),
             hash,
             old,
             new,
@@ -286,7 +289,7 @@ impl HashIndex {
         let alloc = *self.groups.allocator();
         Ok(HashIndex {
             groups: Vec::from_slice(alloc, self.groups.as_slice())?,
-            hashes: Vec::from_slice(alloc, self.hashes.as_slice())?,
+            cells: Vec::from_slice(alloc, self.cells.as_slice())?,
             len: self.len,
             room: self.room,
         })

@@ -3,6 +3,7 @@ ghost use Rattle.std.specs.Prelude.{◌≡◌, ◌+◌, ◌*◌, ◌<◌, ◌≤
 ghost use Rattle.iddqd_hash_index.specs.Groups.{pairs_of, ComparedAt, FindsIn, IsPlaced, LacksAt, LacksIn};
 ghost use Rattle.iddqd_hash_index.specs.HashPairs.{AreOccupied, of_hash};
 
+use super::cell::Cell;
 use super::group::{Group, LANES};
 use super::probe_sequence::{after, home, tag};
 use iddqd_store::{Equivalent, IdHashItem, ItemStore, Steps};
@@ -11,7 +12,7 @@ use iddqd_store::{Equivalent, IdHashItem, ItemStore, Steps};
 #[inline]
 fn find_at<T: IdHashItem, Q: Equivalent<T::Key>>(
     groups: &[Group],
-    hashes: &[u64],
+    cells: &[Cell],
     at: usize,
     store: &ItemStore<T>,
     hash: u64,
@@ -19,22 +20,22 @@ fn find_at<T: IdHashItem, Q: Equivalent<T::Key>>(
     steps: &mut Steps,
 ) -> Option<u32>
     requires within { at < length groups.now }
-    requires long { length hashes.now ≡ 12 * length groups.now }
-    requires occupied { AreOccupied store.now (pairs_of groups.now hashes.now) hash }
+    requires long { length cells.now ≡ 12 * length groups.now }
+    requires occupied { AreOccupied store.now (pairs_of groups.now cells.now) hash }
 
     // what it finds
-    ensures found { FindsIn groups.now hashes.now hash T.key (Q.equivalent query.now) store.now result }
-    ensures missed { LacksAt groups.now hashes.now hash T.key (Q.equivalent query.now) store.now at result }
+    ensures found { FindsIn groups.now cells.now hash T.key (Q.equivalent query.now) store.now result }
+    ensures missed { LacksAt groups.now cells.now hash T.key (Q.equivalent query.now) store.now at result }
 
     // what it costs
-    ensures compared { ComparedAt groups.now hashes.now hash at steps.old steps.new }
+    ensures compared { ComparedAt groups.now cells.now hash at steps.old steps.new }
     ensures never_resets { steps.old ≤ steps.new }
 {
-    let group = &groups[at];
-    let mut lanes = group.matching(tag(hash));
+    let mut lanes = groups[at].matching(tag(hash));
     'search: while let Some(lane) = lanes.first() {
-        let slot = group.slot(lane);
-        if hashes[LANES * at + lane] == hash {
+        let cell = &cells[LANES * at + lane];
+        let slot = cell.slot();
+        if cell.hash() == hash {
             let item = store.get(slot).unwrap();
             if steps.equal(query, item.key()) {
                 return Some(slot);
@@ -49,22 +50,22 @@ fn find_at<T: IdHashItem, Q: Equivalent<T::Key>>(
 #[inline]
 pub(super) fn find_among<T: IdHashItem, Q: Equivalent<T::Key>>(
     groups: &[Group],
-    hashes: &[u64],
+    cells: &[Cell],
     store: &ItemStore<T>,
     hash: u64,
     query: &Q,
     steps: &mut Steps,
 ) -> Option<u32>
-    requires long { length hashes.now ≡ 12 * length groups.now }
-    requires placed { IsPlaced groups.now hashes.now }
-    requires occupied { AreOccupied store.now (pairs_of groups.now hashes.now) hash }
+    requires long { length cells.now ≡ 12 * length groups.now }
+    requires placed { IsPlaced groups.now cells.now }
+    requires occupied { AreOccupied store.now (pairs_of groups.now cells.now) hash }
 
     // what it finds
-    ensures found { FindsIn groups.now hashes.now hash T.key (Q.equivalent query.now) store.now result }
-    ensures absent { LacksIn groups.now hashes.now hash T.key (Q.equivalent query.now) store.now result }
+    ensures found { FindsIn groups.now cells.now hash T.key (Q.equivalent query.now) store.now result }
+    ensures absent { LacksIn groups.now cells.now hash T.key (Q.equivalent query.now) store.now result }
 
     // what it costs
-    ensures steps { steps.new ≤ steps.old + of_hash (pairs_of groups.now hashes.now) hash }
+    ensures steps { steps.new ≤ steps.old + of_hash (pairs_of groups.now cells.now) hash }
     ensures never_resets { steps.old ≤ steps.new }
 {
     let count = groups.len();
@@ -73,7 +74,7 @@ pub(super) fn find_among<T: IdHashItem, Q: Equivalent<T::Key>>(
     }
     let mut at = home(hash, count);
     'walk: for step in 0..count {
-        if let Some(slot) = find_at(groups, hashes, at, store, hash, query, steps) {
+        if let Some(slot) = find_at(groups, cells, at, store, hash, query, steps) {
             return Some(slot);
         }
         if groups[at].has_no_overflow() {

@@ -1,15 +1,14 @@
-use Rattle.std.proofs.Common.{◌≡◌, ℕ, ◌+◌, ◌*◌, length, get_or, true, option_copied, sym, ap, subst, ◌∙◌, arith}
+use Rattle.std.proofs.Common.{◌≡◌, ℕ, ◌+◌, ◌*◌, length, true, option_copied, sym, ap, subst, ◌∙◌, arith}
 use Rattle.std.specs.List.{Contains}
 use Rattle.std.specs.Option.{IsSome, IsSomeAnd}
 use borrow.Author.Rules.{rules}
 use Rattle.std.proofs.lemmas.Bool.{true≢false}
-use Rattle.iddqd_hash_index.specs.Lanes.{slot_in}
-use Rattle.iddqd_hash_index.specs.Groups.{group_at, tag_at, pair_at, pairs_of}
+use Rattle.iddqd_hash_index.specs.Groups.{hash_at, slot_at, tag_at, pair_at, pairs_of}
 use Rattle.iddqd_store.specs.Store.{item_at}
 use Rattle.iddqd_hash_index.proofs.LaneLemmas.{LanesLeft-all, LanesLeft-next}
 use Rattle.iddqd_hash_index.proofs.FindLemmas.{cell_tag, listed, Compared-none, Compared-wider, Compared-one, IsVisited-wider, IsVisited-lane, IsVisited-new}
 use Rattle.iddqd_hash_index.proofs.hash_index.probe.find_at.Given.{Over}
-use Rattle.iddqd_hash_index.proofs.hash_index.probe.find_at.Goals.{After-get, then-hashes-at+else-equal, else-hashes-at}
+use Rattle.iddqd_hash_index.proofs.hash_index.probe.find_at.Goals.{After-get, then-hash+else-equal, else-hash}
 use Rattle.iddqd_hash_index.proofs.hash_index.probe.find_at.Goals as goal
 
 pub search-init : goal.search-init
@@ -19,11 +18,11 @@ search-init g c = record {
   never_resets = omega arith;
 }
 
-contained : (g : Over) (c : After-get g) → Contains (pairs_of c.args.groups.now c.args.hashes.now) (c.args.hash, c.slot-slot.result)
+contained : (g : Over) (c : After-get g) → Contains (pairs_of c.args.groups.now c.args.cells.now) (c.args.hash, c.slot-slot.result)
 contained g c =
     let hit = c.search.invariant.left.only c.in-Some.lane c.in-Some.ensures.some in
     let some = c.tag.ensures.some in
-    listed _ _ c.args.at c.in-Some.lane _ _ c.requires.within hit.0 (λ z. omega (arith, hit.1, c.tag.ensures.value)) c.if-hashes-at.true c.slot-slot.ensures
+    listed _ _ c.args.at c.in-Some.lane _ _ c.requires.within hit.0 (λ z. omega (arith, hit.1, c.tag.ensures.value)) (sym c.hash.ensures ∙ c.if-hash.true) c.slot-slot.ensures
 
 pub unwrap-item-requires : goal.unwrap-item-requires
 unwrap-item-requires g c =
@@ -34,7 +33,7 @@ pub returns-then-equal-clause-found : goal.returns-then-equal-clause-found
 returns-then-equal-clause-found g c =
     let hit = c.search.invariant.left.only c.in-Some.lane c.in-Some.ensures.some in
     let some = c.tag.ensures.some in
-    let there = listed _ _ c.args.at c.in-Some.lane _ _ c.requires.within hit.0 (λ z. omega (arith, hit.1, c.tag.ensures.value)) c.if-hashes-at.true c.slot-slot.ensures in
+    let there = listed _ _ c.args.at c.in-Some.lane _ _ c.requires.within hit.0 (λ z. omega (arith, hit.1, c.tag.ensures.value)) (sym c.hash.ensures ∙ c.if-hash.true) c.slot-slot.ensures in
     let held = ap option_copied (sym c.unwrap-item.ensures) ∙ c.get.ensures in (
       there,
       subst (λ o. IsSomeAnd o (λ x. g.Q.Equivalent.equivalent c.args.query.now (g.T.IdHashItem.key x) ≡ true)) held
@@ -48,8 +47,8 @@ returns-then-equal-clause-compared g c =
     let some = c.tag.ensures.some in
     let within = c.requires.within in
     let small = hit.0 in
-    Compared-one (12 * length gs) (tag_at gs) (pair_at gs c.args.hashes.now) c.args.hash _ _ _ _ c.search.invariant.compared (λ _ visited. visited.0) (12 * c.args.at + c.in-Some.lane) _
-    (omega arith) (λ z. omega (arith, hit.1, c.tag.ensures.value, sym (cell_tag gs c.args.at c.in-Some.lane small) ∙ z)) c.if-hashes-at.true
+    Compared-one (12 * length gs) (tag_at gs) (pair_at c.args.cells.now) c.args.hash _ _ _ _ c.search.invariant.compared (λ _ visited. visited.0) (12 * c.args.at + c.in-Some.lane) _
+    (omega arith) (λ z. omega (arith, hit.1, c.tag.ensures.value, sym (cell_tag gs c.args.at c.in-Some.lane small) ∙ z)) (sym c.hash.ensures ∙ c.if-hash.true)
     (IsVisited-new _ _ c.in-Some.lane small c.in-Some.ensures.some) (omega arith) (omega (arith, c.equal.ensures.step))
 
 pub search-preserved : goal.search-preserved
@@ -62,23 +61,23 @@ search-preserved g c =
     let small = hit.0 in
     let left = c.without-lanes.ensures.left in
     let Test : ℕ → Type 0 = λ s. IsSomeAnd (item_at c.args.store.now s) (λ x. g.Q.Equivalent.equivalent c.args.query.now (g.T.IdHashItem.key x) ≡ true) in
-    let Missed : ℕ → Type 0 = λ k. get_or c.args.hashes.now (12 * c.args.at + k) 0 ≡ c.args.hash → ¬ Test (slot_in (group_at gs c.args.at) k) in
-    elim c.if-hashes-at.branch [
-      | then-hashes-at+else-equal w ↦ record {
+    let Missed : ℕ → Type 0 = λ k. hash_at c.args.cells.now (12 * c.args.at + k) ≡ c.args.hash → ¬ Test (slot_at c.args.cells.now (12 * c.args.at + k)) in
+    elim c.if-hash.branch [
+      | then-hash+else-equal w ↦ record {
         left = LanesLeft-next _ _ Missed _ _ _ left c.search.invariant.left (λ _ passes.
             let held = sym (ap option_copied (sym w.unwrap-item.ensures) ∙ w.get.ensures ∙ ap (item_at c.args.store.now) c.slot-slot.ensures) in
             let passed = subst (λ o. IsSomeAnd o (λ x. g.Q.Equivalent.equivalent c.args.query.now (g.T.IdHashItem.key x) ≡ true)) held passes in
             absurd (true≢false (sym passed ∙ ap (g.Q.Equivalent.equivalent c.args.query.now) (sym w.key.ensures) ∙ sym w.equal.ensures.value ∙ w.if-equal.false)));
-        compared = Compared-one (12 * length gs) (tag_at gs) (pair_at gs c.args.hashes.now) c.args.hash _ _ _ _ c.search.invariant.compared
+        compared = Compared-one (12 * length gs) (tag_at gs) (pair_at c.args.cells.now) c.args.hash _ _ _ _ c.search.invariant.compared
             (IsVisited-wider _ _ lane _ small left) (12 * c.args.at + lane) _
-            (omega arith) (λ z. omega (arith, hit.1, c.tag.ensures.value, sym (cell_tag gs c.args.at lane small) ∙ z)) w.if-hashes-at.true
+            (omega arith) (λ z. omega (arith, hit.1, c.tag.ensures.value, sym (cell_tag gs c.args.at lane small) ∙ z)) (sym c.hash.ensures ∙ w.if-hash.true)
             (IsVisited-new _ _ lane small c.in-Some.ensures.some)
             (IsVisited-lane _ _ lane _ small left) (omega (arith, w.steps-is, w.equal.ensures.step));
         never_resets = rw w.steps-is (omega (arith, c.search.invariant.never_resets, w.equal.ensures.never_resets));
       }
-      | else-hashes-at w ↦ record {
-        left = LanesLeft-next _ _ Missed _ _ _ left c.search.invariant.left (λ same. absurd (w.if-hashes-at.false same));
-        compared = rw w.steps-is (Compared-wider (12 * length gs) (tag_at gs) (pair_at gs c.args.hashes.now) c.args.hash _ _ _ _ c.search.invariant.compared (IsVisited-wider _ _ lane _ small left));
+      | else-hash w ↦ record {
+        left = LanesLeft-next _ _ Missed _ _ _ left c.search.invariant.left (λ same. absurd (w.if-hash.false (c.hash.ensures ∙ same)));
+        compared = rw w.steps-is (Compared-wider (12 * length gs) (tag_at gs) (pair_at c.args.cells.now) c.args.hash _ _ _ _ c.search.invariant.compared (IsVisited-wider _ _ lane _ small left));
         never_resets = rw w.steps-is c.search.invariant.never_resets;
       }
     ]
