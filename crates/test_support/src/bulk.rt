@@ -1,5 +1,5 @@
 //! What a row asks of the bulk calls of a map of either kind, and iterators that lie.
-ghost use Rattle.std.specs.Iterator.{IsFiniteIterable};
+ghost use Rattle.std.specs.Iterator.{IsFiniteIterable as IsFinite};
 
 use crate::items::Named;
 use crate::maps::{Hashed, Ordered, both};
@@ -25,7 +25,7 @@ pub trait Bulk<T>: Sized {
     ) -> Result<Self, TryReserveError>
     where
         T: Drop,
-        requires ends { IsFiniteIterable U.into_iter_gives U.IntoIter.can_next U.IntoIter.remaining items };
+        requires ends { IsFinite U.into_iter_gives U.IntoIter.can_next U.IntoIter.remaining items };
 
     /// `from_iter_unique`.
     fn collected_unique<U: IntoIterator<Item = T>>(
@@ -34,13 +34,13 @@ pub trait Bulk<T>: Sized {
     ) -> Result<Self, FromIterError<T>>
     where
         T: Drop,
-        requires ends { IsFiniteIterable U.into_iter_gives U.IntoIter.can_next U.IntoIter.remaining items };
+        requires ends { IsFinite U.into_iter_gives U.IntoIter.can_next U.IntoIter.remaining items };
 
     /// `extend`.
     fn extend<U: IntoIterator<Item = T>>(&mut self, items: U) -> Result<(), ExtendError<T>>
     where
         T: Drop,
-        requires ends { IsFiniteIterable U.into_iter_gives U.IntoIter.can_next U.IntoIter.remaining items };
+        requires ends { IsFinite U.into_iter_gives U.IntoIter.can_next U.IntoIter.remaining items };
 }
 
 impl<T: IdOrdItem> Bulk<T> for Ordered<T> {
@@ -105,7 +105,7 @@ impl<T: IdHashItem, S: BuildHasher + Default + Drop> Bulk<T> for Hashed<T, S> {
 pub trait Adding<T>: Sized {
     /// `extend_unique`, with what is lent copied.
     fn add_each<U: IntoIterator<Item = T>>(&mut self, items: U) -> Added<T>
-        requires ends { IsFiniteIterable U.into_iter_gives U.IntoIter.can_next U.IntoIter.remaining items };
+        requires ends { IsFinite U.into_iter_gives U.IntoIter.can_next U.IntoIter.remaining items };
 }
 
 impl<T: IdOrdItem + Copy + Drop> Adding<T> for Ordered<T> {
@@ -128,7 +128,7 @@ fn add_by_hash<T: IdHashItem + Copy + Drop, S: BuildHasher, U: IntoIterator<Item
     items: U,
 ) -> Added<T>
     requires keyed { ⟦<IdHashMap<T, S> as Keyed>⟧.keyed map.old }
-    requires ends { IsFiniteIterable U.into_iter_gives U.IntoIter.can_next U.IntoIter.remaining items }
+    requires ends { IsFinite U.into_iter_gives U.IntoIter.can_next U.IntoIter.remaining items }
     ensures keyed { ⟦<IdHashMap<T, S> as Keyed>⟧.keyed map.new }
 {
     match map.extend_unique(items) {
