@@ -1,6 +1,8 @@
 -- A list that another one begins with, as both go on.
-use Rattle.std.proofs.Common.{◌≡◌, ℕ, ◌+◌, ◌-◌, ◌<◌, ◌≤◌, List, [], ◌∷◌, ◌++◌, length, take, drop, get_or, ap, sym, ◌∙◌, arith, append_assoc, length-drop}
+use Rattle.std.proofs.Common.{◌≡◌, ℕ, zero, suc, refl, ◌+◌, ◌-◌, ◌<◌, ◌≤◌, List, [], ◌∷◌, ◌++◌, length, take, drop, get_or, ap, sym, ◌∙◌, arith, append_assoc, length-drop}
 use Rattle.std.proofs.lemmas.List.{drop_more, get_or-take, length-take-le}
+use Rattle.std.proofs.lemmas.List.Edits.{remove-append_left}
+use Rattle.std.specs.List.{remove}
 use Rattle.iddqd_ord_index.specs.Runs.{BeginsWith}
 use Rattle.iddqd_ord_index.specs.Shape.{weave, IsAim}
 use Rattle.iddqd_ord_index.proofs.EditLemmas.{own_dropped}
@@ -42,3 +44,18 @@ module _ (ls : List (List ℕ)) (ss : List ℕ) (at i rest : ℕ) (aim : IsAim l
       let k : i + 1 - i ≡ 1 = omega arith in
       let t : take (i + 1 - i) (drop i ss) ≡ get_or ss i 0 ∷ [] = ap (λ n. take n (drop i ss)) k ∙ ap (λ l. take 1 l) (drop_more ss i 0 lt) in
       (o.0, o.1 ∙ ap (λ l. l ++ o.0) (sym t))
+
+-- a run of a list that loses one of the run's slots
+drop-remove : (xs : List ℕ) (start k at : ℕ) → at ≡ start + k → drop start (remove xs at) ≡ remove (drop start xs) k
+drop-remove xs zero k at e = ap (remove xs) (omega (arith, e))
+drop-remove [] (suc start) k zero e = absurd (omega (arith, e))
+drop-remove [] (suc start) zero (suc at) e = refl
+drop-remove [] (suc start) (suc k) (suc at) e = refl
+drop-remove (x ∷ xs) (suc start) k zero e = absurd (omega (arith, e))
+drop-remove (x ∷ xs) (suc start) k (suc at) e = drop-remove xs start k at (omega (arith, e))
+
+pub run_removed : (run xs : List ℕ) (start at : ℕ) → start ≤ at → at - start < length run → BeginsWith run (drop start xs) → BeginsWith (remove run (at - start)) (drop start (remove xs at))
+run_removed run xs start at le lt b = (
+  b.0,
+  drop-remove xs start (at - start) at (omega arith) ∙ (ap (λ l. remove l (at - start)) b.1 ∙ remove-append_left run b.0 (at - start) lt),
+)

@@ -1,8 +1,12 @@
 -- What a change does to a node. No public clause cites this module.
+--     AddsIn, SplitsIn      the same of the branches and slots of a node
 --     AddsTo all width new result      a slot, or a slot and a branch, were put in: all is there, or an upper half was split off
-use Rattle.std.specs.Prelude.{◌≡◌, ℕ, ◌≤◌, List, ◌∷◌, ◌++◌, All, Option, Some, None}
+use Rattle.std.specs.Prelude.{◌≡◌, ℕ, ◌+◌, ◌-◌, ◌<◌, ◌≤◌, List, ◌∷◌, ◌++◌, All, length, min, slice_index, slice_set, Option, Some, None}
 use Rattle.std.proofs.Common.{Box, Global}
-use Rattle.iddqd_ord_index.specs.Shape.{Subtree, IsDense, unused}
+use Rattle.arrayvec.specs.ArrayVec.{ArrayVec}
+use Rattle.iddqd_ord_index.specs.Nodes.{below, slots_with}
+use Rattle.iddqd_ord_index.specs.Shape.{Subtree, IsDense, tree, unused}
+use Rattle.iddqd_ord_index.specs.declared.tree.node.Branches.{Branches}
 use Rattle.iddqd_ord_index.specs.declared.tree.node.Node.{Node}
 
 -- the node holds all
@@ -22,6 +26,24 @@ abbrev pub AddsTo : List ℕ → ℕ → Subtree → Option (ℕ × Box Node Glo
 AddsTo all width new None = IsGrown all width new
 AddsTo all width new (Some r) = IsSplit all new r.0 r.1.value
 
+-- a slot and a branch behind it were put in at place i of a node, and an upper half was split off, or may have been
+abbrev pub SplitsIn : ℕ → ℕ → Subtree → Branches → ArrayVec ℕ → Branches → ArrayVec ℕ → ℕ → Subtree → Type 0
+SplitsIn i middle upper bs ss cs ts top half = IsSplit (slots_with bs ss i middle upper) (tree (below cs) ts.items) top half
+
+abbrev pub AddsIn : ℕ → ℕ → Subtree → Branches → ArrayVec ℕ → Branches → ArrayVec ℕ → Option (ℕ × Box Node Global) → Type 0
+AddsIn i middle upper bs ss cs ts result = AddsTo (slots_with bs ss i middle upper) (length ss.items) (tree (below cs) ts.items) result
+
+-- a slot was put in the place of the i-th one
+abbrev pub IsReplaced : List ℕ → ℕ → ℕ → ℕ → List ℕ → Type 0
+IsReplaced ss i slot old ts = (old ≡ slice_index ss i) × (ts ≡ slice_set ss i slot)
+
+-- as many, or one less
+abbrev pub IsSameOrOneLess : ℕ → ℕ → Type 0
+IsSameOrOneLess new old = (new ≤ old) × (old ≤ new + 1)
+
+abbrev pub IsShorter : List ℕ → List ℕ → Type 0
+IsShorter new old = length new < length old
+
 -- unused nodes, each a leaf without slots
 abbrev pub AreUnused : List (Box Node Global) → Type 0
 AreUnused bs = All (λ b. b.value ≡ unused) bs
@@ -31,3 +53,15 @@ pub record Stock : Type 0 where
   pub count : ℕ
   pub wanted : ℕ
   pub room : ℕ
+
+-- a tree of so many levels wants one node more, and has room for it
+abbrev pub WantsFor : ℕ → Stock → Type 0
+WantsFor levels s = (s.wanted ≡ levels + 1) × (levels < s.room)
+
+-- so many are there and wanted, and there is room for one more
+abbrev pub IsFilled : ℕ → Stock → Type 0
+IsFilled wanted s = (wanted ≤ s.count) × (wanted < s.room) × (s.wanted ≡ wanted)
+
+-- if a node has a slot less, each level below has given a node back, as long as it was wanted
+abbrev pub GivesBack : Subtree → Subtree → Stock → Stock → Type 0
+GivesBack old new s t = new.width < old.width → min (s.count + old.height - 1) s.wanted ≤ t.count

@@ -4,6 +4,20 @@ use Rattle.std.proofs.Common.{◌≢◌}
 use Rattle.iddqd_ord_index.specs.Changes.{Stock}
 use Rattle.iddqd_ord_index.specs.Shape.{Subtree, IsDense, IsBranch, levels, unused}
 
+-- the slots of both, with one between them
+abbrev pub joined : Subtree → ℕ → Subtree → List ℕ
+joined a middle b = a.slots ++ middle ∷ b.slots
+
+abbrev pub IsAsHigh : Subtree → Subtree → Type 0
+IsAsHigh a b = a.height ≡ b.height
+
+-- one slot more of its own, or one less
+abbrev pub IsWider : Subtree → Subtree → Type 0
+IsWider old new = new.width ≡ old.width + 1
+
+abbrev pub IsNarrower : Subtree → Subtree → Type 0
+IsNarrower old new = new.width + 1 ≡ old.width
+
 -- of one height, and one of them has a slot too few
 pub record IsPair (a b : Subtree) : Type 0 where
   pub height : a.height ≡ b.height

@@ -1,8 +1,9 @@
 -- What the fields of a node show. No public clause cites this module.
-use Rattle.std.specs.Prelude.{◌≡◌, ℕ, List, All, length, map, Option}
+use Rattle.std.specs.Prelude.{◌≡◌, ℕ, ◌+◌, List, All, insert, length, map, Option}
 use Rattle.std.proofs.Common.{Box, Global}
 use Rattle.iddqd_ord_index.specs.Cells.{items_present, IsPacked}
-use Rattle.iddqd_ord_index.specs.Shape.{Subtree, tree, IsForked}
+use Rattle.arrayvec.specs.ArrayVec.{ArrayVec}
+use Rattle.iddqd_ord_index.specs.Shape.{Subtree, lists, tree, weave, IsForked}
 use Rattle.iddqd_ord_index.specs.declared.tree.node.Branches.{Branches}
 use Rattle.iddqd_ord_index.specs.declared.tree.node.Node.{Node}
 use Rattle.iddqd_ord_index.specs.declared.tree.node.Node.TheInside.{Inside}
@@ -32,3 +33,19 @@ pub record AreLeaves (os : List (Option (Box Node Global))) (n : ℕ) : Type 0 w
   pub cells : length os ≡ n
   pub present : length (subtrees os) ≡ n
   pub low : All (λ t. t.height ≡ 1) (subtrees os)
+
+-- a node's slots with those below it, from its branches and its own slots
+abbrev pub slots_of : Branches → ArrayVec ℕ → List ℕ
+slots_of bs ss = weave (lists (below bs)) ss.items
+
+-- the same with a slot more at place i, and a branch behind it
+abbrev pub slots_with : Branches → ArrayVec ℕ → ℕ → ℕ → Subtree → List ℕ
+slots_with bs ss i middle upper = weave (insert (lists (below bs)) (i + 1) upper.slots) (insert ss.items i middle)
+
+-- the same with two branches more at place j
+abbrev pub slots_with_pair : Branches → ArrayVec ℕ → ℕ → Subtree → Subtree → List ℕ
+slots_with_pair bs ss j lower upper = weave (insert (insert (lists (below bs)) j upper.slots) j lower.slots) ss.items
+
+-- the branches with one more behind the i-th
+abbrev pub below_with : Branches → ℕ → Subtree → List Subtree
+below_with bs i t = insert (below bs) (i + 1) t

@@ -1,5 +1,5 @@
 -- A list that another one begins with. No public clause cites this module.
-use Rattle.std.specs.Prelude.{◌≡◌, ℕ, List, ◌++◌, drop}
+use Rattle.std.specs.Prelude.{◌≡◌, ℕ, ◌<◌, List, ◌++◌, drop, length, remove}
 
 abbrev pub BeginsWith : List ℕ → List ℕ → Type 0
 BeginsWith front all = (rest : List ℕ) × (all ≡ front ++ rest)
@@ -11,3 +11,7 @@ pub record Run : Type 0 where
 
 abbrev pub IsRunOf : Run → List ℕ → Type 0
 IsRunOf run all = BeginsWith run.slots (drop run.start all)
+
+-- a run of a list is one still once the list has lost the slot at the position
+abbrev pub FollowsRemoval : ℕ → Run → Run → Type 0
+FollowsRemoval at old new = (all : List ℕ) → at < length all → IsRunOf old all → IsRunOf new (remove all at)

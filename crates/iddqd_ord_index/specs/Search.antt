@@ -1,11 +1,23 @@
 -- Where a query stands among keys that ascend (the crate's `Comparable`, and std's `binary_search`).
 use Rattle.std.specs.declared.cmp.Ordering.{Ordering}
 use Rattle.std.specs.declared.cmp.Ordering.TheVariants.{Less, Equal, Greater}
-use Rattle.std.specs.Prelude.{◌≡◌, ℕ, ◌<◌, ◌≤◌, List, length, Result, MatchResult}
+use Rattle.std.specs.Prelude.{◌≡◌, ℕ, Bool, ◌<◌, ◌≤◌, List, length, Option, Result, MatchResult}
+use Rattle.std.specs.Option.{option_and_then}
 use Rattle.std.specs.List.{AllWithin, HoldsAt}
+use Rattle.iddqd_store.specs.Contents.{find_item}
+use Rattle.iddqd_store.specs.Store.{Store, item_at}
+use Rattle.iddqd_ord_index.specs.Listed.{listed_items}
 
 -- `Ok`: the place of the key that the query is equal to. `Err`: the place where it belongs, above each key before it and below each key from there on
 abbrev pub IsPlaceAmong : {K : Type 0} → (K → Ordering) → List K → Result ℕ ℕ → Type 0
 IsPlaceAmong compare ks place = MatchResult place
     (λ i. (i < length ks) × HoldsAt (λ k. compare k ≡ Equal) ks i)
     (λ i. (i ≤ length ks) × AllWithin (λ k. compare k ≡ Greater) ks 0 i × AllWithin (λ k. compare k ≡ Less) ks i (length ks))
+
+-- a place of the list, or the one behind it where nothing was found
+abbrev pub IsPlaceIn : List ℕ → Result ℕ ℕ → Type 0
+IsPlaceIn slots place = MatchResult place (λ i. i < length slots) (λ i. i ≤ length slots)
+
+-- the slot of the item whose key passes the test, of those at the slots
+abbrev pub FindsSlot : {T K : Type 0} → (T → K) → (K → Bool) → Store T → List ℕ → Option ℕ → Type 0
+FindsSlot key test store slots slot = option_and_then (item_at store) slot ≡ find_item key test (listed_items store slots)

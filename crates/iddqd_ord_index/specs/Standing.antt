@@ -12,10 +12,17 @@ standing key compare (Some x) = compare (key x)
 abbrev pub slot_standing : {T K : Type 0} → (T → K) → (K → Ordering) → Store T → ℕ → Ordering
 slot_standing key compare store slot = standing key compare (item_at store slot)
 
+-- the query is above the slot at a place, or below it
+abbrev pub IsGreater : (ℕ → Ordering) → List ℕ → ℕ → Type 0
+IsGreater order xs i = order (slice_index xs i) ≡ Greater
+
+abbrev pub IsLess : (ℕ → Ordering) → List ℕ → ℕ → Type 0
+IsLess order xs i = order (slice_index xs i) ≡ Less
+
 -- the query is above a part in front and below the rest, but for at most one slot between them that it equals
 pub record IsMonotone (order : ℕ → Ordering) (xs : List ℕ) : Type 0 where
-  pub above : (j k : ℕ) → j < k → k < length xs → order (slice_index xs k) ≡ Greater → order (slice_index xs j) ≡ Greater
-  pub below : (j k : ℕ) → j < k → k < length xs → order (slice_index xs j) ≡ Less → order (slice_index xs k) ≡ Less
+  pub above : (j k : ℕ) → j < k → k < length xs → IsGreater order xs k → IsGreater order xs j
+  pub below : (j k : ℕ) → j < k → k < length xs → IsLess order xs j → IsLess order xs k
 
 -- `Ok`: the place of the slot that the query equals. `Err`: the place where it belongs
 abbrev pub IsPlace : (ℕ → Ordering) → List ℕ → Result ℕ ℕ → Type 0
@@ -33,3 +40,14 @@ pub record IsPart (order : ℕ → Ordering) (xs ys : List ℕ) (base : ℕ) : T
   pub fits : base + length ys ≤ length xs
   pub front : (k : ℕ) → k < base → order (slice_index xs k) ≡ Greater
   pub back : (k : ℕ) → base + length ys ≤ k → k < length xs → order (slice_index xs k) ≡ Less
+
+-- the same of a query and the slots of a store
+module _ {T K : Type 0} (key : T → K) (compare : K → Ordering) (store : Store T) where
+  abbrev pub StandsMonotone : List ℕ → Type 0
+  StandsMonotone slots = IsMonotone (slot_standing key compare store) slots
+
+  abbrev pub StandsAt : List ℕ → Result ℕ ℕ → Type 0
+  StandsAt slots place = IsPlace (slot_standing key compare store) slots place
+
+  abbrev pub StandsAmong : List ℕ → Option ℕ → Type 0
+  StandsAmong slots slot = IsAmong (slot_standing key compare store) slots slot

@@ -1,6 +1,7 @@
 //! The ordered index: slots in an order that its caller keeps, searched by the keys of their items.
-ghost use Rattle.std.specs.Prelude.{◌≡◌, ◌-◌, ◌<◌, ◌≤◌, true, false, [], length, take, drop, insert, remove, slice_get, slice_set, nat_eq, IsTrue, OnOk, OnErr, IfOk, IfErr, Contains};
+ghost use Rattle.std.specs.Prelude.{◌≡◌, ◌-◌, ◌<◌, ◌≤◌, true, [], length, take, drop, insert, remove, slice_get, slice_set, nat_eq, IsTrue, OnOk, OnErr, IfOk, IfErr, Contains};
 ghost use Rattle.std.specs.List.{IsDistinct};
+ghost use Rattle.iddqd_ord_index.specs.Listed.{unprepared};
 ghost use Rattle.iddqd_store.specs.Refusal.{memory_refused};
 
 mod into_walk;
@@ -65,7 +66,7 @@ impl Model for OrdIndex {
 impl OrdIndex {
     /// Returns an index without slots. Does not allocate.
     pub fn new(alloc: Global) -> Self
-        ensures { result ≡ record { slots = []; prepared = false } }
+        ensures { result ≡ unprepared [] }
     {
         OrdIndex {
             root: Node::new(),
@@ -138,7 +139,7 @@ impl OrdIndex {
         requires prepared { IsTrue self.old.prepared }
         requires in_list { place ≤ length self.old.slots }
         requires absent { ¬ Contains self.old.slots slot }
-        ensures { self.new ≡ record { slots = insert self.old.slots place slot; prepared = false } }
+        ensures { self.new ≡ unprepared (insert self.old.slots place slot) }
     {
         self.prepared = false;
         self.cache.clear();
@@ -158,10 +159,10 @@ impl OrdIndex {
     pub fn remove(&mut self, place: Place) -> u32
         requires { place < length self.old.slots }
         ensures slot { slice_get self.old.slots place ≡ Some result }
-        ensures after { self.new ≡ record { slots = remove self.old.slots place; prepared = false } }
+        ensures after { self.new ≡ unprepared (remove self.old.slots place) }
     {
         self.prepared = false;
-        self.cache.clear();
+        self.cache.remove(place.position);
         let (slot, levels) = root::remove(
             &mut self.root,
             self.levels,
@@ -190,7 +191,7 @@ impl OrdIndex {
     /// Removes the first slot and returns it, or returns `None` if there is none. Does not allocate.
     pub fn remove_first(&mut self) -> Option<u32>
         ensures slot { result ≡ slice_get self.old.slots 0 }
-        ensures after { self.new ≡ record { slots = drop 1 self.old.slots; prepared = false } }
+        ensures after { self.new ≡ unprepared (drop 1 self.old.slots) }
     {
         if self.len == 0 {
             self.prepared = false;
@@ -202,7 +203,7 @@ impl OrdIndex {
     /// Removes the last slot and returns it, or returns `None` if there is none. Does not allocate.
     pub fn remove_last(&mut self) -> Option<u32>
         ensures slot { result ≡ slice_get self.old.slots (length self.old.slots - 1) }
-        ensures after { self.new ≡ record { slots = take (length self.old.slots - 1) self.old.slots; prepared = false } }
+        ensures after { self.new ≡ unprepared (take (length self.old.slots - 1) self.old.slots) }
     {
         if self.len == 0 {
             self.prepared = false;
@@ -217,7 +218,7 @@ impl OrdIndex {
     pub fn rename(&mut self, place: Place, new: u32)
         requires in_list { place < length self.old.slots }
         requires absent { ¬ Contains self.old.slots new }
-        ensures { self.new ≡ record { slots = slice_set self.old.slots place new; prepared = false } }
+        ensures { self.new ≡ unprepared (slice_set self.old.slots place new) }
     {
         self.prepared = false;
         self.cache.clear();
@@ -226,7 +227,7 @@ impl OrdIndex {
 
     /// Removes every slot. It drops the nodes of the tree and keeps the unused ones, and does not allocate.
     pub fn clear(&mut self)
-        ensures { self.new ≡ record { slots = []; prepared = false } }
+        ensures { self.new ≡ unprepared [] }
     {
         self.prepared = false;
         self.cache.clear();
@@ -251,7 +252,7 @@ impl OrdIndex {
 
     /// Returns an index of the same slots, not prepared. It returns an error only if memory is refused.
     pub fn try_clone(&self) -> Result<Self, TryReserveError>
-        ensures ok { IfOk result (λ copy. copy ≡ record { slots = self.now.slots; prepared = false }) }
+        ensures ok { IfOk result (λ copy. copy ≡ unprepared self.now.slots) }
         ensures only_memory { IfErr result (λ e. e ≡ memory_refused) }
     {
         let Ok(root) = self.root.try_clone(self.alloc) else {

@@ -37,6 +37,7 @@ impl<T: Drop> Iterator for IntoIter<T> {
 
     ghost remaining = { item_count (λ rest. rest) };
 
+    #[inline]
     fn next(&mut self) -> Option<T> {
         let slot = self.walk.next()?;
         Some(self.store.remove(slot))

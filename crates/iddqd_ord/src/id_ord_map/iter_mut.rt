@@ -44,6 +44,7 @@ impl<T> IterMut<'_, T> {
 impl<T: IdOrdItem> IterMut<'_, T> {
     /// Returns the next item, for writing, or `None` for good after the last one. It goes down the index once for
     /// several items. A keyed map stays keyed if the key written is equal to the item's.
+    #[inline]
     pub fn next(&mut self) -> Option<&mut T>
         ensures* writes_back { sem 𝓛 (walk_lends T.row self.entry result) }
         ensures value { option_copied_mut result ≡ walk_item self.old }

@@ -16,8 +16,8 @@ impl<T: IdOrdItem> IdOrdMap<T> {
     ghost use Rattle.iddqd_ord.specs.OrdMap.{VisitsAt};
 
     /// Calls the closure once for each item, ascending, and drops each item for which it returns false. The closure
-    /// only reads. Compares no keys, and does not allocate. It goes down the index twice for an item that goes, and once
-    /// for several that stay.
+    /// only reads. Compares no keys, and does not allocate. It goes down the index once for an item that goes, and once
+    /// for several items.
     pub fn retain<F: FnMut(&T) -> bool>(&mut self, mut keep: F)
     where
         T: Drop,

@@ -1,12 +1,10 @@
 //! Lookups: what looks at the keys of items.
-ghost use Rattle.std.specs.Prelude.{◌≡◌, ◌+◌, ◌*◌, ◌<◌, ◌≤◌, length, IfSome, MatchResult, Contains};
-ghost use Rattle.std.specs.Option.{option_and_then};
+ghost use Rattle.std.specs.Prelude.{◌≡◌, ◌+◌, ◌*◌, ◌<◌, ◌≤◌, length, IfSome, Contains};
 ghost use Rattle.std.specs.Ordering.{is_lt};
-ghost use Rattle.iddqd_store.specs.Contents.{Ascends, find_item, keys};
-ghost use Rattle.iddqd_store.specs.Store.{item_at};
+ghost use Rattle.iddqd_store.specs.Contents.{Ascends};
 ghost use Rattle.iddqd_ord_index.specs.Digits.{digits};
-ghost use Rattle.iddqd_ord_index.specs.Listed.{listed_items, AreOccupied};
-ghost use Rattle.iddqd_ord_index.specs.Search.{IsPlaceAmong};
+ghost use Rattle.iddqd_ord_index.specs.Listed.{listed_items, listed_keys, AreOccupied};
+ghost use Rattle.iddqd_ord_index.specs.Search.{FindsSlot, IsPlaceAmong, IsPlaceIn};
 
 use super::{OrdIndex, Place};
 use iddqd_store::{Comparable, IdOrdItem, ItemStore, Steps};
@@ -24,8 +22,8 @@ impl OrdIndex {
         requires ascending { Ascends T.key T.Key.cmp (listed_items store.now self.now.slots) }
 
         // what it finds
-        ensures place { IsPlaceAmong (Q.compare query.now) (keys T.key (listed_items store.now self.now.slots)) result }
-        ensures in_list { MatchResult result (λ p. p < length self.now.slots) (λ p. p ≤ length self.now.slots) }
+        ensures place { IsPlaceAmong (Q.compare query.now) (listed_keys T.key store.now self.now.slots) result }
+        ensures in_list { IsPlaceIn self.now.slots result }
 
         // what it costs
         ensures steps { steps.new ≤ steps.old + 4 + 2 * digits (length self.now.slots) }
@@ -48,7 +46,7 @@ impl OrdIndex {
         requires ascending { Ascends T.key T.Key.cmp (listed_items store.now self.now.slots) }
 
         // what it finds
-        ensures item { option_and_then (item_at store.now) result ≡ find_item T.key (Q.equivalent query.now) (listed_items store.now self.now.slots) }
+        ensures item { FindsSlot T.key (Q.equivalent query.now) store.now self.now.slots result }
         ensures slot { IfSome result (Contains self.now.slots) }
 
         // what it costs
@@ -70,7 +68,7 @@ impl OrdIndex {
         requires ascending { Ascends T.key T.Key.cmp (listed_items store.now self.now.slots) }
 
         // what it finds
-        ensures item { option_and_then (item_at store.now) result ≡ find_item T.key (λ k. is_lt (Q.compare query.now k)) (listed_items store.now self.now.slots) }
+        ensures item { FindsSlot T.key (λ k. is_lt (Q.compare query.now k)) store.now self.now.slots result }
         ensures slot { IfSome result (Contains self.now.slots) }
 
         // what it costs

@@ -1,6 +1,6 @@
 //! The slots that an index has read last. Reading its slots in turn descends once for several of them.
 ghost use Rattle.std.specs.Prelude.{◌≡◌, ◌<◌, [], ◌++◌, length, slice_index};
-ghost use Rattle.iddqd_ord_index.specs.Runs.{BeginsWith, IsRunOf};
+ghost use Rattle.iddqd_ord_index.specs.Runs.{BeginsWith, FollowsRemoval, IsRunOf};
 
 use crate::tree::node::{LeafWalk, Node};
 use arrayvec::ArrayVec;
@@ -38,6 +38,18 @@ impl RunCache {
         ensures { self.new.slots ≡ [] }
     {
         self.slots.clear();
+    }
+
+    // Follows a removal of the slot at the position from the list. It keeps the other slots if it had that one.
+    #[inline]
+    pub(crate) fn remove(&mut self, at: u32)
+        ensures { FollowsRemoval at self.old self.new }
+    {
+        if at >= self.start && ((at - self.start) as usize) < self.slots.len() {
+            self.slots.remove((at - self.start) as usize);
+        } else {
+            self.slots.clear();
+        }
     }
 
     // Returns the slot at the position in the tree, out of the cache if it has it.

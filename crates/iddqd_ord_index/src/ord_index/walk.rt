@@ -45,7 +45,7 @@ impl<'a> Walk<'a> {
     }
 }
 
-// Returns the slot at the position, at which the leaves go on. It goes down from the root where they are at their end.
+// Returns the slot at the position, at which the leaves go on. It goes down from the root if they are at their end.
 #[inline]
 fn step<'a>(root: &'a Node, leaves: &mut LeafWalk<'a>, at: u32) -> u32
     requires in_list { at < length root.now.slots }
@@ -55,11 +55,19 @@ fn step<'a>(root: &'a Node, leaves: &mut LeafWalk<'a>, at: u32) -> u32
 {
     match leaves.next() {
         Some(slot) => slot,
-        None => {
-            *leaves = root.leaves_at(at);
-            leaves.next().unwrap()
-        }
+        None => descend(root, leaves, at),
     }
+}
+
+// Returns the slot at the position, and leaves a walk that goes on behind it.
+#[inline(never)]
+fn descend<'a>(root: &'a Node, leaves: &mut LeafWalk<'a>, at: u32) -> u32
+    requires in_list { at < length root.now.slots }
+    ensures slot { result ≡ slice_index root.now.slots at }
+    ensures there { BeginsWith leaves.new (drop (at + 1) root.now.slots) }
+{
+    *leaves = root.leaves_at(at);
+    leaves.next().unwrap()
 }
 
 impl Iterator for Walk<'_> {

@@ -1,6 +1,6 @@
 //! A fixed array of twelve cells that holds a list: the items stand in front, the cells behind them are empty.
 ghost use Rattle.std.specs.Prelude.{◌≡◌, ◌+◌, ◌-◌, ◌<◌, ◌≤◌, List, [], ◌∷◌, ◌++◌, length, take, drop, insert, remove, slice_index_or, slice_set, nat_le, if◌then◌else◌};
-ghost use Rattle.iddqd_ord_index.specs.Cells.{items_present, IsPacked};
+ghost use Rattle.iddqd_ord_index.specs.Cells.{items_present, InsertsLast, IsPacked};
 
 // Puts `item` at place `i`, and moves the later items up.
 pub(crate) fn insert<T: Drop>(cells: &mut [Option<T>], i: usize, item: T)
@@ -16,7 +16,7 @@ pub(crate) fn insert<T: Drop>(cells: &mut [Option<T>], i: usize, item: T)
 
 fn last_to<T>(cells: &mut [T], i: usize)
     requires { i < length cells.old }
-    ensures { (front : List T) (last : T) → cells.old ≡ front ++ last ∷ [] → cells.new ≡ insert front i last }
+    ensures { InsertsLast i cells.old cells.new }
 {
     cells[i..].rotate_right(1);
 }

@@ -1,5 +1,6 @@
 //! The root of a tree: it rises a level if it is split, and falls one if it has no slot of its own.
 ghost use Rattle.std.specs.Prelude.{◌≡◌, ◌+◌, ◌^◌, ◌<◌, ◌≤◌, length, insert, remove, slice_index};
+ghost use Rattle.iddqd_ord_index.specs.Changes.{WantsFor};
 ghost use Rattle.iddqd_ord_index.specs.Shape.{IsDense, most_levels};
 
 use super::node::Node;
@@ -50,7 +51,7 @@ pub(crate) fn remove(root: &mut Node, levels: usize, at: u32, spare: &mut Spare)
     requires place { at < length root.old.slots }
     requires room { length root.old.slots < 2 ^ 32 }
     requires top { 1 < root.old.height → 1 ≤ root.old.width }
-    requires wanted { 1 < levels → (spare.old.wanted ≡ levels + 1) × (levels < spare.old.room) }
+    requires wanted { 1 < levels → WantsFor levels spare.old }
 
     // the tree
     ensures slot { result.0 ≡ slice_index root.old.slots at }
@@ -60,7 +61,7 @@ pub(crate) fn remove(root: &mut Node, levels: usize, at: u32, spare: &mut Spare)
 
     // the nodes
     ensures dense { IsDense root.new }
-    ensures wanted { 1 < result.1 → (spare.new.wanted ≡ result.1 + 1) × (result.1 < spare.new.room) }
+    ensures wanted { 1 < result.1 → WantsFor result.1 spare.new }
     ensures kept { spare.old.count ≤ spare.new.count }
     ensures fallen { result.1 < levels → spare.new.wanted ≤ spare.new.count }
 {

@@ -2,7 +2,7 @@
 ghost use Rattle.std.specs.Prelude.{◌≡◌, ◌+◌, ◌≤◌, length};
 ghost use Rattle.iddqd_ord_index.specs.Digits.{digits};
 ghost use Rattle.iddqd_ord_index.specs.Listed.{AreOccupied};
-ghost use Rattle.iddqd_ord_index.specs.Standing.{slot_standing, IsMonotone, IsPlace};
+ghost use Rattle.iddqd_ord_index.specs.Standing.{StandsAt, StandsMonotone};
 
 use iddqd_store::{Comparable, IdOrdItem, ItemStore, Steps};
 use std::cmp::Ordering;
@@ -16,8 +16,8 @@ pub fn search<T: IdOrdItem, Q: Comparable<T::Key>>(
     steps: &mut Steps,
 ) -> Result<usize, usize>
     requires occupied { AreOccupied store.now slots.now }
-    requires monotone { IsMonotone (slot_standing T.key (Q.compare query.now) store.now) slots.now }
-    ensures place { IsPlace (slot_standing T.key (Q.compare query.now) store.now) slots.now result }
+    requires monotone { StandsMonotone T.key (Q.compare query.now) store.now slots.now }
+    ensures place { StandsAt T.key (Q.compare query.now) store.now slots.now result }
     ensures steps { steps.new ≤ steps.old + digits (length slots.now) }
     ensures never_resets { steps.old ≤ steps.new }
 {

@@ -1,5 +1,6 @@
 //! The unused nodes of a tree, which an insertion that splits takes and a removal that merges gives back.
 ghost use Rattle.std.specs.Prelude.{◌≡◌, ◌-◌, ◌^◌, ◌<◌, ◌≤◌, OnOk, OnErr, IfOk};
+ghost use Rattle.iddqd_ord_index.specs.Changes.{IsFilled};
 ghost use Rattle.iddqd_ord_index.specs.Neighbours.{given_back};
 ghost use Rattle.iddqd_ord_index.specs.Shape.{unused};
 
@@ -50,7 +51,7 @@ impl Spare {
     pub(crate) fn prepare(&mut self, wanted: usize, alloc: Global) -> Result<(), AllocError>
         requires { wanted < 2 ^ 32 }
         ensures kept { (self.old.count ≤ self.new.count) × (self.old.room ≤ self.new.room) }
-        ensures ok { OnOk result ((wanted ≤ self.new.count) × (wanted < self.new.room) × (self.new.wanted ≡ wanted)) }
+        ensures ok { OnOk result (IsFilled wanted self.new) }
         ensures err { OnErr result (self.new.wanted ≡ self.old.wanted) }
     {
         self.make_room(wanted + 1)?;

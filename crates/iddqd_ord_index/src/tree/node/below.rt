@@ -1,6 +1,6 @@
 //! The branches of a node and the number of slots below each, changed together.
 ghost use Rattle.std.specs.Prelude.{true, false, ◌≡◌, ◌+◌, ◌^◌, ◌<◌, ◌≤◌, ◌==◌, [], ◌++◌, length, take, drop, insert, remove, slice_index, slice_index_or, slice_set, nat_le, if◌then◌else◌};
-ghost use Rattle.iddqd_ord_index.specs.Nodes.{below, subtrees, AreBranches};
+ghost use Rattle.iddqd_ord_index.specs.Nodes.{below, below_with, subtrees, AreBranches};
 ghost use Rattle.iddqd_ord_index.specs.Shape.{lists, starts, unused, IsAim};
 
 use super::{Branches, Node};
@@ -208,7 +208,7 @@ impl Branches {
         // afterwards
         ensures branches { AreBranches self.new }
         ensures upper_branches { AreBranches upper.new }
-        ensures below { insert (below self.old) (i + 1) node.value ≡ below self.new ++ below upper.new }
+        ensures below { below_with self.old i node.value ≡ below self.new ++ below upper.new }
         ensures lower { length (below self.new) ≡ (if nat_le i 5 then 7 else 6) }
         ensures upper { length (below upper.new) ≡ (if nat_le i 5 then 6 else 7) }
     {

@@ -1,7 +1,7 @@
 //! Search: by halves in each node on the way down.
 ghost use Rattle.std.specs.Prelude.{◌≡◌, ◌+◌, ◌*◌, ◌^◌, ◌<◌, ◌≤◌, length};
 ghost use Rattle.iddqd_ord_index.specs.Listed.{AreOccupied};
-ghost use Rattle.iddqd_ord_index.specs.Standing.{slot_standing, IsAmong, IsMonotone, IsPlace};
+ghost use Rattle.iddqd_ord_index.specs.Standing.{StandsAmong, StandsAt, StandsMonotone};
 
 use super::Node;
 use crate::tree::search::search;
@@ -16,11 +16,11 @@ impl Node {
         steps: &mut Steps,
     ) -> Result<u32, u32>
         requires occupied { AreOccupied store.now self.now.slots }
-        requires monotone { IsMonotone (slot_standing T.key (Q.compare query.now) store.now) self.now.slots }
+        requires monotone { StandsMonotone T.key (Q.compare query.now) store.now self.now.slots }
         requires room { length self.now.slots < 2 ^ 32 }
 
         // what it finds
-        ensures place { IsPlace (slot_standing T.key (Q.compare query.now) store.now) self.now.slots result }
+        ensures place { StandsAt T.key (Q.compare query.now) store.now self.now.slots result }
 
         // what it costs
         ensures steps { steps.new ≤ steps.old + 4 * self.now.height }
@@ -51,8 +51,8 @@ impl Node {
         steps: &mut Steps,
     ) -> Option<u32>
         requires occupied { AreOccupied store.now self.now.slots }
-        requires monotone { IsMonotone (slot_standing T.key (Q.compare query.now) store.now) self.now.slots }
-        ensures found { IsAmong (slot_standing T.key (Q.compare query.now) store.now) self.now.slots result }
+        requires monotone { StandsMonotone T.key (Q.compare query.now) store.now self.now.slots }
+        ensures found { StandsAmong T.key (Q.compare query.now) store.now self.now.slots result }
         ensures steps { steps.new ≤ steps.old + 4 * self.now.height }
         ensures never_resets { steps.old ≤ steps.new }
     {

@@ -1,7 +1,7 @@
 //! Insertion: a node without room gives its upper half away.
 ghost use Rattle.std.specs.Prelude.{◌≡◌, ◌+◌, ◌^◌, ◌<◌, ◌≤◌, [], ◌∷◌, ◌++◌, length, insert, nat_le, if◌then◌else◌};
 ghost use Rattle.arrayvec.specs.ArrayVec.{array_vec_len};
-ghost use Rattle.iddqd_ord_index.specs.Changes.{AddsTo, IsSplit};
+ghost use Rattle.iddqd_ord_index.specs.Changes.{AddsIn, AddsTo, SplitsIn};
 ghost use Rattle.iddqd_ord_index.specs.Nodes.{below, AreBranches};
 ghost use Rattle.iddqd_ord_index.specs.Shape.{lists, levels, tree, unused, weave, IsBranch, IsDense, IsForked};
 
@@ -68,7 +68,7 @@ fn split_inner(
     ensures levels { levels (below branches.new) ≡ levels (below branches.old) }
 
     // the slots
-    ensures split { IsSplit (weave (insert (lists (below branches.old)) (i + 1) upper.value.slots) (insert slots.old.items i middle)) (tree (below branches.new) slots.new.items) result half.new }
+    ensures split { SplitsIn i middle upper.value branches.old slots.old branches.new slots.new result half.new }
 {
     let top = split_slots(slots, i, middle, &mut half.slots);
     branches.split(i, upper, count, &mut half.branches);
@@ -99,7 +99,7 @@ fn add_branch(
     ensures levels { levels (below branches.new) ≡ levels (below branches.old) }
 
     // the slots, and the unused nodes
-    ensures adds { AddsTo (weave (insert (lists (below branches.old)) (i + 1) upper.value.slots) (insert slots.old.items i middle)) (length slots.old.items) (tree (below branches.new) slots.new.items) result }
+    ensures adds { AddsIn i middle upper.value branches.old slots.old branches.new slots.new result }
     ensures left { spare.old.count ≤ spare.new.count + 1 }
     ensures spare { (spare.new.wanted ≡ spare.old.wanted) × (spare.new.room ≡ spare.old.room) }
 {

@@ -1,6 +1,6 @@
 //! Two neighbours of which one is a slot short: both are merged, or one borrows from the other.
 ghost use Rattle.std.specs.Prelude.{◌≡◌, ◌+◌, ◌<◌, ◌≤◌, ◌∷◌, ◌++◌, length, take, drop};
-ghost use Rattle.iddqd_ord_index.specs.Neighbours.{IsPair, IsMended};
+ghost use Rattle.iddqd_ord_index.specs.Neighbours.{joined, IsAsHigh, IsMended, IsNarrower, IsPair, IsWider};
 ghost use Rattle.iddqd_ord_index.specs.Nodes.{below, AreBranches};
 ghost use Rattle.iddqd_ord_index.specs.Shape.{unused, IsDense};
 
@@ -75,9 +75,9 @@ impl Node {
         requires more { 0 < upper.old.width }
 
         // afterwards
-        ensures slots { self.old.slots ++ middle ∷ upper.old.slots ≡ self.new.slots ++ result ∷ upper.new.slots }
-        ensures height { (self.new.height ≡ self.old.height) × (upper.new.height ≡ upper.old.height) }
-        ensures width { (self.new.width ≡ self.old.width + 1) × (upper.new.width + 1 ≡ upper.old.width) }
+        ensures slots { joined self.old middle upper.old ≡ joined self.new result upper.new }
+        ensures height { IsAsHigh self.new self.old × IsAsHigh upper.new upper.old }
+        ensures width { IsWider self.old self.new × IsNarrower upper.old upper.new }
         ensures dense { IsDense self.new × IsDense upper.new }
     {
         move_first(&mut self.branches, &mut upper.branches);
@@ -93,9 +93,9 @@ impl Node {
         requires more { 0 < self.old.width }
 
         // afterwards
-        ensures slots { self.old.slots ++ middle ∷ upper.old.slots ≡ self.new.slots ++ result ∷ upper.new.slots }
-        ensures height { (self.new.height ≡ self.old.height) × (upper.new.height ≡ upper.old.height) }
-        ensures width { (self.new.width + 1 ≡ self.old.width) × (upper.new.width ≡ upper.old.width + 1) }
+        ensures slots { joined self.old middle upper.old ≡ joined self.new result upper.new }
+        ensures height { IsAsHigh self.new self.old × IsAsHigh upper.new upper.old }
+        ensures width { IsNarrower self.old self.new × IsWider upper.old upper.new }
         ensures dense { IsDense self.new × IsDense upper.new }
     {
         move_last(&mut self.branches, self.slots.len(), &mut upper.branches);

@@ -1,7 +1,8 @@
 //! Removal: a branch that is a slot short is mended with a neighbour.
 ghost use Rattle.std.specs.Prelude.{◌≡◌, ◌+◌, ◌-◌, ◌^◌, ◌<◌, ◌≤◌, All, min, length, insert, remove, slice_index, slice_set, slice_index_or};
+ghost use Rattle.iddqd_ord_index.specs.Changes.{GivesBack, IsReplaced, IsSameOrOneLess, IsShorter};
 ghost use Rattle.iddqd_ord_index.specs.Neighbours.{given_back, IsPair, IsNear};
-ghost use Rattle.iddqd_ord_index.specs.Nodes.{below, AreBranches};
+ghost use Rattle.iddqd_ord_index.specs.Nodes.{below, slots_of, slots_with_pair, AreBranches};
 ghost use Rattle.iddqd_ord_index.specs.Shape.{levels, lists, starts, unused, weave, IsBranch, IsDense, IsForked};
 
 use super::below::replace;
@@ -35,12 +36,12 @@ fn settle(
     ensures levels { levels (below branches.new) ≡ lower.value.height + 1 }
 
     // the slots
-    ensures slots { weave (lists (below branches.new)) slots.new.items ≡ weave (insert (insert (lists (below branches.old)) j upper.value.slots) j lower.value.slots) slots.old.items }
-    ensures width { (length slots.new.items ≤ length slots.old.items) × (length slots.old.items ≤ length slots.new.items + 1) }
+    ensures slots { slots_of branches.new slots.new ≡ slots_with_pair branches.old slots.old j lower.value upper.value }
+    ensures width { IsSameOrOneLess (length slots.new.items) (length slots.old.items) }
 
     // the unused nodes
     ensures kept { length slots.new.items ≡ length slots.old.items → spare.new ≡ spare.old }
-    ensures gives_back { length slots.new.items < length slots.old.items → spare.new ≡ given_back spare.old }
+    ensures gives_back { IsShorter slots.new.items slots.old.items → spare.new ≡ given_back spare.old }
 {
     let middle = slots.as_slice()[j];
     match lower.mend(middle, &mut upper) {
@@ -77,13 +78,13 @@ fn mend(
     ensures levels { levels (below branches.new) ≡ levels (below branches.old) }
 
     // the slots
-    ensures slots { weave (lists (below branches.new)) slots.new.items ≡ weave (lists (below branches.old)) slots.old.items }
-    ensures width { (length slots.new.items ≤ length slots.old.items) × (length slots.old.items ≤ length slots.new.items + 1) }
+    ensures slots { slots_of branches.new slots.new ≡ slots_of branches.old slots.old }
+    ensures width { IsSameOrOneLess (length slots.new.items) (length slots.old.items) }
 
     // the unused nodes
     ensures kept { length slots.new.items ≡ length slots.old.items → spare.new ≡ spare.old }
-    ensures gives_back { length slots.new.items < length slots.old.items → spare.new ≡ given_back spare.old }
-    ensures short { length slots.new.items < length slots.old.items → width < 5 }
+    ensures gives_back { IsShorter slots.new.items slots.old.items → spare.new ≡ given_back spare.old }
+    ensures short { IsShorter slots.new.items slots.old.items → width < 5 }
 {
     if width >= 5 {
         return;
@@ -108,7 +109,7 @@ fn replace_own(slots: &mut ArrayVec<u32, 11>, i: usize, rest: u32, len: u32, tak
     requires within { rest ≤ len }
     requires own { rest ≡ len → i < length slots.old.items }
     ensures below { rest < len → (result ≡ taken) × (slots.new.items ≡ slots.old.items) }
-    ensures own { rest ≡ len → (result ≡ slice_index slots.old.items i) × (slots.new.items ≡ slice_set slots.old.items i taken) }
+    ensures own { rest ≡ len → IsReplaced slots.old.items i taken result slots.new.items }
     ensures len { length slots.new.items ≡ length slots.old.items }
 {
     if rest < len {
@@ -135,7 +136,7 @@ impl Node {
 
         // the unused nodes
         ensures kept { spare.old.count ≤ spare.new.count }
-        ensures gives_back { self.new.width < self.old.width → min (spare.old.count + self.old.height - 1) spare.old.wanted ≤ spare.new.count }
+        ensures gives_back { GivesBack self.old self.new spare.old spare.new }
         ensures spare { (spare.new.wanted ≡ spare.old.wanted) × (spare.new.room ≡ spare.old.room) }
     {
         if self.branches.is_empty() {

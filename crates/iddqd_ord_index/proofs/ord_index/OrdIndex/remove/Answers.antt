@@ -3,7 +3,8 @@ use Rattle.std.proofs.lemmas.List.Edits.{length-remove}
 use Rattle.std.proofs.lemmas.Option.{slice_get-get_or}
 use Rattle.std.specs.List.{slice_get, IsDistinct}
 use Rattle.std.proofs.Common.{nat_eq}
-use Rattle.iddqd_ord_index.proofs.IndexLemmas.{empty_run, once_remove, unready}
+use Rattle.iddqd_ord_index.specs.Runs.{IsRunOf}
+use Rattle.iddqd_ord_index.proofs.IndexLemmas.{once_remove, unready}
 use Rattle.iddqd_ord_index.proofs.ord_index.OrdIndex.remove.Goals as goal
 
 pub invariant_of-self : goal.invariant_of-self
@@ -22,7 +23,7 @@ invariant_of-self c =
       top = c.remove-slot.ensures.top;
       wanted = c.remove-slot.ensures.wanted;
       ready = λ t. unready _ refl t;
-      cached = empty_run c.clear.new.self c.remove-slot.new.root.slots c.clear.ensures;
+      cached = subst (IsRunOf c.remove.new.self) (sym e) (c.remove.ensures slots within c.self.invariant.cached);
     }
 
 pub returns-clause-slot : goal.returns-clause-slot
