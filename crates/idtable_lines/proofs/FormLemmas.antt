@@ -4,16 +4,14 @@
 --     by_name_whole, by_value_whole, by_rest      a text that is to be a name, a value, or the value after a name
 --     by_pairs_whole, alone_told      a text that is to be pairs, and one that is to be absent
 --     unknown_word      a word that is no name begins no form
-use Rattle.std.proofs.Common.{◌≡◌, ◌≢◌, ℕ, zero, suc, ◌<◌, Bool, true, false, cond, eqb, List, [], ◌∷◌, length, get_or, Option, Some, None, sym, refl, ap, ◌∙◌, subst, arith, rules}
+use Rattle.std.proofs.Common.{◌≡◌, ◌≢◌, ℕ, zero, suc, ◌<◌, Bool, true, false, cond, eqb, List, [], ◌∷◌, length, get_or, sym, refl, ap, ◌∙◌, arith}
 use Rattle.std.specs.Prelude.{⊤, nat_lt, nat_le, bytes_eq, ◌&&◌}
-use Rattle.std.specs.Borrow.{Bor}
 use Rattle.std.specs.List.{join_with_byte, list_all}
 use Rattle.std.specs.Option.{option_map_or}
 use Rattle.std.proofs.lemmas.Bool.Decides.{nat_tests}
 use Rattle.std.proofs.lemmas.List.Splits.{length-slice_split, join_with_byte-slice_split}
 use Rattle.std.proofs.lemmas.Slice.Eq.{bytes_eq-Decides}
 use Rattle.idtable_lines.specs.Lines.{Bad, Request, alone, by_name, by_name_and_value, by_pairs, by_value, forms, is_name, is_name_byte, paired_request, pairs_of, request_by, value_of, words_of}
-use Rattle.idtable_lines.specs.Asked.{words_behind}
 use Rattle.idtable_lines.proofs.Cuts.{words-whole}
 use Rattle.idtable_lines.proofs.NameLemmas.{parts}
 use Rattle.idtable_lines.proofs.ValueLemmas.{no_value, spelled_whole}

@@ -1,10 +1,10 @@
 //! A reader and a writer in memory that fail at a call of a given number, for tests of what `serve` and its like do
 //! then.
-ghost use Rattle.std.specs.Prelude.{◌≡◌, ◌≢◌, ◌-◌, ◌==◌, Some, IfErr, IfOk, IsErrAnd, IsOk, IsOkAnd, length, min};
+ghost use Rattle.std.specs.Prelude.{◌≡◌, ◌≢◌, ◌-◌, ◌==◌, Some, IfOk, IsOk, length};
 ghost use Rattle.std.specs.Io.{ReadsAtMost, WritesAtMost};
 ghost use Rattle.std.specs.Io.KnownBytes.{Keeps, ReadConsumes, WriteAppends};
-ghost use Rattle.std.specs.IoError.{error_kind};
 ghost use Rattle.std.specs.declared.io.ErrorKind.{ErrorKind};
+ghost use Rattle.idtable_lines.specs.Failing.{FailsBy, FailsOnlyBy, GivesWhatFits};
 
 use std::io::{Error, ErrorKind, Read, Result, Write};
 use std::marker::Model;
@@ -51,8 +51,8 @@ impl Read for FailingReader {
     fn read(&mut self, buf: &mut [u8]) -> Result<usize>
         ensures bound { ReadsAtMost result buf.new }
         ensures bytes { ReadConsumes (Some self.old.rest) (Some self.new.rest) result buf.new }
-        ensures fails { self.old.after ≡ 1 → IsErrAnd result (λ error. error_kind error ≡ ErrorKind.Other) }
-        ensures gives { self.old.after ≢ 1 → IsOkAnd result (λ count. count ≡ min (length self.old.rest) (length buf.old)) }
+        ensures fails { self.old.after ≡ 1 → FailsBy ErrorKind.Other result }
+        ensures gives { self.old.after ≢ 1 → GivesWhatFits self.old.rest buf.old result }
         ensures turn { self.new.after ≡ self.old.after - 1 }
     {
         if is_turn(&mut self.after) {
@@ -111,11 +111,11 @@ impl Write for FailingWriter {
         ensures bytes { WriteAppends (Some self.old.taken) (Some self.new.taken) result buf.now }
 
         // on refusal
-        ensures fails { self.old.after ≡ 1 → IsErrAnd result (λ error. error_kind error ≡ ErrorKind.Other) }
+        ensures fails { self.old.after ≡ 1 → FailsBy ErrorKind.Other result }
 
         // either way
         ensures takes { IfOk result (λ count. count ≡ length buf.now) }
-        ensures memory { self.old.after ≢ 1 → IfErr result (λ error. error_kind error ≡ ErrorKind.OutOfMemory) }
+        ensures memory { self.old.after ≢ 1 → FailsOnlyBy ErrorKind.OutOfMemory result }
         ensures turn { self.new.after ≡ self.old.after - 1 }
     {
         if is_turn(&mut self.after) {

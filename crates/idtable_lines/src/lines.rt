@@ -1,9 +1,8 @@
 //! The lines of a text, and what a line asks for.
-ghost use Rattle.std.specs.Prelude.{◌≡◌, ◌∷◌, ◌<◌, ◌≤◌, ◌↔◌, ℕ, [], List, length, MatchOption, IfSome, IsTrue, Some, None, true, false};
+ghost use Rattle.std.specs.Prelude.{◌≡◌, ◌∷◌, ◌<◌, ◌≤◌, ◌↔◌, length, IfSome, IsTrue};
 ghost use Rattle.std.specs.List.{list_all};
-ghost use Rattle.std.specs.Option.{option_map_or};
-ghost use Rattle.idtable_lines.specs.Lines.{Bad, HasOneForm, alone, by_name, by_name_and_value, by_value, forms, is_name, is_name_byte, lines_of, onto_pairs, pairs_of, request_by, request_of, value_of, words_of};
-ghost use Rattle.idtable_lines.specs.Asked.{asked, length_behind, pairs_behind, words_behind};
+ghost use Rattle.idtable_lines.specs.Lines.{HasOneForm, alone, forms, is_name, is_name_byte, lines_of, request_by, request_of, value_of, words_of};
+ghost use Rattle.idtable_lines.specs.Asked.{BeginsWithPair, IsNameIn, ReadsName, ReadsNameAndValue, ReadsValue, asked, asked_if_any, length_behind, words_behind};
 
 /// What a line asks for.
 #[derive(Clone, Copy)]
@@ -111,7 +110,7 @@ pub fn parse(line: &[u8]) -> Line<'_>
 
 // What a word and the fields after it ask for, or `None` if they follow no form.
 fn by_word<'a>(word: &str, fields: Option<&'a [u8]>) -> Option<Line<'a>>
-    ensures { option_map_or asked result Bad ≡ request_by forms word.now (words_behind fields.entry) }
+    ensures { asked_if_any result ≡ request_by forms word.now (words_behind fields.entry) }
 {
     match word {
         "add" => Some(Line::Request(Request::Add(name_and_value(fields)?))),
@@ -136,7 +135,7 @@ fn by_word<'a>(word: &str, fields: Option<&'a [u8]>) -> Option<Line<'a>>
 
 // What a word alone asks for.
 fn alone<'a>(line: Line<'a>, fields: Option<&[u8]>) -> Option<Line<'a>>
-    ensures { option_map_or asked result Bad ≡ alone (asked line.entry) (words_behind fields.entry) }
+    ensures { asked_if_any result ≡ alone (asked line.entry) (words_behind fields.entry) }
 {
     match fields {
         None => Some(line),
@@ -146,21 +145,21 @@ fn alone<'a>(line: Line<'a>, fields: Option<&[u8]>) -> Option<Line<'a>>
 
 // The name that the fields are.
 fn name_alone(fields: Option<&[u8]>) -> Option<&str>
-    ensures { (ask : List ℕ → _) → option_map_or (λ name. ask name.now) result Bad ≡ by_name ask (words_behind fields.entry) }
+    ensures { ReadsName (words_behind fields.entry) result }
 {
     name_in(fields?)
 }
 
 // The value that the fields are.
 fn value_alone(fields: Option<&[u8]>) -> Option<u64>
-    ensures { (ask : ℕ → _) → option_map_or ask result Bad ≡ by_value ask (words_behind fields.entry) }
+    ensures { ReadsValue (words_behind fields.entry) result }
 {
     value_in(fields?)
 }
 
 // The name and the value that the fields are.
 fn name_and_value(fields: Option<&[u8]>) -> Option<NamedValue<'_>>
-    ensures { (ask : List ℕ → ℕ → _) → option_map_or (λ pair. ask pair.name.now pair.value) result Bad ≡ by_name_and_value ask (words_behind fields.entry) }
+    ensures { ReadsNameAndValue (words_behind fields.entry) result }
 {
     let (name, value) = first_word(fields?);
     let name = name_in(name)?;
@@ -170,7 +169,7 @@ fn name_and_value(fields: Option<&[u8]>) -> Option<NamedValue<'_>>
 
 /// Returns the pair that the fields begin with, or `None` if they do not begin with one. Does not allocate.
 pub fn first_pair(fields: &[u8]) -> Option<Pair<'_>>
-    ensures pairs { MatchOption result (pairs_of (words_of fields.now) ≡ None) (λ pair. pairs_of (words_of fields.now) ≡ onto_pairs pair.name.now (Some pair.value) (pairs_behind pair.rest)) }
+    ensures pairs { BeginsWithPair (words_of fields.now) result }
     ensures shorter { IfSome result (λ pair. length_behind pair.rest ≤ length fields.now) }
 {
     let (name, value) = first_word(fields);
@@ -212,7 +211,7 @@ fn are_name_bytes(word: &[u8]) -> bool
 
 // The name that the word is.
 fn name_in(word: &[u8]) -> Option<&str>
-    ensures { MatchOption result (is_name word.now ≡ false) (λ name. (is_name word.now ≡ true) × (name.now ≡ word.now)) }
+    ensures { IsNameIn word.now result }
 {
     if !is_name_word(word) {
         return None;

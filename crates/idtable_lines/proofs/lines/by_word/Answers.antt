@@ -1,4 +1,4 @@
-use Rattle.std.proofs.Common.{◌∙◌, sym, ap, rules}
+use Rattle.std.proofs.Common.{rules}
 use Rattle.idtable_lines.proofs.FormLemmas.{by_pairs_whole}
 use Rattle.idtable_lines.proofs.lines.by_word.Goals as goal
 

@@ -1,5 +1,4 @@
-use Rattle.std.proofs.Common.{◌≡◌, ◌∙◌, sym, ap, rules}
-use Rattle.idtable_lines.specs.Lines.{value_of}
+use Rattle.std.proofs.Common.{rules}
 use Rattle.idtable_lines.proofs.FormLemmas.{by_named_rest}
 use Rattle.idtable_lines.proofs.lines.name_and_value.Goals as goal
 

@@ -1,6 +1,4 @@
-use Rattle.std.proofs.Common.{◌∙◌, sym, ap, rules}
-use Rattle.std.specs.Option.{option_map_or}
-use Rattle.idtable_lines.specs.Lines.{Bad}
+use Rattle.std.proofs.Common.{rules}
 use Rattle.idtable_lines.proofs.FormLemmas.{by_value_whole}
 use Rattle.idtable_lines.proofs.lines.value_alone.Goals as goal
 
