@@ -1,15 +1,17 @@
 -- What the program's own types for an entry and a reply stand for.
-use Rattle.std.specs.Prelude.{◌≡◌, ℕ, Bool, List, [], ◌∷◌, length, map, ◌++◌, Option, None, Some, filter, option_copied, ◌⊎◌, ◌==◌, nat_lt, if◌then◌else◌, decimal, codes, bytes_eq, string_bytes, String, IsPermutation}
+use Rattle.std.specs.Prelude.{◌≡◌, ℕ, Bool, List, [], ◌∷◌, length, map, ◌++◌, Option, filter, ◌⊎◌, ◌==◌, nat_lt, if◌then◌else◌, decimal, codes, bytes_eq, string_bytes, String, IsPermutation}
 use Rattle.std.specs.Borrow.{Bor}
 use Rattle.std.specs.Global.{Global, Vec}
 use Rattle.std.specs.Option.{option_map}
 use Rattle.iddqd_run.specs.Answer as answer
-use Rattle.iddqd.specs.Contents.{Ascends, find_item, items_without}
+use Rattle.iddqd.specs.Contents.{Ascends}
 use Rattle.iddqd.specs.Holding.{max_items}
 use Rattle.idtable_lines.specs.Lines.{Request, paired_request, pairs_of, words_of}
-use Rattle.idtable_commands.specs.Step.{MapState, VisitsItem}
+use Rattle.idtable_commands.specs.Step.{MapState}
 use Rattle.idtable_lines.specs.declared.arguments.Kind.{Kind}
 use Rattle.idtable_lines.specs.declared.arguments.Kind.TheVariants.{Hash, Ord}
+use Rattle.idtable_commands.specs.declared.keyed_map.KeyedMap as keyed_map
+use Rattle.iddqd_run.specs.declared.by_name.ByName as by_name
 use Rattle.iddqd_run.specs.declared.by_name.ListStop.{ListStop}
 use Rattle.iddqd_run.specs.declared.by_name.ListStop.TheVariants.{Entries}
 use Rattle.iddqd_run.specs.declared.entries.Entry.{Entry}
@@ -96,38 +98,17 @@ RefusesList kind before after stop = stop ≡ Entries → (kind ≡ Hash) × (st
 abbrev pub KeepsOnly : {M T : Type 0} → (M → MapState T) → (T → Bool) → M → M → Type 0
 KeepsOnly state test old new = (state new).items ≡ filter test (state old).items
 
--- what a map holds is searched for an item whose key is the text
-module _ {M T K : Type 0} (key : T → K) (is_text : List ℕ → K → Bool) (state : M → MapState T) where
-  -- the item is lent, if there is one
-  abbrev pub FindsNamed : M → List ℕ → Option (Bor T) → Type 0
-  FindsNamed map name found = option_copied found ≡ find_item key (is_text name) (state map).items
-
-  -- the item is gone, and returned if there was one
-  pub record RemovesNamed (name : List ℕ) (old new : M) (back : Option T) : Type 0 where
-    pub back_is : back ≡ find_item key (is_text name) (state old).items
-    pub left : (state new).items ≡ items_without key (is_text name) (state old).items
-
-  -- the item is absent, and nothing has changed
-  pub record LacksNamed (name : List ℕ) (old new : M) : Type 0 where
-    pub absent : find_item key (is_text name) (state old).items ≡ None
-    pub unchanged : new ≡ old
-
-  -- the item was visited, and this is what the visit returned; or there is none, and nothing has changed
-  abbrev pub VisitsNamed : {V : Type 0} → (V → T → V × T × Bool) → List ℕ → V → V → M → M → Option Bool → Type 0
-  VisitsNamed visits name v v' old new (Some told) = VisitsItem key visits (is_text name) v v' told (state old).items (state new).items
-  VisitsNamed visits name v v' old new None = LacksNamed name old new
-
 -- the map is of the kind that has ends, and its items ascend by name
 abbrev pub HasEnds : Kind → List Entry → Type 0
 HasEnds kind items = (kind ≡ Ord) × AreByName items
 
 -- a map of entries as lines ask it: keyed by the names, looked up by their texts, under no smaller limit
-pub record IsTable {M : Type 0} (key : Entry → String Global) (is_text : List ℕ → String Global → Bool) (entries_in : M → List Entry) (state : M → MapState Entry) (IsKeyed : M → Type 0) (limit_of : M → ℕ) (map : M) : Type 0 where
-  pub names : key ≡ (λ entry. entry.name)
-  pub texts : is_text ≡ (λ name k. bytes_eq name (string_bytes k))
-  pub items : (m : M) → entries_in m ≡ (state m).items
-  pub keyed : IsKeyed map
-  pub limit : limit_of map ≡ max_items
+pub record IsTable {M : Type 0} (own : keyed_map.Ghosts M Entry (String Global)) (asked : by_name.Ghosts M (String Global)) (map : M) : Type 0 where
+  pub names : own.key ≡ (λ entry. entry.name)
+  pub texts : asked.is_text ≡ (λ name k. bytes_eq name (string_bytes k))
+  pub items : (m : M) → asked.entries m ≡ (own.state m).items
+  pub keyed : own.keyed map
+  pub limit : own.limit map ≡ max_items
 
 module _ (kind : Kind) (request : Request) where
   -- the reply's text and the entries then, if no memory was refused

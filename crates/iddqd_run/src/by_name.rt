@@ -1,13 +1,13 @@
 //! A map of entries that is asked by texts.
-ghost use Rattle.std.specs.Prelude.{◌≡◌, ℕ, ◌+◌, ◌*◌, ◌≤◌, Bool, List, length, drop, IfErr, IfOk, OnErr, OnOk, option_copied, slice_get, bytes_eq, string_bytes};
+ghost use Rattle.std.specs.Prelude.{◌≡◌, ℕ, ◌+◌, ◌*◌, ◌≤◌, Bool, List, length, drop, IfErr, IfNone, IfOk, None, OnErr, OnOk, option_copied, slice_get, bytes_eq, string_bytes};
 ghost use Rattle.std.specs.Hash as fed;
 ghost use Rattle.iddqd.specs.Digits.{digits};
 ghost use Rattle.iddqd.specs.IdHashMap.{of_stored_hash};
 ghost use Rattle.iddqd.specs.Hashing.{hash_under};
 ghost use Rattle.iddqd.specs.Visiting.{VisitsKeepKeys};
-ghost use Rattle.idtable_commands.specs.KeyedMap.{StaysKeyed};
+ghost use Rattle.idtable_commands.specs.KeyedMap.{RemovesFrom, StaysKeyed, VisitsIn, find_in};
 ghost use Rattle.iddqd_run.specs.Answer.{last_of, without_last};
-ghost use Rattle.iddqd_run.specs.Shown.{AppendsList, FindsNamed, HasEnds, KeepsOnly, ListsItems, RefusesList, RemovesNamed, VisitsNamed, all_lent};
+ghost use Rattle.iddqd_run.specs.Shown.{AppendsList, HasEnds, KeepsOnly, ListsItems, RefusesList, all_lent};
 ghost use Rattle.idtable_lines.specs.declared.arguments.Kind.{Kind};
 ghost use Rattle.iddqd_run.specs.declared.entries.Entry.{Entry};
 ghost use Rattle.idtable_lines.specs.declared.arguments.Kind.TheVariants.{Hash, Ord};
@@ -61,19 +61,27 @@ pub(crate) trait ByName: KeyedMap {
     /// Returns the item of the name, or `None`. Does not allocate.
     fn find(&self, name: &str) -> Option<&Self::Item>
         requires keyed { Self.keyed self.now }
-        ensures { FindsNamed Self.key is_text Self.state self.now name.now result };
+        ensures { option_copied result ≡ find_in Self.state Self.key (is_text name.now) self.now };
 
     /// As `find`, with the comparisons counted.
     fn find_counted(&self, name: &str, steps: &mut Steps) -> Option<&Self::Item>
         requires keyed { Self.keyed self.now }
-        ensures found { FindsNamed Self.key is_text Self.state self.now name.now result }
+        ensures found { option_copied result ≡ find_in Self.state Self.key (is_text name.now) self.now }
         ensures steps { steps.new ≤ steps.old + most_steps self.now name.now };
 
     /// Visits the item of the name by a guard, and returns what the visit did, or `None` if there is none.
     fn visit_found<V: Visit<Self::Item>>(&mut self, name: &str, visitor: &mut V) -> Option<bool>
         requires keyed { Self.keyed self.old }
         requires keeps_keys { VisitsKeepKeys Self.key Self.Key.eq V.visits }
-        ensures visited { VisitsNamed Self.key is_text Self.state V.visits name.now visitor.old visitor.new self.old self.new result }
+
+        // if it is found
+        ensures visited { VisitsIn Self.state Self.key V.visits (is_text name.now) visitor.old visitor.new self.old self.new result }
+
+        // if it is absent
+        ensures absent { IfNone result (find_in Self.state Self.key (is_text name.now) self.old ≡ None) }
+        ensures unchanged { IfNone result (self.new ≡ self.old) }
+
+        // either way
         ensures stays { StaysKeyed Self.state Self.limit Self.rule Self.keyed self.old self.new };
 
     /// Keeps the items that are to stay.
@@ -87,7 +95,8 @@ pub(crate) trait ByName: KeyedMap {
     /// Removes the item of the name and returns it, or returns `None` if there is none. Does not allocate.
     fn take_out(&mut self, name: &str) -> Option<Self::Item>
         requires keyed { Self.keyed self.old }
-        ensures removed { RemovesNamed Self.key is_text Self.state name.now self.old self.new result }
+        ensures value { result ≡ find_in Self.state Self.key (is_text name.now) self.old }
+        ensures items { RemovesFrom Self.state Self.key (is_text name.now) self.old self.new }
         ensures stays { StaysKeyed Self.state Self.limit Self.rule Self.keyed self.old self.new };
 
     /// The entry of the least name, or `None`.

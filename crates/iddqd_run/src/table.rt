@@ -21,13 +21,13 @@ impl<M: ByName<Item = Entry, Key = String>> Model for Table<M> {
 
     ghost view = { λ table. (M.state table.map).items };
 
-    ghost invariant = { λ table. IsTable M.key M.is_text M.entries M.state M.keyed M.limit table.map };
+    ghost invariant = { λ table. IsTable M.KeyedMap M.ByName table.map };
 }
 
 impl<M: ByName<Item = Entry, Key = String>> Table<M> {
     /// The table of the map's entries.
     pub(crate) fn new(map: M) -> Self
-        requires table { IsTable M.key M.is_text M.entries M.state M.keyed M.limit map }
+        requires table { IsTable M.KeyedMap M.ByName map }
         ensures { result ≡ (M.state map).items }
     {
         Table { map }

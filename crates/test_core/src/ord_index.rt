@@ -80,6 +80,26 @@ impl Coins {
         self.year_of(Some(slot))
     }
 
+    // The same of the place.
+    fn take_at(&mut self, at: usize) -> Option<u32> {
+        if at >= self.index.len() as usize {
+            return None;
+        }
+        let place = self.index.place(at);
+        let slot = self.index.remove(place);
+        self.year_of(Some(slot))
+    }
+
+    // The year of the place, by the call that is for one place after the other.
+    fn year_in_turn(&mut self, at: usize) -> Option<u32> {
+        if at >= self.index.len() as usize {
+            return None;
+        }
+        let place = self.index.place(at);
+        let slot = self.index.slot_in_turn(place);
+        self.year_of(Some(slot))
+    }
+
     // The year that `remove_first` took out.
     fn take_first(&mut self) -> Option<u32> {
         let slot = self.index.remove_first();
@@ -324,5 +344,37 @@ fn coins_renamed_copied_and_cleared(rt: HostRuntime) -> Result<(), Fail> {
     same(&rt, &coins, &[]);
     fill(&rt, &mut coins);
     same(&rt, &coins, years.as_slice());
+    Ok(())
+}
+
+// Every second year goes while the years are read one after the other.
+fn thin(rt: &impl Abort, coins: &mut Coins, years: &mut Vec<u32>) {
+    for at in 0..250 {
+        check(rt, at < years.len());
+        check(rt, coins.year_in_turn(at) == Some(years.as_slice()[at]));
+        check(rt, coins.take_at(at) == Some(years.remove(at)));
+    }
+}
+
+fn read_in_turn(rt: &impl Abort, coins: &mut Coins, years: &[u32]) {
+    for (at, year) in years.iter().enumerate() {
+        check(rt, coins.year_in_turn(at) == Some(*year));
+    }
+    check(rt, coins.year_in_turn(years.len()).is_none());
+}
+
+// What was read before a change is not read after it.
+#[test]
+fn coins_read_in_turn(rt: HostRuntime) -> Result<(), Fail> {
+    let mut coins = Coins::new(rt.alloc());
+    fill(&rt, &mut coins);
+    let mut years = even_years(rt.alloc())?;
+    read_in_turn(&rt, &mut coins, years.as_slice());
+    thin(&rt, &mut coins, &mut years);
+    read_in_turn(&rt, &mut coins, years.as_slice());
+    check(&rt, coins.year_in_turn(0) == Some(2) && coins.put(0));
+    check(&rt, coins.year_in_turn(0) == Some(0));
+    coins.clear();
+    read_in_turn(&rt, &mut coins, &[]);
     Ok(())
 }

@@ -21,6 +21,23 @@ fn is_past_limit(store: &mut ItemStore<u32>, count: usize) -> bool {
     store.try_reserve(count) == Err(TryReserveError::capacity_overflow())
 }
 
+// The first slot of the list from this one on that has an item, with the item.
+fn next_in(list: &[Option<u32>], from: u32) -> Option<(usize, u32)> {
+    for (slot, item) in list.iter().enumerate() {
+        if slot >= from as usize {
+            if let Some(item) = item {
+                return Some((slot, *item));
+            }
+        }
+    }
+    None
+}
+
+fn next_of(store: &ItemStore<u32>, from: u32) -> Option<(usize, u32)> {
+    let (slot, item) = store.next_occupied(from)?;
+    Some((slot as usize, *item))
+}
+
 // Compares the store's numbers, each of its slots and one past the end with a list.
 fn assert_holds(rt: &impl Abort, store: &ItemStore<u32>, list: &[Option<u32>]) {
     let items = list.iter().filter(|slot| slot.is_some()).count();
@@ -29,8 +46,10 @@ fn assert_holds(rt: &impl Abort, store: &ItemStore<u32>, list: &[Option<u32>]) {
     check(rt, store.vacant() as usize + items == list.len());
     for slot in 0..store.slots() {
         check(rt, store.get(slot).copied() == list[slot as usize]);
+        check(rt, next_of(store, slot) == next_in(list, slot));
     }
     check(rt, store.get(store.slots()).copied() == None);
+    check(rt, next_of(store, store.slots()) == None);
 }
 
 // Four items go in, and the slot of one that leaves is used again.

@@ -26,6 +26,6 @@ returns g c =
           let after : new ≡ items_overwritten key test (record x { value = c.args.value }) items = made ∙ ap (λ p. items_overwritten key test p.1 items) (sym saw.3) in
           rw w.result-is (subst (λ v. AnswersRequest kind (Set name c.args.value) items (Written v) new) (ap (λ p. p.0.value) saw.3) (set_found kind name c.args.value items new x found after))
       | in-None w ↦
-          let absent = rw (c.self.invariant.names, c.self.invariant.texts) at w.in-None.ensures.visited.absent in
-          rw w.result-is (set_absent kind name c.args.value items new absent (ap (λ m. (g.M.KeyedMap.state m).items) w.in-None.ensures.visited.unchanged))
+          let absent = rw (c.self.invariant.names, c.self.invariant.texts) at w.in-None.ensures.absent in
+          rw w.result-is (set_absent kind name c.args.value items new absent (ap (λ m. (g.M.KeyedMap.state m).items) w.in-None.ensures.unchanged))
     ])
