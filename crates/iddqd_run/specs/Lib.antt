@@ -1,6 +1,7 @@
 pub mod Answer
 pub mod Served
 pub mod Shown
+pub mod Table
 pub mod Words
 pub use Rattle.idtable_lines.specs.Failing
 pub use Rattle.idtable_lines.specs.Arguments

@@ -10,8 +10,6 @@ use Rattle.idtable_lines.specs.Lines.{Request, paired_request, pairs_of, words_o
 use Rattle.idtable_commands.specs.Step.{MapState}
 use Rattle.idtable_lines.specs.declared.arguments.Kind.{Kind}
 use Rattle.idtable_lines.specs.declared.arguments.Kind.TheVariants.{Hash, Ord}
-use Rattle.idtable_commands.specs.declared.keyed_map.KeyedMap as keyed_map
-use Rattle.iddqd_run.specs.declared.by_name.ByName as by_name
 use Rattle.iddqd_run.specs.declared.by_name.ListStop.{ListStop}
 use Rattle.iddqd_run.specs.declared.by_name.ListStop.TheVariants.{Entries}
 use Rattle.iddqd_run.specs.declared.entries.Entry.{Entry}
@@ -101,14 +99,6 @@ KeepsOnly state test old new = (state new).items ≡ filter test (state old).ite
 -- the map is of the kind that has ends, and its items ascend by name
 abbrev pub HasEnds : Kind → List Entry → Type 0
 HasEnds kind items = (kind ≡ Ord) × AreByName items
-
--- a map of entries as lines ask it: keyed by the names, looked up by their texts, under no smaller limit
-pub record IsTable {M : Type 0} (own : keyed_map.Ghosts M Entry (String Global)) (asked : by_name.Ghosts M (String Global)) (map : M) : Type 0 where
-  pub names : own.key ≡ (λ entry. entry.name)
-  pub texts : asked.is_text ≡ (λ name k. bytes_eq name (string_bytes k))
-  pub items : (m : M) → asked.entries m ≡ (own.state m).items
-  pub keyed : own.keyed map
-  pub limit : own.limit map ≡ max_items
 
 module _ (kind : Kind) (request : Request) where
   -- the reply's text and the entries then, if no memory was refused

@@ -51,8 +51,14 @@ pub fn serve<R: Read, W: Write>(
 {
     let input = read_whole(alloc, reader)?;
     let answered = match kind {
-        Kind::Hash => answer(alloc, Table::new(IdHashMap::new(alloc)), input.as_slice()),
-        Kind::Ord => answer(alloc, Table::new(IdOrdMap::new(alloc)), input.as_slice()),
+        Kind::Hash => {
+            let map = IdHashMap::new(alloc);
+            answer(alloc, Table { map }, input.as_slice())
+        }
+        Kind::Ord => {
+            let map = IdOrdMap::new(alloc);
+            answer(alloc, Table { map }, input.as_slice())
+        }
     };
     let Ok((text, refusals)) = answered else {
         return Err(Fault::Memory);

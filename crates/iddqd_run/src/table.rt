@@ -1,7 +1,4 @@
 //! The table that lines ask.
-ghost use Rattle.std.specs.Prelude.{◌≡◌};
-ghost use Rattle.iddqd_run.specs.Shown.{IsTable};
-
 use crate::by_name::ByName;
 use crate::entries::Entry;
 use std::marker::Model;
@@ -14,7 +11,7 @@ pub(crate) struct Table<M: ByName<Item = Entry, Key = String>> {
 
 impl<M: ByName<Item = Entry, Key = String>> Model for Table<M> {
     ghost use Rattle.std.specs.Prelude.{List};
-    ghost use Rattle.iddqd_run.specs.Shown.{IsTable};
+    ghost use Rattle.iddqd_run.specs.Table.{IsTable};
     ghost use Rattle.iddqd_run.specs.declared.entries.Entry.{Entry};
 
     ghost Value = { List Entry };
@@ -22,14 +19,4 @@ impl<M: ByName<Item = Entry, Key = String>> Model for Table<M> {
     ghost view = { λ table. (M.state table.map).items };
 
     ghost invariant = { λ table. IsTable M.KeyedMap M.ByName table.map };
-}
-
-impl<M: ByName<Item = Entry, Key = String>> Table<M> {
-    /// The table of the map's entries.
-    pub(crate) fn new(map: M) -> Self
-        requires table { IsTable M.KeyedMap M.ByName map }
-        ensures { result ≡ (M.state map).items }
-    {
-        Table { map }
-    }
 }
