@@ -13,7 +13,7 @@ use Rattle.std.specs.Option.{option_map}
 use Rattle.iddqd.proofs.KeepsLemmas.{ascends_remove}
 use Rattle.iddqd.proofs.MappedLemmas.{remove-map}
 use Rattle.iddqd_run.specs.Answer as answer
-use Rattle.iddqd_run.specs.Answer.{by_ends, end_text, entries_after, line_reply, list_text, name_of, name_cmp}
+use Rattle.iddqd_run.specs.Answer.{by_ends, end_text, list_text, name_of, name_cmp}
 use Rattle.idtable_lines.specs.Lines.{Request, First, Last, PopFirst, PopLast}
 use Rattle.iddqd_run.specs.Shown.{AnswersPlainly, AnswersRequest, AppendsList, AreByName, HasEnds, ListsItems, ShowsEntries, entries_of, entry_of, refusals_of, reply_text}
 use Rattle.idtable_lines.specs.declared.arguments.Kind.{Kind}

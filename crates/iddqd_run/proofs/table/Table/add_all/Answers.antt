@@ -1,4 +1,3 @@
-use Rattle.std.proofs.Common.{string_bytes}
 use Rattle.idtable_lines.specs.Lines.{paired_request, pairs_of, words_of}
 use Rattle.iddqd_run.specs.declared.entries.LineReply.TheVariants.{Bad}
 use Rattle.iddqd_run.proofs.AddAllLemmas.{bad_told, making_told}

@@ -1,4 +1,4 @@
-use Rattle.std.proofs.Common.{refl, string_bytes}
+use Rattle.std.proofs.Common.{refl}
 use Rattle.idtable_lines.specs.Lines as request
 use Rattle.idtable_lines.specs.Asked.{request_asked}
 use Rattle.iddqd_run.specs.declared.entries.LineReply.TheVariants as reply

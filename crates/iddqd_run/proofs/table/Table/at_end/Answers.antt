@@ -1,4 +1,3 @@
-use Rattle.std.proofs.Common.{string_bytes}
 use Rattle.idtable_lines.specs.Lines as request
 use Rattle.iddqd_run.proofs.ReplyLemmas.{written}
 use Rattle.iddqd_run.proofs.table.Table.at_end.Goals as goal

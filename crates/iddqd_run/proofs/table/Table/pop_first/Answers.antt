@@ -1,6 +1,5 @@
 use Rattle.std.proofs.Common.{◌∙◌, ap, drop, slice_get, subst, sym}
 use Rattle.idtable_lines.specs.Lines.{PopFirst}
-use Rattle.iddqd_run.specs.Answer.{last_of, without_last}
 use Rattle.iddqd_run.specs.Shown.{HasEnds}
 use Rattle.iddqd_run.specs.declared.entries.LineReply.TheVariants.{Unsupported}
 use Rattle.iddqd_run.proofs.EndLemmas.{pop_first_answered, pop_first_unsupported}
