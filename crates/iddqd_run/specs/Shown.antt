@@ -1,5 +1,5 @@
 -- What the program's own types for an entry and a reply stand for.
-use Rattle.std.specs.Prelude.{◌≡◌, ℕ, Bool, List, [], ◌∷◌, length, map, ◌++◌, Option, filter, ◌⊎◌, ◌==◌, nat_lt, if◌then◌else◌, decimal, codes, bytes_eq, string_bytes, String, IsPermutation}
+use Rattle.std.specs.Prelude.{◌≡◌, ℕ, Bool, List, [], ◌∷◌, length, map, ◌++◌, Option, filter, ◌⊎◌, ◌==◌, nat_lt, if◌then◌else◌, decimal, codes, string_bytes, String, IsPermutation}
 use Rattle.std.specs.Borrow.{Bor}
 use Rattle.std.specs.Global.{Global, Vec}
 use Rattle.std.specs.Option.{option_map}
