@@ -8,7 +8,7 @@ use Rattle.iddqd_ord_index.specs.Shape.{Subtree, lists, starts, unused}
 use Rattle.iddqd_ord_index.specs.declared.tree.node.Branches.{Branches}
 use Rattle.iddqd_ord_index.specs.declared.tree.node.Node.{Node}
 use Rattle.iddqd_ord_index.proofs.PackedLemmas.{cell_at, map-insert, map-remove}
-use Rattle.iddqd_ord_index.proofs.WeaveLemmas.{starts_take, starts_drop}
+use Rattle.iddqd_ord_index.proofs.InOrderLemmas.{starts_take, starts_drop}
 use Rattle.iddqd_ord_index.proofs.EditLemmas.{put_packed, put_subtrees}
 
 pub length-subtrees : (os : List (Option (Box Node Global))) → length (subtrees os) ≡ length (items_present os)

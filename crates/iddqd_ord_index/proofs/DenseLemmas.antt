@@ -4,8 +4,8 @@ use Rattle.std.specs.List.{All}
 use Rattle.std.proofs.lemmas.List.{length-map}
 use Rattle.std.proofs.lemmas.List.Elements.{All-head, All-tail, All-weaker}
 use Rattle.std.proofs.Math.Nat.{suc-mul, pow-suc, mul-le-mul_right, mul_comm}
-use Rattle.iddqd_ord_index.specs.Shape.{Subtree, weave, lists, levels, starts, IsForked, IsBranch, IsDense}
-use Rattle.iddqd_ord_index.proofs.WeaveLemmas.{starts_weave}
+use Rattle.iddqd_ord_index.specs.Shape.{Subtree, in_order, lists, levels, starts, IsForked, IsBranch, IsDense}
+use Rattle.iddqd_ord_index.proofs.InOrderLemmas.{starts_in_order}
 
 starts_least : (c : ℕ) (ks : List Subtree) → All (λ k. c ≤ length k.slots + 1) ks → length ks * c ≤ starts (lists ks)
 starts_least c [] a = omega arith
@@ -21,12 +21,12 @@ branch_least m k i =
     let r = mul-le-mul_right {m = 6} {n = k.width + 1} (6 ^ (k.height - 1)) (omega (arith, i.wide)) in
     rw e (omega (arith, i.dense.many))
 
-pub dense_of : (ks : List Subtree) (ss : List ℕ) → IsForked ks ss → IsDense (record { slots = weave (lists ks) ss; height = levels ks; width = length ss })
+pub dense_of : (ks : List Subtree) (ss : List ℕ) → IsForked ks ss → IsDense (record { slots = in_order (lists ks) ss; height = levels ks; width = length ss })
 dense_of [] ss f = record { low = omega arith; many = rw (add-one) (omega arith) }
 dense_of (k ∷ ks) ss f =
     let e = f.fork (omega arith) in
     let l = length-map (k ∷ ks) (λ k. k.slots) in
-    let s = starts_weave (lists (k ∷ ks)) ss (l ∙ e) in
+    let s = starts_in_order (lists (k ∷ ks)) ss (l ∙ e) in
     let a = starts_least (6 ^ k.height) (k ∷ ks) (All-weaker (IsBranch (k.height + 1)) (λ k'. 6 ^ k.height ≤ length k'.slots + 1) (λ k' i. branch_least k.height k' (subst (λ n. IsBranch n k') (add-one k.height) i)) (k ∷ ks) f.branches) in
     let h : length ss + 1 ≡ length (k ∷ ks) = sym e in
     let z : k.height + 1 - 1 ≡ k.height = omega arith in

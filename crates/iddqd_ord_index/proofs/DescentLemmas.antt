@@ -4,9 +4,9 @@ use Rattle.std.specs.declared.cmp.Ordering.{Ordering}
 use Rattle.std.specs.declared.cmp.Ordering.TheVariants.{Equal}
 use Rattle.std.specs.List.{All}
 use Rattle.iddqd_ord_index.specs.Digits.{digits}
-use Rattle.iddqd_ord_index.specs.Shape.{Subtree, tree, weave, starts, lists, levels, unused, IsBranch, IsForked}
+use Rattle.iddqd_ord_index.specs.Shape.{Subtree, tree, in_order, starts, lists, levels, unused, IsBranch, IsForked}
 use Rattle.iddqd_ord_index.specs.Standing.{IsMonotone, IsPart, IsPlace}
-use Rattle.iddqd_ord_index.proofs.AimLemmas.{fork_is, starts_is, branch_is, leaf_list}
+use Rattle.iddqd_ord_index.proofs.BranchAtLemmas.{fork_is, starts_is, branch_is, leaf_list}
 use Rattle.iddqd_ord_index.proofs.BelowLemmas.{list_at}
 use Rattle.iddqd_ord_index.proofs.DigitLemmas.{digits_least}
 use Rattle.iddqd_ord_index.proofs.FoundLemmas.{part_all, part_mono, own_all, own_mono, own_read, own_place, own_end, own_some, branch_part, branch_end, found_place, missed_front, missed_back}
@@ -29,7 +29,7 @@ pub record IsInner (order : ℕ → Ordering) (P : ℕ → Type 0) (xs : List �
 pub inner : (order : ℕ → Ordering) (P : ℕ → Type 0) (xs : List ℕ) (ts : List Subtree) (ss : List ℕ) (base : ℕ) (self : Subtree) → IsMonotone order xs → All P xs → IsForked ts ss → 0 < length ts → tree ts ss ≡ self → IsPart order xs self.slots base → IsInner order P xs ts ss base
 inner order P xs ts ss base self m a f some v q =
     let e = fork_is ts ss f some in
-    let p : IsPart order xs (weave (lists ts) ss) base = subst (λ t. IsPart order xs t.slots base) (sym v) q in
+    let p : IsPart order xs (in_order (lists ts) ss) base = subst (λ t. IsPart order xs t.slots base) (sym v) q in
     record {
       monotone = own_mono order xs (lists ts) ss base m p e;
       all = own_all order xs (lists ts) ss base m p e P a;
@@ -45,7 +45,7 @@ inner order P xs ts ss base self m a f some v q =
     own_found : (i n : ℕ) → i < length ss → order (get_or ss i 0) ≡ Equal → n + 1 ≡ base + starts (take (i + 1) (lists ts)) → (n < length xs) × (order (get_or xs n 0) ≡ Equal) × (get_or xs n 0 ≡ get_or ss i 0)
     own_found i n lt g k =
         let e = fork_is ts ss f some in
-        let p : IsPart order xs (weave (lists ts) ss) base = subst (λ t. IsPart order xs t.slots base) (sym v) q in
+        let p : IsPart order xs (in_order (lists ts) ss) base = subst (λ t. IsPart order xs t.slots base) (sym v) q in
         let o = own_place order xs (lists ts) ss base m p e i n lt g k in
         (o.0, o.1, own_read order xs (lists ts) ss base m p e i n lt k)
 

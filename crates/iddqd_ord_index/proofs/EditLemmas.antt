@@ -6,13 +6,13 @@ use Rattle.std.proofs.Math.Seq.{drop-append-add}
 use Rattle.std.proofs.lemmas.List.Elements.{All-set}
 use Rattle.std.proofs.lemmas.List.Edits.{insert-append_left, insert-append_right}
 use Rattle.iddqd_ord_index.specs.Cells.{items_present, filled, IsPacked}
-use Rattle.iddqd_ord_index.specs.Shape.{Subtree, behind, weave, starts, lists, levels, IsAim, IsForked, IsBranch}
+use Rattle.iddqd_ord_index.specs.Shape.{Subtree, behind, in_order, starts, lists, levels, IsBranchAt, IsForked, IsBranch}
 use Rattle.iddqd_ord_index.specs.Nodes.{subtrees}
 use Rattle.iddqd_ord_index.specs.declared.tree.node.Node.{Node}
 use Rattle.iddqd_ord_index.proofs.PackedLemmas.{packed_is, held_is}
-use Rattle.iddqd_ord_index.proofs.WeaveLemmas.{pairs, length-pairs, weave_cut, weave_at}
+use Rattle.iddqd_ord_index.proofs.InOrderLemmas.{pairs, length-pairs, in_order_cut, in_order_at}
 
-module _ (ls : List (List ℕ)) (ss : List ℕ) (at i rest : ℕ) (aim : IsAim ls at i rest) (e : length ls ≡ length ss + 1) where
+module _ (ls : List (List ℕ)) (ss : List ℕ) (at i rest : ℕ) (branch_at : IsBranchAt ls at i rest) (e : length ls ≡ length ss + 1) where
   abbrev before : List ℕ
   before = pairs (take i ls) (take i ss)
 
@@ -20,38 +20,38 @@ module _ (ls : List (List ℕ)) (ss : List ℕ) (at i rest : ℕ) (aim : IsAim l
   after = behind (drop (suc i) ls) (drop i ss)
 
   same_lengths : length (take i ls) ≡ length (take i ss)
-  same_lengths = length-take-le i ls (omega (arith, aim.branch)) ∙ sym (length-take-le i ss (omega (arith, aim.branch)))
+  same_lengths = length-take-le i ls (omega (arith, branch_at.branch)) ∙ sym (length-take-le i ss (omega (arith, branch_at.branch)))
 
   length-before : length before ≡ starts (take i ls)
   length-before = length-pairs (take i ls) (take i ss) same_lengths
 
   -- the list with a slot more in the branch
-  inserted : (slot : ℕ) → insert (weave ls ss) at slot ≡ before ++ (insert (get_or ls i []) rest slot ++ after)
+  inserted : (slot : ℕ) → insert (in_order ls ss) at slot ≡ before ++ (insert (get_or ls i []) rest slot ++ after)
   inserted slot =
       let n = length-before in
-      let k : at - length before ≡ rest = omega (arith, aim.sum) in
-      ap (λ l. insert l at slot) (weave_cut ls ss i aim.branch e)
-      ∙ (insert-append_right before (get_or ls i [] ++ after) (length before) at slot refl (omega (arith, aim.sum))
+      let k : at - length before ≡ rest = omega (arith, branch_at.sum) in
+      ap (λ l. insert l at slot) (in_order_cut ls ss i branch_at.branch e)
+      ∙ (insert-append_right before (get_or ls i [] ++ after) (length before) at slot refl (omega (arith, branch_at.sum))
       ∙ (ap (λ j. before ++ insert (get_or ls i [] ++ after) j slot) k
-      ∙ ap (λ l. before ++ l) (insert-append_left (get_or ls i []) after rest slot aim.within)))
+      ∙ ap (λ l. before ++ l) (insert-append_left (get_or ls i []) after rest slot branch_at.within)))
 
-  pub branch_grown : (new : List ℕ) (slot : ℕ) → new ≡ insert (get_or ls i []) rest slot → weave (set ls i new) ss ≡ insert (weave ls ss) at slot
+  pub branch_grown : (new : List ℕ) (slot : ℕ) → new ≡ insert (get_or ls i []) rest slot → in_order (set ls i new) ss ≡ insert (in_order ls ss) at slot
   branch_grown new slot h =
       let n = length-set ls i new in
-      let c = weave_cut (set ls i new) ss i (omega (arith, aim.branch)) (n ∙ e) in
-      c ∙ (rw (take-set ls i new, get_or-set_same ls i new [] aim.branch, drop-set-lt (suc i) ls i new (omega arith), h) (sym (inserted slot)))
+      let c = in_order_cut (set ls i new) ss i (omega (arith, branch_at.branch)) (n ∙ e) in
+      c ∙ (rw (take-set ls i new, get_or-set_same ls i new [] branch_at.branch, drop-set-lt (suc i) ls i new (omega arith), h) (sym (inserted slot)))
 
   -- the list from the position on
-  pub dropped : drop at (weave ls ss) ≡ drop rest (get_or ls i []) ++ after
+  pub dropped : drop at (in_order ls ss) ≡ drop rest (get_or ls i []) ++ after
   dropped =
       let n = length-before in
-      let k : length before + rest ≡ at = omega (arith, aim.sum) in
-      ap (λ j. drop j (weave ls ss)) (sym k)
-      ∙ (ap (λ l. drop (length before + rest) l) (weave_cut ls ss i aim.branch e)
+      let k : length before + rest ≡ at = omega (arith, branch_at.sum) in
+      ap (λ j. drop j (in_order ls ss)) (sym k)
+      ∙ (ap (λ l. drop (length before + rest) l) (in_order_cut ls ss i branch_at.branch e)
       ∙ (drop-append-add before (get_or ls i [] ++ after) rest
-      ∙ drop-append-le rest (get_or ls i []) after aim.within))
+      ∙ drop-append-le rest (get_or ls i []) after branch_at.within))
 
-  pub own_dropped : rest ≡ length (get_or ls i []) → i < length ss → (back : List ℕ) × (drop at (weave ls ss) ≡ get_or ss i 0 ∷ back)
+  pub own_dropped : rest ≡ length (get_or ls i []) → i < length ss → (back : List ℕ) × (drop at (in_order ls ss) ≡ get_or ss i 0 ∷ back)
   own_dropped r lt =
       let q : suc i < length ls = omega arith in
       let back : List ℕ = get_or ls (suc i) [] ++ behind (drop (suc i + 1) ls) (drop (i + 1) ss) in
@@ -61,36 +61,36 @@ module _ (ls : List (List ℕ)) (ss : List ℕ) (at i rest : ℕ) (aim : IsAim l
       (back, dropped ∙ (ap (λ l. l ++ after) (drop_all rest (get_or ls i []) (omega arith)) ∙ a))
 
   pub branch_split : (lower upper : List ℕ) (middle slot : ℕ) → insert (get_or ls i []) rest slot ≡ lower ++ middle ∷ upper
-      → weave (insert (set ls i lower) (i + 1) upper) (insert ss i middle) ≡ insert (weave ls ss) at slot
+      → in_order (insert (set ls i lower) (i + 1) upper) (insert ss i middle) ≡ insert (in_order ls ss) at slot
   branch_split lower upper middle slot h =
-      let t : take (i + 1) (set ls i lower) ≡ take i ls ++ lower ∷ [] = take_more_set ls i lower aim.branch in
+      let t : take (i + 1) (set ls i lower) ≡ take i ls ++ lower ∷ [] = take_more_set ls i lower branch_at.branch in
       let d : drop (i + 1) (set ls i lower) ≡ drop (suc i) ls = drop-set-lt (i + 1) ls i lower (omega arith) ∙ rw add-one in
       let a : insert (set ls i lower) (i + 1) upper ≡ take i ls ++ lower ∷ (upper ∷ drop (suc i) ls) =
       ap (λ l. l ++ upper ∷ drop (i + 1) (set ls i lower)) t ∙ (ap (λ l. (take i ls ++ lower ∷ []) ++ upper ∷ l) d ∙ append_assoc (take i ls) (lower ∷ []) (upper ∷ drop (suc i) ls)) in
-      let w = weave_at (take i ls) lower (upper ∷ drop (suc i) ls) (take i ss) (middle ∷ drop i ss) same_lengths in
-      ap (λ l. weave l (insert ss i middle)) a
+      let w = in_order_at (take i ls) lower (upper ∷ drop (suc i) ls) (take i ss) (middle ∷ drop i ss) same_lengths in
+      ap (λ l. in_order l (insert ss i middle)) a
       ∙ (w ∙ (ap (λ l. before ++ l) (sym (append_assoc lower (middle ∷ upper) after))
       ∙ (ap (λ l. before ++ (l ++ after)) (sym h) ∙ sym (inserted slot))))
 
   -- the list with another slot at the position
-  pub branch_renamed : (new : List ℕ) (slot : ℕ) → rest < length (get_or ls i []) → new ≡ set (get_or ls i []) rest slot → weave (set ls i new) ss ≡ set (weave ls ss) at slot
+  pub branch_renamed : (new : List ℕ) (slot : ℕ) → rest < length (get_or ls i []) → new ≡ set (get_or ls i []) rest slot → in_order (set ls i new) ss ≡ set (in_order ls ss) at slot
   branch_renamed new slot lt h =
       let n = length-set ls i new in
-      let c = weave_cut (set ls i new) ss i (omega (arith, aim.branch)) (n ∙ e) in
+      let c = in_order_cut (set ls i new) ss i (omega (arith, branch_at.branch)) (n ∙ e) in
       let b = length-before in
-      let k : at - length before ≡ rest = omega (arith, aim.sum) in
-      let r : set (weave ls ss) at slot ≡ before ++ (set (get_or ls i []) rest slot ++ after) =
-      ap (λ l. set l at slot) (weave_cut ls ss i aim.branch e)
-      ∙ (set-append_right before (get_or ls i [] ++ after) (length before) at slot refl (omega (arith, aim.sum))
+      let k : at - length before ≡ rest = omega (arith, branch_at.sum) in
+      let r : set (in_order ls ss) at slot ≡ before ++ (set (get_or ls i []) rest slot ++ after) =
+      ap (λ l. set l at slot) (in_order_cut ls ss i branch_at.branch e)
+      ∙ (set-append_right before (get_or ls i [] ++ after) (length before) at slot refl (omega (arith, branch_at.sum))
       ∙ (ap (λ j. before ++ set (get_or ls i [] ++ after) j slot) k
       ∙ ap (λ l. before ++ l) (set-append_left (get_or ls i []) after rest slot lt))) in
-      c ∙ (rw (take-set ls i new, get_or-set_same ls i new [] aim.branch, drop-set-lt (suc i) ls i new (omega arith), h) (sym r))
+      c ∙ (rw (take-set ls i new, get_or-set_same ls i new [] branch_at.branch, drop-set-lt (suc i) ls i new (omega arith), h) (sym r))
 
-  pub own_renamed : (slot : ℕ) → rest ≡ length (get_or ls i []) → i < length ss → weave ls (set ss i slot) ≡ set (weave ls ss) at slot
+  pub own_renamed : (slot : ℕ) → rest ≡ length (get_or ls i []) → i < length ss → in_order ls (set ss i slot) ≡ set (in_order ls ss) at slot
   own_renamed slot r lt =
       let m = length-set ss i slot in
       let b = length-before in
-      let k : at - length before ≡ rest = omega (arith, aim.sum) in
+      let k : at - length before ≡ rest = omega (arith, branch_at.sum) in
       let q : suc i < length ls = omega arith in
       let back : List ℕ = get_or ls (suc i) [] ++ behind (drop (suc i + 1) ls) (drop (i + 1) ss) in
       let dl : drop (suc i) ls ≡ get_or ls (suc i) [] ∷ drop (suc i + 1) ls = drop_more ls (suc i) [] q in
@@ -100,13 +100,13 @@ module _ (ls : List (List ℕ)) (ss : List ℕ) (at i rest : ℕ) (aim : IsAim l
       ∙ (ap (λ x. x ∷ drop (i + 1) (set ss i slot)) (get_or-set_same ss i slot 0 lt) ∙ ap (λ l. slot ∷ l) (drop-set-lt (i + 1) ss i slot (omega arith))) in
       let a : after ≡ get_or ss i 0 ∷ back = ap (λ l. behind l (drop i ss)) dl ∙ ap (λ l. behind (get_or ls (suc i) [] ∷ drop (suc i + 1) ls) l) ds in
       let f : behind (drop (suc i) ls) (drop i (set ss i slot)) ≡ slot ∷ back = ap (λ l. behind l (drop i (set ss i slot))) dl ∙ ap (λ l. behind (get_or ls (suc i) [] ∷ drop (suc i + 1) ls) l) dt in
-      let x : set (weave ls ss) at slot ≡ before ++ (get_or ls i [] ++ slot ∷ back) =
-      ap (λ l. set l at slot) (weave_cut ls ss i aim.branch e)
-      ∙ (set-append_right before (get_or ls i [] ++ after) (length before) at slot refl (omega (arith, aim.sum))
+      let x : set (in_order ls ss) at slot ≡ before ++ (get_or ls i [] ++ slot ∷ back) =
+      ap (λ l. set l at slot) (in_order_cut ls ss i branch_at.branch e)
+      ∙ (set-append_right before (get_or ls i [] ++ after) (length before) at slot refl (omega (arith, branch_at.sum))
       ∙ (ap (λ j. before ++ set (get_or ls i [] ++ after) j slot) k
       ∙ (ap (λ l. before ++ set (get_or ls i [] ++ l) rest slot) a
       ∙ ap (λ l. before ++ l) (set_at (get_or ls i []) (get_or ss i 0) back slot rest (sym r))))) in
-      weave_cut ls (set ss i slot) i aim.branch (e ∙ ap (λ j. j + 1) (sym m))
+      in_order_cut ls (set ss i slot) i branch_at.branch (e ∙ ap (λ j. j + 1) (sym m))
       ∙ (ap (λ l. pairs (take i ls) l ++ (get_or ls i [] ++ behind (drop (suc i) ls) (drop i (set ss i slot)))) (take-set ss i slot)
       ∙ (ap (λ l. before ++ (get_or ls i [] ++ l)) f ∙ sym x))
 
@@ -154,4 +154,4 @@ set_levels ks ss i k h = levels_set ks i k h.height
 pub record IsMade (ts us : List Subtree) (ss all : List ℕ) : Type 0 where
   pub forked : IsForked us ss
   pub height : levels us ≡ levels ts
-  pub list : weave (lists us) ss ≡ all
+  pub list : in_order (lists us) ss ≡ all

@@ -6,8 +6,8 @@ use Rattle.std.proofs.lemmas.Bool.{cases_lt}
 use Rattle.std.proofs.lemmas.List.{drop_all, get_or_default}
 use Rattle.std.specs.List.{All}
 use Rattle.iddqd_ord_index.specs.Standing.{IsMonotone, IsPart}
-use Rattle.iddqd_ord_index.specs.Shape.{weave, starts, IsAim}
-use Rattle.iddqd_ord_index.proofs.WeaveLemmas.{starts_take, starts_split, starts_ge, starts_drop, starts_weave, read_own, read_branch}
+use Rattle.iddqd_ord_index.specs.Shape.{in_order, starts, IsBranchAt}
+use Rattle.iddqd_ord_index.proofs.InOrderLemmas.{starts_take, starts_split, starts_ge, starts_drop, starts_in_order, read_own, read_branch}
 use Rattle.iddqd_ord_index.proofs.OrderLemmas.{all_above, all_below}
 
 starts_mono : (ls : List (List ℕ)) (j k : ℕ) → j ≤ k → starts (take j ls) ≤ starts (take k ls)
@@ -37,17 +37,17 @@ part_mono order xs ys base m p = record {
   below = λ j k lt in' e. subst (λ s. order s ≡ Less) (p.same k in') (m.below (base + j) (base + k) (omega arith) (omega (arith, p.fits)) (subst (λ s. order s ≡ Less) (sym (p.same j (omega arith))) e));
 }
 
-module _ (order : ℕ → Ordering) (xs : List ℕ) (ls : List (List ℕ)) (ss : List ℕ) (base : ℕ) (m : IsMonotone order xs) (part : IsPart order xs (weave ls ss) base) (e : length ls ≡ length ss + 1) where
-  own_fits : (i : ℕ) → i < length ss → starts (take (i + 1) ls) ≤ length (weave ls ss)
-  own_fits i lt = omega (arith, starts_split ls (i + 1), starts_ge (drop (i + 1) ls), length-drop (i + 1) ls, starts_weave ls ss e)
+module _ (order : ℕ → Ordering) (xs : List ℕ) (ls : List (List ℕ)) (ss : List ℕ) (base : ℕ) (m : IsMonotone order xs) (part : IsPart order xs (in_order ls ss) base) (e : length ls ≡ length ss + 1) where
+  own_fits : (i : ℕ) → i < length ss → starts (take (i + 1) ls) ≤ length (in_order ls ss)
+  own_fits i lt = omega (arith, starts_split ls (i + 1), starts_ge (drop (i + 1) ls), length-drop (i + 1) ls, starts_in_order ls ss e)
 
   -- where the i-th own slot stands
   own_at : (i : ℕ) → i < length ss → get_or xs (base + (starts (take i ls) + length (get_or ls i []))) 0 ≡ get_or ss i 0
   own_at i lt =
       let n = length (get_or ls i []) in
       let t = starts_take ls i (omega arith) in
-      let aim : IsAim ls (starts (take i ls) + n) i n = record { branch = omega arith; within = omega arith; sum = refl } in
-      part.same (starts (take i ls) + n) (omega (arith, own_fits i lt)) ∙ read_own ls ss (starts (take i ls) + n) i n aim e refl lt
+      let branch_at : IsBranchAt ls (starts (take i ls) + n) i n = record { branch = omega arith; within = omega arith; sum = refl } in
+      part.same (starts (take i ls) + n) (omega (arith, own_fits i lt)) ∙ read_own ls ss (starts (take i ls) + n) i n branch_at e refl lt
 
   own_in : (i : ℕ) → i < length ss → base + (starts (take i ls) + length (get_or ls i [])) < length xs
   own_in i lt = omega (arith, own_fits i lt, starts_take ls i (omega arith), part.fits)
@@ -87,7 +87,7 @@ module _ (order : ℕ → Ordering) (xs : List ℕ) (ls : List (List ℕ)) (ss :
   branch_back i k le below from lt =
       elim (cases_lt i (length ss)) [
         | inl h ↦ all_below order xs (base + (starts (take i ls) + length (get_or ls i []))) m (subst (λ s. order s ≡ Less) (sym (own_at i h)) (below i (omega arith) h)) k (omega arith) lt
-        | inr h ↦ part.back k (omega (arith, starts_split ls i, starts_drop ls i (omega arith), starts_weave ls ss e, starts_ge (drop (i + 1) ls), length-drop (i + 1) ls, last_starts i (omega arith))) lt
+        | inr h ↦ part.back k (omega (arith, starts_split ls i, starts_drop ls i (omega arith), starts_in_order ls ss e, starts_ge (drop (i + 1) ls), length-drop (i + 1) ls, last_starts i (omega arith))) lt
       ]
     where
       last_starts : (i : ℕ) → i ≡ length ss → starts (drop (i + 1) ls) ≡ 0
@@ -97,10 +97,10 @@ module _ (order : ℕ → Ordering) (xs : List ℕ) (ls : List (List ℕ)) (ss :
       → IsPart order xs (get_or ls i []) (base + starts (take i ls))
   branch_part i le above below = record {
     same = λ k lt. (
-        let aim : IsAim ls (starts (take i ls) + k) i k = record { branch = omega arith; within = omega arith; sum = refl } in
+        let branch_at : IsBranchAt ls (starts (take i ls) + k) i k = record { branch = omega arith; within = omega arith; sum = refl } in
         let s : base + starts (take i ls) + k ≡ base + (starts (take i ls) + k) = omega arith in
-        ap (λ n. get_or xs n 0) s ∙ (part.same (starts (take i ls) + k) (omega (arith, starts_split ls i, starts_drop ls i (omega arith), starts_weave ls ss e)) ∙ read_branch ls ss (starts (take i ls) + k) i k aim e lt));
-    fits = omega (arith, starts_split ls i, starts_drop ls i (omega arith), starts_weave ls ss e, part.fits);
+        ap (λ n. get_or xs n 0) s ∙ (part.same (starts (take i ls) + k) (omega (arith, starts_split ls i, starts_drop ls i (omega arith), starts_in_order ls ss e)) ∙ read_branch ls ss (starts (take i ls) + k) i k branch_at e lt));
+    fits = omega (arith, starts_split ls i, starts_drop ls i (omega arith), starts_in_order ls ss e, part.fits);
     front = λ k lt. branch_front i k le above lt;
     back = λ k from lt. branch_back i k le below from lt;
   }
@@ -124,7 +124,7 @@ module _ (order : ℕ → Ordering) (xs : List ℕ) (ls : List (List ℕ)) (ss :
   own_some i lt = omega (arith, starts_take ls i (omega arith))
 
   pub branch_end : (i : ℕ) → i ≤ length ss → base + starts (take i ls) ≤ length xs
-  branch_end i lt = omega (arith, starts_split ls i, starts_drop ls i (omega arith), starts_weave ls ss e, part.fits)
+  branch_end i lt = omega (arith, starts_split ls i, starts_drop ls i (omega arith), starts_in_order ls ss e, part.fits)
 
 module _ (order : ℕ → Ordering) (xs ys : List ℕ) (base : ℕ) (part : IsPart order xs ys base) where
   pub found_place : (i : ℕ) → i < length ys → order (get_or ys i 0) ≡ Equal → (base + i < length xs) × (order (get_or xs (base + i) 0) ≡ Equal)

@@ -5,10 +5,10 @@ use Rattle.std.specs.List.{insert, All}
 use Rattle.std.proofs.lemmas.List.{map-append, take_at, drop_at}
 use Rattle.std.proofs.lemmas.List.Edits.{length-insert}
 use Rattle.std.proofs.lemmas.List.Elements.{All-append, All-take, All-drop, All-cons, All-head}
-use Rattle.iddqd_ord_index.specs.Shape.{Subtree, weave, lists, levels, IsForked, IsBranch}
+use Rattle.iddqd_ord_index.specs.Shape.{Subtree, in_order, lists, levels, IsForked, IsBranch}
 use Rattle.iddqd_ord_index.proofs.BelowLemmas.{length-lists}
 use Rattle.iddqd_ord_index.proofs.PackedLemmas.{map-insert}
-use Rattle.iddqd_ord_index.proofs.WeaveLemmas.{weave_join}
+use Rattle.iddqd_ord_index.proofs.InOrderLemmas.{in_order_join}
 
 pub one_more_lower : (b : Bool) → (if b then 7 else 6) ≡ (if b then 6 else 5) + 1
 one_more_lower true = refl
@@ -36,9 +36,9 @@ pub forked_of : (h : ℕ) (ts : List Subtree) (ss : List ℕ) → All (IsBranch 
 forked_of h ts ss a e =
     record { branches = subst (λ m. All (IsBranch m) ts) (sym (levels_of h ts (omega arith) a)) a; fork = λ lt. e }
 
-joined : (ls ms : List (List ℕ)) (ss ts : List ℕ) (t : ℕ) → length ls ≡ length ss + 1 → 0 < length ms → weave (ls ++ ms) (ss ++ t ∷ ts) ≡ weave ls ss ++ t ∷ weave ms ts
+joined : (ls ms : List (List ℕ)) (ss ts : List ℕ) (t : ℕ) → length ls ≡ length ss + 1 → 0 < length ms → in_order (ls ++ ms) (ss ++ t ∷ ts) ≡ in_order ls ss ++ t ∷ in_order ms ts
 joined ls [] ss ts t e lt = absurd (omega arith)
-joined ls (m ∷ ms) ss ts t e lt = weave_join ls m ms ss t ts e
+joined ls (m ∷ ms) ss ts t e lt = in_order_join ls m ms ss t ts e
 
 -- a branch and a slot put in where there is room
 module _ (ts us : List Subtree) (ss : List ℕ) (i middle : ℕ) (u : Subtree) (f : IsForked ts ss) (some : 0 < length ts) (le : i ≤ length ss) (e : us ≡ insert ts (i + 1) u) (b : IsBranch (levels ts) u) where
@@ -72,6 +72,6 @@ module _ (ts lo up : List Subtree) (u : Subtree) (j h : ℕ) (e : insert ts j u 
   upper_all = All-right (IsBranch h) lo up all_cut
 
   pub lists_join : (ss ts' rs : List ℕ) (t : ℕ) → rs ≡ ss ++ t ∷ ts' → length lo ≡ length ss + 1 → 0 < length up
-      → weave (insert (lists ts) j u.slots) rs ≡ weave (lists lo) ss ++ t ∷ weave (lists up) ts'
+      → in_order (insert (lists ts) j u.slots) rs ≡ in_order (lists lo) ss ++ t ∷ in_order (lists up) ts'
   lists_join ss ts' rs t r n lt =
-      ap (λ l. weave l rs) lists_cut ∙ (ap (λ l. weave (lists lo ++ lists up) l) r ∙ joined (lists lo) (lists up) ss ts' t (length-lists lo ∙ n) (omega (arith, length-lists up)))
+      ap (λ l. in_order l rs) lists_cut ∙ (ap (λ l. in_order (lists lo ++ lists up) l) r ∙ joined (lists lo) (lists up) ss ts' t (length-lists lo ∙ n) (omega (arith, length-lists up)))

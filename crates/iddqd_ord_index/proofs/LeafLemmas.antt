@@ -1,14 +1,14 @@
 -- Leaves in cells, and a node's own slots between them.
 --     rest_leaves, next_leaf      the first leaf is taken up, with the slot before it
---     below_aim      what is left of a node behind a position, by the branch that the position lies in
+--     below_branch_at      what is left of a node behind a position, by the branch that the position lies in
 use Rattle.std.proofs.Common.{◌≡◌, ℕ, suc, ◌+◌, ◌-◌, ◌<◌, ◌≤◌, List, [], ◌∷◌, ◌++◌, length, take, drop, get_or, refl, ap, sym, subst, ◌∙◌, arith, add-one, suc-le-suc, length-drop, Option, Some, None, Box, Global}
 use Rattle.std.specs.List.{All}
 use Rattle.std.proofs.lemmas.List.{take_rest, drop-map, get_or-drop}
 use Rattle.iddqd_ord_index.specs.Cells.{items_present}
 use Rattle.iddqd_ord_index.specs.Nodes.{subtrees, AreLeaves}
-use Rattle.iddqd_ord_index.specs.Shape.{Subtree, behind, weave, levels, lists, unused, IsAim, IsBranch, IsForked}
+use Rattle.iddqd_ord_index.specs.Shape.{Subtree, behind, in_order, levels, lists, unused, IsBranchAt, IsBranch, IsForked}
 use Rattle.iddqd_ord_index.specs.declared.tree.node.Node.{Node}
-use Rattle.iddqd_ord_index.proofs.AimLemmas.{aim_list, aim_fork, branch_is}
+use Rattle.iddqd_ord_index.proofs.BranchAtLemmas.{branch_at_list, branch_at_fork, branch_is}
 use Rattle.iddqd_ord_index.proofs.BelowLemmas.{length-subtrees}
 use Rattle.iddqd_ord_index.proofs.EditLemmas.{dropped}
 
@@ -52,13 +52,13 @@ next_leaf os s all ss a e =
     ∙ ap (λ l. s ∷ ((get_or (subtrees os) 0 unused).slots ++ behind (lists (subtrees l)) ss)) (sym (take_rest os 1)))
 
 -- what is left of a node from a position on, where that lies in the i-th branch
-pub below_aim : (ts us : List Subtree) (ss os child : List ℕ) (at i rest : ℕ) → IsForked ts ss → IsAim (lists ts) at i rest
+pub below_branch_at : (ts us : List Subtree) (ss os child : List ℕ) (at i rest : ℕ) → IsForked ts ss → IsBranchAt (lists ts) at i rest
     → child ≡ (get_or ts i unused).slots → us ≡ drop (i + 1) ts → os ≡ drop i ss
-    → drop at (weave (lists ts) ss) ≡ drop rest child ++ behind (lists us) os
-below_aim ts us ss os child at i rest f aim c u o =
-    let l : get_or (lists ts) i [] ≡ child = aim_list ts ss at i rest f aim ∙ sym c in
+    → drop at (in_order (lists ts) ss) ≡ drop rest child ++ behind (lists us) os
+below_branch_at ts us ss os child at i rest f branch_at c u o =
+    let l : get_or (lists ts) i [] ≡ child = branch_at_list ts ss at i rest f branch_at ∙ sym c in
     let d : drop (suc i) (lists ts) ≡ lists us = drop-map (λ t. t.slots) (suc i) ts ∙ ap lists (rw add-one refl ∙ sym u) in
-    dropped (lists ts) ss at i rest aim (aim_fork ts ss at i rest f aim)
+    dropped (lists ts) ss at i rest branch_at (branch_at_fork ts ss at i rest f branch_at)
     ∙ (ap (λ x. drop rest x ++ behind (drop (suc i) (lists ts)) (drop i ss)) l
     ∙ (ap (λ x. drop rest child ++ behind x (drop i ss)) d ∙ ap (λ x. drop rest child ++ behind (lists us) x) (sym o)))
 

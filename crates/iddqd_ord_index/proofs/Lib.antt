@@ -1,5 +1,5 @@
 pub mod AddLemmas
-pub mod AimLemmas
+pub mod BranchAtLemmas
 pub mod BelowLemmas
 pub mod CutLemmas
 pub mod DenseLemmas
@@ -13,7 +13,7 @@ pub mod HeightLemmas
 pub mod IndexLemmas
 pub mod LeafLemmas
 pub mod ListedLemmas
-pub mod MendLemmas
+pub mod RebalanceLemmas
 pub mod OrderLemmas
 pub mod PackedLemmas
 pub mod PairLemmas
@@ -21,4 +21,4 @@ pub mod RemoveLemmas
 pub mod RunLemmas
 pub mod StandingLemmas
 pub mod TierLemmas
-pub mod WeaveLemmas
+pub mod InOrderLemmas

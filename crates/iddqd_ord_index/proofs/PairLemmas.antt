@@ -1,15 +1,15 @@
 -- What two neighbours are when they are merged, or when one has borrowed a slot from the other.
 use Rattle.std.proofs.Common.{◌≡◌, ℕ, ◌+◌, ◌<◌, List, [], ◌∷◌, ◌++◌, length, take, drop, get_or, refl, ap, sym, ◌∙◌, subst, arith, append_assoc, length-append}
 use Rattle.std.proofs.lemmas.List.{drop_more}
-use Rattle.iddqd_ord_index.specs.Shape.{Subtree, weave, lists, levels, tree, IsForked, IsDense}
+use Rattle.iddqd_ord_index.specs.Shape.{Subtree, in_order, lists, levels, tree, IsForked, IsDense}
 use Rattle.iddqd_ord_index.proofs.DenseLemmas.{dense_of}
-use Rattle.iddqd_ord_index.proofs.TierLemmas.{IsTier, tier_of, tier_levels, tier_forked, tier_take, tier_drop, tier_join, weave_tiers, weave_cut_at}
+use Rattle.iddqd_ord_index.proofs.TierLemmas.{IsTier, tier_of, tier_levels, tier_forked, tier_take, tier_drop, tier_join, in_order_tiers, in_order_cut_at}
 
 -- a node's branches and slots, and its list
 pub record IsJoined (h : ℕ) (ts : List Subtree) (ss all : List ℕ) : Type 0 where
   pub forked : IsForked ts ss
   pub height : levels ts ≡ h
-  pub list : weave (lists ts) ss ≡ all
+  pub list : in_order (lists ts) ss ≡ all
   pub dense : IsDense (tree ts ss)
 
 -- the same slots in two nodes, cut at another one
@@ -17,14 +17,14 @@ pub record IsMoved (h : ℕ) (all : List ℕ) (ta : List Subtree) (sa : List ℕ
   pub lower : IsForked ta sa
   pub upper : IsForked tb sb
   pub height : (levels ta ≡ h) × (levels tb ≡ h)
-  pub list : all ≡ weave (lists ta) sa ++ top ∷ weave (lists tb) sb
+  pub list : all ≡ in_order (lists ta) sa ++ top ∷ in_order (lists tb) sb
   pub dense : IsDense (tree ta sa) × IsDense (tree tb sb)
 
 joined : (h : ℕ) (ta tb tj : List Subtree) (sa sb rs : List ℕ) (m : ℕ) → IsTier h ta sa → IsTier h tb sb → tj ≡ ta ++ tb → rs ≡ sa ++ m ∷ sb
-    → IsTier h tj rs × (weave (lists tj) rs ≡ weave (lists ta) sa ++ m ∷ weave (lists tb) sb)
+    → IsTier h tj rs × (in_order (lists tj) rs ≡ in_order (lists ta) sa ++ m ∷ in_order (lists tb) sb)
 joined h ta tb tj sa sb rs m a b e r = (
   subst (λ t. IsTier h t rs) (sym e) (subst (λ s. IsTier h (ta ++ tb) s) (sym r) (tier_join h ta tb sa sb m a b)),
-  ap (λ t. weave (lists t) rs) e ∙ (ap (λ s. weave (lists (ta ++ tb)) s) r ∙ weave_tiers h ta tb sa sb m a b),
+  ap (λ t. in_order (lists t) rs) e ∙ (ap (λ s. in_order (lists (ta ++ tb)) s) r ∙ in_order_tiers h ta tb sa sb m a b),
 )
 
 pub first_cut : (xs ys : List ℕ) (x : ℕ) → 0 < length xs → x ≡ get_or xs 0 x → ys ≡ drop 1 xs → xs ≡ x ∷ ys
@@ -38,9 +38,9 @@ module _ (h : ℕ) (ta tb : List Subtree) (sa sb : List ℕ) (m : ℕ) (fa : IsF
   tier_b = tier_of h tb sb fb lb
 
   abbrev all : List ℕ
-  all = weave (lists ta) sa ++ m ∷ weave (lists tb) sb
+  all = in_order (lists ta) sa ++ m ∷ in_order (lists tb) sb
 
-  moved_of : (ta' tb' : List Subtree) (sa' sb' : List ℕ) (s : ℕ) → IsTier h ta' sa' → IsTier h tb' sb' → all ≡ weave (lists ta') sa' ++ s ∷ weave (lists tb') sb' → IsMoved h all ta' sa' s tb' sb'
+  moved_of : (ta' tb' : List Subtree) (sa' sb' : List ℕ) (s : ℕ) → IsTier h ta' sa' → IsTier h tb' sb' → all ≡ in_order (lists ta') sa' ++ s ∷ in_order (lists tb') sb' → IsMoved h all ta' sa' s tb' sb'
   moved_of ta' tb' sa' sb' s a b e =
       let fa' = tier_forked h ta' sa' a in
       let fb' = tier_forked h tb' sb' b in
@@ -60,12 +60,12 @@ module _ (h : ℕ) (ta tb : List Subtree) (sa sb : List ℕ) (m : ℕ) (fa : IsF
       let f = tier_take h tb sb [] 1 tier_b refl (omega arith) in
       let j = joined h ta (take 1 tb) ta' sa [] sa' m tier_a f ea ra in
       let u = subst (λ t. IsTier h t sb') (sym eb) (tier_drop h tb sb sb' 1 tier_b (omega arith)) in
-      let c : weave (lists tb) sb ≡ weave (lists (take 1 tb)) [] ++ s ∷ weave (lists tb') sb' =
-      weave_cut_at h tb sb [] sb' s 1 tier_b rb refl ∙ ap (λ t. weave (lists (take 1 tb)) [] ++ s ∷ weave (lists t) sb') (sym eb) in
+      let c : in_order (lists tb) sb ≡ in_order (lists (take 1 tb)) [] ++ s ∷ in_order (lists tb') sb' =
+      in_order_cut_at h tb sb [] sb' s 1 tier_b rb refl ∙ ap (λ t. in_order (lists (take 1 tb)) [] ++ s ∷ in_order (lists t) sb') (sym eb) in
       moved_of ta' tb' sa' sb' s j.0 u
-      (ap (λ l. weave (lists ta) sa ++ m ∷ l) c
-      ∙ (sym (append_assoc (weave (lists ta) sa) (m ∷ weave (lists (take 1 tb)) []) (s ∷ weave (lists tb') sb'))
-      ∙ ap (λ l. l ++ s ∷ weave (lists tb') sb') (sym j.1)))
+      (ap (λ l. in_order (lists ta) sa ++ m ∷ l) c
+      ∙ (sym (append_assoc (in_order (lists ta) sa) (m ∷ in_order (lists (take 1 tb)) []) (s ∷ in_order (lists tb') sb'))
+      ∙ ap (λ l. l ++ s ∷ in_order (lists tb') sb') (sym j.1)))
 
   -- the last branch of a stands before b, and m before the slots of b
   pub moved_last : (ta' tb' : List Subtree) (sa' sb' : List ℕ) (s k : ℕ) → ta' ≡ take k ta → tb' ≡ drop k ta ++ tb → k ≡ length sa → sa ≡ sa' ++ s ∷ [] → sb' ≡ m ∷ sb → IsMoved h all ta' sa' s tb' sb'
@@ -74,9 +74,9 @@ module _ (h : ℕ) (ta tb : List Subtree) (sa sb : List ℕ) (m : ℕ) (fa : IsF
       let f = tier_drop h ta sa [] k tier_a (omega arith) in
       let t = subst (λ t. IsTier h t sa') (sym ea) (tier_take h ta sa sa' k tier_a (z ∙ l) (omega arith)) in
       let j = joined h (drop k ta) tb tb' [] sb sb' m f tier_b eb rb in
-      let c : weave (lists ta) sa ≡ weave (lists ta') sa' ++ s ∷ weave (lists (drop k ta)) [] =
-      weave_cut_at h ta sa sa' [] s k tier_a ra (z ∙ l) ∙ ap (λ q. weave (lists q) sa' ++ s ∷ weave (lists (drop k ta)) []) (sym ea) in
+      let c : in_order (lists ta) sa ≡ in_order (lists ta') sa' ++ s ∷ in_order (lists (drop k ta)) [] =
+      in_order_cut_at h ta sa sa' [] s k tier_a ra (z ∙ l) ∙ ap (λ q. in_order (lists q) sa' ++ s ∷ in_order (lists (drop k ta)) []) (sym ea) in
       moved_of ta' tb' sa' sb' s t j.0
-      (ap (λ l. l ++ m ∷ weave (lists tb) sb) c
-      ∙ (append_assoc (weave (lists ta') sa') (s ∷ weave (lists (drop k ta)) []) (m ∷ weave (lists tb) sb)
-      ∙ ap (λ l. weave (lists ta') sa' ++ s ∷ l) (sym j.1)))
+      (ap (λ l. l ++ m ∷ in_order (lists tb) sb) c
+      ∙ (append_assoc (in_order (lists ta') sa') (s ∷ in_order (lists (drop k ta)) []) (m ∷ in_order (lists tb) sb)
+      ∙ ap (λ l. in_order (lists ta') sa' ++ s ∷ l) (sym j.1)))

@@ -7,10 +7,10 @@ use Rattle.std.proofs.lemmas.List.{append-nil, take-append-drop, drop_all, drop_
 use Rattle.std.proofs.lemmas.List.Edits.{remove-append_left, remove-append_right}
 use Rattle.iddqd_ord_index.specs.Changes.{Stock}
 use Rattle.iddqd_ord_index.specs.Neighbours.{IsNear, IsShort, given_back}
-use Rattle.iddqd_ord_index.specs.Shape.{Subtree, behind, weave, starts, lists, levels, unused, IsAim, IsForked, IsBranch, IsDense}
-use Rattle.iddqd_ord_index.proofs.AimLemmas.{aim_in, aim_list, aim_fork, branch_is}
+use Rattle.iddqd_ord_index.specs.Shape.{Subtree, behind, in_order, starts, lists, levels, unused, IsBranchAt, IsForked, IsBranch, IsDense}
+use Rattle.iddqd_ord_index.proofs.BranchAtLemmas.{branch_at_in, branch_at_list, branch_at_fork, branch_is}
 use Rattle.iddqd_ord_index.proofs.EditLemmas.{levels_set}
-use Rattle.iddqd_ord_index.proofs.WeaveLemmas.{pairs, length-pairs, weave_cut, read_branch, read_own, own_within}
+use Rattle.iddqd_ord_index.proofs.InOrderLemmas.{pairs, length-pairs, in_order_cut, read_branch, read_own, own_within}
 
 -- a list and its last element
 last_cut : (k : List ℕ) (m : ℕ) → m + 1 ≡ length k → k ≡ remove k m ++ get_or k m 0 ∷ []
@@ -20,7 +20,7 @@ last_cut k m e =
     let r : remove k m ≡ take m k = ap (λ l. take m k ++ l) z ∙ append-nil (take m k) in
     sym (take-append-drop m k) ∙ (ap (λ l. take m k ++ l) d ∙ ap (λ l. l ++ get_or k m 0 ∷ []) (sym r))
 
-module _ (ls : List (List ℕ)) (ss : List ℕ) (at i rest : ℕ) (aim : IsAim ls at i rest) (e : length ls ≡ length ss + 1) where
+module _ (ls : List (List ℕ)) (ss : List ℕ) (at i rest : ℕ) (branch_at : IsBranchAt ls at i rest) (e : length ls ≡ length ss + 1) where
   abbrev before : List ℕ
   before = pairs (take i ls) (take i ss)
 
@@ -28,27 +28,27 @@ module _ (ls : List (List ℕ)) (ss : List ℕ) (at i rest : ℕ) (aim : IsAim l
   after = behind (drop (suc i) ls) (drop i ss)
 
   length-before : length before ≡ starts (take i ls)
-  length-before = length-pairs (take i ls) (take i ss) (length-take-le i ls (omega (arith, aim.branch)) ∙ sym (length-take-le i ss (omega (arith, aim.branch))))
+  length-before = length-pairs (take i ls) (take i ss) (length-take-le i ls (omega (arith, branch_at.branch)) ∙ sym (length-take-le i ss (omega (arith, branch_at.branch))))
 
   -- the list with a slot less
-  removed : remove (weave ls ss) at ≡ before ++ remove (get_or ls i [] ++ after) rest
+  removed : remove (in_order ls ss) at ≡ before ++ remove (get_or ls i [] ++ after) rest
   removed =
       let n = length-before in
-      let k : at - length before ≡ rest = omega (arith, aim.sum) in
-      ap (λ l. remove l at) (weave_cut ls ss i aim.branch e)
-      ∙ (remove-append_right before (get_or ls i [] ++ after) (length before) at refl (omega (arith, aim.sum))
+      let k : at - length before ≡ rest = omega (arith, branch_at.sum) in
+      ap (λ l. remove l at) (in_order_cut ls ss i branch_at.branch e)
+      ∙ (remove-append_right before (get_or ls i [] ++ after) (length before) at refl (omega (arith, branch_at.sum))
       ∙ ap (λ j. before ++ remove (get_or ls i [] ++ after) j) k)
 
-  branch_shrunk : (new : List ℕ) → rest < length (get_or ls i []) → new ≡ remove (get_or ls i []) rest → weave (set ls i new) ss ≡ remove (weave ls ss) at
+  branch_shrunk : (new : List ℕ) → rest < length (get_or ls i []) → new ≡ remove (get_or ls i []) rest → in_order (set ls i new) ss ≡ remove (in_order ls ss) at
   branch_shrunk new lt h =
       let n = length-set ls i new in
-      let c = weave_cut (set ls i new) ss i (omega (arith, aim.branch)) (n ∙ e) in
-      c ∙ (rw (take-set ls i new, get_or-set_same ls i new [] aim.branch, drop-set-lt (suc i) ls i new (omega arith), h)
+      let c = in_order_cut (set ls i new) ss i (omega (arith, branch_at.branch)) (n ∙ e) in
+      c ∙ (rw (take-set ls i new, get_or-set_same ls i new [] branch_at.branch, drop-set-lt (suc i) ls i new (omega arith), h)
       (ap (λ l. before ++ l) (sym (remove-append_left (get_or ls i []) after rest lt)) ∙ sym removed))
 
   -- the own slot behind the branch is replaced by the branch's last one
   own_replaced : (new : List ℕ) (last : ℕ) → rest ≡ length (get_or ls i []) → i < length ss → get_or ls i [] ≡ new ++ last ∷ []
-      → weave (set ls i new) (set ss i last) ≡ remove (weave ls ss) at
+      → in_order (set ls i new) (set ss i last) ≡ remove (in_order ls ss) at
   own_replaced new last r lt h =
       let n = length-set ls i new in
       let m = length-set ss i last in
@@ -66,17 +66,17 @@ module _ (ls : List (List ℕ)) (ss : List ℕ) (at i rest : ℕ) (aim : IsAim l
       ap (λ l. remove (get_or ls i [] ++ l) rest) b
       ∙ (remove-append_right (get_or ls i []) (get_or ss i 0 ∷ back) (length (get_or ls i [])) rest refl (omega arith)
       ∙ ap (λ j. get_or ls i [] ++ remove (get_or ss i 0 ∷ back) j) k) in
-      weave_cut (set ls i new) (set ss i last) i (omega (arith, aim.branch)) (n ∙ (e ∙ ap (λ j. j + 1) (sym m)))
-      ∙ (rw (take-set ls i new, take-set ss i last, get_or-set_same ls i new [] aim.branch, drop-set-lt (suc i) ls i new (omega arith))
+      in_order_cut (set ls i new) (set ss i last) i (omega (arith, branch_at.branch)) (n ∙ (e ∙ ap (λ j. j + 1) (sym m)))
+      ∙ (rw (take-set ls i new, take-set ss i last, get_or-set_same ls i new [] branch_at.branch, drop-set-lt (suc i) ls i new (omega arith))
       (ap (λ l. before ++ (new ++ l)) f
       ∙ (ap (λ l. before ++ l) (sym (append_assoc new (last ∷ []) back))
       ∙ (ap (λ l. before ++ (l ++ back)) (sym h) ∙ (ap (λ l. before ++ l) (sym x) ∙ sym removed)))))
 
   -- both cases: the slot that leaves, and the list that stays
-  pub left_list : (k new : List ℕ) (taken slot : ℕ) (ss' : List ℕ) → get_or ls i [] ≡ k → at < length (weave ls ss) → 0 < length k
+  pub left_list : (k new : List ℕ) (taken slot : ℕ) (ss' : List ℕ) → get_or ls i [] ≡ k → at < length (in_order ls ss) → 0 < length k
       → taken ≡ get_or k (min rest (length k - 1)) 0 → new ≡ remove k (min rest (length k - 1))
       → (rest < length k → (slot ≡ taken) × (ss' ≡ ss)) → (rest ≡ length k → (slot ≡ get_or ss i 0) × (ss' ≡ set ss i taken))
-      → (weave (set ls i new) ss' ≡ remove (weave ls ss) at) × (slot ≡ get_or (weave ls ss) at 0)
+      → (in_order (set ls i new) ss' ≡ remove (in_order ls ss) at) × (slot ≡ get_or (in_order ls ss) at 0)
   left_list k new taken slot ss' g lt some t n below own =
       let l = ap length g in
       elim (cases_lt rest (length k)) [
@@ -84,21 +84,21 @@ module _ (ls : List (List ℕ)) (ss : List ℕ) (at i rest : ℕ) (aim : IsAim l
             let m : min rest (length k - 1) ≡ rest = omega arith in
             let b = below h in
             let q : rest < length (get_or ls i []) = omega arith in (
-              ap (λ s. weave (set ls i new) s) b.1 ∙ branch_shrunk new q (n ∙ (ap (λ j. remove k j) m ∙ ap (λ x. remove x rest) (sym g))),
-              b.0 ∙ (t ∙ (ap (λ j. get_or k j 0) m ∙ (ap (λ x. get_or x rest 0) (sym g) ∙ sym (read_branch ls ss at i rest aim e q)))),
+              ap (λ s. in_order (set ls i new) s) b.1 ∙ branch_shrunk new q (n ∙ (ap (λ j. remove k j) m ∙ ap (λ x. remove x rest) (sym g))),
+              b.0 ∙ (t ∙ (ap (λ j. get_or k j 0) m ∙ (ap (λ x. get_or x rest 0) (sym g) ∙ sym (read_branch ls ss at i rest branch_at e q)))),
             )
             )
         | inr h ↦ (
-            let w = aim.within in
+            let w = branch_at.within in
             let r : rest ≡ length k = omega arith in
             let r' : rest ≡ length (get_or ls i []) = omega arith in
             let m : min rest (length k - 1) ≡ length k - 1 = omega arith in
             let o = own r in
-            let w = own_within ls ss at i rest aim e r' lt in
+            let w = own_within ls ss at i rest branch_at e r' lt in
             let c : k ≡ remove k (length k - 1) ++ get_or k (length k - 1) 0 ∷ [] = last_cut k (length k - 1) (omega arith) in
             let d : get_or ls i [] ≡ new ++ taken ∷ [] = g ∙ (c ∙ (ap (λ x. x ++ get_or k (length k - 1) 0 ∷ []) (sym (n ∙ ap (λ j. remove k j) m)) ∙ ap (λ y. new ++ y ∷ []) (sym (t ∙ ap (λ j. get_or k j 0) m)))) in (
-              ap (λ s. weave (set ls i new) s) o.1 ∙ own_replaced new taken r' w d,
-              o.0 ∙ sym (read_own ls ss at i rest aim e r' w),
+              ap (λ s. in_order (set ls i new) s) o.1 ∙ own_replaced new taken r' w d,
+              o.0 ∙ sym (read_own ls ss at i rest branch_at e r' w),
             )
             )
       ]
@@ -107,22 +107,22 @@ module _ (ls : List (List ℕ)) (ss : List ℕ) (at i rest : ℕ) (aim : IsAim l
 pub record IsShrunk (ts us : List Subtree) (ss' : List ℕ) (i : ℕ) (all left : List ℕ) (slot at : ℕ) : Type 0 where
   pub near : IsNear us ss' i
   pub height : levels us ≡ levels ts
-  pub list : weave (lists us) ss' ≡ left
+  pub list : in_order (lists us) ss' ≡ left
   pub value : slot ≡ get_or all at 0
 
-module _ (ts : List Subtree) (ss ss' : List ℕ) (at i rest taken slot : ℕ) (new : Subtree) (f : IsForked ts ss) (aim : IsAim (lists ts) at i rest) (some : 0 < length ss) (same : length ss' ≡ length ss) (within : at < length (weave (lists ts) ss)) where
+module _ (ts : List Subtree) (ss ss' : List ℕ) (at i rest taken slot : ℕ) (new : Subtree) (f : IsForked ts ss) (branch_at : IsBranchAt (lists ts) at i rest) (some : 0 < length ss) (same : length ss' ≡ length ss) (within : at < length (in_order (lists ts) ss)) where
   place : i < length ts
-  place = aim_in ts ss at i rest f aim
+  place = branch_at_in ts ss at i rest f branch_at
 
   pub shrunk : new.height ≡ (get_or ts i unused).height → (get_or ts i unused).width ≤ new.width + 1 → IsDense new → 0 < length (get_or ts i unused).slots
       → taken ≡ get_or (get_or ts i unused).slots (min rest (length (get_or ts i unused).slots - 1)) 0 → new.slots ≡ remove (get_or ts i unused).slots (min rest (length (get_or ts i unused).slots - 1))
       → (rest < length (get_or ts i unused).slots → (slot ≡ taken) × (ss' ≡ ss)) → (rest ≡ length (get_or ts i unused).slots → (slot ≡ get_or ss i 0) × (ss' ≡ set ss i taken))
-      → IsShrunk ts (set ts i new) ss' i (weave (lists ts) ss) (remove (weave (lists ts) ss) at) slot at
+      → IsShrunk ts (set ts i new) ss' i (in_order (lists ts) ss) (remove (in_order (lists ts) ss) at) slot at
   shrunk h w d full t n below own =
       let b = branch_is ts ss f i place in
-      let e = aim_fork ts ss at i rest f aim in
-      let l = aim_list ts ss at i rest f aim in
-      let r = left_list (lists ts) ss at i rest aim e (get_or ts i unused).slots new.slots taken slot ss' l within full t n below own in
+      let e = branch_at_fork ts ss at i rest f branch_at in
+      let l = branch_at_list ts ss at i rest f branch_at in
+      let r = left_list (lists ts) ss at i rest branch_at e (get_or ts i unused).slots new.slots taken slot ss' l within full t n below own in
       let v = levels_set ts i new (omega (arith, b.height)) in
       let s : IsShort (levels ts) new = record { height = omega (arith, b.height); wide = omega (arith, b.wide); dense = d } in
       let m = length-set ts i new in
@@ -136,7 +136,7 @@ module _ (ts : List Subtree) (ss ss' : List ℕ) (at i rest taken slot : ℕ) (n
           others = λ k lt ne. subst (λ h. IsBranch h (get_or (set ts i new) k unused)) (sym v) (subst (λ x. IsBranch (levels ts) x) (sym (get_or-set_other ts i k new unused ne)) (f.branches k unused (omega arith)));
         };
         height = v;
-        list = ap (λ l. weave l ss') (map-set (λ t. t.slots) ts i new) ∙ r.0;
+        list = ap (λ l. in_order l ss') (map-set (λ t. t.slots) ts i new) ∙ r.0;
         value = r.1;
       }
 
@@ -148,7 +148,7 @@ given_more s = (more (ltb s.count s.wanted) s.count, refl, refl)
     more true n = omega arith
     more false n = omega arith
 
--- the unused ones after a mend that may have merged
+-- the unused ones after a rebalance that may have merged
 pub given_or_kept : (old new : Stock) (n m : ℕ) → m ≤ n → (m ≡ n → new ≡ old) → (m < n → new ≡ given_back old) → (old.count ≤ new.count) × (new.wanted ≡ old.wanted) × (new.room ≡ old.room)
 given_or_kept old new n m le kept given =
     elim (cases_lt m n) [

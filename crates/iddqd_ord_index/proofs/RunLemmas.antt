@@ -4,7 +4,7 @@ use Rattle.std.proofs.lemmas.List.{drop_more, get_or-take, length-take-le}
 use Rattle.std.proofs.lemmas.List.Edits.{remove-append_left}
 use Rattle.std.specs.List.{remove}
 use Rattle.iddqd_ord_index.specs.Runs.{BeginsWith}
-use Rattle.iddqd_ord_index.specs.Shape.{weave, IsAim}
+use Rattle.iddqd_ord_index.specs.Shape.{in_order, IsBranchAt}
 use Rattle.iddqd_ord_index.proofs.EditLemmas.{own_dropped}
 
 -- one slot on
@@ -37,10 +37,10 @@ pub front_of : (a b c : List ℕ) → BeginsWith (a ++ b) c → BeginsWith a c
 front_of a b c p = (b ++ p.0, p.1 ∙ append_assoc a b p.0)
 
 -- the own slot of a node at which a position stands
-module _ (ls : List (List ℕ)) (ss : List ℕ) (at i rest : ℕ) (aim : IsAim ls at i rest) (e : length ls ≡ length ss + 1) where
-  pub run_own : rest ≡ length (get_or ls i []) → i < length ss → BeginsWith (take (i + 1 - i) (drop i ss)) (drop at (weave ls ss))
+module _ (ls : List (List ℕ)) (ss : List ℕ) (at i rest : ℕ) (branch_at : IsBranchAt ls at i rest) (e : length ls ≡ length ss + 1) where
+  pub run_own : rest ≡ length (get_or ls i []) → i < length ss → BeginsWith (take (i + 1 - i) (drop i ss)) (drop at (in_order ls ss))
   run_own r lt =
-      let o = own_dropped ls ss at i rest aim e r lt in
+      let o = own_dropped ls ss at i rest branch_at e r lt in
       let k : i + 1 - i ≡ 1 = omega arith in
       let t : take (i + 1 - i) (drop i ss) ≡ get_or ss i 0 ∷ [] = ap (λ n. take n (drop i ss)) k ∙ ap (λ l. take 1 l) (drop_more ss i 0 lt) in
       (o.0, o.1 ∙ ap (λ l. l ++ o.0) (sym t))

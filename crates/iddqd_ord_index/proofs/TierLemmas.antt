@@ -4,8 +4,8 @@ use Rattle.std.specs.List.{All}
 use Rattle.std.proofs.lemmas.List.{map-append, take-append-drop, length-map}
 use Rattle.std.proofs.lemmas.Bool.{cases_lt}
 use Rattle.std.proofs.lemmas.List.Elements.{All-append, All-take, All-drop, All-head}
-use Rattle.iddqd_ord_index.specs.Shape.{Subtree, weave, lists, levels, IsForked, IsBranch}
-use Rattle.iddqd_ord_index.proofs.WeaveLemmas.{weave_join}
+use Rattle.iddqd_ord_index.specs.Shape.{Subtree, in_order, lists, levels, IsForked, IsBranch}
+use Rattle.iddqd_ord_index.proofs.InOrderLemmas.{in_order_join}
 
 pub record IsTier (h : ℕ) (ks : List Subtree) (ss : List ℕ) : Type 0 where
   pub branches : All (IsBranch h) ks
@@ -76,27 +76,27 @@ module _ (h : ℕ) (ka kb : List Subtree) (sa sb : List ℕ) (m : ℕ) (a : IsTi
         low = a.low;
       }
 
-pub weave_tiers : (h : ℕ) (ka kb : List Subtree) (sa sb : List ℕ) (m : ℕ) → IsTier h ka sa → IsTier h kb sb
-    → weave (lists (ka ++ kb)) (sa ++ m ∷ sb) ≡ weave (lists ka) sa ++ m ∷ weave (lists kb) sb
-weave_tiers h [] [] sa sb m a b = refl
-weave_tiers h [] (k ∷ kb) sa sb m a b = let l = tier_levels h [] sa a in absurd (omega (arith, b.none (sym l)))
-weave_tiers h (k ∷ ka) [] sa sb m a b =
+pub in_order_tiers : (h : ℕ) (ka kb : List Subtree) (sa sb : List ℕ) (m : ℕ) → IsTier h ka sa → IsTier h kb sb
+    → in_order (lists (ka ++ kb)) (sa ++ m ∷ sb) ≡ in_order (lists ka) sa ++ m ∷ in_order (lists kb) sb
+in_order_tiers h [] [] sa sb m a b = refl
+in_order_tiers h [] (k ∷ kb) sa sb m a b = let l = tier_levels h [] sa a in absurd (omega (arith, b.none (sym l)))
+in_order_tiers h (k ∷ ka) [] sa sb m a b =
     let i = All-head (IsBranch h) k ka a.branches in
     absurd (omega (arith, b.some (omega (arith, i.height, i.dense.low))))
-weave_tiers h (k ∷ ka) (k' ∷ kb) sa sb m a b =
+in_order_tiers h (k ∷ ka) (k' ∷ kb) sa sb m a b =
     let i = All-head (IsBranch h) k ka a.branches in
     let n = length-map (k ∷ ka) (λ k. k.slots) in
-    ap (λ l. weave l (sa ++ m ∷ sb)) (map-append (λ k. k.slots) (k ∷ ka) (k' ∷ kb))
-    ∙ weave_join (lists (k ∷ ka)) k'.slots (lists kb) sa m sb (n ∙ a.some (omega (arith, i.height, i.dense.low)))
+    ap (λ l. in_order l (sa ++ m ∷ sb)) (map-append (λ k. k.slots) (k ∷ ka) (k' ∷ kb))
+    ∙ in_order_join (lists (k ∷ ka)) k'.slots (lists kb) sa m sb (n ∙ a.some (omega (arith, i.height, i.dense.low)))
 
 -- a node's list, cut at an own slot
-pub weave_cut_at : (h : ℕ) (ks : List Subtree) (ss sa sb : List ℕ) (m n : ℕ) → IsTier h ks ss → ss ≡ sa ++ m ∷ sb → n ≡ length sa + 1
-    → weave (lists ks) ss ≡ weave (lists (take n ks)) sa ++ m ∷ weave (lists (drop n ks)) sb
-weave_cut_at h ks ss sa sb m n t e k =
+pub in_order_cut_at : (h : ℕ) (ks : List Subtree) (ss sa sb : List ℕ) (m n : ℕ) → IsTier h ks ss → ss ≡ sa ++ m ∷ sb → n ≡ length sa + 1
+    → in_order (lists ks) ss ≡ in_order (lists (take n ks)) sa ++ m ∷ in_order (lists (drop n ks)) sb
+in_order_cut_at h ks ss sa sb m n t e k =
     let l = length-append sa (m ∷ sb) in
     let v = ap length e in
     let a = tier_take h ks ss sa n t k (omega arith) in
     let b = tier_drop h ks ss sb n t (omega arith) in
-    ap (λ l. weave (lists l) ss) (sym (take-append-drop n ks))
-    ∙ (ap (λ l. weave (lists (take n ks ++ drop n ks)) l) e
-    ∙ weave_tiers h (take n ks) (drop n ks) sa sb m a b)
+    ap (λ l. in_order (lists l) ss) (sym (take-append-drop n ks))
+    ∙ (ap (λ l. in_order (lists (take n ks ++ drop n ks)) l) e
+    ∙ in_order_tiers h (take n ks) (drop n ks) sa sb m a b)

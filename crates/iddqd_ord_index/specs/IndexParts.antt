@@ -8,7 +8,7 @@ use Rattle.iddqd_ord_index.specs.declared.ord_index.OrdIndex.TheInside.{Inside}
 
 -- one slot more has a number and the nodes that it may need, and there is room for those that are wanted then
 abbrev pub IsReady : Inside → Type 0
-IsReady i = (length i.root.slots < 4294967295) × (i.levels < i.spare.count) × (i.levels + 1 < i.spare.room)
+IsReady i = (length i.root.slots < 4294967295) × (i.levels < i.pool.count) × (i.levels + 1 < i.pool.room)
 
 -- each slot stands once, their places have numbers of 32 bits, and the numbers of slots and levels are those of the tree
 pub record IsIndex (i : Inside) : Type 0 where
@@ -20,7 +20,7 @@ pub record IsIndex (i : Inside) : Type 0 where
   -- the root of a tree of several levels has a slot of its own
   pub top : 1 < i.root.height → 1 ≤ i.root.width
   -- as many unused nodes are wanted as there are levels and one more, and there is room for them
-  pub wanted : 1 < i.levels → WantsFor i.levels i.spare
+  pub wanted : 1 < i.levels → WantsFor i.levels i.pool
   pub ready : IsTrue i.prepared → IsReady i
   -- what is kept of the slots that were read last
   pub cached : IsRunOf i.cache i.root.slots

@@ -1,4 +1,4 @@
--- Two neighbours of which one is a slot short, and what they are when they are mended. No public clause cites this module.
+-- Two neighbours of which one is a slot short, and what they are when they are rebalanced. No public clause cites this module.
 use Rattle.std.specs.Prelude.{◌≡◌, ℕ, ◌+◌, ◌<◌, ◌≤◌, min, nat_lt, if◌then◌else◌, List, ◌∷◌, ◌++◌, length, Option, Some, None, slice_index_or}
 use Rattle.std.proofs.Common.{◌≢◌}
 use Rattle.iddqd_ord_index.specs.Changes.{Stock}
@@ -36,9 +36,9 @@ pub record IsShifted (a : Subtree) (middle : ℕ) (b lower : Subtree) (top : ℕ
   pub lower_branch : IsBranch (a.height + 1) lower
   pub upper_branch : IsBranch (a.height + 1) upper
 
-abbrev pub IsMended : Subtree → ℕ → Subtree → Subtree → Option ℕ → Subtree → Type 0
-IsMended a middle b lower None upper = IsMerged a middle b lower upper
-IsMended a middle b lower (Some top) upper = IsShifted a middle b lower top upper
+abbrev pub IsRebalanced : Subtree → ℕ → Subtree → Subtree → Option ℕ → Subtree → Type 0
+IsRebalanced a middle b lower None upper = IsMerged a middle b lower upper
+IsRebalanced a middle b lower (Some top) upper = IsShifted a middle b lower top upper
 
 -- a branch of a node of height h that may be a slot short
 pub record IsShort (h : ℕ) (t : Subtree) : Type 0 where

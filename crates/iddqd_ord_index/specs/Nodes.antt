@@ -3,7 +3,7 @@ use Rattle.std.specs.Prelude.{◌≡◌, ℕ, ◌+◌, List, All, insert, length
 use Rattle.std.proofs.Common.{Box, Global}
 use Rattle.iddqd_ord_index.specs.Cells.{items_present, IsPacked}
 use Rattle.arrayvec.specs.ArrayVec.{ArrayVec}
-use Rattle.iddqd_ord_index.specs.Shape.{Subtree, lists, tree, weave, IsForked}
+use Rattle.iddqd_ord_index.specs.Shape.{Subtree, lists, tree, in_order, IsForked}
 use Rattle.iddqd_ord_index.specs.declared.tree.node.Branches.{Branches}
 use Rattle.iddqd_ord_index.specs.declared.tree.node.Node.{Node}
 use Rattle.iddqd_ord_index.specs.declared.tree.node.Node.TheInside.{Inside}
@@ -36,15 +36,15 @@ pub record AreLeaves (os : List (Option (Box Node Global))) (n : ℕ) : Type 0 w
 
 -- a node's slots with those below it, from its branches and its own slots
 abbrev pub slots_of : Branches → ArrayVec ℕ → List ℕ
-slots_of bs ss = weave (lists (below bs)) ss.items
+slots_of bs ss = in_order (lists (below bs)) ss.items
 
 -- the same with a slot more at place i, and a branch behind it
 abbrev pub slots_with : Branches → ArrayVec ℕ → ℕ → ℕ → Subtree → List ℕ
-slots_with bs ss i middle upper = weave (insert (lists (below bs)) (i + 1) upper.slots) (insert ss.items i middle)
+slots_with bs ss i middle upper = in_order (insert (lists (below bs)) (i + 1) upper.slots) (insert ss.items i middle)
 
 -- the same with two branches more at place j
 abbrev pub slots_with_pair : Branches → ArrayVec ℕ → ℕ → Subtree → Subtree → List ℕ
-slots_with_pair bs ss j lower upper = weave (insert (insert (lists (below bs)) j upper.slots) j lower.slots) ss.items
+slots_with_pair bs ss j lower upper = in_order (insert (insert (lists (below bs)) j upper.slots) j lower.slots) ss.items
 
 -- the branches with one more behind the i-th
 abbrev pub below_with : Branches → ℕ → Subtree → List Subtree

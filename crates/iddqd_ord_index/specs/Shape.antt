@@ -1,7 +1,7 @@
 -- A B-tree of slots. A node has at most 11 slots of its own; a leaf has no branches, an inner node one branch more than
 -- slots. No public clause cites this module.
 --     Subtree      a node as others see it: its slots in order, its height, and how many slots the node itself has
---     weave, behind      a node's slots in order, from those of its branches and its own between them
+--     in_order, behind      a node's slots in order, from those of its branches and its own between them
 --     IsForked      the shape that a node's branches keep
 use Rattle.std.specs.Prelude.{◌≡◌, ℕ, ◌+◌, ◌-◌, ◌*◌, ◌^◌, ◌<◌, ◌≤◌, List, [], ◌∷◌, ◌++◌, length, map, take, All, slice_index_or}
 
@@ -18,9 +18,9 @@ behind (l ∷ ls) [] = l ++ behind ls []
 behind (l ∷ ls) (s ∷ ss) = s ∷ (l ++ behind ls ss)
 
 -- the lists of the branches with the node's own slots between them; a leaf has no branches
-abbrev pub weave : List (List ℕ) → List ℕ → List ℕ
-weave [] ss = ss
-weave (l ∷ ls) ss = l ++ behind ls ss
+abbrev pub in_order : List (List ℕ) → List ℕ → List ℕ
+in_order [] ss = ss
+in_order (l ∷ ls) ss = l ++ behind ls ss
 
 -- how many slots stand before the branch behind these ones
 abbrev pub starts : List (List ℕ) → ℕ
@@ -38,7 +38,7 @@ levels (t ∷ ts) = t.height + 1
 
 -- a node with these branches and own slots
 abbrev pub tree : List Subtree → List ℕ → Subtree
-tree ts ss = record { slots = weave (lists ts) ss; height = levels ts; width = length ss }
+tree ts ss = record { slots = in_order (lists ts) ss; height = levels ts; width = length ss }
 
 -- as many slots at least as the height calls for, where the node itself has this many
 pub record IsDense (t : Subtree) : Type 0 where
@@ -61,7 +61,7 @@ pub record IsForked (ts : List Subtree) (ss : List ℕ) : Type 0 where
   pub fork : 0 < length ts → length ts ≡ length ss + 1
 
 -- position `at` lies in the i-th branch or right behind it, at `rest` of it
-pub record IsAim (ls : List (List ℕ)) (at i rest : ℕ) : Type 0 where
+pub record IsBranchAt (ls : List (List ℕ)) (at i rest : ℕ) : Type 0 where
   pub branch : i < length ls
   pub within : rest ≤ length (slice_index_or ls i [])
   pub sum : starts (take i ls) + rest ≡ at

@@ -10,8 +10,8 @@ mod run_cache;
 mod walk;
 
 use crate::tree::node::Node;
+use crate::tree::pool::NodePool;
 use crate::tree::root;
-use crate::tree::spare::Spare;
 use iddqd_store::TryReserveError;
 pub use into_walk::IntoWalk;
 use run_cache::RunCache;
@@ -43,7 +43,7 @@ pub struct OrdIndex {
     root: Node,
     len: u32,
     levels: usize,
-    spare: Spare,
+    pool: NodePool,
     // Whether an insertion needs no memory.
     prepared: bool,
     // The slots that `slot_in_turn` has read last.
@@ -72,7 +72,7 @@ impl OrdIndex {
             root: Node::new(),
             len: 0,
             levels: 1,
-            spare: Spare::new(alloc),
+            pool: NodePool::new(alloc),
             prepared: false,
             cache: RunCache::new(),
             alloc,
@@ -125,7 +125,7 @@ impl OrdIndex {
         ensures err { OnErr result (self.new ≡ self.old) }
         ensures only_memory { IfErr result (λ e. e ≡ memory_refused) }
     {
-        match self.spare.prepare(self.levels + 1, self.alloc) {
+        match self.pool.prepare(self.levels + 1, self.alloc) {
             Ok(()) => {
                 self.prepared = true;
                 Ok(())
@@ -149,10 +149,10 @@ impl OrdIndex {
             self.len,
             place.position,
             slot,
-            &mut self.spare,
+            &mut self.pool,
         );
         self.len += 1;
-        self.spare.want(self.levels + 1);
+        self.pool.want(self.levels + 1);
     }
 
     /// Removes the slot at the place, and returns it. Does not allocate.
@@ -167,7 +167,7 @@ impl OrdIndex {
             &mut self.root,
             self.levels,
             place.position,
-            &mut self.spare,
+            &mut self.pool,
         );
         self.levels = levels;
         self.len -= 1;
@@ -258,14 +258,14 @@ impl OrdIndex {
         let Ok(root) = self.root.try_clone(self.alloc) else {
             return Err(TryReserveError::alloc_error());
         };
-        let Ok(spare) = Spare::wanting(self.levels + 1, self.alloc) else {
+        let Ok(pool) = NodePool::wanting(self.levels + 1, self.alloc) else {
             return Err(TryReserveError::alloc_error());
         };
         Ok(OrdIndex {
             root,
             len: self.len,
             levels: self.levels,
-            spare,
+            pool,
             prepared: false,
             cache: RunCache::new(),
             alloc: self.alloc,

@@ -4,7 +4,7 @@ ghost use Rattle.iddqd_ord_index.specs.Changes.{WantsFor};
 ghost use Rattle.iddqd_ord_index.specs.Shape.{IsDense, most_levels};
 
 use super::node::Node;
-use super::spare::Spare;
+use super::pool::NodePool;
 use std::mem;
 
 // Inserts a slot at the position, and returns how many levels there are then.
@@ -14,7 +14,7 @@ pub(crate) fn add(
     len: u32,
     at: u32,
     slot: u32,
-    spare: &mut Spare,
+    pool: &mut NodePool,
 ) -> usize
     requires levels { levels ≡ root.old.height }
     requires low { levels ≤ most_levels }
@@ -22,7 +22,7 @@ pub(crate) fn add(
     requires place { at ≤ len }
     requires room { len + 1 < 2 ^ 32 }
     requires top { 1 < root.old.height → 1 ≤ root.old.width }
-    requires enough { root.old.height < spare.old.count }
+    requires enough { root.old.height < pool.old.count }
 
     // the tree
     ensures slots { root.new.slots ≡ insert root.old.slots at slot }
@@ -32,26 +32,26 @@ pub(crate) fn add(
 
     // the nodes
     ensures dense { IsDense root.new }
-    ensures spare { (spare.new.wanted ≡ spare.old.wanted) × (spare.new.room ≡ spare.old.room) }
+    ensures pool { (pool.new.wanted ≡ pool.old.wanted) × (pool.new.room ≡ pool.old.room) }
 {
-    let Some((middle, upper)) = root.add(at, slot, spare) else {
+    let Some((middle, upper)) = root.add(at, slot, pool) else {
         return levels;
     };
     let above = upper.len();
-    let mut lower = spare.take();
+    let mut lower = pool.take();
     mem::swap(&mut *lower, root);
-    root.fork(lower, len - above, middle, upper, above);
+    root.make_root(lower, len - above, middle, upper, above);
     levels + 1
 }
 
 // Removes the slot at the position, and returns it with the number of levels. If the root falls, there are as many
 // unused nodes as are wanted.
-pub(crate) fn remove(root: &mut Node, levels: usize, at: u32, spare: &mut Spare) -> (u32, usize)
+pub(crate) fn remove(root: &mut Node, levels: usize, at: u32, pool: &mut NodePool) -> (u32, usize)
     requires levels { levels ≡ root.old.height }
     requires place { at < length root.old.slots }
     requires room { length root.old.slots < 2 ^ 32 }
     requires top { 1 < root.old.height → 1 ≤ root.old.width }
-    requires wanted { 1 < levels → WantsFor levels spare.old }
+    requires wanted { 1 < levels → WantsFor levels pool.old }
 
     // the tree
     ensures slot { result.0 ≡ slice_index root.old.slots at }
@@ -61,16 +61,16 @@ pub(crate) fn remove(root: &mut Node, levels: usize, at: u32, spare: &mut Spare)
 
     // the nodes
     ensures dense { IsDense root.new }
-    ensures wanted { 1 < result.1 → WantsFor result.1 spare.new }
-    ensures kept { spare.old.count ≤ spare.new.count }
-    ensures fallen { result.1 < levels → spare.new.wanted ≤ spare.new.count }
+    ensures wanted { 1 < result.1 → WantsFor result.1 pool.new }
+    ensures kept { pool.old.count ≤ pool.new.count }
+    ensures fallen { result.1 < levels → pool.new.wanted ≤ pool.new.count }
 {
-    let slot = root.remove(at, spare);
+    let slot = root.remove(at, pool);
     if levels == 1 || root.width() > 0 {
         return (slot, levels);
     }
     let node = root.collapse();
-    spare.want(levels);
-    spare.give_back(node);
+    pool.want(levels);
+    pool.give_back(node);
     (slot, levels - 1)
 }

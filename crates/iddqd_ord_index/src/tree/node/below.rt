@@ -1,7 +1,7 @@
 //! The branches of a node and the number of slots below each, changed together.
 ghost use Rattle.std.specs.Prelude.{true, false, ◌≡◌, ◌+◌, ◌^◌, ◌<◌, ◌≤◌, ◌==◌, [], ◌++◌, length, take, drop, insert, remove, slice_index, slice_index_or, slice_set, nat_le, if◌then◌else◌};
 ghost use Rattle.iddqd_ord_index.specs.Nodes.{below, below_with, subtrees, AreBranches};
-ghost use Rattle.iddqd_ord_index.specs.Shape.{lists, starts, unused, IsAim};
+ghost use Rattle.iddqd_ord_index.specs.Shape.{lists, starts, unused, IsBranchAt};
 
 use super::{Branches, Node};
 use crate::tree::cells;
@@ -70,10 +70,10 @@ impl Branches {
     }
 
     // The branch that position `at` lies in or right behind, and the position in it.
-    pub(super) fn aim(&self, at: u32) -> (usize, u32)
+    pub(super) fn branch_at(&self, at: u32) -> (usize, u32)
         requires branches { AreBranches self.now }
         requires reached { at < starts (lists (below self.now)) }
-        ensures { IsAim (lists (below self.now)) at result.0 result.1 }
+        ensures { IsBranchAt (lists (below self.now)) at result.0 result.1 }
     {
         let counts = self.counts.as_slice();
         let mut i = 0;

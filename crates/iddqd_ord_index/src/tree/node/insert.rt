@@ -3,10 +3,10 @@ ghost use Rattle.std.specs.Prelude.{◌≡◌, ◌+◌, ◌^◌, ◌<◌, ◌≤
 ghost use Rattle.arrayvec.specs.ArrayVec.{array_vec_len};
 ghost use Rattle.iddqd_ord_index.specs.Changes.{AddsIn, AddsTo, SplitsIn};
 ghost use Rattle.iddqd_ord_index.specs.Nodes.{below, AreBranches};
-ghost use Rattle.iddqd_ord_index.specs.Shape.{lists, levels, tree, unused, weave, IsBranch, IsDense, IsForked};
+ghost use Rattle.iddqd_ord_index.specs.Shape.{lists, levels, tree, unused, in_order, IsBranch, IsDense, IsForked};
 
 use super::{Branches, Node};
-use crate::tree::spare::Spare;
+use crate::tree::pool::NodePool;
 use arrayvec::ArrayVec;
 
 // Inserts `slot` at place `i` of eleven, moves the upper half into `upper`, which is empty, and returns the slot
@@ -83,7 +83,7 @@ fn add_branch(
     middle: u32,
     upper: Box<Node>,
     count: u32,
-    spare: &mut Spare,
+    pool: &mut NodePool,
 ) -> Option<(u32, Box<Node>)>
     requires branches { AreBranches branches.old }
     requires forked { IsForked (below branches.old) slots.old.items }
@@ -91,7 +91,7 @@ fn add_branch(
     requires in_bounds { i ≤ length slots.old.items }
     requires upper { IsBranch (levels (below branches.old)) upper.value }
     requires count { count ≡ length upper.value.slots }
-    requires enough { 0 < spare.old.count }
+    requires enough { 0 < pool.old.count }
 
     // the branches
     ensures branches { AreBranches branches.new }
@@ -100,22 +100,22 @@ fn add_branch(
 
     // the slots, and the unused nodes
     ensures adds { AddsIn i middle upper.value branches.old slots.old branches.new slots.new result }
-    ensures left { spare.old.count ≤ spare.new.count + 1 }
-    ensures spare { (spare.new.wanted ≡ spare.old.wanted) × (spare.new.room ≡ spare.old.room) }
+    ensures left { pool.old.count ≤ pool.new.count + 1 }
+    ensures pool { (pool.new.wanted ≡ pool.old.wanted) × (pool.new.room ≡ pool.old.room) }
 {
     if slots.len() < 11 {
         slots.insert(i, middle);
         branches.insert(i + 1, upper, count);
         return None;
     }
-    let mut half = spare.take();
+    let mut half = pool.take();
     let top = split_inner(slots, branches, i, middle, upper, count, &mut half);
     Some((top, half))
 }
 
 impl Node {
     // Makes an unused node the root above two halves, with this many slots below it.
-    pub(crate) fn fork(
+    pub(crate) fn make_root(
         &mut self,
         lower: Box<Node>,
         lower_count: u32,
@@ -141,10 +141,10 @@ impl Node {
     }
 
     // Inserts a slot into a leaf. One without room gives its upper half away.
-    fn add_to_leaf(&mut self, at: u32, slot: u32, spare: &mut Spare) -> Option<(u32, Box<Node>)>
+    fn add_to_leaf(&mut self, at: u32, slot: u32, pool: &mut NodePool) -> Option<(u32, Box<Node>)>
         requires leaf { self.old.height ≡ 1 }
         requires place { at ≤ length self.old.slots }
-        requires enough { 0 < spare.old.count }
+        requires enough { 0 < pool.old.count }
 
         // the node
         ensures adds { AddsTo (insert self.old.slots at slot) self.old.width self.new result }
@@ -152,24 +152,29 @@ impl Node {
         ensures dense { IsDense self.new }
 
         // the unused nodes
-        ensures left { spare.old.count ≤ spare.new.count + 1 }
-        ensures spare { (spare.new.wanted ≡ spare.old.wanted) × (spare.new.room ≡ spare.old.room) }
+        ensures left { pool.old.count ≤ pool.new.count + 1 }
+        ensures pool { (pool.new.wanted ≡ pool.old.wanted) × (pool.new.room ≡ pool.old.room) }
     {
         if !self.slots.is_full() {
             self.slots.insert(at as usize, slot);
             return None;
         }
-        let mut half = spare.take();
+        let mut half = pool.take();
         let upper: &mut Node = &mut half;
         let middle = split_slots(&mut self.slots, at as usize, slot, &mut upper.slots);
         Some((middle, half))
     }
 
     // Inserts a slot at the position. A node without room gives its upper half away, with the slot before it.
-    pub(crate) fn add(&mut self, at: u32, slot: u32, spare: &mut Spare) -> Option<(u32, Box<Node>)>
+    pub(crate) fn add(
+        &mut self,
+        at: u32,
+        slot: u32,
+        pool: &mut NodePool,
+    ) -> Option<(u32, Box<Node>)>
         requires place { at ≤ length self.old.slots }
         requires room { length self.old.slots + 1 < 2 ^ 32 }
-        requires enough { self.old.height ≤ spare.old.count }
+        requires enough { self.old.height ≤ pool.old.count }
 
         // the node
         ensures adds { AddsTo (insert self.old.slots at slot) self.old.width self.new result }
@@ -177,16 +182,16 @@ impl Node {
         ensures dense { IsDense self.new }
 
         // the unused nodes
-        ensures left { spare.old.count ≤ spare.new.count + self.old.height }
-        ensures spare { (spare.new.wanted ≡ spare.old.wanted) × (spare.new.room ≡ spare.old.room) }
+        ensures left { pool.old.count ≤ pool.new.count + self.old.height }
+        ensures pool { (pool.new.wanted ≡ pool.old.wanted) × (pool.new.room ≡ pool.old.room) }
     {
         if self.branches.is_empty() {
-            return self.add_to_leaf(at, slot, spare);
+            return self.add_to_leaf(at, slot, pool);
         }
-        let (i, rest) = self.branches.aim(at);
+        let (i, rest) = self.branches.branch_at(at);
         let count = self.branches.count(i) + 1;
         let mut node = self.branches.take(i);
-        let Some((middle, upper)) = node.add(rest, slot, spare) else {
+        let Some((middle, upper)) = node.add(rest, slot, pool) else {
             self.branches.put(i, node, count);
             return None;
         };
@@ -199,7 +204,7 @@ impl Node {
             middle,
             upper,
             above,
-            spare,
+            pool,
         )
     }
 }

@@ -1,6 +1,6 @@
 //! Two neighbours of which one is a slot short: both are merged, or one borrows from the other.
 ghost use Rattle.std.specs.Prelude.{◌≡◌, ◌+◌, ◌<◌, ◌≤◌, ◌∷◌, ◌++◌, length, take, drop};
-ghost use Rattle.iddqd_ord_index.specs.Neighbours.{joined, IsAsHigh, IsMended, IsNarrower, IsPair, IsWider};
+ghost use Rattle.iddqd_ord_index.specs.Neighbours.{joined, IsAsHigh, IsRebalanced, IsNarrower, IsPair, IsWider};
 ghost use Rattle.iddqd_ord_index.specs.Nodes.{below, AreBranches};
 ghost use Rattle.iddqd_ord_index.specs.Shape.{unused, IsDense};
 
@@ -106,11 +106,11 @@ impl Node {
         last
     }
 
-    // Mends two neighbours of which one is a slot short. Returns `None` if all is in the lower one now, else the
+    // Rebalances two neighbours of which one is a slot short. Returns `None` if all is in the lower one now, else the
     // slot between them.
-    pub(super) fn mend(&mut self, middle: u32, upper: &mut Node) -> Option<u32>
+    pub(super) fn rebalance(&mut self, middle: u32, upper: &mut Node) -> Option<u32>
         requires { IsPair self.old upper.old }
-        ensures { IsMended self.old middle upper.old self.new result upper.new }
+        ensures { IsRebalanced self.old middle upper.old self.new result upper.new }
     {
         let lower_width = self.width();
         let upper_width = upper.width();

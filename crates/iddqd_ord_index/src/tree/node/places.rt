@@ -14,7 +14,7 @@ impl Node {
         let mut node = self;
         let mut place = at;
         'down: while !node.branches.is_empty() {
-            let (i, rest) = node.branches.aim(place);
+            let (i, rest) = node.branches.branch_at(place);
             if rest == node.branches.count(i) {
                 return node.slots.as_slice()[i];
             }
@@ -36,7 +36,7 @@ impl Node {
             replace(&mut self.slots, at as usize, new);
             return;
         }
-        let (i, rest) = self.branches.aim(at);
+        let (i, rest) = self.branches.branch_at(at);
         let count = self.branches.count(i);
         if rest == count {
             replace(&mut self.slots, i, new);

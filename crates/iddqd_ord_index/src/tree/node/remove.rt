@@ -1,26 +1,26 @@
-//! Removal: a branch that is a slot short is mended with a neighbour.
+//! Removal: a branch that is a slot short is rebalanced with a neighbour.
 ghost use Rattle.std.specs.Prelude.{◌≡◌, ◌+◌, ◌-◌, ◌^◌, ◌<◌, ◌≤◌, All, min, length, insert, remove, slice_index, slice_set, slice_index_or};
 ghost use Rattle.iddqd_ord_index.specs.Changes.{GivesBack, IsReplaced, IsSameOrOneLess, IsShorter};
 ghost use Rattle.iddqd_ord_index.specs.Neighbours.{given_back, IsPair, IsNear};
 ghost use Rattle.iddqd_ord_index.specs.Nodes.{below, slots_of, slots_with_pair, AreBranches};
-ghost use Rattle.iddqd_ord_index.specs.Shape.{levels, lists, starts, unused, weave, IsBranch, IsDense, IsForked};
+ghost use Rattle.iddqd_ord_index.specs.Shape.{levels, lists, starts, unused, in_order, IsBranch, IsDense, IsForked};
 
 use super::below::replace;
 use super::{Branches, Node};
-use crate::tree::spare::Spare;
+use crate::tree::pool::NodePool;
 use arrayvec::ArrayVec;
 use std::mem;
 
-// Mends the neighbours `lower` and `upper`, which have `total` slots. It puts them, or the one that they are now,
+// Rebalances the neighbours `lower` and `upper`, which have `total` slots. It puts them, or the one that they are now,
 // in as the j-th branch and the next.
-fn settle(
+fn rebalance_at(
     slots: &mut ArrayVec<u32, 11>,
     branches: &mut Branches,
     j: usize,
     mut lower: Box<Node>,
     mut upper: Box<Node>,
     total: u32,
-    spare: &mut Spare,
+    pool: &mut NodePool,
 )
     requires branches { AreBranches branches.old }
     requires all { All (IsBranch (lower.value.height + 1)) (below branches.old) }
@@ -40,11 +40,11 @@ fn settle(
     ensures width { IsSameOrOneLess (length slots.new.items) (length slots.old.items) }
 
     // the unused nodes
-    ensures kept { length slots.new.items ≡ length slots.old.items → spare.new ≡ spare.old }
-    ensures gives_back { IsShorter slots.new.items slots.old.items → spare.new ≡ given_back spare.old }
+    ensures kept { length slots.new.items ≡ length slots.old.items → pool.new ≡ pool.old }
+    ensures gives_back { IsShorter slots.new.items slots.old.items → pool.new ≡ given_back pool.old }
 {
     let middle = slots.as_slice()[j];
-    match lower.mend(middle, &mut upper) {
+    match lower.rebalance(middle, &mut upper) {
         Some(top) => {
             let count = lower.len();
             replace(slots, j, top);
@@ -54,18 +54,18 @@ fn settle(
         None => {
             slots.remove(j);
             branches.insert(j, lower, total + 1);
-            spare.give_back(upper);
+            pool.give_back(upper);
         }
     }
 }
 
-// Mends the i-th branch, whose node has this many slots of its own, if it is one short.
-fn mend(
+// Rebalances the i-th branch, whose node has this many slots of its own, if it is one short.
+fn rebalance(
     slots: &mut ArrayVec<u32, 11>,
     branches: &mut Branches,
     i: usize,
     width: usize,
-    spare: &mut Spare,
+    pool: &mut NodePool,
 )
     requires branches { AreBranches branches.old }
     requires near { IsNear (below branches.old) slots.old.items i }
@@ -82,8 +82,8 @@ fn mend(
     ensures width { IsSameOrOneLess (length slots.new.items) (length slots.old.items) }
 
     // the unused nodes
-    ensures kept { length slots.new.items ≡ length slots.old.items → spare.new ≡ spare.old }
-    ensures gives_back { IsShorter slots.new.items slots.old.items → spare.new ≡ given_back spare.old }
+    ensures kept { length slots.new.items ≡ length slots.old.items → pool.new ≡ pool.old }
+    ensures gives_back { IsShorter slots.new.items slots.old.items → pool.new ≡ given_back pool.old }
     ensures short { IsShorter slots.new.items slots.old.items → width < 5 }
 {
     if width >= 5 {
@@ -92,14 +92,14 @@ fn mend(
     let j = i.min(slots.len() - 1);
     let (lower, lower_count) = branches.remove(j);
     let (upper, upper_count) = branches.remove(j);
-    settle(
+    rebalance_at(
         slots,
         branches,
         j,
         lower,
         upper,
         lower_count + upper_count,
-        spare,
+        pool,
     );
 }
 
@@ -122,7 +122,7 @@ impl Node {
     // Removes the slot at the position. The node's own width may fall by one, and so below what a branch needs. If
     // it falls, two nodes have merged at each level below, and each of these has given one back, as long as it is
     // wanted.
-    pub(crate) fn remove(&mut self, at: u32, spare: &mut Spare) -> u32
+    pub(crate) fn remove(&mut self, at: u32, pool: &mut NodePool) -> u32
         requires place { at < length self.old.slots }
         requires room { length self.old.slots < 2 ^ 32 }
         requires some { 1 < self.old.height → 0 < self.old.width }
@@ -135,21 +135,21 @@ impl Node {
         ensures dense { IsDense self.new }
 
         // the unused nodes
-        ensures kept { spare.old.count ≤ spare.new.count }
-        ensures gives_back { GivesBack self.old self.new spare.old spare.new }
-        ensures spare { (spare.new.wanted ≡ spare.old.wanted) × (spare.new.room ≡ spare.old.room) }
+        ensures kept { pool.old.count ≤ pool.new.count }
+        ensures gives_back { GivesBack self.old self.new pool.old pool.new }
+        ensures pool { (pool.new.wanted ≡ pool.old.wanted) × (pool.new.room ≡ pool.old.room) }
     {
         if self.branches.is_empty() {
             return self.slots.remove(at as usize);
         }
-        let (i, rest) = self.branches.aim(at);
+        let (i, rest) = self.branches.branch_at(at);
         let len = self.branches.count(i);
         let mut node = self.branches.take(i);
-        let taken = node.remove(rest.min(len - 1), spare);
+        let taken = node.remove(rest.min(len - 1), pool);
         let width = node.width();
         self.branches.put(i, node, len - 1);
         let slot = replace_own(&mut self.slots, i, rest, len, taken);
-        mend(&mut self.slots, &mut self.branches, i, width, spare);
+        rebalance(&mut self.slots, &mut self.branches, i, width, pool);
         slot
     }
 

@@ -95,7 +95,7 @@ impl Node {
         let mut slots: &[u32] = &[];
         let mut leaves: &[Option<Box<Node>>] = &[];
         'down: while !node.branches.is_empty() {
-            let (i, rest) = node.branches.aim(place);
+            let (i, rest) = node.branches.branch_at(place);
             if rest == node.branches.count(i) {
                 return LeafWalk::along(&node.slots.as_slice()[i..i + 1]);
             }

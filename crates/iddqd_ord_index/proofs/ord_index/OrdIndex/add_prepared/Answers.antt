@@ -28,7 +28,7 @@ invariant_of-self c =
       levels = c.add-self-inside.ensures.levels;
       dense = c.add-self-inside.ensures.dense;
       top = c.add-self-inside.ensures.top;
-      wanted = λ lt. (ap (λ s. s.wanted) c.want.ensures, omega (arith, ap (λ s. s.room) c.want.ensures, c.add-self-inside.ensures.spare.1, c.add-self-inside.ensures.higher, ready.2));
+      wanted = λ lt. (ap (λ s. s.wanted) c.want.ensures, omega (arith, ap (λ s. s.room) c.want.ensures, c.add-self-inside.ensures.pool.1, c.add-self-inside.ensures.higher, ready.2));
       ready = λ t. unready _ refl t;
       cached = empty_run c.clear.new.self c.add-self-inside.new.root.slots c.clear.ensures;
     }

@@ -12,7 +12,7 @@ overflow_sub-len c =
     let s = parted_length c.args.root.now.slots c.args.at c.args.slot c.in-Some.middle c.add.new.self c.in-Some.upper.value (omega (arith, c.requires.place, c.requires.len)) c.in-Some.ensures.adds in
     omega (arith, ap (λ t. length t.slots) c.deref.ensures, c.requires.len, c.len-above.ensures)
 
-pub fork-requires-clause-lower_count : goal.fork-requires-clause-lower_count
-fork-requires-clause-lower_count c =
+pub make_root-requires-clause-lower_count : goal.make_root-requires-clause-lower_count
+make_root-requires-clause-lower_count c =
     let s = parted_length c.args.root.now.slots c.args.at c.args.slot c.in-Some.middle c.add.new.self c.in-Some.upper.value (omega (arith, c.requires.place, c.requires.len)) c.in-Some.ensures.adds in
     omega (arith, ap (λ t. length t.slots) c.deref.ensures, c.requires.len, c.len-above.ensures, ap (λ t. length t.slots) c.swap.ensures.x_after)

@@ -2,7 +2,7 @@ use Rattle.std.proofs.Common.{◌+◌, drop, arith, length-drop}
 use Rattle.iddqd_ord_index.specs.Nodes.{below}
 use Rattle.iddqd_ord_index.specs.Shape.{lists}
 use Rattle.iddqd_ord_index.proofs.BelowLemmas.{starts_more, length-lists}
-use Rattle.iddqd_ord_index.proofs.WeaveLemmas.{starts_split, starts_ge}
+use Rattle.iddqd_ord_index.proofs.InOrderLemmas.{starts_split, starts_ge}
 use Rattle.iddqd_ord_index.proofs.tree.node.Branches.start.Goals as goal
 
 pub overflow_add-start : goal.overflow_add-start

@@ -5,18 +5,18 @@ use Rattle.std.specs.List.{insert}
 use Rattle.std.proofs.lemmas.List.Edits.{length-insert}
 use Rattle.iddqd_ord_index.specs.Changes.{AddsTo, IsGrown, IsSplit}
 use Rattle.iddqd_ord_index.specs.Nodes.{below, AreBranches}
-use Rattle.iddqd_ord_index.specs.Shape.{Subtree, lists, weave, tree, unused, IsAim, IsForked, IsDense}
+use Rattle.iddqd_ord_index.specs.Shape.{Subtree, lists, in_order, tree, unused, IsBranchAt, IsForked, IsDense}
 use Rattle.iddqd_ord_index.specs.declared.tree.node.Branches.{Branches}
 use Rattle.iddqd_ord_index.specs.declared.tree.node.Node.{Node}
 use Rattle.iddqd_ord_index.proofs.AddLemmas.{IsParted, grown, parted, parted_length}
-use Rattle.iddqd_ord_index.proofs.AimLemmas.{starts_is, inner_levels, inner_of, branch_is, branch_within, rest_within, aim_in}
+use Rattle.iddqd_ord_index.proofs.BranchAtLemmas.{starts_is, inner_levels, inner_of, branch_is, branch_within, rest_within, branch_at_in}
 use Rattle.iddqd_ord_index.proofs.BelowLemmas.{branches_put}
 use Rattle.iddqd_ord_index.proofs.DenseLemmas.{dense_of}
 use Rattle.iddqd_ord_index.proofs.EditLemmas.{IsMade}
 use Rattle.iddqd_ord_index.proofs.tree.node.Node.+add.Goals as goal
 
-pub aim-i-requires-clause-reached : goal.aim-i-requires-clause-reached
-aim-i-requires-clause-reached t c =
+pub branch_at-i-requires-clause-reached : goal.branch_at-i-requires-clause-reached
+branch_at-i-requires-clause-reached t c =
     let s = starts_is (below c.self.inside.branches) c.self.inside.slots.items c.self.invariant.forked (c.is_empty.ensures.some c.if-is_empty.false) in
     omega (arith, ap (λ t. length t.slots) c.self.view_is, c.requires.place)
 
@@ -24,7 +24,7 @@ pub overflow_add-count : goal.overflow_add-count
 overflow_add-count t c =
     let ts = below c.self.inside.branches in
     let ss = c.self.inside.slots.items in
-    let w = branch_within ts ss c.self.invariant.forked c.aim-i.result.0 (aim_in ts ss c.args.at c.aim-i.result.0 c.aim-i.result.1 c.self.invariant.forked c.aim-i.ensures) in
+    let w = branch_within ts ss c.self.invariant.forked c.branch_at-i.result.0 (branch_at_in ts ss c.args.at c.branch_at-i.result.0 c.branch_at-i.result.1 c.self.invariant.forked c.branch_at-i.ensures) in
     omega (arith, ap (λ t. length t.slots) c.self.view_is, c.requires.room, c.count-count.ensures)
 
 pub add-requires : goal.add-requires
@@ -32,11 +32,11 @@ add-requires t c =
     let ts = below c.self.inside.branches in
     let ss = c.self.inside.slots.items in
     let f = c.self.invariant.forked in
-    let i = c.aim-i.result.0 in
-    let n = aim_in ts ss c.args.at i c.aim-i.result.1 f c.aim-i.ensures in
+    let i = c.branch_at-i.result.0 in
+    let n = branch_at_in ts ss c.args.at i c.branch_at-i.result.1 f c.branch_at-i.ensures in
     let w = branch_within ts ss f i n in
     let b = branch_is ts ss f i n in
-    let r = rest_within ts ss c.args.at i c.aim-i.result.1 f c.aim-i.ensures in
+    let r = rest_within ts ss c.args.at i c.branch_at-i.result.1 f c.branch_at-i.ensures in
     let v : c.deref_mut.result.now ≡ get_or ts i unused = c.deref_mut.ensures.value ∙ c.take-node.ensures.node in
     let h = ap (λ t. t.height) v in
     let l = ap (λ t. length t.slots) v in
@@ -50,20 +50,20 @@ made t c =
     let old = c.self.inside.branches in
     let ts = below old in
     let ss = c.self.inside.slots.items in
-    let i = c.aim-i.result.0 in
-    let rest = c.aim-i.result.1 in
+    let i = c.branch_at-i.result.0 in
+    let rest = c.branch_at-i.result.1 in
     let f = c.self.invariant.forked in
     let new = c.add.new.self in
     let v : c.deref_mut.result.now ≡ get_or ts i unused = c.deref_mut.ensures.value ∙ c.take-node.ensures.node in
     let g = subst (λ t. IsGrown (insert t.slots rest c.args.slot) t.width new) v c.in_default.ensures.adds in
-    let r = grown ts ss c.args.at c.args.slot i rest new f c.aim-i.ensures (c.in_default.ensures.height ∙ ap (λ t. t.height) v) c.in_default.ensures.dense g in
-    let m = length-insert (get_or ts i unused).slots rest c.args.slot (rest_within ts ss c.args.at i rest f c.aim-i.ensures) in
-    let b = branches_put old c.put.new.self i (c.count-count.result + 1) (with_value c.take-node.result new) c.self.invariant.branches (aim_in ts ss c.args.at i rest f c.aim-i.ensures)
+    let r = grown ts ss c.args.at c.args.slot i rest new f c.branch_at-i.ensures (c.in_default.ensures.height ∙ ap (λ t. t.height) v) c.in_default.ensures.dense g in
+    let m = length-insert (get_or ts i unused).slots rest c.args.slot (rest_within ts ss c.args.at i rest f c.branch_at-i.ensures) in
+    let b = branches_put old c.put.new.self i (c.count-count.result + 1) (with_value c.take-node.result new) c.self.invariant.branches (branch_at_in ts ss c.args.at i rest f c.branch_at-i.ensures)
     (c.put.ensures.cell ∙ ap (λ l. set l i (Some (with_value c.take-node.result new))) c.take-node.ensures.cell)
     (c.put.ensures.counts ∙ ap (λ l. set l.items i (c.count-count.result + 1)) c.take-node.ensures.counts)
     (omega (arith, c.count-count.ensures, ap length g.slots)) in
     let a = ap (λ t. insert t.slots c.args.at c.args.slot) c.self.view_is in
-    (b.0, subst (λ l. IsMade ts (below c.put.new.self) ss l) a (subst (λ us. IsMade ts us ss (insert (weave (lists ts) ss) c.args.at c.args.slot)) (sym b.1) r))
+    (b.0, subst (λ l. IsMade ts (below c.put.new.self) ss l) a (subst (λ us. IsMade ts us ss (insert (in_order (lists ts) ss) c.args.at c.args.slot)) (sym b.1) r))
 
 pub invariant_of-self : goal.invariant_of-self
 invariant_of-self t c = let m = made t c in record { branches = m.0; forked = m.1.forked }
@@ -78,11 +78,11 @@ pub returns-in_default-clause-dense : goal.returns-in_default-clause-dense
 returns-in_default-clause-dense t c = let m = made t c in dense_of (below c.put.new.self) c.self.inside.slots.items m.1.forked
 
 -- how many slots are above the split
-above : (ts : List Subtree) (ss : List ℕ) (at slot i rest middle count : ℕ) (before new upper d : Subtree) → IsForked ts ss → IsAim (lists ts) at i rest → before ≡ get_or ts i unused → IsSplit (insert before.slots rest slot) new middle upper → count ≡ length (get_or ts i unused).slots → d ≡ upper
+above : (ts : List Subtree) (ss : List ℕ) (at slot i rest middle count : ℕ) (before new upper d : Subtree) → IsForked ts ss → IsBranchAt (lists ts) at i rest → before ≡ get_or ts i unused → IsSplit (insert before.slots rest slot) new middle upper → count ≡ length (get_or ts i unused).slots → d ≡ upper
     → count + 1 ≡ length new.slots + (length d.slots + 1)
-above ts ss at slot i rest middle count before new upper d f aim v s n e =
+above ts ss at slot i rest middle count before new upper d f branch_at v s n e =
     let l = ap (λ t. length t.slots) v in
-    let m = parted_length before.slots rest slot middle new upper (omega (arith, rest_within ts ss at i rest f aim)) s in
+    let m = parted_length before.slots rest slot middle new upper (omega (arith, rest_within ts ss at i rest f branch_at)) s in
     omega (arith, ap (λ t. length t.slots) e)
 
 pub len-above-requires : goal.len-above-requires
@@ -90,40 +90,40 @@ len-above-requires t c =
     let ts = below c.self.inside.branches in
     let ss = c.self.inside.slots.items in
     let f = c.self.invariant.forked in
-    let w = branch_within ts ss f c.aim-i.result.0 (aim_in ts ss c.args.at c.aim-i.result.0 c.aim-i.result.1 f c.aim-i.ensures) in
-    let a = above ts ss c.args.at c.args.slot c.aim-i.result.0 c.aim-i.result.1 c.in-Some.middle c.count-count.result c.deref_mut.result.now c.add.new.self c.in-Some.upper.value c.deref.result.now f c.aim-i.ensures (c.deref_mut.ensures.value ∙ c.take-node.ensures.node) c.in-Some.ensures.adds c.count-count.ensures c.deref.ensures in
+    let w = branch_within ts ss f c.branch_at-i.result.0 (branch_at_in ts ss c.args.at c.branch_at-i.result.0 c.branch_at-i.result.1 f c.branch_at-i.ensures) in
+    let a = above ts ss c.args.at c.args.slot c.branch_at-i.result.0 c.branch_at-i.result.1 c.in-Some.middle c.count-count.result c.deref_mut.result.now c.add.new.self c.in-Some.upper.value c.deref.result.now f c.branch_at-i.ensures (c.deref_mut.ensures.value ∙ c.take-node.ensures.node) c.in-Some.ensures.adds c.count-count.ensures c.deref.ensures in
     omega (arith, c.count-count.ensures, ap (λ t. length t.slots) c.self.view_is, c.requires.room)
 
 pub overflow_sub-count : goal.overflow_sub-count
 overflow_sub-count t c =
-    let a = above (below c.self.inside.branches) c.self.inside.slots.items c.args.at c.args.slot c.aim-i.result.0 c.aim-i.result.1 c.in-Some.middle c.count-count.result c.deref_mut.result.now c.add.new.self c.in-Some.upper.value c.deref.result.now c.self.invariant.forked c.aim-i.ensures (c.deref_mut.ensures.value ∙ c.take-node.ensures.node) c.in-Some.ensures.adds c.count-count.ensures c.deref.ensures in
+    let a = above (below c.self.inside.branches) c.self.inside.slots.items c.args.at c.args.slot c.branch_at-i.result.0 c.branch_at-i.result.1 c.in-Some.middle c.count-count.result c.deref_mut.result.now c.add.new.self c.in-Some.upper.value c.deref.result.now c.self.invariant.forked c.branch_at-i.ensures (c.deref_mut.ensures.value ∙ c.take-node.ensures.node) c.in-Some.ensures.adds c.count-count.ensures c.deref.ensures in
     omega (arith, c.len-above.ensures)
 
 pub overflow_sub-count-2 : goal.overflow_sub-count-2
 overflow_sub-count-2 t c =
-    let a = above (below c.self.inside.branches) c.self.inside.slots.items c.args.at c.args.slot c.aim-i.result.0 c.aim-i.result.1 c.in-Some.middle c.count-count.result c.deref_mut.result.now c.add.new.self c.in-Some.upper.value c.deref.result.now c.self.invariant.forked c.aim-i.ensures (c.deref_mut.ensures.value ∙ c.take-node.ensures.node) c.in-Some.ensures.adds c.count-count.ensures c.deref.ensures in
+    let a = above (below c.self.inside.branches) c.self.inside.slots.items c.args.at c.args.slot c.branch_at-i.result.0 c.branch_at-i.result.1 c.in-Some.middle c.count-count.result c.deref_mut.result.now c.add.new.self c.in-Some.upper.value c.deref.result.now c.self.invariant.forked c.branch_at-i.ensures (c.deref_mut.ensures.value ∙ c.take-node.ensures.node) c.in-Some.ensures.adds c.count-count.ensures c.deref.ensures in
     omega (arith, c.len-above.ensures)
 
 -- the lower half put back, with all that is known of it then
 put_parted : (old new : Branches) (ss : List ℕ) (at slot i rest count more middle : ℕ) (d : Subtree) (b : Box Node Global) (before upper self : Subtree)
-    → AreBranches old → IsForked (below old) ss → IsAim (lists (below old)) at i rest → before ≡ get_or (below old) i unused → IsSplit (insert before.slots rest slot) b.value middle upper → b.value.height ≡ before.height → IsDense b.value
+    → AreBranches old → IsForked (below old) ss → IsBranchAt (lists (below old)) at i rest → before ≡ get_or (below old) i unused → IsSplit (insert before.slots rest slot) b.value middle upper → b.value.height ≡ before.height → IsDense b.value
     → new.nodes ≡ set (set old.nodes i None) i (Some b) → new.counts.items ≡ set old.counts.items i (count + 1 - more - 1)
     → count ≡ length (get_or (below old) i unused).slots → d ≡ upper → more ≡ length d.slots → tree (below old) ss ≡ self
     → AreBranches new × IsParted (below old) (below new) ss i middle upper (insert self.slots at slot)
-put_parted old new ss at slot i rest count more middle d b before upper self a f aim v s h w n m c e l view =
+put_parted old new ss at slot i rest count more middle d b before upper self a f branch_at v s h w n m c e l view =
     let ts = below old in
-    let k = above ts ss at slot i rest middle count before b.value upper d f aim v s c e in
-    let p = branches_put old new i (count + 1 - more - 1) b a (aim_in ts ss at i rest f aim) n m (omega arith) in
+    let k = above ts ss at slot i rest middle count before b.value upper d f branch_at v s c e in
+    let p = branches_put old new i (count + 1 - more - 1) b a (branch_at_in ts ss at i rest f branch_at) n m (omega arith) in
     let g = subst (λ t. IsSplit (insert t.slots rest slot) b.value middle upper) v s in
-    let r = parted ts ss at slot i rest b.value f aim (h ∙ ap (λ t. t.height) v) w middle upper g in
-    (p.0, subst (λ l. IsParted ts (below new) ss i middle upper (insert l.slots at slot)) view (subst (λ us. IsParted ts us ss i middle upper (insert (weave (lists ts) ss) at slot)) (sym p.1) r))
+    let r = parted ts ss at slot i rest b.value f branch_at (h ∙ ap (λ t. t.height) v) w middle upper g in
+    (p.0, subst (λ l. IsParted ts (below new) ss i middle upper (insert l.slots at slot)) view (subst (λ us. IsParted ts us ss i middle upper (insert (in_order (lists ts) ss) at slot)) (sym p.1) r))
 
-made_parted : (t : ℕ) (c : goal.After-add_branch-arg-3-1 t) → AreBranches c.put-2.new.self × IsParted (below c.self.inside.branches) (below c.put-2.new.self) c.self.inside.slots.items c.aim-i.result.0 c.in-Some.middle c.in-Some.upper.value (insert c.args.self.now.slots c.args.at c.args.slot)
+made_parted : (t : ℕ) (c : goal.After-add_branch-arg-3-1 t) → AreBranches c.put-2.new.self × IsParted (below c.self.inside.branches) (below c.put-2.new.self) c.self.inside.slots.items c.branch_at-i.result.0 c.in-Some.middle c.in-Some.upper.value (insert c.args.self.now.slots c.args.at c.args.slot)
 made_parted t c =
-    put_parted c.self.inside.branches c.put-2.new.self c.self.inside.slots.items c.args.at c.args.slot c.aim-i.result.0 c.aim-i.result.1 c.count-count.result c.len-above.result c.in-Some.middle c.deref.result.now (with_value c.take-node.result c.add.new.self) c.deref_mut.result.now c.in-Some.upper.value c.args.self.now
-    c.self.invariant.branches c.self.invariant.forked c.aim-i.ensures (c.deref_mut.ensures.value ∙ c.take-node.ensures.node) c.in-Some.ensures.adds c.in-Some.ensures.height c.in-Some.ensures.dense
-    (c.put-2.ensures.cell ∙ ap (λ l. set l c.aim-i.result.0 (Some (with_value c.take-node.result c.add.new.self))) c.take-node.ensures.cell)
-    (c.put-2.ensures.counts ∙ ap (λ l. set l.items c.aim-i.result.0 (c.count-count.result + 1 - c.len-above.result - 1)) c.take-node.ensures.counts)
+    put_parted c.self.inside.branches c.put-2.new.self c.self.inside.slots.items c.args.at c.args.slot c.branch_at-i.result.0 c.branch_at-i.result.1 c.count-count.result c.len-above.result c.in-Some.middle c.deref.result.now (with_value c.take-node.result c.add.new.self) c.deref_mut.result.now c.in-Some.upper.value c.args.self.now
+    c.self.invariant.branches c.self.invariant.forked c.branch_at-i.ensures (c.deref_mut.ensures.value ∙ c.take-node.ensures.node) c.in-Some.ensures.adds c.in-Some.ensures.height c.in-Some.ensures.dense
+    (c.put-2.ensures.cell ∙ ap (λ l. set l c.branch_at-i.result.0 (Some (with_value c.take-node.result c.add.new.self))) c.take-node.ensures.cell)
+    (c.put-2.ensures.counts ∙ ap (λ l. set l.items c.branch_at-i.result.0 (c.count-count.result + 1 - c.len-above.result - 1)) c.take-node.ensures.counts)
     c.count-count.ensures c.deref.ensures c.len-above.ensures c.self.view_is
 
 pub add_branch-requires-clause-branches : goal.add_branch-requires-clause-branches
@@ -146,10 +146,10 @@ add_branch-requires-clause-count t c = c.len-above.ensures ∙ ap (λ t. length 
 
 pub returns-clause-adds : goal.returns-clause-adds
 returns-clause-adds t c =
-    let m = put_parted c.self.inside.branches c.put-2.new.self c.self.inside.slots.items c.args.at c.args.slot c.aim-i.result.0 c.aim-i.result.1 c.count-count.result c.len-above.result c.in-Some.middle c.deref.result.now (with_value c.take-node.result c.add.new.self) c.deref_mut.result.now c.in-Some.upper.value c.args.self.now
-    c.self.invariant.branches c.self.invariant.forked c.aim-i.ensures (c.deref_mut.ensures.value ∙ c.take-node.ensures.node) c.in-Some.ensures.adds c.in-Some.ensures.height c.in-Some.ensures.dense
-    (c.put-2.ensures.cell ∙ ap (λ l. set l c.aim-i.result.0 (Some (with_value c.take-node.result c.add.new.self))) c.take-node.ensures.cell)
-    (c.put-2.ensures.counts ∙ ap (λ l. set l.items c.aim-i.result.0 (c.count-count.result + 1 - c.len-above.result - 1)) c.take-node.ensures.counts)
+    let m = put_parted c.self.inside.branches c.put-2.new.self c.self.inside.slots.items c.args.at c.args.slot c.branch_at-i.result.0 c.branch_at-i.result.1 c.count-count.result c.len-above.result c.in-Some.middle c.deref.result.now (with_value c.take-node.result c.add.new.self) c.deref_mut.result.now c.in-Some.upper.value c.args.self.now
+    c.self.invariant.branches c.self.invariant.forked c.branch_at-i.ensures (c.deref_mut.ensures.value ∙ c.take-node.ensures.node) c.in-Some.ensures.adds c.in-Some.ensures.height c.in-Some.ensures.dense
+    (c.put-2.ensures.cell ∙ ap (λ l. set l c.branch_at-i.result.0 (Some (with_value c.take-node.result c.add.new.self))) c.take-node.ensures.cell)
+    (c.put-2.ensures.counts ∙ ap (λ l. set l.items c.branch_at-i.result.0 (c.count-count.result + 1 - c.len-above.result - 1)) c.take-node.ensures.counts)
     c.count-count.ensures c.deref.ensures c.len-above.ensures c.self.view_is in
     let w = ap (λ t. t.width) c.self.view_is in
     subst (λ n. AddsTo (insert c.args.self.now.slots c.args.at c.args.slot) n (tree (below c.add_branch.new.branches) c.add_branch.new.slots.items) c.add_branch.result) w
@@ -157,10 +157,10 @@ returns-clause-adds t c =
 
 pub returns-clause-height : goal.returns-clause-height
 returns-clause-height t c =
-    let m = put_parted c.self.inside.branches c.put-2.new.self c.self.inside.slots.items c.args.at c.args.slot c.aim-i.result.0 c.aim-i.result.1 c.count-count.result c.len-above.result c.in-Some.middle c.deref.result.now (with_value c.take-node.result c.add.new.self) c.deref_mut.result.now c.in-Some.upper.value c.args.self.now
-    c.self.invariant.branches c.self.invariant.forked c.aim-i.ensures (c.deref_mut.ensures.value ∙ c.take-node.ensures.node) c.in-Some.ensures.adds c.in-Some.ensures.height c.in-Some.ensures.dense
-    (c.put-2.ensures.cell ∙ ap (λ l. set l c.aim-i.result.0 (Some (with_value c.take-node.result c.add.new.self))) c.take-node.ensures.cell)
-    (c.put-2.ensures.counts ∙ ap (λ l. set l.items c.aim-i.result.0 (c.count-count.result + 1 - c.len-above.result - 1)) c.take-node.ensures.counts)
+    let m = put_parted c.self.inside.branches c.put-2.new.self c.self.inside.slots.items c.args.at c.args.slot c.branch_at-i.result.0 c.branch_at-i.result.1 c.count-count.result c.len-above.result c.in-Some.middle c.deref.result.now (with_value c.take-node.result c.add.new.self) c.deref_mut.result.now c.in-Some.upper.value c.args.self.now
+    c.self.invariant.branches c.self.invariant.forked c.branch_at-i.ensures (c.deref_mut.ensures.value ∙ c.take-node.ensures.node) c.in-Some.ensures.adds c.in-Some.ensures.height c.in-Some.ensures.dense
+    (c.put-2.ensures.cell ∙ ap (λ l. set l c.branch_at-i.result.0 (Some (with_value c.take-node.result c.add.new.self))) c.take-node.ensures.cell)
+    (c.put-2.ensures.counts ∙ ap (λ l. set l.items c.branch_at-i.result.0 (c.count-count.result + 1 - c.len-above.result - 1)) c.take-node.ensures.counts)
     c.count-count.ensures c.deref.ensures c.len-above.ensures c.self.view_is in
     c.add_branch.ensures.levels ∙ (m.1.height ∙ ap (λ t. t.height) c.self.view_is)
 

@@ -5,33 +5,33 @@ use Rattle.std.specs.List.{remove}
 use Rattle.std.proofs.lemmas.List.{get_or-set_same}
 use Rattle.std.proofs.lemmas.List.Edits.{length-remove}
 use Rattle.iddqd_ord_index.specs.Nodes.{below, AreBranches}
-use Rattle.iddqd_ord_index.specs.Shape.{Subtree, lists, weave, tree, levels, unused, IsAim, IsForked, IsDense}
+use Rattle.iddqd_ord_index.specs.Shape.{Subtree, lists, in_order, tree, levels, unused, IsBranchAt, IsForked, IsDense}
 use Rattle.iddqd_ord_index.specs.declared.tree.node.Branches.{Branches}
 use Rattle.iddqd_ord_index.specs.declared.tree.node.Node.{Node}
-use Rattle.iddqd_ord_index.proofs.AimLemmas.{starts_is, own_read, branch_is, branch_within, aim_in}
+use Rattle.iddqd_ord_index.proofs.BranchAtLemmas.{starts_is, own_read, branch_is, branch_within, branch_at_in}
 use Rattle.iddqd_ord_index.proofs.BelowLemmas.{branches_put, length-lists}
 use Rattle.iddqd_ord_index.proofs.DenseLemmas.{dense_of, branch_some}
 use Rattle.iddqd_ord_index.proofs.RemoveLemmas.{IsShrunk, shrunk, given_or_kept, one_more_back}
-use Rattle.iddqd_ord_index.proofs.WeaveLemmas.{starts_weave}
+use Rattle.iddqd_ord_index.proofs.InOrderLemmas.{starts_in_order}
 use Rattle.iddqd_ord_index.proofs.tree.node.Node.+remove.Goals as goal
 
-pub aim-i-requires-clause-reached : goal.aim-i-requires-clause-reached
-aim-i-requires-clause-reached t c =
+pub branch_at-i-requires-clause-reached : goal.branch_at-i-requires-clause-reached
+branch_at-i-requires-clause-reached t c =
     let s = starts_is (below c.self.inside.branches) c.self.inside.slots.items c.self.invariant.forked (c.is_empty.ensures.some c.if-is_empty.false) in
     omega (arith, ap (λ t. length t.slots) c.self.view_is, c.requires.place)
 
 -- a branch has a slot
-some_below : (ts : List Subtree) (ss : List ℕ) (at i rest : ℕ) → IsForked ts ss → IsAim (lists ts) at i rest → 0 < length (get_or ts i unused).slots
-some_below ts ss at i rest f aim = branch_some (levels ts) (get_or ts i unused) (branch_is ts ss f i (aim_in ts ss at i rest f aim))
+some_below : (ts : List Subtree) (ss : List ℕ) (at i rest : ℕ) → IsForked ts ss → IsBranchAt (lists ts) at i rest → 0 < length (get_or ts i unused).slots
+some_below ts ss at i rest f branch_at = branch_some (levels ts) (get_or ts i unused) (branch_is ts ss f i (branch_at_in ts ss at i rest f branch_at))
 
 pub overflow_sub-len : goal.overflow_sub-len
 overflow_sub-len t c =
-    let s = some_below (below c.self.inside.branches) c.self.inside.slots.items c.args.at c.aim-i.result.0 c.aim-i.result.1 c.self.invariant.forked c.aim-i.ensures in
+    let s = some_below (below c.self.inside.branches) c.self.inside.slots.items c.args.at c.branch_at-i.result.0 c.branch_at-i.result.1 c.self.invariant.forked c.branch_at-i.ensures in
     omega (arith, c.count-len.ensures)
 
 pub overflow_sub-len-2 : goal.overflow_sub-len-2
 overflow_sub-len-2 t c =
-    let s = some_below (below c.self.inside.branches) c.self.inside.slots.items c.args.at c.aim-i.result.0 c.aim-i.result.1 c.self.invariant.forked c.aim-i.ensures in
+    let s = some_below (below c.self.inside.branches) c.self.inside.slots.items c.args.at c.branch_at-i.result.0 c.branch_at-i.result.1 c.self.invariant.forked c.branch_at-i.ensures in
     omega (arith, c.count-len.ensures)
 
 pub remove-taken-requires : goal.remove-taken-requires
@@ -39,9 +39,9 @@ remove-taken-requires t c =
     let ts = below c.self.inside.branches in
     let ss = c.self.inside.slots.items in
     let f = c.self.invariant.forked in
-    let i = c.aim-i.result.0 in
-    let n = aim_in ts ss c.args.at i c.aim-i.result.1 f c.aim-i.ensures in
-    let s = some_below ts ss c.args.at i c.aim-i.result.1 f c.aim-i.ensures in
+    let i = c.branch_at-i.result.0 in
+    let n = branch_at_in ts ss c.args.at i c.branch_at-i.result.1 f c.branch_at-i.ensures in
+    let s = some_below ts ss c.args.at i c.branch_at-i.result.1 f c.branch_at-i.ensures in
     let w = branch_within ts ss f i n in
     let b = branch_is ts ss f i n in
     let v : c.deref_mut.result.now ≡ get_or ts i unused = c.deref_mut.ensures.value ∙ c.take-node.ensures.node in
@@ -54,125 +54,125 @@ remove-taken-requires t c =
 
 pub replace_own-slot-requires-clause-own : goal.replace_own-slot-requires-clause-own
 replace_own-slot-requires-clause-own t c = λ e. (
-    let w : c.args.at < length (weave (lists (below c.self.inside.branches)) c.self.inside.slots.items) = omega (arith, ap (λ t. length t.slots) c.self.view_is, c.requires.place) in
-    let o = own_read (below c.self.inside.branches) c.self.inside.slots.items c.args.at c.aim-i.result.0 c.aim-i.result.1 c.self.invariant.forked c.aim-i.ensures (e ∙ c.count-len.ensures) w in
+    let w : c.args.at < length (in_order (lists (below c.self.inside.branches)) c.self.inside.slots.items) = omega (arith, ap (λ t. length t.slots) c.self.view_is, c.requires.place) in
+    let o = own_read (below c.self.inside.branches) c.self.inside.slots.items c.args.at c.branch_at-i.result.0 c.branch_at-i.result.1 c.self.invariant.forked c.branch_at-i.ensures (e ∙ c.count-len.ensures) w in
     o.0)
 
 -- the branch put back, with all that is known of it then
 put_shrunk : (old new : Branches) (ss ss' : List ℕ) (at i rest count taken slot least : ℕ) (b : Box Node Global) (before self : Subtree)
-    → AreBranches old → IsForked (below old) ss → IsAim (lists (below old)) at i rest → before ≡ get_or (below old) i unused → count ≡ length (get_or (below old) i unused).slots
+    → AreBranches old → IsForked (below old) ss → IsBranchAt (lists (below old)) at i rest → before ≡ get_or (below old) i unused → count ≡ length (get_or (below old) i unused).slots
     → (1 < self.height → 0 < self.width) → at < length self.slots → least ≡ min rest (count - 1)
     → taken ≡ get_or before.slots least 0 → b.value.slots ≡ remove before.slots least → b.value.height ≡ before.height → before.width ≤ b.value.width + 1 → IsDense b.value
     → (rest < count → (slot ≡ taken) × (ss' ≡ ss)) → (rest ≡ count → (slot ≡ get_or ss i 0) × (ss' ≡ set ss i taken)) → length ss' ≡ length ss
     → new.nodes ≡ set (set old.nodes i None) i (Some b) → new.counts.items ≡ set old.counts.items i (count - 1) → tree (below old) ss ≡ self
     → AreBranches new × IsShrunk (below old) (below new) ss' i self.slots (remove self.slots at) slot at × ((get_or (below new) i unused).width ≡ b.value.width)
-put_shrunk old new ss ss' at i rest count taken slot least b before self a f aim v c some lt m t n h w d bel own same nodes counts view =
+put_shrunk old new ss ss' at i rest count taken slot least b before self a f branch_at v c some lt m t n h w d bel own same nodes counts view =
     let ts = below old in
-    let p = aim_in ts ss at i rest f aim in
+    let p = branch_at_in ts ss at i rest f branch_at in
     let k = branch_is ts ss f i p in
-    let full = some_below ts ss at i rest f aim in
+    let full = some_below ts ss at i rest f branch_at in
     let e : least ≡ min rest (length (get_or ts i unused).slots - 1) = m ∙ ap (λ n. min rest (n - 1)) c in
     let t' : taken ≡ get_or (get_or ts i unused).slots (min rest (length (get_or ts i unused).slots - 1)) 0 = t ∙ (ap (λ t. get_or t.slots least 0) v ∙ ap (λ j. get_or (get_or ts i unused).slots j 0) e) in
     let n' : b.value.slots ≡ remove (get_or ts i unused).slots (min rest (length (get_or ts i unused).slots - 1)) = n ∙ (ap (λ t. remove t.slots least) v ∙ ap (λ j. remove (get_or ts i unused).slots j) e) in
     let z = ap (λ t. t.width) v in
-    let r = shrunk ts ss ss' at i rest taken slot b.value f aim (omega (arith, some (omega (arith, k.height, k.dense.low, ap (λ t. t.height) view)), ap (λ t. t.width) view)) same (omega (arith, ap (λ t. length t.slots) view))
+    let r = shrunk ts ss ss' at i rest taken slot b.value f branch_at (omega (arith, some (omega (arith, k.height, k.dense.low, ap (λ t. t.height) view)), ap (λ t. t.width) view)) same (omega (arith, ap (λ t. length t.slots) view))
     (h ∙ ap (λ t. t.height) v) (omega arith) d full t' n' (λ x. bel (omega arith)) (λ x. own (omega arith)) in
     let q = branches_put old new i (count - 1) b a p nodes counts (omega (arith, ap length n', length-remove (get_or ts i unused).slots (min rest (length (get_or ts i unused).slots - 1)) (omega arith))) in (
       q.0,
-      subst (λ x. IsShrunk ts (below new) ss' i x.slots (remove x.slots at) slot at) view (subst (λ us. IsShrunk ts us ss' i (weave (lists ts) ss) (remove (weave (lists ts) ss) at) slot at) (sym q.1) r),
+      subst (λ x. IsShrunk ts (below new) ss' i x.slots (remove x.slots at) slot at) view (subst (λ us. IsShrunk ts us ss' i (in_order (lists ts) ss) (remove (in_order (lists ts) ss) at) slot at) (sym q.1) r),
       ap (λ us. (get_or us i unused).width) q.1 ∙ ap (λ x. x.width) (get_or-set_same ts i b.value unused p),
     )
 
-pub mend-requires-clause-branches : goal.mend-requires-clause-branches
-mend-requires-clause-branches t c =
-    let m = put_shrunk c.self.inside.branches c.put.new.self c.self.inside.slots.items c.replace_own-slot.new.slots.items c.args.at c.aim-i.result.0 c.aim-i.result.1 c.count-len.result c.remove-taken.result c.replace_own-slot.result c.min.result (with_value c.take-node.result c.remove-taken.new.self) c.deref_mut.result.now c.args.self.now
-    c.self.invariant.branches c.self.invariant.forked c.aim-i.ensures (c.deref_mut.ensures.value ∙ c.take-node.ensures.node) c.count-len.ensures c.requires.some c.requires.place c.min.ensures c.remove-taken.ensures.value c.remove-taken.ensures.slots c.remove-taken.ensures.height c.remove-taken.ensures.width c.remove-taken.ensures.dense
+pub rebalance-requires-clause-branches : goal.rebalance-requires-clause-branches
+rebalance-requires-clause-branches t c =
+    let m = put_shrunk c.self.inside.branches c.put.new.self c.self.inside.slots.items c.replace_own-slot.new.slots.items c.args.at c.branch_at-i.result.0 c.branch_at-i.result.1 c.count-len.result c.remove-taken.result c.replace_own-slot.result c.min.result (with_value c.take-node.result c.remove-taken.new.self) c.deref_mut.result.now c.args.self.now
+    c.self.invariant.branches c.self.invariant.forked c.branch_at-i.ensures (c.deref_mut.ensures.value ∙ c.take-node.ensures.node) c.count-len.ensures c.requires.some c.requires.place c.min.ensures c.remove-taken.ensures.value c.remove-taken.ensures.slots c.remove-taken.ensures.height c.remove-taken.ensures.width c.remove-taken.ensures.dense
     c.replace_own-slot.ensures.below c.replace_own-slot.ensures.own c.replace_own-slot.ensures.len
-    (c.put.ensures.cell ∙ ap (λ l. set l c.aim-i.result.0 (Some (with_value c.take-node.result c.remove-taken.new.self))) c.take-node.ensures.cell)
-    (c.put.ensures.counts ∙ ap (λ l. set l.items c.aim-i.result.0 (c.count-len.result - 1)) c.take-node.ensures.counts) c.self.view_is in
+    (c.put.ensures.cell ∙ ap (λ l. set l c.branch_at-i.result.0 (Some (with_value c.take-node.result c.remove-taken.new.self))) c.take-node.ensures.cell)
+    (c.put.ensures.counts ∙ ap (λ l. set l.items c.branch_at-i.result.0 (c.count-len.result - 1)) c.take-node.ensures.counts) c.self.view_is in
     m.0
 
-pub mend-requires-clause-near : goal.mend-requires-clause-near
-mend-requires-clause-near t c =
-    let m = put_shrunk c.self.inside.branches c.put.new.self c.self.inside.slots.items c.replace_own-slot.new.slots.items c.args.at c.aim-i.result.0 c.aim-i.result.1 c.count-len.result c.remove-taken.result c.replace_own-slot.result c.min.result (with_value c.take-node.result c.remove-taken.new.self) c.deref_mut.result.now c.args.self.now
-    c.self.invariant.branches c.self.invariant.forked c.aim-i.ensures (c.deref_mut.ensures.value ∙ c.take-node.ensures.node) c.count-len.ensures c.requires.some c.requires.place c.min.ensures c.remove-taken.ensures.value c.remove-taken.ensures.slots c.remove-taken.ensures.height c.remove-taken.ensures.width c.remove-taken.ensures.dense
+pub rebalance-requires-clause-near : goal.rebalance-requires-clause-near
+rebalance-requires-clause-near t c =
+    let m = put_shrunk c.self.inside.branches c.put.new.self c.self.inside.slots.items c.replace_own-slot.new.slots.items c.args.at c.branch_at-i.result.0 c.branch_at-i.result.1 c.count-len.result c.remove-taken.result c.replace_own-slot.result c.min.result (with_value c.take-node.result c.remove-taken.new.self) c.deref_mut.result.now c.args.self.now
+    c.self.invariant.branches c.self.invariant.forked c.branch_at-i.ensures (c.deref_mut.ensures.value ∙ c.take-node.ensures.node) c.count-len.ensures c.requires.some c.requires.place c.min.ensures c.remove-taken.ensures.value c.remove-taken.ensures.slots c.remove-taken.ensures.height c.remove-taken.ensures.width c.remove-taken.ensures.dense
     c.replace_own-slot.ensures.below c.replace_own-slot.ensures.own c.replace_own-slot.ensures.len
-    (c.put.ensures.cell ∙ ap (λ l. set l c.aim-i.result.0 (Some (with_value c.take-node.result c.remove-taken.new.self))) c.take-node.ensures.cell)
-    (c.put.ensures.counts ∙ ap (λ l. set l.items c.aim-i.result.0 (c.count-len.result - 1)) c.take-node.ensures.counts) c.self.view_is in
+    (c.put.ensures.cell ∙ ap (λ l. set l c.branch_at-i.result.0 (Some (with_value c.take-node.result c.remove-taken.new.self))) c.take-node.ensures.cell)
+    (c.put.ensures.counts ∙ ap (λ l. set l.items c.branch_at-i.result.0 (c.count-len.result - 1)) c.take-node.ensures.counts) c.self.view_is in
     m.1.near
 
-pub mend-requires-clause-width : goal.mend-requires-clause-width
-mend-requires-clause-width t c =
-    let m = put_shrunk c.self.inside.branches c.put.new.self c.self.inside.slots.items c.replace_own-slot.new.slots.items c.args.at c.aim-i.result.0 c.aim-i.result.1 c.count-len.result c.remove-taken.result c.replace_own-slot.result c.min.result (with_value c.take-node.result c.remove-taken.new.self) c.deref_mut.result.now c.args.self.now
-    c.self.invariant.branches c.self.invariant.forked c.aim-i.ensures (c.deref_mut.ensures.value ∙ c.take-node.ensures.node) c.count-len.ensures c.requires.some c.requires.place c.min.ensures c.remove-taken.ensures.value c.remove-taken.ensures.slots c.remove-taken.ensures.height c.remove-taken.ensures.width c.remove-taken.ensures.dense
+pub rebalance-requires-clause-width : goal.rebalance-requires-clause-width
+rebalance-requires-clause-width t c =
+    let m = put_shrunk c.self.inside.branches c.put.new.self c.self.inside.slots.items c.replace_own-slot.new.slots.items c.args.at c.branch_at-i.result.0 c.branch_at-i.result.1 c.count-len.result c.remove-taken.result c.replace_own-slot.result c.min.result (with_value c.take-node.result c.remove-taken.new.self) c.deref_mut.result.now c.args.self.now
+    c.self.invariant.branches c.self.invariant.forked c.branch_at-i.ensures (c.deref_mut.ensures.value ∙ c.take-node.ensures.node) c.count-len.ensures c.requires.some c.requires.place c.min.ensures c.remove-taken.ensures.value c.remove-taken.ensures.slots c.remove-taken.ensures.height c.remove-taken.ensures.width c.remove-taken.ensures.dense
     c.replace_own-slot.ensures.below c.replace_own-slot.ensures.own c.replace_own-slot.ensures.len
-    (c.put.ensures.cell ∙ ap (λ l. set l c.aim-i.result.0 (Some (with_value c.take-node.result c.remove-taken.new.self))) c.take-node.ensures.cell)
-    (c.put.ensures.counts ∙ ap (λ l. set l.items c.aim-i.result.0 (c.count-len.result - 1)) c.take-node.ensures.counts) c.self.view_is in
+    (c.put.ensures.cell ∙ ap (λ l. set l c.branch_at-i.result.0 (Some (with_value c.take-node.result c.remove-taken.new.self))) c.take-node.ensures.cell)
+    (c.put.ensures.counts ∙ ap (λ l. set l.items c.branch_at-i.result.0 (c.count-len.result - 1)) c.take-node.ensures.counts) c.self.view_is in
     c.width-width.ensures.width ∙ (ap (λ t. t.width) c.deref.ensures ∙ sym m.2)
 
-pub mend-requires-clause-room : goal.mend-requires-clause-room
-mend-requires-clause-room t c =
-    let m = put_shrunk c.self.inside.branches c.put.new.self c.self.inside.slots.items c.replace_own-slot.new.slots.items c.args.at c.aim-i.result.0 c.aim-i.result.1 c.count-len.result c.remove-taken.result c.replace_own-slot.result c.min.result (with_value c.take-node.result c.remove-taken.new.self) c.deref_mut.result.now c.args.self.now
-    c.self.invariant.branches c.self.invariant.forked c.aim-i.ensures (c.deref_mut.ensures.value ∙ c.take-node.ensures.node) c.count-len.ensures c.requires.some c.requires.place c.min.ensures c.remove-taken.ensures.value c.remove-taken.ensures.slots c.remove-taken.ensures.height c.remove-taken.ensures.width c.remove-taken.ensures.dense
+pub rebalance-requires-clause-room : goal.rebalance-requires-clause-room
+rebalance-requires-clause-room t c =
+    let m = put_shrunk c.self.inside.branches c.put.new.self c.self.inside.slots.items c.replace_own-slot.new.slots.items c.args.at c.branch_at-i.result.0 c.branch_at-i.result.1 c.count-len.result c.remove-taken.result c.replace_own-slot.result c.min.result (with_value c.take-node.result c.remove-taken.new.self) c.deref_mut.result.now c.args.self.now
+    c.self.invariant.branches c.self.invariant.forked c.branch_at-i.ensures (c.deref_mut.ensures.value ∙ c.take-node.ensures.node) c.count-len.ensures c.requires.some c.requires.place c.min.ensures c.remove-taken.ensures.value c.remove-taken.ensures.slots c.remove-taken.ensures.height c.remove-taken.ensures.width c.remove-taken.ensures.dense
     c.replace_own-slot.ensures.below c.replace_own-slot.ensures.own c.replace_own-slot.ensures.len
-    (c.put.ensures.cell ∙ ap (λ l. set l c.aim-i.result.0 (Some (with_value c.take-node.result c.remove-taken.new.self))) c.take-node.ensures.cell)
-    (c.put.ensures.counts ∙ ap (λ l. set l.items c.aim-i.result.0 (c.count-len.result - 1)) c.take-node.ensures.counts) c.self.view_is in
-    let s = starts_weave (lists (below c.put.new.self)) c.replace_own-slot.new.slots.items (length-lists (below c.put.new.self) ∙ m.1.near.fork) in
+    (c.put.ensures.cell ∙ ap (λ l. set l c.branch_at-i.result.0 (Some (with_value c.take-node.result c.remove-taken.new.self))) c.take-node.ensures.cell)
+    (c.put.ensures.counts ∙ ap (λ l. set l.items c.branch_at-i.result.0 (c.count-len.result - 1)) c.take-node.ensures.counts) c.self.view_is in
+    let s = starts_in_order (lists (below c.put.new.self)) c.replace_own-slot.new.slots.items (length-lists (below c.put.new.self) ∙ m.1.near.fork) in
     omega (arith, ap length m.1.list, length-remove c.args.self.now.slots c.args.at c.requires.place, c.requires.room)
 
 pub returns-clause-value : goal.returns-clause-value
 returns-clause-value t c =
-    let m = put_shrunk c.self.inside.branches c.put.new.self c.self.inside.slots.items c.replace_own-slot.new.slots.items c.args.at c.aim-i.result.0 c.aim-i.result.1 c.count-len.result c.remove-taken.result c.replace_own-slot.result c.min.result (with_value c.take-node.result c.remove-taken.new.self) c.deref_mut.result.now c.args.self.now
-    c.self.invariant.branches c.self.invariant.forked c.aim-i.ensures (c.deref_mut.ensures.value ∙ c.take-node.ensures.node) c.count-len.ensures c.requires.some c.requires.place c.min.ensures c.remove-taken.ensures.value c.remove-taken.ensures.slots c.remove-taken.ensures.height c.remove-taken.ensures.width c.remove-taken.ensures.dense
+    let m = put_shrunk c.self.inside.branches c.put.new.self c.self.inside.slots.items c.replace_own-slot.new.slots.items c.args.at c.branch_at-i.result.0 c.branch_at-i.result.1 c.count-len.result c.remove-taken.result c.replace_own-slot.result c.min.result (with_value c.take-node.result c.remove-taken.new.self) c.deref_mut.result.now c.args.self.now
+    c.self.invariant.branches c.self.invariant.forked c.branch_at-i.ensures (c.deref_mut.ensures.value ∙ c.take-node.ensures.node) c.count-len.ensures c.requires.some c.requires.place c.min.ensures c.remove-taken.ensures.value c.remove-taken.ensures.slots c.remove-taken.ensures.height c.remove-taken.ensures.width c.remove-taken.ensures.dense
     c.replace_own-slot.ensures.below c.replace_own-slot.ensures.own c.replace_own-slot.ensures.len
-    (c.put.ensures.cell ∙ ap (λ l. set l c.aim-i.result.0 (Some (with_value c.take-node.result c.remove-taken.new.self))) c.take-node.ensures.cell)
-    (c.put.ensures.counts ∙ ap (λ l. set l.items c.aim-i.result.0 (c.count-len.result - 1)) c.take-node.ensures.counts) c.self.view_is in
+    (c.put.ensures.cell ∙ ap (λ l. set l c.branch_at-i.result.0 (Some (with_value c.take-node.result c.remove-taken.new.self))) c.take-node.ensures.cell)
+    (c.put.ensures.counts ∙ ap (λ l. set l.items c.branch_at-i.result.0 (c.count-len.result - 1)) c.take-node.ensures.counts) c.self.view_is in
     m.1.value
 
 pub returns-clause-slots : goal.returns-clause-slots
 returns-clause-slots t c =
-    let m = put_shrunk c.self.inside.branches c.put.new.self c.self.inside.slots.items c.replace_own-slot.new.slots.items c.args.at c.aim-i.result.0 c.aim-i.result.1 c.count-len.result c.remove-taken.result c.replace_own-slot.result c.min.result (with_value c.take-node.result c.remove-taken.new.self) c.deref_mut.result.now c.args.self.now
-    c.self.invariant.branches c.self.invariant.forked c.aim-i.ensures (c.deref_mut.ensures.value ∙ c.take-node.ensures.node) c.count-len.ensures c.requires.some c.requires.place c.min.ensures c.remove-taken.ensures.value c.remove-taken.ensures.slots c.remove-taken.ensures.height c.remove-taken.ensures.width c.remove-taken.ensures.dense
+    let m = put_shrunk c.self.inside.branches c.put.new.self c.self.inside.slots.items c.replace_own-slot.new.slots.items c.args.at c.branch_at-i.result.0 c.branch_at-i.result.1 c.count-len.result c.remove-taken.result c.replace_own-slot.result c.min.result (with_value c.take-node.result c.remove-taken.new.self) c.deref_mut.result.now c.args.self.now
+    c.self.invariant.branches c.self.invariant.forked c.branch_at-i.ensures (c.deref_mut.ensures.value ∙ c.take-node.ensures.node) c.count-len.ensures c.requires.some c.requires.place c.min.ensures c.remove-taken.ensures.value c.remove-taken.ensures.slots c.remove-taken.ensures.height c.remove-taken.ensures.width c.remove-taken.ensures.dense
     c.replace_own-slot.ensures.below c.replace_own-slot.ensures.own c.replace_own-slot.ensures.len
-    (c.put.ensures.cell ∙ ap (λ l. set l c.aim-i.result.0 (Some (with_value c.take-node.result c.remove-taken.new.self))) c.take-node.ensures.cell)
-    (c.put.ensures.counts ∙ ap (λ l. set l.items c.aim-i.result.0 (c.count-len.result - 1)) c.take-node.ensures.counts) c.self.view_is in
-    c.mend.ensures.slots ∙ m.1.list
+    (c.put.ensures.cell ∙ ap (λ l. set l c.branch_at-i.result.0 (Some (with_value c.take-node.result c.remove-taken.new.self))) c.take-node.ensures.cell)
+    (c.put.ensures.counts ∙ ap (λ l. set l.items c.branch_at-i.result.0 (c.count-len.result - 1)) c.take-node.ensures.counts) c.self.view_is in
+    c.rebalance.ensures.slots ∙ m.1.list
 
 pub returns-clause-height : goal.returns-clause-height
 returns-clause-height t c =
-    let m = put_shrunk c.self.inside.branches c.put.new.self c.self.inside.slots.items c.replace_own-slot.new.slots.items c.args.at c.aim-i.result.0 c.aim-i.result.1 c.count-len.result c.remove-taken.result c.replace_own-slot.result c.min.result (with_value c.take-node.result c.remove-taken.new.self) c.deref_mut.result.now c.args.self.now
-    c.self.invariant.branches c.self.invariant.forked c.aim-i.ensures (c.deref_mut.ensures.value ∙ c.take-node.ensures.node) c.count-len.ensures c.requires.some c.requires.place c.min.ensures c.remove-taken.ensures.value c.remove-taken.ensures.slots c.remove-taken.ensures.height c.remove-taken.ensures.width c.remove-taken.ensures.dense
+    let m = put_shrunk c.self.inside.branches c.put.new.self c.self.inside.slots.items c.replace_own-slot.new.slots.items c.args.at c.branch_at-i.result.0 c.branch_at-i.result.1 c.count-len.result c.remove-taken.result c.replace_own-slot.result c.min.result (with_value c.take-node.result c.remove-taken.new.self) c.deref_mut.result.now c.args.self.now
+    c.self.invariant.branches c.self.invariant.forked c.branch_at-i.ensures (c.deref_mut.ensures.value ∙ c.take-node.ensures.node) c.count-len.ensures c.requires.some c.requires.place c.min.ensures c.remove-taken.ensures.value c.remove-taken.ensures.slots c.remove-taken.ensures.height c.remove-taken.ensures.width c.remove-taken.ensures.dense
     c.replace_own-slot.ensures.below c.replace_own-slot.ensures.own c.replace_own-slot.ensures.len
-    (c.put.ensures.cell ∙ ap (λ l. set l c.aim-i.result.0 (Some (with_value c.take-node.result c.remove-taken.new.self))) c.take-node.ensures.cell)
-    (c.put.ensures.counts ∙ ap (λ l. set l.items c.aim-i.result.0 (c.count-len.result - 1)) c.take-node.ensures.counts) c.self.view_is in
-    c.mend.ensures.levels ∙ (m.1.height ∙ ap (λ t. t.height) c.self.view_is)
+    (c.put.ensures.cell ∙ ap (λ l. set l c.branch_at-i.result.0 (Some (with_value c.take-node.result c.remove-taken.new.self))) c.take-node.ensures.cell)
+    (c.put.ensures.counts ∙ ap (λ l. set l.items c.branch_at-i.result.0 (c.count-len.result - 1)) c.take-node.ensures.counts) c.self.view_is in
+    c.rebalance.ensures.levels ∙ (m.1.height ∙ ap (λ t. t.height) c.self.view_is)
 
 pub returns-clause-dense : goal.returns-clause-dense
-returns-clause-dense t c = dense_of (below c.mend.new.branches) c.mend.new.slots.items c.mend.ensures.forked
+returns-clause-dense t c = dense_of (below c.rebalance.new.branches) c.rebalance.new.slots.items c.rebalance.ensures.forked
 
 pub returns-clause-kept : goal.returns-clause-kept
 returns-clause-kept t c =
-    let g = given_or_kept c.remove-taken.new.spare c.mend.new.spare (length c.replace_own-slot.new.slots.items) (length c.mend.new.slots.items) c.mend.ensures.width.0 c.mend.ensures.kept c.mend.ensures.gives_back in
+    let g = given_or_kept c.remove-taken.new.pool c.rebalance.new.pool (length c.replace_own-slot.new.slots.items) (length c.rebalance.new.slots.items) c.rebalance.ensures.width.0 c.rebalance.ensures.kept c.rebalance.ensures.gives_back in
     omega (arith, g.0, c.remove-taken.ensures.kept)
 
-pub returns-clause-spare : goal.returns-clause-spare
-returns-clause-spare t c =
-    let g = given_or_kept c.remove-taken.new.spare c.mend.new.spare (length c.replace_own-slot.new.slots.items) (length c.mend.new.slots.items) c.mend.ensures.width.0 c.mend.ensures.kept c.mend.ensures.gives_back in
-    (g.1 ∙ c.remove-taken.ensures.spare.0, g.2 ∙ c.remove-taken.ensures.spare.1)
+pub returns-clause-pool : goal.returns-clause-pool
+returns-clause-pool t c =
+    let g = given_or_kept c.remove-taken.new.pool c.rebalance.new.pool (length c.replace_own-slot.new.slots.items) (length c.rebalance.new.slots.items) c.rebalance.ensures.width.0 c.rebalance.ensures.kept c.rebalance.ensures.gives_back in
+    (g.1 ∙ c.remove-taken.ensures.pool.0, g.2 ∙ c.remove-taken.ensures.pool.1)
 
 pub returns-clause-gives_back : goal.returns-clause-gives_back
 returns-clause-gives_back t c = λ falls.
     let ts = below c.self.inside.branches in
-    let i = c.aim-i.result.0 in
+    let i = c.branch_at-i.result.0 in
     let f = c.self.invariant.forked in
-    let b = branch_is ts c.self.inside.slots.items f i (aim_in ts c.self.inside.slots.items c.args.at i c.aim-i.result.1 f c.aim-i.ensures) in
+    let b = branch_is ts c.self.inside.slots.items f i (branch_at_in ts c.self.inside.slots.items c.args.at i c.branch_at-i.result.1 f c.branch_at-i.ensures) in
     let v : c.deref_mut.result.now ≡ get_or ts i unused = c.deref_mut.ensures.value ∙ c.take-node.ensures.node in
-    let merged : length c.mend.new.slots.items < length c.replace_own-slot.new.slots.items = omega (arith, falls, c.replace_own-slot.ensures.len, ap (λ x. x.width) c.self.view_is) in
-    let short = c.mend.ensures.short merged in
+    let merged : length c.rebalance.new.slots.items < length c.replace_own-slot.new.slots.items = omega (arith, falls, c.replace_own-slot.ensures.len, ap (λ x. x.width) c.self.view_is) in
+    let short = c.rebalance.ensures.short merged in
     let fell : c.remove-taken.new.self.width < c.deref_mut.result.now.width = omega (arith, short, c.width-width.ensures.width, ap (λ x. x.width) c.deref.ensures, b.wide, ap (λ x. x.width) v) in
     let below_it = c.remove-taken.ensures.gives_back fell in
-    let more = one_more_back c.remove-taken.new.spare c.mend.new.spare (c.args.spare.now.count + c.deref_mut.result.now.height - 1) (c.mend.ensures.gives_back merged) (omega (arith, below_it, c.remove-taken.ensures.spare.0)) in
-    omega (arith, more, b.height, ap (λ x. x.height) v, ap (λ x. x.height) c.self.view_is, c.remove-taken.ensures.spare.0, b.dense.low)
+    let more = one_more_back c.remove-taken.new.pool c.rebalance.new.pool (c.args.pool.now.count + c.deref_mut.result.now.height - 1) (c.rebalance.ensures.gives_back merged) (omega (arith, below_it, c.remove-taken.ensures.pool.0)) in
+    omega (arith, more, b.height, ap (λ x. x.height) v, ap (λ x. x.height) c.self.view_is, c.remove-taken.ensures.pool.0, b.dense.low)
 
 pub count-len-requires-clause-in_bounds : goal.count-len-requires-clause-in_bounds
 count-len-requires-clause-in_bounds t c = grind (arith, common_steps)

@@ -1,8 +1,8 @@
 use Rattle.std.proofs.Common.{◌∷◌, ◌++◌, ap, sym, ◌∙◌}
 use Rattle.std.specs.List.{insert}
 use Rattle.iddqd_ord_index.specs.Nodes.{below}
-use Rattle.iddqd_ord_index.specs.Shape.{lists, weave}
-use Rattle.iddqd_ord_index.proofs.AimLemmas.{leaf_of, leaf_list, leaf_levels, leaf_forked}
+use Rattle.iddqd_ord_index.specs.Shape.{lists, in_order}
+use Rattle.iddqd_ord_index.proofs.BranchAtLemmas.{leaf_of, leaf_list, leaf_levels, leaf_forked}
 use Rattle.iddqd_ord_index.proofs.DenseLemmas.{dense_of}
 use Rattle.iddqd_ord_index.proofs.tree.node.Node.add_to_leaf.Goals as goal
 
@@ -15,7 +15,7 @@ returns-clause-adds c =
       slots = ap (λ t. insert t.slots c.args.at c.args.slot) (sym c.self.view_is) ∙ (ap (λ l. insert l c.args.at c.args.slot) (leaf_list (below c.self.inside.branches) c.self.inside.slots.items z)
           ∙ (c.split_slots-middle.ensures.items
           ∙ (ap (λ l. l ++ c.split_slots-middle.result ∷ c.split_slots-middle.new.upper.items) (sym (leaf_list (below c.self.inside.branches) c.split_slots-middle.new.slots.items z))
-          ∙ ap (λ l. weave (lists (below c.self.inside.branches)) c.split_slots-middle.new.slots.items ++ c.split_slots-middle.result ∷ l) (sym (leaf_list (below c.upper.inside.branches) c.split_slots-middle.new.upper.items y)))));
+          ∙ ap (λ l. in_order (lists (below c.self.inside.branches)) c.split_slots-middle.new.slots.items ++ c.split_slots-middle.result ∷ l) (sym (leaf_list (below c.upper.inside.branches) c.split_slots-middle.new.upper.items y)))));
       wide = c.split_slots-middle.ensures.wide.0;
       upper_wide = c.split_slots-middle.ensures.wide.1;
       upper_height = leaf_levels (below c.upper.inside.branches) y ∙ sym (leaf_levels (below c.self.inside.branches) z);

@@ -1,10 +1,10 @@
 use Rattle.std.proofs.Common.{◌∷◌, ◌++◌, ap, sym, ◌∙◌, arith, refl}
 use Rattle.iddqd_ord_index.specs.Nodes.{below}
-use Rattle.iddqd_ord_index.specs.Shape.{lists, weave, levels}
+use Rattle.iddqd_ord_index.specs.Shape.{lists, in_order, levels}
 use Rattle.iddqd_ord_index.proofs.PairLemmas.{IsMoved, moved_first, first_cut}
 use Rattle.iddqd_ord_index.proofs.tree.node.Node.borrow_first.Goals as goal
 
-moved : (c : goal.After-remove) → IsMoved (levels (below c.self.inside.branches)) (weave (lists (below c.self.inside.branches)) c.self.inside.slots.items ++ c.args.middle ∷ weave (lists (below c.upper.inside.branches)) c.upper.inside.slots.items)
+moved : (c : goal.After-remove) → IsMoved (levels (below c.self.inside.branches)) (in_order (lists (below c.self.inside.branches)) c.self.inside.slots.items ++ c.args.middle ∷ in_order (lists (below c.upper.inside.branches)) c.upper.inside.slots.items)
     (below c.move_first.new.lower) c.push.new.self.items c.remove.result (below c.move_first.new.upper) c.remove.new.self.items
 moved c =
     moved_first (levels (below c.self.inside.branches)) (below c.self.inside.branches) (below c.upper.inside.branches) c.self.inside.slots.items c.upper.inside.slots.items c.args.middle
@@ -20,7 +20,7 @@ invariant_of-upper c = let i = moved c in record { branches = c.move_first.ensur
 pub returns-clause-slots : goal.returns-clause-slots
 returns-clause-slots c =
     let i = moved c in
-    sym (ap (λ t. t.slots ++ c.args.middle ∷ weave (lists (below c.upper.inside.branches)) c.upper.inside.slots.items) c.self.view_is ∙ ap (λ t. c.args.self.now.slots ++ c.args.middle ∷ t.slots) c.upper.view_is) ∙ i.list
+    sym (ap (λ t. t.slots ++ c.args.middle ∷ in_order (lists (below c.upper.inside.branches)) c.upper.inside.slots.items) c.self.view_is ∙ ap (λ t. c.args.self.now.slots ++ c.args.middle ∷ t.slots) c.upper.view_is) ∙ i.list
 
 pub returns-clause-height : goal.returns-clause-height
 returns-clause-height c =

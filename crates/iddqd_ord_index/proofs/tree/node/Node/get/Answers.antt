@@ -4,7 +4,7 @@ use Rattle.iddqd_store.specs.Store.{IsOccupied}
 use Rattle.iddqd_ord_index.specs.Nodes.{below}
 use Rattle.iddqd_ord_index.specs.Shape.{lists, starts}
 use Rattle.iddqd_ord_index.specs.Standing.{slot_standing, IsPart, IsPlace, IsMonotone}
-use Rattle.iddqd_ord_index.proofs.AimLemmas.{inner_levels, leaf_levels}
+use Rattle.iddqd_ord_index.proofs.BranchAtLemmas.{inner_levels, leaf_levels}
 use Rattle.iddqd_ord_index.proofs.DescentLemmas.{inner, leaf, digits_four}
 use Rattle.iddqd_ord_index.proofs.tree.node.Node.get.Goals as goal
 

@@ -2,9 +2,9 @@ use Rattle.std.proofs.Common.{◌≡◌, ◌+◌, length, take, get_or, ap, arit
 use Rattle.std.proofs.lemmas.List.{drop_all}
 use Rattle.iddqd_ord_index.specs.Nodes.{below}
 use Rattle.iddqd_ord_index.specs.Shape.{lists, starts, unused}
-use Rattle.iddqd_ord_index.proofs.AimLemmas.{fork_is, starts_is}
+use Rattle.iddqd_ord_index.proofs.BranchAtLemmas.{fork_is, starts_is}
 use Rattle.iddqd_ord_index.proofs.BelowLemmas.{list_at, length-lists}
-use Rattle.iddqd_ord_index.proofs.WeaveLemmas.{starts_split, starts_drop}
+use Rattle.iddqd_ord_index.proofs.InOrderLemmas.{starts_split, starts_drop}
 use Rattle.iddqd_ord_index.proofs.tree.node.Node.len.Goals as goal
 
 whole : (c : goal.After-count) → c.start.result + c.count.result ≡ length c.args.self.now.slots

@@ -1,7 +1,7 @@
 use Rattle.std.proofs.Common.{◌+◌, ap, ◌∙◌, arith, rules}
 use Rattle.std.specs.List.{insert}
 use Rattle.iddqd_ord_index.specs.Nodes.{below}
-use Rattle.iddqd_ord_index.specs.Shape.{lists, weave}
+use Rattle.iddqd_ord_index.specs.Shape.{lists, in_order}
 use Rattle.iddqd_ord_index.proofs.HalfLemmas.{more_lists}
 use Rattle.iddqd_ord_index.proofs.tree.node.insert.add_branch.Goals as goal
 
@@ -10,7 +10,7 @@ returns-then-len-lt11-clause-adds c =
     let ts = below c.args.branches.now in
     let l = more_lists ts (below c.insert-then-len-lt11.new.self) c.args.slots.now.items c.args.i c.args.middle c.args.upper.value c.requires.forked c.requires.inner c.requires.in_bounds c.insert-then-len-lt11.ensures.below c.requires.upper in
     record {
-      slots = ap (λ l. weave l c.insert.new.self.items) l ∙ ap (λ ss. weave (insert (lists ts) (c.args.i + 1) c.args.upper.value.slots) ss) c.insert.ensures.items;
+      slots = ap (λ l. in_order l c.insert.new.self.items) l ∙ ap (λ ss. in_order (insert (lists ts) (c.args.i + 1) c.args.upper.value.slots) ss) c.insert.ensures.items;
       wider = omega (arith, c.insert.ensures.len);
     }
 

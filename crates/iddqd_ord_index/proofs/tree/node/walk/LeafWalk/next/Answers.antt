@@ -1,7 +1,7 @@
 use Rattle.std.proofs.Common.{◌∷◌, ◌++◌, ◌∙◌, length, take, drop, ap, sym, ◌-◌}
 use Rattle.iddqd_ord_index.specs.Nodes.{subtrees}
 use Rattle.iddqd_ord_index.specs.Shape.{behind, lists}
-use Rattle.iddqd_ord_index.proofs.AimLemmas.{none_of}
+use Rattle.iddqd_ord_index.proofs.BranchAtLemmas.{none_of}
 use Rattle.iddqd_ord_index.proofs.LeafLemmas.{next_leaf, rest_leaves}
 use Rattle.iddqd_ord_index.proofs.tree.node.walk.LeafWalk.next.Goals as goal
 

@@ -4,9 +4,9 @@ use Rattle.std.proofs.lemmas.List.{get_or_default}
 use Rattle.std.specs.List.{insert}
 use Rattle.iddqd_ord_index.specs.Nodes.{below}
 use Rattle.iddqd_ord_index.specs.Neighbours.{IsShifted, IsMerged}
-use Rattle.iddqd_ord_index.specs.Shape.{Subtree, IsBranch, lists, weave}
-use Rattle.iddqd_ord_index.proofs.MendLemmas.{IsSettled, settled_two, settled_one}
-use Rattle.iddqd_ord_index.proofs.tree.node.remove.settle.Goals as goal
+use Rattle.iddqd_ord_index.specs.Shape.{Subtree, IsBranch, lists, in_order}
+use Rattle.iddqd_ord_index.proofs.RebalanceLemmas.{IsRebalancedAt, rebalanced_two, rebalanced_one}
+use Rattle.iddqd_ord_index.proofs.tree.node.remove.rebalance_at.Goals as goal
 
 -- the sum of two neighbours' slots stays
 same_sum : (a b lower upper : Subtree) (m t : ℕ) (a' b' d : Subtree) → IsShifted a m b lower t upper → a ≡ a' → b ≡ b' → d ≡ lower → length a'.slots + length b'.slots ≡ length d.slots + length upper.slots
@@ -18,30 +18,30 @@ same_sum a b lower upper m t a' b' d s e f g =
 
 pub len-count-requires : goal.len-count-requires
 len-count-requires c =
-    let s = same_sum c.deref_mut.result.now c.deref_mut-2.result.now c.mend.new.self c.mend.new.upper (get_or c.as_slice.result.now c.args.j 0) c.in-Some.top c.args.lower.value c.args.upper.value c.deref.result.now c.in-Some.ensures c.deref_mut.ensures.value c.deref_mut-2.ensures.value c.deref.ensures in
+    let s = same_sum c.deref_mut.result.now c.deref_mut-2.result.now c.rebalance.new.self c.rebalance.new.upper (get_or c.as_slice.result.now c.args.j 0) c.in-Some.top c.args.lower.value c.args.upper.value c.deref.result.now c.in-Some.ensures c.deref_mut.ensures.value c.deref_mut-2.ensures.value c.deref.ensures in
     omega (arith, c.requires.total, c.requires.room)
 
 pub overflow_sub-total : goal.overflow_sub-total
 overflow_sub-total c =
-    let s = same_sum c.deref_mut.result.now c.deref_mut-2.result.now c.mend.new.self c.mend.new.upper (get_or c.as_slice.result.now c.args.j 0) c.in-Some.top c.args.lower.value c.args.upper.value c.deref.result.now c.in-Some.ensures c.deref_mut.ensures.value c.deref_mut-2.ensures.value c.deref.ensures in
+    let s = same_sum c.deref_mut.result.now c.deref_mut-2.result.now c.rebalance.new.self c.rebalance.new.upper (get_or c.as_slice.result.now c.args.j 0) c.in-Some.top c.args.lower.value c.args.upper.value c.deref.result.now c.in-Some.ensures c.deref_mut.ensures.value c.deref_mut-2.ensures.value c.deref.ensures in
     omega (arith, c.requires.total, c.len-count.ensures)
 
 pub insert-requires-clause-count : goal.insert-requires-clause-count
 insert-requires-clause-count c =
-    let s = same_sum c.deref_mut.result.now c.deref_mut-2.result.now c.mend.new.self c.mend.new.upper (get_or c.as_slice.result.now c.args.j 0) c.in-Some.top c.args.lower.value c.args.upper.value c.deref.result.now c.in-Some.ensures c.deref_mut.ensures.value c.deref_mut-2.ensures.value c.deref.ensures in
+    let s = same_sum c.deref_mut.result.now c.deref_mut-2.result.now c.rebalance.new.self c.rebalance.new.upper (get_or c.as_slice.result.now c.args.j 0) c.in-Some.top c.args.lower.value c.args.upper.value c.deref.result.now c.in-Some.ensures c.deref_mut.ensures.value c.deref_mut-2.ensures.value c.deref.ensures in
     omega (arith, c.requires.total, c.len-count.ensures)
 
-two : (c : goal.After-insert-in-Some) → IsSettled (c.args.lower.value.height + 1) (below c.insert-in-Some.new.self) c.replace.new.items.items (weave (insert (insert (lists (below c.args.branches.now)) c.args.j c.args.upper.value.slots) c.args.j c.args.lower.value.slots) c.args.slots.now.items)
+two : (c : goal.After-insert-in-Some) → IsRebalancedAt (c.args.lower.value.height + 1) (below c.insert-in-Some.new.self) c.replace.new.items.items (in_order (insert (insert (lists (below c.args.branches.now)) c.args.j c.args.upper.value.slots) c.args.j c.args.lower.value.slots) c.args.slots.now.items)
 two c =
     let h = ap (λ t. t.height + 1) c.deref_mut.ensures.value in
     let s = get_or c.as_slice.result.now c.args.j 0 in
-    let m : IsShifted c.deref_mut.result.now s c.deref_mut-2.result.now c.mend.new.self c.in-Some.top c.mend.new.upper = c.in-Some.ensures in
+    let m : IsShifted c.deref_mut.result.now s c.deref_mut-2.result.now c.rebalance.new.self c.in-Some.top c.rebalance.new.upper = c.in-Some.ensures in
     let e : s ≡ get_or c.args.slots.now.items c.args.j s = ap (λ l. get_or l c.args.j 0) c.as_slice.ensures.value ∙ get_or_default c.args.slots.now.items c.args.j 0 s c.requires.in_bounds in
     let v = ap (λ t. t.slots ++ s ∷ c.deref_mut-2.result.now.slots) c.deref_mut.ensures.value ∙ ap (λ t. c.args.lower.value.slots ++ s ∷ t.slots) c.deref_mut-2.ensures.value in
-    subst (λ x. IsSettled (c.args.lower.value.height + 1) (below c.insert-in-Some.new.self) x (weave (insert (insert (lists (below c.args.branches.now)) c.args.j c.args.upper.value.slots) c.args.j c.args.lower.value.slots) c.args.slots.now.items)) (sym c.replace.ensures.items)
-    (settled_two (c.args.lower.value.height + 1) c.args.j s (below c.args.branches.now) c.args.slots.now.items c.args.lower.value.slots c.args.upper.value.slots c.requires.all c.requires.fork c.requires.in_bounds e
-    (below c.insert-in-Some.new.self) c.mend.new.self c.mend.new.upper c.in-Some.top (c.insert-in-Some.ensures.below ∙ ap (λ l. insert l c.args.j c.mend.new.self) c.insert.ensures.below)
-    (subst (λ n. IsBranch n c.mend.new.self) h m.lower_branch) (subst (λ n. IsBranch n c.mend.new.upper) h m.upper_branch) (sym v ∙ m.slots))
+    subst (λ x. IsRebalancedAt (c.args.lower.value.height + 1) (below c.insert-in-Some.new.self) x (in_order (insert (insert (lists (below c.args.branches.now)) c.args.j c.args.upper.value.slots) c.args.j c.args.lower.value.slots) c.args.slots.now.items)) (sym c.replace.ensures.items)
+    (rebalanced_two (c.args.lower.value.height + 1) c.args.j s (below c.args.branches.now) c.args.slots.now.items c.args.lower.value.slots c.args.upper.value.slots c.requires.all c.requires.fork c.requires.in_bounds e
+    (below c.insert-in-Some.new.self) c.rebalance.new.self c.rebalance.new.upper c.in-Some.top (c.insert-in-Some.ensures.below ∙ ap (λ l. insert l c.args.j c.rebalance.new.self) c.insert.ensures.below)
+    (subst (λ n. IsBranch n c.rebalance.new.self) h m.lower_branch) (subst (λ n. IsBranch n c.rebalance.new.upper) h m.upper_branch) (sym v ∙ m.slots))
 
 pub returns-in-Some-clause-forked : goal.returns-in-Some-clause-forked
 returns-in-Some-clause-forked c = let m = two c in m.forked
@@ -52,16 +52,16 @@ returns-in-Some-clause-levels c = let m = two c in m.height
 pub returns-in-Some-clause-slots : goal.returns-in-Some-clause-slots
 returns-in-Some-clause-slots c = let m = two c in m.list
 
-one : (c : goal.After-give_back) → IsSettled (c.args.lower.value.height + 1) (below c.insert-in-None.new.self) c.remove.new.self.items (weave (insert (insert (lists (below c.args.branches.now)) c.args.j c.args.upper.value.slots) c.args.j c.args.lower.value.slots) c.args.slots.now.items)
+one : (c : goal.After-give_back) → IsRebalancedAt (c.args.lower.value.height + 1) (below c.insert-in-None.new.self) c.remove.new.self.items (in_order (insert (insert (lists (below c.args.branches.now)) c.args.j c.args.upper.value.slots) c.args.j c.args.lower.value.slots) c.args.slots.now.items)
 one c =
     let h = ap (λ t. t.height + 1) c.deref_mut.ensures.value in
     let s = get_or c.as_slice.result.now c.args.j 0 in
-    let m : IsMerged c.deref_mut.result.now s c.deref_mut-2.result.now c.mend.new.self c.mend.new.upper = c.in-None.ensures in
+    let m : IsMerged c.deref_mut.result.now s c.deref_mut-2.result.now c.rebalance.new.self c.rebalance.new.upper = c.in-None.ensures in
     let e : s ≡ get_or c.args.slots.now.items c.args.j s = ap (λ l. get_or l c.args.j 0) c.as_slice.ensures.value ∙ get_or_default c.args.slots.now.items c.args.j 0 s c.requires.in_bounds in
     let v = ap (λ t. t.slots ++ s ∷ c.deref_mut-2.result.now.slots) c.deref_mut.ensures.value ∙ ap (λ t. c.args.lower.value.slots ++ s ∷ t.slots) c.deref_mut-2.ensures.value in
-    subst (λ x. IsSettled (c.args.lower.value.height + 1) (below c.insert-in-None.new.self) x (weave (insert (insert (lists (below c.args.branches.now)) c.args.j c.args.upper.value.slots) c.args.j c.args.lower.value.slots) c.args.slots.now.items)) (sym c.remove.ensures.items)
-    (settled_one (c.args.lower.value.height + 1) c.args.j s (below c.args.branches.now) c.args.slots.now.items c.args.lower.value.slots c.args.upper.value.slots c.requires.all c.requires.fork c.requires.in_bounds e
-    (below c.insert-in-None.new.self) c.mend.new.self c.insert-in-None.ensures.below (subst (λ n. IsBranch n c.mend.new.self) h m.lower_branch) (m.slots ∙ v))
+    subst (λ x. IsRebalancedAt (c.args.lower.value.height + 1) (below c.insert-in-None.new.self) x (in_order (insert (insert (lists (below c.args.branches.now)) c.args.j c.args.upper.value.slots) c.args.j c.args.lower.value.slots) c.args.slots.now.items)) (sym c.remove.ensures.items)
+    (rebalanced_one (c.args.lower.value.height + 1) c.args.j s (below c.args.branches.now) c.args.slots.now.items c.args.lower.value.slots c.args.upper.value.slots c.requires.all c.requires.fork c.requires.in_bounds e
+    (below c.insert-in-None.new.self) c.rebalance.new.self c.insert-in-None.ensures.below (subst (λ n. IsBranch n c.rebalance.new.self) h m.lower_branch) (m.slots ∙ v))
 
 pub returns-in-None-clause-forked : goal.returns-in-None-clause-forked
 returns-in-None-clause-forked c = let m = one c in m.forked

@@ -1,7 +1,7 @@
 use Rattle.std.proofs.Common.{◌≡◌, ◌+◌, ◌-◌, ◌<◌, length, take, drop}
 use Rattle.iddqd_ord_index.specs.Shape.{starts, lists}
 use Rattle.iddqd_ord_index.specs.Nodes.{below}
-use Rattle.iddqd_ord_index.proofs.tree.node.Branches.aim.Given as goal
+use Rattle.iddqd_ord_index.proofs.tree.node.Branches.branch_at.Given as goal
 
 abbrev pub invariant-loop-i : goal.invariant-loop-i
 invariant-loop-i l = record {

@@ -1,7 +1,7 @@
 use Rattle.std.proofs.Common.{◌≡◌, ◌-◌, ◌≤◌, vec_len}
 use Rattle.std.specs.Vec.{vec_capacity}
 use Rattle.iddqd_ord_index.specs.Changes.{AreUnused}
-use Rattle.iddqd_ord_index.proofs.tree.spare.Spare.prepare.Given as goal
+use Rattle.iddqd_ord_index.proofs.tree.pool.NodePool.prepare.Given as goal
 
 abbrev pub invariant-fill : goal.invariant-fill
 invariant-fill l = record {

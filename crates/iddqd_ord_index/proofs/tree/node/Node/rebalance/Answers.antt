@@ -1,6 +1,6 @@
 -- For speed alone: the prover finds these proofs by itself, but later.
 use Rattle.std.proofs.Common.{rules}
-use Rattle.iddqd_ord_index.proofs.tree.node.Node.mend.Goals as goal
+use Rattle.iddqd_ord_index.proofs.tree.node.Node.rebalance.Goals as goal
 
 pub returns-then-lower_width-upper_width-lt11 : goal.returns-then-lower_width-upper_width-lt11
 returns-then-lower_width-upper_width-lt11 c = search rules

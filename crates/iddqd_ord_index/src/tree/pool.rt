@@ -10,12 +10,12 @@ use std::marker::Model;
 
 /// Unused nodes, and how many are wanted: those beyond are given to the heap.
 #[derive(Drop)]
-pub(crate) struct Spare {
+pub(crate) struct NodePool {
     nodes: Vec<Box<Node>>,
     wanted: usize,
 }
 
-impl Model for Spare {
+impl Model for NodePool {
     ghost use Rattle.std.specs.Prelude.{◌≤◌, vec_capacity, vec_len};
     ghost use Rattle.iddqd_ord_index.specs.Changes.{Stock, AreUnused};
 
@@ -26,12 +26,12 @@ impl Model for Spare {
     ghost invariant = { λ s. AreUnused s.nodes.items × (s.wanted ≤ vec_capacity s.nodes) };
 }
 
-impl Spare {
+impl NodePool {
     // No unused nodes, and none wanted. Does not allocate.
     pub(crate) fn new(alloc: Global) -> Self
         ensures { (result.count ≡ 0) × (result.wanted ≡ 0) }
     {
-        Spare {
+        NodePool {
             nodes: Vec::new(alloc),
             wanted: 0,
         }
@@ -39,12 +39,12 @@ impl Spare {
 
     // No unused nodes, and room for so many that are wanted.
     pub(crate) fn wanting(wanted: usize, alloc: Global) -> Result<Self, AllocError>
-        ensures { IfOk result (λ spare. (spare.wanted ≡ wanted) × (wanted ≤ spare.room)) }
+        ensures { IfOk result (λ pool. (pool.wanted ≡ wanted) × (wanted ≤ pool.room)) }
     {
-        let mut spare = Spare::new(alloc);
-        spare.make_room(wanted)?;
-        spare.want(wanted);
-        Ok(spare)
+        let mut pool = NodePool::new(alloc);
+        pool.make_room(wanted)?;
+        pool.want(wanted);
+        Ok(pool)
     }
 
     // Allocates as many as are wanted, and room for one more. If one is refused, what was gained stays.

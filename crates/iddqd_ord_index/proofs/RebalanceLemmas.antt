@@ -1,33 +1,33 @@
--- A node of which two neighbours are mended.
+-- A node of which two neighbours are rebalanced.
 use Rattle.std.proofs.Common.{◌≡◌, ℕ, suc, ◌+◌, ◌-◌, ◌<◌, ◌≤◌, List, [], ◌∷◌, ◌++◌, length, take, drop, set, get_or, refl, ap, sym, ◌∙◌, inl, inr, subst, arith, append_assoc, add-one, length-set, min}
 use Rattle.std.specs.List.{insert, remove, All}
 use Rattle.std.proofs.lemmas.Bool.{cases_lt}
 use Rattle.std.proofs.lemmas.List.{take-append-drop, length-take-le, take_at, drop_at, drop_more, take-set, drop-set-lt, get_or-set_same, get_or_default}
 use Rattle.std.proofs.lemmas.List.Edits.{length-insert, length-remove, get_or-remove_below, get_or-remove_above}
-use Rattle.iddqd_ord_index.specs.Shape.{Subtree, behind, weave, starts, lists, levels, unused, IsBranch, IsForked}
+use Rattle.iddqd_ord_index.specs.Shape.{Subtree, behind, in_order, starts, lists, levels, unused, IsBranch, IsForked}
 use Rattle.iddqd_ord_index.specs.Neighbours.{IsPair, IsNear, IsShort}
 use Rattle.iddqd_ord_index.proofs.BelowLemmas.{length-lists, list_at}
 use Rattle.iddqd_ord_index.proofs.HalfLemmas.{All-insert, forked_of, levels_of}
 use Rattle.iddqd_ord_index.proofs.PackedLemmas.{map-insert}
-use Rattle.iddqd_ord_index.proofs.WeaveLemmas.{pairs, weave_at, starts_split, starts_drop}
+use Rattle.iddqd_ord_index.proofs.InOrderLemmas.{pairs, in_order_at, starts_split, starts_drop}
 
 -- the list at two neighbours
 two_at : (ls : List (List ℕ)) (ss : List ℕ) (j : ℕ) (l u : List ℕ) (d : ℕ) → length ls + 1 ≡ length ss → j < length ss
-    → weave (insert (insert ls j u) j l) ss ≡ pairs (take j ls) (take j ss) ++ ((l ++ get_or ss j d ∷ u) ++ behind (drop j ls) (drop (suc j) ss))
+    → in_order (insert (insert ls j u) j l) ss ≡ pairs (take j ls) (take j ss) ++ ((l ++ get_or ss j d ∷ u) ++ behind (drop j ls) (drop (suc j) ss))
 two_at ls ss j l u d n lt =
     let m = length-take-le j ls (omega arith) in
     let t : take j (insert ls j u) ≡ take j ls = take_at (take j ls) (u ∷ drop j ls) j m in
     let r : drop j (insert ls j u) ≡ u ∷ drop j ls = drop_at (take j ls) (u ∷ drop j ls) j m in
     let c : ss ≡ take j ss ++ get_or ss j d ∷ drop (suc j) ss = sym (take-append-drop j ss) ∙ ap (λ r. take j ss ++ r) (drop_more ss j d lt ∙ rw add-one refl) in
-    ap (λ x. weave (x ++ l ∷ drop j (insert ls j u)) ss) t
-    ∙ (ap (λ x. weave (take j ls ++ l ∷ x) ss) r
-    ∙ (ap (λ x. weave (take j ls ++ l ∷ (u ∷ drop j ls)) x) c
-    ∙ (weave_at (take j ls) l (u ∷ drop j ls) (take j ss) (get_or ss j d ∷ drop (suc j) ss) (m ∙ sym (length-take-le j ss (omega arith)))
+    ap (λ x. in_order (x ++ l ∷ drop j (insert ls j u)) ss) t
+    ∙ (ap (λ x. in_order (take j ls ++ l ∷ x) ss) r
+    ∙ (ap (λ x. in_order (take j ls ++ l ∷ (u ∷ drop j ls)) x) c
+    ∙ (in_order_at (take j ls) l (u ∷ drop j ls) (take j ss) (get_or ss j d ∷ drop (suc j) ss) (m ∙ sym (length-take-le j ss (omega arith)))
     ∙ ap (λ x. pairs (take j ls) (take j ss) ++ x) (sym (append_assoc l (get_or ss j d ∷ u) (behind (drop j ls) (drop (suc j) ss)))))))
 
 pub shifted_list : (ls : List (List ℕ)) (ss : List ℕ) (j : ℕ) (l u l' u' : List ℕ) (s t : ℕ) → length ls + 1 ≡ length ss → j < length ss → s ≡ get_or ss j s
     → l ++ s ∷ u ≡ l' ++ t ∷ u'
-    → weave (insert (insert ls j u') j l') (set ss j t) ≡ weave (insert (insert ls j u) j l) ss
+    → in_order (insert (insert ls j u') j l') (set ss j t) ≡ in_order (insert (insert ls j u) j l) ss
 shifted_list ls ss j l u l' u' s t n lt e h =
     let k = length-set ss j t in
     two_at ls (set ss j t) j l' u' s (n ∙ sym k) (omega arith)
@@ -37,9 +37,9 @@ shifted_list ls ss j l u l' u' s t n lt e h =
 
 pub merged_list : (ls : List (List ℕ)) (ss : List ℕ) (j : ℕ) (l u l' : List ℕ) (s : ℕ) → length ls + 1 ≡ length ss → j < length ss → s ≡ get_or ss j s
     → l' ≡ l ++ s ∷ u
-    → weave (insert ls j l') (remove ss j) ≡ weave (insert (insert ls j u) j l) ss
+    → in_order (insert ls j l') (remove ss j) ≡ in_order (insert (insert ls j u) j l) ss
 merged_list ls ss j l u l' s n lt e h =
-    weave_at (take j ls) l' (drop j ls) (take j ss) (drop (suc j) ss) (length-take-le j ls (omega arith) ∙ sym (length-take-le j ss (omega arith)))
+    in_order_at (take j ls) l' (drop j ls) (take j ss) (drop (suc j) ss) (length-take-le j ls (omega arith) ∙ sym (length-take-le j ss (omega arith)))
     ∙ (ap (λ x. pairs (take j ls) (take j ss) ++ (x ++ behind (drop j ls) (drop (suc j) ss))) (h ∙ ap (λ x. l ++ x ∷ u) e)
     ∙ sym (two_at ls ss j l u s n lt))
 
@@ -53,15 +53,15 @@ back_in xs j d x lt e =
     ∙ (ap (λ l. take j xs ++ l) (sym (drop_more xs j d lt ∙ rw add-one refl)) ∙ take-append-drop j xs)))
 
 -- two neighbours put in, or the one that they are now
-pub record IsSettled (h : ℕ) (ts : List Subtree) (ss all : List ℕ) : Type 0 where
+pub record IsRebalancedAt (h : ℕ) (ts : List Subtree) (ss all : List ℕ) : Type 0 where
   pub forked : IsForked ts ss
   pub height : levels ts ≡ h
-  pub list : weave (lists ts) ss ≡ all
+  pub list : in_order (lists ts) ss ≡ all
 
 module _ (h j s : ℕ) (ts : List Subtree) (ss : List ℕ) (l u : List ℕ) (all : All (IsBranch h) ts) (n : length ts + 1 ≡ length ss) (lt : j < length ss) (e : s ≡ get_or ss j s) where
-  pub settled_two : (us : List Subtree) (l' u' : Subtree) (t : ℕ) → us ≡ insert (insert ts j u') j l' → IsBranch h l' → IsBranch h u' → l ++ s ∷ u ≡ l'.slots ++ t ∷ u'.slots
-      → IsSettled h us (set ss j t) (weave (insert (insert (lists ts) j u) j l) ss)
-  settled_two us l' u' t q a b k =
+  pub rebalanced_two : (us : List Subtree) (l' u' : Subtree) (t : ℕ) → us ≡ insert (insert ts j u') j l' → IsBranch h l' → IsBranch h u' → l ++ s ∷ u ≡ l'.slots ++ t ∷ u'.slots
+      → IsRebalancedAt h us (set ss j t) (in_order (insert (insert (lists ts) j u) j l) ss)
+  rebalanced_two us l' u' t q a b k =
       let m = length-lists ts in
       let v = length-insert ts j u' (omega arith) in
       let w = length-insert (insert ts j u') j l' (omega arith) in
@@ -71,13 +71,13 @@ module _ (h j s : ℕ) (ts : List Subtree) (ss : List ℕ) (l u : List ℕ) (all
       record {
         forked = f;
         height = levels_of h us (omega arith) al;
-        list = ap (λ x. weave (lists x) (set ss j t)) q
-            ∙ (ap (λ x. weave x (set ss j t)) (map-insert (λ t. t.slots) (insert ts j u') j l' ∙ ap (λ x. insert x j l'.slots) (map-insert (λ t. t.slots) ts j u'))
+        list = ap (λ x. in_order (lists x) (set ss j t)) q
+            ∙ (ap (λ x. in_order x (set ss j t)) (map-insert (λ t. t.slots) (insert ts j u') j l' ∙ ap (λ x. insert x j l'.slots) (map-insert (λ t. t.slots) ts j u'))
             ∙ shifted_list (lists ts) ss j l u l'.slots u'.slots s t (omega arith) lt e k);
       }
 
-  pub settled_one : (us : List Subtree) (l' : Subtree) → us ≡ insert ts j l' → IsBranch h l' → l'.slots ≡ l ++ s ∷ u → IsSettled h us (remove ss j) (weave (insert (insert (lists ts) j u) j l) ss)
-  settled_one us l' q a k =
+  pub rebalanced_one : (us : List Subtree) (l' : Subtree) → us ≡ insert ts j l' → IsBranch h l' → l'.slots ≡ l ++ s ∷ u → IsRebalancedAt h us (remove ss j) (in_order (insert (insert (lists ts) j u) j l) ss)
+  rebalanced_one us l' q a k =
       let m = length-lists ts in
       let v = length-insert ts j l' (omega arith) in
       let al : All (IsBranch h) us = subst (λ x. All (IsBranch h) x) (sym q) (All-insert (IsBranch h) ts j l' a all) in
@@ -85,8 +85,8 @@ module _ (h j s : ℕ) (ts : List Subtree) (ss : List ℕ) (l u : List ℕ) (all
       record {
         forked = forked_of h us (remove ss j) al z;
         height = levels_of h us (omega arith) al;
-        list = ap (λ x. weave (lists x) (remove ss j)) q
-            ∙ (ap (λ x. weave x (remove ss j)) (map-insert (λ t. t.slots) ts j l') ∙ merged_list (lists ts) ss j l u l'.slots s (omega arith) lt e k);
+        list = ap (λ x. in_order (lists x) (remove ss j)) q
+            ∙ (ap (λ x. in_order x (remove ss j)) (map-insert (λ t. t.slots) ts j l') ∙ merged_list (lists ts) ss j l u l'.slots s (omega arith) lt e k);
       }
 
 -- two neighbours taken out, one of which is short

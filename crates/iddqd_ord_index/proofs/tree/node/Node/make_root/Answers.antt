@@ -3,10 +3,10 @@ use Rattle.std.specs.List.{insert, All}
 use Rattle.std.proofs.lemmas.List.Elements.{All-cons, All-nil}
 use Rattle.iddqd_ord_index.specs.Nodes.{below}
 use Rattle.iddqd_ord_index.specs.Shape.{IsBranch}
-use Rattle.iddqd_ord_index.proofs.AimLemmas.{leaf_of, none_of}
+use Rattle.iddqd_ord_index.proofs.BranchAtLemmas.{leaf_of, none_of}
 use Rattle.iddqd_ord_index.proofs.DenseLemmas.{dense_of}
 use Rattle.iddqd_ord_index.proofs.HalfLemmas.{forked_of}
-use Rattle.iddqd_ord_index.proofs.tree.node.Node.fork.Goals as goal
+use Rattle.iddqd_ord_index.proofs.tree.node.Node.make_root.Goals as goal
 
 pub returns-clause-dense : goal.returns-clause-dense
 returns-clause-dense c =

@@ -3,9 +3,9 @@ use Rattle.std.proofs.lemmas.Grind.{common_steps}
 use Rattle.std.specs.List.{remove}
 use Rattle.iddqd_ord_index.specs.Neighbours.{IsNear}
 use Rattle.iddqd_ord_index.specs.Nodes.{below}
-use Rattle.iddqd_ord_index.specs.Shape.{Subtree, unused, weave}
-use Rattle.iddqd_ord_index.proofs.MendLemmas.{AreTaken, taken}
-use Rattle.iddqd_ord_index.proofs.tree.node.remove.mend.Goals as goal
+use Rattle.iddqd_ord_index.specs.Shape.{Subtree, unused, in_order}
+use Rattle.iddqd_ord_index.proofs.RebalanceLemmas.{AreTaken, taken}
+use Rattle.iddqd_ord_index.proofs.tree.node.remove.rebalance.Goals as goal
 
 both : (ts rs us : List Subtree) (ss : List ℕ) (i j len width : ℕ) (lower upper : Subtree) → IsNear ts ss i → j ≡ min i (len - 1) → len ≡ length ss → rs ≡ remove ts j → us ≡ remove rs j → lower ≡ get_or ts j unused → upper ≡ get_or rs j unused
     → width ≡ (get_or ts i unused).width → width < 5 → AreTaken ts us ss j lower upper
@@ -17,40 +17,40 @@ overflow_add-lower_count c =
     let m = both (below c.args.branches.now) (below c.remove-lower.new.self) (below c.remove-upper.new.self) c.args.slots.now.items c.args.i c.min-j.result c.len.result c.args.width c.remove-lower.result.0.value c.remove-upper.result.0.value c.requires.near c.min-j.ensures c.len.ensures.value c.remove-lower.ensures.below c.remove-upper.ensures.below c.remove-lower.ensures.node c.remove-upper.ensures.node c.requires.width c.if-width-ge5.false in
     omega (arith, m.room, c.requires.room, c.remove-lower.ensures.count, c.remove-upper.ensures.count)
 
-pub settle-requires-clause-all : goal.settle-requires-clause-all
-settle-requires-clause-all c =
+pub rebalance_at-requires-clause-all : goal.rebalance_at-requires-clause-all
+rebalance_at-requires-clause-all c =
     let m = both (below c.args.branches.now) (below c.remove-lower.new.self) (below c.remove-upper.new.self) c.args.slots.now.items c.args.i c.min-j.result c.len.result c.args.width c.remove-lower.result.0.value c.remove-upper.result.0.value c.requires.near c.min-j.ensures c.len.ensures.value c.remove-lower.ensures.below c.remove-upper.ensures.below c.remove-lower.ensures.node c.remove-upper.ensures.node c.requires.width c.if-width-ge5.false in
     m.all
 
-pub settle-requires-clause-fork : goal.settle-requires-clause-fork
-settle-requires-clause-fork c =
+pub rebalance_at-requires-clause-fork : goal.rebalance_at-requires-clause-fork
+rebalance_at-requires-clause-fork c =
     let m = both (below c.args.branches.now) (below c.remove-lower.new.self) (below c.remove-upper.new.self) c.args.slots.now.items c.args.i c.min-j.result c.len.result c.args.width c.remove-lower.result.0.value c.remove-upper.result.0.value c.requires.near c.min-j.ensures c.len.ensures.value c.remove-lower.ensures.below c.remove-upper.ensures.below c.remove-lower.ensures.node c.remove-upper.ensures.node c.requires.width c.if-width-ge5.false in
     m.fork
 
-pub settle-requires-clause-in_bounds : goal.settle-requires-clause-in_bounds
-settle-requires-clause-in_bounds c =
+pub rebalance_at-requires-clause-in_bounds : goal.rebalance_at-requires-clause-in_bounds
+rebalance_at-requires-clause-in_bounds c =
     let m = both (below c.args.branches.now) (below c.remove-lower.new.self) (below c.remove-upper.new.self) c.args.slots.now.items c.args.i c.min-j.result c.len.result c.args.width c.remove-lower.result.0.value c.remove-upper.result.0.value c.requires.near c.min-j.ensures c.len.ensures.value c.remove-lower.ensures.below c.remove-upper.ensures.below c.remove-lower.ensures.node c.remove-upper.ensures.node c.requires.width c.if-width-ge5.false in
     m.within
 
-pub settle-requires-clause-pair : goal.settle-requires-clause-pair
-settle-requires-clause-pair c =
+pub rebalance_at-requires-clause-pair : goal.rebalance_at-requires-clause-pair
+rebalance_at-requires-clause-pair c =
     let m = both (below c.args.branches.now) (below c.remove-lower.new.self) (below c.remove-upper.new.self) c.args.slots.now.items c.args.i c.min-j.result c.len.result c.args.width c.remove-lower.result.0.value c.remove-upper.result.0.value c.requires.near c.min-j.ensures c.len.ensures.value c.remove-lower.ensures.below c.remove-upper.ensures.below c.remove-lower.ensures.node c.remove-upper.ensures.node c.requires.width c.if-width-ge5.false in
     m.pair
 
-pub settle-requires-clause-room : goal.settle-requires-clause-room
-settle-requires-clause-room c =
+pub rebalance_at-requires-clause-room : goal.rebalance_at-requires-clause-room
+rebalance_at-requires-clause-room c =
     let m = both (below c.args.branches.now) (below c.remove-lower.new.self) (below c.remove-upper.new.self) c.args.slots.now.items c.args.i c.min-j.result c.len.result c.args.width c.remove-lower.result.0.value c.remove-upper.result.0.value c.requires.near c.min-j.ensures c.len.ensures.value c.remove-lower.ensures.below c.remove-upper.ensures.below c.remove-lower.ensures.node c.remove-upper.ensures.node c.requires.width c.if-width-ge5.false in
     omega (arith, m.room, c.requires.room, c.remove-lower.ensures.count, c.remove-upper.ensures.count)
 
 pub returns-clause-levels : goal.returns-clause-levels
 returns-clause-levels c =
     let m = both (below c.args.branches.now) (below c.remove-lower.new.self) (below c.remove-upper.new.self) c.args.slots.now.items c.args.i c.min-j.result c.len.result c.args.width c.remove-lower.result.0.value c.remove-upper.result.0.value c.requires.near c.min-j.ensures c.len.ensures.value c.remove-lower.ensures.below c.remove-upper.ensures.below c.remove-lower.ensures.node c.remove-upper.ensures.node c.requires.width c.if-width-ge5.false in
-    c.settle.ensures.levels ∙ m.height
+    c.rebalance_at.ensures.levels ∙ m.height
 
 pub returns-clause-slots : goal.returns-clause-slots
 returns-clause-slots c =
     let m = both (below c.args.branches.now) (below c.remove-lower.new.self) (below c.remove-upper.new.self) c.args.slots.now.items c.args.i c.min-j.result c.len.result c.args.width c.remove-lower.result.0.value c.remove-upper.result.0.value c.requires.near c.min-j.ensures c.len.ensures.value c.remove-lower.ensures.below c.remove-upper.ensures.below c.remove-lower.ensures.node c.remove-upper.ensures.node c.requires.width c.if-width-ge5.false in
-    c.settle.ensures.slots ∙ ap (λ l. weave l c.args.slots.now.items) m.back
+    c.rebalance_at.ensures.slots ∙ ap (λ l. in_order l c.args.slots.now.items) m.back
 
 pub remove-upper-requires-clause-in_bounds : goal.remove-upper-requires-clause-in_bounds
 remove-upper-requires-clause-in_bounds c = grind (arith, common_steps)

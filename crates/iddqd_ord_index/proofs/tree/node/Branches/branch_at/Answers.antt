@@ -2,7 +2,7 @@ use Rattle.std.proofs.Common.{length, ap, arith}
 use Rattle.std.proofs.lemmas.Grind.{common_steps}
 use Rattle.iddqd_ord_index.specs.Nodes.{below}
 use Rattle.iddqd_ord_index.proofs.BelowLemmas.{counts_at, starts_more, starts_less, length-counts, length-lists}
-use Rattle.iddqd_ord_index.proofs.tree.node.Branches.aim.Goals as goal
+use Rattle.iddqd_ord_index.proofs.tree.node.Branches.branch_at.Goals as goal
 
 pub loop-i-preserved : goal.loop-i-preserved
 loop-i-preserved c =
