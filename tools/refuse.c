@@ -1,15 +1,18 @@
-/* A heap that refuses one request for memory. It is preloaded into a test program and hands every other request on to the C library.
+/* A heap that refuses one request for memory. It is preloaded into a program and hands every other request on to the C library.
 
-   The test begins and ends the count itself, by two requests that no heap grants, since they are greater than the address space:
+   The program begins and ends the count itself, by requests that no heap grants, since they are greater than the address space:
 
      ARM bytes   from here on requests are counted, and the one numbered REFUSE_AT (of the environment) is refused
      END bytes   the count ends; the request is granted (by a block of one byte, which is not to be touched) exactly where
                  one was refused since it began
      LEAK bytes  granted likewise exactly where more or fewer blocks are held than when the count began
+     SIZE bytes  refused; it tells how many bytes are held beyond those when the count began, and how many of them are in
+                 the largest block that was given out since
 
-   Without this heap all three are refused, so the same test learns that it met no refusal. What happens is written to the file
-   descriptor REFUSE_TELLS (of the environment), a line each: 'armed', 'refused', 'ended'. The functions below
-   are the C library's calls by which the tests' heap asks for memory and gives it back. No header is needed. */
+   Without this heap all are refused, so the same test learns that it met no refusal. What happens is written to the file
+   descriptor REFUSE_TELLS (of the environment), a line each: 'armed', 'refused', 'ended', 'bytes HELD LARGEST'. Without a
+   REFUSE_AT no request is refused. The functions below are the C library's calls by which a program's heap asks for memory
+   and gives it back. No header is needed. */
 
 typedef unsigned long size;
 
@@ -17,10 +20,13 @@ extern void *dlsym(void *, const char *);
 extern char *getenv(const char *);
 extern unsigned long strtoul(const char *, char **, int);
 extern long write(int, const void *, size);
+extern int dprintf(int, const char *, ...);
+extern size malloc_usable_size(void *);
 
 #define ARM ((size)1 << 48)
 #define END (((size)1 << 49) + 1)
 #define LEAK (((size)1 << 49) + 2)
+#define SIZE (((size)1 << 49) + 3)
 #define NEXT ((void *)-1) /* dlsym's RTLD_NEXT: the C library's function of the name */
 #define OUT_OF_MEMORY 12  /* ENOMEM, which posix_memalign answers */
 
@@ -28,6 +34,9 @@ static size left; /* how many requests there are up to the one to refuse; 0: non
 static int met;   /* whether one was refused since the count began */
 static long held; /* how many blocks were given out and not taken back */
 static long held_first; /* how many of them there were when the count began */
+static long bytes; /* how many bytes those blocks have */
+static long bytes_first; /* how many they had when the count began */
+static size largest; /* how many the largest block has that was given out since */
 
 static size given(const char *name) {
     const char *number = getenv(name);
@@ -42,6 +51,8 @@ static void *arm(void) {
     left = given("REFUSE_AT");
     met = 0;
     held_first = held;
+    bytes_first = bytes;
+    largest = 0;
     tell("armed\n", 6);
     return 0;
 }
@@ -54,38 +65,68 @@ static int refuses(void) {
     return 1;
 }
 
+/* Counts the bytes of a block that the C library gave. */
+static void add_bytes(void *block) {
+    size room = malloc_usable_size(block);
+    bytes += room;
+    if (largest < room) largest = room;
+}
+
 /* Counts the block that the C library gave, if it gave one. */
 static void *counted(void *block) {
-    if (block) held++;
+    if (block) {
+        held++;
+        add_bytes(block);
+    }
     return block;
 }
 
-void *malloc(size bytes) {
+/* Counts a block no more. */
+static void uncount(void *block) {
+    if (block) {
+        held--;
+        bytes -= malloc_usable_size(block);
+    }
+}
+
+static void *tell_bytes(void) {
+    dprintf(given("REFUSE_TELLS"), "bytes %ld %lu\n", bytes - bytes_first, largest);
+    return 0;
+}
+
+void *malloc(size asked) {
     static void *(*next)(size);
     if (!next) next = (void *(*)(size))dlsym(NEXT, "malloc");
-    if (bytes == ARM) return arm();
-    if (bytes == END) {
+    if (asked == ARM) return arm();
+    if (asked == END) {
         left = 0;
         tell("ended\n", 6);
         return met ? counted(next(1)) : 0;
     }
-    if (bytes == LEAK) return held != held_first ? counted(next(1)) : 0;
-    return refuses() ? 0 : counted(next(bytes));
+    if (asked == LEAK) return held != held_first ? counted(next(1)) : 0;
+    if (asked == SIZE) return tell_bytes();
+    return refuses() ? 0 : counted(next(asked));
 }
 
 void free(void *block) {
     static void (*next)(void *);
     if (!next) next = (void (*)(void *))dlsym(NEXT, "free");
-    if (block) held--;
+    uncount(block);
     next(block);
 }
 
-void *realloc(void *block, size bytes) {
+void *realloc(void *block, size asked) {
     static void *(*next)(void *, size);
     if (!next) next = (void *(*)(void *, size))dlsym(NEXT, "realloc");
     if (refuses()) return 0;
-    void *moved = next(block, bytes);
-    return block ? moved : counted(moved);
+    size room = block ? malloc_usable_size(block) : 0;
+    void *moved = next(block, asked);
+    if (!block) return counted(moved);
+    if (moved) {
+        bytes -= room;
+        add_bytes(moved);
+    }
+    return moved;
 }
 
 void *calloc(size count, size bytes) {

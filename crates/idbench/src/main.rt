@@ -1,6 +1,6 @@
-//! Times the maps against std's, in one run, taking turns: `idbench [check|full]`. A line has the map, the type of
-//! the keys, the number of items, and the phase. After them come the nanoseconds an operation of this map and of
-//! std's, and their ratio.
+//! Times the maps against std's, in one run, taking turns: `idbench [check|full|bytes]`. A line has the map, the type
+//! of the keys, the number of items, and the phase. After them come the nanoseconds an operation of this map and of
+//! std's, and their ratio. `bytes` fills the maps for `tools/measure-bytes`, and times nothing.
 #![tactic(auto)]
 
 mod items;
@@ -9,7 +9,7 @@ mod report;
 mod subjects;
 
 use crate::items::{BenchKey, Item};
-use crate::phases::{Plan, Times, timed};
+use crate::phases::{Plan, Times, filled, timed};
 use crate::report::write_times;
 use crate::subjects::Subject;
 use std::alloc::Global;
@@ -19,7 +19,14 @@ use std::io::Write;
 use std::process::ExitCode;
 use std::time::Clock;
 use std::{env, io};
+use test_support::heap::{arm, tell_bytes};
 use test_support::maps::{Hashed, Ordered};
+
+// The numbers of items of a quick run, each with how many rounds.
+const QUICK: [(u64, u32); 2] = [(1_000, 9), (100_000, 3)];
+
+// The same of a full run.
+const FULL: [(u64, u32); 3] = [(1_000, 9), (100_000, 3), (1_000_000, 3)];
 
 /// Which sizes are measured, and whether times are printed.
 #[derive(Clone, Copy)]
@@ -27,6 +34,7 @@ enum Mode {
     Check,
     Quick,
     Full,
+    Bytes,
 }
 
 // What the argument asks for. Any other word is a quick run.
@@ -35,6 +43,7 @@ fn mode_asked<R: Env + AllocGlobal>(rt: &R) -> io::Result<Mode> {
         match word.as_str() {
             "check" => return Ok(Mode::Check),
             "full" => return Ok(Mode::Full),
+            "bytes" => return Ok(Mode::Bytes),
             _ => {}
         }
     }
@@ -75,16 +84,35 @@ fn compare<K: BenchKey>(
     Ok(hash.0.found == hash.1.found && ord.0.found == ord.1.found)
 }
 
-fn run<R: Env + AllocGlobal + Clock>(
+// Fills a map, and lets the heap tell its bytes. The line names the map.
+fn measure<S: Subject>(
+    alloc: Global,
+    out: &mut impl Write,
+    plan: &Plan,
+    name: &str,
+) -> io::Result<()> {
+    arm(alloc);
+    let map: S = filled(alloc, plan)?;
+    tell_bytes(alloc);
+    writeln!(out, "{name:<8} {:<7} {:>8}", S::Key::name(), plan.size())
+}
+
+// Fills a map of each kind, of ours and of std's, with keys of one type.
+fn measure_all<K: BenchKey>(alloc: Global, out: &mut impl Write, plan: &Plan) -> io::Result<()> {
+    measure::<Hashed<Item<K>>>(alloc, out, plan, "hash")?;
+    measure::<HashMap<K, Item<K>>>(alloc, out, plan, "HashMap")?;
+    measure::<Ordered<Item<K>>>(alloc, out, plan, "ord")?;
+    measure::<BTreeMap<K, Item<K>>>(alloc, out, plan, "BTreeMap")
+}
+
+// Times both kinds of map at each size: whether all sums agree.
+fn time_all<R: Clock>(
     rt: &R,
     alloc: Global,
     out: &mut impl Write,
+    sizes: &[(u64, u32)],
+    is_told: bool,
 ) -> io::Result<bool> {
-    let (sizes, is_told): (&[(u64, u32)], bool) = match mode_asked(rt)? {
-        Mode::Check => (&[(1_000, 1)], false),
-        Mode::Quick => (&[(1_000, 9), (100_000, 3)], true),
-        Mode::Full => (&[(1_000, 9), (100_000, 3), (1_000_000, 3)], true),
-    };
     let mut do_agree = true;
     for (size, rounds) in sizes {
         let plan = Plan::new(alloc, *size)?;
@@ -92,6 +120,24 @@ fn run<R: Env + AllocGlobal + Clock>(
         do_agree = compare::<String>(rt, alloc, out, (&plan, *size, *rounds), is_told)? && do_agree;
     }
     Ok(do_agree)
+}
+
+fn run<R: Env + AllocGlobal + Clock>(
+    rt: &R,
+    alloc: Global,
+    out: &mut impl Write,
+) -> io::Result<bool> {
+    match mode_asked(rt)? {
+        Mode::Check => time_all(rt, alloc, out, &[(1_000, 1)], false),
+        Mode::Quick => time_all(rt, alloc, out, &QUICK, true),
+        Mode::Full => time_all(rt, alloc, out, &FULL, true),
+        Mode::Bytes => {
+            let plan = Plan::new(alloc, 100_000)?;
+            measure_all::<u64>(alloc, out, &plan)?;
+            measure_all::<String>(alloc, out, &plan)?;
+            Ok(true)
+        }
+    }
 }
 
 fn main(rt: HostRuntime) -> ExitCode {

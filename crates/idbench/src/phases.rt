@@ -5,8 +5,8 @@ use std::alloc::{AllocError, Global};
 use std::io;
 use std::time::{Clock, Instant};
 
-/// The phases, in their order.
-pub(crate) const PHASES: [&str; 8] = [
+/// The phases of calls with a key, and those of a walk and of a clone, in their order.
+pub(crate) const CALLS: [&str; 8] = [
     "insertion",
     "reserved",
     "lookup",
@@ -16,6 +16,9 @@ pub(crate) const PHASES: [&str; 8] = [
     "churn",
     "removal",
 ];
+
+/// The phases of calls that go over a whole map, in their order.
+pub(crate) const WALKS: [&str; 5] = ["iter_mut", "into_iter", "ascending", "pop_first", "retain"];
 
 /// The numbers of one size: those that go in, those that come later, and the order in which both are asked for.
 #[derive(Drop)]
@@ -27,19 +30,25 @@ pub(crate) struct Plan {
 /// The nanoseconds of each phase, 0 for one that the map has no calls for, and a sum over all that was found.
 #[derive(Clone, Copy)]
 pub(crate) struct Times {
-    pub(crate) nanos: [u64; 8],
+    pub(crate) calls: [u64; 8],
+    pub(crate) walks: [u64; 5],
     pub(crate) found: u64,
 }
 
 /// The least times of both, and the same sum.
 impl Times {
     pub(crate) fn least(self, other: Times) -> Times {
-        let mut nanos = self.nanos;
-        for (time, again) in nanos.iter_mut().zip(other.nanos) {
+        let mut calls = self.calls;
+        for (time, again) in calls.iter_mut().zip(other.calls) {
+            *time = (*time).min(again);
+        }
+        let mut walks = self.walks;
+        for (time, again) in walks.iter_mut().zip(other.walks) {
             *time = (*time).min(again);
         }
         Times {
-            nanos,
+            calls,
+            walks,
             found: self.found,
         }
     }
@@ -66,6 +75,11 @@ impl Plan {
         }
         shuffle(shuffled.as_mut_slice());
         Ok(Plan { size, shuffled })
+    }
+
+    /// How many items there are.
+    pub(crate) fn size(&self) -> u64 {
+        self.size
     }
 
     // The keys of these numbers, each this much above.
@@ -208,14 +222,14 @@ fn summed(parts: [u64; 7]) -> u64 {
     sum
 }
 
-// Times each phase over the map, which has no items. The first of the keys are there once all are in, and the others are not.
-fn timed_over<S: Subject>(
+// Times each call over the map, which has no items. The first of the keys are there once all are in, and the others are not.
+fn timed_calls<S: Subject>(
     clock: &impl Clock,
     alloc: Global,
     plan: &Plan,
     map: &mut S,
     (present, absent): (&[S::Key], &[S::Key]),
-) -> io::Result<Times> {
+) -> io::Result<([u64; 8], u64)> {
     let loads = plan.loads::<S>(alloc, 0)?;
     let (reserved, reserved_count) = put_reserved::<S>(clock, alloc, loads)?;
     let (insertion, count) = put_in(clock, map, plan.loads::<S>(alloc, 0)?)?;
@@ -233,22 +247,100 @@ fn timed_over<S: Subject>(
         exchanged,
         removed,
     ];
-    Ok(Times {
-        nanos: [
-            insertion,
-            reserved,
-            lookup,
-            absent_lookup,
-            walk,
-            clone,
-            churn,
-            removal,
-        ],
-        found: summed(parts),
-    })
+    let nanos = [
+        insertion,
+        reserved,
+        lookup,
+        absent_lookup,
+        walk,
+        clone,
+        churn,
+        removal,
+    ];
+    Ok((nanos, summed(parts)))
 }
 
-/// Times each phase over a new map.
+/// A new map with the items of the plan, which goes in unclocked.
+pub(crate) fn filled<S: Subject>(alloc: Global, plan: &Plan) -> Result<S, AllocError> {
+    let loads = plan.loads::<S>(alloc, 0)?;
+    let mut map = S::empty(alloc);
+    put_all(&mut map, loads);
+    Ok(map)
+}
+
+// The nanoseconds of a walk that writes each item, and what it wrote.
+fn raised<S: Subject>(clock: &impl Clock, map: S) -> io::Result<(u64, S::Written)> {
+    let start = Instant::now(clock)?;
+    let written = map.raised();
+    Ok((nanos_since(clock, start)?, written))
+}
+
+// The nanoseconds in which all items move into a vector that has room for them, and that vector.
+fn moved_out<S: Subject>(
+    clock: &impl Clock,
+    alloc: Global,
+    map: S::Written,
+    size: usize,
+) -> io::Result<(u64, Vec<S::Load>)> {
+    let mut loads = Vec::with_capacity(alloc, size)?;
+    let start = Instant::now(clock)?;
+    S::move_out(map, &mut loads)?;
+    Ok((nanos_since(clock, start)?, loads))
+}
+
+// The sum of the values of so many items, each removed from the front.
+fn pop_all<S: Subject>(map: &mut S, size: usize) -> u64 {
+    let mut found = 0u64;
+    for _ in 0..size {
+        found = found.wrapping_add(map.pop_first().unwrap_or(1));
+    }
+    found
+}
+
+// The nanoseconds of the insertions of items that ascend, those of their removals from the front, and the sum of what
+// was removed. All are 0 for a map without an order.
+fn in_ascent<S: Subject>(
+    clock: &impl Clock,
+    alloc: Global,
+    loads: Vec<S::Load>,
+) -> io::Result<(u64, u64, u64)> {
+    if !S::is_ordered() {
+        return Ok((0, 0, 0));
+    }
+    let mut map = S::empty(alloc);
+    let size = loads.len();
+    let (ascending, count) = put_in(clock, &mut map, loads)?;
+    let start = Instant::now(clock)?;
+    let found = pop_all(&mut map, size);
+    Ok((
+        ascending,
+        nanos_since(clock, start)?,
+        found.wrapping_add(count),
+    ))
+}
+
+// The nanoseconds in which half the items are dropped, and the sum of the values of the others.
+fn halved<S: Subject>(clock: &impl Clock, map: &mut S) -> io::Result<(u64, u64)> {
+    let start = Instant::now(clock)?;
+    map.keep_even();
+    Ok((nanos_since(clock, start)?, map.sum()))
+}
+
+// Times each call that goes over a whole map, over two new maps.
+fn timed_walks<S: Subject>(
+    clock: &impl Clock,
+    alloc: Global,
+    plan: &Plan,
+) -> io::Result<([u64; 5], u64)> {
+    let (iter_mut, written) = raised::<S>(clock, filled(alloc, plan)?)?;
+    let (into_iter, loads) = moved_out::<S>(clock, alloc, written, plan.shuffled.len())?;
+    let (ascending, pop_first, popped) = in_ascent::<S>(clock, alloc, loads)?;
+    let (retain, kept) = halved::<S>(clock, &mut filled(alloc, plan)?)?;
+    let nanos = [iter_mut, into_iter, ascending, pop_first, retain];
+    Ok((nanos, popped.wrapping_add(kept)))
+}
+
+/// Times each phase over new maps.
 pub(crate) fn timed<S: Subject>(
     clock: &impl Clock,
     alloc: Global,
@@ -257,5 +349,11 @@ pub(crate) fn timed<S: Subject>(
     let present: Vec<S::Key> = plan.keys(alloc, 0)?;
     let absent: Vec<S::Key> = plan.keys(alloc, plan.size)?;
     let keys = (present.as_slice(), absent.as_slice());
-    timed_over(clock, alloc, plan, &mut S::empty(alloc), keys)
+    let (calls, found) = timed_calls(clock, alloc, plan, &mut S::empty(alloc), keys)?;
+    let (walks, seen) = timed_walks::<S>(clock, alloc, plan)?;
+    Ok(Times {
+        calls,
+        walks,
+        found: found.wrapping_add(seen),
+    })
 }

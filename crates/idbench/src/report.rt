@@ -1,5 +1,5 @@
 //! The lines of the report.
-use crate::phases::{PHASES, Times};
+use crate::phases::{CALLS, Times, WALKS};
 use std::io;
 use std::io::Write;
 
@@ -30,21 +30,32 @@ fn write_pair(out: &mut impl Write, ours: u64, std: u64) -> io::Result<()> {
     write_bar(out, ratio)
 }
 
+// Writes a line for each of these phases that both maps have.
+fn write_phases(
+    out: &mut impl Write,
+    (map, key): (&str, &str),
+    size: u64,
+    phases: &[&str],
+    (ours, std): (&[u64], &[u64]),
+) -> io::Result<()> {
+    for (phase, (ours, std)) in phases.iter().zip(ours.iter().zip(std)) {
+        if *ours == 0 || *std == 0 {
+            continue;
+        }
+        write!(out, "{map:<5} {key:<7} {size:>8} {phase:<10} ")?;
+        write_pair(out, tenths(*ours, size), tenths(*std, size))?;
+    }
+    Ok(())
+}
+
 /// Writes a line for each phase that both have: the nanoseconds an operation of this map and of std's, their ratio,
 /// and a bar.
 pub(crate) fn write_times(
     out: &mut impl Write,
     pair: (&str, &str),
     size: u64,
-    times: (&Times, &Times),
+    (ours, std): (&Times, &Times),
 ) -> io::Result<()> {
-    let (map, key) = pair;
-    for (phase, (ours, std)) in PHASES.iter().zip(times.0.nanos.iter().zip(times.1.nanos)) {
-        if *ours == 0 || std == 0 {
-            continue;
-        }
-        write!(out, "{map:<5} {key:<7} {size:>8} {phase:<10} ")?;
-        write_pair(out, tenths(*ours, size), tenths(std, size))?;
-    }
-    Ok(())
+    write_phases(out, pair, size, &CALLS, (&ours.calls, &std.calls))?;
+    write_phases(out, pair, size, &WALKS, (&ours.walks, &std.walks))
 }

@@ -4,6 +4,7 @@ use iddqd::{IdHashMap, IdOrdMap};
 use std::alloc::{AllocError, Global};
 use std::collections::{BTreeMap, HashMap};
 use test_support::maps::{AskedByKey, Hashed, Ordered};
+use test_support::walks::Walked;
 
 /// A map that is timed.
 pub(crate) trait Subject: Drop {
@@ -12,6 +13,12 @@ pub(crate) trait Subject: Drop {
 
     /// What goes in: it is made before the clock runs.
     type Load: Drop;
+
+    /// The map once its items are written.
+    type Written: Drop;
+
+    /// Whether the map keeps its items in order.
+    fn is_ordered() -> bool;
 
     /// A map without items.
     fn empty(alloc: Global) -> Self;
@@ -36,12 +43,30 @@ pub(crate) trait Subject: Drop {
 
     /// How many items a clone has, which is dropped; 0 where memory was refused.
     fn copied(&self) -> usize;
+
+    /// Adds one to the value of each item, by a walk that writes.
+    fn raised(self) -> Self::Written;
+
+    /// Moves the items out, in their order, into a vector.
+    fn move_out(map: Self::Written, loads: &mut Vec<Self::Load>) -> Result<(), AllocError>;
+
+    /// Removes the first item, and returns its value; `None` if there is none, or the map has no order.
+    fn pop_first(&mut self) -> Option<u64>;
+
+    /// Keeps the items whose value is even.
+    fn keep_even(&mut self);
 }
 
 impl<K: BenchKey> Subject for Hashed<Item<K>> {
     type Key = K;
 
     type Load = Item<K>;
+
+    type Written = IdHashMap<Item<K>>;
+
+    fn is_ordered() -> bool {
+        false
+    }
 
     fn empty(alloc: Global) -> Hashed<Item<K>> {
         Hashed::new(IdHashMap::new(alloc))
@@ -79,12 +104,39 @@ impl<K: BenchKey> Subject for Hashed<Item<K>> {
     fn copied(&self) -> usize {
         self.copied().map_or(0, |copy| copy.len())
     }
+
+    fn raised(self) -> IdHashMap<Item<K>> {
+        let size = self.len();
+        self.written(size, |item| item.value = item.value.wrapping_add(1))
+            .0
+    }
+
+    fn move_out(map: IdHashMap<Item<K>>, loads: &mut Vec<Item<K>>) -> Result<(), AllocError> {
+        for load in map {
+            loads.push(load)?;
+        }
+        Ok(())
+    }
+
+    fn pop_first(&mut self) -> Option<u64> {
+        None
+    }
+
+    fn keep_even(&mut self) {
+        self.retain(|item| item.value % 2 == 0);
+    }
 }
 
 impl<K: BenchKey> Subject for Ordered<Item<K>> {
     type Key = K;
 
     type Load = Item<K>;
+
+    type Written = IdOrdMap<Item<K>>;
+
+    fn is_ordered() -> bool {
+        true
+    }
 
     fn empty(alloc: Global) -> Ordered<Item<K>> {
         Ordered::new(IdOrdMap::new(alloc))
@@ -121,12 +173,39 @@ impl<K: BenchKey> Subject for Ordered<Item<K>> {
     fn copied(&self) -> usize {
         self.copied().map_or(0, |copy| copy.len())
     }
+
+    fn raised(self) -> IdOrdMap<Item<K>> {
+        let size = self.len();
+        self.written(size, |item| item.value = item.value.wrapping_add(1))
+            .0
+    }
+
+    fn move_out(map: IdOrdMap<Item<K>>, loads: &mut Vec<Item<K>>) -> Result<(), AllocError> {
+        for load in map {
+            loads.push(load)?;
+        }
+        Ok(())
+    }
+
+    fn pop_first(&mut self) -> Option<u64> {
+        Some(self.pop_first()?.value)
+    }
+
+    fn keep_even(&mut self) {
+        self.retain(|item| item.value % 2 == 0);
+    }
 }
 
 impl<K: BenchKey> Subject for HashMap<K, Item<K>> {
     type Key = K;
 
     type Load = (K, Item<K>);
+
+    type Written = HashMap<K, Item<K>>;
+
+    fn is_ordered() -> bool {
+        false
+    }
 
     fn empty(alloc: Global) -> HashMap<K, Item<K>> {
         HashMap::new(alloc)
@@ -163,12 +242,40 @@ impl<K: BenchKey> Subject for HashMap<K, Item<K>> {
     fn copied(&self) -> usize {
         self.clone().map_or(0, |copy| copy.len())
     }
+
+    fn raised(mut self) -> HashMap<K, Item<K>> {
+        for item in self.values_mut() {
+            item.value = item.value.wrapping_add(1);
+        }
+        self
+    }
+
+    fn move_out(map: HashMap<K, Item<K>>, loads: &mut Vec<(K, Item<K>)>) -> Result<(), AllocError> {
+        for load in map {
+            loads.push(load)?;
+        }
+        Ok(())
+    }
+
+    fn pop_first(&mut self) -> Option<u64> {
+        None
+    }
+
+    fn keep_even(&mut self) {
+        self.retain(|_, item| item.value % 2 == 0);
+    }
 }
 
 impl<K: BenchKey> Subject for BTreeMap<K, Item<K>> {
     type Key = K;
 
     type Load = (K, Item<K>);
+
+    type Written = BTreeMap<K, Item<K>>;
+
+    fn is_ordered() -> bool {
+        true
+    }
 
     fn empty(alloc: Global) -> BTreeMap<K, Item<K>> {
         BTreeMap::new(alloc)
@@ -204,5 +311,30 @@ impl<K: BenchKey> Subject for BTreeMap<K, Item<K>> {
 
     fn copied(&self) -> usize {
         self.clone().map_or(0, |copy| copy.len())
+    }
+
+    fn raised(mut self) -> BTreeMap<K, Item<K>> {
+        for item in self.values_mut() {
+            item.value = item.value.wrapping_add(1);
+        }
+        self
+    }
+
+    fn move_out(
+        map: BTreeMap<K, Item<K>>,
+        loads: &mut Vec<(K, Item<K>)>,
+    ) -> Result<(), AllocError> {
+        for load in map {
+            loads.push(load)?;
+        }
+        Ok(())
+    }
+
+    fn pop_first(&mut self) -> Option<u64> {
+        Some(self.pop_first()?.1.value)
+    }
+
+    fn keep_even(&mut self) {
+        self.retain(|_, item| item.value % 2 == 0);
     }
 }

@@ -7,6 +7,13 @@ use crate::maps::{Inserted, Ordered, kept_out};
 use iddqd::id_ord_map::Entry;
 use iddqd::{IdOrdItem, IdOrdMap, Steps};
 
+impl<T: IdOrdItem> Ordered<T> {
+    /// `pop_first`.
+    pub fn pop_first(&mut self) -> Option<T> {
+        self.map.pop_first()
+    }
+}
+
 impl Ordered<Coarse> {
     /// `first`.
     pub fn first(&self) -> Option<Coarse> {
@@ -16,11 +23,6 @@ impl Ordered<Coarse> {
     /// `last`.
     pub fn last(&self) -> Option<Coarse> {
         self.map.last().copied()
-    }
-
-    /// `pop_first`.
-    pub fn pop_first(&mut self) -> Option<Coarse> {
-        self.map.pop_first()
     }
 
     /// `pop_last`.

@@ -16,3 +16,9 @@ pub fn is_met(alloc: Global) -> bool {
 pub fn has_leaked(alloc: Global) -> bool {
     Vec::<u8>::with_capacity(alloc, (1 << 49) + 2).is_ok()
 }
+
+/// Lets the heap that counts tell how many bytes are held beyond those when the count began, and how many of them are
+/// in the largest block. No heap grants a block of this size.
+pub fn tell_bytes(alloc: Global) {
+    let _ = Vec::<u8>::with_capacity(alloc, (1 << 49) + 3);
+}
