@@ -9,6 +9,8 @@
      SIZE bytes  refused; it tells how many bytes are held beyond those when the count began, and how many of them are in
                  the largest block that was given out since
 
+   If REFUSE_FROM_START is in the environment, the count begins when the program does, and ends with it.
+
    Without this heap all are refused, so the same test learns that it met no refusal. What happens is written to the file
    descriptor REFUSE_TELLS (of the environment), a line each: 'armed', 'refused', 'ended', 'bytes HELD LARGEST'. Without a
    REFUSE_AT no request is refused. The functions below are the C library's calls by which a program's heap asks for memory
@@ -148,4 +150,12 @@ int posix_memalign(void **block, size alignment, size bytes) {
     int error = next(block, alignment, bytes);
     if (!error) held++;
     return error;
+}
+
+__attribute__((constructor)) static void begin(void) {
+    if (getenv("REFUSE_FROM_START")) arm();
+}
+
+__attribute__((destructor)) static void end(void) {
+    if (getenv("REFUSE_FROM_START")) tell("ended\n", 6);
 }

@@ -51,6 +51,18 @@ pub(crate) struct Item<K> {
     pub(crate) value: u64,
 }
 
+/// What has a value that is even or odd.
+pub(crate) trait Valued {
+    /// Whether the value is even.
+    fn is_even(&self) -> bool;
+}
+
+impl<K> Valued for Item<K> {
+    fn is_even(&self) -> bool {
+        self.value % 2 == 0
+    }
+}
+
 impl<K: Ord> IdOrdItem for Item<K> {
     type Key = K;
 

@@ -1,8 +1,9 @@
 //! The maps that are timed, under one trait: this library's, and std's with each key beside its item.
-use crate::items::{BenchKey, Item, item_of};
+use crate::items::{BenchKey, Item, Valued, item_of};
 use iddqd::{IdHashMap, IdOrdMap};
 use std::alloc::{AllocError, Global};
 use std::collections::{BTreeMap, HashMap};
+use std::hash::Hash;
 use test_support::maps::{AskedByKey, Hashed, Ordered};
 use test_support::walks::Walked;
 
@@ -123,7 +124,7 @@ impl<K: BenchKey> Subject for Hashed<Item<K>> {
     }
 
     fn keep_even(&mut self) {
-        self.retain(|item| item.value % 2 == 0);
+        self.retain(|item| item.is_even());
     }
 }
 
@@ -192,8 +193,19 @@ impl<K: BenchKey> Subject for Ordered<Item<K>> {
     }
 
     fn keep_even(&mut self) {
-        self.retain(|item| item.value % 2 == 0);
+        self.retain(|item| item.is_even());
     }
+}
+
+// Keeps the items whose value is even. It is generic in what the map holds, since the borrow checker does not cover a
+// closure over items that name the key's type.
+fn keep_even_hashed<K: Eq + Hash + Drop, V: Valued + Drop>(map: &mut HashMap<K, V>) {
+    map.retain(|_, item| item.is_even());
+}
+
+// The same of a sorted map.
+fn keep_even_sorted<K: Ord + Drop, V: Valued + Drop>(map: &mut BTreeMap<K, V>) {
+    map.retain(|_, item| item.is_even());
 }
 
 impl<K: BenchKey> Subject for HashMap<K, Item<K>> {
@@ -262,7 +274,7 @@ impl<K: BenchKey> Subject for HashMap<K, Item<K>> {
     }
 
     fn keep_even(&mut self) {
-        self.retain(|_, item| item.value % 2 == 0);
+        keep_even_hashed(self);
     }
 }
 
@@ -335,6 +347,6 @@ impl<K: BenchKey> Subject for BTreeMap<K, Item<K>> {
     }
 
     fn keep_even(&mut self) {
-        self.retain(|_, item| item.value % 2 == 0);
+        keep_even_sorted(self);
     }
 }

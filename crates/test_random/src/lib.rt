@@ -8,6 +8,8 @@ mod calls;
 #[cfg(test)]
 mod draws;
 #[cfg(test)]
+mod lengths;
+#[cfg(test)]
 mod many;
 #[cfg(test)]
 mod ordered;

@@ -1,6 +1,7 @@
 //! The runs: lists of calls from fixed seeds. After each call the whole contents and the numbers are compared too, and `validate`.
 use crate::adding::{TakesNew, extend_unique};
 use crate::draws::Draws;
+use crate::lengths::{CALLS, MANY_CALLS, MAPS};
 use crate::plain::Plain;
 use crate::writing::{Written, write_first};
 use crate::{calls, many, ordered};
@@ -270,7 +271,7 @@ fn announced(rt: &impl Print, run: Run) -> Result<Run, Fail> {
 #[test]
 fn ordered_calls(rt: HostRuntime) -> Result<(), Fail> {
     for seed in [11, 12, 13] {
-        let run = announced(&rt, of_seed(seed, 10_000, 3, MAX_ITEMS))?;
+        let run = announced(&rt, of_seed(seed, CALLS, 3, MAX_ITEMS))?;
         run_ordered(&rt, rt.alloc(), run)?;
     }
     Ok(())
@@ -279,7 +280,7 @@ fn ordered_calls(rt: HostRuntime) -> Result<(), Fail> {
 #[test]
 fn ordered_calls_of_many_names(rt: HostRuntime) -> Result<(), Fail> {
     for seed in [21, 22] {
-        let run = announced(&rt, of_seed(seed, 20_000, 7, MAX_ITEMS))?;
+        let run = announced(&rt, of_seed(seed, MANY_CALLS, 7, MAX_ITEMS))?;
         run_ordered(&rt, rt.alloc(), run)?;
     }
     Ok(())
@@ -288,7 +289,7 @@ fn ordered_calls_of_many_names(rt: HostRuntime) -> Result<(), Fail> {
 #[test]
 fn ordered_calls_at_the_limit(rt: HostRuntime) -> Result<(), Fail> {
     for seed in [31, 32] {
-        let run = announced(&rt, of_seed(seed, 10_000, 3, 14))?;
+        let run = announced(&rt, of_seed(seed, CALLS, 3, 14))?;
         run_ordered(&rt, rt.alloc(), run)?;
     }
     Ok(())
@@ -297,7 +298,7 @@ fn ordered_calls_at_the_limit(rt: HostRuntime) -> Result<(), Fail> {
 #[test]
 fn hash_calls(rt: HostRuntime) -> Result<(), Fail> {
     for seed in [41, 42] {
-        let run = announced(&rt, of_seed(seed, 20_000, 7, MAX_ITEMS))?;
+        let run = announced(&rt, of_seed(seed, MANY_CALLS, 7, MAX_ITEMS))?;
         run_default(&rt, rt.alloc(), run, by_hash(rt.alloc()))?;
     }
     Ok(())
@@ -306,7 +307,7 @@ fn hash_calls(rt: HostRuntime) -> Result<(), Fail> {
 #[test]
 fn hash_calls_at_the_limit(rt: HostRuntime) -> Result<(), Fail> {
     for seed in [51, 52] {
-        let run = announced(&rt, of_seed(seed, 10_000, 3, 14))?;
+        let run = announced(&rt, of_seed(seed, CALLS, 3, 14))?;
         let hasher = iddqd::DefaultHashBuilder::new();
         let map = Hashed::new(IdHashMap::with_limit(rt.alloc(), 14, hasher));
         run_default(&rt, rt.alloc(), run, map)?;
@@ -317,7 +318,7 @@ fn hash_calls_at_the_limit(rt: HostRuntime) -> Result<(), Fail> {
 #[test]
 fn calls_of_equal_hashes(rt: HostRuntime) -> Result<(), Fail> {
     for seed in [61, 62, 63] {
-        let run = announced(&rt, of_seed(seed, 10_000, 3, MAX_ITEMS))?;
+        let run = announced(&rt, of_seed(seed, CALLS, 3, MAX_ITEMS))?;
         let hasher: BuildHasherDefault<ZeroHasher> = BuildHasherDefault::new();
         let map = Hashed::new(IdHashMap::with_hasher(rt.alloc(), hasher));
         run_hashed(&rt, rt.alloc(), run, map)?;
@@ -328,7 +329,7 @@ fn calls_of_equal_hashes(rt: HostRuntime) -> Result<(), Fail> {
 #[test]
 fn calls_of_random_hashes(rt: HostRuntime) -> Result<(), Fail> {
     for seed in [71, 72] {
-        let run = announced(&rt, of_seed(seed, 10_000, 7, MAX_ITEMS))?;
+        let run = announced(&rt, of_seed(seed, CALLS, 7, MAX_ITEMS))?;
         let map = Hashed::new(IdHashMap::with_hasher(rt.alloc(), RandomState::new(&rt)?));
         run_hashed(&rt, rt.alloc(), run, map)?;
     }
@@ -344,7 +345,7 @@ fn make_many<
         + Drop,
 >(rt: &impl Abort, alloc: Global, seed: u64) -> Result<(), AllocError> {
     let mut draws = Draws::new(seed, 3);
-    for number in 0..2_000 {
+    for number in 0..MAPS {
         let collected = many::collect::<M>(alloc, &mut draws)?;
         assert!(rt; collected, "seed {seed}: from_iter, map {number}");
         let unique = many::collect_unique::<M>(alloc, &mut draws)?;
