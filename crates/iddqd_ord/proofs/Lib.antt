@@ -4,4 +4,5 @@ mod EndLemmas
 mod EntryLemmas
 pub mod GetMutLemmas
 pub mod StoreAndIndexLemmas
+mod TakenOutLemmas
 mod WalkLemmas

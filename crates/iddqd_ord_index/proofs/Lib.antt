@@ -14,6 +14,7 @@ pub mod IndexLemmas
 pub mod LeafLemmas
 pub mod ListedLemmas
 pub mod RebalanceLemmas
+pub mod RemoveByLemmas
 pub mod OrderLemmas
 pub mod PackedLemmas
 pub mod PairLemmas

@@ -1,14 +1,19 @@
 -- A node of which a branch lost a slot.
-use Rattle.std.proofs.Common.{◌≡◌, ℕ, suc, ◌+◌, ◌-◌, ◌<◌, ◌≤◌, Bool, true, false, List, [], ◌∷◌, ◌++◌, length, take, drop, set, get_or, refl, ap, sym, ◌∙◌, inl, inr, subst, arith, append_assoc, length-set, min, ltb}
+use Rattle.std.proofs.Common.{◌≡◌, ℕ, suc, ◌+◌, ◌-◌, ◌<◌, ◌≤◌, Bool, true, false, List, [], ◌∷◌, ◌++◌, length, take, drop, set, get_or, refl, ap, sym, ◌∙◌, inl, inr, subst, arith, append_assoc, length-set, min, ltb, Some, None, Box, Global}
 use Rattle.std.specs.Bool.{if◌then◌else◌}
 use Rattle.std.specs.List.{remove}
 use Rattle.std.proofs.lemmas.Bool.{cases_lt, ltb-false}
 use Rattle.std.proofs.lemmas.List.{append-nil, take-append-drop, drop_all, drop_more, take-set, drop-set-lt, get_or-set_same, get_or-set_other, length-take-le, map-set}
-use Rattle.std.proofs.lemmas.List.Edits.{remove-append_left, remove-append_right}
+use Rattle.std.proofs.lemmas.List.Edits.{length-remove, remove-append_left, remove-append_right}
 use Rattle.iddqd_ord_index.specs.Changes.{Stock}
 use Rattle.iddqd_ord_index.specs.Neighbours.{IsNear, IsShort, given_back}
-use Rattle.iddqd_ord_index.specs.Shape.{Subtree, behind, in_order, starts, lists, levels, unused, IsBranchAt, IsForked, IsBranch, IsDense}
+use Rattle.iddqd_ord_index.specs.Nodes.{below, AreBranches}
+use Rattle.iddqd_ord_index.specs.Shape.{Subtree, behind, in_order, starts, lists, levels, tree, unused, IsBranchAt, IsForked, IsBranch, IsDense}
+use Rattle.iddqd_ord_index.specs.declared.tree.node.Branches.{Branches}
+use Rattle.iddqd_ord_index.specs.declared.tree.node.Node.{Node}
+use Rattle.iddqd_ord_index.proofs.BelowLemmas.{branches_put}
 use Rattle.iddqd_ord_index.proofs.BranchAtLemmas.{branch_at_in, branch_at_list, branch_at_fork, branch_is}
+use Rattle.iddqd_ord_index.proofs.DenseLemmas.{branch_some}
 use Rattle.iddqd_ord_index.proofs.EditLemmas.{levels_set}
 use Rattle.iddqd_ord_index.proofs.InOrderLemmas.{pairs, length-pairs, in_order_cut, read_branch, read_own, own_within}
 
@@ -139,6 +144,35 @@ module _ (ts : List Subtree) (ss ss' : List ℕ) (at i rest taken slot : ℕ) (n
         list = ap (λ l. in_order l ss') (map-set (λ t. t.slots) ts i new) ∙ r.0;
         value = r.1;
       }
+
+-- a branch has a slot
+pub some_below : (ts : List Subtree) (ss : List ℕ) (at i rest : ℕ) → IsForked ts ss → IsBranchAt (lists ts) at i rest → 0 < length (get_or ts i unused).slots
+some_below ts ss at i rest f branch_at = branch_some (levels ts) (get_or ts i unused) (branch_is ts ss f i (branch_at_in ts ss at i rest f branch_at))
+
+-- the branch put back, with all that is known of it then
+pub put_shrunk : (old new : Branches) (ss ss' : List ℕ) (at i rest count taken slot least : ℕ) (b : Box Node Global) (before self : Subtree)
+    → AreBranches old → IsForked (below old) ss → IsBranchAt (lists (below old)) at i rest → before ≡ get_or (below old) i unused → count ≡ length (get_or (below old) i unused).slots
+    → (1 < self.height → 0 < self.width) → at < length self.slots → least ≡ min rest (count - 1)
+    → taken ≡ get_or before.slots least 0 → b.value.slots ≡ remove before.slots least → b.value.height ≡ before.height → before.width ≤ b.value.width + 1 → IsDense b.value
+    → (rest < count → (slot ≡ taken) × (ss' ≡ ss)) → (rest ≡ count → (slot ≡ get_or ss i 0) × (ss' ≡ set ss i taken)) → length ss' ≡ length ss
+    → new.nodes ≡ set (set old.nodes i None) i (Some b) → new.counts.items ≡ set old.counts.items i (count - 1) → tree (below old) ss ≡ self
+    → AreBranches new × IsShrunk (below old) (below new) ss' i self.slots (remove self.slots at) slot at × ((get_or (below new) i unused).width ≡ b.value.width)
+put_shrunk old new ss ss' at i rest count taken slot least b before self a f branch_at v c some lt m t n h w d bel own same nodes counts view =
+    let ts = below old in
+    let p = branch_at_in ts ss at i rest f branch_at in
+    let k = branch_is ts ss f i p in
+    let full = some_below ts ss at i rest f branch_at in
+    let e : least ≡ min rest (length (get_or ts i unused).slots - 1) = m ∙ ap (λ n. min rest (n - 1)) c in
+    let t' : taken ≡ get_or (get_or ts i unused).slots (min rest (length (get_or ts i unused).slots - 1)) 0 = t ∙ (ap (λ t. get_or t.slots least 0) v ∙ ap (λ j. get_or (get_or ts i unused).slots j 0) e) in
+    let n' : b.value.slots ≡ remove (get_or ts i unused).slots (min rest (length (get_or ts i unused).slots - 1)) = n ∙ (ap (λ t. remove t.slots least) v ∙ ap (λ j. remove (get_or ts i unused).slots j) e) in
+    let z = ap (λ t. t.width) v in
+    let r = shrunk ts ss ss' at i rest taken slot b.value f branch_at (omega (arith, some (omega (arith, k.height, k.dense.low, ap (λ t. t.height) view)), ap (λ t. t.width) view)) same (omega (arith, ap (λ t. length t.slots) view))
+    (h ∙ ap (λ t. t.height) v) (omega arith) d full t' n' (λ x. bel (omega arith)) (λ x. own (omega arith)) in
+    let q = branches_put old new i (count - 1) b a p nodes counts (omega (arith, ap length n', length-remove (get_or ts i unused).slots (min rest (length (get_or ts i unused).slots - 1)) (omega arith))) in (
+      q.0,
+      subst (λ x. IsShrunk ts (below new) ss' i x.slots (remove x.slots at) slot at) view (subst (λ us. IsShrunk ts us ss' i (in_order (lists ts) ss) (remove (in_order (lists ts) ss) at) slot at) (sym q.1) r),
+      ap (λ us. (get_or us i unused).width) q.1 ∙ ap (λ x. x.width) (get_or-set_same ts i b.value unused p),
+    )
 
 -- what a node given back does to the unused ones
 pub given_more : (s : Stock) → (s.count ≤ (given_back s).count) × ((given_back s).wanted ≡ s.wanted) × ((given_back s).room ≡ s.room)

@@ -41,8 +41,8 @@ IsReplaced ss i slot old ts = (old ≡ slice_index ss i) × (ts ≡ slice_set ss
 abbrev pub IsSameOrOneLess : ℕ → ℕ → Type 0
 IsSameOrOneLess new old = (new ≤ old) × (old ≤ new + 1)
 
-abbrev pub IsShorter : List ℕ → List ℕ → Type 0
-IsShorter new old = length new < length old
+abbrev pub IsShorter : ArrayVec ℕ → ArrayVec ℕ → Type 0
+IsShorter new old = length new.items < length old.items
 
 -- unused nodes, each a leaf without slots
 abbrev pub AreUnused : List (Box Node Global) → Type 0

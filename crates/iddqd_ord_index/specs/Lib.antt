@@ -5,7 +5,9 @@ pub mod Falls
 pub mod IndexParts
 pub mod Listed
 pub mod Neighbours
+pub mod NodeRemoval
 pub mod Nodes
+pub mod Removal
 pub mod Runs
 pub mod Search
 pub mod Shape

@@ -46,6 +46,10 @@ slots_with bs ss i middle upper = in_order (insert (lists (below bs)) (i + 1) up
 abbrev pub slots_with_pair : Branches → ArrayVec ℕ → ℕ → Subtree → Subtree → List ℕ
 slots_with_pair bs ss j lower upper = in_order (insert (insert (lists (below bs)) j upper.slots) j lower.slots) ss.items
 
+-- two branches were put in at place j, or what they are once they are rebalanced
+abbrev pub InsertsPair : ℕ → Box Node Global → Box Node Global → Branches → ArrayVec ℕ → Branches → ArrayVec ℕ → Type 0
+InsertsPair j lower upper bs ss cs ts = slots_of cs ts ≡ slots_with_pair bs ss j lower.value upper.value
+
 -- the branches with one more behind the i-th
 abbrev pub below_with : Branches → ℕ → Subtree → List Subtree
 below_with bs i t = insert (below bs) (i + 1) t

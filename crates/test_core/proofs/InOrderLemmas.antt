@@ -1,12 +1,13 @@
 -- An index and a store stay in order as slots come and go.
-use Rattle.std.proofs.Common.{◌≡◌, ◌≢◌, ℕ, suc, ◌-◌, List, [], ◌++◌, length, map, take, set, Some, None, Err, Ok, is_some, sym, ap, ◌∙◌, subst, arith, true≢false}
+use Rattle.std.proofs.Common.{◌≡◌, ◌≢◌, ℕ, suc, ◌-◌, List, [], ◌++◌, length, map, take, set, Option, Some, None, Err, Ok, is_some, sym, ap, ◌∙◌, subst, arith, true≢false}
 use Rattle.std.proofs.lemmas.List.{append-nil, drop_all, length-map}
 use Rattle.std.proofs.lemmas.List.Elements.{All-append, All-take, All-drop, All-set}
 use Rattle.std.specs.List.{All, Contains, insert, remove}
 use Rattle.std.specs.List.Sorted.{IsStrictlySortedBy}
 use Rattle.std.specs.declared.cmp.Ordering.{Ordering}
 use Rattle.std.specs.Cmp.{IsTotalOrder}
-use Rattle.iddqd_ord_index.specs.Listed.{listed_items, AreOccupied}
+use Rattle.iddqd_ord_index.specs.Listed.{SlotList, listed_items, AreOccupied}
+use Rattle.iddqd_ord_index.specs.Removal.{RemovesSlot}
 use Rattle.iddqd_ord_index.specs.Search.{IsPlaceAmong}
 use Rattle.iddqd_store.specs.Contents.{Ascends}
 use Rattle.iddqd_store.specs.Store.{Store, item_at, IsOccupied, Updates}
@@ -48,6 +49,11 @@ module _ {T K : Type 0} (key : T → K) (cmp : K → K → Ordering) where
         occupied = All-append (IsOccupied store) (take i slots) _ (All-take (IsOccupied store) i slots o.occupied) (All-drop (IsOccupied store) (suc i) slots o.occupied);
         ascending = subst (Ascends key cmp) (sym (listed-remove store slots o.occupied i)) (ascends_remove key cmp (listed_items store slots) i o.ascending);
       }
+
+  -- a removal by key leaves the list as it was, or without a slot
+  pub in_order_removed_by : (compare : K → Ordering) (store : Store T) (old : SlotList) (slot : Option ℕ) (new : SlotList) → InOrder key cmp store old.slots → RemovesSlot key compare store old slot new → InOrder key cmp store new.slots
+  in_order_removed_by compare store old None new o r = subst (InOrder key cmp store) (sym (ap (λ i. i.slots) r.1)) o
+  in_order_removed_by compare store old (Some slot) new o r = subst (InOrder key cmp store) (sym (ap (λ i. i.slots) r.3)) (in_order_removed store old.slots r.0 o)
 
   pub in_order_last : (store : Store T) (slots : List ℕ) → InOrder key cmp store slots → InOrder key cmp store (take (length slots - 1) slots)
   in_order_last store slots o =

@@ -80,7 +80,13 @@ impl Coins {
         self.year_of(Some(slot))
     }
 
-    // The same of the place.
+    // The year that `remove_by` took out.
+    fn take_by(&mut self, year: u32) -> Option<u32> {
+        let slot = self.index.remove_by(&self.store, &year, &mut Steps::new());
+        self.year_of(slot)
+    }
+
+    // The year that `remove` took out at the place.
     fn take_at(&mut self, at: usize) -> Option<u32> {
         if at >= self.index.len() as usize {
             return None;
@@ -262,8 +268,14 @@ fn exchange(
         let year = n * step % 1009;
         let at = place_in(years.as_slice(), year);
         if years.as_slice().get(at) == Some(&year) {
-            check(rt, coins.take(year) == Some(years.remove(at)));
+            let taken = if n % 2 == 0 {
+                coins.take(year)
+            } else {
+                coins.take_by(year)
+            };
+            check(rt, taken == Some(years.remove(at)));
         } else {
+            check(rt, coins.take_by(year).is_none());
             check(rt, coins.put(year) && !coins.put(year));
             years.insert(at, year)?;
         }
@@ -374,6 +386,8 @@ fn coins_read_in_turn(rt: HostRuntime) -> Result<(), Fail> {
     read_in_turn(&rt, &mut coins, years.as_slice());
     check(&rt, coins.year_in_turn(0) == Some(2) && coins.put(0));
     check(&rt, coins.year_in_turn(0) == Some(0));
+    check(&rt, coins.take_by(0) == Some(0));
+    check(&rt, coins.year_in_turn(0) == Some(2));
     coins.clear();
     read_in_turn(&rt, &mut coins, &[]);
     Ok(())

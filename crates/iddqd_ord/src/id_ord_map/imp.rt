@@ -5,7 +5,6 @@ ghost use Rattle.iddqd_ord_index.specs.Digits.{digits};
 ghost use Rattle.iddqd_store.specs.Holding.{Removes};
 
 use super::IdOrdMap;
-use super::store_and_index::take_out;
 use iddqd_ord_index::Place;
 use iddqd_store::{Comparable, IdOrdItem, Steps};
 
@@ -80,9 +79,7 @@ impl<T: IdOrdItem> IdOrdMap<T> {
         ensures steps { steps.new ≤ steps.old + 4 + 2 * digits (length self.old.items) }
         ensures never_resets { steps.old ≤ steps.new }
     {
-        match self.index.find(&self.store, query, steps) {
-            Ok(place) => Some(take_out(&mut self.store, &mut self.index, place)),
-            Err(_) => None,
-        }
+        let slot = self.index.remove_by(&self.store, query, steps)?;
+        Some(self.store.remove(slot))
     }
 }

@@ -1,10 +1,9 @@
 //! Lookups: what looks at the keys of items.
 ghost use Rattle.std.specs.Prelude.{◌≡◌, ◌+◌, ◌*◌, ◌<◌, ◌≤◌, length, IfSome, Contains};
-ghost use Rattle.std.specs.Ordering.{is_lt};
 ghost use Rattle.iddqd_store.specs.Contents.{Ascends};
 ghost use Rattle.iddqd_ord_index.specs.Digits.{digits};
-ghost use Rattle.iddqd_ord_index.specs.Listed.{listed_items, listed_keys, AreOccupied};
-ghost use Rattle.iddqd_ord_index.specs.Search.{FindsSlot, IsPlaceAmong, IsPlaceIn};
+ghost use Rattle.iddqd_ord_index.specs.Listed.{listed_items, AreOccupied};
+ghost use Rattle.iddqd_ord_index.specs.Search.{FindsNext, FindsPlace, FindsSlot, IsPlaceIn};
 
 use super::{OrdIndex, Place};
 use iddqd_store::{Comparable, IdOrdItem, ItemStore, Steps};
@@ -22,7 +21,7 @@ impl OrdIndex {
         requires ascending { Ascends T.key T.Key.cmp (listed_items store.now self.now.slots) }
 
         // what it finds
-        ensures place { IsPlaceAmong (Q.compare query.now) (listed_keys T.key store.now self.now.slots) result }
+        ensures place { FindsPlace T.key (Q.compare query.now) store.now self.now.slots result }
         ensures in_list { IsPlaceIn self.now.slots result }
 
         // what it costs
@@ -68,7 +67,7 @@ impl OrdIndex {
         requires ascending { Ascends T.key T.Key.cmp (listed_items store.now self.now.slots) }
 
         // what it finds
-        ensures item { FindsSlot T.key (λ k. is_lt (Q.compare query.now k)) store.now self.now.slots result }
+        ensures item { FindsNext T.key (Q.compare query.now) store.now self.now.slots result }
         ensures slot { IfSome result (Contains self.now.slots) }
 
         // what it costs

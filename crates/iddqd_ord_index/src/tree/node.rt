@@ -11,6 +11,7 @@ mod insert;
 mod pair;
 mod places;
 mod remove;
+mod remove_by;
 mod walk;
 
 use arrayvec::ArrayVec;

@@ -1,10 +1,14 @@
 //! The root of a tree: it rises a level if it is split, and falls one if it has no slot of its own.
-ghost use Rattle.std.specs.Prelude.{◌≡◌, ◌+◌, ◌^◌, ◌<◌, ◌≤◌, length, insert, remove, slice_index};
+ghost use Rattle.std.specs.Prelude.{◌≡◌, ◌+◌, ◌*◌, ◌^◌, ◌<◌, ◌≤◌, length, insert, remove, slice_index};
 ghost use Rattle.iddqd_ord_index.specs.Changes.{WantsFor};
+ghost use Rattle.iddqd_ord_index.specs.Listed.{AreOccupied};
+ghost use Rattle.iddqd_ord_index.specs.NodeRemoval.{LosesEqual};
 ghost use Rattle.iddqd_ord_index.specs.Shape.{IsDense, most_levels};
+ghost use Rattle.iddqd_ord_index.specs.Standing.{StandsMonotone};
 
 use super::node::Node;
 use super::pool::NodePool;
+use iddqd_store::{Comparable, IdOrdItem, ItemStore, Steps};
 use std::mem;
 
 // Inserts a slot at the position, and returns how many levels there are then.
@@ -66,11 +70,68 @@ pub(crate) fn remove(root: &mut Node, levels: usize, at: u32, pool: &mut NodePoo
     ensures fallen { result.1 < levels → pool.new.wanted ≤ pool.new.count }
 {
     let slot = root.remove(at, pool);
+    (slot, fall(root, levels, pool))
+}
+
+// Removes the slot that the query equals, and returns it with the number of levels. If there is none, it returns
+// `None`, and the root is as it was.
+pub(crate) fn remove_by<T: IdOrdItem, Q: Comparable<T::Key>>(
+    root: &mut Node,
+    levels: usize,
+    store: &ItemStore<T>,
+    query: &Q,
+    pool: &mut NodePool,
+    steps: &mut Steps,
+) -> (Option<u32>, usize)
+    requires occupied { AreOccupied store.now root.old.slots }
+    requires monotone { StandsMonotone T.key (Q.compare query.now) store.now root.old.slots }
+    requires levels { levels ≡ root.old.height }
+    requires room { length root.old.slots < 2 ^ 32 }
+    requires top { 1 < root.old.height → 1 ≤ root.old.width }
+    requires wanted { 1 < levels → WantsFor levels pool.old }
+
+    // the tree
+    ensures slots { LosesEqual T.key (Q.compare query.now) store.now root.old result.0 root.new }
+    ensures levels { result.1 ≡ root.new.height }
+    ensures top { 1 < root.new.height → 1 ≤ root.new.width }
+
+    // the nodes
+    ensures dense { IsDense root.new }
+    ensures wanted { 1 < result.1 → WantsFor result.1 pool.new }
+    ensures kept { pool.old.count ≤ pool.new.count }
+    ensures fallen { result.1 < levels → pool.new.wanted ≤ pool.new.count }
+
+    // what it costs
+    ensures steps { steps.new ≤ steps.old + 4 * root.old.height }
+    ensures never_resets { steps.old ≤ steps.new }
+{
+    let slot = root.remove_by(store, query, pool, steps);
+    (slot, fall(root, levels, pool))
+}
+
+// Lets the root fall a level if it has lost its last slot of its own, and returns the number of levels.
+fn fall(root: &mut Node, levels: usize, pool: &mut NodePool) -> usize
+    requires levels { levels ≡ root.old.height }
+    requires dense { IsDense root.old }
+    requires wanted { 1 < levels → WantsFor levels pool.old }
+    requires given { 1 < levels → root.old.width ≡ 0 → levels ≤ pool.old.count + 1 }
+
+    // the tree
+    ensures slots { root.new.slots ≡ root.old.slots }
+    ensures levels { result ≡ root.new.height }
+    ensures top { 1 < root.new.height → 1 ≤ root.new.width }
+
+    // the nodes
+    ensures dense { IsDense root.new }
+    ensures wanted { 1 < result → WantsFor result pool.new }
+    ensures kept { pool.old.count ≤ pool.new.count }
+    ensures fallen { result < levels → pool.new.wanted ≤ pool.new.count }
+{
     if levels == 1 || root.width() > 0 {
-        return (slot, levels);
+        return levels;
     }
     let node = root.collapse();
     pool.want(levels);
     pool.give_back(node);
-    (slot, levels - 1)
+    levels - 1
 }

@@ -2,7 +2,7 @@
 ghost use Rattle.std.specs.Prelude.{◌≡◌, ◌+◌, ◌-◌, ◌^◌, ◌<◌, ◌≤◌, All, min, length, insert, remove, slice_index, slice_set, slice_index_or};
 ghost use Rattle.iddqd_ord_index.specs.Changes.{GivesBack, IsReplaced, IsSameOrOneLess, IsShorter};
 ghost use Rattle.iddqd_ord_index.specs.Neighbours.{given_back, IsPair, IsNear};
-ghost use Rattle.iddqd_ord_index.specs.Nodes.{below, slots_of, slots_with_pair, AreBranches};
+ghost use Rattle.iddqd_ord_index.specs.Nodes.{below, slots_of, AreBranches, InsertsPair};
 ghost use Rattle.iddqd_ord_index.specs.Shape.{levels, lists, starts, unused, in_order, IsBranch, IsDense, IsForked};
 
 use super::below::replace;
@@ -36,12 +36,12 @@ fn rebalance_at(
     ensures levels { levels (below branches.new) ≡ lower.value.height + 1 }
 
     // the slots
-    ensures slots { slots_of branches.new slots.new ≡ slots_with_pair branches.old slots.old j lower.value upper.value }
+    ensures slots { InsertsPair j lower upper branches.old slots.old branches.new slots.new }
     ensures width { IsSameOrOneLess (length slots.new.items) (length slots.old.items) }
 
     // the unused nodes
     ensures kept { length slots.new.items ≡ length slots.old.items → pool.new ≡ pool.old }
-    ensures gives_back { IsShorter slots.new.items slots.old.items → pool.new ≡ given_back pool.old }
+    ensures gives_back { IsShorter slots.new slots.old → pool.new ≡ given_back pool.old }
 {
     let middle = slots.as_slice()[j];
     match lower.rebalance(middle, &mut upper) {
@@ -60,7 +60,7 @@ fn rebalance_at(
 }
 
 // Rebalances the i-th branch, whose node has this many slots of its own, if it is one short.
-fn rebalance(
+pub(super) fn rebalance(
     slots: &mut ArrayVec<u32, 11>,
     branches: &mut Branches,
     i: usize,
@@ -83,8 +83,8 @@ fn rebalance(
 
     // the unused nodes
     ensures kept { length slots.new.items ≡ length slots.old.items → pool.new ≡ pool.old }
-    ensures gives_back { IsShorter slots.new.items slots.old.items → pool.new ≡ given_back pool.old }
-    ensures short { IsShorter slots.new.items slots.old.items → width < 5 }
+    ensures gives_back { IsShorter slots.new slots.old → pool.new ≡ given_back pool.old }
+    ensures short { IsShorter slots.new slots.old → width < 5 }
 {
     if width >= 5 {
         return;

@@ -1,6 +1,5 @@
 use Rattle.std.proofs.Common.{◌∙◌, ◌≡◌, Some, sym, subst, ap, arith, length, slice_get}
 use Rattle.iddqd_store.specs.SlotItems.{HaveSlots}
-use Rattle.iddqd_ord.specs.StoreAndIndex.{ListsOccupied}
 use Rattle.iddqd_ord.proofs.GetMutLemmas.{slot_is_at}
 use Rattle.iddqd_ord.proofs.StoreAndIndexLemmas.{have_slots}
 use Rattle.iddqd_ord.proofs.id_ord_map.IdOrdMap.slot_at_position.Goals as goal

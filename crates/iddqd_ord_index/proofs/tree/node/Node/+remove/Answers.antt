@@ -1,17 +1,14 @@
-use Rattle.std.proofs.Common.{◌≡◌, ◌+◌, ◌-◌, ◌<◌, ◌≤◌, Some, None, ℕ, List, Box, Global, length, set, get_or, subst, ap, sym, ◌∙◌, arith, min}
+use Rattle.std.proofs.Common.{ℕ, ◌≡◌, ◌+◌, ◌-◌, ◌<◌, Some, length, set, get_or, ap, sym, ◌∙◌, arith}
 use Rattle.std.proofs.lemmas.Grind.{common_steps}
 use Rattle.std.specs.Box.{with_value}
 use Rattle.std.specs.List.{remove}
-use Rattle.std.proofs.lemmas.List.{get_or-set_same}
 use Rattle.std.proofs.lemmas.List.Edits.{length-remove}
-use Rattle.iddqd_ord_index.specs.Nodes.{below, AreBranches}
-use Rattle.iddqd_ord_index.specs.Shape.{Subtree, lists, in_order, tree, levels, unused, IsBranchAt, IsForked, IsDense}
-use Rattle.iddqd_ord_index.specs.declared.tree.node.Branches.{Branches}
-use Rattle.iddqd_ord_index.specs.declared.tree.node.Node.{Node}
+use Rattle.iddqd_ord_index.specs.Nodes.{below}
+use Rattle.iddqd_ord_index.specs.Shape.{lists, in_order, unused}
 use Rattle.iddqd_ord_index.proofs.BranchAtLemmas.{starts_is, own_read, branch_is, branch_within, branch_at_in}
-use Rattle.iddqd_ord_index.proofs.BelowLemmas.{branches_put, length-lists}
-use Rattle.iddqd_ord_index.proofs.DenseLemmas.{dense_of, branch_some}
-use Rattle.iddqd_ord_index.proofs.RemoveLemmas.{IsShrunk, shrunk, given_or_kept, one_more_back}
+use Rattle.iddqd_ord_index.proofs.BelowLemmas.{length-lists}
+use Rattle.iddqd_ord_index.proofs.DenseLemmas.{dense_of}
+use Rattle.iddqd_ord_index.proofs.RemoveLemmas.{IsShrunk, some_below, put_shrunk, given_or_kept, one_more_back}
 use Rattle.iddqd_ord_index.proofs.InOrderLemmas.{starts_in_order}
 use Rattle.iddqd_ord_index.proofs.tree.node.Node.+remove.Goals as goal
 
@@ -19,10 +16,6 @@ pub branch_at-i-requires-clause-reached : goal.branch_at-i-requires-clause-reach
 branch_at-i-requires-clause-reached t c =
     let s = starts_is (below c.self.inside.branches) c.self.inside.slots.items c.self.invariant.forked (c.is_empty.ensures.some c.if-is_empty.false) in
     omega (arith, ap (λ t. length t.slots) c.self.view_is, c.requires.place)
-
--- a branch has a slot
-some_below : (ts : List Subtree) (ss : List ℕ) (at i rest : ℕ) → IsForked ts ss → IsBranchAt (lists ts) at i rest → 0 < length (get_or ts i unused).slots
-some_below ts ss at i rest f branch_at = branch_some (levels ts) (get_or ts i unused) (branch_is ts ss f i (branch_at_in ts ss at i rest f branch_at))
 
 pub overflow_sub-len : goal.overflow_sub-len
 overflow_sub-len t c =
@@ -58,94 +51,39 @@ replace_own-slot-requires-clause-own t c = λ e. (
     let o = own_read (below c.self.inside.branches) c.self.inside.slots.items c.args.at c.branch_at-i.result.0 c.branch_at-i.result.1 c.self.invariant.forked c.branch_at-i.ensures (e ∙ c.count-len.ensures) w in
     o.0)
 
--- the branch put back, with all that is known of it then
-put_shrunk : (old new : Branches) (ss ss' : List ℕ) (at i rest count taken slot least : ℕ) (b : Box Node Global) (before self : Subtree)
-    → AreBranches old → IsForked (below old) ss → IsBranchAt (lists (below old)) at i rest → before ≡ get_or (below old) i unused → count ≡ length (get_or (below old) i unused).slots
-    → (1 < self.height → 0 < self.width) → at < length self.slots → least ≡ min rest (count - 1)
-    → taken ≡ get_or before.slots least 0 → b.value.slots ≡ remove before.slots least → b.value.height ≡ before.height → before.width ≤ b.value.width + 1 → IsDense b.value
-    → (rest < count → (slot ≡ taken) × (ss' ≡ ss)) → (rest ≡ count → (slot ≡ get_or ss i 0) × (ss' ≡ set ss i taken)) → length ss' ≡ length ss
-    → new.nodes ≡ set (set old.nodes i None) i (Some b) → new.counts.items ≡ set old.counts.items i (count - 1) → tree (below old) ss ≡ self
-    → AreBranches new × IsShrunk (below old) (below new) ss' i self.slots (remove self.slots at) slot at × ((get_or (below new) i unused).width ≡ b.value.width)
-put_shrunk old new ss ss' at i rest count taken slot least b before self a f branch_at v c some lt m t n h w d bel own same nodes counts view =
-    let ts = below old in
-    let p = branch_at_in ts ss at i rest f branch_at in
-    let k = branch_is ts ss f i p in
-    let full = some_below ts ss at i rest f branch_at in
-    let e : least ≡ min rest (length (get_or ts i unused).slots - 1) = m ∙ ap (λ n. min rest (n - 1)) c in
-    let t' : taken ≡ get_or (get_or ts i unused).slots (min rest (length (get_or ts i unused).slots - 1)) 0 = t ∙ (ap (λ t. get_or t.slots least 0) v ∙ ap (λ j. get_or (get_or ts i unused).slots j 0) e) in
-    let n' : b.value.slots ≡ remove (get_or ts i unused).slots (min rest (length (get_or ts i unused).slots - 1)) = n ∙ (ap (λ t. remove t.slots least) v ∙ ap (λ j. remove (get_or ts i unused).slots j) e) in
-    let z = ap (λ t. t.width) v in
-    let r = shrunk ts ss ss' at i rest taken slot b.value f branch_at (omega (arith, some (omega (arith, k.height, k.dense.low, ap (λ t. t.height) view)), ap (λ t. t.width) view)) same (omega (arith, ap (λ t. length t.slots) view))
-    (h ∙ ap (λ t. t.height) v) (omega arith) d full t' n' (λ x. bel (omega arith)) (λ x. own (omega arith)) in
-    let q = branches_put old new i (count - 1) b a p nodes counts (omega (arith, ap length n', length-remove (get_or ts i unused).slots (min rest (length (get_or ts i unused).slots - 1)) (omega arith))) in (
-      q.0,
-      subst (λ x. IsShrunk ts (below new) ss' i x.slots (remove x.slots at) slot at) view (subst (λ us. IsShrunk ts us ss' i (in_order (lists ts) ss) (remove (in_order (lists ts) ss) at) slot at) (sym q.1) r),
-      ap (λ us. (get_or us i unused).width) q.1 ∙ ap (λ x. x.width) (get_or-set_same ts i b.value unused p),
-    )
-
-pub rebalance-requires-clause-branches : goal.rebalance-requires-clause-branches
-rebalance-requires-clause-branches t c =
-    let m = put_shrunk c.self.inside.branches c.put.new.self c.self.inside.slots.items c.replace_own-slot.new.slots.items c.args.at c.branch_at-i.result.0 c.branch_at-i.result.1 c.count-len.result c.remove-taken.result c.replace_own-slot.result c.min.result (with_value c.take-node.result c.remove-taken.new.self) c.deref_mut.result.now c.args.self.now
-    c.self.invariant.branches c.self.invariant.forked c.branch_at-i.ensures (c.deref_mut.ensures.value ∙ c.take-node.ensures.node) c.count-len.ensures c.requires.some c.requires.place c.min.ensures c.remove-taken.ensures.value c.remove-taken.ensures.slots c.remove-taken.ensures.height c.remove-taken.ensures.width c.remove-taken.ensures.dense
-    c.replace_own-slot.ensures.below c.replace_own-slot.ensures.own c.replace_own-slot.ensures.len
-    (c.put.ensures.cell ∙ ap (λ l. set l c.branch_at-i.result.0 (Some (with_value c.take-node.result c.remove-taken.new.self))) c.take-node.ensures.cell)
-    (c.put.ensures.counts ∙ ap (λ l. set l.items c.branch_at-i.result.0 (c.count-len.result - 1)) c.take-node.ensures.counts) c.self.view_is in
-    m.0
-
-pub rebalance-requires-clause-near : goal.rebalance-requires-clause-near
-rebalance-requires-clause-near t c =
-    let m = put_shrunk c.self.inside.branches c.put.new.self c.self.inside.slots.items c.replace_own-slot.new.slots.items c.args.at c.branch_at-i.result.0 c.branch_at-i.result.1 c.count-len.result c.remove-taken.result c.replace_own-slot.result c.min.result (with_value c.take-node.result c.remove-taken.new.self) c.deref_mut.result.now c.args.self.now
-    c.self.invariant.branches c.self.invariant.forked c.branch_at-i.ensures (c.deref_mut.ensures.value ∙ c.take-node.ensures.node) c.count-len.ensures c.requires.some c.requires.place c.min.ensures c.remove-taken.ensures.value c.remove-taken.ensures.slots c.remove-taken.ensures.height c.remove-taken.ensures.width c.remove-taken.ensures.dense
-    c.replace_own-slot.ensures.below c.replace_own-slot.ensures.own c.replace_own-slot.ensures.len
-    (c.put.ensures.cell ∙ ap (λ l. set l c.branch_at-i.result.0 (Some (with_value c.take-node.result c.remove-taken.new.self))) c.take-node.ensures.cell)
-    (c.put.ensures.counts ∙ ap (λ l. set l.items c.branch_at-i.result.0 (c.count-len.result - 1)) c.take-node.ensures.counts) c.self.view_is in
-    m.1.near
-
-pub rebalance-requires-clause-width : goal.rebalance-requires-clause-width
-rebalance-requires-clause-width t c =
-    let m = put_shrunk c.self.inside.branches c.put.new.self c.self.inside.slots.items c.replace_own-slot.new.slots.items c.args.at c.branch_at-i.result.0 c.branch_at-i.result.1 c.count-len.result c.remove-taken.result c.replace_own-slot.result c.min.result (with_value c.take-node.result c.remove-taken.new.self) c.deref_mut.result.now c.args.self.now
-    c.self.invariant.branches c.self.invariant.forked c.branch_at-i.ensures (c.deref_mut.ensures.value ∙ c.take-node.ensures.node) c.count-len.ensures c.requires.some c.requires.place c.min.ensures c.remove-taken.ensures.value c.remove-taken.ensures.slots c.remove-taken.ensures.height c.remove-taken.ensures.width c.remove-taken.ensures.dense
-    c.replace_own-slot.ensures.below c.replace_own-slot.ensures.own c.replace_own-slot.ensures.len
-    (c.put.ensures.cell ∙ ap (λ l. set l c.branch_at-i.result.0 (Some (with_value c.take-node.result c.remove-taken.new.self))) c.take-node.ensures.cell)
-    (c.put.ensures.counts ∙ ap (λ l. set l.items c.branch_at-i.result.0 (c.count-len.result - 1)) c.take-node.ensures.counts) c.self.view_is in
-    c.width-width.ensures.width ∙ (ap (λ t. t.width) c.deref.ensures ∙ sym m.2)
-
-pub rebalance-requires-clause-room : goal.rebalance-requires-clause-room
-rebalance-requires-clause-room t c =
+pub rebalance-requires : goal.rebalance-requires
+rebalance-requires t c =
     let m = put_shrunk c.self.inside.branches c.put.new.self c.self.inside.slots.items c.replace_own-slot.new.slots.items c.args.at c.branch_at-i.result.0 c.branch_at-i.result.1 c.count-len.result c.remove-taken.result c.replace_own-slot.result c.min.result (with_value c.take-node.result c.remove-taken.new.self) c.deref_mut.result.now c.args.self.now
     c.self.invariant.branches c.self.invariant.forked c.branch_at-i.ensures (c.deref_mut.ensures.value ∙ c.take-node.ensures.node) c.count-len.ensures c.requires.some c.requires.place c.min.ensures c.remove-taken.ensures.value c.remove-taken.ensures.slots c.remove-taken.ensures.height c.remove-taken.ensures.width c.remove-taken.ensures.dense
     c.replace_own-slot.ensures.below c.replace_own-slot.ensures.own c.replace_own-slot.ensures.len
     (c.put.ensures.cell ∙ ap (λ l. set l c.branch_at-i.result.0 (Some (with_value c.take-node.result c.remove-taken.new.self))) c.take-node.ensures.cell)
     (c.put.ensures.counts ∙ ap (λ l. set l.items c.branch_at-i.result.0 (c.count-len.result - 1)) c.take-node.ensures.counts) c.self.view_is in
     let s = starts_in_order (lists (below c.put.new.self)) c.replace_own-slot.new.slots.items (length-lists (below c.put.new.self) ∙ m.1.near.fork) in
-    omega (arith, ap length m.1.list, length-remove c.args.self.now.slots c.args.at c.requires.place, c.requires.room)
+    record {
+      branches = m.0;
+      near = m.1.near;
+      width = c.width-width.ensures.width ∙ (ap (λ t. t.width) c.deref.ensures ∙ sym m.2);
+      room = omega (arith, ap length m.1.list, length-remove c.args.self.now.slots c.args.at c.requires.place, c.requires.room);
+    }
+
+-- the branches and slots after the branch was put back
+left : (t : ℕ) (c : goal.After-rebalance t) → IsShrunk (below c.self.inside.branches) (below c.put.new.self) c.replace_own-slot.new.slots.items c.branch_at-i.result.0 c.args.self.now.slots (remove c.args.self.now.slots c.args.at) c.replace_own-slot.result c.args.at
+left t c =
+    let m = put_shrunk c.self.inside.branches c.put.new.self c.self.inside.slots.items c.replace_own-slot.new.slots.items c.args.at c.branch_at-i.result.0 c.branch_at-i.result.1 c.count-len.result c.remove-taken.result c.replace_own-slot.result c.min.result (with_value c.take-node.result c.remove-taken.new.self) c.deref_mut.result.now c.args.self.now
+    c.self.invariant.branches c.self.invariant.forked c.branch_at-i.ensures (c.deref_mut.ensures.value ∙ c.take-node.ensures.node) c.count-len.ensures c.requires.some c.requires.place c.min.ensures c.remove-taken.ensures.value c.remove-taken.ensures.slots c.remove-taken.ensures.height c.remove-taken.ensures.width c.remove-taken.ensures.dense
+    c.replace_own-slot.ensures.below c.replace_own-slot.ensures.own c.replace_own-slot.ensures.len
+    (c.put.ensures.cell ∙ ap (λ l. set l c.branch_at-i.result.0 (Some (with_value c.take-node.result c.remove-taken.new.self))) c.take-node.ensures.cell)
+    (c.put.ensures.counts ∙ ap (λ l. set l.items c.branch_at-i.result.0 (c.count-len.result - 1)) c.take-node.ensures.counts) c.self.view_is in
+    m.1
 
 pub returns-clause-value : goal.returns-clause-value
-returns-clause-value t c =
-    let m = put_shrunk c.self.inside.branches c.put.new.self c.self.inside.slots.items c.replace_own-slot.new.slots.items c.args.at c.branch_at-i.result.0 c.branch_at-i.result.1 c.count-len.result c.remove-taken.result c.replace_own-slot.result c.min.result (with_value c.take-node.result c.remove-taken.new.self) c.deref_mut.result.now c.args.self.now
-    c.self.invariant.branches c.self.invariant.forked c.branch_at-i.ensures (c.deref_mut.ensures.value ∙ c.take-node.ensures.node) c.count-len.ensures c.requires.some c.requires.place c.min.ensures c.remove-taken.ensures.value c.remove-taken.ensures.slots c.remove-taken.ensures.height c.remove-taken.ensures.width c.remove-taken.ensures.dense
-    c.replace_own-slot.ensures.below c.replace_own-slot.ensures.own c.replace_own-slot.ensures.len
-    (c.put.ensures.cell ∙ ap (λ l. set l c.branch_at-i.result.0 (Some (with_value c.take-node.result c.remove-taken.new.self))) c.take-node.ensures.cell)
-    (c.put.ensures.counts ∙ ap (λ l. set l.items c.branch_at-i.result.0 (c.count-len.result - 1)) c.take-node.ensures.counts) c.self.view_is in
-    m.1.value
+returns-clause-value t c = (left t c).value
 
 pub returns-clause-slots : goal.returns-clause-slots
-returns-clause-slots t c =
-    let m = put_shrunk c.self.inside.branches c.put.new.self c.self.inside.slots.items c.replace_own-slot.new.slots.items c.args.at c.branch_at-i.result.0 c.branch_at-i.result.1 c.count-len.result c.remove-taken.result c.replace_own-slot.result c.min.result (with_value c.take-node.result c.remove-taken.new.self) c.deref_mut.result.now c.args.self.now
-    c.self.invariant.branches c.self.invariant.forked c.branch_at-i.ensures (c.deref_mut.ensures.value ∙ c.take-node.ensures.node) c.count-len.ensures c.requires.some c.requires.place c.min.ensures c.remove-taken.ensures.value c.remove-taken.ensures.slots c.remove-taken.ensures.height c.remove-taken.ensures.width c.remove-taken.ensures.dense
-    c.replace_own-slot.ensures.below c.replace_own-slot.ensures.own c.replace_own-slot.ensures.len
-    (c.put.ensures.cell ∙ ap (λ l. set l c.branch_at-i.result.0 (Some (with_value c.take-node.result c.remove-taken.new.self))) c.take-node.ensures.cell)
-    (c.put.ensures.counts ∙ ap (λ l. set l.items c.branch_at-i.result.0 (c.count-len.result - 1)) c.take-node.ensures.counts) c.self.view_is in
-    c.rebalance.ensures.slots ∙ m.1.list
+returns-clause-slots t c = c.rebalance.ensures.slots ∙ (left t c).list
 
 pub returns-clause-height : goal.returns-clause-height
-returns-clause-height t c =
-    let m = put_shrunk c.self.inside.branches c.put.new.self c.self.inside.slots.items c.replace_own-slot.new.slots.items c.args.at c.branch_at-i.result.0 c.branch_at-i.result.1 c.count-len.result c.remove-taken.result c.replace_own-slot.result c.min.result (with_value c.take-node.result c.remove-taken.new.self) c.deref_mut.result.now c.args.self.now
-    c.self.invariant.branches c.self.invariant.forked c.branch_at-i.ensures (c.deref_mut.ensures.value ∙ c.take-node.ensures.node) c.count-len.ensures c.requires.some c.requires.place c.min.ensures c.remove-taken.ensures.value c.remove-taken.ensures.slots c.remove-taken.ensures.height c.remove-taken.ensures.width c.remove-taken.ensures.dense
-    c.replace_own-slot.ensures.below c.replace_own-slot.ensures.own c.replace_own-slot.ensures.len
-    (c.put.ensures.cell ∙ ap (λ l. set l c.branch_at-i.result.0 (Some (with_value c.take-node.result c.remove-taken.new.self))) c.take-node.ensures.cell)
-    (c.put.ensures.counts ∙ ap (λ l. set l.items c.branch_at-i.result.0 (c.count-len.result - 1)) c.take-node.ensures.counts) c.self.view_is in
-    c.rebalance.ensures.levels ∙ (m.1.height ∙ ap (λ t. t.height) c.self.view_is)
+returns-clause-height t c = c.rebalance.ensures.levels ∙ ((left t c).height ∙ ap (λ t. t.height) c.self.view_is)
 
 pub returns-clause-dense : goal.returns-clause-dense
 returns-clause-dense t c = dense_of (below c.rebalance.new.branches) c.rebalance.new.slots.items c.rebalance.ensures.forked
