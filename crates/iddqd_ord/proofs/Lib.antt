@@ -3,6 +3,7 @@ mod CompactLemmas
 mod EndLemmas
 mod EntryLemmas
 pub mod GetMutLemmas
+pub mod InsertNewLemmas
 pub mod StoreAndIndexLemmas
 mod TakenOutLemmas
 mod WalkLemmas

@@ -1,5 +1,6 @@
 pub mod Entry
 pub mod Guard
+pub mod Inserting
 pub mod OrdMap
 pub mod StoreAndIndex
 pub mod WritingWalk

@@ -13,6 +13,7 @@ mod first_last;
 mod get_mut;
 mod imp;
 mod insert;
+mod insert_new;
 mod into_iter;
 mod iter;
 pub mod iter_mut;

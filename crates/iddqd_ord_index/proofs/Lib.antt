@@ -11,6 +11,7 @@ pub mod FoundLemmas
 pub mod HalfLemmas
 pub mod HeightLemmas
 pub mod IndexLemmas
+pub mod InsertByLemmas
 pub mod LeafLemmas
 pub mod ListedLemmas
 pub mod RebalanceLemmas

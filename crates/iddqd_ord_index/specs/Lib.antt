@@ -3,6 +3,7 @@ pub mod Changes
 pub mod Digits
 pub mod Falls
 pub mod IndexParts
+pub mod Inserting
 pub mod Listed
 pub mod Neighbours
 pub mod NodeRemoval

@@ -5,4 +5,4 @@ pub mod laws;
 mod ord_index;
 mod tree;
 
-pub use ord_index::{IntoWalk, OrdIndex, Place, Walk};
+pub use ord_index::{Insertion, IntoWalk, OrdIndex, Place, Walk};

@@ -4,6 +4,7 @@ ghost use Rattle.std.specs.List.{IsDistinct};
 ghost use Rattle.iddqd_ord_index.specs.Listed.{unprepared};
 ghost use Rattle.iddqd_store.specs.Refusal.{memory_refused};
 
+mod insert_by;
 mod into_walk;
 mod lookups;
 mod remove_by;
@@ -14,6 +15,7 @@ use crate::tree::node::Node;
 use crate::tree::pool::NodePool;
 use crate::tree::root;
 use iddqd_store::TryReserveError;
+pub use insert_by::Insertion;
 pub use into_walk::IntoWalk;
 use run_cache::RunCache;
 use std::alloc::Global;

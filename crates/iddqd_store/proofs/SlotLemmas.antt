@@ -275,6 +275,31 @@ module _ {T : Type 0} where
   vacant-pushed es item =
       rw (map_push item_of es (Occupied item), sum_by_push (λ o. cond (is_none o) 1 0) (items_of es) (Some item)) (omega arith)
 
+  -- a slot behind the last is the next one only if none is vacant
+  pub next_at_end : (es : List (Slot T)) (len first limit slot : ℕ) → IsSound es len first limit → (0 < count_by is_none (items_of es) → slot < length (items_of es)) → slot ≡ length es → first ≡ no_slot
+  next_at_end es len first limit slot sound reuses end = elim (cases_eq first no_slot) [
+    | inl e ↦ e
+    | inr some ↦
+        let vacant = first_is_vacant es first sound.chained some in
+        let l = length-map es item_of in
+        let counted = some_vacant (items_of es) first (omega (arith, vacant_within es first vacant)) (vacant_no_item es first vacant) in
+        absurd (omega (arith, reuses counted))
+  ]
+
+  -- and another one is a vacant slot
+  pub next_is_vacant : (es : List (Slot T)) (slot : ℕ) → get_or (items_of es) slot None ≡ None → slot < length es → IsSome (links_at es slot)
+  next_is_vacant es slot free within = by_links (links_at es slot) refl
+    where
+      by_links : (o : Option (ℕ × ℕ)) → links_at es slot ≡ o → IsSome (links_at es slot)
+      by_links (Some p) is = rw is refl
+      by_links None is = let some = no_links_item es slot within is in absurd (cc)
+
+  pub next_within : (es : List (Slot T)) (slot : ℕ) → (0 < count_by is_none (items_of es) → slot < length (items_of es)) → (count_by is_none (items_of es) ≡ 0 → slot ≡ length (items_of es)) → slot ≢ length es → slot < length es
+  next_within es slot reuses next other = elim (cases_lt 0 (count_by is_none (items_of es))) [
+    | inl some ↦ omega (arith, reuses some, length-map es item_of)
+    | inr none ↦ absurd (other (next (omega arith) ∙ length-map es item_of))
+  ]
+
   -- a written list of slots is an update of that slot
   pub Updates-set : (old new : Store T) (slot : ℕ) (item : Option T) → slot < length old.slots → new.slots ≡ set old.slots slot item → Updates old new slot item
   Updates-set old new slot item within written =

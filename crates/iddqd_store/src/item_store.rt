@@ -1,6 +1,7 @@
 //! Items in numbered slots. A vacant slot is used again.
 mod chain;
 mod moves;
+mod next;
 mod room;
 
 ghost use Rattle.std.specs.Prelude.{◌≡◌, ◌+◌, ◌-◌, ◌<◌, ◌≤◌, [], length, IfSome, IfNone, IfOk, Some, None, OnSome, option_copied, slice_set, vec_capacity, Err};

@@ -2,7 +2,7 @@
 ghost use Rattle.std.specs.Prelude.{◌≡◌, ◌≤◌, length};
 
 use crate::checks::check;
-use iddqd_ord_index::OrdIndex;
+use iddqd_ord_index::{Insertion, OrdIndex};
 use iddqd_store::{IdOrdItem, ItemStore, Steps, TryReserveError};
 use std::alloc::{AllocError, Global};
 use std::marker::Model;
@@ -64,6 +64,27 @@ impl Coins {
         let slot = self.store.insert_reserved(Coin { year });
         self.index.add_prepared(place, slot);
         true
+    }
+
+    // The same by the year, down the tree once if no node is needed.
+    fn put_by(&mut self, year: u32) -> bool {
+        let Some(slot) = self.store.next_slot() else {
+            return self.put(year);
+        };
+        if self.index.len() == u32::MAX {
+            return false;
+        }
+        match self
+            .index
+            .insert_by(&self.store, &year, slot, &mut Steps::new())
+        {
+            Insertion::Found(_) => false,
+            Insertion::Inserted => {
+                self.store.insert_into(slot, Coin { year });
+                true
+            }
+            Insertion::Unprepared(_) => self.put(year),
+        }
     }
 
     // The year of the slot.
@@ -276,7 +297,7 @@ fn exchange(
             check(rt, taken == Some(years.remove(at)));
         } else {
             check(rt, coins.take_by(year).is_none());
-            check(rt, coins.put(year) && !coins.put(year));
+            check(rt, coins.put_by(year) && !coins.put_by(year));
             years.insert(at, year)?;
         }
         if n % 150 == 0 {

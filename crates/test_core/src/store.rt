@@ -170,3 +170,35 @@ fn store_growth_refused(rt: HostRuntime) {
         (store.len(), store.slots(), store.capacity()) == (0, 0, 0),
     );
 }
+
+// Whether the next slot is this one, and the item goes into it.
+fn goes_into_next(store: &mut ItemStore<u32>, item: u32, slot: u32) -> bool {
+    let Some(next) = store.next_slot() else {
+        return false;
+    };
+    store.insert_into(next, item);
+    next == slot
+}
+
+fn names_slots(rt: &impl Abort, store: &mut ItemStore<u32>) {
+    check(rt, store.next_slot() == None);
+    check(rt, store.try_reserve(3).is_ok());
+    for slot in 0..3 {
+        check(rt, goes_into_next(store, 10 + slot, slot));
+    }
+    check(rt, store.next_slot() == None);
+    check(rt, store.get(0).is_some());
+    check(rt, store.remove(0) == 10);
+    check(rt, store.get(1).is_some());
+    check(rt, store.remove(1) == 11);
+    check(rt, goes_into_next(store, 13, 1));
+    assert_holds(rt, store, &[None, Some(13), Some(12)]);
+    check(rt, goes_into_next(store, 14, 0));
+    assert_holds(rt, store, &[Some(14), Some(13), Some(12)]);
+    check(rt, store.next_slot() == None);
+}
+
+#[test]
+fn next_slots(rt: HostRuntime) {
+    names_slots(&rt, &mut ItemStore::new(rt.alloc(), 3));
+}

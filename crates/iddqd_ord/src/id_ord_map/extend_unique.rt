@@ -6,6 +6,7 @@ ghost use Rattle.iddqd_store.specs.Adding.{AddsEach, HaltsAt, HaltsEach, ShowsCo
 ghost use Rattle.iddqd_store.specs.Contents.{Ascends, IsAbsent};
 
 use super::IdOrdMap;
+use super::insert_new::Missed;
 use iddqd_store::{
     DuplicateItem, ExtendError, ExtendUniqueError, Few, Halt, IdOrdItem, Steps, room_to_reserve,
 };
@@ -71,18 +72,13 @@ impl<T: IdOrdItem> IdOrdMap<T> {
         ensures halted { IfErr result (HaltsAt T.key T.Key.eq item self.old) }
         ensures kept { OnErr result (OrdKeeps T.key T.Key.cmp self.old self.new) }
     {
-        match self.index.find(&self.store, item.key(), &mut Steps::new()) {
-            Ok(place) => {
-                let slot = self.slot_at(place);
-                Err(Halt::Akin(item, slot))
-            }
-            Err(place) => match self.insert_at(place, item) {
-                Ok(_) => Ok(()),
-                Err(refused) => Err(Halt::NoRoom(ExtendError {
-                    item: Some(refused.item),
-                    error: refused.error,
-                })),
-            },
+        match self.insert_new(item, &mut Steps::new()) {
+            Ok(_) => Ok(()),
+            Err(Missed::Akin(item, slot)) => Err(Halt::Akin(item, slot)),
+            Err(Missed::NoRoom(refused)) => Err(Halt::NoRoom(ExtendError {
+                item: Some(refused.item),
+                error: refused.error,
+            })),
         }
     }
 }

@@ -1,11 +1,10 @@
 //! Lookups and removals.
-ghost use Rattle.std.specs.Prelude.{◌≡◌, ◌+◌, ◌*◌, ◌<◌, ◌≤◌, length, Some, is_some, slice_get};
+ghost use Rattle.std.specs.Prelude.{◌≡◌, ◌+◌, ◌*◌, ◌≤◌, length, is_some};
 ghost use Rattle.iddqd_store.specs.Contents.{Ascends, Finds, find_item, items_without};
 ghost use Rattle.iddqd_ord_index.specs.Digits.{digits};
 ghost use Rattle.iddqd_store.specs.Holding.{Removes};
 
 use super::IdOrdMap;
-use iddqd_ord_index::Place;
 use iddqd_store::{Comparable, IdOrdItem, Steps};
 
 impl<T: IdOrdItem> IdOrdMap<T> {
@@ -29,15 +28,6 @@ impl<T: IdOrdItem> IdOrdMap<T> {
     {
         let slot = self.index.get(&self.store, query, steps)?;
         self.store.get(slot)
-    }
-
-    // Returns the item at the place.
-    #[inline]
-    pub(super) fn item_at_place(&self, place: Place) -> &T
-        requires { place < length self.now.items }
-        ensures { slice_get self.now.items place ≡ Some result.now }
-    {
-        self.store.get(self.index.slot_at(place)).unwrap()
     }
 
     /// Returns true if the query finds an item, by as many comparisons as `get`.

@@ -6,9 +6,11 @@ ghost use Rattle.iddqd_ord_index.specs.Digits.{digits};
 ghost use Rattle.iddqd_store.specs.Refusal.{HandsBack, RefusesItem, refusal_kind};
 
 use super::IdOrdMap;
-use super::store_and_index::{exchange, put_in, reserve_one};
+use super::insert_new::Missed;
+use super::store_and_index::{put_in, reserve_one};
 use iddqd_ord_index::Place;
 use iddqd_store::{DuplicateItem, Few, IdOrdItem, InsertError, Refused, Steps};
+use std::mem;
 
 impl<T: IdOrdItem> IdOrdMap<T> {
     ghost use Rattle.iddqd_ord.specs.OrdMap.{BelongsAt, OrdInserts, OrdKeeps, OrdOverwrites, ends_ord_inserted, lends_nothing};
@@ -49,16 +51,13 @@ impl<T: IdOrdItem> IdOrdMap<T> {
         ensures steps { steps.new ≤ steps.old + 4 + 2 * digits (length self.old.items) }
         ensures never_resets { steps.old ≤ steps.new }
     {
-        let place = match self.index.find(&self.store, item.key(), steps) {
-            Ok(place) => {
-                let existing = Few::One(self.item_at_place(place));
-                return Err(InsertError::Duplicate(DuplicateItem::internal_new(item, existing)));
-            }
-            Err(place) => place,
-        };
-        match self.insert_at(place, item) {
+        match self.insert_new(item, steps) {
             Ok(_) => Ok(&mut self.done),
-            Err(refused) => Err(InsertError::Refused(refused)),
+            Err(Missed::Akin(item, slot)) => {
+                let existing = Few::One(self.item_in_slot(slot));
+                Err(InsertError::Duplicate(DuplicateItem::internal_new(item, existing)))
+            }
+            Err(Missed::NoRoom(refused)) => Err(InsertError::Refused(refused)),
         }
     }
 
@@ -79,12 +78,12 @@ impl<T: IdOrdItem> IdOrdMap<T> {
         // in either case
         ensures keyed { Ascends T.key T.Key.cmp self.new.items }
     {
-        match self.index.find(&self.store, item.key(), &mut Steps::new()) {
-            Ok(place) => Ok(Some(exchange(&mut self.store, &self.index, place, item))),
-            Err(place) => {
-                self.insert_at(place, item)?;
-                Ok(None)
+        match self.insert_new(item, &mut Steps::new()) {
+            Ok(_) => Ok(None),
+            Err(Missed::Akin(item, slot)) => {
+                Ok(Some(mem::replace(self.item_in_slot_mut(slot), item)))
             }
+            Err(Missed::NoRoom(refused)) => Err(refused),
         }
     }
 

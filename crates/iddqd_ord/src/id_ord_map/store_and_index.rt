@@ -1,5 +1,5 @@
 //! What changes the store and the index together. Nothing here looks at a key.
-ghost use Rattle.std.specs.Prelude.{◌≡◌, ◌+◌, ◌-◌, ◌<◌, ◌≤◌, length, insert, remove, set, IsTrue, IfErr, OnErr, OnOk, Err, Some, slice_get};
+ghost use Rattle.std.specs.Prelude.{◌≡◌, ◌+◌, ◌-◌, ◌<◌, ◌≤◌, length, insert, remove, IsTrue, IfErr, OnErr, OnOk, Err, Some, slice_get};
 ghost use Rattle.iddqd_store.specs.Refusal.{memory_refused, refusal_kind, reservation_kind};
 ghost use Rattle.iddqd_store.specs.Store.{vacant, HasRoomFor};
 ghost use Rattle.iddqd_ord.specs.StoreAndIndex.{KeepsBounds, ListsOccupied, items_in};
@@ -103,20 +103,4 @@ pub(super) fn take_out<T>(store: &mut ItemStore<T>, index: &mut OrdIndex, place:
 {
     let slot = index.remove(place);
     store.remove(slot)
-}
-
-// Replaces the item at the place, and returns the old one. The index stays.
-#[inline]
-pub(super) fn exchange<T>(store: &mut ItemStore<T>, index: &OrdIndex, place: Place, item: T) -> T
-    requires paired { ListsOccupied store.old index.now.slots }
-    requires in_list { place < length index.now.slots }
-    ensures item { slice_get (items_in store.old index.now) place ≡ Some result }
-
-    // what is left
-    ensures paired { ListsOccupied store.new index.now.slots }
-    ensures items { items_in store.new index.now ≡ set (items_in store.old index.now) place item }
-    ensures vacant { vacant store.new ≡ vacant store.old }
-    ensures bounds { KeepsBounds store.old store.new }
-{
-    store.replace(index.slot_at(place), item)
 }

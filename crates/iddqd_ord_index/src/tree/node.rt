@@ -8,6 +8,7 @@ mod clone;
 mod ends;
 mod find;
 mod insert;
+mod insert_by;
 mod pair;
 mod places;
 mod remove;
@@ -15,6 +16,7 @@ mod remove_by;
 mod walk;
 
 use arrayvec::ArrayVec;
+pub(crate) use insert_by::Outcome;
 use std::marker::Model;
 pub(crate) use walk::LeafWalk;
 

@@ -1,6 +1,7 @@
 //! The unused nodes of a tree, which an insertion that splits takes and a removal that merges gives back.
-ghost use Rattle.std.specs.Prelude.{◌≡◌, ◌-◌, ◌^◌, ◌<◌, ◌≤◌, OnOk, OnErr, IfOk};
+ghost use Rattle.std.specs.Prelude.{◌≡◌, ◌-◌, ◌^◌, ◌<◌, ◌≤◌, ◌↔◌, IsTrue, OnOk, OnErr, IfOk};
 ghost use Rattle.iddqd_ord_index.specs.Changes.{IsFilled};
+ghost use Rattle.iddqd_ord_index.specs.Inserting.{HasFor};
 ghost use Rattle.iddqd_ord_index.specs.Neighbours.{given_back};
 ghost use Rattle.iddqd_ord_index.specs.Shape.{unused};
 
@@ -61,6 +62,13 @@ impl NodePool {
         }
         self.wanted = wanted;
         Ok(())
+    }
+
+    // Whether as many are there, and room for one more.
+    pub(crate) fn is_filled(&self, wanted: usize) -> bool
+        ensures { IsTrue result ↔ HasFor wanted self.now }
+    {
+        self.nodes.len() >= wanted && self.nodes.capacity() > wanted
     }
 
     // Sees to room for so many.

@@ -120,6 +120,21 @@ pub(super) fn fill_first<T>(slots: &mut [Slot<T>], first: u32, item: T) -> u32
     }
 }
 
+// Inserts the item into a vacant slot, and returns the first of those that are left.
+#[inline]
+pub(super) fn fill<T>(slots: &mut [Slot<T>], first: u32, at: u32, item: T) -> u32
+    requires vacant { IsSome (links_at slots.old at) }
+    requires chained { IsChained (links_at slots.old) first }
+    ensures items { items_of slots.new ≡ slice_set (items_of slots.old) at (Some item) }
+    ensures chained { IsChained (links_at slots.new) result }
+{
+    let left = unlink(slots, first, at as usize);
+    match mem::replace(&mut slots[at as usize], Slot::Occupied(item)) {
+        Slot::Vacant(_) => left,
+        Slot::Occupied(_) => unreachable!(),
+    }
+}
+
 // Removes the item of an occupied slot, which is then the first of the vacant ones.
 #[inline]
 pub(super) fn vacate<T>(slots: &mut [Slot<T>], first: u32, at: u32) -> T

@@ -31,7 +31,7 @@ impl<'a, T: IdOrdItem> VacantEntry<'a, T> {
     {
         let VacantEntry { map } = self;
         match map.insert_absent(item) {
-            Ok((slot, _)) => Ok(RefMut {
+            Ok(slot) => Ok(RefMut {
                 map,
                 slot,
                 spent: false,
@@ -55,7 +55,7 @@ impl<'a, T: IdOrdItem> VacantEntry<'a, T> {
     {
         let VacantEntry { map } = self;
         match map.insert_absent(item) {
-            Ok((slot, _)) => Ok(Shown { map, slot }),
+            Ok(slot) => Ok(Shown { map, slot }),
             Err(refused) => Err(refused),
         }
     }
@@ -73,7 +73,7 @@ impl<'a, T: IdOrdItem> VacantEntry<'a, T> {
         ensures refused { IfErr result (EntryHandsBack T.key T.Key.eq item (Vacant self.entry)) }
     {
         let VacantEntry { map } = self;
-        match map.insert_absent(item) {
+        match map.insert_placed(item) {
             Ok((slot, place)) => Ok(OccupiedEntry { map, slot, place }),
             Err(refused) => Err(refused),
         }

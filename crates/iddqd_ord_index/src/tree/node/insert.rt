@@ -1,5 +1,5 @@
 //! Insertion: a node without room gives its upper half away.
-ghost use Rattle.std.specs.Prelude.{◌≡◌, ◌+◌, ◌^◌, ◌<◌, ◌≤◌, [], ◌∷◌, ◌++◌, length, insert, nat_le, if◌then◌else◌};
+ghost use Rattle.std.specs.Prelude.{◌≡◌, ◌+◌, ◌^◌, ◌<◌, ◌≤◌, [], ◌∷◌, ◌++◌, length, insert, nat_le, OnSome, if◌then◌else◌};
 ghost use Rattle.arrayvec.specs.ArrayVec.{array_vec_len};
 ghost use Rattle.iddqd_ord_index.specs.Changes.{AddsIn, AddsTo, SplitsIn};
 ghost use Rattle.iddqd_ord_index.specs.Nodes.{below, AreBranches};
@@ -76,7 +76,7 @@ fn split_inner(
 }
 
 // Inserts `middle` at place `i` of an inner node and `upper` behind it.
-fn add_branch(
+pub(super) fn add_branch(
     slots: &mut ArrayVec<u32, 11>,
     branches: &mut Branches,
     i: usize,
@@ -141,13 +141,19 @@ impl Node {
     }
 
     // Inserts a slot into a leaf. One without room gives its upper half away.
-    fn add_to_leaf(&mut self, at: u32, slot: u32, pool: &mut NodePool) -> Option<(u32, Box<Node>)>
+    pub(super) fn add_to_leaf(
+        &mut self,
+        at: u32,
+        slot: u32,
+        pool: &mut NodePool,
+    ) -> Option<(u32, Box<Node>)>
         requires leaf { self.old.height ≡ 1 }
         requires place { at ≤ length self.old.slots }
-        requires enough { 0 < pool.old.count }
+        requires enough { self.old.width ≡ 11 → 0 < pool.old.count }
 
         // the node
         ensures adds { AddsTo (insert self.old.slots at slot) self.old.width self.new result }
+        ensures full { OnSome result (self.old.width ≡ 11) }
         ensures height { self.new.height ≡ self.old.height }
         ensures dense { IsDense self.new }
 

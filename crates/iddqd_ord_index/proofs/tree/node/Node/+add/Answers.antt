@@ -1,14 +1,12 @@
-use Rattle.std.proofs.Common.{◌≡◌, ◌+◌, ◌-◌, Some, None, ℕ, List, Box, Global, length, set, get_or, subst, ap, sym, ◌∙◌, arith}
+use Rattle.std.proofs.Common.{◌≡◌, ◌+◌, ◌-◌, Some, ℕ, length, set, get_or, refl, subst, ap, sym, ◌∙◌, arith}
 use Rattle.std.proofs.lemmas.Grind.{common_steps}
 use Rattle.std.specs.Box.{with_value}
 use Rattle.std.specs.List.{insert}
 use Rattle.std.proofs.lemmas.List.Edits.{length-insert}
-use Rattle.iddqd_ord_index.specs.Changes.{AddsTo, IsGrown, IsSplit}
+use Rattle.iddqd_ord_index.specs.Changes.{AddsTo, IsGrown}
 use Rattle.iddqd_ord_index.specs.Nodes.{below, AreBranches}
-use Rattle.iddqd_ord_index.specs.Shape.{Subtree, lists, in_order, tree, unused, IsBranchAt, IsForked, IsDense}
-use Rattle.iddqd_ord_index.specs.declared.tree.node.Branches.{Branches}
-use Rattle.iddqd_ord_index.specs.declared.tree.node.Node.{Node}
-use Rattle.iddqd_ord_index.proofs.AddLemmas.{IsParted, grown, parted, parted_length}
+use Rattle.iddqd_ord_index.specs.Shape.{lists, in_order, tree, unused}
+use Rattle.iddqd_ord_index.proofs.AddLemmas.{IsParted, above, grown, put_parted}
 use Rattle.iddqd_ord_index.proofs.BranchAtLemmas.{starts_is, inner_levels, inner_of, branch_is, branch_within, rest_within, branch_at_in}
 use Rattle.iddqd_ord_index.proofs.BelowLemmas.{branches_put}
 use Rattle.iddqd_ord_index.proofs.DenseLemmas.{dense_of}
@@ -77,14 +75,6 @@ returns-in_default-clause-height t c = let m = made t c in m.1.height ∙ ap (λ
 pub returns-in_default-clause-dense : goal.returns-in_default-clause-dense
 returns-in_default-clause-dense t c = let m = made t c in dense_of (below c.put.new.self) c.self.inside.slots.items m.1.forked
 
--- how many slots are above the split
-above : (ts : List Subtree) (ss : List ℕ) (at slot i rest middle count : ℕ) (before new upper d : Subtree) → IsForked ts ss → IsBranchAt (lists ts) at i rest → before ≡ get_or ts i unused → IsSplit (insert before.slots rest slot) new middle upper → count ≡ length (get_or ts i unused).slots → d ≡ upper
-    → count + 1 ≡ length new.slots + (length d.slots + 1)
-above ts ss at slot i rest middle count before new upper d f branch_at v s n e =
-    let l = ap (λ t. length t.slots) v in
-    let m = parted_length before.slots rest slot middle new upper (omega (arith, rest_within ts ss at i rest f branch_at)) s in
-    omega (arith, ap (λ t. length t.slots) e)
-
 pub len-above-requires : goal.len-above-requires
 len-above-requires t c =
     let ts = below c.self.inside.branches in
@@ -104,27 +94,13 @@ overflow_sub-count-2 t c =
     let a = above (below c.self.inside.branches) c.self.inside.slots.items c.args.at c.args.slot c.branch_at-i.result.0 c.branch_at-i.result.1 c.in-Some.middle c.count-count.result c.deref_mut.result.now c.add.new.self c.in-Some.upper.value c.deref.result.now c.self.invariant.forked c.branch_at-i.ensures (c.deref_mut.ensures.value ∙ c.take-node.ensures.node) c.in-Some.ensures.adds c.count-count.ensures c.deref.ensures in
     omega (arith, c.len-above.ensures)
 
--- the lower half put back, with all that is known of it then
-put_parted : (old new : Branches) (ss : List ℕ) (at slot i rest count more middle : ℕ) (d : Subtree) (b : Box Node Global) (before upper self : Subtree)
-    → AreBranches old → IsForked (below old) ss → IsBranchAt (lists (below old)) at i rest → before ≡ get_or (below old) i unused → IsSplit (insert before.slots rest slot) b.value middle upper → b.value.height ≡ before.height → IsDense b.value
-    → new.nodes ≡ set (set old.nodes i None) i (Some b) → new.counts.items ≡ set old.counts.items i (count + 1 - more - 1)
-    → count ≡ length (get_or (below old) i unused).slots → d ≡ upper → more ≡ length d.slots → tree (below old) ss ≡ self
-    → AreBranches new × IsParted (below old) (below new) ss i middle upper (insert self.slots at slot)
-put_parted old new ss at slot i rest count more middle d b before upper self a f branch_at v s h w n m c e l view =
-    let ts = below old in
-    let k = above ts ss at slot i rest middle count before b.value upper d f branch_at v s c e in
-    let p = branches_put old new i (count + 1 - more - 1) b a (branch_at_in ts ss at i rest f branch_at) n m (omega arith) in
-    let g = subst (λ t. IsSplit (insert t.slots rest slot) b.value middle upper) v s in
-    let r = parted ts ss at slot i rest b.value f branch_at (h ∙ ap (λ t. t.height) v) w middle upper g in
-    (p.0, subst (λ l. IsParted ts (below new) ss i middle upper (insert l.slots at slot)) view (subst (λ us. IsParted ts us ss i middle upper (insert (in_order (lists ts) ss) at slot)) (sym p.1) r))
-
 made_parted : (t : ℕ) (c : goal.After-add_branch-arg-3-1 t) → AreBranches c.put-2.new.self × IsParted (below c.self.inside.branches) (below c.put-2.new.self) c.self.inside.slots.items c.branch_at-i.result.0 c.in-Some.middle c.in-Some.upper.value (insert c.args.self.now.slots c.args.at c.args.slot)
 made_parted t c =
-    put_parted c.self.inside.branches c.put-2.new.self c.self.inside.slots.items c.args.at c.args.slot c.branch_at-i.result.0 c.branch_at-i.result.1 c.count-count.result c.len-above.result c.in-Some.middle c.deref.result.now (with_value c.take-node.result c.add.new.self) c.deref_mut.result.now c.in-Some.upper.value c.args.self.now
+    put_parted c.self.inside.branches c.put-2.new.self c.self.inside.slots.items c.args.at c.args.slot c.branch_at-i.result.0 c.branch_at-i.result.1 c.count-count.result c.len-above.result (c.count-count.result + 1 - c.len-above.result - 1) c.in-Some.middle c.deref.result.now (with_value c.take-node.result c.add.new.self) c.deref_mut.result.now c.in-Some.upper.value c.args.self.now
     c.self.invariant.branches c.self.invariant.forked c.branch_at-i.ensures (c.deref_mut.ensures.value ∙ c.take-node.ensures.node) c.in-Some.ensures.adds c.in-Some.ensures.height c.in-Some.ensures.dense
     (c.put-2.ensures.cell ∙ ap (λ l. set l c.branch_at-i.result.0 (Some (with_value c.take-node.result c.add.new.self))) c.take-node.ensures.cell)
     (c.put-2.ensures.counts ∙ ap (λ l. set l.items c.branch_at-i.result.0 (c.count-count.result + 1 - c.len-above.result - 1)) c.take-node.ensures.counts)
-    c.count-count.ensures c.deref.ensures c.len-above.ensures c.self.view_is
+    refl c.count-count.ensures c.deref.ensures c.len-above.ensures c.self.view_is
 
 pub add_branch-requires-clause-branches : goal.add_branch-requires-clause-branches
 add_branch-requires-clause-branches t c = let m = made_parted t c in m.0
@@ -146,22 +122,22 @@ add_branch-requires-clause-count t c = c.len-above.ensures ∙ ap (λ t. length 
 
 pub returns-clause-adds : goal.returns-clause-adds
 returns-clause-adds t c =
-    let m = put_parted c.self.inside.branches c.put-2.new.self c.self.inside.slots.items c.args.at c.args.slot c.branch_at-i.result.0 c.branch_at-i.result.1 c.count-count.result c.len-above.result c.in-Some.middle c.deref.result.now (with_value c.take-node.result c.add.new.self) c.deref_mut.result.now c.in-Some.upper.value c.args.self.now
+    let m = put_parted c.self.inside.branches c.put-2.new.self c.self.inside.slots.items c.args.at c.args.slot c.branch_at-i.result.0 c.branch_at-i.result.1 c.count-count.result c.len-above.result (c.count-count.result + 1 - c.len-above.result - 1) c.in-Some.middle c.deref.result.now (with_value c.take-node.result c.add.new.self) c.deref_mut.result.now c.in-Some.upper.value c.args.self.now
     c.self.invariant.branches c.self.invariant.forked c.branch_at-i.ensures (c.deref_mut.ensures.value ∙ c.take-node.ensures.node) c.in-Some.ensures.adds c.in-Some.ensures.height c.in-Some.ensures.dense
     (c.put-2.ensures.cell ∙ ap (λ l. set l c.branch_at-i.result.0 (Some (with_value c.take-node.result c.add.new.self))) c.take-node.ensures.cell)
     (c.put-2.ensures.counts ∙ ap (λ l. set l.items c.branch_at-i.result.0 (c.count-count.result + 1 - c.len-above.result - 1)) c.take-node.ensures.counts)
-    c.count-count.ensures c.deref.ensures c.len-above.ensures c.self.view_is in
+    refl c.count-count.ensures c.deref.ensures c.len-above.ensures c.self.view_is in
     let w = ap (λ t. t.width) c.self.view_is in
     subst (λ n. AddsTo (insert c.args.self.now.slots c.args.at c.args.slot) n (tree (below c.add_branch.new.branches) c.add_branch.new.slots.items) c.add_branch.result) w
     (subst (λ l. AddsTo l (length c.self.inside.slots.items) (tree (below c.add_branch.new.branches) c.add_branch.new.slots.items) c.add_branch.result) m.1.list c.add_branch.ensures.adds)
 
 pub returns-clause-height : goal.returns-clause-height
 returns-clause-height t c =
-    let m = put_parted c.self.inside.branches c.put-2.new.self c.self.inside.slots.items c.args.at c.args.slot c.branch_at-i.result.0 c.branch_at-i.result.1 c.count-count.result c.len-above.result c.in-Some.middle c.deref.result.now (with_value c.take-node.result c.add.new.self) c.deref_mut.result.now c.in-Some.upper.value c.args.self.now
+    let m = put_parted c.self.inside.branches c.put-2.new.self c.self.inside.slots.items c.args.at c.args.slot c.branch_at-i.result.0 c.branch_at-i.result.1 c.count-count.result c.len-above.result (c.count-count.result + 1 - c.len-above.result - 1) c.in-Some.middle c.deref.result.now (with_value c.take-node.result c.add.new.self) c.deref_mut.result.now c.in-Some.upper.value c.args.self.now
     c.self.invariant.branches c.self.invariant.forked c.branch_at-i.ensures (c.deref_mut.ensures.value ∙ c.take-node.ensures.node) c.in-Some.ensures.adds c.in-Some.ensures.height c.in-Some.ensures.dense
     (c.put-2.ensures.cell ∙ ap (λ l. set l c.branch_at-i.result.0 (Some (with_value c.take-node.result c.add.new.self))) c.take-node.ensures.cell)
     (c.put-2.ensures.counts ∙ ap (λ l. set l.items c.branch_at-i.result.0 (c.count-count.result + 1 - c.len-above.result - 1)) c.take-node.ensures.counts)
-    c.count-count.ensures c.deref.ensures c.len-above.ensures c.self.view_is in
+    refl c.count-count.ensures c.deref.ensures c.len-above.ensures c.self.view_is in
     c.add_branch.ensures.levels ∙ (m.1.height ∙ ap (λ t. t.height) c.self.view_is)
 
 pub returns-clause-dense : goal.returns-clause-dense

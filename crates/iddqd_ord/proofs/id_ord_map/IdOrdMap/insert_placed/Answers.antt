@@ -3,8 +3,8 @@ use Rattle.std.proofs.lemmas.List.{length-map}
 use Rattle.std.proofs.lemmas.Option.{slice_get-get_or}
 use Rattle.iddqd_store.proofs.QueryLemmas.{OrderedQuery, own_query, place_there}
 use Rattle.iddqd_ord.proofs.EntryLemmas.{put_item, put_others, put_written}
-use Rattle.iddqd_ord.proofs.id_ord_map.IdOrdMap.insert_absent.Given.{Over}
-use Rattle.iddqd_ord.proofs.id_ord_map.IdOrdMap.insert_absent.Goals as goal
+use Rattle.iddqd_ord.proofs.id_ord_map.IdOrdMap.insert_placed.Given.{Over}
+use Rattle.iddqd_ord.proofs.id_ord_map.IdOrdMap.insert_placed.Goals as goal
 
 query : (g : Over) (k : g.row.T-Key.Denot) → OrderedQuery g.T.Key.PartialEq.eq g.T.Key.Ord.cmp (g.T.Key.PartialEq.eq k) (g.T.Key.Ord.cmp k)
 query g = own_query g.T.Key.PartialEq.eq g.T.Key.Ord.cmp g.met.T.Key.Eq.laws g.met.T.Key.Ord.total g.met.T.Key.Ord.matches_eq

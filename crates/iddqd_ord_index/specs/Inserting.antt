@@ -1,0 +1,71 @@
+-- How an insertion by a key ends.
+--     IfFound, OnInserted, IfUnprepared      what holds if an item has the key, if the slot was inserted, if a node is needed
+--     FindsIn, BelongsIn, InsertsIn      the slot of the key's item, the place where the key belongs, an insertion there
+--     KeepsUnlessInserted old new result      nothing has changed but by an insertion
+--     HasFor, KeepsStock, EndsIn      the unused nodes, and how the insertion ends in a node; inside
+use Rattle.std.specs.Prelude.{◌≡◌, ℕ, Bool, false, ◌<◌, ◌≤◌, IsTrue, List, OnSome, Some, Err, insert}
+use Rattle.std.specs.declared.cmp.Ordering.{Ordering}
+use Rattle.iddqd_store.specs.Store.{Store}
+use Rattle.iddqd_ord_index.specs.Changes.{AddsTo, Stock}
+use Rattle.iddqd_ord_index.specs.Listed.{SlotList, listed_keys, unprepared}
+use Rattle.iddqd_ord_index.specs.Search.{FindsSlot, IsPlaceAmong}
+use Rattle.iddqd_ord_index.specs.Shape.{Subtree}
+use Rattle.iddqd_ord_index.specs.Standing.{IsAmong, IsPlace}
+use Rattle.iddqd_ord_index.specs.declared.ord_index.insert_by.Insertion.{Insertion}
+use Rattle.iddqd_ord_index.specs.declared.ord_index.insert_by.Insertion.TheVariants.{Found, Inserted, Unprepared}
+use Rattle.iddqd_ord_index.specs.declared.tree.node.insert_by.Outcome.{Outcome}
+use Rattle.iddqd_ord_index.specs.declared.tree.node.insert_by.Outcome.TheVariants as node
+
+-- what holds of the slot whose item has the key
+abbrev pub IfFound : Insertion → (ℕ → Type 0) → Type 0
+IfFound (Found slot) P = P slot
+IfFound Inserted P = Unit
+IfFound (Unprepared place) P = Unit
+
+-- what holds if the slot was inserted
+abbrev pub OnInserted : Insertion → Type 0 → Type 0
+OnInserted (Found slot) P = Unit
+OnInserted Inserted P = P
+OnInserted (Unprepared place) P = Unit
+
+-- what holds of the place if a node is needed
+abbrev pub IfUnprepared : Insertion → (ℕ → Type 0) → Type 0
+IfUnprepared (Found slot) P = Unit
+IfUnprepared Inserted P = Unit
+IfUnprepared (Unprepared place) P = P place
+
+module _ {T K : Type 0} (key : T → K) where
+  -- the slot of the item whose key passes the test
+  abbrev pub FindsIn : (K → Bool) → Store T → List ℕ → ℕ → Type 0
+  FindsIn test store slots slot = FindsSlot key test store slots (Some slot)
+
+  -- the place where the query belongs, which no item's key is equal to
+  abbrev pub BelongsIn : (K → Ordering) → Store T → List ℕ → ℕ → Type 0
+  BelongsIn compare store slots place = IsPlaceAmong compare (listed_keys key store slots) (Err place)
+
+  -- the slot was inserted there
+  abbrev pub InsertsIn : (K → Ordering) → Store T → ℕ → SlotList → SlotList → Type 0
+  InsertsIn compare store slot old new = (place : ℕ) × BelongsIn compare store old.slots place × (new ≡ unprepared (insert old.slots place slot))
+
+-- the index is as it was, unless the slot was inserted
+abbrev pub KeepsUnlessInserted : SlotList → SlotList → Insertion → Type 0
+KeepsUnlessInserted old new (Found slot) = new ≡ old
+KeepsUnlessInserted old new Inserted = Unit
+KeepsUnlessInserted old new (Unprepared place) = new ≡ old
+
+-- so many unused nodes are there, and room for one more
+abbrev pub HasFor : ℕ → Stock → Type 0
+HasFor wanted s = (wanted ≤ s.count) × (wanted < s.room)
+
+-- the unused nodes are as they were, unless the slot was inserted
+abbrev pub KeepsStock : Stock → Stock → Outcome → Type 0
+KeepsStock old new (node.Found slot) = new ≡ old
+KeepsStock old new (node.Inserted split) = Unit
+KeepsStock old new (node.Full place) = new ≡ old
+
+-- a node: the slot that the query equals; or the slot was inserted where the query belongs, with a split only if that was
+-- allowed; or its leaf is full and may not be split
+abbrev pub EndsIn : (ℕ → Ordering) → (ready : Bool) → (slot : ℕ) → Subtree → Subtree → Outcome → Type 0
+EndsIn order ready slot old new (node.Found found) = (new ≡ old) × IsAmong order old.slots (Some found)
+EndsIn order ready slot old new (node.Inserted split) = (place : ℕ) × IsPlace order old.slots (Err place) × AddsTo (insert old.slots place slot) old.width new split × OnSome split (IsTrue ready)
+EndsIn order ready slot old new (node.Full place) = (new ≡ old) × IsPlace order old.slots (Err place) × (ready ≡ false)
