@@ -1,6 +1,6 @@
 //! Times the maps against std's, in one run, taking turns: `idbench [check|full|bytes]`. A line has the map, the type
 //! of the keys, the number of items, and the phase. After them come the nanoseconds an operation of this map and of
-//! std's, and their ratio. `bytes` fills the maps for `tools/measure-bytes`, and times nothing.
+//! std's, their ratio, and a bar that shows it. `bytes` fills the maps for `tools/measure-bytes`, and times nothing.
 #![tactic(auto)]
 
 mod items;
@@ -28,7 +28,7 @@ const QUICK: [(u64, u32); 2] = [(1_000, 9), (100_000, 3)];
 // The same of a full run.
 const FULL: [(u64, u32); 3] = [(1_000, 9), (100_000, 3), (1_000_000, 3)];
 
-/// Which sizes are measured, and whether times are printed.
+/// Which sizes are measured, and whether times or bytes are printed.
 #[derive(Clone, Copy)]
 enum Mode {
     Check,
@@ -66,7 +66,7 @@ fn in_turns<S: Subject, R: Subject>(
     Ok((ours, std))
 }
 
-// Times both kinds of map with keys of one type: whether their sums agree. The times are written where they are asked for.
+// Times both kinds of map with keys of one type: whether their sums agree. The times are written if they are asked for.
 fn compare<K: BenchKey>(
     clock: &impl Clock,
     alloc: Global,

@@ -17,7 +17,7 @@ pub(crate) const CALLS: [&str; 8] = [
     "removal",
 ];
 
-/// The phases of calls that go over a whole map, in their order.
+/// The phases of walks, of `retain`, and of ascending insertions and `pop_first`, which ordered maps alone have.
 pub(crate) const WALKS: [&str; 5] = ["iter_mut", "into_iter", "ascending", "pop_first", "retain"];
 
 /// The numbers of one size: those that go in, those that come later, and the order in which both are asked for.
@@ -35,8 +35,8 @@ pub(crate) struct Times {
     pub(crate) found: u64,
 }
 
-/// The least times of both, and the same sum.
 impl Times {
+    /// The least times of both, and the same sum.
     pub(crate) fn least(self, other: Times) -> Times {
         let mut calls = self.calls;
         for (time, again) in calls.iter_mut().zip(other.calls) {
@@ -326,7 +326,7 @@ fn halved<S: Subject>(clock: &impl Clock, map: &mut S) -> io::Result<(u64, u64)>
     Ok((nanos_since(clock, start)?, map.sum()))
 }
 
-// Times each call that goes over a whole map, over two new maps.
+// Times each call that goes over a whole map, over new maps.
 fn timed_walks<S: Subject>(
     clock: &impl Clock,
     alloc: Global,

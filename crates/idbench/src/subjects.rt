@@ -30,7 +30,7 @@ pub(crate) trait Subject: Drop {
     /// What goes in for the number.
     fn load(alloc: Global, number: u64) -> Result<Self::Load, AllocError>;
 
-    /// Whether it went in.
+    /// Inserts the load, and returns whether its key was new.
     fn put(&mut self, load: Self::Load) -> bool;
 
     /// The value of the key's item.
@@ -42,7 +42,7 @@ pub(crate) trait Subject: Drop {
     /// The sum of all values, by a walk.
     fn sum(&self) -> u64;
 
-    /// How many items a clone has, which is dropped; 0 where memory was refused.
+    /// How many items a clone has, which is dropped; 0 if memory was refused.
     fn copied(&self) -> usize;
 
     /// Adds one to the value of each item, by a walk that writes.
