@@ -39,8 +39,9 @@ impl Model for Place {
 }
 
 /// Slots in order, each once. Only a search looks at items. Contracts see the list, and whether the index is
-/// prepared for one insertion. Only `prepare` prepares it. `add_prepared`, `remove`, `remove_by`, `remove_first`,
-/// `remove_last`, `rename` and `clear` leave it not prepared, even if the list stays the same. A clone is not prepared.
+/// prepared for one insertion. Only `prepare` prepares it. `add_prepared`, an `insert_by` that inserts, `remove`,
+/// `remove_by`, `remove_first`, `remove_last`, `rename` and `clear` leave it not prepared, even if the list stays the
+/// same. A clone is not prepared.
 #[derive(Drop)]
 pub struct OrdIndex {
     root: Node,

@@ -1,5 +1,4 @@
 pub mod Answer
-pub mod Named
 pub mod Served
 pub mod Shown
 pub mod Table

@@ -17,8 +17,8 @@ impl<T: IdHashItem, S: BuildHasher> IdHashMap<T, S> {
 
     /// Inserts the items one after the other, each in the place of the item of equal key, if there is one. It is a
     /// function, since the trait `Extend` cannot refuse. Before it asks for an item, it makes room for as many as the
-    /// iterator announces at least, if the map is empty. In a map with items, it makes room for half of them, rounded
-    /// up. If that is refused, the error has no item, and no item has changed. If an item is refused later, it is
+    /// iterator announces at least, if the map is empty. A map with items makes room for half as many, rounded up. If
+    /// that is refused, the error has no item, and no item has changed. If an item is refused later, it is
     /// returned, the items before it stay, and the rest of the iterator is dropped. As many new keys as were spare are
     /// accepted before that. What an iterator announces costs at most a refusal or memory. Hashes each item's key once
     /// and searches once for it.

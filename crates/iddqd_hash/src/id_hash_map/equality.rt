@@ -10,7 +10,7 @@ impl<T: IdHashItem, S: BuildHasher> IdHashMap<T, S> {
 
     /// Whether both maps have as many items, and each item's key finds an equal item in the other, by the items' own
     /// `==`. No order and no hasher plays a part. It is a function, since the trait `PartialEq` cannot require a keyed
-    /// map. Looks each item up. Does not allocate.
+    /// map. Hashes each item's key once, and searches once for it. Does not allocate.
     pub fn eq(&self, other: &Self) -> bool
     where
         T: PartialEq,

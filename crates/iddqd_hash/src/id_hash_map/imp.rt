@@ -24,8 +24,7 @@ impl<T: IdHashItem, S: BuildHasher> IdHashMap<T, S> {
         self.get_counted(query, &mut Steps::new())
     }
 
-    /// As `get`, and counts the comparisons (ours). They are at most as many as the items whose keys have the query's
-    /// hash.
+    /// As `get`, with the comparisons counted: at most as many as the items whose keys have the query's hash (ours).
     #[inline]
     pub fn get_counted<Q: Hash + Equivalent<T::Key>>(
         &self,

@@ -1,5 +1,5 @@
-//! Insertions. Each looks for an item of equal key first, then at the limit, then for memory, and only then changes
-//! anything.
+//! Insertions. Each reports an item of equal key first, then a full map, then refused memory. After any of these no
+//! item has changed.
 ghost use Rattle.std.specs.Prelude.{◌≡◌, IfOk, IfErr, OnOk, OnErr};
 ghost use Rattle.std.specs.Borrow.{sem};
 ghost use Rattle.iddqd_store.specs.Contents.{IsAbsent};
@@ -37,8 +37,8 @@ impl<T: IdHashItem, S: BuildHasher> IdHashMap<T, S> {
         }
     }
 
-    /// Replaces the item of equal key, which it returns: the whole item, its key's spelling too. A replacement needs no
-    /// memory and is never refused. If no item has an equal key, inserts the item as `insert_unique` does, and returns
+    /// Inserts the item, or replaces the item of equal key, which it returns. The whole item is replaced, its key's
+    /// spelling too. A replacement needs no memory and is never refused. If no item has an equal key, inserts the item as `insert_unique` does, and returns
     /// `None`. If the limit or memory refuses the item, it is returned, and no item has changed. Hashes the key once
     /// and searches once.
     pub fn insert_overwrite(&mut self, item: T) -> Result<Option<T>, Refused<T>>

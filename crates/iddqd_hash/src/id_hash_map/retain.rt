@@ -37,7 +37,8 @@ impl<T: IdHashItem, S: BuildHasher> IdHashMap<T, S> {
     }
 
     /// Visits each item once, in no particular order, and removes each for which the visit returns false (the crate's
-    /// `retain` passes its closure a guard). No visit may change a key. Costs what `retain` does.
+    /// `retain` passes its closure a guard). No visit may change a key. Hashes the key of each removed item once, and
+    /// compares none. Does not allocate.
     pub fn retain_mut<V: Visit<T>>(&mut self, visitor: &mut V)
     where
         T: Drop,

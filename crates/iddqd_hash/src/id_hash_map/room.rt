@@ -73,7 +73,7 @@ impl<T: IdHashItem, S: BuildHasher> IdHashMap<T, S> {
         reserve_room(&mut self.store, &mut self.index, additional)
     }
 
-    /// The same call by its other name.
+    /// As `reserve`.
     pub fn try_reserve(&mut self, additional: usize) -> Result<(), TryReserveError>
         requires keyed { ⟦<Self as Keyed>⟧.keyed self.old }
         ensures reserves { OnOk result (Reserves additional self.old self.new) }

@@ -18,7 +18,7 @@ impl<T: IdOrdItem> IdOrdMap<T> {
 
     /// Inserts the items one after the other. Each replaces the one of an equal key. This is no `Extend`, which cannot
     /// refuse. Room in the store is reserved before an item is asked for. An empty map reserves for the lower bound of
-    /// the iterator's `size_hint`, and another for half of it, rounded up. If that is refused, the error has no item,
+    /// the iterator's `size_hint`, and a map with items for half of that, rounded up. If that is refused, the error has no item,
     /// and the items are as they were. Else the first item that is refused is returned, those before it stay, and the
     /// rest of the iterator is dropped. A wrong `size_hint` costs at most a refusal or memory. It makes as many
     /// comparisons as that many calls of `insert_overwrite`.

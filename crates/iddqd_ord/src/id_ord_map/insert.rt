@@ -1,4 +1,5 @@
-//! Insertions. They look for an equal key first, then at the limit, then ask for memory, and only then change anything.
+//! Insertions. They report an equal key first, then a full map, then refused memory. After any of these no item has
+//! changed.
 ghost use Rattle.std.specs.Prelude.{◌≡◌, ◌+◌, ◌*◌, ◌≤◌, length, insert, IfOk, IfErr, OnOk, OnErr, Some, slice_get};
 ghost use Rattle.std.specs.Borrow.{sem};
 ghost use Rattle.iddqd_store.specs.Contents.{Ascends, IsAbsent};
@@ -61,9 +62,9 @@ impl<T: IdOrdItem> IdOrdMap<T> {
         }
     }
 
-    /// Replaces the item of an equal key, and returns the old one. The whole item is replaced, its key's spelling too.
-    /// That does not allocate and is never refused. If no item has an equal key, it inserts the item as `insert_unique`
-    /// does and returns `None`. If the map is full or memory is refused, the item is returned, and the items are as
+    /// Inserts the item, or replaces the item of an equal key, which it returns. The whole item is replaced, its key's
+    /// spelling too. That does not allocate and is never refused. If no item has an equal key, it inserts the item as
+    /// `insert_unique` does and returns `None`. If the map is full or memory is refused, the item is returned, and the items are as
     /// they were. It compares as often as `insert_unique`.
     pub fn insert_overwrite(&mut self, item: T) -> Result<Option<T>, Refused<T>>
         requires keyed { Ascends T.key T.Key.cmp self.old.items }

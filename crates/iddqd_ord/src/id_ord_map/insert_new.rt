@@ -1,4 +1,4 @@
-//! Insertion by an item's own key, which goes down the index once if the store has room.
+//! Insertion by an item's own key, which goes down the index once if the store has room and no node is needed.
 ghost use Rattle.std.specs.Prelude.{◌≡◌, ◌+◌, ◌*◌, ◌≤◌, length, IfErr, IfOk, OnErr, OnOk};
 ghost use Rattle.iddqd_store.specs.Contents.{Ascends, IsAbsent};
 ghost use Rattle.iddqd_ord_index.specs.Digits.{digits};
@@ -20,7 +20,8 @@ impl<T: IdOrdItem> IdOrdMap<T> {
     ghost use Rattle.iddqd_ord.specs.Inserting.{IsInsertedIn, MissesItem};
     ghost use Rattle.iddqd_ord.specs.OrdMap.{OrdInserts, OrdKeeps};
 
-    // Inserts the item if no item has an equal key, and returns its slot.
+    // Inserts the item if no item has an equal key, and returns its slot. It allocates only if the store has no room
+    // or a full leaf needs a node, and goes down the index twice then.
     pub(super) fn insert_new(&mut self, item: T, steps: &mut Steps) -> Result<u32, Missed<T>>
         requires keyed { Ascends T.key T.Key.cmp self.old.items }
 
@@ -53,7 +54,7 @@ impl<T: IdOrdItem> IdOrdMap<T> {
         }
     }
 
-    // As `insert_new`, for any store. It goes down the index twice.
+    // As `insert_new`, which calls it if the store has no room. It goes down the index twice.
     #[inline(never)]
     fn insert_without_room(&mut self, item: T, steps: &mut Steps) -> Result<u32, Missed<T>>
         requires keyed { Ascends T.key T.Key.cmp self.old.items }

@@ -39,7 +39,7 @@ impl<T: IdOrdItem> IdOrdMap<T> {
     }
 
     /// Visits each item once, ascending, and drops each item for which the visit returns false. No visit may change a
-    /// key. It costs what `retain` does.
+    /// key. Compares no keys, and does not allocate. It goes down the index as `retain` does.
     pub fn retain_mut<V: Visit<T>>(&mut self, visitor: &mut V)
     where
         T: Drop,

@@ -24,7 +24,8 @@ pub enum Insertion {
 impl OrdIndex {
     /// Inserts the slot where the query's key belongs, unless an item has that key. It goes down the tree once, and
     /// makes at most 4 + 2 d comparisons, d the number of binary digits of `len`. The slot's own item is not looked at.
-    /// Does not allocate.
+    /// If the leaf is full and too few unused nodes are kept, nothing changes, and it returns the place. A prepared
+    /// index always has enough. After an insertion the index is not prepared. Does not allocate.
     pub fn insert_by<T: IdOrdItem, Q: Comparable<T::Key>>(
         &mut self,
         store: &ItemStore<T>,

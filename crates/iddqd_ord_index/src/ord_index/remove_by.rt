@@ -10,8 +10,9 @@ use crate::tree::root;
 use iddqd_store::{Comparable, IdOrdItem, ItemStore, Steps};
 
 impl OrdIndex {
-    /// Removes the slot whose item has the query's key and returns it, or returns `None` if there is none. It goes
-    /// down the tree once, by as many comparisons as `find`, and does not allocate.
+    /// Removes the slot whose item has the query's key and returns it. If there is none, it returns `None`, and the
+    /// list is as it was. Either way the index is not prepared then. It goes down the tree once, by as many comparisons
+    /// as `find`, and does not allocate.
     pub fn remove_by<T: IdOrdItem, Q: Comparable<T::Key>>(
         &mut self,
         store: &ItemStore<T>,

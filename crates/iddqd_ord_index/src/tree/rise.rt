@@ -6,7 +6,7 @@ use super::node::Node;
 use super::pool::NodePool;
 use std::mem;
 
-// Makes a root above the halves of the one that was split, which have this many slots.
+// Makes a root above the halves of the one that was split. `total` is how many slots both have, without `middle`.
 pub(crate) fn rise(root: &mut Node, total: u32, middle: u32, upper: Box<Node>, pool: &mut NodePool)
     requires lower { IsBranch (root.old.height + 1) root.old }
     requires upper { IsBranch (root.old.height + 1) upper.value }

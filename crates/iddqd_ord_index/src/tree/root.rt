@@ -73,7 +73,7 @@ pub(crate) fn remove(root: &mut Node, levels: usize, at: u32, pool: &mut NodePoo
     (slot, fall(root, levels, pool))
 }
 
-// Removes the slot that the query equals, and returns it with the number of levels. If there is none, it returns
+// Removes the slot whose item has the query's key, and returns it with the number of levels. If there is none, it returns
 // `None`, and the root is as it was.
 pub(crate) fn remove_by<T: IdOrdItem, Q: Comparable<T::Key>>(
     root: &mut Node,

@@ -10,8 +10,8 @@ use iddqd_store::{IdHashItem, Refused, Visit};
 use std::hash::BuildHasher;
 
 impl<'a, T: IdHashItem, S: BuildHasher> Entry<'a, T, S> {
-    /// Returns a guard of the entry's item, and drops this item. If the entry is vacant, inserts this item as
-    /// `VacantEntry::insert` does, and returns a guard of it. The guard has to be spent.
+    /// Inserts the item if the entry is vacant, or else drops it, and returns a guard of the entry's item. It inserts
+    /// as `VacantEntry::insert` does. The guard has to be spent.
     /// Match the refusal by a name, as in `Err(_refused)`. Beside a guard that is moved out of `Ok`, `Err(_)` gets no
     /// proof, if the items are not `Copy`.
     pub fn or_insert(self, item: T) -> Result<RefMut<'a, T, S>, Refused<T>>

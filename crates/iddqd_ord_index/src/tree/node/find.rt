@@ -43,7 +43,7 @@ impl Node {
         }
     }
 
-    // The slot that the query equals, by as many comparisons. It adds up no positions.
+    // The slot whose item has the query's key, by as many comparisons. It adds up no positions.
     pub(crate) fn get<T: IdOrdItem, Q: Comparable<T::Key>>(
         &self,
         store: &ItemStore<T>,

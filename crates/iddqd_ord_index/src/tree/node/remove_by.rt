@@ -54,7 +54,7 @@ fn remove_own(
 }
 
 impl Node {
-    // Removes the slot that the query equals and returns it, or returns `None` and changes nothing. It makes at most
+    // Removes the slot whose item has the query's key and returns it, or returns `None` and changes nothing. It makes at most
     // four comparisons a level, and adds up no positions.
     pub(crate) fn remove_by<T: IdOrdItem, Q: Comparable<T::Key>>(
         &mut self,
