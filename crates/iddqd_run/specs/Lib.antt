@@ -1,4 +1,5 @@
 pub mod Answer
+pub mod Named
 pub mod Served
 pub mod Shown
 pub mod Table

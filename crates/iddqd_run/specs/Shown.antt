@@ -6,7 +6,7 @@ use Rattle.std.specs.Option.{option_map}
 use Rattle.iddqd_run.specs.Answer as answer
 use Rattle.iddqd.specs.Contents.{Ascends}
 use Rattle.iddqd.specs.Holding.{max_items}
-use Rattle.idtable_lines.specs.Lines.{Request, paired_request, pairs_of, words_of}
+use Rattle.idtable_lines.specs.Lines.{Request, AddAll, paired_request, pairs_of, words_of}
 use Rattle.idtable_commands.specs.Step.{MapState}
 use Rattle.idtable_lines.specs.declared.arguments.Kind.{Kind}
 use Rattle.idtable_lines.specs.declared.arguments.Kind.TheVariants.{Hash, Ord}
@@ -131,6 +131,10 @@ module _ (kind : Kind) (request : Request) where
     pub written : AppendsBytes (line_of reply) before after
     pub answers : AnswersInText old refusals reply new
 
+-- the same, to a line that adds the entries of items
+abbrev pub AddsEach : Kind → List Entry → (old new : List Entry) → (before after : String Global) → ℕ → Type 0
+AddsEach kind items = Replies kind (AddAll (entries_of items))
+
 -- the text is the replies to the input, with this many lines refused memory
 abbrev pub AnswersAsText : Kind → List ℕ → String Global × ℕ → Type 0
 AnswersAsText kind input (text, refusals) = answer.AnswersWithRefusals kind input refusals (string_bytes text)
@@ -138,6 +142,10 @@ AnswersAsText kind input (text, refusals) = answer.AnswersWithRefusals kind inpu
 -- what a line asks that adds the pairs that these fields are
 abbrev pub adding_asked : List ℕ → Request
 adding_asked fields = paired_request (pairs_of (words_of fields))
+
+-- the reply to such a line
+abbrev pub AddsAll : Kind → List ℕ → (old new : List Entry) → (before after : String Global) → ℕ → Type 0
+AddsAll kind fields = Replies kind (adding_asked fields)
 
 -- the entries are of the pairs that these fields are; there are none if the fields follow no form
 abbrev pub IsPairs : List ℕ → Option (Vec Entry) → Type 0

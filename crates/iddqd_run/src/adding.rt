@@ -1,7 +1,7 @@
 //! The line that adds many entries, and its reply.
 ghost use Rattle.std.specs.Prelude.{◌≡◌, IfOk, is_some, if◌then◌else◌};
-ghost use Rattle.idtable_lines.specs.Lines.{AddAll, pairs_of, words_of};
-ghost use Rattle.iddqd_run.specs.Shown.{IsPairs, Replies, adding_asked, entries_of};
+ghost use Rattle.idtable_lines.specs.Lines.{pairs_of, words_of};
+ghost use Rattle.iddqd_run.specs.Shown.{AddsAll, AddsEach, IsPairs};
 ghost use Rattle.iddqd_run.specs.declared.entries.LineReply.TheVariants.{RefusedMemory, Bad};
 
 use crate::by_name::ByName;
@@ -20,7 +20,7 @@ impl<M: ByName<Item = Entry, Key = String>> Table<M> {
         fields: &[u8],
         text: &mut String,
     ) -> Result<u64, AllocError>
-        ensures { IfOk result (Replies M.kind (adding_asked fields.now) self.old self.new text.old text.new) }
+        ensures { IfOk result (AddsAll M.kind fields.now self.old self.new text.old text.new) }
     {
         match entries_in(alloc, fields) {
             Ok(Some(entries)) => self.add_entries(entries, text),
@@ -31,7 +31,7 @@ impl<M: ByName<Item = Entry, Key = String>> Table<M> {
 
     // Puts the entries in, one after the other, up to one whose name is there by then, or a full map.
     fn add_entries(&mut self, entries: Vec<Entry>, text: &mut String) -> Result<u64, AllocError>
-        ensures { IfOk result (Replies M.kind (AddAll (entries_of entries.items)) self.old self.new text.old text.new) }
+        ensures { IfOk result (AddsEach M.kind entries.items self.old self.new text.old text.new) }
     {
         let before = self.map.len();
         let count = entries.len();

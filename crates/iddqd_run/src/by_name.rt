@@ -5,8 +5,9 @@ ghost use Rattle.iddqd.specs.Digits.{digits};
 ghost use Rattle.iddqd.specs.IdHashMap.{of_stored_hash};
 ghost use Rattle.iddqd.specs.Hashing.{hash_under};
 ghost use Rattle.iddqd.specs.Visiting.{VisitsKeepKeys};
-ghost use Rattle.idtable_commands.specs.KeyedMap.{RemovesFrom, StaysKeyed, VisitsIn, find_in};
+ghost use Rattle.idtable_commands.specs.KeyedMap.{RemovesFrom, VisitsIn};
 ghost use Rattle.iddqd_run.specs.Answer.{last_of, without_last};
+ghost use Rattle.iddqd_run.specs.Named.{Stays, named_in};
 ghost use Rattle.iddqd_run.specs.Shown.{AppendsList, HasEnds, KeepsOnly, ListsItems, RefusesList, all_lent};
 ghost use Rattle.idtable_lines.specs.declared.arguments.Kind.{Kind};
 ghost use Rattle.iddqd_run.specs.declared.entries.Entry.{Entry};
@@ -61,12 +62,12 @@ pub(crate) trait ByName: KeyedMap {
     /// Returns the item of the name, or `None`. Does not allocate.
     fn find(&self, name: &str) -> Option<&Self::Item>
         requires keyed { Self.keyed self.now }
-        ensures { option_copied result ≡ find_in Self.state Self.key (is_text name.now) self.now };
+        ensures { option_copied result ≡ named_in Self.KeyedMap (is_text name.now) self.now };
 
     /// As `find`, with the comparisons counted.
     fn find_counted(&self, name: &str, steps: &mut Steps) -> Option<&Self::Item>
         requires keyed { Self.keyed self.now }
-        ensures found { option_copied result ≡ find_in Self.state Self.key (is_text name.now) self.now }
+        ensures found { option_copied result ≡ named_in Self.KeyedMap (is_text name.now) self.now }
         ensures steps { steps.new ≤ steps.old + most_steps self.now name.now };
 
     /// Visits the item of the name by a guard, and returns what the visit did, or `None` if there is none.
@@ -78,11 +79,11 @@ pub(crate) trait ByName: KeyedMap {
         ensures visited { VisitsIn Self.state Self.key V.visits (is_text name.now) visitor.old visitor.new self.old self.new result }
 
         // if it is absent
-        ensures absent { IfNone result (find_in Self.state Self.key (is_text name.now) self.old ≡ None) }
+        ensures absent { IfNone result (named_in Self.KeyedMap (is_text name.now) self.old ≡ None) }
         ensures unchanged { IfNone result (self.new ≡ self.old) }
 
         // either way
-        ensures stays { StaysKeyed Self.state Self.limit Self.rule Self.keyed self.old self.new };
+        ensures stays { Stays Self.KeyedMap self.old self.new };
 
     /// Keeps the items that are to stay.
     fn keep<K: Keeps<Self::Item>>(&mut self, which: &K)
@@ -90,14 +91,14 @@ pub(crate) trait ByName: KeyedMap {
         Self::Item: Drop,
         requires keyed { Self.keyed self.old }
         ensures items { KeepsOnly Self.state (K.keeps which.now) self.old self.new }
-        ensures stays { StaysKeyed Self.state Self.limit Self.rule Self.keyed self.old self.new };
+        ensures stays { Stays Self.KeyedMap self.old self.new };
 
     /// Removes the item of the name and returns it, or returns `None` if there is none. Does not allocate.
     fn take_out(&mut self, name: &str) -> Option<Self::Item>
         requires keyed { Self.keyed self.old }
-        ensures value { result ≡ find_in Self.state Self.key (is_text name.now) self.old }
+        ensures value { result ≡ named_in Self.KeyedMap (is_text name.now) self.old }
         ensures items { RemovesFrom Self.state Self.key (is_text name.now) self.old self.new }
-        ensures stays { StaysKeyed Self.state Self.limit Self.rule Self.keyed self.old self.new };
+        ensures stays { Stays Self.KeyedMap self.old self.new };
 
     /// The entry of the least name, or `None`.
     fn least(&self) -> Result<Option<&Entry>, NoEnds>
@@ -121,7 +122,7 @@ pub(crate) trait ByName: KeyedMap {
         ensures taken { IfOk result (λ taken. taken ≡ slice_get (entries self.old) 0) }
         ensures left { OnOk result (entries self.new ≡ drop 1 (entries self.old)) }
         ensures ordered { OnOk result (HasEnds kind (entries self.old)) }
-        ensures stays { OnOk result (StaysKeyed Self.state Self.limit Self.rule Self.keyed self.old self.new) }
+        ensures stays { OnOk result (Stays Self.KeyedMap self.old self.new) }
 
         // in a hash map
         ensures endless { OnErr result (kind ≡ Hash) }
@@ -136,7 +137,7 @@ pub(crate) trait ByName: KeyedMap {
         ensures taken { IfOk result (λ taken. taken ≡ last_of (entries self.old)) }
         ensures left { OnOk result (entries self.new ≡ without_last (entries self.old)) }
         ensures ordered { OnOk result (HasEnds kind (entries self.old)) }
-        ensures stays { OnOk result (StaysKeyed Self.state Self.limit Self.rule Self.keyed self.old self.new) }
+        ensures stays { OnOk result (Stays Self.KeyedMap self.old self.new) }
 
         // in a hash map
         ensures endless { OnErr result (kind ≡ Hash) }
