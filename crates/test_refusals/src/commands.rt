@@ -1,12 +1,13 @@
 //! `run` with a request refused: the commands come back, or the replies are one of the rows that a refusal allows.
 use crate::errors::items;
 use crate::words::tell;
+use iddqd::IdOrdMap;
 use idtable_commands::{Command, Reply};
 use std::alloc::{AllocError, Global};
 use std::test::Fail;
 use test_support::heap::{arm, is_met};
-use test_support::kept::Kept;
-use test_support::maps::{AskedByKey, Commanded, by_hash, in_order};
+use test_support::kept::{Kept, make_kept};
+use test_support::maps::{AskedByKey, Commanded, Ordered, by_hash, in_order};
 use test_support::visitors::Untouched;
 
 // Six commands, all of one name.
@@ -141,42 +142,33 @@ const ROWS: [Row; 4] = [
     ),
 ];
 
-// The replies to the six others, the item of the value removed at last.
-fn bulk_row(first: Said, second: Said, reserved: Said, shrunk: Said, value: u32) -> [Said; 6] {
-    [
-        first,
-        second,
-        reserved,
-        shrunk,
-        Said::Removed(value),
-        Said::Length(0),
-    ]
-}
+// The replies to the first four of the six others, and the value of the item that is removed at last.
+type BulkRow = (&'static str, [Said; 4], u32);
 
 // Where the first item is not in, the second is.
-fn bulk_rows() -> [Row; 6] {
+fn bulk_rows() -> [BulkRow; 6] {
     let (added, done) = (Said::Extended(1), Said::Done);
     let (none_added, back) = (Said::Stopped(None, 0), Said::Stopped(Some(1), 0));
     let conflict = Said::Conflict(2, Some(1), 0);
     let not_shown = Said::Conflict(2, None, 0);
     let no_memory = Said::NoMemory(None);
     [
-        ("answered", bulk_row(added, conflict, done, done, 1)),
-        ("none_added", bulk_row(none_added, added, done, done, 2)),
-        ("added_back", bulk_row(back, added, done, done, 2)),
-        (
-            "conflict_not_shown",
-            bulk_row(added, not_shown, done, done, 1),
-        ),
-        (
-            "room_refused",
-            bulk_row(added, conflict, no_memory, done, 1),
-        ),
-        (
-            "shrink_refused",
-            bulk_row(added, conflict, done, no_memory, 1),
-        ),
+        ("answered", [added, conflict, done, done], 1),
+        ("none_added", [none_added, added, done, done], 2),
+        ("added_back", [back, added, done, done], 2),
+        ("conflict_not_shown", [added, not_shown, done, done], 1),
+        ("room_refused", [added, conflict, no_memory, done], 1),
+        ("shrink_refused", [added, conflict, done, no_memory], 1),
     ]
+}
+
+// The rows over a map that holds this many other items.
+fn bulk_rows_beside(others: usize) -> [Row; 6] {
+    bulk_rows().map(|(name, [first, second, reserved, shrunk], value)| {
+        let removed = Said::Removed(value);
+        let left = Said::Length(others);
+        (name, [first, second, reserved, shrunk, removed, left])
+    })
 }
 
 // The name of the row that the replies are.
@@ -189,24 +181,25 @@ fn row_of(rows: &[Row], replies: &[Reply<Kept>]) -> Option<&'static str> {
     None
 }
 
-// Runs the commands on a new map with a request refused: the row that came, and whether a request was refused. Commands that come back
-// are run again.
+// Runs the commands on a map with a request refused: the row that came, and whether a request was refused. Commands that come back
+// are run again. In the end the map has as many items as before.
 fn swept_run<M: AskedByKey<Item = Kept, Key = u32> + Commanded<Kept, u32>>(
     alloc: Global,
     map: &mut M,
     commands: Vec<Command<Kept, u32, Untouched>>,
     rows: &[Row],
 ) -> Result<(&'static str, bool), Fail> {
+    let others = map.len();
     arm(alloc);
     let outcome = map.run(alloc, commands);
     let is_met = is_met(alloc);
     match outcome {
         Ok(replies) => match row_of(rows, replies.as_slice()) {
-            Some(row) if map.len() == 0 => Ok((row, is_met)),
+            Some(row) if map.len() == others => Ok((row, is_met)),
             _ => Err(Fail::from("the replies are no row")),
         },
         Err(stop) => {
-            let none_ran = is_met && map.len() == 0;
+            let none_ran = is_met && map.len() == others;
             let again = map
                 .run(alloc, stop.commands)
                 .map_err(|_| "no memory for the replies")?;
@@ -238,7 +231,8 @@ fn bulk_run_by<M: AskedByKey<Item = Kept, Key = u32> + Commanded<Kept, u32>>(
     alloc: Global,
     map: &mut M,
 ) -> Result<&'static str, Fail> {
-    match swept_run(alloc, map, bulk_commands(alloc)?, &bulk_rows())? {
+    let rows = bulk_rows_beside(map.len());
+    match swept_run(alloc, map, bulk_commands(alloc)?, &rows)? {
         ("answered", true) => Ok("shrunk_without"),
         seen => word(seen),
     }
@@ -254,9 +248,26 @@ fn hash_run_of_commands(rt: HostRuntime) -> Result<(), Fail> {
     tell(&rt, run_by(rt.alloc(), &mut by_hash(rt.alloc())))
 }
 
+// Puts eleven items of other names into the map, as many as a node has room for.
+fn fill_with_others(alloc: Global, map: &mut Ordered<Kept>) -> Result<(), Fail> {
+    for name in 8..19 {
+        let mut item = make_kept(alloc, 0)?;
+        item.name = name;
+        if !map.is_put(item) {
+            return Err(Fail::from("an item did not go in"));
+        }
+    }
+    Ok(())
+}
+
+// The store and the node are full, so both ask for memory.
 #[test]
 fn run_of_bulk_commands(rt: HostRuntime) -> Result<(), Fail> {
-    tell(&rt, bulk_run_by(rt.alloc(), &mut in_order(rt.alloc())))
+    let alloc = rt.alloc();
+    let full = IdOrdMap::with_capacity(alloc, 11).map_err(|_| "no memory for the map")?;
+    let mut map = Ordered::new(full);
+    fill_with_others(alloc, &mut map)?;
+    tell(&rt, bulk_run_by(alloc, &mut map))
 }
 
 #[test]

@@ -146,10 +146,10 @@ fn insert_unique_counted(rt: HostRuntime) -> Result<(), Fail> {
     tell(&rt, insertion(rt.alloc(), &mut map, ByCounted, 4))
 }
 
-// The 78th of ascending numbers gives the tree its third level, and no unused node is left.
+// The 78th of ascending numbers gives the tree its third level. With 83 the last leaf is full, and no unused node is left.
 #[test]
 fn prepare_of_three_levels(rt: HostRuntime) -> Result<(), Fail> {
-    tell(&rt, ordered_insertion(rt.alloc(), 78))
+    tell(&rt, ordered_insertion(rt.alloc(), 83))
 }
 
 #[test]
@@ -211,11 +211,11 @@ fn hash_akin_insertions_without_memory(rt: HostRuntime) -> Result<(), Fail> {
     Ok(())
 }
 
-// The tree has no unused node, as in `prepare_of_three_levels`: an insertion of a new key would ask for some.
+// The last leaf is full and the tree has no unused node, as in `prepare_of_three_levels`: a greater key would ask for some.
 #[test]
 fn akin_insertions_without_nodes(rt: HostRuntime) -> Result<(), Fail> {
     let map = in_order(rt.alloc());
-    check(&rt, akin_insertions(rt.alloc(), map, 78)? == (true, false));
+    check(&rt, akin_insertions(rt.alloc(), map, 83)? == (true, false));
     Ok(())
 }
 
