@@ -1,10 +1,11 @@
 -- The branches of a node, by the cells and the counts that hold them.
 use Rattle.std.proofs.Common.{◌≡◌, ℕ, ◌+◌, ◌<◌, List, [], length, map, take, drop, set, get_or, ap, sym, ◌∙◌, subst, arith, Option, Some, None, Box, Global}
 use Rattle.std.specs.List.{insert, remove}
-use Rattle.std.proofs.lemmas.List.{get_or-map, length-map, map-set, take-map, drop-map}
-use Rattle.iddqd_ord_index.specs.Cells.{items_present, IsPacked}
-use Rattle.iddqd_ord_index.specs.Nodes.{below, subtrees, AreBranches}
+use Rattle.std.proofs.lemmas.List.{get_or-map, length-map, map-set, nil_from_length, take-map, drop-map}
+use Rattle.iddqd_ord_index.specs.Cells.{items_present, filled, IsPacked}
+use Rattle.iddqd_ord_index.specs.Nodes.{below, subtrees, AreBranches, AreCounted, IsBlock, cells_in, counts_in, counts_of, nodes_of, HasBlock, IsBare, IsThere}
 use Rattle.iddqd_ord_index.specs.Shape.{Subtree, lists, starts, unused}
+use Rattle.iddqd_ord_index.specs.declared.tree.node.Block.{Block}
 use Rattle.iddqd_ord_index.specs.declared.tree.node.Branches.{Branches}
 use Rattle.iddqd_ord_index.specs.declared.tree.node.Node.{Node}
 use Rattle.iddqd_ord_index.proofs.PackedLemmas.{cell_at, map-insert, map-remove}
@@ -28,14 +29,61 @@ subtree_at os i o b d p lt e s =
     get_or-map (λ b. b.value) (items_present os) i b d (omega arith) ∙ ap (λ b. b.value) (sym f)
 
 module _ (bs : Branches) (a : AreBranches bs) where
-  pub length-counts : length bs.counts.items ≡ length (below bs)
+  pub length-counts : length (counts_of bs) ≡ length (below bs)
   length-counts = ap length a.counted ∙ length-map (below bs) (λ t. length t.slots)
 
-  pub length-nodes : length (items_present bs.nodes) ≡ length (below bs)
-  length-nodes = sym (length-subtrees bs.nodes)
+  pub length-nodes : length (items_present (nodes_of bs)) ≡ length (below bs)
+  length-nodes = sym (length-subtrees (nodes_of bs))
 
-  pub count_at : (i d : ℕ) → i < length (below bs) → get_or bs.counts.items i d ≡ length (get_or (below bs) i unused).slots
+  pub count_at : (i d : ℕ) → i < length (below bs) → get_or (counts_of bs) i d ≡ length (get_or (below bs) i unused).slots
   count_at i d lt = ap (λ l. get_or l i d) a.counted ∙ get_or-map (λ t. length t.slots) (below bs) i unused d lt
+
+-- the numbers of slots beside cells
+module _ (os : List (Option (Box Node Global))) (ns : List ℕ) (a : AreCounted os ns) where
+  pub counted_length : length ns ≡ length (subtrees os)
+  counted_length = ap length a.counted ∙ length-map (subtrees os) (λ t. length t.slots)
+
+  pub counted_at : (i d : ℕ) → i < length (subtrees os) → get_or ns i d ≡ length (get_or (subtrees os) i unused).slots
+  counted_at i d lt = ap (λ l. get_or l i d) a.counted ∙ get_or-map (λ t. length t.slots) (subtrees os) i unused d lt
+
+-- the branches in a block
+pub block_is : (bs : Branches) (b : Box Block Global) → bs.block ≡ Some b → AreBranches bs → IsBlock b.value
+block_is bs b e a = subst (λ o. AreCounted (cells_in o) (counts_in o)) e a
+
+pub block_below : (bs : Branches) (b : Box Block Global) → bs.block ≡ Some b → below bs ≡ subtrees b.value.nodes
+block_below bs b e = ap (λ o. subtrees (cells_in o)) e
+
+-- the same of a block that was read
+module _ (bs : Branches) (b : Box Block Global) (read : Block) (is : bs.block ≡ Some b) (same : read ≡ b.value) where
+  pub read_block : AreBranches bs → IsBlock read
+  read_block a = subst IsBlock (sym same) (block_is bs b is a)
+
+  pub read_below : below bs ≡ subtrees read.nodes
+  read_below = block_below bs b is ∙ sym (ap (λ b. subtrees b.nodes) same)
+
+-- branches lie in a block
+there : (o : Option (Box Block Global)) → 0 < length (subtrees (cells_in o)) → IsThere o
+there None some = absurd (omega (arith, some))
+there (Some b) some = tt
+
+pub has_block : (bs : Branches) → 0 < length (below bs) → HasBlock bs
+has_block bs some = there bs.block some
+
+pub no_block : {P : Type 0} (bs : Branches) → bs.block ≡ None → HasBlock bs → P
+no_block bs none has = absurd (subst IsThere none has)
+
+pub none_below : {P : Type 0} (bs : Branches) → bs.block ≡ None → 0 < length (below bs) → P
+none_below bs none some = no_block bs none (has_block bs some)
+
+-- a block from which no branch hangs is bare
+bare_in : (o : Option (Box Block Global)) (b : Box Block Global) → o ≡ Some b → IsPacked (cells_in o) → length (subtrees (cells_in o)) ≡ 0 → length (counts_in o) ≡ 0 → IsBare b.value
+bare_in o b e p n m =
+    let none : length (items_present (cells_in o)) ≡ 0 = omega (arith, n, length-subtrees (cells_in o)) in
+    let cells = p.cells ∙ ap filled (nil_from_length (items_present (cells_in o)) none) in
+    (sym (ap cells_in e) ∙ cells, sym (ap counts_in e) ∙ nil_from_length (counts_in o) m)
+
+pub bare_block : (bs : Branches) (b : Box Block Global) → bs.block ≡ Some b → AreBranches bs → below bs ≡ [] → IsBare b.value
+bare_block bs b e a n = bare_in bs.block b e a.packed (ap length n) (ap length a.counted ∙ length-map (below bs) (λ t. length t.slots) ∙ ap length n)
 
 pub list_at : (ts : List Subtree) (i : ℕ) → i < length ts → get_or (lists ts) i [] ≡ (get_or ts i unused).slots
 list_at ts i lt = get_or-map (λ t. t.slots) ts i unused [] lt
@@ -44,11 +92,11 @@ pub length-lists : (ts : List Subtree) → length (lists ts) ≡ length ts
 length-lists ts = length-map ts (λ t. t.slots)
 
 -- branches with a list of subtrees that one operation makes of both
-pub branches_are : (bs : Branches) (ts : List Subtree) → IsPacked bs.nodes → below bs ≡ ts → bs.counts.items ≡ map (λ t. length t.slots) ts → AreBranches bs
-branches_are bs ts p e c = record { packed = p; counted = c ∙ sym (ap (λ l. map (λ t. length t.slots) l) e) }
+pub branches_are : (os : List (Option (Box Node Global))) (ns : List ℕ) (ts : List Subtree) → IsPacked os → subtrees os ≡ ts → ns ≡ map (λ t. length t.slots) ts → AreCounted os ns
+branches_are os ns ts p e c = record { packed = p; counted = c ∙ sym (ap (λ l. map (λ t. length t.slots) l) e) }
 
 -- how many slots stand before each branch, by the counts
-module _ (bs : Branches) (a : AreBranches bs) (cs : List ℕ) (same : cs ≡ bs.counts.items) where
+module _ (bs : Branches) (a : AreBranches bs) (cs : List ℕ) (same : cs ≡ (counts_of bs)) where
   pub counts_at : (i : ℕ) → i < length (below bs) → get_or cs i 0 ≡ length (get_or (lists (below bs)) i [])
   counts_at i lt = ap (λ l. get_or l i 0) same ∙ (count_at bs a i 0 lt ∙ ap length (sym (list_at (below bs) i lt)))
 
@@ -73,13 +121,13 @@ module _ (os ps : List (Option (Box Node Global))) (i : ℕ) where
   below_drop e = ap (λ l. map (λ b. b.value) l) e ∙ sym (drop-map (λ b. b.value) i (items_present os))
 
 -- a branch that was taken out of its cell, and one that was put there
-pub branches_put : (old new : Branches) (i count : ℕ) (b : Box Node Global) → AreBranches old → i < length (below old) → new.nodes ≡ set (set old.nodes i None) i (Some b) → new.counts.items ≡ set old.counts.items i count → count ≡ length b.value.slots
+pub branches_put : (old new : Branches) (i count : ℕ) (b : Box Node Global) → AreBranches old → i < length (below old) → (nodes_of new) ≡ set (set (nodes_of old) i None) i (Some b) → (counts_of new) ≡ set (counts_of old) i count → count ≡ length b.value.slots
     → AreBranches new × (below new ≡ set (below old) i b.value)
 branches_put old new i count b a lt n c k =
-    let w : i < length (items_present old.nodes) = omega (arith, length-nodes old a) in
-    let e : below new ≡ set (below old) i b.value = ap subtrees n ∙ put_subtrees old.nodes i b a.packed w in
-    let p : IsPacked new.nodes = subst (λ l. IsPacked l) (sym n) (put_packed old.nodes i b a.packed w) in
-    let f : set old.counts.items i count ≡ set old.counts.items i (length b.value.slots) = ap (λ x. set old.counts.items i x) k in
-    let g : set old.counts.items i (length b.value.slots) ≡ map (λ t. length t.slots) (set (below old) i b.value) =
+    let w : i < length (items_present (nodes_of old)) = omega (arith, length-nodes old a) in
+    let e : below new ≡ set (below old) i b.value = ap subtrees n ∙ put_subtrees (nodes_of old) i b a.packed w in
+    let p : IsPacked (nodes_of new) = subst (λ l. IsPacked l) (sym n) (put_packed (nodes_of old) i b a.packed w) in
+    let f : set (counts_of old) i count ≡ set (counts_of old) i (length b.value.slots) = ap (λ x. set (counts_of old) i x) k in
+    let g : set (counts_of old) i (length b.value.slots) ≡ map (λ t. length t.slots) (set (below old) i b.value) =
     ap (λ l. set l i (length b.value.slots)) a.counted ∙ sym (map-set (λ t. length t.slots) (below old) i b.value) in
-    (branches_are new (set (below old) i b.value) p e (c ∙ (f ∙ g)), e)
+    (branches_are (nodes_of new) (counts_of new) (set (below old) i b.value) p e (c ∙ (f ∙ g)), e)

@@ -8,7 +8,7 @@ use Rattle.std.proofs.lemmas.Bool.{cases_lt}
 use Rattle.std.proofs.lemmas.List.{set-get_or}
 use Rattle.std.specs.declared.cmp.Ordering.{Ordering}
 use Rattle.std.specs.List.{All}
-use Rattle.iddqd_ord_index.specs.Nodes.{below, AreBranches}
+use Rattle.iddqd_ord_index.specs.Nodes.{below, AreBranches, counts_of, nodes_of}
 use Rattle.iddqd_ord_index.specs.Shape.{Subtree, lists, starts, levels, tree, unused, IsBranch, IsBranchAt, IsForked}
 use Rattle.iddqd_ord_index.specs.Standing.{IsAmong, IsMonotone, IsPart, IsPlace}
 use Rattle.iddqd_ord_index.specs.declared.tree.node.Branches.{Branches}
@@ -91,7 +91,7 @@ module _ (order : ℕ → Ordering) (P : ℕ → Type 0) (ts : List Subtree) (ss
 
 -- the branch put back as it was
 pub put_same : (old new : Branches) (i count : ℕ) (b : Box Node Global) (before : Subtree) → AreBranches old → i < length (below old) → b.value ≡ before → before ≡ get_or (below old) i unused
-    → new.nodes ≡ set (set old.nodes i None) i (Some b) → new.counts.items ≡ set old.counts.items i count → count ≡ length (get_or (below old) i unused).slots
+    → (nodes_of new) ≡ set (set (nodes_of old) i None) i (Some b) → (counts_of new) ≡ set (counts_of old) i count → count ≡ length (get_or (below old) i unused).slots
     → AreBranches new × (below new ≡ below old)
 put_same old new i count b before a lt e v n c k =
     let same = e ∙ v in

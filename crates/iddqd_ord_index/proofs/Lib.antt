@@ -21,6 +21,7 @@ pub mod PackedLemmas
 pub mod PairLemmas
 pub mod RemoveLemmas
 pub mod RunLemmas
+pub mod SlotLemmas
 pub mod StandingLemmas
 pub mod TierLemmas
 pub mod InOrderLemmas

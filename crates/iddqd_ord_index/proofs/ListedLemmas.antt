@@ -1,10 +1,12 @@
 -- The items at a list of occupied slots, as the list and the store change.
 --     length-listed, get-listed, read-listed      one item for each slot, in the slots' order
 --     listed-insert, listed-remove, listed-set      what a change of the list makes of the items
+--     listed-part, listed-last      what a part of the list makes of them, and its last slot
 --     listed-same, listed-updated      what a change of the store does
-use Rattle.std.proofs.Common.{◌≡◌, ◌≢◌, ℕ, zero, suc, ◌<◌, List, [], ◌∷◌, length, map, get_or, set, Option, Some, None, IsSome, is_some, refl, sym, ap, ◌∙◌, arith, true≢false, subst, false, nat_eq, suc-le-suc, option_and_then}
+use Rattle.std.proofs.Common.{◌≡◌, ◌≢◌, ℕ, zero, suc, ◌<◌, List, [], ◌∷◌, ◌++◌, take, drop, length, map, get_or, set, Option, Some, None, IsSome, is_some, refl, sym, ap, ◌∙◌, arith, true≢false, subst, false, nat_eq, suc-le-suc, option_and_then}
 use Rattle.std.proofs.Math.Nat.{le_of_suc-le-suc}
 use Rattle.std.proofs.lemmas.Bool.{eqb-false}
+use Rattle.std.proofs.lemmas.List.Elements.{All-take, filter_map-append}
 use Rattle.std.specs.List.{All, AllByRecursion, HoldsAt, IsDistinct, filter_map, cons_option, insert, remove, slice_get}
 use Rattle.iddqd_ord_index.specs.Listed.{listed_items, AreOccupied}
 use Rattle.iddqd_store.proofs.SearchLemmas.{at_key}
@@ -65,6 +67,16 @@ module _ {X Y : Type 0} (h : X → Option Y) where
       let w = first_given z zs all in
       rw w.1 (ap (λ ys. w.0 ∷ ys) (set-given zs i x y (rest_given z zs all) e))
 
+drop-given : {X Y : Type 0} (h : X → Option Y) (n : ℕ) (xs : List X) → Gives h xs → filter_map h (drop n xs) ≡ drop n (filter_map h xs)
+drop-given h zero xs all = refl
+drop-given h (suc n) [] all = refl
+drop-given h (suc n) (x ∷ xs) all = let y = first_given h x xs all in rw y.1 (drop-given h n xs (rest_given h x xs all))
+
+take-given : {X Y : Type 0} (h : X → Option Y) (n : ℕ) (xs : List X) → Gives h xs → filter_map h (take n xs) ≡ take n (filter_map h xs)
+take-given h zero xs all = refl
+take-given h (suc n) [] all = refl
+take-given h (suc n) (x ∷ xs) all = let y = first_given h x xs all in rw y.1 (ap (λ ys. y.0 ∷ ys) (take-given h n xs (rest_given h x xs all)))
+
 same-given : {X Y : Type 0} (g h : X → Option Y) (xs : List X) → All (λ x. g x ≡ h x) xs → filter_map g xs ≡ filter_map h xs
 same-given g h [] all = refl
 same-given g h (x ∷ xs) all =
@@ -88,6 +100,17 @@ module _ {T : Type 0} (store : Store T) (slots : List ℕ) (occupied : AreOccupi
 
   pub listed-set : (i slot : ℕ) (x : T) → item_at store slot ≡ Some x → listed_items store (set slots i slot) ≡ set (listed_items store slots) i x
   listed-set i slot x e = set-given (item_at store) slots i slot x occupied e
+
+-- a part of the list lists a part of the items
+pub listed-part : {T : Type 0} (store : Store T) (slots : List ℕ) (from to : ℕ) → AreOccupied store slots → listed_items store (drop from (take to slots)) ≡ drop from (take to (listed_items store slots))
+listed-part store slots from to occupied =
+    drop-given (item_at store) from (take to slots) (All-take (λ s. IsSome (item_at store s)) to slots occupied)
+    ∙ ap (λ xs. drop from xs) (take-given (item_at store) to slots occupied)
+
+-- the last slot's item is the last one
+pub listed-last : {T : Type 0} (store : Store T) (rest : List ℕ) (slot : ℕ) (x : T) → item_at store slot ≡ Some x → listed_items store (rest ++ slot ∷ []) ≡ listed_items store rest ++ x ∷ []
+listed-last store rest slot x there =
+    filter_map-append (item_at store) rest (slot ∷ []) ∙ ap (λ o. listed_items store rest ++ cons_option o []) there
 
 -- a store that has the same at each listed slot lists the same items
 pub listed-same : {T : Type 0} (old new : Store T) (slots : List ℕ) → All (λ slot. item_at new slot ≡ item_at old slot) slots → listed_items new slots ≡ listed_items old slots

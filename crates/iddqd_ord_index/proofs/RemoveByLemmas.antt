@@ -3,7 +3,7 @@ use Rattle.std.proofs.Common.{◌≡◌, ℕ, ◌+◌, ◌-◌, ◌<◌, List, [
 use Rattle.std.proofs.lemmas.List.{set-get_or}
 use Rattle.std.specs.List.{All}
 use Rattle.std.specs.declared.cmp.Ordering.{Ordering}
-use Rattle.iddqd_ord_index.specs.Nodes.{below, AreBranches}
+use Rattle.iddqd_ord_index.specs.Nodes.{below, AreBranches, counts_of, nodes_of}
 use Rattle.iddqd_ord_index.specs.Shape.{Subtree, in_order, lists, starts, tree, unused, IsBranchAt, IsForked}
 use Rattle.iddqd_ord_index.specs.Standing.{IsMonotone, IsPart, IsPlace}
 use Rattle.iddqd_ord_index.specs.declared.tree.node.Branches.{Branches}
@@ -40,7 +40,7 @@ missed_below order xs ys base part k p = (omega (arith, p.0, part.fits), λ j lt
 
 -- a branch that did not change was put back
 pub put_same : (old new : Branches) (i count : ℕ) (b : Box Node Global) → AreBranches old → i < length (below old) → b.value ≡ get_or (below old) i unused → count ≡ length (get_or (below old) i unused).slots
-    → new.nodes ≡ set (set old.nodes i None) i (Some b) → new.counts.items ≡ set old.counts.items i count → AreBranches new × (below new ≡ below old)
+    → (nodes_of new) ≡ set (set (nodes_of old) i None) i (Some b) → (counts_of new) ≡ set (counts_of old) i count → AreBranches new × (below new ≡ below old)
 put_same old new i count b a lt v c n k =
     let q = branches_put old new i count b a lt n k (c ∙ ap (λ t. length t.slots) (sym v)) in
     (q.0, q.1 ∙ (ap (set (below old) i) v ∙ set-get_or (below old) i unused))

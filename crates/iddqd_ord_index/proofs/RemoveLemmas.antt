@@ -6,8 +6,8 @@ use Rattle.std.proofs.lemmas.Bool.{cases_lt, ltb-false}
 use Rattle.std.proofs.lemmas.List.{append-nil, take-append-drop, drop_all, drop_more, take-set, drop-set-lt, get_or-set_same, get_or-set_other, length-take-le, map-set}
 use Rattle.std.proofs.lemmas.List.Edits.{length-remove, remove-append_left, remove-append_right}
 use Rattle.iddqd_ord_index.specs.Changes.{Stock}
-use Rattle.iddqd_ord_index.specs.Neighbours.{IsNear, IsShort, given_back}
-use Rattle.iddqd_ord_index.specs.Nodes.{below, AreBranches}
+use Rattle.iddqd_ord_index.specs.Neighbours.{IsGivenBack, IsNear, IsShort, given_back}
+use Rattle.iddqd_ord_index.specs.Nodes.{below, AreBranches, counts_of, nodes_of}
 use Rattle.iddqd_ord_index.specs.Shape.{Subtree, behind, in_order, starts, lists, levels, tree, unused, IsBranchAt, IsForked, IsBranch, IsDense}
 use Rattle.iddqd_ord_index.specs.declared.tree.node.Branches.{Branches}
 use Rattle.iddqd_ord_index.specs.declared.tree.node.Node.{Node}
@@ -155,7 +155,7 @@ pub put_shrunk : (old new : Branches) (ss ss' : List ℕ) (at i rest count taken
     → (1 < self.height → 0 < self.width) → at < length self.slots → least ≡ min rest (count - 1)
     → taken ≡ get_or before.slots least 0 → b.value.slots ≡ remove before.slots least → b.value.height ≡ before.height → before.width ≤ b.value.width + 1 → IsDense b.value
     → (rest < count → (slot ≡ taken) × (ss' ≡ ss)) → (rest ≡ count → (slot ≡ get_or ss i 0) × (ss' ≡ set ss i taken)) → length ss' ≡ length ss
-    → new.nodes ≡ set (set old.nodes i None) i (Some b) → new.counts.items ≡ set old.counts.items i (count - 1) → tree (below old) ss ≡ self
+    → (nodes_of new) ≡ set (set (nodes_of old) i None) i (Some b) → (counts_of new) ≡ set (counts_of old) i (count - 1) → tree (below old) ss ≡ self
     → AreBranches new × IsShrunk (below old) (below new) ss' i self.slots (remove self.slots at) slot at × ((get_or (below new) i unused).width ≡ b.value.width)
 put_shrunk old new ss ss' at i rest count taken slot least b before self a f branch_at v c some lt m t n h w d bel own same nodes counts view =
     let ts = below old in
@@ -175,26 +175,26 @@ put_shrunk old new ss ss' at i rest count taken slot least b before self a f bra
     )
 
 -- what a node given back does to the unused ones
-pub given_more : (s : Stock) → (s.count ≤ (given_back s).count) × ((given_back s).wanted ≡ s.wanted) × ((given_back s).room ≡ s.room)
-given_more s = (more (ltb s.count s.wanted) s.count, refl, refl)
+given_more : (s : Stock) → s.nodes ≤ (given_back s).nodes
+given_more s = more (ltb s.nodes s.wanted) s.nodes
   where
     more : (b : Bool) (n : ℕ) → n ≤ (if b then n + 1 else n)
     more true n = omega arith
     more false n = omega arith
 
 -- the unused ones after a rebalance that may have merged
-pub given_or_kept : (old new : Stock) (n m : ℕ) → m ≤ n → (m ≡ n → new ≡ old) → (m < n → new ≡ given_back old) → (old.count ≤ new.count) × (new.wanted ≡ old.wanted) × (new.room ≡ old.room)
+pub given_or_kept : (old new : Stock) (n m : ℕ) → m ≤ n → (m ≡ n → new ≡ old) → (m < n → IsGivenBack old new) → (old.nodes ≤ new.nodes) × (new.wanted ≡ old.wanted) × (new.room ≡ old.room)
 given_or_kept old new n m le kept given =
     elim (cases_lt m n) [
-      | inl lt ↦ (let e = given lt in let g = given_more old in (omega (arith, ap (λ s. s.count) e), ap (λ s. s.wanted) e ∙ g.1, ap (λ s. s.room) e ∙ g.2))
-      | inr ge ↦ (let e = kept (omega arith) in (omega (arith, ap (λ s. s.count) e), ap (λ s. s.wanted) e, ap (λ s. s.room) e))
+      | inl lt ↦ (let e = given lt in (omega (arith, e.nodes, given_more old), e.wanted, e.room))
+      | inr ge ↦ (let e = kept (omega arith) in (omega (arith, ap (λ s. s.nodes) e), ap (λ s. s.wanted) e, ap (λ s. s.room) e))
     ]
 
 -- where one more is given back, after so many that are kept as long as they are wanted, one more is kept
-pub one_more_back : (old new : Stock) (many : ℕ) → new ≡ given_back old → min many old.wanted ≤ old.count → min (many + 1) old.wanted ≤ new.count
+pub one_more_back : (old new : Stock) (many : ℕ) → IsGivenBack old new → min many old.wanted ≤ old.nodes → min (many + 1) old.wanted ≤ new.nodes
 one_more_back old new many e enough =
-    subst (λ s. min (many + 1) old.wanted ≤ s.count) (sym e) (by (ltb old.count old.wanted) refl)
+    subst (λ n. min (many + 1) old.wanted ≤ n) (sym e.nodes) (by (ltb old.nodes old.wanted) refl)
   where
-    by : (b : Bool) → ltb old.count old.wanted ≡ b → min (many + 1) old.wanted ≤ (if b then old.count + 1 else old.count)
+    by : (b : Bool) → ltb old.nodes old.wanted ≡ b → min (many + 1) old.wanted ≤ (if b then old.nodes + 1 else old.nodes)
     by true lt = omega (arith, enough)
-    by false ge = omega (arith, enough, ltb-false old.count old.wanted ge)
+    by false ge = omega (arith, enough, ltb-false old.nodes old.wanted ge)

@@ -1,6 +1,6 @@
 -- A list that another one begins with, as both go on.
 use Rattle.std.proofs.Common.{◌≡◌, ℕ, zero, suc, refl, ◌+◌, ◌-◌, ◌<◌, ◌≤◌, List, [], ◌∷◌, ◌++◌, length, take, drop, get_or, ap, sym, ◌∙◌, arith, append_assoc, length-drop}
-use Rattle.std.proofs.lemmas.List.{drop_more, get_or-take, length-take-le}
+use Rattle.std.proofs.lemmas.List.{drop_more, drop-append-le, take_more, get_or-take, length-take-le}
 use Rattle.std.proofs.lemmas.List.Edits.{remove-append_left}
 use Rattle.std.specs.List.{remove}
 use Rattle.iddqd_ord_index.specs.Runs.{BeginsWith}
@@ -18,12 +18,20 @@ module _ (xs old new : List ℕ) (at slot : ℕ) (within : at < length xs) (here
   pub next_begins : BeginsWith new (drop (at + 1) xs)
   next_begins = (here.0, ap (λ l. drop 1 l) whole)
 
--- the slots from one position on up to another, one further
+-- the slots from one position on up to another, one further from the front, and from the back
 module _ (xs : List ℕ) (next end : ℕ) (some : next < end) (fits : end ≤ length xs) where
   pub window_front : drop next (take end xs) ≡ get_or xs next 0 ∷ drop (next + 1) (take end xs)
   window_front =
       drop_more (take end xs) next 0 (omega (arith, length-take-le end xs fits))
       ∙ ap (λ s. s ∷ drop (next + 1) (take end xs)) (get_or-take end xs next 0 some)
+
+  pub window_back : drop next (take end xs) ≡ drop next (take (end - 1) xs) ++ get_or xs (end - 1) 0 ∷ []
+  window_back =
+      let m : end ≡ end - 1 + 1 = omega arith in
+      let last : end - 1 ≤ length xs = omega arith in
+      ap (λ n. drop next (take n xs)) m
+      ∙ (ap (λ l. drop next l) (take_more xs (end - 1) 0 (omega arith))
+      ∙ drop-append-le next (take (end - 1) xs) (get_or xs (end - 1) 0 ∷ []) (omega (arith, length-take-le (end - 1) xs last)))
 
 pub length-window : (xs : List ℕ) (next end : ℕ) → end ≤ length xs → length (drop next (take end xs)) ≡ end - next
 length-window xs next end fits = length-drop next (take end xs) ∙ ap (λ n. n - next) (length-take-le end xs fits)

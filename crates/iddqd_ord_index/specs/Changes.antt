@@ -4,8 +4,9 @@
 use Rattle.std.specs.Prelude.{◌≡◌, ℕ, ◌+◌, ◌-◌, ◌<◌, ◌≤◌, List, ◌∷◌, ◌++◌, All, length, min, slice_index, slice_set, Option, Some, None}
 use Rattle.std.proofs.Common.{Box, Global}
 use Rattle.arrayvec.specs.ArrayVec.{ArrayVec}
-use Rattle.iddqd_ord_index.specs.Nodes.{below, slots_with}
+use Rattle.iddqd_ord_index.specs.Nodes.{below, slots_with, IsBare}
 use Rattle.iddqd_ord_index.specs.Shape.{Subtree, IsDense, tree, unused}
+use Rattle.iddqd_ord_index.specs.declared.tree.node.Block.{Block}
 use Rattle.iddqd_ord_index.specs.declared.tree.node.Branches.{Branches}
 use Rattle.iddqd_ord_index.specs.declared.tree.node.Node.{Node}
 
@@ -48,9 +49,15 @@ IsShorter new old = length new.items < length old.items
 abbrev pub AreUnused : List (Box Node Global) → Type 0
 AreUnused bs = All (λ b. b.value ≡ unused) bs
 
--- the unused nodes of a tree: how many there are, how many are wanted, and how many fit without memory
+-- blocks without branches
+abbrev pub AreBare : List (Box Block Global) → Type 0
+AreBare bs = All (λ b. IsBare b.value) bs
+
+-- a tree's unused nodes and blocks for branches: for how many inner nodes there are both, how many nodes there are, how many
+-- are wanted, and how many fit without memory
 pub record Stock : Type 0 where
   pub count : ℕ
+  pub nodes : ℕ
   pub wanted : ℕ
   pub room : ℕ
 
@@ -58,10 +65,16 @@ pub record Stock : Type 0 where
 abbrev pub WantsFor : ℕ → Stock → Type 0
 WantsFor levels s = (s.wanted ≡ levels + 1) × (levels < s.room)
 
+-- one node less, and a block with it, if it is an inner one
+pub record IsTaken (old new : Stock) : Type 0 where
+  pub left : old.count ≤ new.count + 1
+  pub wanted : new.wanted ≡ old.wanted
+  pub room : new.room ≡ old.room
+
 -- so many are there and wanted, and there is room for one more
 abbrev pub IsFilled : ℕ → Stock → Type 0
 IsFilled wanted s = (wanted ≤ s.count) × (wanted < s.room) × (s.wanted ≡ wanted)
 
 -- if a node has a slot less, each level below has given a node back, as long as it was wanted
 abbrev pub GivesBack : Subtree → Subtree → Stock → Stock → Type 0
-GivesBack old new s t = new.width < old.width → min (s.count + old.height - 1) s.wanted ≤ t.count
+GivesBack old new s t = new.width < old.width → min (s.nodes + old.height - 1) s.wanted ≤ t.nodes

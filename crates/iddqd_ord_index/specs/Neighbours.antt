@@ -56,4 +56,9 @@ pub record IsNear (ts : List Subtree) (ss : List ℕ) (i : ℕ) : Type 0 where
 
 -- an unused node is kept as long as it is wanted
 abbrev pub given_back : Stock → Stock
-given_back s = record s { count = if nat_lt s.count s.wanted then s.count + 1 else s.count }
+given_back s = record s { nodes = if nat_lt s.nodes s.wanted then s.nodes + 1 else s.nodes }
+
+pub record IsGivenBack (old new : Stock) : Type 0 where
+  pub nodes : new.nodes ≡ (given_back old).nodes
+  pub wanted : new.wanted ≡ old.wanted
+  pub room : new.room ≡ old.room

@@ -1,9 +1,10 @@
 -- What the fields of a node show. No public clause cites this module.
-use Rattle.std.specs.Prelude.{◌≡◌, ℕ, ◌+◌, List, All, insert, length, map, Option}
+use Rattle.std.specs.Prelude.{◌≡◌, ℕ, ◌+◌, List, [], All, insert, length, map, Option, Some, None}
 use Rattle.std.proofs.Common.{Box, Global}
-use Rattle.iddqd_ord_index.specs.Cells.{items_present, IsPacked}
+use Rattle.iddqd_ord_index.specs.Cells.{filled, items_present, IsPacked}
 use Rattle.arrayvec.specs.ArrayVec.{ArrayVec}
 use Rattle.iddqd_ord_index.specs.Shape.{Subtree, lists, tree, in_order, IsForked}
+use Rattle.iddqd_ord_index.specs.declared.tree.node.Block.{Block}
 use Rattle.iddqd_ord_index.specs.declared.tree.node.Branches.{Branches}
 use Rattle.iddqd_ord_index.specs.declared.tree.node.Node.{Node}
 use Rattle.iddqd_ord_index.specs.declared.tree.node.Node.TheInside.{Inside}
@@ -12,14 +13,47 @@ use Rattle.iddqd_ord_index.specs.declared.tree.node.Node.TheInside.{Inside}
 abbrev pub subtrees : List (Option (Box Node Global)) → List Subtree
 subtrees os = map (λ b. b.value) (items_present os)
 
+-- the cells in a block, all empty where there is none; and the numbers of slots below the branches
+abbrev pub cells_in : Option (Box Block Global) → List (Option (Box Node Global))
+cells_in None = filled []
+cells_in (Some b) = b.value.nodes
+
+abbrev pub counts_in : Option (Box Block Global) → List ℕ
+counts_in None = []
+counts_in (Some b) = b.value.counts.items
+
+abbrev pub nodes_of : Branches → List (Option (Box Node Global))
+nodes_of bs = cells_in bs.block
+
+abbrev pub counts_of : Branches → List ℕ
+counts_of bs = counts_in bs.block
+
 -- the subtrees below a node with these branches
 abbrev pub below : Branches → List Subtree
-below bs = subtrees bs.nodes
+below bs = subtrees (nodes_of bs)
 
 -- the branches stand in front, and beside each the number of slots below it
-pub record AreBranches (bs : Branches) : Type 0 where
-  pub packed : IsPacked bs.nodes
-  pub counted : bs.counts.items ≡ map (λ t. length t.slots) (below bs)
+pub record AreCounted (os : List (Option (Box Node Global))) (ns : List ℕ) : Type 0 where
+  pub packed : IsPacked os
+  pub counted : ns ≡ map (λ t. length t.slots) (subtrees os)
+
+abbrev pub AreBranches : Branches → Type 0
+AreBranches bs = AreCounted (nodes_of bs) (counts_of bs)
+
+abbrev pub IsBlock : Block → Type 0
+IsBlock b = AreCounted b.nodes b.counts.items
+
+-- there is a block
+abbrev pub IsThere : Option (Box Block Global) → Type 0
+IsThere None = ⊥
+IsThere (Some b) = Unit
+
+abbrev pub HasBlock : Branches → Type 0
+HasBlock bs = IsThere bs.block
+
+-- a block without branches
+abbrev pub IsBare : Block → Type 0
+IsBare b = (b.nodes ≡ filled []) × (b.counts.items ≡ [])
 
 abbrev pub seen : Inside → Subtree
 seen n = tree (below n.branches) n.slots.items

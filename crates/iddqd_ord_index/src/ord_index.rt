@@ -38,6 +38,16 @@ impl Model for Place {
     ghost inverse = { λ n. record { position = n } };
 }
 
+impl Place {
+    /// Returns the position of the place: how many slots stand before it.
+    #[inline]
+    pub fn position(self) -> usize
+        ensures { result ≡ self }
+    {
+        self.position as usize
+    }
+}
+
 /// Slots in order, each once. Only a search looks at items. Contracts see the list, and whether the index is
 /// prepared for one insertion. Only `prepare` prepares it. `add_prepared`, an `insert_by` that inserts, `remove`,
 /// `remove_by`, `remove_first`, `remove_last`, `rename` and `clear` leave it not prepared, even if the list stays the
@@ -242,14 +252,26 @@ impl OrdIndex {
 
     /// Returns an iterator over the slots, in order. Does not allocate.
     pub fn walk(&self) -> Walk<'_>
-        ensures { result ≡ self.now.slots }
+        ensures slots { result ≡ self.now.slots }
+        ensures fits { length result ≤ u32.MAX }
     {
         Walk::new(&self.root, 0, self.len)
     }
 
+    /// Returns an iterator over the slots from one place on up to another, in order. Does not allocate.
+    pub fn walk_between(&self, from: Place, to: Place) -> Walk<'_>
+        requires forward { from ≤ to }
+        requires in_list { to ≤ length self.now.slots }
+        ensures slots { result ≡ drop from (take to self.now.slots) }
+        ensures fits { length result ≤ u32.MAX }
+    {
+        Walk::new(&self.root, from.position, to.position)
+    }
+
     /// Turns the index into an iterator over its slots, in order. Does not allocate.
     pub fn into_walk(self) -> IntoWalk
-        ensures { result ≡ self.slots }
+        ensures slots { result ≡ self.slots }
+        ensures fits { length result ≤ u32.MAX }
     {
         IntoWalk::new(self.root, self.len)
     }

@@ -5,3 +5,4 @@ pub(crate) mod pool;
 pub(crate) mod rise;
 pub(crate) mod root;
 mod search;
+mod slots;

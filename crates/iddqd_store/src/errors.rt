@@ -5,10 +5,10 @@ ghost use Rattle.iddqd_store.specs.Contents.{ClonesAreEqual};
 ghost use Rattle.iddqd_store.specs.Errors.{OwnsDuplicatesOf, new_item_of, duplicates_of, values_of};
 ghost use Rattle.iddqd_store.specs.Refusal.{limit_refused, memory_refused};
 
-use std::alloc;
 use std::error::Error;
 use std::fmt::{self, Debug, Display, Formatter, Write};
 use std::marker::Model;
+use std::{alloc, io};
 
 /// Why room was refused.
 #[derive(Clone, Copy, Debug, PartialEq, Eq, thiserror::Error)]
@@ -53,6 +53,20 @@ impl TryReserveError {
         ensures { IsTrue result ↔ (self.now ≡ limit_refused) }
     {
         self.kind == TryReserveErrorKind::CapacityOverflow
+    }
+}
+
+impl From<TryReserveError> for alloc::AllocError {
+    /// Returns a refusal of memory, whichever it was.
+    fn from(_refused: TryReserveError) -> Self {
+        alloc::AllocError
+    }
+}
+
+impl From<TryReserveError> for io::Error {
+    /// Returns an error of the kind `OutOfMemory`, whichever it was, as std does for its own.
+    fn from(_refused: TryReserveError) -> Self {
+        io::Error::from(alloc::AllocError)
     }
 }
 
@@ -257,14 +271,33 @@ pub struct Refused<T> {
     pub error: TryReserveError,
 }
 
+impl<T: Debug> Display for Refused<T> {
+    fn fmt<W: Write>(&self, f: &mut Formatter<W>) -> fmt::Result {
+        write!(f, "item {:?} was refused: {}", self.item, self.error)
+    }
+}
+
+impl<T: Debug + Drop> Error for Refused<T> {}
+
 /// Why an item was not inserted.
-#[derive(Drop)]
+#[derive(Debug, Drop)]
 pub enum InsertError<'a, T> {
     /// An item of an equal key exists: the new item, and that one alone.
     Duplicate(DuplicateItem<T, &'a T>),
     /// There was no room.
     Refused(Refused<T>),
 }
+
+impl<'a, T: Debug> Display for InsertError<'a, T> {
+    fn fmt<W: Write>(&self, f: &mut Formatter<W>) -> fmt::Result {
+        match self {
+            InsertError::Duplicate(duplicate) => write!(f, "{duplicate}"),
+            InsertError::Refused(refused) => write!(f, "{refused}"),
+        }
+    }
+}
+
+impl<'a, T: Debug + Drop> Error for InsertError<'a, T> {}
 
 /// Why the items of an iterator were not all inserted.
 #[derive(Debug, Drop)]
@@ -275,6 +308,17 @@ pub struct ExtendError<T> {
     pub error: TryReserveError,
 }
 
+impl<T: Debug> Display for ExtendError<T> {
+    fn fmt<W: Write>(&self, f: &mut Formatter<W>) -> fmt::Result {
+        match &self.item {
+            Some(item) => write!(f, "item {item:?} was refused: {}", self.error),
+            None => write!(f, "room was refused: {}", self.error),
+        }
+    }
+}
+
+impl<T: Debug + Drop> Error for ExtendError<T> {}
+
 /// Why no map was made of an iterator's items.
 #[derive(Debug, Drop)]
 pub enum FromIterError<T> {
@@ -284,11 +328,33 @@ pub enum FromIterError<T> {
     Refused(TryReserveError),
 }
 
+impl<T: Debug> Display for FromIterError<T> {
+    fn fmt<W: Write>(&self, f: &mut Formatter<W>) -> fmt::Result {
+        match self {
+            FromIterError::Duplicate(duplicate) => write!(f, "{duplicate}"),
+            FromIterError::Refused(error) => write!(f, "room was refused: {error}"),
+        }
+    }
+}
+
+impl<T: Debug + Drop> Error for FromIterError<T> {}
+
 /// Why the items of an iterator were not all inserted by a call that replaces none.
-#[derive(Drop)]
+#[derive(Debug, Drop)]
 pub enum ExtendUniqueError<'a, T> {
     /// An item of an equal key exists, from before or from the iterator: the new item, and that one alone.
     Duplicate(DuplicateItem<T, &'a T>),
     /// There was no room.
     Refused(ExtendError<T>),
 }
+
+impl<'a, T: Debug> Display for ExtendUniqueError<'a, T> {
+    fn fmt<W: Write>(&self, f: &mut Formatter<W>) -> fmt::Result {
+        match self {
+            ExtendUniqueError::Duplicate(duplicate) => write!(f, "{duplicate}"),
+            ExtendUniqueError::Refused(refused) => write!(f, "{refused}"),
+        }
+    }
+}
+
+impl<'a, T: Debug + Drop> Error for ExtendUniqueError<'a, T> {}

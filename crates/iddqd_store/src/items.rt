@@ -30,6 +30,19 @@ pub trait IdOrdItem {
         ensures { result.now ≡ key self.now };
 }
 
+/// One of the keys that an item shows. It has no values: as a type argument it tells a search which key it goes by.
+pub trait KeyOf<T> {
+    /// What a lookup by this key asks for.
+    type Key: Eq;
+
+    // The key that an item shows. It depends on the item's value alone.
+    ghost key: { T → Self.Key };
+
+    /// Returns this key of the item.
+    fn key_of(item: &T) -> &Self::Key
+        ensures { result.now ≡ key item.now };
+}
+
 impl<T: IdHashItem> IdHashItem for &T {
     type Key = T::Key;
 

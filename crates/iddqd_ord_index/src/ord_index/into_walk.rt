@@ -1,6 +1,6 @@
-//! A walk over the slots of an ordered index that is gone. Contracts see the slots that are still to come.
+//! A walk over the slots of an ordered index that is gone, from either end. Contracts see the slots that are still to come.
 ghost use Rattle.std.specs.Prelude.{◌≡◌, length, IfSome};
-ghost use Rattle.std.specs.Iterator.{UpTo, YieldsFirst, at_most, item_count};
+ghost use Rattle.std.specs.Iterator.{UpTo, YieldsFirst, YieldsLast, at_most, item_count};
 ghost use Rattle.std.specs.Iterator.SizeHint.{IsWithinCount};
 
 use super::run_cache::RunCache;
@@ -8,7 +8,7 @@ use crate::tree::node::Node;
 use std::iter::FusedIterator;
 use std::marker::Model;
 
-/// The slots of an index that is gone, in order, each once.
+/// The slots of an index that is gone, each once. `next` returns the first of those that are left, `next_back` the last.
 #[derive(Drop)]
 pub struct IntoWalk {
     root: Node,
@@ -66,6 +66,20 @@ impl Iterator for IntoWalk {
     {
         let len = self.len();
         (len, Some(len))
+    }
+}
+
+impl DoubleEndedIterator for IntoWalk {
+    ghost next_back_gives = { YieldsLast (λ w. w) };
+
+    fn next_back(&mut self) -> Option<u32> {
+        if self.end == self.next {
+            return None;
+        }
+        let last = self.end - 1;
+        let slot = self.root.slot_at(last);
+        self.end = last;
+        Some(slot)
     }
 }
 

@@ -1,14 +1,16 @@
-//! A walk over the slots of an ordered index. Contracts see the slots that are still to come.
-ghost use Rattle.std.specs.Prelude.{◌≡◌, ◌+◌, ◌<◌, ◌≤◌, drop, length, slice_index, take, IfSome};
+//! A walk over the slots of an ordered index, from either end. Contracts see the slots that are still to come.
+ghost use Rattle.std.specs.Prelude.{◌≡◌, ◌+◌, ◌<◌, ◌≤◌, drop, length, slice_index, take, ⊤, IfSome};
 ghost use Rattle.iddqd_ord_index.specs.Runs.{BeginsWith};
-ghost use Rattle.std.specs.Iterator.{UpTo, YieldsFirst, at_most, item_count};
+ghost use Rattle.std.specs.Iterator.{UpTo, YieldsFirst, YieldsLast, at_most, item_count};
 ghost use Rattle.std.specs.Iterator.SizeHint.{IsWithinCount};
 
 use crate::tree::node::{LeafWalk, Node};
+use std::alloc::AllocError;
 use std::iter::FusedIterator;
 use std::marker::Model;
 
-/// The slots of an index in order, each once.
+/// Slots of an index that stand side by side in its list, each once. `next` returns the first of those that are left,
+/// `next_back` the last.
 #[derive(Drop)]
 pub struct Walk<'a> {
     root: &'a Node,
@@ -42,6 +44,16 @@ impl<'a> Walk<'a> {
             next: from,
             end: to,
         }
+    }
+}
+
+impl Clone for Walk<'_> {
+    ghost is_clone = { λ walk clone. clone ≡ walk };
+
+    ghost is_infallible = { λ _. ⊤ };
+
+    fn clone(&self) -> Result<Self, AllocError> {
+        Ok(Walk::new(self.root, self.next, self.end))
     }
 }
 
@@ -94,6 +106,20 @@ impl Iterator for Walk<'_> {
     {
         let len = self.len();
         (len, Some(len))
+    }
+}
+
+impl DoubleEndedIterator for Walk<'_> {
+    ghost next_back_gives = { YieldsLast (λ w. w) };
+
+    fn next_back(&mut self) -> Option<u32> {
+        if self.end == self.next {
+            return None;
+        }
+        let last = self.end - 1;
+        let slot = self.root.slot_at(last);
+        self.end = last;
+        Some(slot)
     }
 }
 

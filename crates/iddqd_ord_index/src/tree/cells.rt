@@ -14,7 +14,7 @@ pub(crate) fn insert<T: Drop>(cells: &mut [Option<T>], i: usize, item: T)
     last_to(cells, i);
 }
 
-fn last_to<T>(cells: &mut [T], i: usize)
+pub(crate) fn last_to<T>(cells: &mut [T], i: usize)
     requires { i < length cells.old }
     ensures { InsertsLast i cells.old cells.new }
 {
@@ -37,7 +37,7 @@ pub(crate) fn remove<T: Drop>(cells: &mut [Option<T>], i: usize) -> T
     }
 }
 
-fn to_last<T>(cells: &mut [T], i: usize)
+pub(crate) fn to_last<T>(cells: &mut [T], i: usize)
     requires { i < length cells.old }
     ensures { (d : T) → cells.new ≡ remove cells.old i ++ slice_index_or cells.old i d ∷ [] }
 {

@@ -1,6 +1,6 @@
 //! A node of the tree. Contracts see it as its slots in order with those below it, its height, and its own number of slots.
-ghost use Rattle.std.specs.Prelude.{◌≡◌, ◌+◌, ◌^◌, ◌<◌, ◌≤◌, [], length};
-ghost use Rattle.iddqd_ord_index.specs.Nodes.{below};
+ghost use Rattle.std.specs.Prelude.{◌≡◌, ◌+◌, ◌^◌, ◌<◌, ◌≤◌, [], length, IfSome};
+ghost use Rattle.iddqd_ord_index.specs.Nodes.{below, IsBare};
 ghost use Rattle.iddqd_ord_index.specs.Shape.{unused};
 
 mod below;
@@ -15,6 +15,7 @@ mod remove;
 mod remove_by;
 mod walk;
 
+use crate::tree::slots::Slots;
 use arrayvec::ArrayVec;
 pub(crate) use insert_by::Outcome;
 use std::marker::Model;
@@ -24,16 +25,23 @@ pub(crate) use walk::LeafWalk;
 #[cycle(tree)]
 #[derive(Drop)]
 pub(crate) struct Node {
-    slots: ArrayVec<u32, 11>,
+    slots: Slots,
     branches: Branches,
 }
 
-/// The branches of a node, and how many slots lie below each.
+/// The branches of a node, in a block of their own. A leaf has none, so it is small.
 #[cycle(tree)]
 #[derive(Drop)]
 pub(crate) struct Branches {
-    nodes: [Option<Box<Node>>; 12],
+    block: Option<Box<Block>>,
+}
+
+/// The branches of an inner node, and how many slots lie below each.
+#[cycle(tree)]
+#[derive(Drop)]
+pub(crate) struct Block {
     counts: ArrayVec<u32, 12>,
+    nodes: [Option<Box<Node>>; 12],
 }
 
 impl Model for Node {
@@ -60,9 +68,18 @@ impl Node {
         ensures { result ≡ unused }
     {
         Node {
-            slots: ArrayVec::new(),
+            slots: Slots::new(),
             branches: Branches::new(),
         }
+    }
+
+    // Takes the block away, if there is one, from an unused node.
+    pub(crate) fn take_block(&mut self) -> Option<Box<Block>>
+        requires unused { self.old ≡ unused }
+        ensures unused { self.new ≡ unused }
+        ensures bare { IfSome result (λ block. IsBare block.value) }
+    {
+        self.branches.take_block()
     }
 
     // How many slots the node itself has.
@@ -85,3 +102,6 @@ impl Node {
         self.branches.start(own) + self.branches.count(own)
     }
 }
+
+// A leaf is small: it has no room for branches.
+const _: () = prove!(std::mem::size_of::<Node>() == 64);

@@ -1,30 +1,38 @@
 //! The unused nodes of a tree, which an insertion that splits takes and a removal that merges gives back.
-ghost use Rattle.std.specs.Prelude.{◌≡◌, ◌-◌, ◌^◌, ◌<◌, ◌≤◌, ◌↔◌, IsTrue, OnOk, OnErr, IfOk};
-ghost use Rattle.iddqd_ord_index.specs.Changes.{IsFilled};
+ghost use Rattle.std.specs.Prelude.{◌≡◌, ◌+◌, ◌-◌, ◌^◌, ◌<◌, ◌≤◌, ◌↔◌, IsTrue, OnOk, OnErr, IfOk, vec_capacity, vec_len};
+ghost use Rattle.iddqd_ord_index.specs.Changes.{AreBare, AreUnused, IsFilled, IsTaken};
 ghost use Rattle.iddqd_ord_index.specs.Inserting.{HasFor};
-ghost use Rattle.iddqd_ord_index.specs.Neighbours.{given_back};
+ghost use Rattle.iddqd_ord_index.specs.Neighbours.{IsGivenBack};
+ghost use Rattle.iddqd_ord_index.specs.Nodes.{IsBare};
 ghost use Rattle.iddqd_ord_index.specs.Shape.{unused};
 
-use super::node::Node;
+use super::node::{Block, Node};
 use std::alloc::{AllocError, Global};
 use std::marker::Model;
 
-/// Unused nodes, and how many are wanted: those beyond are given to the heap.
+/// Unused nodes and blocks for branches, and how many of each are wanted: those beyond are given to the heap.
 #[derive(Drop)]
 pub(crate) struct NodePool {
     nodes: Vec<Box<Node>>,
+    blocks: Vec<Box<Block>>,
     wanted: usize,
 }
 
 impl Model for NodePool {
-    ghost use Rattle.std.specs.Prelude.{◌≤◌, vec_capacity, vec_len};
-    ghost use Rattle.iddqd_ord_index.specs.Changes.{Stock, AreUnused};
+    ghost use Rattle.std.specs.Prelude.{◌≤◌, min, vec_capacity, vec_len};
+    ghost use Rattle.iddqd_ord_index.specs.Changes.{Stock, AreBare, AreUnused};
 
     ghost Value = { Stock };
 
-    ghost view = { λ s. record { count = vec_len s.nodes; wanted = s.wanted; room = vec_capacity s.nodes } };
+    ghost view = { λ s. record {
+      count = min (vec_len s.nodes) (vec_len s.blocks);
+      nodes = vec_len s.nodes;
+      wanted = s.wanted;
+      room = min (vec_capacity s.nodes) (vec_capacity s.blocks);
+    } };
 
-    ghost invariant = { λ s. AreUnused s.nodes.items × (s.wanted ≤ vec_capacity s.nodes) };
+    ghost invariant = { λ s. AreUnused s.nodes.items × AreBare s.blocks.items
+        × (s.wanted ≤ vec_capacity s.nodes) × (s.wanted ≤ vec_capacity s.blocks) };
 }
 
 impl NodePool {
@@ -34,6 +42,7 @@ impl NodePool {
     {
         NodePool {
             nodes: Vec::new(alloc),
+            blocks: Vec::new(alloc),
             wanted: 0,
         }
     }
@@ -56,10 +65,8 @@ impl NodePool {
         ensures err { OnErr result (self.new.wanted ≡ self.old.wanted) }
     {
         self.make_room(wanted + 1)?;
-        'fill: while self.nodes.len() < wanted {
-            let node = Box::new(alloc, Node::new())?;
-            self.nodes.push_reserved(node);
-        }
+        fill_nodes(&mut self.nodes, wanted, alloc)?;
+        fill_blocks(&mut self.blocks, wanted, alloc)?;
         self.wanted = wanted;
         Ok(())
     }
@@ -68,7 +75,8 @@ impl NodePool {
     pub(crate) fn is_filled(&self, wanted: usize) -> bool
         ensures { IsTrue result ↔ HasFor wanted self.now }
     {
-        self.nodes.len() >= wanted && self.nodes.capacity() > wanted
+        self.nodes.len().min(self.blocks.len()) >= wanted
+            && self.nodes.capacity().min(self.blocks.capacity()) > wanted
     }
 
     // Sees to room for so many.
@@ -77,7 +85,8 @@ impl NodePool {
         ensures kept { self.old.room ≤ self.new.room }
         ensures ok { OnOk result (room ≤ self.new.room) }
     {
-        self.nodes.reserve(room.saturating_sub(self.nodes.len()))
+        self.nodes.reserve(room.saturating_sub(self.nodes.len()))?;
+        self.blocks.reserve(room.saturating_sub(self.blocks.len()))
     }
 
     // From now on so many are wanted.
@@ -88,11 +97,11 @@ impl NodePool {
         self.wanted = wanted;
     }
 
-    // Takes one out.
+    // Takes a node out, for a leaf.
     pub(crate) fn take(&mut self) -> Box<Node>
         requires { 0 < self.old.count }
         ensures node { result.value ≡ unused }
-        ensures after { self.new ≡ record self.old { count = self.old.count - 1 } }
+        ensures taken { IsTaken self.old self.new }
     {
         let Some(node) = self.nodes.pop() else {
             unreachable!()
@@ -100,13 +109,74 @@ impl NodePool {
         node
     }
 
-    // Keeps an unused node if it is wanted, and else frees it.
-    pub(crate) fn give_back(&mut self, node: Box<Node>)
-        requires { node.value ≡ unused }
-        ensures { self.new ≡ given_back self.old }
+    // Takes a node and a block out, for an inner node.
+    pub(crate) fn take_inner(&mut self) -> (Box<Node>, Box<Block>)
+        requires { 0 < self.old.count }
+        ensures node { result.0.value ≡ unused }
+        ensures block { IsBare result.1.value }
+        ensures taken { IsTaken self.old self.new }
     {
+        let Some(node) = self.nodes.pop() else {
+            unreachable!()
+        };
+        let Some(block) = self.blocks.pop() else {
+            unreachable!()
+        };
+        (node, block)
+    }
+
+    // Keeps an unused node if it is wanted, and else frees it. It does the same with the node's block, if it has one.
+    pub(crate) fn give_back(&mut self, mut node: Box<Node>)
+        requires { node.value ≡ unused }
+        ensures { IsGivenBack self.old self.new }
+    {
+        if let Some(block) = node.take_block() {
+            self.give_back_block(block);
+        }
         if self.nodes.len() < self.wanted {
             self.nodes.push_reserved(node);
         }
     }
+
+    fn give_back_block(&mut self, block: Box<Block>)
+        requires { IsBare block.value }
+        ensures nodes { self.new.nodes ≡ self.old.nodes }
+        ensures same { (self.new.wanted ≡ self.old.wanted) × (self.new.room ≡ self.old.room) }
+    {
+        if self.blocks.len() < self.wanted {
+            self.blocks.push_reserved(block);
+        }
+    }
+}
+
+// Allocates unused nodes until there are as many as are wanted.
+fn fill_nodes(nodes: &mut Vec<Box<Node>>, wanted: usize, alloc: Global) -> Result<(), AllocError>
+    requires unused { AreUnused nodes.old.items }
+    requires room { wanted ≤ vec_capacity nodes.old }
+    ensures unused { AreUnused nodes.new.items }
+    ensures room { vec_capacity nodes.new ≡ vec_capacity nodes.old }
+    ensures kept { vec_len nodes.old ≤ vec_len nodes.new }
+    ensures ok { OnOk result (wanted ≤ vec_len nodes.new) }
+{
+    'fill: while nodes.len() < wanted {
+        let node = Box::new(alloc, Node::new())?;
+        nodes.push_reserved(node);
+    }
+    Ok(())
+}
+
+// Allocates blocks until there are as many as are wanted.
+fn fill_blocks(blocks: &mut Vec<Box<Block>>, wanted: usize, alloc: Global) -> Result<(), AllocError>
+    requires bare { AreBare blocks.old.items }
+    requires room { wanted ≤ vec_capacity blocks.old }
+    ensures bare { AreBare blocks.new.items }
+    ensures room { vec_capacity blocks.new ≡ vec_capacity blocks.old }
+    ensures kept { vec_len blocks.old ≤ vec_len blocks.new }
+    ensures ok { OnOk result (wanted ≤ vec_len blocks.new) }
+{
+    'fill: while blocks.len() < wanted {
+        let block = Box::new(alloc, Block::new())?;
+        blocks.push_reserved(block);
+    }
+    Ok(())
 }

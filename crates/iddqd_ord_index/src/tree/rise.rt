@@ -23,7 +23,7 @@ pub(crate) fn rise(root: &mut Node, total: u32, middle: u32, upper: Box<Node>, p
     ensures pool { (pool.new.wanted ≡ pool.old.wanted) × (pool.new.room ≡ pool.old.room) }
 {
     let above = upper.len();
-    let mut lower = pool.take();
+    let (mut lower, block) = pool.take_inner();
     mem::swap(&mut *lower, root);
-    root.make_root(lower, total - above, middle, upper, above);
+    root.make_root(block, lower, total - above, middle, upper, above);
 }

@@ -42,9 +42,9 @@ pub(crate) fn add(
         return levels;
     };
     let above = upper.len();
-    let mut lower = pool.take();
+    let (mut lower, block) = pool.take_inner();
     mem::swap(&mut *lower, root);
-    root.make_root(lower, len - above, middle, upper, above);
+    root.make_root(block, lower, len - above, middle, upper, above);
     levels + 1
 }
 
@@ -66,8 +66,8 @@ pub(crate) fn remove(root: &mut Node, levels: usize, at: u32, pool: &mut NodePoo
     // the nodes
     ensures dense { IsDense root.new }
     ensures wanted { 1 < result.1 → WantsFor result.1 pool.new }
-    ensures kept { pool.old.count ≤ pool.new.count }
-    ensures fallen { result.1 < levels → pool.new.wanted ≤ pool.new.count }
+    ensures kept { pool.old.nodes ≤ pool.new.nodes }
+    ensures fallen { result.1 < levels → pool.new.wanted ≤ pool.new.nodes }
 {
     let slot = root.remove(at, pool);
     (slot, fall(root, levels, pool))
@@ -98,8 +98,8 @@ pub(crate) fn remove_by<T: IdOrdItem, Q: Comparable<T::Key>>(
     // the nodes
     ensures dense { IsDense root.new }
     ensures wanted { 1 < result.1 → WantsFor result.1 pool.new }
-    ensures kept { pool.old.count ≤ pool.new.count }
-    ensures fallen { result.1 < levels → pool.new.wanted ≤ pool.new.count }
+    ensures kept { pool.old.nodes ≤ pool.new.nodes }
+    ensures fallen { result.1 < levels → pool.new.wanted ≤ pool.new.nodes }
 
     // what it costs
     ensures steps { steps.new ≤ steps.old + 4 * root.old.height }
@@ -114,7 +114,7 @@ fn fall(root: &mut Node, levels: usize, pool: &mut NodePool) -> usize
     requires levels { levels ≡ root.old.height }
     requires dense { IsDense root.old }
     requires wanted { 1 < levels → WantsFor levels pool.old }
-    requires given { 1 < levels → root.old.width ≡ 0 → levels ≤ pool.old.count + 1 }
+    requires given { 1 < levels → root.old.width ≡ 0 → levels ≤ pool.old.nodes + 1 }
 
     // the tree
     ensures slots { root.new.slots ≡ root.old.slots }
@@ -124,8 +124,8 @@ fn fall(root: &mut Node, levels: usize, pool: &mut NodePool) -> usize
     // the nodes
     ensures dense { IsDense root.new }
     ensures wanted { 1 < result → WantsFor result pool.new }
-    ensures kept { pool.old.count ≤ pool.new.count }
-    ensures fallen { result < levels → pool.new.wanted ≤ pool.new.count }
+    ensures kept { pool.old.nodes ≤ pool.new.nodes }
+    ensures fallen { result < levels → pool.new.wanted ≤ pool.new.nodes }
 {
     if levels == 1 || root.width() > 0 {
         return levels;

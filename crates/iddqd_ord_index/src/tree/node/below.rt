@@ -1,24 +1,173 @@
 //! The branches of a node and the number of slots below each, changed together.
-ghost use Rattle.std.specs.Prelude.{true, false, ◌≡◌, ◌+◌, ◌^◌, ◌<◌, ◌≤◌, ◌==◌, [], ◌++◌, length, take, drop, insert, remove, slice_index, slice_index_or, slice_set, nat_le, if◌then◌else◌};
-ghost use Rattle.iddqd_ord_index.specs.Nodes.{below, below_with, subtrees, AreBranches};
+ghost use Rattle.std.specs.Prelude.{true, false, ◌≡◌, ◌+◌, ◌^◌, ◌<◌, ◌≤◌, ◌==◌, [], ◌++◌, length, take, drop, insert, remove, slice_index, slice_index_or, slice_set, nat_le, if◌then◌else◌, IfOk, IfSome};
+ghost use Rattle.iddqd_ord_index.specs.Nodes.{below, below_with, counts_of, nodes_of, subtrees, AreBranches, HasBlock, IsBare, IsBlock};
 ghost use Rattle.iddqd_ord_index.specs.Shape.{lists, starts, unused, IsBranchAt};
 
-use super::{Branches, Node};
+use super::{Block, Branches, Node};
 use crate::tree::cells;
 use arrayvec::ArrayVec;
+use std::alloc::{AllocError, Global};
 use std::mem;
 
+impl Block {
+    // A block without branches.
+    pub(crate) fn new() -> Self
+        ensures { IsBare result }
+    {
+        Block {
+            counts: ArrayVec::new(),
+            nodes: [
+                None, None, None, None, None, None, None, None, None, None, None, None,
+            ],
+        }
+    }
+
+    fn insert(&mut self, i: usize, node: Box<Node>, count: u32)
+        requires block { IsBlock self.old }
+        requires in_bounds { i ≤ length (subtrees self.old.nodes) }
+        requires room { length (subtrees self.old.nodes) < 12 }
+        requires count { count ≡ length node.value.slots }
+
+        // afterwards
+        ensures block { IsBlock self.new }
+        ensures below { subtrees self.new.nodes ≡ insert (subtrees self.old.nodes) i node.value }
+    {
+        cells::insert(&mut self.nodes, i, node);
+        self.counts.insert(i, count);
+    }
+
+    fn remove(&mut self, i: usize) -> (Box<Node>, u32)
+        requires block { IsBlock self.old }
+        requires in_bounds { i < length (subtrees self.old.nodes) }
+
+        // afterwards
+        ensures block { IsBlock self.new }
+        ensures below { subtrees self.new.nodes ≡ remove (subtrees self.old.nodes) i }
+        ensures node { result.0.value ≡ slice_index_or (subtrees self.old.nodes) i unused }
+        ensures count { result.1 ≡ length result.0.value.slots }
+    {
+        let node = cells::remove(&mut self.nodes, i);
+        (node, self.counts.remove(i))
+    }
+
+    // Moves all branches of `upper` behind these.
+    fn append(&mut self, upper: &mut Block)
+        requires block { IsBlock self.old }
+        requires upper_block { IsBlock upper.old }
+        requires fits { length (subtrees self.old.nodes) + length (subtrees upper.old.nodes) ≤ 12 }
+
+        // afterwards
+        ensures block { IsBlock self.new }
+        ensures upper_block { IsBlock upper.new }
+        ensures below { subtrees self.new.nodes ≡ subtrees self.old.nodes ++ subtrees upper.old.nodes }
+        ensures upper_below { subtrees upper.new.nodes ≡ [] }
+    {
+        let len = self.counts.len();
+        let more = upper.counts.len();
+        cells::append(&mut self.nodes, len, &mut upper.nodes, more);
+        let Ok(()) = self.counts.try_extend_from_slice(upper.counts.as_slice()) else {
+            unreachable!()
+        };
+        upper.counts.clear();
+    }
+
+    // Moves the branches from the i-th on into `upper`, which has none.
+    fn move_tail(&mut self, i: usize, upper: &mut Block)
+        requires block { IsBlock self.old }
+        requires upper_block { IsBlock upper.old }
+        requires in_bounds { i ≤ length (subtrees self.old.nodes) }
+        requires upper_empty { subtrees upper.old.nodes ≡ [] }
+
+        // afterwards
+        ensures block { IsBlock self.new }
+        ensures upper_block { IsBlock upper.new }
+        ensures below { subtrees self.new.nodes ≡ take i (subtrees self.old.nodes) }
+        ensures upper_below { subtrees upper.new.nodes ≡ drop i (subtrees self.old.nodes) }
+    {
+        cells::move_tail(&mut self.nodes, i, &mut upper.nodes);
+        let Ok(()) = upper
+            .counts
+            .try_extend_from_slice(&self.counts.as_slice()[i..])
+        else {
+            unreachable!()
+        };
+        self.counts.truncate(i);
+    }
+
+    // Puts a branch in behind the i-th of twelve, and moves the upper half into `upper`, which has none.
+    fn split(&mut self, i: usize, node: Box<Node>, count: u32, upper: &mut Block)
+        requires block { IsBlock self.old }
+        requires full { length (subtrees self.old.nodes) ≡ 12 }
+        requires in_bounds { i < 12 }
+        requires count { count ≡ length node.value.slots }
+        requires upper_block { IsBlock upper.old }
+        requires upper_empty { subtrees upper.old.nodes ≡ [] }
+
+        // afterwards
+        ensures block { IsBlock self.new }
+        ensures upper_block { IsBlock upper.new }
+        ensures below { insert (subtrees self.old.nodes) (i + 1) node.value ≡ subtrees self.new.nodes ++ subtrees upper.new.nodes }
+        ensures lower { length (subtrees self.new.nodes) ≡ (if nat_le i 5 then 7 else 6) }
+        ensures upper { length (subtrees upper.new.nodes) ≡ (if nat_le i 5 then 6 else 7) }
+    {
+        self.move_tail(6, upper);
+        if i <= 5 {
+            self.insert(i + 1, node, count);
+        } else {
+            upper.insert(i - 5, node, count);
+        }
+    }
+}
+
 impl Branches {
-    // No branches.
+    // No branches, and no block.
     pub(super) fn new() -> Self
         ensures branches { AreBranches result }
         ensures none { below result ≡ [] }
     {
-        Branches {
-            nodes: [
-                None, None, None, None, None, None, None, None, None, None, None, None,
-            ],
-            counts: ArrayVec::new(),
+        Branches { block: None }
+    }
+
+    // No branches yet, in this block.
+    pub(super) fn within(block: Box<Block>) -> Self
+        requires bare { IsBare block.value }
+        ensures branches { AreBranches result }
+        ensures none { below result ≡ [] }
+        ensures block { HasBlock result }
+    {
+        Branches { block: Some(block) }
+    }
+
+    // No branches yet, in a block if these have branches.
+    pub(super) fn try_like(&self, alloc: Global) -> Result<Self, AllocError>
+        requires { AreBranches self.now }
+        ensures branches { IfOk result (λ like. AreBranches like × (below like ≡ [])) }
+        ensures block { IfOk result (λ like. 0 < length (below self.now) → HasBlock like) }
+    {
+        if self.is_empty() {
+            return Ok(Branches::new());
+        }
+        Ok(Branches::within(Box::new(alloc, Block::new())?))
+    }
+
+    // Takes the block away, if there is one, from no branches.
+    pub(super) fn take_block(&mut self) -> Option<Box<Block>>
+        requires branches { AreBranches self.old }
+        requires none { below self.old ≡ [] }
+        ensures branches { AreBranches self.new }
+        ensures none { below self.new ≡ [] }
+        ensures bare { IfSome result (λ block. IsBare block.value) }
+    {
+        self.block.take()
+    }
+
+    // How many slots lie below each branch.
+    fn counts(&self) -> &[u32]
+        ensures { result.now ≡ counts_of self.now }
+    {
+        match &self.block {
+            Some(block) => block.counts.as_slice(),
+            None => &[],
         }
     }
 
@@ -26,7 +175,7 @@ impl Branches {
         requires { AreBranches self.now }
         ensures { result ≡ length (below self.now) }
     {
-        self.counts.len()
+        self.counts().len()
     }
 
     pub(super) fn is_empty(&self) -> bool
@@ -34,7 +183,7 @@ impl Branches {
         ensures none { result ≡ true → length (below self.now) ≡ 0 }
         ensures some { result ≡ false → 0 < length (below self.now) }
     {
-        self.counts.is_empty()
+        self.counts().is_empty()
     }
 
     // How many slots lie below the i-th branch.
@@ -43,7 +192,7 @@ impl Branches {
         requires in_bounds { i < length (below self.now) }
         ensures { result ≡ length (slice_index_or (below self.now) i unused).slots }
     {
-        self.counts.as_slice()[i]
+        self.counts()[i]
     }
 
     // The i-th branch.
@@ -52,7 +201,10 @@ impl Branches {
         requires in_bounds { i < length (below self.now) }
         ensures { result.now ≡ slice_index_or (below self.now) i unused }
     {
-        match &self.nodes[i] {
+        let Some(block) = &self.block else {
+            unreachable!()
+        };
+        match &block.nodes[i] {
             Some(node) => node,
             None => unreachable!(),
         }
@@ -65,8 +217,11 @@ impl Branches {
         ensures branches { subtrees result.now ≡ drop (i + 1) (below self.now) }
         ensures present { length (subtrees result.now) ≡ length result.now }
     {
-        let nodes: &[Option<Box<Node>>] = &self.nodes[..];
-        &nodes[i + 1..self.counts.len()]
+        let Some(block) = &self.block else {
+            unreachable!()
+        };
+        let nodes: &[Option<Box<Node>>] = &block.nodes[..];
+        &nodes[i + 1..block.counts.len()]
     }
 
     // The branch that position `at` lies in or right behind, and the position in it.
@@ -75,7 +230,7 @@ impl Branches {
         requires reached { at < starts (lists (below self.now)) }
         ensures { IsBranchAt (lists (below self.now)) at result.0 result.1 }
     {
-        let counts = self.counts.as_slice();
+        let counts = self.counts();
         let mut i = 0;
         let mut rest = at;
         while i + 1 < counts.len() && rest > counts[i] {
@@ -92,7 +247,7 @@ impl Branches {
         requires room { starts (lists (below self.now)) ≤ 2 ^ 32 }
         ensures { result ≡ starts (take i (lists (below self.now))) }
     {
-        let counts = self.counts.as_slice();
+        let counts = self.counts();
         let mut start = 0;
         for k in 0..i {
             start += counts[k] + 1;
@@ -106,13 +261,17 @@ impl Branches {
         requires in_bounds { i ≤ length (below self.old) }
         requires room { length (below self.old) < 12 }
         requires count { count ≡ length node.value.slots }
+        requires block { HasBlock self.old }
 
         // afterwards
         ensures branches { AreBranches self.new }
         ensures below { below self.new ≡ insert (below self.old) i node.value }
+        ensures block { HasBlock self.new }
     {
-        cells::insert(&mut self.nodes, i, node);
-        self.counts.insert(i, count);
+        let Some(block) = &mut self.block else {
+            unreachable!()
+        };
+        block.insert(i, node, count);
     }
 
     // Removes the i-th branch, and returns it with the number of slots below it.
@@ -125,31 +284,41 @@ impl Branches {
         ensures below { below self.new ≡ remove (below self.old) i }
         ensures node { result.0.value ≡ slice_index_or (below self.old) i unused }
         ensures count { result.1 ≡ length result.0.value.slots }
+        ensures block { HasBlock self.new }
     {
-        let node = cells::remove(&mut self.nodes, i);
-        (node, self.counts.remove(i))
+        let Some(block) = &mut self.block else {
+            unreachable!()
+        };
+        block.remove(i)
     }
 
     // Takes the i-th branch out of its cell, which `put` fills again.
     pub(super) fn take(&mut self, i: usize) -> Box<Node>
         requires branches { AreBranches self.old }
         requires in_bounds { i < length (below self.old) }
-        ensures cell { self.new.nodes ≡ slice_set self.old.nodes i None }
-        ensures counts { self.new.counts ≡ self.old.counts }
+        ensures cell { nodes_of self.new ≡ slice_set (nodes_of self.old) i None }
+        ensures counts { counts_of self.new ≡ counts_of self.old }
         ensures node { result.value ≡ slice_index_or (below self.old) i unused }
     {
-        cells::take(&mut self.nodes, i)
+        let Some(block) = &mut self.block else {
+            unreachable!()
+        };
+        let block: &mut Block = block;
+        cells::take(&mut block.nodes, i)
     }
 
     // Puts a branch, with this many slots below it, into the cell that `take` has left empty.
     pub(super) fn put(&mut self, i: usize, node: Box<Node>, count: u32)
-        requires cell { i < length self.old.nodes }
-        requires counts { i < length self.old.counts.items }
-        ensures cell { self.new.nodes ≡ slice_set self.old.nodes i (Some node) }
-        ensures counts { self.new.counts.items ≡ slice_set self.old.counts.items i count }
+        requires cell { i < length (nodes_of self.old) }
+        requires counts { i < length (counts_of self.old) }
+        ensures cell { nodes_of self.new ≡ slice_set (nodes_of self.old) i (Some node) }
+        ensures counts { counts_of self.new ≡ slice_set (counts_of self.old) i count }
     {
-        cells::put(&mut self.nodes, i, node);
-        replace(&mut self.counts, i, count);
+        let Some(block) = &mut self.block else {
+            unreachable!()
+        };
+        cells::put(&mut block.nodes, i, node);
+        replace(&mut block.counts, i, count);
     }
 
     // Moves all branches of `upper` behind these.
@@ -157,6 +326,7 @@ impl Branches {
         requires branches { AreBranches self.old }
         requires upper_branches { AreBranches upper.old }
         requires fits { length (below self.old) + length (below upper.old) ≤ 12 }
+        requires block { 0 < length (below upper.old) → HasBlock self.old }
 
         // afterwards
         ensures branches { AreBranches self.new }
@@ -164,65 +334,46 @@ impl Branches {
         ensures below { below self.new ≡ below self.old ++ below upper.old }
         ensures upper_below { below upper.new ≡ [] }
     {
-        let len = self.len();
-        let more = upper.len();
-        cells::append(&mut self.nodes, len, &mut upper.nodes, more);
-        let Ok(()) = self.counts.try_extend_from_slice(upper.counts.as_slice()) else {
-            unreachable!()
+        let Some(block) = &mut self.block else {
+            return;
         };
-        upper.counts.clear();
+        let Some(upper) = &mut upper.block else {
+            return;
+        };
+        block.append(upper);
     }
 
-    // Moves the branches from the i-th on into `upper`, which has none.
-    fn move_tail(&mut self, i: usize, upper: &mut Branches)
-        requires branches { AreBranches self.old }
-        requires upper_branches { AreBranches upper.old }
-        requires in_bounds { i ≤ length (below self.old) }
-        requires upper_empty { below upper.old ≡ [] }
-
-        // afterwards
-        ensures branches { AreBranches self.new }
-        ensures upper_branches { AreBranches upper.new }
-        ensures below { below self.new ≡ take i (below self.old) }
-        ensures upper_below { below upper.new ≡ drop i (below self.old) }
-    {
-        cells::move_tail(&mut self.nodes, i, &mut upper.nodes);
-        let Ok(()) = upper
-            .counts
-            .try_extend_from_slice(&self.counts.as_slice()[i..])
-        else {
-            unreachable!()
-        };
-        self.counts.truncate(i);
-    }
-
-    // Puts a branch in behind the i-th of twelve, and moves the upper half into `upper`, which has none.
-    pub(super) fn split(&mut self, i: usize, node: Box<Node>, count: u32, upper: &mut Branches)
+    // Puts a branch in behind the i-th of twelve, and returns the upper half, in this block.
+    pub(super) fn split(
+        &mut self,
+        i: usize,
+        node: Box<Node>,
+        count: u32,
+        mut block: Box<Block>,
+    ) -> Branches
         requires branches { AreBranches self.old }
         requires full { length (below self.old) ≡ 12 }
         requires in_bounds { i < 12 }
         requires count { count ≡ length node.value.slots }
-        requires upper_branches { AreBranches upper.old }
-        requires upper_empty { below upper.old ≡ [] }
+        requires bare { IsBare block.value }
 
         // afterwards
         ensures branches { AreBranches self.new }
-        ensures upper_branches { AreBranches upper.new }
-        ensures below { below_with self.old i node.value ≡ below self.new ++ below upper.new }
+        ensures upper_branches { AreBranches result }
+        ensures below { below_with self.old i node.value ≡ below self.new ++ below result }
         ensures lower { length (below self.new) ≡ (if nat_le i 5 then 7 else 6) }
-        ensures upper { length (below upper.new) ≡ (if nat_le i 5 then 6 else 7) }
+        ensures upper { length (below result) ≡ (if nat_le i 5 then 6 else 7) }
     {
-        self.move_tail(6, upper);
-        if i <= 5 {
-            self.insert(i + 1, node, count);
-        } else {
-            upper.insert(i - 5, node, count);
-        }
+        let Some(own) = &mut self.block else {
+            unreachable!()
+        };
+        own.split(i, node, count, &mut block);
+        Branches { block: Some(block) }
     }
 }
 
 // Replaces the i-th number by another, and returns the old one.
-pub(super) fn replace<const N: usize>(items: &mut ArrayVec<u32, N>, i: usize, new: u32) -> u32
+fn replace(items: &mut ArrayVec<u32, 12>, i: usize, new: u32) -> u32
     requires { i < length items.old.items }
     ensures value { result ≡ slice_index items.old.items i }
     ensures items { items.new.items ≡ slice_set items.old.items i new }

@@ -1,8 +1,8 @@
 //! A copy of a node with all that lies below it.
 ghost use Rattle.std.specs.Prelude.{◌≡◌, IfOk};
 
-use super::{Branches, Node};
-use arrayvec::ArrayVec;
+use super::Node;
+use crate::tree::slots::Slots;
 use std::alloc::{AllocError, Global};
 
 impl Node {
@@ -10,15 +10,13 @@ impl Node {
     pub(crate) fn try_clone(&self, alloc: Global) -> Result<Node, AllocError>
         ensures { IfOk result (λ copy. copy ≡ self.now) }
     {
-        let mut branches = Branches::new();
+        let mut branches = self.branches.try_like(alloc)?;
         for i in 0..self.branches.len() {
             let node = self.branches.get(i).try_clone(alloc)?;
             branches.insert(i, Box::new(alloc, node)?, self.branches.count(i));
         }
-        let mut slots = ArrayVec::new();
-        let Ok(()) = slots.try_extend_from_slice(self.slots.as_slice()) else {
-            unreachable!()
-        };
+        let mut slots = Slots::new();
+        slots.extend_from_slice(self.slots.as_slice());
         Ok(Node { slots, branches })
     }
 }

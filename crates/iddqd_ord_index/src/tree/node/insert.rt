@@ -2,21 +2,16 @@
 ghost use Rattle.std.specs.Prelude.{◌≡◌, ◌+◌, ◌^◌, ◌<◌, ◌≤◌, [], ◌∷◌, ◌++◌, length, insert, nat_le, OnSome, if◌then◌else◌};
 ghost use Rattle.arrayvec.specs.ArrayVec.{array_vec_len};
 ghost use Rattle.iddqd_ord_index.specs.Changes.{AddsIn, AddsTo, SplitsIn};
-ghost use Rattle.iddqd_ord_index.specs.Nodes.{below, AreBranches};
+ghost use Rattle.iddqd_ord_index.specs.Nodes.{below, AreBranches, IsBare};
 ghost use Rattle.iddqd_ord_index.specs.Shape.{lists, levels, tree, unused, in_order, IsBranch, IsDense, IsForked};
 
-use super::{Branches, Node};
+use super::{Block, Branches, Node};
 use crate::tree::pool::NodePool;
-use arrayvec::ArrayVec;
+use crate::tree::slots::Slots;
 
 // Inserts `slot` at place `i` of eleven, moves the upper half into `upper`, which is empty, and returns the slot
 // between the halves.
-fn split_slots(
-    slots: &mut ArrayVec<u32, 11>,
-    i: usize,
-    slot: u32,
-    upper: &mut ArrayVec<u32, 11>,
-) -> u32
+fn split_slots(slots: &mut Slots, i: usize, slot: u32, upper: &mut Slots) -> u32
     requires full { array_vec_len slots.old ≡ 11 }
     requires in_bounds { i ≤ 11 }
     requires upper_empty { upper.old.items ≡ [] }
@@ -27,9 +22,7 @@ fn split_slots(
     ensures upper { length upper.new.items ≡ (if nat_le i 5 then 5 else 6) }
     ensures wide { (5 ≤ length slots.new.items) × (5 ≤ length upper.new.items) }
 {
-    let Ok(()) = upper.try_extend_from_slice(&slots.as_slice()[6..]) else {
-        unreachable!()
-    };
+    upper.extend_from_slice(&slots.as_slice()[6..]);
     slots.truncate(6);
     let Some(middle) = slots.pop() else {
         unreachable!()
@@ -43,15 +36,16 @@ fn split_slots(
 }
 
 // Inserts `middle` at place `i` of a full inner node and `upper` behind it, and moves the upper half into `half`,
-// which is unused. Returns the slot between the halves.
+// which is unused, with its branches in this block. Returns the slot between the halves.
 fn split_inner(
-    slots: &mut ArrayVec<u32, 11>,
+    slots: &mut Slots,
     branches: &mut Branches,
     i: usize,
     middle: u32,
     upper: Box<Node>,
     count: u32,
     half: &mut Node,
+    block: Box<Block>,
 ) -> u32
     requires branches { AreBranches branches.old }
     requires forked { IsForked (below branches.old) slots.old.items }
@@ -61,6 +55,7 @@ fn split_inner(
     requires upper { IsBranch (levels (below branches.old)) upper.value }
     requires count { count ≡ length upper.value.slots }
     requires half { half.old ≡ unused }
+    requires bare { IsBare block.value }
 
     // the branches
     ensures branches { AreBranches branches.new }
@@ -71,13 +66,13 @@ fn split_inner(
     ensures split { SplitsIn i middle upper.value branches.old slots.old branches.new slots.new result half.new }
 {
     let top = split_slots(slots, i, middle, &mut half.slots);
-    branches.split(i, upper, count, &mut half.branches);
+    half.branches = branches.split(i, upper, count, block);
     top
 }
 
 // Inserts `middle` at place `i` of an inner node and `upper` behind it.
 pub(super) fn add_branch(
-    slots: &mut ArrayVec<u32, 11>,
+    slots: &mut Slots,
     branches: &mut Branches,
     i: usize,
     middle: u32,
@@ -108,15 +103,16 @@ pub(super) fn add_branch(
         branches.insert(i + 1, upper, count);
         return None;
     }
-    let mut half = pool.take();
-    let top = split_inner(slots, branches, i, middle, upper, count, &mut half);
+    let (mut half, block) = pool.take_inner();
+    let top = split_inner(slots, branches, i, middle, upper, count, &mut half, block);
     Some((top, half))
 }
 
 impl Node {
-    // Makes an unused node the root above two halves, with this many slots below it.
+    // Makes an unused node the root above two halves, with this many slots below each. They lie in this block.
     pub(crate) fn make_root(
         &mut self,
+        block: Box<Block>,
         lower: Box<Node>,
         lower_count: u32,
         middle: u32,
@@ -124,6 +120,7 @@ impl Node {
         upper_count: u32,
     )
         requires unused { self.old ≡ unused }
+        requires bare { IsBare block.value }
         requires lower { IsBranch (lower.value.height + 1) lower.value }
         requires upper { IsBranch (lower.value.height + 1) upper.value }
         requires lower_count { lower_count ≡ length lower.value.slots }
@@ -136,6 +133,7 @@ impl Node {
         ensures dense { IsDense self.new }
     {
         self.slots.push(middle);
+        self.branches = Branches::within(block);
         self.branches.insert(0, lower, lower_count);
         self.branches.insert(1, upper, upper_count);
     }
@@ -161,7 +159,7 @@ impl Node {
         ensures left { pool.old.count ≤ pool.new.count + 1 }
         ensures pool { (pool.new.wanted ≡ pool.old.wanted) × (pool.new.room ≡ pool.old.room) }
     {
-        if !self.slots.is_full() {
+        if self.slots.len() < 11 {
             self.slots.insert(at as usize, slot);
             return None;
         }

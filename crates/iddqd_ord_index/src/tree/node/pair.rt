@@ -1,7 +1,7 @@
 //! Two neighbours of which one is a slot short: both are merged, or one borrows from the other.
 ghost use Rattle.std.specs.Prelude.{◌≡◌, ◌+◌, ◌<◌, ◌≤◌, ◌∷◌, ◌++◌, length, take, drop};
 ghost use Rattle.iddqd_ord_index.specs.Neighbours.{joined, IsAsHigh, IsRebalanced, IsNarrower, IsPair, IsWider};
-ghost use Rattle.iddqd_ord_index.specs.Nodes.{below, AreBranches};
+ghost use Rattle.iddqd_ord_index.specs.Nodes.{below, AreBranches, HasBlock};
 ghost use Rattle.iddqd_ord_index.specs.Shape.{unused, IsDense};
 
 use super::{Branches, Node};
@@ -11,6 +11,7 @@ fn move_first(lower: &mut Branches, upper: &mut Branches)
     requires branches { AreBranches lower.old }
     requires upper_branches { AreBranches upper.old }
     requires fits { length (below lower.old) < 12 }
+    requires block { 0 < length (below upper.old) → HasBlock lower.old }
 
     // afterwards
     ensures branches { AreBranches lower.new }
@@ -32,6 +33,7 @@ fn move_last(lower: &mut Branches, len: usize, upper: &mut Branches)
     requires upper_branches { AreBranches upper.old }
     requires len { 0 < length (below lower.old) → len + 1 ≡ length (below lower.old) }
     requires fits { length (below upper.old) < 12 }
+    requires block { 0 < length (below lower.old) → HasBlock upper.old }
 
     // afterwards
     ensures branches { AreBranches lower.new }
@@ -61,9 +63,7 @@ impl Node {
     {
         self.branches.append(&mut upper.branches);
         self.slots.push(middle);
-        let Ok(()) = self.slots.try_extend_from_slice(upper.slots.as_slice()) else {
-            unreachable!()
-        };
+        self.slots.extend_from_slice(upper.slots.as_slice());
         upper.slots.clear();
     }
 

@@ -3,7 +3,6 @@ ghost use Rattle.std.specs.Prelude.{◌≡◌, ◌<◌, length, slice_index, sli
 ghost use Rattle.iddqd_ord_index.specs.Shape.{IsDense};
 
 use super::Node;
-use super::below::replace;
 
 impl Node {
     // The slot at the position.
@@ -33,13 +32,13 @@ impl Node {
         ensures dense { IsDense self.new }
     {
         if self.branches.is_empty() {
-            replace(&mut self.slots, at as usize, new);
+            self.slots.replace(at as usize, new);
             return;
         }
         let (i, rest) = self.branches.branch_at(at);
         let count = self.branches.count(i);
         if rest == count {
-            replace(&mut self.slots, i, new);
+            self.slots.replace(i, new);
             return;
         }
         let mut node = self.branches.take(i);

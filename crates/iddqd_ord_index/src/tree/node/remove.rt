@@ -1,20 +1,19 @@
 //! Removal: a branch that is a slot short is rebalanced with a neighbour.
 ghost use Rattle.std.specs.Prelude.{◌≡◌, ◌+◌, ◌-◌, ◌^◌, ◌<◌, ◌≤◌, All, min, length, insert, remove, slice_index, slice_set, slice_index_or};
 ghost use Rattle.iddqd_ord_index.specs.Changes.{GivesBack, IsReplaced, IsSameOrOneLess, IsShorter};
-ghost use Rattle.iddqd_ord_index.specs.Neighbours.{given_back, IsPair, IsNear};
-ghost use Rattle.iddqd_ord_index.specs.Nodes.{below, slots_of, AreBranches, InsertsPair};
+ghost use Rattle.iddqd_ord_index.specs.Neighbours.{IsGivenBack, IsPair, IsNear};
+ghost use Rattle.iddqd_ord_index.specs.Nodes.{below, slots_of, AreBranches, HasBlock, InsertsPair};
 ghost use Rattle.iddqd_ord_index.specs.Shape.{levels, lists, starts, unused, in_order, IsBranch, IsDense, IsForked};
 
-use super::below::replace;
 use super::{Branches, Node};
 use crate::tree::pool::NodePool;
-use arrayvec::ArrayVec;
+use crate::tree::slots::Slots;
 use std::mem;
 
 // Rebalances the neighbours `lower` and `upper`, which have `total` slots. It puts them, or the one that they are now,
 // in as the j-th branch and the next.
 fn rebalance_at(
-    slots: &mut ArrayVec<u32, 11>,
+    slots: &mut Slots,
     branches: &mut Branches,
     j: usize,
     mut lower: Box<Node>,
@@ -23,6 +22,7 @@ fn rebalance_at(
     pool: &mut NodePool,
 )
     requires branches { AreBranches branches.old }
+    requires block { HasBlock branches.old }
     requires all { All (IsBranch (lower.value.height + 1)) (below branches.old) }
     requires fork { length (below branches.old) + 1 ≡ length slots.old.items }
     requires in_bounds { j < length slots.old.items }
@@ -41,13 +41,13 @@ fn rebalance_at(
 
     // the unused nodes
     ensures kept { length slots.new.items ≡ length slots.old.items → pool.new ≡ pool.old }
-    ensures gives_back { IsShorter slots.new slots.old → pool.new ≡ given_back pool.old }
+    ensures gives_back { IsShorter slots.new slots.old → IsGivenBack pool.old pool.new }
 {
     let middle = slots.as_slice()[j];
     match lower.rebalance(middle, &mut upper) {
         Some(top) => {
             let count = lower.len();
-            replace(slots, j, top);
+            slots.replace(j, top);
             branches.insert(j, upper, total - count);
             branches.insert(j, lower, count);
         }
@@ -61,7 +61,7 @@ fn rebalance_at(
 
 // Rebalances the i-th branch, whose node has this many slots of its own, if it is one short.
 pub(super) fn rebalance(
-    slots: &mut ArrayVec<u32, 11>,
+    slots: &mut Slots,
     branches: &mut Branches,
     i: usize,
     width: usize,
@@ -83,7 +83,7 @@ pub(super) fn rebalance(
 
     // the unused nodes
     ensures kept { length slots.new.items ≡ length slots.old.items → pool.new ≡ pool.old }
-    ensures gives_back { IsShorter slots.new slots.old → pool.new ≡ given_back pool.old }
+    ensures gives_back { IsShorter slots.new slots.old → IsGivenBack pool.old pool.new }
     ensures short { IsShorter slots.new slots.old → width < 5 }
 {
     if width >= 5 {
@@ -105,7 +105,7 @@ pub(super) fn rebalance(
 
 // Returns the slot that leaves its node if position `rest` of the i-th branch, which had `len` slots, is removed.
 // It is the one from that branch, or the own slot that this one replaces, if `rest` is behind the branch.
-fn replace_own(slots: &mut ArrayVec<u32, 11>, i: usize, rest: u32, len: u32, taken: u32) -> u32
+fn replace_own(slots: &mut Slots, i: usize, rest: u32, len: u32, taken: u32) -> u32
     requires within { rest ≤ len }
     requires own { rest ≡ len → i < length slots.old.items }
     ensures below { rest < len → (result ≡ taken) × (slots.new.items ≡ slots.old.items) }
@@ -115,7 +115,7 @@ fn replace_own(slots: &mut ArrayVec<u32, 11>, i: usize, rest: u32, len: u32, tak
     if rest < len {
         return taken;
     }
-    replace(slots, i, taken)
+    slots.replace(i, taken)
 }
 
 impl Node {
@@ -135,7 +135,7 @@ impl Node {
         ensures dense { IsDense self.new }
 
         // the unused nodes
-        ensures kept { pool.old.count ≤ pool.new.count }
+        ensures kept { pool.old.nodes ≤ pool.new.nodes }
         ensures gives_back { GivesBack self.old self.new pool.old pool.new }
         ensures pool { (pool.new.wanted ≡ pool.old.wanted) × (pool.new.room ≡ pool.old.room) }
     {

@@ -7,21 +7,15 @@ ghost use Rattle.iddqd_ord_index.specs.Nodes.{below, slots_of, AreBranches};
 ghost use Rattle.iddqd_ord_index.specs.Shape.{levels, IsDense, IsForked};
 ghost use Rattle.iddqd_ord_index.specs.Standing.{StandsMonotone};
 
-use super::below::replace;
 use super::remove::rebalance;
 use super::{Branches, Node};
 use crate::tree::pool::NodePool;
 use crate::tree::search::search;
-use arrayvec::ArrayVec;
+use crate::tree::slots::Slots;
 use iddqd_store::{Comparable, IdOrdItem, ItemStore, Steps};
 
 // Removes the i-th own slot of a node and returns it. The last slot of the i-th branch takes its place.
-fn remove_own(
-    slots: &mut ArrayVec<u32, 11>,
-    branches: &mut Branches,
-    i: usize,
-    pool: &mut NodePool,
-) -> u32
+fn remove_own(slots: &mut Slots, branches: &mut Branches, i: usize, pool: &mut NodePool) -> u32
     requires branches { AreBranches branches.old }
     requires forked { IsForked (below branches.old) slots.old.items }
     requires inner { 0 < length (below branches.old) }
@@ -39,7 +33,7 @@ fn remove_own(
     ensures width { IsSameOrOneLess (length slots.new.items) (length slots.old.items) }
 
     // the unused nodes
-    ensures kept { pool.old.count ≤ pool.new.count }
+    ensures kept { pool.old.nodes ≤ pool.new.nodes }
     ensures given { GivesBackIn branches.old slots.old branches.new slots.new pool.old pool.new }
     ensures pool { (pool.new.wanted ≡ pool.old.wanted) × (pool.new.room ≡ pool.old.room) }
 {
@@ -48,7 +42,7 @@ fn remove_own(
     let last = node.remove(len - 1, pool);
     let width = node.width();
     branches.put(i, node, len - 1);
-    let slot = replace(slots, i, last);
+    let slot = slots.replace(i, last);
     rebalance(slots, branches, i, width, pool);
     slot
 }
@@ -76,7 +70,7 @@ impl Node {
         ensures dense { IsDense self.new }
 
         // the unused nodes
-        ensures kept { pool.old.count ≤ pool.new.count }
+        ensures kept { pool.old.nodes ≤ pool.new.nodes }
         ensures gives_back { GivesBack self.old self.new pool.old pool.new }
         ensures pool { (pool.new.wanted ≡ pool.old.wanted) × (pool.new.room ≡ pool.old.room) }
 
@@ -96,13 +90,13 @@ impl Node {
             Err(i) => i,
         };
         let len = self.branches.count(i);
-        // The branch stays in its cell, so that nothing is written if there is no such slot.
-        let Some(node) = &mut self.branches.nodes[i] else {
-            unreachable!()
+        let mut node = self.branches.take(i);
+        let Some(slot) = node.remove_by(store, query, pool, steps) else {
+            self.branches.put(i, node, len);
+            return None;
         };
-        let slot = node.remove_by(store, query, pool, steps)?;
         let width = node.width();
-        replace(&mut self.branches.counts, i, len - 1);
+        self.branches.put(i, node, len - 1);
         rebalance(&mut self.slots, &mut self.branches, i, width, pool);
         Some(slot)
     }

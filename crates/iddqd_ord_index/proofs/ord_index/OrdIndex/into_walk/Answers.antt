@@ -2,5 +2,5 @@
 use Rattle.std.proofs.Common.{rules}
 use Rattle.iddqd_ord_index.proofs.ord_index.OrdIndex.into_walk.Goals as goal
 
-pub returns : goal.returns
-returns c = search rules
+pub returns-clause-slots : goal.returns-clause-slots
+returns-clause-slots c = search rules

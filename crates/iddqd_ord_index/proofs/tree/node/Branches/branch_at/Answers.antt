@@ -9,15 +9,15 @@ loop-i-preserved c =
     let bs = c.args.self.now in
     let i = c.loop-i.i in
     let n = length-counts bs c.requires.branches in
-    let k = ap length c.as_slice-counts.ensures.value in
-    let m = starts_more bs c.requires.branches c.as_slice-counts.result.now c.as_slice-counts.ensures.value i c.loop-i.invariant.within in
-    let l = starts_less bs c.requires.branches c.as_slice-counts.result.now c.as_slice-counts.ensures.value i c.loop-i.invariant.within in
+    let k = ap length c.counts-counts.ensures in
+    let m = starts_more bs c.requires.branches c.counts-counts.result.now c.counts-counts.ensures i c.loop-i.invariant.within in
+    let l = starts_less bs c.requires.branches c.counts-counts.result.now c.counts-counts.ensures i c.loop-i.invariant.within in
     record { within = omega arith; sum = omega (arith, c.loop-i.invariant.sum); reached = omega (arith, c.loop-i.invariant.reached) }
 
 pub returns-else-rest-counts : goal.returns-else-rest-counts
 returns-else-rest-counts c =
     let bs = c.args.self.now in
-    let e = counts_at bs c.requires.branches c.as_slice-counts.result.now c.as_slice-counts.ensures.value c.loop-i.i c.loop-i.invariant.within in
+    let e = counts_at bs c.requires.branches c.counts-counts.result.now c.counts-counts.ensures c.loop-i.i c.loop-i.invariant.within in
     record { branch = omega (arith, length-lists (below bs), c.loop-i.invariant.within); within = omega arith; sum = c.loop-i.invariant.sum }
 
 pub loop-i-init : goal.loop-i-init

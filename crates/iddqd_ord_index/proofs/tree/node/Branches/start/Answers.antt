@@ -8,7 +8,7 @@ use Rattle.iddqd_ord_index.proofs.tree.node.Branches.start.Goals as goal
 pub overflow_add-start : goal.overflow_add-start
 overflow_add-start c =
     let bs = c.args.self.now in
-    let m = starts_more bs c.requires.branches c.as_slice-counts.result.now c.as_slice-counts.ensures.value c.loop-k.k (omega arith) in
+    let m = starts_more bs c.requires.branches c.counts-counts.result.now c.counts-counts.ensures c.loop-k.k (omega arith) in
     let s = starts_split (lists (below bs)) (c.loop-k.k + 1) in
     let g = starts_ge (drop (c.loop-k.k + 1) (lists (below bs))) in
     omega (arith, length-drop (c.loop-k.k + 1) (lists (below bs)), length-lists (below bs), c.requires.room)
@@ -16,7 +16,7 @@ overflow_add-start c =
 pub overflow_add-start-in-loop-k : goal.overflow_add-start-in-loop-k
 overflow_add-start-in-loop-k c =
     let bs = c.args.self.now in
-    let m = starts_more bs c.requires.branches c.as_slice-counts.result.now c.as_slice-counts.ensures.value c.loop-k.k (omega arith) in
+    let m = starts_more bs c.requires.branches c.counts-counts.result.now c.counts-counts.ensures c.loop-k.k (omega arith) in
     let s = starts_split (lists (below bs)) (c.loop-k.k + 1) in
     let g = starts_ge (drop (c.loop-k.k + 1) (lists (below bs))) in
     omega (arith, length-drop (c.loop-k.k + 1) (lists (below bs)), length-lists (below bs), c.requires.room, c.loop-k.invariant)
@@ -24,5 +24,5 @@ overflow_add-start-in-loop-k c =
 pub loop-k-preserved : goal.loop-k-preserved
 loop-k-preserved c =
     let bs = c.args.self.now in
-    let m = starts_more bs c.requires.branches c.as_slice-counts.result.now c.as_slice-counts.ensures.value c.loop-k.k (omega arith) in
+    let m = starts_more bs c.requires.branches c.counts-counts.result.now c.counts-counts.ensures c.loop-k.k (omega arith) in
     omega (arith, c.loop-k.invariant)

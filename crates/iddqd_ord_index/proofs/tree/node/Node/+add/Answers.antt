@@ -58,7 +58,7 @@ made t c =
     let m = length-insert (get_or ts i unused).slots rest c.args.slot (rest_within ts ss c.args.at i rest f c.branch_at-i.ensures) in
     let b = branches_put old c.put.new.self i (c.count-count.result + 1) (with_value c.take-node.result new) c.self.invariant.branches (branch_at_in ts ss c.args.at i rest f c.branch_at-i.ensures)
     (c.put.ensures.cell ∙ ap (λ l. set l i (Some (with_value c.take-node.result new))) c.take-node.ensures.cell)
-    (c.put.ensures.counts ∙ ap (λ l. set l.items i (c.count-count.result + 1)) c.take-node.ensures.counts)
+    (c.put.ensures.counts ∙ ap (λ l. set l i (c.count-count.result + 1)) c.take-node.ensures.counts)
     (omega (arith, c.count-count.ensures, ap length g.slots)) in
     let a = ap (λ t. insert t.slots c.args.at c.args.slot) c.self.view_is in
     (b.0, subst (λ l. IsMade ts (below c.put.new.self) ss l) a (subst (λ us. IsMade ts us ss (insert (in_order (lists ts) ss) c.args.at c.args.slot)) (sym b.1) r))
@@ -99,7 +99,7 @@ made_parted t c =
     put_parted c.self.inside.branches c.put-2.new.self c.self.inside.slots.items c.args.at c.args.slot c.branch_at-i.result.0 c.branch_at-i.result.1 c.count-count.result c.len-above.result (c.count-count.result + 1 - c.len-above.result - 1) c.in-Some.middle c.deref.result.now (with_value c.take-node.result c.add.new.self) c.deref_mut.result.now c.in-Some.upper.value c.args.self.now
     c.self.invariant.branches c.self.invariant.forked c.branch_at-i.ensures (c.deref_mut.ensures.value ∙ c.take-node.ensures.node) c.in-Some.ensures.adds c.in-Some.ensures.height c.in-Some.ensures.dense
     (c.put-2.ensures.cell ∙ ap (λ l. set l c.branch_at-i.result.0 (Some (with_value c.take-node.result c.add.new.self))) c.take-node.ensures.cell)
-    (c.put-2.ensures.counts ∙ ap (λ l. set l.items c.branch_at-i.result.0 (c.count-count.result + 1 - c.len-above.result - 1)) c.take-node.ensures.counts)
+    (c.put-2.ensures.counts ∙ ap (λ l. set l c.branch_at-i.result.0 (c.count-count.result + 1 - c.len-above.result - 1)) c.take-node.ensures.counts)
     refl c.count-count.ensures c.deref.ensures c.len-above.ensures c.self.view_is
 
 pub add_branch-requires-clause-branches : goal.add_branch-requires-clause-branches
@@ -125,7 +125,7 @@ returns-clause-adds t c =
     let m = put_parted c.self.inside.branches c.put-2.new.self c.self.inside.slots.items c.args.at c.args.slot c.branch_at-i.result.0 c.branch_at-i.result.1 c.count-count.result c.len-above.result (c.count-count.result + 1 - c.len-above.result - 1) c.in-Some.middle c.deref.result.now (with_value c.take-node.result c.add.new.self) c.deref_mut.result.now c.in-Some.upper.value c.args.self.now
     c.self.invariant.branches c.self.invariant.forked c.branch_at-i.ensures (c.deref_mut.ensures.value ∙ c.take-node.ensures.node) c.in-Some.ensures.adds c.in-Some.ensures.height c.in-Some.ensures.dense
     (c.put-2.ensures.cell ∙ ap (λ l. set l c.branch_at-i.result.0 (Some (with_value c.take-node.result c.add.new.self))) c.take-node.ensures.cell)
-    (c.put-2.ensures.counts ∙ ap (λ l. set l.items c.branch_at-i.result.0 (c.count-count.result + 1 - c.len-above.result - 1)) c.take-node.ensures.counts)
+    (c.put-2.ensures.counts ∙ ap (λ l. set l c.branch_at-i.result.0 (c.count-count.result + 1 - c.len-above.result - 1)) c.take-node.ensures.counts)
     refl c.count-count.ensures c.deref.ensures c.len-above.ensures c.self.view_is in
     let w = ap (λ t. t.width) c.self.view_is in
     subst (λ n. AddsTo (insert c.args.self.now.slots c.args.at c.args.slot) n (tree (below c.add_branch.new.branches) c.add_branch.new.slots.items) c.add_branch.result) w
@@ -136,7 +136,7 @@ returns-clause-height t c =
     let m = put_parted c.self.inside.branches c.put-2.new.self c.self.inside.slots.items c.args.at c.args.slot c.branch_at-i.result.0 c.branch_at-i.result.1 c.count-count.result c.len-above.result (c.count-count.result + 1 - c.len-above.result - 1) c.in-Some.middle c.deref.result.now (with_value c.take-node.result c.add.new.self) c.deref_mut.result.now c.in-Some.upper.value c.args.self.now
     c.self.invariant.branches c.self.invariant.forked c.branch_at-i.ensures (c.deref_mut.ensures.value ∙ c.take-node.ensures.node) c.in-Some.ensures.adds c.in-Some.ensures.height c.in-Some.ensures.dense
     (c.put-2.ensures.cell ∙ ap (λ l. set l c.branch_at-i.result.0 (Some (with_value c.take-node.result c.add.new.self))) c.take-node.ensures.cell)
-    (c.put-2.ensures.counts ∙ ap (λ l. set l.items c.branch_at-i.result.0 (c.count-count.result + 1 - c.len-above.result - 1)) c.take-node.ensures.counts)
+    (c.put-2.ensures.counts ∙ ap (λ l. set l c.branch_at-i.result.0 (c.count-count.result + 1 - c.len-above.result - 1)) c.take-node.ensures.counts)
     refl c.count-count.ensures c.deref.ensures c.len-above.ensures c.self.view_is in
     c.add_branch.ensures.levels ∙ (m.1.height ∙ ap (λ t. t.height) c.self.view_is)
 

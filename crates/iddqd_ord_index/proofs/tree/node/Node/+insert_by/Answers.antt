@@ -160,7 +160,7 @@ invariant_of-self g t c =
     let e : d ≡ get_or ts i unused = c.deref_mut.ensures.value ∙ c.take-node.ensures.node in
     let k = put_same c.self.inside.branches c.put.new.self i c.count-count.result (with_value c.take-node.result c.insert_by.new.self) d c.self.invariant.branches (child_in x occupied ts ss c.args.self.now c.requires.monotone c.requires.occupied f s some i p) c.in-Found.ensures.ends.0 e
     (c.put.ensures.cell ∙ ap (λ l. set l i (Some (with_value c.take-node.result c.insert_by.new.self))) c.take-node.ensures.cell)
-    (c.put.ensures.counts ∙ ap (λ l. set l.items i c.count-count.result) c.take-node.ensures.counts)
+    (c.put.ensures.counts ∙ ap (λ l. set l i c.count-count.result) c.take-node.ensures.counts)
     c.count-count.ensures in
     record { branches = k.0; forked = subst (λ us. IsForked us ss) (sym k.1) f }
 
@@ -179,7 +179,7 @@ returns-in-Found-clause-ends g t c =
     let e : d ≡ get_or ts i unused = c.deref_mut.ensures.value ∙ c.take-node.ensures.node in
     let k = put_same c.self.inside.branches c.put.new.self i c.count-count.result (with_value c.take-node.result c.insert_by.new.self) d c.self.invariant.branches (child_in x occupied ts ss c.args.self.now c.requires.monotone c.requires.occupied f s some i p) c.in-Found.ensures.ends.0 e
     (c.put.ensures.cell ∙ ap (λ l. set l i (Some (with_value c.take-node.result c.insert_by.new.self))) c.take-node.ensures.cell)
-    (c.put.ensures.counts ∙ ap (λ l. set l.items i c.count-count.result) c.take-node.ensures.counts)
+    (c.put.ensures.counts ∙ ap (λ l. set l i c.count-count.result) c.take-node.ensures.counts)
     c.count-count.ensures in
     (ap (λ us. tree us ss) k.1 ∙ s, child_among x occupied ts ss c.args.self.now c.requires.monotone c.requires.occupied f s some i p d e c.in-Found.found c.in-Found.ensures.ends.1)
 
@@ -198,7 +198,7 @@ returns-in-Found-clause-height g t c =
     let e : d ≡ get_or ts i unused = c.deref_mut.ensures.value ∙ c.take-node.ensures.node in
     let k = put_same c.self.inside.branches c.put.new.self i c.count-count.result (with_value c.take-node.result c.insert_by.new.self) d c.self.invariant.branches (child_in x occupied ts ss c.args.self.now c.requires.monotone c.requires.occupied f s some i p) c.in-Found.ensures.ends.0 e
     (c.put.ensures.cell ∙ ap (λ l. set l i (Some (with_value c.take-node.result c.insert_by.new.self))) c.take-node.ensures.cell)
-    (c.put.ensures.counts ∙ ap (λ l. set l.items i c.count-count.result) c.take-node.ensures.counts)
+    (c.put.ensures.counts ∙ ap (λ l. set l i c.count-count.result) c.take-node.ensures.counts)
     c.count-count.ensures in
     ap levels k.1 ∙ ap (λ t. t.height) s
 
@@ -217,7 +217,7 @@ returns-in-Found-clause-dense g t c =
     let e : d ≡ get_or ts i unused = c.deref_mut.ensures.value ∙ c.take-node.ensures.node in
     let k = put_same c.self.inside.branches c.put.new.self i c.count-count.result (with_value c.take-node.result c.insert_by.new.self) d c.self.invariant.branches (child_in x occupied ts ss c.args.self.now c.requires.monotone c.requires.occupied f s some i p) c.in-Found.ensures.ends.0 e
     (c.put.ensures.cell ∙ ap (λ l. set l i (Some (with_value c.take-node.result c.insert_by.new.self))) c.take-node.ensures.cell)
-    (c.put.ensures.counts ∙ ap (λ l. set l.items i c.count-count.result) c.take-node.ensures.counts)
+    (c.put.ensures.counts ∙ ap (λ l. set l i c.count-count.result) c.take-node.ensures.counts)
     c.count-count.ensures in
     subst IsDense (sym (ap (λ us. tree us ss) k.1)) (dense_of ts ss f)
 
@@ -251,7 +251,7 @@ start-requires-clause-branches g t c =
     let e : d ≡ get_or ts i unused = c.deref_mut.ensures.value ∙ c.take-node.ensures.node in
     let k = put_same c.self.inside.branches c.put-in-Full.new.self i c.count-count.result (with_value c.take-node.result c.insert_by.new.self) d c.self.invariant.branches (child_in x occupied ts ss c.args.self.now c.requires.monotone c.requires.occupied f s some i p) c.in-Full.ensures.ends.0 e
     (c.put-in-Full.ensures.cell ∙ ap (λ l. set l i (Some (with_value c.take-node.result c.insert_by.new.self))) c.take-node.ensures.cell)
-    (c.put-in-Full.ensures.counts ∙ ap (λ l. set l.items i c.count-count.result) c.take-node.ensures.counts)
+    (c.put-in-Full.ensures.counts ∙ ap (λ l. set l i c.count-count.result) c.take-node.ensures.counts)
     c.count-count.ensures in
     k.0
 
@@ -270,7 +270,7 @@ start-requires-clause-in_bounds g t c =
     let e : d ≡ get_or ts i unused = c.deref_mut.ensures.value ∙ c.take-node.ensures.node in
     let k = put_same c.self.inside.branches c.put-in-Full.new.self i c.count-count.result (with_value c.take-node.result c.insert_by.new.self) d c.self.invariant.branches (child_in x occupied ts ss c.args.self.now c.requires.monotone c.requires.occupied f s some i p) c.in-Full.ensures.ends.0 e
     (c.put-in-Full.ensures.cell ∙ ap (λ l. set l i (Some (with_value c.take-node.result c.insert_by.new.self))) c.take-node.ensures.cell)
-    (c.put-in-Full.ensures.counts ∙ ap (λ l. set l.items i c.count-count.result) c.take-node.ensures.counts)
+    (c.put-in-Full.ensures.counts ∙ ap (λ l. set l i c.count-count.result) c.take-node.ensures.counts)
     c.count-count.ensures in
     subst (λ us. i < length us) (sym k.1) (child_in x occupied ts ss c.args.self.now c.requires.monotone c.requires.occupied f s some i p)
 
@@ -289,7 +289,7 @@ start-requires-clause-room g t c =
     let e : d ≡ get_or ts i unused = c.deref_mut.ensures.value ∙ c.take-node.ensures.node in
     let k = put_same c.self.inside.branches c.put-in-Full.new.self i c.count-count.result (with_value c.take-node.result c.insert_by.new.self) d c.self.invariant.branches (child_in x occupied ts ss c.args.self.now c.requires.monotone c.requires.occupied f s some i p) c.in-Full.ensures.ends.0 e
     (c.put-in-Full.ensures.cell ∙ ap (λ l. set l i (Some (with_value c.take-node.result c.insert_by.new.self))) c.take-node.ensures.cell)
-    (c.put-in-Full.ensures.counts ∙ ap (λ l. set l.items i c.count-count.result) c.take-node.ensures.counts)
+    (c.put-in-Full.ensures.counts ∙ ap (λ l. set l i c.count-count.result) c.take-node.ensures.counts)
     c.count-count.ensures in
     subst (λ us. starts (lists us) ≤ 4294967296) (sym k.1) (omega (arith, (child_starts x occupied ts ss c.args.self.now c.requires.monotone c.requires.occupied f s some i p).0, c.requires.room))
 
@@ -308,7 +308,7 @@ overflow_add-result g t c =
     let e : d ≡ get_or ts i unused = c.deref_mut.ensures.value ∙ c.take-node.ensures.node in
     let k = put_same c.self.inside.branches c.put-in-Full.new.self i c.count-count.result (with_value c.take-node.result c.insert_by.new.self) d c.self.invariant.branches (child_in x occupied ts ss c.args.self.now c.requires.monotone c.requires.occupied f s some i p) c.in-Full.ensures.ends.0 e
     (c.put-in-Full.ensures.cell ∙ ap (λ l. set l i (Some (with_value c.take-node.result c.insert_by.new.self))) c.take-node.ensures.cell)
-    (c.put-in-Full.ensures.counts ∙ ap (λ l. set l.items i c.count-count.result) c.take-node.ensures.counts)
+    (c.put-in-Full.ensures.counts ∙ ap (λ l. set l i c.count-count.result) c.take-node.ensures.counts)
     c.count-count.ensures in
     let b : c.start.result ≡ starts (take i (lists ts)) = c.start.ensures ∙ ap (λ us. starts (take i (lists us))) k.1 in
     omega (arith, c.in-Full.ensures.ends.1.0, (child_part x occupied ts ss c.args.self.now c.requires.monotone c.requires.occupied f s some i p d e).fits, c.requires.room)
@@ -328,7 +328,7 @@ invariant_of-self-in-Full g t c =
     let e : d ≡ get_or ts i unused = c.deref_mut.ensures.value ∙ c.take-node.ensures.node in
     let k = put_same c.self.inside.branches c.put-in-Full.new.self i c.count-count.result (with_value c.take-node.result c.insert_by.new.self) d c.self.invariant.branches (child_in x occupied ts ss c.args.self.now c.requires.monotone c.requires.occupied f s some i p) c.in-Full.ensures.ends.0 e
     (c.put-in-Full.ensures.cell ∙ ap (λ l. set l i (Some (with_value c.take-node.result c.insert_by.new.self))) c.take-node.ensures.cell)
-    (c.put-in-Full.ensures.counts ∙ ap (λ l. set l.items i c.count-count.result) c.take-node.ensures.counts)
+    (c.put-in-Full.ensures.counts ∙ ap (λ l. set l i c.count-count.result) c.take-node.ensures.counts)
     c.count-count.ensures in
     record { branches = k.0; forked = subst (λ us. IsForked us ss) (sym k.1) f }
 
@@ -347,7 +347,7 @@ returns-in-Full-clause-ends g t c =
     let e : d ≡ get_or ts i unused = c.deref_mut.ensures.value ∙ c.take-node.ensures.node in
     let k = put_same c.self.inside.branches c.put-in-Full.new.self i c.count-count.result (with_value c.take-node.result c.insert_by.new.self) d c.self.invariant.branches (child_in x occupied ts ss c.args.self.now c.requires.monotone c.requires.occupied f s some i p) c.in-Full.ensures.ends.0 e
     (c.put-in-Full.ensures.cell ∙ ap (λ l. set l i (Some (with_value c.take-node.result c.insert_by.new.self))) c.take-node.ensures.cell)
-    (c.put-in-Full.ensures.counts ∙ ap (λ l. set l.items i c.count-count.result) c.take-node.ensures.counts)
+    (c.put-in-Full.ensures.counts ∙ ap (λ l. set l i c.count-count.result) c.take-node.ensures.counts)
     c.count-count.ensures in
     let b : c.start.result ≡ starts (take i (lists ts)) = c.start.ensures ∙ ap (λ us. starts (take i (lists us))) k.1 in
     (ap (λ us. tree us ss) k.1 ∙ s, subst (λ n. IsPlace x c.args.self.now.slots (Err (n + c.in-Full.rest))) (sym b) (child_place x occupied ts ss c.args.self.now c.requires.monotone c.requires.occupied f s some i p d e c.in-Full.rest c.in-Full.ensures.ends.1), c.in-Full.ensures.ends.2)
@@ -367,7 +367,7 @@ returns-in-Full-clause-height g t c =
     let e : d ≡ get_or ts i unused = c.deref_mut.ensures.value ∙ c.take-node.ensures.node in
     let k = put_same c.self.inside.branches c.put-in-Full.new.self i c.count-count.result (with_value c.take-node.result c.insert_by.new.self) d c.self.invariant.branches (child_in x occupied ts ss c.args.self.now c.requires.monotone c.requires.occupied f s some i p) c.in-Full.ensures.ends.0 e
     (c.put-in-Full.ensures.cell ∙ ap (λ l. set l i (Some (with_value c.take-node.result c.insert_by.new.self))) c.take-node.ensures.cell)
-    (c.put-in-Full.ensures.counts ∙ ap (λ l. set l.items i c.count-count.result) c.take-node.ensures.counts)
+    (c.put-in-Full.ensures.counts ∙ ap (λ l. set l i c.count-count.result) c.take-node.ensures.counts)
     c.count-count.ensures in
     ap levels k.1 ∙ ap (λ t. t.height) s
 
@@ -386,7 +386,7 @@ returns-in-Full-clause-dense g t c =
     let e : d ≡ get_or ts i unused = c.deref_mut.ensures.value ∙ c.take-node.ensures.node in
     let k = put_same c.self.inside.branches c.put-in-Full.new.self i c.count-count.result (with_value c.take-node.result c.insert_by.new.self) d c.self.invariant.branches (child_in x occupied ts ss c.args.self.now c.requires.monotone c.requires.occupied f s some i p) c.in-Full.ensures.ends.0 e
     (c.put-in-Full.ensures.cell ∙ ap (λ l. set l i (Some (with_value c.take-node.result c.insert_by.new.self))) c.take-node.ensures.cell)
-    (c.put-in-Full.ensures.counts ∙ ap (λ l. set l.items i c.count-count.result) c.take-node.ensures.counts)
+    (c.put-in-Full.ensures.counts ∙ ap (λ l. set l i c.count-count.result) c.take-node.ensures.counts)
     c.count-count.ensures in
     subst IsDense (sym (ap (λ us. tree us ss) k.1)) (dense_of ts ss f)
 
@@ -440,7 +440,7 @@ invariant_of-self-in-Inserted-None g t c =
     let put = c.put-in-Inserted-None in
     let m = put_grown c.self.inside.branches put.new.self ss at c.args.slot i rest c.count-count.result (with_value c.take-node.result c.insert_by.new.self) d c.args.self.now c.self.invariant.branches f (child_at x occupied ts ss c.args.self.now c.requires.monotone c.requires.occupied f s some i p d e rest ends.1.0) e grown c.in-Inserted-None.ensures.height c.in-Inserted-None.ensures.dense
     (put.ensures.cell ∙ ap (λ l. set l i (Some (with_value c.take-node.result c.insert_by.new.self))) c.take-node.ensures.cell)
-    (put.ensures.counts ∙ ap (λ l. set l.items i (c.count-count.result + 1)) c.take-node.ensures.counts)
+    (put.ensures.counts ∙ ap (λ l. set l i (c.count-count.result + 1)) c.take-node.ensures.counts)
     c.count-count.ensures s in
     record { branches = m.0; forked = m.1.forked }
 
@@ -464,7 +464,7 @@ returns-in-Inserted-None-clause-ends g t c =
     let put = c.put-in-Inserted-None in
     let m = put_grown c.self.inside.branches put.new.self ss at c.args.slot i rest c.count-count.result (with_value c.take-node.result c.insert_by.new.self) d c.args.self.now c.self.invariant.branches f (child_at x occupied ts ss c.args.self.now c.requires.monotone c.requires.occupied f s some i p d e rest ends.1.0) e grown c.in-Inserted-None.ensures.height c.in-Inserted-None.ensures.dense
     (put.ensures.cell ∙ ap (λ l. set l i (Some (with_value c.take-node.result c.insert_by.new.self))) c.take-node.ensures.cell)
-    (put.ensures.counts ∙ ap (λ l. set l.items i (c.count-count.result + 1)) c.take-node.ensures.counts)
+    (put.ensures.counts ∙ ap (λ l. set l i (c.count-count.result + 1)) c.take-node.ensures.counts)
     c.count-count.ensures s in
     (at, child_place x occupied ts ss c.args.self.now c.requires.monotone c.requires.occupied f s some i p d e rest ends.1, record { slots = m.1.list; wider = omega (arith, ap (λ t. t.width) s) }, tt)
 
@@ -488,7 +488,7 @@ returns-in-Inserted-None-clause-height g t c =
     let put = c.put-in-Inserted-None in
     let m = put_grown c.self.inside.branches put.new.self ss at c.args.slot i rest c.count-count.result (with_value c.take-node.result c.insert_by.new.self) d c.args.self.now c.self.invariant.branches f (child_at x occupied ts ss c.args.self.now c.requires.monotone c.requires.occupied f s some i p d e rest ends.1.0) e grown c.in-Inserted-None.ensures.height c.in-Inserted-None.ensures.dense
     (put.ensures.cell ∙ ap (λ l. set l i (Some (with_value c.take-node.result c.insert_by.new.self))) c.take-node.ensures.cell)
-    (put.ensures.counts ∙ ap (λ l. set l.items i (c.count-count.result + 1)) c.take-node.ensures.counts)
+    (put.ensures.counts ∙ ap (λ l. set l i (c.count-count.result + 1)) c.take-node.ensures.counts)
     c.count-count.ensures s in
     m.1.height ∙ ap (λ t. t.height) s
 
@@ -512,7 +512,7 @@ returns-in-Inserted-None-clause-dense g t c =
     let put = c.put-in-Inserted-None in
     let m = put_grown c.self.inside.branches put.new.self ss at c.args.slot i rest c.count-count.result (with_value c.take-node.result c.insert_by.new.self) d c.args.self.now c.self.invariant.branches f (child_at x occupied ts ss c.args.self.now c.requires.monotone c.requires.occupied f s some i p d e rest ends.1.0) e grown c.in-Inserted-None.ensures.height c.in-Inserted-None.ensures.dense
     (put.ensures.cell ∙ ap (λ l. set l i (Some (with_value c.take-node.result c.insert_by.new.self))) c.take-node.ensures.cell)
-    (put.ensures.counts ∙ ap (λ l. set l.items i (c.count-count.result + 1)) c.take-node.ensures.counts)
+    (put.ensures.counts ∙ ap (λ l. set l i (c.count-count.result + 1)) c.take-node.ensures.counts)
     c.count-count.ensures s in
     dense_of (below c.put-in-Inserted-None.new.self) ss m.1.forked
 
@@ -592,7 +592,7 @@ add_branch-requires-clause-branches g t c =
     let middle = c.in-Inserted-Some.middle in
     let m = put_parted c.self.inside.branches put.new.self ss at c.args.slot i rest c.count-count.result c.len-above.result (c.count-count.result - c.len-above.result) middle c.deref.result.now (with_value c.take-node.result c.insert_by.new.self) d c.in-Inserted-Some.upper.value c.args.self.now c.self.invariant.branches f (child_at x occupied ts ss c.args.self.now c.requires.monotone c.requires.occupied f s some i p d e rest ends.1.0) e split c.in-Inserted-Some.ensures.height c.in-Inserted-Some.ensures.dense
     (put.ensures.cell ∙ ap (λ l. set l i (Some (with_value c.take-node.result c.insert_by.new.self))) c.take-node.ensures.cell)
-    (put.ensures.counts ∙ ap (λ l. set l.items i (c.count-count.result - c.len-above.result)) c.take-node.ensures.counts)
+    (put.ensures.counts ∙ ap (λ l. set l i (c.count-count.result - c.len-above.result)) c.take-node.ensures.counts)
     (omega arith) c.count-count.ensures c.deref.ensures c.len-above.ensures s in
     m.0
 
@@ -617,7 +617,7 @@ add_branch-requires-clause-forked g t c =
     let middle = c.in-Inserted-Some.middle in
     let m = put_parted c.self.inside.branches put.new.self ss at c.args.slot i rest c.count-count.result c.len-above.result (c.count-count.result - c.len-above.result) middle c.deref.result.now (with_value c.take-node.result c.insert_by.new.self) d c.in-Inserted-Some.upper.value c.args.self.now c.self.invariant.branches f (child_at x occupied ts ss c.args.self.now c.requires.monotone c.requires.occupied f s some i p d e rest ends.1.0) e split c.in-Inserted-Some.ensures.height c.in-Inserted-Some.ensures.dense
     (put.ensures.cell ∙ ap (λ l. set l i (Some (with_value c.take-node.result c.insert_by.new.self))) c.take-node.ensures.cell)
-    (put.ensures.counts ∙ ap (λ l. set l.items i (c.count-count.result - c.len-above.result)) c.take-node.ensures.counts)
+    (put.ensures.counts ∙ ap (λ l. set l i (c.count-count.result - c.len-above.result)) c.take-node.ensures.counts)
     (omega arith) c.count-count.ensures c.deref.ensures c.len-above.ensures s in
     m.1.forked
 
@@ -642,7 +642,7 @@ add_branch-requires-clause-inner g t c =
     let middle = c.in-Inserted-Some.middle in
     let m = put_parted c.self.inside.branches put.new.self ss at c.args.slot i rest c.count-count.result c.len-above.result (c.count-count.result - c.len-above.result) middle c.deref.result.now (with_value c.take-node.result c.insert_by.new.self) d c.in-Inserted-Some.upper.value c.args.self.now c.self.invariant.branches f (child_at x occupied ts ss c.args.self.now c.requires.monotone c.requires.occupied f s some i p d e rest ends.1.0) e split c.in-Inserted-Some.ensures.height c.in-Inserted-Some.ensures.dense
     (put.ensures.cell ∙ ap (λ l. set l i (Some (with_value c.take-node.result c.insert_by.new.self))) c.take-node.ensures.cell)
-    (put.ensures.counts ∙ ap (λ l. set l.items i (c.count-count.result - c.len-above.result)) c.take-node.ensures.counts)
+    (put.ensures.counts ∙ ap (λ l. set l i (c.count-count.result - c.len-above.result)) c.take-node.ensures.counts)
     (omega arith) c.count-count.ensures c.deref.ensures c.len-above.ensures s in
     inner_of (below put.new.self) (omega (arith, m.1.height, inner_levels ts ss f some))
 
@@ -667,7 +667,7 @@ add_branch-requires-clause-upper g t c =
     let middle = c.in-Inserted-Some.middle in
     let m = put_parted c.self.inside.branches put.new.self ss at c.args.slot i rest c.count-count.result c.len-above.result (c.count-count.result - c.len-above.result) middle c.deref.result.now (with_value c.take-node.result c.insert_by.new.self) d c.in-Inserted-Some.upper.value c.args.self.now c.self.invariant.branches f (child_at x occupied ts ss c.args.self.now c.requires.monotone c.requires.occupied f s some i p d e rest ends.1.0) e split c.in-Inserted-Some.ensures.height c.in-Inserted-Some.ensures.dense
     (put.ensures.cell ∙ ap (λ l. set l i (Some (with_value c.take-node.result c.insert_by.new.self))) c.take-node.ensures.cell)
-    (put.ensures.counts ∙ ap (λ l. set l.items i (c.count-count.result - c.len-above.result)) c.take-node.ensures.counts)
+    (put.ensures.counts ∙ ap (λ l. set l i (c.count-count.result - c.len-above.result)) c.take-node.ensures.counts)
     (omega arith) c.count-count.ensures c.deref.ensures c.len-above.ensures s in
     m.1.branch
 
@@ -712,7 +712,7 @@ returns-in-Inserted-Some-clause-ends g t c =
     let middle = c.in-Inserted-Some.middle in
     let m = put_parted c.self.inside.branches put.new.self ss at c.args.slot i rest c.count-count.result c.len-above.result (c.count-count.result - c.len-above.result) middle c.deref.result.now (with_value c.take-node.result c.insert_by.new.self) d c.in-Inserted-Some.upper.value c.args.self.now c.self.invariant.branches f (child_at x occupied ts ss c.args.self.now c.requires.monotone c.requires.occupied f s some i p d e rest ends.1.0) e split c.in-Inserted-Some.ensures.height c.in-Inserted-Some.ensures.dense
     (put.ensures.cell ∙ ap (λ l. set l i (Some (with_value c.take-node.result c.insert_by.new.self))) c.take-node.ensures.cell)
-    (put.ensures.counts ∙ ap (λ l. set l.items i (c.count-count.result - c.len-above.result)) c.take-node.ensures.counts)
+    (put.ensures.counts ∙ ap (λ l. set l i (c.count-count.result - c.len-above.result)) c.take-node.ensures.counts)
     (omega arith) c.count-count.ensures c.deref.ensures c.len-above.ensures s in (
       at,
       child_place x occupied ts ss c.args.self.now c.requires.monotone c.requires.occupied f s some i p d e rest ends.1,
@@ -742,7 +742,7 @@ returns-in-Inserted-Some-clause-height g t c =
     let middle = c.in-Inserted-Some.middle in
     let m = put_parted c.self.inside.branches put.new.self ss at c.args.slot i rest c.count-count.result c.len-above.result (c.count-count.result - c.len-above.result) middle c.deref.result.now (with_value c.take-node.result c.insert_by.new.self) d c.in-Inserted-Some.upper.value c.args.self.now c.self.invariant.branches f (child_at x occupied ts ss c.args.self.now c.requires.monotone c.requires.occupied f s some i p d e rest ends.1.0) e split c.in-Inserted-Some.ensures.height c.in-Inserted-Some.ensures.dense
     (put.ensures.cell ∙ ap (λ l. set l i (Some (with_value c.take-node.result c.insert_by.new.self))) c.take-node.ensures.cell)
-    (put.ensures.counts ∙ ap (λ l. set l.items i (c.count-count.result - c.len-above.result)) c.take-node.ensures.counts)
+    (put.ensures.counts ∙ ap (λ l. set l i (c.count-count.result - c.len-above.result)) c.take-node.ensures.counts)
     (omega arith) c.count-count.ensures c.deref.ensures c.len-above.ensures s in
     c.add_branch.ensures.levels ∙ (m.1.height ∙ ap (λ t. t.height) s)
 

@@ -57,7 +57,7 @@ rebalance-requires t c =
     c.self.invariant.branches c.self.invariant.forked c.branch_at-i.ensures (c.deref_mut.ensures.value ∙ c.take-node.ensures.node) c.count-len.ensures c.requires.some c.requires.place c.min.ensures c.remove-taken.ensures.value c.remove-taken.ensures.slots c.remove-taken.ensures.height c.remove-taken.ensures.width c.remove-taken.ensures.dense
     c.replace_own-slot.ensures.below c.replace_own-slot.ensures.own c.replace_own-slot.ensures.len
     (c.put.ensures.cell ∙ ap (λ l. set l c.branch_at-i.result.0 (Some (with_value c.take-node.result c.remove-taken.new.self))) c.take-node.ensures.cell)
-    (c.put.ensures.counts ∙ ap (λ l. set l.items c.branch_at-i.result.0 (c.count-len.result - 1)) c.take-node.ensures.counts) c.self.view_is in
+    (c.put.ensures.counts ∙ ap (λ l. set l c.branch_at-i.result.0 (c.count-len.result - 1)) c.take-node.ensures.counts) c.self.view_is in
     let s = starts_in_order (lists (below c.put.new.self)) c.replace_own-slot.new.slots.items (length-lists (below c.put.new.self) ∙ m.1.near.fork) in
     record {
       branches = m.0;
@@ -73,7 +73,7 @@ left t c =
     c.self.invariant.branches c.self.invariant.forked c.branch_at-i.ensures (c.deref_mut.ensures.value ∙ c.take-node.ensures.node) c.count-len.ensures c.requires.some c.requires.place c.min.ensures c.remove-taken.ensures.value c.remove-taken.ensures.slots c.remove-taken.ensures.height c.remove-taken.ensures.width c.remove-taken.ensures.dense
     c.replace_own-slot.ensures.below c.replace_own-slot.ensures.own c.replace_own-slot.ensures.len
     (c.put.ensures.cell ∙ ap (λ l. set l c.branch_at-i.result.0 (Some (with_value c.take-node.result c.remove-taken.new.self))) c.take-node.ensures.cell)
-    (c.put.ensures.counts ∙ ap (λ l. set l.items c.branch_at-i.result.0 (c.count-len.result - 1)) c.take-node.ensures.counts) c.self.view_is in
+    (c.put.ensures.counts ∙ ap (λ l. set l c.branch_at-i.result.0 (c.count-len.result - 1)) c.take-node.ensures.counts) c.self.view_is in
     m.1
 
 pub returns-clause-value : goal.returns-clause-value
@@ -109,7 +109,7 @@ returns-clause-gives_back t c = λ falls.
     let short = c.rebalance.ensures.short merged in
     let fell : c.remove-taken.new.self.width < c.deref_mut.result.now.width = omega (arith, short, c.width-width.ensures.width, ap (λ x. x.width) c.deref.ensures, b.wide, ap (λ x. x.width) v) in
     let below_it = c.remove-taken.ensures.gives_back fell in
-    let more = one_more_back c.remove-taken.new.pool c.rebalance.new.pool (c.args.pool.now.count + c.deref_mut.result.now.height - 1) (c.rebalance.ensures.gives_back merged) (omega (arith, below_it, c.remove-taken.ensures.pool.0)) in
+    let more = one_more_back c.remove-taken.new.pool c.rebalance.new.pool (c.args.pool.now.nodes + c.deref_mut.result.now.height - 1) (c.rebalance.ensures.gives_back merged) (omega (arith, below_it, c.remove-taken.ensures.pool.0)) in
     omega (arith, more, b.height, ap (λ x. x.height) v, ap (λ x. x.height) c.self.view_is, c.remove-taken.ensures.pool.0, b.dense.low)
 
 pub count-len-requires-clause-in_bounds : goal.count-len-requires-clause-in_bounds

@@ -28,7 +28,7 @@ own ts ss at i rest new count old f branch_at r n v lt =
 pub replace-requires-then-rest-count : goal.replace-requires-then-rest-count
 replace-requires-then-rest-count t c =
     let o = own (below c.self.inside.branches) c.self.inside.slots.items c.args.at c.branch_at-i.result.0 c.branch_at-i.result.1 c.args.new c.count-count.result c.args.self.now c.self.invariant.forked c.branch_at-i.ensures c.if-rest-count.true c.count-count.ensures c.self.view_is c.requires in
-    (omega arith, o.0)
+    o.0
 
 pub returns-then-rest-count-clause-slots : goal.returns-then-rest-count-clause-slots
 returns-then-rest-count-clause-slots t c =
@@ -41,7 +41,7 @@ same_forked ts ss ss' e f = record { branches = f.branches; fork = λ lt. f.fork
 pub returns-then-rest-count-clause-dense : goal.returns-then-rest-count-clause-dense
 returns-then-rest-count-clause-dense t c =
     let n = length-set c.self.inside.slots.items c.branch_at-i.result.0 c.args.new in
-    dense_of (below c.self.inside.branches) c.replace-then-rest-count.new.items.items (same_forked (below c.self.inside.branches) c.self.inside.slots.items c.replace-then-rest-count.new.items.items (ap length c.replace-then-rest-count.ensures.items ∙ n) c.self.invariant.forked)
+    dense_of (below c.self.inside.branches) c.replace-then-rest-count.new.self.items (same_forked (below c.self.inside.branches) c.self.inside.slots.items c.replace-then-rest-count.new.self.items (ap length c.replace-then-rest-count.ensures.items ∙ n) c.self.invariant.forked)
 
 -- the branch in which the slot is renamed, in its place again
 renamed : (ts : List Subtree) (ss : List ℕ) (at i rest slot : ℕ) (new : Subtree) → IsForked ts ss → IsBranchAt (lists ts) at i rest → rest < length (get_or ts i unused).slots → new.slots ≡ set (get_or ts i unused).slots rest slot → new.height ≡ (get_or ts i unused).height → new.width ≡ (get_or ts i unused).width → IsDense new
@@ -75,7 +75,7 @@ made t c =
     let r = renamed ts ss c.args.at i rest c.args.new new f c.branch_at-i.ensures lt s (c.rename.ensures.height ∙ ap (λ t. t.height) v) (c.rename.ensures.width ∙ ap (λ t. t.width) v) c.rename.ensures.dense in
     let b = branches_put old c.put.new.self i c.count-count.result (with_value c.take-node.result new) c.self.invariant.branches (branch_at_in ts ss c.args.at i rest f c.branch_at-i.ensures)
     (c.put.ensures.cell ∙ ap (λ l. set l i (Some (with_value c.take-node.result new))) c.take-node.ensures.cell)
-    (c.put.ensures.counts ∙ ap (λ l. set l.items i c.count-count.result) c.take-node.ensures.counts)
+    (c.put.ensures.counts ∙ ap (λ l. set l i c.count-count.result) c.take-node.ensures.counts)
     (c.count-count.ensures ∙ (sym m ∙ sym (ap length s))) in
     let a = ap (λ t. set t.slots c.args.at c.args.new) c.self.view_is in
     (b.0, subst (λ l. IsMade ts (below c.put.new.self) ss l) a (subst (λ us. IsMade ts us ss (set (in_order (lists ts) ss) c.args.at c.args.new)) (sym b.1) r))

@@ -17,6 +17,9 @@ insert-requires-clause-room t c =
     let m = length-nodes c.self.inside.branches c.self.invariant.branches in
     omega (arith, ap length c.loop-i.invariant.copied, c.self.invariant.branches.packed.at_most_12, c.len-i-end.ensures)
 
+pub insert-requires-clause-block : goal.insert-requires-clause-block
+insert-requires-clause-block t c = c.loop-i.invariant.block (omega (arith, c.len-i-end.ensures))
+
 at_end : (xs : List Subtree) (i : ℕ) (x : Subtree) → i ≡ length xs → insert xs i x ≡ xs ++ x ∷ []
 at_end xs i x e = ap (λ l. l ++ x ∷ drop i xs) (take_all i xs (omega arith)) ∙ ap (λ l. xs ++ x ∷ l) (drop_all i xs (omega arith))
 
@@ -30,14 +33,15 @@ loop-i-preserved t c =
     let e = at_end (below c.loop-i.branches) i c.in_ok-new.field-0.value (sym m) in
     record {
       branches = c.insert.ensures.branches;
+      block = λ _. c.insert.ensures.block;
       copied = c.insert.ensures.below ∙ (e ∙ (ap (λ l. l ++ c.in_ok-new.field-0.value ∷ []) c.loop-i.invariant.copied
           ∙ (ap (λ x. take i ts ++ x ∷ []) v ∙ sym (take_more ts i unused (omega (arith, c.len-i-end.ensures))))));
     }
 
-whole : (t : ℕ) (c : goal.In-Ok t) → (below c.loop-i.branches ≡ below c.self.inside.branches) × (c.try_extend_from_slice.new.self.items ≡ c.self.inside.slots.items)
+whole : (t : ℕ) (c : goal.After-extend_from_slice t) → (below c.loop-i.branches ≡ below c.self.inside.branches) × (c.extend_from_slice.new.self.items ≡ c.self.inside.slots.items)
 whole t c = (
   c.loop-i.invariant.copied ∙ take_all c.loop-i.i (below c.self.inside.branches) (omega (arith, c.len-i-end.ensures)),
-  c.in-Ok.ensures.ok ∙ (ap (λ l. l ++ c.as_slice.result.now) c.new-slots.ensures ∙ c.as_slice.ensures.value),
+  c.extend_from_slice.ensures.items ∙ (ap (λ l. l ++ c.as_slice.result.now) c.new-slots.ensures ∙ c.as_slice.ensures.value),
 )
 
 pub invariant_of-result : goal.invariant_of-result
@@ -45,10 +49,10 @@ invariant_of-result t c =
     let w = whole t c in
     record {
       branches = c.loop-i.invariant.branches;
-      forked = subst (λ ts. IsForked ts c.try_extend_from_slice.new.self.items) (sym w.0) (subst (λ ss. IsForked (below c.self.inside.branches) ss) (sym w.1) c.self.invariant.forked);
+      forked = subst (λ ts. IsForked ts c.extend_from_slice.new.self.items) (sym w.0) (subst (λ ss. IsForked (below c.self.inside.branches) ss) (sym w.1) c.self.invariant.forked);
     }
 
 pub returns : goal.returns
 returns t c =
     let w = whole t c in
-    ap (λ ts. tree ts c.try_extend_from_slice.new.self.items) w.0 ∙ (ap (λ ss. tree (below c.self.inside.branches) ss) w.1 ∙ c.self.view_is)
+    ap (λ ts. tree ts c.extend_from_slice.new.self.items) w.0 ∙ (ap (λ ss. tree (below c.self.inside.branches) ss) w.1 ∙ c.self.view_is)

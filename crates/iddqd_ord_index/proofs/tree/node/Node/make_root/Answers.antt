@@ -3,15 +3,13 @@ use Rattle.std.specs.List.{insert, All}
 use Rattle.std.proofs.lemmas.List.Elements.{All-cons, All-nil}
 use Rattle.iddqd_ord_index.specs.Nodes.{below}
 use Rattle.iddqd_ord_index.specs.Shape.{IsBranch}
-use Rattle.iddqd_ord_index.proofs.BranchAtLemmas.{leaf_of, none_of}
 use Rattle.iddqd_ord_index.proofs.DenseLemmas.{dense_of}
 use Rattle.iddqd_ord_index.proofs.HalfLemmas.{forked_of}
 use Rattle.iddqd_ord_index.proofs.tree.node.Node.make_root.Goals as goal
 
 pub returns-clause-dense : goal.returns-clause-dense
 returns-clause-dense c =
-    let z = none_of (below c.self.inside.branches) (leaf_of (below c.self.inside.branches) c.self.inside.slots.items c.self.invariant.forked (ap (λ t. t.height) (c.self.view_is ∙ c.requires.unused))) in
-    let e : below c.insert-2.new.self ≡ c.args.lower.value ∷ (c.args.upper.value ∷ []) = c.insert-2.ensures.below ∙ (ap (λ l. insert l 1 c.args.upper.value) c.insert.ensures.below ∙ ap (λ l. insert (insert l 0 c.args.lower.value) 1 c.args.upper.value) z) in
+    let e : below c.insert-2.new.self ≡ c.args.lower.value ∷ (c.args.upper.value ∷ []) = c.insert-2.ensures.below ∙ (ap (λ l. insert l 1 c.args.upper.value) c.insert.ensures.below ∙ ap (λ l. insert (insert l 0 c.args.lower.value) 1 c.args.upper.value) c.within.ensures.none) in
     let h = c.args.lower.value.height + 1 in
     let al = All-cons (IsBranch h) c.args.lower.value (c.args.upper.value ∷ []) c.requires.lower (All-cons (IsBranch h) c.args.upper.value [] c.requires.upper (All-nil (IsBranch h))) in
     let w : length c.self.inside.slots.items ≡ 0 = ap (λ t. t.width) (c.self.view_is ∙ c.requires.unused) in

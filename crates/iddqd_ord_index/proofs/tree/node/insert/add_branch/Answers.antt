@@ -1,8 +1,8 @@
-use Rattle.std.proofs.Common.{◌+◌, ap, ◌∙◌, arith, rules}
+use Rattle.std.proofs.Common.{◌+◌, ap, sym, subst, ◌∙◌, arith, rules}
 use Rattle.std.specs.List.{insert}
 use Rattle.iddqd_ord_index.specs.Nodes.{below}
-use Rattle.iddqd_ord_index.specs.Shape.{lists, in_order}
-use Rattle.iddqd_ord_index.proofs.HalfLemmas.{more_lists}
+use Rattle.iddqd_ord_index.specs.Shape.{lists, in_order, IsForked}
+use Rattle.iddqd_ord_index.proofs.HalfLemmas.{more_forked, more_lists}
 use Rattle.iddqd_ord_index.proofs.tree.node.insert.add_branch.Goals as goal
 
 pub returns-then-len-lt11-clause-adds : goal.returns-then-len-lt11-clause-adds
@@ -16,3 +16,8 @@ returns-then-len-lt11-clause-adds c =
 
 pub overflow_add-i : goal.overflow_add-i
 overflow_add-i c = search rules
+
+pub returns-then-len-lt11-clause-forked : goal.returns-then-len-lt11-clause-forked
+returns-then-len-lt11-clause-forked c =
+    let us = below c.insert-then-len-lt11.new.self in
+    subst (λ ss. IsForked us ss) (sym c.insert.ensures.items) (more_forked (below c.args.branches.now) us c.args.slots.now.items c.args.i c.args.middle c.args.upper.value c.requires.forked c.requires.inner c.requires.in_bounds c.insert-then-len-lt11.ensures.below c.requires.upper)

@@ -6,20 +6,20 @@ use Rattle.iddqd_ord_index.proofs.HalfLemmas.{one_more_lower, one_more_upper, le
 use Rattle.iddqd_ord_index.proofs.tree.node.insert.split_inner.Goals as goal
 
 -- both halves have a branch more than slots
-record AreHalves (c : goal.After-split) : Type 0 where
+record AreHalves (c : goal.Joined-half-split) : Type 0 where
   lower : length (below c.split.new.self) ≡ length c.split_slots-top.new.slots.items + 1
-  upper : length (below c.split.new.upper) ≡ length c.split_slots-top.new.upper.items + 1
+  upper : length (below c.split.result) ≡ length c.split_slots-top.new.upper.items + 1
   lower_forked : IsForked (below c.split.new.self) c.split_slots-top.new.slots.items
-  upper_forked : IsForked (below c.split.new.upper) c.split_slots-top.new.upper.items
+  upper_forked : IsForked (below c.split.result) c.split_slots-top.new.upper.items
   lower_levels : levels (below c.split.new.self) ≡ levels (below c.args.branches.now)
-  upper_levels : levels (below c.split.new.upper) ≡ levels (below c.args.branches.now)
+  upper_levels : levels (below c.split.result) ≡ levels (below c.args.branches.now)
 
-halves : (c : goal.After-split) → AreHalves c
+halves : (c : goal.Joined-half-split) → AreHalves c
 halves c =
     let ts = below c.args.branches.now in
     let h = levels ts in
     let lo = below c.split.new.self in
-    let up = below c.split.new.upper in
+    let up = below c.split.result in
     let a = lower_all ts lo up c.args.upper.value (c.args.i + 1) h c.split.ensures.below c.requires.forked.branches c.requires.upper in
     let b = upper_all ts lo up c.args.upper.value (c.args.i + 1) h c.split.ensures.below c.requires.forked.branches c.requires.upper in
     let n = c.split.ensures.lower ∙ (one_more_lower (leb c.args.i 5) ∙ ap (λ n. n + 1) (sym c.split_slots-top.ensures.lower)) in
@@ -47,10 +47,10 @@ returns-clause-split c =
     let h = halves c in
     let ts = below c.args.branches.now in
     record {
-      slots = lists_join ts (below c.split.new.self) (below c.split.new.upper) c.args.upper.value (c.args.i + 1) (levels ts) c.split.ensures.below c.requires.forked.branches c.requires.upper
+      slots = lists_join ts (below c.split.new.self) (below c.split.result) c.args.upper.value (c.args.i + 1) (levels ts) c.split.ensures.below c.requires.forked.branches c.requires.upper
           c.split_slots-top.new.slots.items c.split_slots-top.new.upper.items _ c.split_slots-top.result c.split_slots-top.ensures.items h.lower (omega (arith, h.upper));
       wide = c.split_slots-top.ensures.wide.0;
       upper_wide = c.split_slots-top.ensures.wide.1;
       upper_height = h.upper_levels ∙ sym h.lower_levels;
-      upper_dense = dense_of (below c.split.new.upper) c.split_slots-top.new.upper.items h.upper_forked;
+      upper_dense = dense_of (below c.split.result) c.split_slots-top.new.upper.items h.upper_forked;
     }

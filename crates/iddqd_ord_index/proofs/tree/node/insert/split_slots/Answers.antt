@@ -6,13 +6,13 @@ use Rattle.iddqd_ord_index.proofs.tree.node.insert.split_slots.Goals as goal
 pub returns-then-i-le5-clause-items : goal.returns-then-i-le5-clause-items
 returns-then-i-le5-clause-items c =
     let e = sym c.truncate.ensures.items ∙ c.in-Some.ensures.items in
-    let f : c.try_extend_from_slice.new.self.items ≡ drop 6 c.args.slots.now.items = c.in-Ok.ensures.ok ∙ (rw (c.requires.upper_empty, c.as_slice.ensures.value) (take_rest c.args.slots.now.items 6)) in
+    let f : c.extend_from_slice.new.self.items ≡ drop 6 c.args.slots.now.items = c.extend_from_slice.ensures.items ∙ (rw (c.requires.upper_empty, c.as_slice.ensures.value) (take_rest c.args.slots.now.items 6)) in
     rw (c.insert.ensures.items) (put_lower c.args.slots.now.items c.pop.new.self.items _ c.in-Some.middle c.args.i c.args.slot c.requires.full e f (omega arith))
 
 pub returns-else-i-le5-clause-items : goal.returns-else-i-le5-clause-items
 returns-else-i-le5-clause-items c =
     let e = sym c.truncate.ensures.items ∙ c.in-Some.ensures.items in
-    let f : c.try_extend_from_slice.new.self.items ≡ drop 6 c.args.slots.now.items = c.in-Ok.ensures.ok ∙ (rw (c.requires.upper_empty, c.as_slice.ensures.value) (take_rest c.args.slots.now.items 6)) in
+    let f : c.extend_from_slice.new.self.items ≡ drop 6 c.args.slots.now.items = c.extend_from_slice.ensures.items ∙ (rw (c.requires.upper_empty, c.as_slice.ensures.value) (take_rest c.args.slots.now.items 6)) in
     rw (c.insert-else-i-le5.ensures.items) (put_upper c.args.slots.now.items c.pop.new.self.items _ c.in-Some.middle c.args.i c.args.slot c.requires.full e f (omega arith))
 
 pub overflow_sub-i : goal.overflow_sub-i

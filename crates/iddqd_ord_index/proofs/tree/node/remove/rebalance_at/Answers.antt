@@ -31,7 +31,7 @@ insert-requires-clause-count c =
     let s = same_sum c.deref_mut.result.now c.deref_mut-2.result.now c.rebalance.new.self c.rebalance.new.upper (get_or c.as_slice.result.now c.args.j 0) c.in-Some.top c.args.lower.value c.args.upper.value c.deref.result.now c.in-Some.ensures c.deref_mut.ensures.value c.deref_mut-2.ensures.value c.deref.ensures in
     omega (arith, c.requires.total, c.len-count.ensures)
 
-two : (c : goal.After-insert-in-Some) → IsRebalancedAt (c.args.lower.value.height + 1) (below c.insert-in-Some.new.self) c.replace.new.items.items (in_order (insert (insert (lists (below c.args.branches.now)) c.args.j c.args.upper.value.slots) c.args.j c.args.lower.value.slots) c.args.slots.now.items)
+two : (c : goal.After-insert-in-Some) → IsRebalancedAt (c.args.lower.value.height + 1) (below c.insert-in-Some.new.self) c.replace.new.self.items (in_order (insert (insert (lists (below c.args.branches.now)) c.args.j c.args.upper.value.slots) c.args.j c.args.lower.value.slots) c.args.slots.now.items)
 two c =
     let h = ap (λ t. t.height + 1) c.deref_mut.ensures.value in
     let s = get_or c.as_slice.result.now c.args.j 0 in

@@ -45,12 +45,12 @@ rebalance-requires c =
     let f = c.requires.forked in
     let b = own_branch_at (below bs) ss f c.requires.inner c.args.i c.requires.in_bounds in
     let within = own_position (below bs) ss f c.requires.inner c.args.i c.requires.in_bounds in
-    let m = put_shrunk bs c.put.new.self ss c.replace-slot.new.items.items (own_place bs c.args.i) c.args.i (length (get_or (below bs) c.args.i unused).slots) c.count-len.result c.remove-last.result c.replace-slot.result (c.count-len.result - 1) (with_value c.take-node.result c.remove-last.new.self) c.deref_mut.result.now (tree (below bs) ss)
+    let m = put_shrunk bs c.put.new.self ss c.replace-slot.new.self.items (own_place bs c.args.i) c.args.i (length (get_or (below bs) c.args.i unused).slots) c.count-len.result c.remove-last.result c.replace-slot.result (c.count-len.result - 1) (with_value c.take-node.result c.remove-last.new.self) c.deref_mut.result.now (tree (below bs) ss)
     c.requires.branches f b (c.deref_mut.ensures.value ∙ c.take-node.ensures.node) c.count-len.ensures (λ lt. omega arith) within (omega (arith, c.count-len.ensures)) c.remove-last.ensures.value c.remove-last.ensures.slots c.remove-last.ensures.height c.remove-last.ensures.width c.remove-last.ensures.dense
     (λ lt. absurd (omega arith)) (λ e. (c.replace-slot.ensures.value, c.replace-slot.ensures.items)) (ap length c.replace-slot.ensures.items ∙ length-set ss c.args.i c.remove-last.result)
     (c.put.ensures.cell ∙ ap (λ l. set l c.args.i (Some (with_value c.take-node.result c.remove-last.new.self))) c.take-node.ensures.cell)
-    (c.put.ensures.counts ∙ ap (λ l. set l.items c.args.i (c.count-len.result - 1)) c.take-node.ensures.counts) refl in
-    let s = starts_in_order (lists (below c.put.new.self)) c.replace-slot.new.items.items (length-lists (below c.put.new.self) ∙ m.1.near.fork) in
+    (c.put.ensures.counts ∙ ap (λ l. set l c.args.i (c.count-len.result - 1)) c.take-node.ensures.counts) refl in
+    let s = starts_in_order (lists (below c.put.new.self)) c.replace-slot.new.self.items (length-lists (below c.put.new.self) ∙ m.1.near.fork) in
     record {
       branches = m.0;
       near = m.1.near;
@@ -59,7 +59,7 @@ rebalance-requires c =
     }
 
 -- the branches and slots after the branch was put back
-left : (c : goal.After-rebalance) → IsShrunk (below c.args.branches.now) (below c.put.new.self) c.replace-slot.new.items.items c.args.i (slots_of c.args.branches.now c.args.slots.now)
+left : (c : goal.After-rebalance) → IsShrunk (below c.args.branches.now) (below c.put.new.self) c.replace-slot.new.self.items c.args.i (slots_of c.args.branches.now c.args.slots.now)
     (remove (slots_of c.args.branches.now c.args.slots.now) (own_place c.args.branches.now c.args.i)) c.replace-slot.result (own_place c.args.branches.now c.args.i)
 left c =
     let bs = c.args.branches.now in
@@ -67,11 +67,11 @@ left c =
     let f = c.requires.forked in
     let b = own_branch_at (below bs) ss f c.requires.inner c.args.i c.requires.in_bounds in
     let within = own_position (below bs) ss f c.requires.inner c.args.i c.requires.in_bounds in
-    let m = put_shrunk bs c.put.new.self ss c.replace-slot.new.items.items (own_place bs c.args.i) c.args.i (length (get_or (below bs) c.args.i unused).slots) c.count-len.result c.remove-last.result c.replace-slot.result (c.count-len.result - 1) (with_value c.take-node.result c.remove-last.new.self) c.deref_mut.result.now (tree (below bs) ss)
+    let m = put_shrunk bs c.put.new.self ss c.replace-slot.new.self.items (own_place bs c.args.i) c.args.i (length (get_or (below bs) c.args.i unused).slots) c.count-len.result c.remove-last.result c.replace-slot.result (c.count-len.result - 1) (with_value c.take-node.result c.remove-last.new.self) c.deref_mut.result.now (tree (below bs) ss)
     c.requires.branches f b (c.deref_mut.ensures.value ∙ c.take-node.ensures.node) c.count-len.ensures (λ lt. omega arith) within (omega (arith, c.count-len.ensures)) c.remove-last.ensures.value c.remove-last.ensures.slots c.remove-last.ensures.height c.remove-last.ensures.width c.remove-last.ensures.dense
     (λ lt. absurd (omega arith)) (λ e. (c.replace-slot.ensures.value, c.replace-slot.ensures.items)) (ap length c.replace-slot.ensures.items ∙ length-set ss c.args.i c.remove-last.result)
     (c.put.ensures.cell ∙ ap (λ l. set l c.args.i (Some (with_value c.take-node.result c.remove-last.new.self))) c.take-node.ensures.cell)
-    (c.put.ensures.counts ∙ ap (λ l. set l.items c.args.i (c.count-len.result - 1)) c.take-node.ensures.counts) refl in
+    (c.put.ensures.counts ∙ ap (λ l. set l c.args.i (c.count-len.result - 1)) c.take-node.ensures.counts) refl in
     m.1
 
 pub returns-clause-levels : goal.returns-clause-levels
