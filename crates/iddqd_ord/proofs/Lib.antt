@@ -4,6 +4,7 @@ mod EndLemmas
 mod EntryLemmas
 pub mod GetMutLemmas
 pub mod InsertNewLemmas
+mod RangeLemmas
 pub mod StoreAndIndexLemmas
 mod TakenOutLemmas
 mod WalkLemmas

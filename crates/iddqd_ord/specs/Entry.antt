@@ -5,7 +5,7 @@
 --     entry_others e      the items but for the entry's
 --     entry_follows      the entry ends with the last value written to its item
 --     IsEntryOf      what the entry holds of a map: the item, what a write to it leaves, and the others
---     IsEntryFor, IsFirstEntry, IsLastEntry      the entry of the item whose key passes the test, of the first item, of the last
+--     IsEntryFor, IsEntryAt, IsFirstEntry, IsLastEntry      the entry of the item whose key passes the test, of the item at the position, of the first, of the last
 --     EntryKeeps, EntryKeepsAkin      an item of the same key, or of an equal one, may be written
 --     LendsFound, LendsInserted      what a guard lends of an entry: the item found, or the one that was inserted
 --     ShowsFound, ShowsInserted      the same of what is shown
@@ -19,7 +19,7 @@
 --     rests_if_refused, lends_or_keeps, shows_or_keeps, enters_or_keeps      if an item is refused, the map keeps its items
 --     rests_without_entry      with no entry the map stays as it is
 pub use Rattle.iddqd_ord.specs.declared.id_ord_map.entry.Entry.TheVariants.{Vacant, Occupied}
-use Rattle.std.specs.Prelude.{◌≡◌, ◌-◌, ℕ, [], Bool, IfNone, IfSome, IsSome, IsTrue, List, Option, None, Some, Result, drop, length, option_map, slice_get, slice_set, take}
+use Rattle.std.specs.Prelude.{◌≡◌, ◌-◌, ℕ, [], Bool, IfNone, IfSome, IsSome, IsTrue, List, Option, None, Some, Result, drop, length, option_map, remove, slice_get, slice_set, take}
 use Rattle.std.specs.Borrow.{Fml, GName, RattleType, MutBor, RestsIfErr, RestsIfNone, follows}
 use Rattle.std.specs.declared.cmp.Ordering.{Ordering}
 use mir.Syntax.{named}
@@ -80,6 +80,9 @@ module _ {T : Type 0} where
     pub item : entry_item e ≡ x
     pub written : (w : T) → (entry_with e w).items ≡ after w
     pub others : entry_others e ≡ rest
+
+  abbrev pub IsEntryAt : ℕ → MutBor (Holding T) → OccupiedEntry T → Type 0
+  IsEntryAt i m e = IsEntryOf m (slice_get m.now.items i) (slice_set m.now.items i) (remove m.now.items i) (Occupied e)
 
   abbrev pub IsFirstEntry : MutBor (Holding T) → OccupiedEntry T → Type 0
   IsFirstEntry m e = IsEntryOf m (slice_get m.now.items 0) (slice_set m.now.items 0) (drop 1 m.now.items) (Occupied e)

@@ -8,6 +8,7 @@
 --     lends_item, item_follows, guard_follows      the map, or the guard, ends with the last value written
 --     rests_at_none      with no guard the map stays as it is
 --     GuardFinds, GuardOverwrites      the guard lends the item whose key passes the test, and a write replaces that one
+--     GuardReadsAt, GuardWritesAt      the guard lends the item at the position, and a write replaces that one
 --     GuardKeeps, GuardKeepsAkin      an item of the same key, or of an equal one, may be written
 use Rattle.std.specs.Prelude.{◌≡◌, ℕ, [], Bool, IsSome, IsTrue, Option, Some, remove, slice_get, slice_set}
 use Rattle.std.specs.Borrow.{Fml, GName, RattleType, MutBor, Lends, RestsIfNone, follows}
@@ -73,6 +74,13 @@ module _ {T : Type 0} where
 
   abbrev pub shown_lender : Shown T → GName
   shown_lender s = s.map.ghost_name
+
+module _ {T : Type 0} (index : ℕ) where
+  abbrev pub GuardReadsAt : RefMut T → Type 0
+  GuardReadsAt r = lent_item r ≡ slice_get (lent_map r).items index
+
+  abbrev pub GuardWritesAt : RefMut T → Type 0
+  GuardWritesAt r = (w : T) → (lent_with r w).items ≡ slice_set (lent_map r).items index w
 
 module _ {T K : Type 0} (key : T → K) where
   abbrev pub GuardFinds : (K → Bool) → RefMut T → Type 0

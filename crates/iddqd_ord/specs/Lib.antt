@@ -2,6 +2,7 @@ pub mod Entry
 pub mod Guard
 pub mod Inserting
 pub mod OrdMap
+pub mod Ranges
 pub mod StoreAndIndex
 pub mod WritingWalk
 pub use Rattle.iddqd_store.specs.Adding

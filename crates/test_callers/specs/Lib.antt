@@ -1,3 +1,4 @@
 pub mod Adding
 pub mod Lookups
+pub mod Ranges
 pub mod Runs

@@ -13,6 +13,7 @@ mod ord_adding;
 mod ord_entries;
 mod ord_guards;
 mod ord_insertions;
+mod ord_ranges;
 mod ord_walks;
 mod parts;
 mod registry;

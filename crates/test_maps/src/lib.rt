@@ -28,4 +28,8 @@ mod loops;
 #[cfg(test)]
 mod queries;
 #[cfg(test)]
+mod ranges;
+#[cfg(test)]
+mod texts;
+#[cfg(test)]
 mod visits;

@@ -28,6 +28,8 @@ mod made;
 #[cfg(test)]
 mod maps;
 #[cfg(test)]
+mod ranges;
+#[cfg(test)]
 mod reservations;
 #[cfg(test)]
 mod rooms;

@@ -15,6 +15,7 @@ pub mod maps;
 pub mod nine;
 pub mod parts;
 pub mod plain;
+pub mod ranges;
 pub mod respelled;
 pub mod tickets;
 pub mod visitors;

@@ -4,7 +4,6 @@ ghost use Rattle.iddqd_store.specs.Contents.{Ascends};
 ghost use Rattle.iddqd_store.specs.Holding.{Removes};
 
 use super::IdOrdMap;
-use super::store_and_index::take_out;
 use iddqd_store::IdOrdItem;
 
 impl<T> IdOrdMap<T> {
@@ -36,11 +35,7 @@ impl<T: IdOrdItem> IdOrdMap<T> {
         ensures removed { Removes result self.old self.new }
         ensures keyed { Ascends T.key T.Key.cmp self.new.items }
     {
-        if self.is_empty() {
-            return None;
-        }
-        let first = self.index.place(0);
-        Some(take_out(&mut self.store, &mut self.index, first))
+        self.remove_index(0)
     }
 
     /// Removes and returns the item of the greatest key. Its slot becomes vacant. Without items it returns `None` and
@@ -55,10 +50,7 @@ impl<T: IdOrdItem> IdOrdMap<T> {
         ensures removed { Removes result self.old self.new }
         ensures keyed { Ascends T.key T.Key.cmp self.new.items }
     {
-        if self.is_empty() {
-            return None;
-        }
-        let last = self.index.place(self.len() - 1);
-        Some(take_out(&mut self.store, &mut self.index, last))
+        let last = self.len().saturating_sub(1);
+        self.remove_index(last)
     }
 }

@@ -10,6 +10,7 @@ use iddqd_store::{Comparable, IdOrdItem, Steps};
 impl<T: IdOrdItem> IdOrdMap<T> {
     /// Returns the item that the query finds, or `None`, by as many comparisons as `get_counted`. It goes down the
     /// index once, and fetches the item once more to lend it.
+    /// `String` keys are asked for by a `Text`, as in `get(&Text("web"))`.
     #[inline]
     pub fn get<Q: Comparable<T::Key>>(&self, query: &Q) -> Option<&T>
         requires keyed { Ascends T.key T.Key.cmp self.now.items }

@@ -1,7 +1,7 @@
 //! The items of a map that was consumed, in ascending order of the keys. Contracts see the items that are still to
 //! come.
 ghost use Rattle.std.specs.Prelude.{◌≡◌, length, IfSome};
-ghost use Rattle.std.specs.Iterator.{UpTo, YieldsFirst, at_most, item_count};
+ghost use Rattle.std.specs.Iterator.{UpTo, YieldsFirst, YieldsLast, at_most, item_count};
 ghost use Rattle.std.specs.Iterator.SizeHint.{IsWithinCount};
 
 use super::IdOrdMap;
@@ -11,7 +11,7 @@ use std::iter::FusedIterator;
 use std::marker::Model;
 
 /// The items of a map that was consumed, in ascending order of their keys. A walk goes down the index once for several
-/// items, and compares no keys. Items that were not returned are dropped with it.
+/// items, and from the back once for each. It compares no keys. Items that were not returned are dropped with it.
 #[derive(Drop)]
 pub struct IntoIter<T> {
     store: ItemStore<T>,
@@ -50,6 +50,15 @@ impl<T: Drop> Iterator for IntoIter<T> {
     {
         let len = self.len();
         (len, Some(len))
+    }
+}
+
+impl<T: Drop> DoubleEndedIterator for IntoIter<T> {
+    ghost next_back_gives = { YieldsLast (λ rest. rest) };
+
+    fn next_back(&mut self) -> Option<T> {
+        let last = self.walk.next_back()?;
+        Some(self.store.remove(last))
     }
 }
 

@@ -1,16 +1,17 @@
 //! Reading walks, in ascending order of the keys. Contracts see the items that are still to come.
-ghost use Rattle.std.specs.Prelude.{◌≡◌, length, IfSome};
-ghost use Rattle.std.specs.Iterator.{UpTo, YieldsFirstRef, at_most, item_count};
+ghost use Rattle.std.specs.Prelude.{◌≡◌, ◌≤◌, drop, length, take, ⊤, IfSome};
+ghost use Rattle.std.specs.Iterator.{UpTo, YieldsFirstRef, YieldsLastRef, at_most, item_count};
 ghost use Rattle.std.specs.Iterator.SizeHint.{IsWithinCount};
 
 use super::IdOrdMap;
 use iddqd_ord_index::Walk;
 use iddqd_store::ItemStore;
+use std::alloc::AllocError;
 use std::iter::FusedIterator;
 use std::marker::Model;
 
-/// The items of a map, lent one after the other in ascending order of their keys. A step goes along the index, and
-/// compares no keys.
+/// Items of a map that stand side by side in the order of their keys. `next` lends the first of those that are left, and
+/// goes along the index. `next_back` lends the last, and goes down the index. A step compares no keys.
 #[derive(Drop)]
 pub struct Iter<'a, T> {
     store: &'a ItemStore<T>,
@@ -26,6 +27,19 @@ impl<'a, T> Model for Iter<'a, T> {
     ghost view = { λ it. listed_items it.store.now it.walk };
 
     ghost invariant = { λ it. AreOccupied it.store.now it.walk };
+}
+
+impl<'a, T> Clone for Iter<'a, T> {
+    ghost is_clone = { λ iter clone. clone ≡ iter };
+
+    ghost is_infallible = { λ _. ⊤ };
+
+    fn clone(&self) -> Result<Self, AllocError> {
+        Ok(Iter {
+            store: self.store,
+            walk: self.walk.clone()?,
+        })
+    }
 }
 
 impl<'a, T> Iterator for Iter<'a, T> {
@@ -51,6 +65,15 @@ impl<'a, T> Iterator for Iter<'a, T> {
     }
 }
 
+impl<'a, T> DoubleEndedIterator for Iter<'a, T> {
+    ghost next_back_gives = { YieldsLastRef (λ rest. rest) };
+
+    fn next_back(&mut self) -> Option<&'a T> {
+        let last = self.walk.next_back()?;
+        self.store.get(last)
+    }
+}
+
 impl<'a, T> ExactSizeIterator for Iter<'a, T> {
     fn len(&self) -> usize {
         self.walk.len()
@@ -63,11 +86,27 @@ impl<T> IdOrdMap<T> {
     /// Returns the items in ascending order of their keys. Does not allocate, and the whole walk looks at each slot of
     /// the index once.
     pub fn iter(&self) -> Iter<'_, T>
-        ensures { result ≡ self.now.items }
+        ensures items { result ≡ self.now.items }
+        ensures fits { length result ≤ u32.MAX }
     {
         Iter {
             store: &self.store,
             walk: self.index.walk(),
+        }
+    }
+
+    // Returns the items from one position on up to another. There are none if the second is not behind the first.
+    pub(super) fn part(&self, low: usize, high: usize) -> Iter<'_, T>
+        requires low_in_list { low ≤ length self.now.items }
+        requires high_in_list { high ≤ length self.now.items }
+        ensures items { result ≡ drop low (take high self.now.items) }
+        ensures fits { length result ≤ u32.MAX }
+    {
+        let from = self.index.place(low);
+        let to = self.index.place(high.max(low));
+        Iter {
+            store: &self.store,
+            walk: self.index.walk_between(from, to),
         }
     }
 }

@@ -75,7 +75,7 @@ impl<T: IdOrdItem> IdOrdMap<T> {
     }
 
     // Removes and returns the item at this position.
-    fn take_at(&mut self, at: usize) -> T
+    pub(super) fn take_at(&mut self, at: usize) -> T
         requires keyed { Ascends T.key T.Key.cmp self.old.items }
         requires in_list { at < length self.old.items }
         ensures items { self.new.items ≡ remove self.old.items at }

@@ -1,0 +1,94 @@
+-- Where a query stands among items that ascend, and which items lie between two bounds. `compare` says how a query stands to a key.
+--     is_from compare bound k      the key is not before the bound
+--     is_up_to compare bound k      the key is not behind the bound
+--     is_between compare low high k      both
+--     items_between compare key low high items      the items whose keys are between the bounds (`range`)
+--     IsPart part items      items that stand side by side in the list
+--     FindsLast      the last item whose key passes the test, lent (`upper_bound`)
+--     position_of      the position that a search returns, found or not
+--     number_less      how many items are less than the query
+--     IsIndexOf      the item at the position found is the one that the query finds; without one, there is none
+--     bound_now      a bound by the value of its query
+--     SplitsAt, EndsAt      the elements that pass are those from a position on, or those before it
+--     StartsAt, StopsAt      the position of the first item from a bound on, or of the first one behind it
+use Rattle.std.specs.Borrow.{Bor}
+use Rattle.std.specs.Bound.{bound_map}
+use Rattle.std.specs.Prelude.{◌≡◌, ℕ, ◌-◌, ◌<◌, ◌≤◌, Bool, true, false, ◌&&◌, List, length, count_by, drop, filter, option_copied, slice_get, slice_index_or, take, MatchResult, Option, Result, Ok, Err}
+use Rattle.std.specs.declared.cmp.Ordering.{Ordering}
+use Rattle.std.specs.Ordering.{is_ge, is_gt, is_le, is_lt}
+use Rattle.std.specs.declared.ops.Bound.{Bound}
+use Rattle.std.specs.declared.ops.Bound.TheVariants.{Included, Excluded, Unbounded}
+use Rattle.iddqd_store.specs.Contents.{IsAbsent, find_item}
+
+module _ {Q K : Type 0} (compare : Q → K → Ordering) where
+  -- the key is not before the bound
+  abbrev pub is_from : Bound Q → K → Bool
+  is_from (Included q) k = is_le (compare q k)
+  is_from (Excluded q) k = is_lt (compare q k)
+  is_from Unbounded k = true
+
+  -- the key is not behind the bound
+  abbrev pub is_up_to : Bound Q → K → Bool
+  is_up_to (Included q) k = is_ge (compare q k)
+  is_up_to (Excluded q) k = is_gt (compare q k)
+  is_up_to Unbounded k = true
+
+  -- not before the first bound, and not behind the second one
+  abbrev pub is_between : Bound Q → Bound Q → K → Bool
+  is_between low high k = is_from low k && is_up_to high k
+
+  module _ {T : Type 0} (key : T → K) where
+    -- the items whose keys are between the bounds
+    abbrev pub items_between : Bound Q → Bound Q → List T → List T
+    items_between low high items = filter (λ x. is_between low high (key x)) items
+
+-- the value of the query of a bound
+abbrev pub bound_now : {Q : Type 0} → Bound (Bor Q) → Bound Q
+bound_now bound = bound_map (λ q. q.now) bound
+
+-- items that stand side by side in the list
+abbrev pub IsPart : {T : Type 0} → List T → List T → Type 0
+IsPart part items = (low : ℕ) × (high : ℕ) × (part ≡ drop low (take high items))
+
+-- the position that a search returns, found or not
+abbrev pub position_of : Result ℕ ℕ → ℕ
+position_of (Ok i) = i
+position_of (Err i) = i
+
+module _ {T K : Type 0} (key : T → K) where
+  -- a search finds the last item whose key passes the test and lends it, or there is none
+  abbrev pub FindsLast : (K → Bool) → List T → Option (Bor T) → Type 0
+  FindsLast test items lent =
+      let passing = filter (λ x. test (key x)) items in
+      option_copied lent ≡ slice_get passing (length passing - 1)
+
+  -- how many items are less than the query
+  abbrev pub number_less : (K → Ordering) → List T → ℕ
+  number_less compare items = count_by (λ x. is_gt (compare (key x))) items
+
+  -- the item at the position is the one whose key passes the test; without a position, there is none
+  abbrev pub IsIndexOf : (K → Bool) → List T → Result ℕ ℕ → Type 0
+  IsIndexOf test items place = MatchResult place
+      (λ i. slice_get items i ≡ find_item key test items)
+      (λ _. IsAbsent key test items)
+
+-- the elements that pass are those from the position on
+pub record SplitsAt {X : Type 0} (test : X → Bool) (xs : List X) (n : ℕ) : Type 0 where
+  pub within : n ≤ length xs
+  pub before : (k : ℕ) (d : X) → k < n → test (slice_index_or xs k d) ≡ false
+  pub behind : (k : ℕ) (d : X) → n ≤ k → k < length xs → test (slice_index_or xs k d) ≡ true
+
+-- the elements that pass are those before the position
+pub record EndsAt {X : Type 0} (test : X → Bool) (xs : List X) (n : ℕ) : Type 0 where
+  pub within : n ≤ length xs
+  pub before : (k : ℕ) (d : X) → k < n → test (slice_index_or xs k d) ≡ true
+  pub behind : (k : ℕ) (d : X) → n ≤ k → k < length xs → test (slice_index_or xs k d) ≡ false
+
+module _ {T Q K : Type 0} (key : T → K) (compare : Q → K → Ordering) where
+  -- the position of the first item that is not before the bound
+  abbrev pub StartsAt : Bound Q → List T → ℕ → Type 0
+  StartsAt bound items n = SplitsAt (λ x. is_from compare bound (key x)) items n
+
+  -- the position of the first item that is behind the bound
+  abbrev pub StopsAt : Bound Q → List T → ℕ → Type 0
+  StopsAt bound items n = EndsAt (λ x. is_up_to compare bound (key x)) items n

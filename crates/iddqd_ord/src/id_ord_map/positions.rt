@@ -1,0 +1,79 @@
+//! Items by their positions in the order of the keys.
+ghost use Rattle.std.specs.Prelude.{◌≡◌, ◌+◌, ◌*◌, ◌≤◌, length, remove, option_copied, slice_get};
+ghost use Rattle.iddqd_store.specs.Contents.{Ascends, keys};
+ghost use Rattle.iddqd_store.specs.Holding.{Removes};
+ghost use Rattle.iddqd_ord_index.specs.Digits.{digits};
+ghost use Rattle.iddqd_ord_index.specs.Search.{IsPlaceAmong};
+ghost use Rattle.iddqd_ord.specs.Ranges.{IsIndexOf, number_less, position_of};
+
+use super::IdOrdMap;
+use iddqd_store::{Comparable, IdOrdItem, Steps};
+
+impl<T> IdOrdMap<T> {
+    /// Returns the item at the position in the order of the keys, which has so many items before it, or `None` if the
+    /// map has no more. Compares no keys, and goes down the index once.
+    #[inline]
+    pub fn get_index(&self, index: usize) -> Option<&T>
+        ensures { option_copied result ≡ slice_get self.now.items index }
+    {
+        if index >= self.len() {
+            return None;
+        }
+        let place = self.index.place(index);
+        self.store.get(self.index.slot_at(place))
+    }
+}
+
+impl<T: IdOrdItem> IdOrdMap<T> {
+    /// Returns `Ok` of the position of the item that the query finds, or `Err` of the position where such an item
+    /// belongs. Either is the number of items whose keys are less. It makes as many comparisons as `index_of_counted`.
+    #[inline]
+    pub fn index_of<Q: Comparable<T::Key>>(&self, query: &Q) -> Result<usize, usize>
+        requires keyed { Ascends T.key T.Key.cmp self.now.items }
+        ensures place { IsPlaceAmong (Q.compare query.now) (keys T.key self.now.items) result }
+        ensures rank { position_of result ≡ number_less T.key (Q.compare query.now) self.now.items }
+        ensures found { IsIndexOf T.key (Q.equivalent query.now) self.now.items result }
+    {
+        self.index_of_counted(query, &mut Steps::new())
+    }
+
+    /// As `index_of`, with the comparisons counted: at most 4 + 2 d, d the number of binary digits of `len`.
+    pub fn index_of_counted<Q: Comparable<T::Key>>(
+        &self,
+        query: &Q,
+        steps: &mut Steps,
+    ) -> Result<usize, usize>
+        requires keyed { Ascends T.key T.Key.cmp self.now.items }
+        ensures place { IsPlaceAmong (Q.compare query.now) (keys T.key self.now.items) result }
+        ensures rank { position_of result ≡ number_less T.key (Q.compare query.now) self.now.items }
+        ensures found { IsIndexOf T.key (Q.equivalent query.now) self.now.items result }
+
+        // comparisons
+        ensures steps { steps.new ≤ steps.old + 4 + 2 * digits (length self.now.items) }
+        ensures never_resets { steps.old ≤ steps.new }
+    {
+        match self.index.find(&self.store, query, steps) {
+            Ok(place) => Ok(place.position()),
+            Err(place) => Err(place.position()),
+        }
+    }
+
+    /// Removes and returns the item at the position in the order of the keys. Its slot becomes vacant. If the map has no
+    /// item there, it returns `None` and changes nothing. Does not allocate, and compares no keys.
+    pub fn remove_index(&mut self, index: usize) -> Option<T>
+        requires keyed { Ascends T.key T.Key.cmp self.old.items }
+        ensures value { result ≡ slice_get self.old.items index }
+
+        // what is left
+        ensures items { self.new.items ≡ remove self.old.items index }
+        ensures slots { self.new.slots ≡ remove self.old.slots index }
+        ensures removed { Removes result self.old self.new }
+        ensures keyed { Ascends T.key T.Key.cmp self.new.items }
+    {
+        if index >= self.len() {
+            return None;
+        }
+        let at = self.index.place(index);
+        Some(self.take_placed(at))
+    }
+}

@@ -1,0 +1,134 @@
+//! The items between two bounds, which are queries.
+ghost use Rattle.std.specs.Prelude.{◌≡◌, ℕ, ◌+◌, ◌*◌, ◌≤◌, length, sum_by};
+ghost use Rattle.iddqd_store.specs.Contents.{Ascends, Finds};
+ghost use Rattle.iddqd_ord_index.specs.Digits.{digits};
+ghost use Rattle.iddqd_ord.specs.Ranges.{FindsLast, IsPart, StartsAt, StopsAt, bound_now, is_from, is_up_to, items_between};
+
+use super::{IdOrdMap, Iter};
+use iddqd_store::{Comparable, IdOrdItem, Steps};
+use std::ops::{Bound, RangeBounds};
+
+impl<T: IdOrdItem> IdOrdMap<T> {
+    /// Returns the items whose keys lie in the range, in ascending order. Its bounds are queries of one type. A range that
+    /// runs backwards has no items. It makes as many comparisons as `range_counted`, and a step of the walk makes none.
+    /// Does not allocate.
+    pub fn range<Q: Comparable<T::Key>, R: RangeBounds<Q>>(&self, range: R) -> Iter<'_, T>
+        requires keyed { Ascends T.key T.Key.cmp self.now.items }
+        ensures items { R.has_bounds range
+            → result ≡ items_between Q.compare T.key (R.start_bound range) (R.end_bound range) self.now.items }
+        ensures part { IsPart result self.now.items }
+        ensures sums { (number : T → ℕ) → sum_by number result ≤ sum_by number self.now.items }
+        ensures fits { length result ≤ u32.MAX }
+    {
+        self.range_counted(range, &mut Steps::new())
+    }
+
+    /// As `range`, with the comparisons counted: at most 4 + 2 d for each bound, d the number of binary digits of `len`,
+    /// and none for an unbounded end.
+    pub fn range_counted<Q: Comparable<T::Key>, R: RangeBounds<Q>>(
+        &self,
+        range: R,
+        steps: &mut Steps,
+    ) -> Iter<'_, T>
+        requires keyed { Ascends T.key T.Key.cmp self.now.items }
+        ensures items { R.has_bounds range
+            → result ≡ items_between Q.compare T.key (R.start_bound range) (R.end_bound range) self.now.items }
+        ensures part { IsPart result self.now.items }
+        ensures sums { (number : T → ℕ) → sum_by number result ≤ sum_by number self.now.items }
+        ensures fits { length result ≤ u32.MAX }
+
+        // comparisons
+        ensures steps { steps.new ≤ steps.old + 8 + 4 * digits (length self.now.items) }
+        ensures never_resets { steps.old ≤ steps.new }
+    {
+        let low = self.start_of(range.start_bound(), steps);
+        let high = self.end_of(range.end_bound(), steps);
+        self.part(low, high)
+    }
+
+    /// Returns the item of the least key that is not before the bound, or `None` if there is none. It makes as many
+    /// comparisons as `get`, and none if it is unbounded.
+    pub fn lower_bound<Q: Comparable<T::Key>>(&self, from: Bound<&Q>) -> Option<&T>
+        requires keyed { Ascends T.key T.Key.cmp self.now.items }
+        ensures { Finds T.key (is_from Q.compare (bound_now from.entry)) self.now.items result }
+    {
+        let start = self.start_of(from, &mut Steps::new());
+        self.get_index(start)
+    }
+
+    /// Returns the item of the greatest key that is not behind the bound, or `None` if there is none. It makes as many
+    /// comparisons as `get`, and none if it is unbounded.
+    pub fn upper_bound<Q: Comparable<T::Key>>(&self, to: Bound<&Q>) -> Option<&T>
+        requires keyed { Ascends T.key T.Key.cmp self.now.items }
+        ensures { FindsLast T.key (is_up_to Q.compare (bound_now to.entry)) self.now.items result }
+    {
+        let end = self.end_of(to, &mut Steps::new());
+        if end == 0 {
+            return None;
+        }
+        self.get_index(end - 1)
+    }
+
+    // Returns the position of the first item that is not before the bound.
+    pub(super) fn start_of<Q: Comparable<T::Key>>(
+        &self,
+        from: Bound<&Q>,
+        steps: &mut Steps,
+    ) -> usize
+        requires keyed { Ascends T.key T.Key.cmp self.now.items }
+        ensures start { StartsAt T.key Q.compare (bound_now from.entry) self.now.items result }
+        ensures steps { steps.new ≤ steps.old + 4 + 2 * digits (length self.now.items) }
+        ensures never_resets { steps.old ≤ steps.new }
+    {
+        match from {
+            Bound::Included(query) => self.first_from(query, steps),
+            Bound::Excluded(query) => self.first_after(query, steps),
+            Bound::Unbounded => 0,
+        }
+    }
+
+    // Returns the position of the first item that is behind the bound.
+    pub(super) fn end_of<Q: Comparable<T::Key>>(&self, to: Bound<&Q>, steps: &mut Steps) -> usize
+        requires keyed { Ascends T.key T.Key.cmp self.now.items }
+        ensures end { StopsAt T.key Q.compare (bound_now to.entry) self.now.items result }
+        ensures steps { steps.new ≤ steps.old + 4 + 2 * digits (length self.now.items) }
+        ensures never_resets { steps.old ≤ steps.new }
+    {
+        match to {
+            Bound::Included(query) => self.first_after(query, steps),
+            Bound::Excluded(query) => self.first_from(query, steps),
+            Bound::Unbounded => self.len(),
+        }
+    }
+
+    // Returns the position of the first item whose key is not less than the query.
+    fn first_from<Q: Comparable<T::Key>>(&self, query: &Q, steps: &mut Steps) -> usize
+        requires keyed { Ascends T.key T.Key.cmp self.now.items }
+        ensures start { StartsAt T.key Q.compare (Bound.Included query.now) self.now.items result }
+        ensures end { StopsAt T.key Q.compare (Bound.Excluded query.now) self.now.items result }
+        ensures steps { steps.new ≤ steps.old + 4 + 2 * digits (length self.now.items) }
+        ensures never_resets { steps.old ≤ steps.new }
+    {
+        match self.index_of_counted(query, steps) {
+            Ok(place) => place,
+            Err(place) => place,
+        }
+    }
+
+    // Returns the position of the first item whose key is greater than the query.
+    fn first_after<Q: Comparable<T::Key>>(&self, query: &Q, steps: &mut Steps) -> usize
+        requires keyed { Ascends T.key T.Key.cmp self.now.items }
+        ensures start { StartsAt T.key Q.compare (Bound.Excluded query.now) self.now.items result }
+        ensures end { StopsAt T.key Q.compare (Bound.Included query.now) self.now.items result }
+        ensures steps { steps.new ≤ steps.old + 4 + 2 * digits (length self.now.items) }
+        ensures never_resets { steps.old ≤ steps.new }
+    {
+        match self.index_of_counted(query, steps) {
+            Ok(place) => {
+                prove!(place < self.len());
+                place + 1
+            }
+            Err(place) => place,
+        }
+    }
+}

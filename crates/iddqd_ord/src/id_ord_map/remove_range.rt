@@ -1,0 +1,36 @@
+//! Removal of the items between two bounds.
+ghost use Rattle.std.specs.Prelude.{◌≡◌, ◌+◌, length};
+ghost use Rattle.iddqd_store.specs.Contents.{Ascends, items_without};
+ghost use Rattle.iddqd_store.specs.Holding.{LeavesSlots};
+ghost use Rattle.iddqd_ord.specs.Ranges.{is_between};
+
+use super::IdOrdMap;
+use iddqd_store::{Comparable, IdOrdItem, Steps};
+use std::ops::RangeBounds;
+
+impl<T: IdOrdItem> IdOrdMap<T> {
+    /// Removes and drops the items whose keys lie in the range, and returns how many there were. Their slots become
+    /// vacant. It makes as many comparisons as `range`, and goes down the index once for each item that it removes. Does
+    /// not allocate.
+    pub fn remove_range<Q: Comparable<T::Key>, R: RangeBounds<Q>>(&mut self, range: R) -> usize
+    where
+        T: Drop,
+        requires keyed { Ascends T.key T.Key.cmp self.old.items }
+        ensures items { R.has_bounds range
+            → self.new.items ≡ items_without T.key (is_between Q.compare (R.start_bound range) (R.end_bound range)) self.old.items }
+        ensures number { result + length self.new.items ≡ length self.old.items }
+        ensures leaves { LeavesSlots self.old self.new }
+        ensures keyed { Ascends T.key T.Key.cmp self.new.items }
+    {
+        let before = self.len();
+        let mut steps = Steps::new();
+        let low = self.start_of(range.start_bound(), &mut steps);
+        let high = self.end_of(range.end_bound(), &mut steps);
+        let mut end = high;
+        while low < end {
+            end -= 1;
+            self.take_at(end);
+        }
+        before - self.len()
+    }
+}

@@ -1,0 +1,223 @@
+//! What `Debug` writes of maps, entries and guards, and `Display` of errors that hold an item.
+use crate::checks::check;
+use iddqd::errors::{
+    DuplicateItem, ExtendError, ExtendUniqueError, Few, FromIterError, InsertError, Refused,
+    TryReserveError,
+};
+use iddqd::{IdHashItem, IdHashMap, IdOrdItem, IdOrdMap};
+use std::alloc::{AllocError, Global};
+use std::fmt::{Debug, Display};
+use std::io;
+
+// A door, found by its number.
+#[derive(Clone, Copy, Debug)]
+struct Door {
+    number: u32,
+    open: bool,
+}
+
+impl IdOrdItem for Door {
+    type Key = u32;
+
+    ghost key = { λ door. door.number };
+
+    fn key(&self) -> &u32 {
+        &self.number
+    }
+}
+
+impl IdHashItem for Door {
+    type Key = u32;
+
+    ghost key = { λ door. door.number };
+
+    fn key(&self) -> &u32 {
+        &self.number
+    }
+}
+
+fn shut(number: u32) -> Door {
+    Door {
+        number,
+        open: false,
+    }
+}
+
+fn is_debugged(alloc: Global, value: &impl Debug, expected: &str) -> bool {
+    format!(in alloc; "{value:?}").is_ok_and(|text| text.as_str() == expected)
+}
+
+fn is_displayed(alloc: Global, value: &impl Display, expected: &str) -> bool {
+    format!(in alloc; "{value}").is_ok_and(|text| text.as_str() == expected)
+}
+
+// Two doors, the greater number first.
+fn two_in_order(alloc: Global) -> IdOrdMap<Door> {
+    let mut doors = IdOrdMap::new(alloc);
+    let _ = doors.insert_overwrite(shut(2));
+    let _ = doors.insert_overwrite(shut(1));
+    doors
+}
+
+fn one_by_hash(alloc: Global) -> IdHashMap<Door> {
+    let mut doors = IdHashMap::new(alloc);
+    let _ = doors.insert_overwrite(shut(1));
+    doors
+}
+
+// A set of the items, in the order of the keys.
+#[test]
+fn ordered_map_for_debugging(rt: HostRuntime) {
+    let alloc = rt.alloc();
+    let doors = two_in_order(alloc);
+    let items = "{Door { number: 1, open: false }, Door { number: 2, open: false }}";
+    check(&rt, is_debugged(alloc, &doors, items));
+    let keyed = "{1: Door { number: 1, open: false }, 2: Door { number: 2, open: false }}";
+    check(&rt, is_debugged(alloc, &doors.debug_with_keys(), keyed));
+}
+
+#[test]
+fn hash_map_for_debugging(rt: HostRuntime) {
+    let alloc = rt.alloc();
+    let doors = one_by_hash(alloc);
+    let items = "{Door { number: 1, open: false }}";
+    check(&rt, is_debugged(alloc, &doors, items));
+    let keyed = "{1: Door { number: 1, open: false }}";
+    check(&rt, is_debugged(alloc, &doors.debug_with_keys(), keyed));
+}
+
+#[test]
+fn entries_in_order_for_debugging(rt: HostRuntime) {
+    let alloc = rt.alloc();
+    let mut doors = two_in_order(alloc);
+    let occupied = "Occupied(OccupiedEntry { item: Door { number: 1, open: false }, .. })";
+    check(&rt, is_debugged(alloc, &doors.entry(&1), occupied));
+    let vacant = "Vacant(VacantEntry { .. })";
+    check(&rt, is_debugged(alloc, &doors.entry(&3), vacant));
+}
+
+#[test]
+fn entries_by_hash_for_debugging(rt: HostRuntime) {
+    let alloc = rt.alloc();
+    let mut doors = one_by_hash(alloc);
+    let occupied = "Occupied(OccupiedEntry { item: Door { number: 1, open: false }, .. })";
+    check(&rt, is_debugged(alloc, &doors.entry(&1), occupied));
+    let vacant = "Vacant(VacantEntry { .. })";
+    check(&rt, is_debugged(alloc, &doors.entry(&3), vacant));
+}
+
+// A guard is written as its item, before it is spent and after.
+#[test]
+fn guard_in_order_for_debugging(rt: HostRuntime) {
+    let alloc = rt.alloc();
+    let mut doors = two_in_order(alloc);
+    if let Some(mut door) = doors.get_mut(&2) {
+        door.open = true;
+        let item = "Door { number: 2, open: true }";
+        let before = is_debugged(alloc, &door, item);
+        let door = door.into_ref();
+        check(&rt, before && is_debugged(alloc, &door, item));
+    }
+}
+
+#[test]
+fn guard_by_hash_for_debugging(rt: HostRuntime) {
+    let alloc = rt.alloc();
+    let mut doors = one_by_hash(alloc);
+    if let Some(mut door) = doors.get_mut(&1) {
+        door.open = true;
+        let item = "Door { number: 1, open: true }";
+        let before = is_debugged(alloc, &door, item);
+        let door = door.into_ref();
+        check(&rt, before && is_debugged(alloc, &door, item));
+    }
+}
+
+#[test]
+fn walks_for_debugging(rt: HostRuntime) {
+    let alloc = rt.alloc();
+    let walk = "IterMut { .. }";
+    check(
+        &rt,
+        is_debugged(alloc, &two_in_order(alloc).iter_mut(), walk),
+    );
+    check(
+        &rt,
+        is_debugged(alloc, &one_by_hash(alloc).iter_mut(), walk),
+    );
+}
+
+fn refused(item: u32) -> Refused<u32> {
+    Refused {
+        item,
+        error: TryReserveError::capacity_overflow(),
+    }
+}
+
+// A refusal is written with its item and its reason, and a duplicate with both items.
+#[test]
+fn text_of_refused_insertion(rt: HostRuntime) {
+    let alloc = rt.alloc();
+    let text = "item 5 was refused: capacity overflow";
+    check(&rt, is_displayed(alloc, &refused(5), text));
+    let error = InsertError::Refused(refused(5));
+    check(&rt, is_displayed(alloc, &error, text));
+    let there = 5;
+    let error = InsertError::Duplicate(DuplicateItem::internal_new(5, Few::One(&there)));
+    let text = "new item: 5 conflicts with existing: [5]";
+    check(&rt, is_displayed(alloc, &error, text));
+}
+
+#[test]
+fn text_of_refused_extension(rt: HostRuntime) {
+    let alloc = rt.alloc();
+    let error = TryReserveError::alloc_error();
+    let at_item = ExtendError {
+        item: Some(5),
+        error,
+    };
+    let text = "item 5 was refused: memory allocation failed";
+    check(&rt, is_displayed(alloc, &at_item, text));
+    let error = ExtendUniqueError::Refused(at_item);
+    check(&rt, is_displayed(alloc, &error, text));
+    let before: ExtendError<u32> = ExtendError {
+        item: None,
+        error: TryReserveError::alloc_error(),
+    };
+    let text = "room was refused: memory allocation failed";
+    check(&rt, is_displayed(alloc, &before, text));
+}
+
+#[test]
+fn text_of_refused_collection(rt: HostRuntime) {
+    let alloc = rt.alloc();
+    let error: FromIterError<u32> = FromIterError::Refused(TryReserveError::capacity_overflow());
+    let text = "room was refused: capacity overflow";
+    check(&rt, is_displayed(alloc, &error, text));
+    let error = FromIterError::Duplicate(DuplicateItem::internal_new(5, Few::One(7)));
+    let text = "new item: 5 conflicts with existing: [7]";
+    check(&rt, is_displayed(alloc, &error, text));
+}
+
+// By `?`, a refusal becomes std's: its kind is that of memory, whichever it was.
+#[test]
+fn refusal_becomes_io_error(rt: HostRuntime) {
+    let error = io::Error::from(TryReserveError::capacity_overflow());
+    check(&rt, error.kind() == io::ErrorKind::OutOfMemory);
+    check(
+        &rt,
+        AllocError::from(TryReserveError::alloc_error()) == AllocError,
+    );
+}
+
+// The keys come in the order of the items.
+#[test]
+fn keys_in_order(rt: HostRuntime) {
+    let doors = two_in_order(rt.alloc());
+    let mut keys = doors.keys();
+    check(&rt, keys.len() == 2);
+    check(
+        &rt,
+        (keys.next(), keys.next(), keys.next()) == (Some(&1), Some(&2), None),
+    );
+}

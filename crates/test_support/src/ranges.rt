@@ -1,0 +1,103 @@
+//! What tests ask of an ordered map by positions, between bounds and from the back.
+use crate::maps::Ordered;
+use iddqd::id_ord_map::Iter;
+use iddqd::{Comparable, IdOrdItem, Steps};
+use std::ops::Bound;
+use std::slice;
+
+/// Two bounds, by reference.
+pub type Bounds<'a, Q> = (Bound<&'a Q>, Bound<&'a Q>);
+
+impl<T: IdOrdItem> Ordered<T> {
+    /// `get_index`.
+    pub fn get_index(&self, index: usize) -> Option<&T> {
+        self.map.get_index(index)
+    }
+
+    /// `index_of_counted`, and how many comparisons it took.
+    pub fn index_of<Q: Comparable<T::Key>>(&self, query: &Q) -> (Result<usize, usize>, u32) {
+        let mut steps = Steps::new();
+        let place = self.map.index_of_counted(query, &mut steps);
+        (place, steps.count())
+    }
+
+    /// `lower_bound`.
+    pub fn lower_bound<Q: Comparable<T::Key>>(&self, from: Bound<&Q>) -> Option<&T> {
+        self.map.lower_bound(from)
+    }
+
+    /// `upper_bound`.
+    pub fn upper_bound<Q: Comparable<T::Key>>(&self, to: Bound<&Q>) -> Option<&T> {
+        self.map.upper_bound(to)
+    }
+
+    /// The number of items of `range_counted`, and how many comparisons it took.
+    pub fn count_between<Q: Comparable<T::Key>>(&self, bounds: Bounds<'_, Q>) -> (usize, u32) {
+        let mut steps = Steps::new();
+        let count = self.map.range_counted::<Q, _>(bounds, &mut steps).len();
+        (count, steps.count())
+    }
+
+    /// The items from the query on.
+    pub fn walk_from<Q: Comparable<T::Key>>(&self, query: &Q) -> Iter<'_, T> {
+        self.map
+            .range::<Q, _>((Bound::Included(query), Bound::Unbounded))
+    }
+
+    /// `remove_index`.
+    pub fn remove_index(&mut self, index: usize) -> Option<T> {
+        self.map.remove_index(index)
+    }
+
+    /// `get_index_entry`, and `remove` of it.
+    pub fn take_index(&mut self, index: usize) -> Option<T> {
+        Some(self.map.get_index_entry(index)?.remove())
+    }
+
+    /// `remove_range`.
+    pub fn remove_range<Q: Comparable<T::Key>>(&mut self, bounds: Bounds<'_, Q>) -> usize
+    where
+        T: Drop,
+    {
+        self.map.remove_range::<Q, _>(bounds)
+    }
+}
+
+impl<T: IdOrdItem + PartialEq> Ordered<T> {
+    /// Whether `range` gives these items: from the front, from the back, and from both ends in turn.
+    pub fn has_between<Q: Comparable<T::Key>>(&self, bounds: Bounds<'_, Q>, items: &[T]) -> bool {
+        let from_front = self.map.range::<Q, _>(bounds).eq(items);
+        let from_back = self.map.range::<Q, _>(bounds).rev().eq(items.iter().rev());
+        from_front && from_back && meets(self.map.range::<Q, _>(bounds), items.iter())
+    }
+
+    /// The same of `iter`, and of its clone.
+    pub fn has_items(&self, items: &[T]) -> bool {
+        let walk = self.map.iter();
+        let from_clone = match walk.clone() {
+            Ok(clone) => clone.eq(items),
+            Err(_) => false,
+        };
+        from_clone && self.map.iter().rev().eq(items.iter().rev()) && meets(walk, items.iter())
+    }
+}
+
+// Whether both walks give equal items from both ends in turn, count the same at each step, and then end for good.
+fn meets<T: PartialEq>(mut walk: Iter<'_, T>, mut items: slice::Iter<'_, T>) -> bool {
+    let mut is_front = true;
+    for _ in 0..items.len() {
+        if walk.len() != items.len() {
+            return false;
+        }
+        let (one, other) = if is_front {
+            (walk.next(), items.next())
+        } else {
+            (walk.next_back(), items.next_back())
+        };
+        if one != other {
+            return false;
+        }
+        is_front = !is_front;
+    }
+    walk.len() == 0 && walk.next_back().is_none() && walk.next().is_none()
+}
