@@ -5,11 +5,13 @@
 
 mod items;
 mod phases;
+mod ranges;
 mod report;
 mod subjects;
 
 use crate::items::{BenchKey, Item};
 use crate::phases::{Plan, Times, filled, timed};
+use crate::ranges::compare_ranges;
 use crate::report::write_times;
 use crate::subjects::Subject;
 use std::alloc::Global;
@@ -118,6 +120,9 @@ fn time_all<R: Clock>(
         let plan = Plan::new(alloc, *size)?;
         do_agree = compare::<u64>(rt, alloc, out, (&plan, *size, *rounds), is_told)? && do_agree;
         do_agree = compare::<String>(rt, alloc, out, (&plan, *size, *rounds), is_told)? && do_agree;
+        let plan = (&plan, *size, *rounds);
+        do_agree = compare_ranges::<u64>(rt, alloc, out, plan, is_told)? && do_agree;
+        do_agree = compare_ranges::<String>(rt, alloc, out, plan, is_told)? && do_agree;
     }
     Ok(do_agree)
 }

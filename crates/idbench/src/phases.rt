@@ -82,8 +82,17 @@ impl Plan {
         self.size
     }
 
-    // The keys of these numbers, each this much above.
-    fn keys<K: BenchKey>(&self, alloc: Global, above: u64) -> Result<Vec<K>, AllocError> {
+    /// The numbers, shuffled.
+    pub(crate) fn shuffled(&self) -> &[u64] {
+        self.shuffled.as_slice()
+    }
+
+    /// The keys of these numbers, each this much above.
+    pub(crate) fn keys<K: BenchKey>(
+        &self,
+        alloc: Global,
+        above: u64,
+    ) -> Result<Vec<K>, AllocError> {
         let mut keys = Vec::with_capacity(alloc, self.shuffled.len())?;
         for number in self.shuffled.as_slice() {
             keys.push(K::of_number(alloc, number.wrapping_add(above))?)?;
@@ -101,7 +110,8 @@ impl Plan {
     }
 }
 
-fn nanos_since(clock: &impl Clock, start: Instant) -> io::Result<u64> {
+/// The nanoseconds since then.
+pub(crate) fn nanos_since(clock: &impl Clock, start: Instant) -> io::Result<u64> {
     let time = start.elapsed(clock)?;
     Ok(
         time.as_secs()

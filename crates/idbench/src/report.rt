@@ -21,17 +21,21 @@ fn write_tenths(out: &mut impl Write, tenths: u64) -> io::Result<()> {
     write!(out, "{:>6}.{} ", tenths / 10, tenths % 10)
 }
 
-// The tenths of a nanosecond that an operation took of this map and of std's, their ratio, and a bar that shows it.
+// The tenths of a nanosecond that an operation took of this map and of std's, their ratio, and a bar that shows it. Std's
+// are 0 if it has no such call.
 fn write_pair(out: &mut impl Write, ours: u64, std: u64) -> io::Result<()> {
     write_tenths(out, ours)?;
+    if std == 0 {
+        return writeln!(out, "     -");
+    }
     write_tenths(out, std)?;
     let ratio = ours.saturating_mul(100) / std.max(1);
     write!(out, "{:>3}.{:02} ", ratio / 100, ratio % 100)?;
     write_bar(out, ratio)
 }
 
-// Writes a line for each of these phases that both maps have.
-fn write_phases(
+/// Writes a line for each of these phases that this map has.
+pub(crate) fn write_phases(
     out: &mut impl Write,
     (map, key): (&str, &str),
     size: u64,
@@ -39,7 +43,7 @@ fn write_phases(
     (ours, std): (&[u64], &[u64]),
 ) -> io::Result<()> {
     for (phase, (ours, std)) in phases.iter().zip(ours.iter().zip(std)) {
-        if *ours == 0 || *std == 0 {
+        if *ours == 0 {
             continue;
         }
         write!(out, "{map:<5} {key:<7} {size:>8} {phase:<10} ")?;
@@ -48,7 +52,7 @@ fn write_phases(
     Ok(())
 }
 
-/// Writes a line for each phase that both have: the nanoseconds an operation of this map and of std's, their ratio,
+/// Writes a line for each phase that the map has: the nanoseconds an operation of this map and of std's, their ratio,
 /// and a bar.
 pub(crate) fn write_times(
     out: &mut impl Write,

@@ -1,56 +1,11 @@
 -- What entries of a hash map stand on.
---     added_item, added_written, added_others      where a vacant slot was given an item: the item of that slot, a write to it, and the others
---     told_listed, listed_told      the hash that is stored for a slot's item, and under which the slot is listed
 --     same_entry      an entry is told by its map, its slot and its hash
-use Rattle.std.proofs.Common.{◌≡◌, ℕ, List, set, Some, None, is_some, sym, ap, ◌∙◌, subst, ⊎_elim}
-use Rattle.std.proofs.lemmas.Bool.{cases_eq}
+use Rattle.std.proofs.Common.{◌≡◌, Some}
 use Rattle.std.proofs.Props.{props}
-use Rattle.std.specs.List.{Contains}
 use Rattle.std.specs.Option.{IsSome}
 use mathlib.Core.HLevel.{is_prop→PathP}
-use Rattle.iddqd_store.specs.Contents.{AddsItem}
-use Rattle.iddqd_store.specs.SlotItems.{item_of_slot, without_slot, written_to_slot}
-use Rattle.iddqd_store.specs.Store.{Store, item_at, IsOccupied, Updates}
-use Rattle.iddqd_store.proofs.StoreLemmas.{updates-set}
-use Rattle.iddqd_hash.specs.StoreAndIndex.{PairsOccupied, hash_of_slot, hashes_in, items_in, slots_in}
+use Rattle.iddqd_store.specs.SlotItems.{item_of_slot}
 use Rattle.iddqd_hash.specs.declared.id_hash_map.entry.OccupiedEntry.{OccupiedEntry}
-use Rattle.iddqd_hash.proofs.GetMutLemmas.{item_in_slot, items_lent, others_left, told_in_slot}
-use Rattle.iddqd_hash.proofs.PairLemmas.{hash_listed, listed_hash}
-use Rattle.iddqd_hash.proofs.StoreAndIndexLemmas.{listed_occupied, occupied_listed}
-use Rattle.iddqd_hash.proofs.SlotItemLemmas.{item_added, same_items}
-
-module _ {T : Type 0} (old new : Store T) (slot : ℕ) (x : T) (vacant : item_at old slot ≡ None) (updates : Updates old new slot (Some x)) where
-  occupied : IsOccupied new slot
-  occupied = ap is_some updates.changed
-
-  pub added_item : item_of_slot (slots_in new) (items_in new) slot ≡ Some x
-  added_item = item_in_slot new.slots slot ∙ updates.changed
-
-  pub added_written : (w : T) → AddsItem w (items_in old) (written_to_slot (slots_in new) (items_in new) slot w)
-  added_written w =
-      let put = updates-set new slot (Some w) occupied in
-      subst (AddsItem w (items_in old)) (items_lent new.slots slot w occupied)
-      (item_added old.slots (set new.slots slot (Some w)) slot w vacant put.changed (λ other n. put.others other n ∙ updates.others other n))
-
-  pub added_others : without_slot (slots_in new) (items_in new) slot ≡ items_in old
-  added_others =
-      let left = updates-set new slot None occupied in
-      sym (others_left new.slots slot occupied)
-      ∙ same_items (set new.slots slot None) old.slots (λ other. ⊎_elim
-      (λ e. ap (item_at (record new { slots = set new.slots slot None })) e ∙ left.changed ∙ sym vacant ∙ ap (item_at old) (sym e))
-      (λ n. left.others other n ∙ updates.others other n)
-      (cases_eq other slot))
-
-module _ {T : Type 0} (store : Store T) (pairs : List (ℕ × ℕ)) (paired : PairsOccupied store pairs) (hash slot : ℕ) where
-  pub told_listed : Contains pairs (hash, slot) → item_of_slot (slots_in store) (hashes_in store pairs) slot ≡ Some hash
-  told_listed listed =
-      let some = listed_occupied store pairs paired hash slot listed in
-      told_in_slot (hash_of_slot pairs) store.slots slot some ∙ ap Some (hash_listed pairs hash slot (occupied_listed store pairs paired slot some) listed)
-
-  pub listed_told : IsOccupied store slot → item_of_slot (slots_in store) (hashes_in store pairs) slot ≡ Some hash → Contains pairs (hash, slot)
-  listed_told some told =
-      let same : hash_of_slot pairs slot ≡ hash = (let here = sym (told_in_slot (hash_of_slot pairs) store.slots slot some) ∙ told in cc) in
-      subst (λ h. Contains pairs (h, slot)) same (listed_hash pairs slot (occupied_listed store pairs paired slot some))
 
 pub same_entry : {S T : Type 0} (e : OccupiedEntry T S) (there : IsSome (item_of_slot e.map.now.slots e.map.now.items e.slot)) (listed : item_of_slot e.map.now.slots e.map.now.hashes e.slot ≡ Some e.hash) → record e { there = there; listed = listed } ≡ e
 same_entry e there listed i = record e {

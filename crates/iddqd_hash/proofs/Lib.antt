@@ -1,12 +1,2 @@
-pub mod CloneLemmas
 mod EntryLemmas
-mod CompactLemmas
-pub mod FoundLemmas
-pub mod HashCountLemmas
-pub mod GetMutLemmas
-pub mod MapLemmas
-pub mod PairLemmas
-pub mod StoreAndIndexLemmas
-pub mod RisingLemmas
-pub mod SlotItemLemmas
-pub mod WalkedLemmas
+pub use Rattle.iddqd_hash_parts.proofs.GetMutLemmas

@@ -27,7 +27,7 @@ use Rattle.iddqd_hash.specs.declared.id_hash_map.entry.Entry.{Entry}
 use Rattle.iddqd_hash.specs.declared.id_hash_map.entry.OccupiedEntry.{OccupiedEntry}
 use Rattle.iddqd_hash.specs.declared.id_hash_map.ref_mut.RefMut.{RefMut}
 use Rattle.iddqd_hash.specs.Guard.{guard_lender, lent_item, lent_map, lent_with, with_item_in}
-use Rattle.iddqd_hash.specs.HashItems.{HashItems, holding_of}
+use Rattle.iddqd_hash_parts.specs.HashItems.{HashItems, holding_of}
 use Rattle.iddqd_hash.specs.HashMap.{HashHandsBack, HashInserts, HashKeeps, HashStays}
 use Rattle.iddqd_hash.specs.contracts.id_hash_map.IdHashMap as map
 use Rattle.iddqd_hash.specs.contracts.id_hash_map.entry.OccupiedEntry as occupied

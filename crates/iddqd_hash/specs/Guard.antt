@@ -14,7 +14,7 @@ use Rattle.std.specs.Borrow.{Fml, GName, RattleType, MutBor, Lends, RestsIfNone,
 use mir.Syntax.{named}
 use Rattle.iddqd_store.specs.Contents.{find_item, items_overwritten}
 use Rattle.iddqd_store.specs.SlotItems.{item_of_slot, still_there, written_to_slot}
-use Rattle.iddqd_hash.specs.HashItems.{HashItems}
+use Rattle.iddqd_hash_parts.specs.HashItems.{HashItems}
 use Rattle.iddqd_hash.specs.declared.id_hash_map.ref_mut.RefMut.{RefMut}
 use Rattle.iddqd_hash.specs.declared.id_hash_map.ref_mut.Shown.{Shown}
 use Rattle.iddqd_hash.specs.contracts.id_hash_map.IdHashMap as map

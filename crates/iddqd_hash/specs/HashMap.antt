@@ -22,7 +22,7 @@
 --     CloneHashesAlike      a hasher's clone hashes as the hasher does
 -- After a loan:
 --     ends_hash_inserted, ends_hash_extended, lends_nothing      what the map is once the result is dropped
-use Rattle.std.specs.Prelude.{◌≡◌, ℕ, ◌+◌, ◌<◌, ◌≤◌, [], List, length, Bool, true, All, IfErr, IfNone, OnSome, Option, IsPermutation, IsSomeAnd, Result, Some, remove, slice_get}
+use Rattle.std.specs.Prelude.{◌≡◌, ℕ, ◌+◌, ◌≤◌, [], length, Bool, true, All, IfErr, IfNone, OnSome, Option, IsPermutation, IsSomeAnd, Result, Some}
 use Rattle.std.specs.Prelude.{min as least}
 use Rattle.std.specs.Borrow.{Fml, RattleType, MutBor, Lends, LendsSoOk, unit}
 use Rattle.std.specs.Hash.{HashWrites}
@@ -31,16 +31,17 @@ use Rattle.iddqd_store.specs.Adding.{AddsGiven, OnItemRefused, StopsAdding}
 use Rattle.iddqd_store.specs.Collecting as collecting
 use Rattle.iddqd_store.specs.Collecting.{GivesAll, GivesThen}
 use Rattle.iddqd_store.specs.Contents.{AddsItem, find_item, items_overwritten}
-use Rattle.iddqd_store.specs.Holding.{FillsSlots, InsertsItem, KeepsItems, Shrinks, max_items}
+use Rattle.iddqd_store.specs.Holding.{FillsSlots, Shrinks, max_items}
 use Rattle.iddqd_store.specs.Refusal as refusal
-use Rattle.iddqd_store.specs.Refusal.{HandsBack, OnDuplicate, RefusalKind, reservation_kind}
+use Rattle.iddqd_store.specs.Refusal.{HandsBack, OnDuplicate}
 use Rattle.iddqd_store.specs.SlotItems.{item_of_slot, without_slot, written_to_slot}
 use Rattle.iddqd_store.specs.declared.errors.ExtendError.{ExtendError}
 use Rattle.iddqd_store.specs.declared.errors.ExtendUniqueError.{ExtendUniqueError}
 use Rattle.iddqd_store.specs.declared.errors.InsertError.{InsertError}
 use Rattle.iddqd_store.specs.declared.errors.Refused.{Refused}
 use Rattle.iddqd_store.specs.declared.halts.Halt.{Halt}
-use Rattle.iddqd_hash.specs.HashItems.{HashItems, holding_of}
+use Rattle.iddqd_hash_parts.specs.HashItems.{HashItems, holding_of}
+pub use Rattle.iddqd_hash_parts.specs.HashChanges.{HashInserts, HashKeeps, HashStays, KeepsSpare, LacksRoomFor, LosesPlaceOf, Reserves, SpareFits}
 use Rattle.iddqd_hash.specs.contracts.id_hash_map.IdHashMap.{the_row}
 
 module _ {S T : Type 0} where
@@ -51,24 +52,6 @@ module _ {S T : Type 0} where
   -- no item, no slot and no stored hash; memory may be allocated
   abbrev pub HasNoItems : ℕ → HashItems S T → Type 0
   HasNoItems limit m = m ≡ record m { items = []; slots = []; hashes = []; vacant = 0; limit = limit }
-
-  abbrev pub SpareFits : HashItems S T → Type 0
-  SpareFits m = m.spare + length m.items ≤ m.limit
-
-  pub record KeepsSpare (old new : HashItems S T) : Type 0 where
-    pub never_less : old.spare + length old.items ≤ new.spare + length new.items
-    pub in_limit : SpareFits new
-
-  -- there is room for n more items
-  pub record Reserves (n : ℕ) (old new : HashItems S T) : Type 0 where
-    pub spare : n ≤ new.spare
-    pub capacity : length old.items + n ≤ new.capacity
-    pub in_limit : length old.items + n ≤ old.limit
-
-  -- room for n more items was refused, and fewer were spare
-  pub record LacksRoomFor (n : ℕ) (m : HashItems S T) (refused : RefusalKind) : Type 0 where
-    pub kind : refused ≡ reservation_kind m.limit (length m.items + n)
-    pub needed : m.spare < n
 
   -- as many new keys as were spare were inserted before an item found no room
   abbrev pub HasSpareFirst : HashItems S T → HashItems S T → Type 0
@@ -84,32 +67,14 @@ module _ {S T : Type 0} where
     pub written : (w : T) → AddsItem w old.items (written_to_slot new.slots new.items slot w)
     pub others : without_slot new.slots new.items slot ≡ old.items
 
-  -- the slot and its item are gone from their place
-  abbrev pub LosesPlaceOf : ℕ → HashItems S T → HashItems S T → Type 0
-  LosesPlaceOf slot old new =
-      (place : ℕ) → slice_get old.slots place ≡ Some slot → (new.items ≡ remove old.items place) × (new.slots ≡ remove old.slots place)
-
   module _ (IsKeyed : HashItems S T → Type 0) where
-    pub record HashStays (old new : HashItems S T) : Type 0 where
-      pub keyed : IsKeyed new
-      pub spare : KeepsSpare old new
-      pub hasher : new.hasher ≡ old.hasher
-
-    pub record HashInserts (x : T) (old new : HashItems S T) : Type 0 where
-      pub takes : InsertsItem x (holding_of old) (holding_of new)
-      pub stays : HashStays old new
-
-    pub record HashKeeps (old new : HashItems S T) : Type 0 where
-      pub keeps : KeepsItems (holding_of old) (holding_of new)
-      pub stays : HashStays old new
-
     pub record HashFills (old new : HashItems S T) : Type 0 where
       pub fills : FillsSlots (holding_of old) (holding_of new)
-      pub stays : HashStays old new
+      pub stays : HashStays IsKeyed old new
 
     -- if the error has no item, nothing has changed but the room
     abbrev pub KeepsIfNoItem : HashItems S T → HashItems S T → ExtendError T → Type 0
-    KeepsIfNoItem old new e = IfNone e.item (HashKeeps old new)
+    KeepsIfNoItem old new e = IfNone e.item (HashKeeps IsKeyed old new)
 
     -- a new map of the default limit, over a default hasher
     pub record IsCollected (is_default : S → Type 0) (m : HashItems S T) : Type 0 where

@@ -9,8 +9,8 @@ use Rattle.std.specs.Prelude.{◌≡◌, ℕ, ◌+◌, [], Bool, IfSome, IsTrue,
 use Rattle.std.specs.Borrow.{Fml, GName, RattleType, MutBor, LendsIf}
 use Rattle.std.proofs.Common.{refl}
 use mir.Syntax.{named}
-use Rattle.iddqd_hash.specs.HashItems.{HashItems}
-use Rattle.iddqd_hash.specs.SlotOrder.{behind}
+use Rattle.iddqd_hash_parts.specs.HashItems.{HashItems}
+use Rattle.iddqd_hash_parts.specs.SlotOrder.{behind}
 use Rattle.iddqd_hash.specs.declared.id_hash_map.iter_mut.IterMut.{IterMut}
 use Rattle.iddqd_hash.specs.contracts.id_hash_map.iter_mut.IterMut as walk
 

@@ -1,5 +1,5 @@
 //! A hash map over an item store and a hash index.
-#![tactic(auto, unfolding(crate::specs::HashItems::IsKeyed))]
+#![tactic(auto, unfolding(iddqd_hash_parts::specs::HashItems::IsKeyed))]
 
 ghost use Rattle.std.specs.Prelude.{◌≡◌, ◌↔◌, ◌+◌, ◌≤◌, [], length, IsTrue};
 ghost use Rattle.iddqd_store.specs.Hashing.{hash_under};
@@ -11,26 +11,28 @@ mod compact;
 pub mod entry;
 mod equality;
 mod extend_unique;
+mod fmt;
 mod get_mut;
 mod imp;
 mod insert;
 mod into_iter;
 mod iter;
 pub mod iter_mut;
+mod keys;
 pub mod ref_mut;
 mod retain;
 mod room;
 mod slots;
-mod store_and_index;
 mod validate;
 
 pub use entry::{Entry, OccupiedEntry, VacantEntry};
+pub use fmt::DebugWithKeys;
 use iddqd_hash_index::HashIndex;
+pub use iddqd_hash_parts::{IntoIter, Iter, Keyed};
 pub use iddqd_store::IdHashItem;
 use iddqd_store::{ItemStore, MAX_ITEMS};
-pub use into_iter::IntoIter;
-pub use iter::Iter;
 pub use iter_mut::IterMut;
+pub use keys::Keys;
 pub use ref_mut::{RefMut, Shown};
 use std::alloc::Global;
 use std::hash::{BuildHasher, BuildHasherDefault, FoldHasher, Hasher};
@@ -64,8 +66,8 @@ impl<T: Drop, S: Drop> Drop for IdHashMap<T, S> {
 }
 
 impl<T, S> Model for IdHashMap<T, S> {
-    ghost use Rattle.iddqd_hash.specs.HashItems.{HashItems, hash_items_code};
-    ghost use Rattle.iddqd_hash.specs.StoreAndIndex.{PairsOccupied, map_of};
+    ghost use Rattle.iddqd_hash_parts.specs.HashItems.{HashItems, hash_items_code};
+    ghost use Rattle.iddqd_hash_parts.specs.StoreAndIndex.{PairsOccupied, map_of};
 
     ghost Value = { HashItems S T };
 
@@ -76,20 +78,8 @@ impl<T, S> Model for IdHashMap<T, S> {
     ghost invariant = { λ m. PairsOccupied m.store m.index.pairs };
 }
 
-/// What a lookup requires of a map, for contracts to cite (ours). It has no code.
-pub trait Keyed {
-    ghost use Rattle.std.specs.Prelude.{ℕ};
-    ghost use Rattle.std.specs.Hash.{HashWrites};
-
-    // No two items have equal keys, and a lookup finds each.
-    ghost keyed: { Self → Type 0 };
-
-    // The map's hasher gives this hash after these writes.
-    ghost hash: { Self → HashWrites → ℕ };
-}
-
 impl<T: IdHashItem, S: BuildHasher> Keyed for IdHashMap<T, S> {
-    ghost use Rattle.iddqd_hash.specs.HashItems.{IsKeyed};
+    ghost use Rattle.iddqd_hash_parts.specs.HashItems.{IsKeyed};
 
     ghost keyed = { IsKeyed T.key T.Key.eq T.Key.hash_input (hash_under S.BuildHasher S.Hasher.Hasher) };
 
@@ -169,7 +159,7 @@ impl<T: IdHashItem> IdHashMap<T> {
 
 impl<T: IdHashItem, S: BuildHasher> IdHashMap<T, S> {
     ghost use Rattle.iddqd_hash.specs.HashMap.{HashStays, IsEmptyMap};
-    ghost use Rattle.iddqd_hash.specs.StoreAndIndex.{empty_map_of};
+    ghost use Rattle.iddqd_hash_parts.specs.StoreAndIndex.{empty_map_of};
 
     /// Makes a map without items, over this hasher. Does not allocate.
     pub fn with_hasher(alloc: Global, hasher: S) -> Self

@@ -2,6 +2,7 @@
 mod cell;
 mod change;
 mod group;
+mod own_key;
 mod probe;
 mod probe_sequence;
 mod regroup;
@@ -15,13 +16,14 @@ ghost use Rattle.iddqd_store.specs.Refusal.{memory_refused};
 use cell::Cell;
 use change::{place, rename_in, take};
 use group::Group;
-use iddqd_store::{Equivalent, IdHashItem, ItemStore, Steps, TryReserveError};
+use iddqd_store::{Equivalent, IdHashItem, ItemStore, KeyOf, Steps, TryReserveError};
+pub use own_key::OwnKey;
 use probe::find_among;
 use regroup::{MOST_ROOM, groups_for, regrouped, room_of};
 use std::alloc::{AllocError, Global};
 use std::marker::Model;
 
-/// Pairs of a hash and a slot, each slot once. It computes no hash, and only `find` looks at items. Contracts see
+/// Pairs of a hash and a slot, each slot once. It computes no hash, and only `find` and `find_by` look at items. Contracts see
 /// the pairs, in no order, and how many more can be added.
 /// The pairs are in groups of twelve lanes, with room for nine pairs in each group on average, so a pair takes 18
 /// bytes. A group has the tags of its lanes, and the pairs lie apart. The hash chooses the group where a search
@@ -178,7 +180,26 @@ impl HashIndex {
         ensures steps { steps.new ≤ steps.old + of_hash self.now.pairs hash }
         ensures never_resets { steps.old ≤ steps.new }
     {
-        find_among(
+        self.find_by::<T, OwnKey, Q>(store, hash, query, steps)
+    }
+
+    /// As `find`, by the key that `K` names, for items that show several. The hashes of this index must be of that
+    /// key.
+    #[inline]
+    pub fn find_by<T, K: KeyOf<T>, Q: Equivalent<K::Key>>(
+        &self,
+        store: &ItemStore<T>,
+        hash: u64,
+        query: &Q,
+        steps: &mut Steps,
+    ) -> Option<u32>
+        requires occupied { AreOccupied store.now self.now.pairs hash }
+        ensures found { Finds K.key (Q.equivalent query.now) store.now self.now.pairs hash result }
+        ensures absent { Lacks K.key (Q.equivalent query.now) store.now self.now.pairs hash result }
+        ensures steps { steps.new ≤ steps.old + of_hash self.now.pairs hash }
+        ensures never_resets { steps.old ≤ steps.new }
+    {
+        find_among::<T, K, Q>(
             self.groups.as_slice(),
             self.cells.as_slice(),
             store,

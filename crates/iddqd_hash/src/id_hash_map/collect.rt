@@ -4,8 +4,9 @@ ghost use Rattle.std.specs.Iterator.{IsFiniteIterable as IsFinite};
 ghost use Rattle.iddqd_store.specs.Collecting.{GivesThen, ShowsAkin, ShowsFirstRepeat};
 ghost use Rattle.iddqd_store.specs.Contents.{IsAbsent};
 
-use super::store_and_index::{find_slot, take_out};
 use super::{IdHashMap, Keyed};
+use iddqd_hash_index::OwnKey;
+use iddqd_hash_parts::{find_slot, take_out};
 use iddqd_store::{
     DuplicateItem, ExtendError, Few, FromIterError, IdHashItem, TryReserveError, room_to_reserve,
 };
@@ -117,7 +118,7 @@ impl<T: IdHashItem, S: BuildHasher> IdHashMap<T, S> {
         ensures akin { IfErr result (ShowsAkin T.key T.Key.eq self.old.items item) }
     {
         let hash = self.hasher.hash_one(item.key());
-        match find_slot(&self.store, &self.index, hash, item.key()) {
+        match find_slot::<T, OwnKey, T::Key>(&self.store, &self.index, hash, item.key()) {
             Some(slot) => {
                 let earlier = Few::One(take_out(&mut self.store, &mut self.index, hash, slot));
                 Err(FromIterError::Duplicate(DuplicateItem::internal_new(item, earlier)))

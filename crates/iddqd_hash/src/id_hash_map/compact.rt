@@ -1,7 +1,7 @@
 //! Closing up the slots, so that none is vacant.
 ghost use Rattle.std.specs.Prelude.{◌≡◌, ◌<◌};
 ghost use Rattle.iddqd_store.specs.Store.{EndsOccupied, vacant};
-ghost use Rattle.iddqd_hash.specs.StoreAndIndex.{MovesItems, PairsOccupied, map_of};
+ghost use Rattle.iddqd_hash_parts.specs.StoreAndIndex.{MovesItems, PairsOccupied, map_of};
 
 use super::{IdHashMap, Keyed};
 use iddqd_hash_index::HashIndex;

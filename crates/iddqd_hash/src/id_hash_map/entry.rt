@@ -7,8 +7,9 @@ mod methods;
 mod occupied;
 mod vacant;
 
-use super::store_and_index::find_slot;
 use super::{DefaultHashBuilder, IdHashMap, Keyed};
+use iddqd_hash_index::OwnKey;
+use iddqd_hash_parts::find_slot;
 use iddqd_store::{Equivalent, IdHashItem};
 use std::hash::{BuildHasher, Hash};
 
@@ -39,7 +40,7 @@ pub struct OccupiedEntry<'a, T, S = DefaultHashBuilder> {
 
 impl<T: IdHashItem, S: BuildHasher> IdHashMap<T, S> {
     ghost use Rattle.iddqd_hash.specs.Entry.{IsEntryFor, PassesTest, entry_item};
-    ghost use Rattle.iddqd_hash.specs.HashItems.{HashesAsKeys};
+    ghost use Rattle.iddqd_hash_parts.specs.HashItems.{HashesAsKeys};
 
     /// Returns the entry of the query, which is occupied if the query finds an item. Changes nothing. Hashes the query
     /// once, and makes as many comparisons as `get`. Does not allocate.
@@ -50,7 +51,7 @@ impl<T: IdHashItem, S: BuildHasher> IdHashMap<T, S> {
         ensures equal { IfSome (entry_item result) (PassesTest T.key (Q.equivalent query.now)) }
     {
         let hash = self.hasher.hash_one(query);
-        match find_slot(&self.store, &self.index, hash, query) {
+        match find_slot::<T, OwnKey, Q>(&self.store, &self.index, hash, query) {
             Some(slot) => Entry::Occupied(OccupiedEntry {
                 map: self,
                 slot,

@@ -5,15 +5,16 @@ ghost use Rattle.std.specs.Iterator.{IsFiniteIterable as IsFinite};
 ghost use Rattle.iddqd_store.specs.Adding.{HaltsAt, OnItemBack};
 ghost use Rattle.iddqd_store.specs.Contents.{IsAbsent};
 
-use super::store_and_index::find_slot;
 use super::{IdHashMap, Keyed};
+use iddqd_hash_index::OwnKey;
+use iddqd_hash_parts::find_slot;
 use iddqd_store::{
     DuplicateItem, ExtendError, ExtendUniqueError, Few, Halt, IdHashItem, room_to_reserve,
 };
 use std::hash::BuildHasher;
 
 impl<T: IdHashItem, S: BuildHasher> IdHashMap<T, S> {
-    ghost use Rattle.iddqd_hash.specs.HashItems.{holding_of};
+    ghost use Rattle.iddqd_hash_parts.specs.HashItems.{holding_of};
     ghost use Rattle.iddqd_hash.specs.HashMap.{AddsEach, HaltsEach, HasSpareFirst, HashFills, HashInserts, HashKeeps, ShowsConflict, ends_hash_extended};
 
     /// Inserts the items one after the other, up to the first whose key an item has, from before or from the iterator
@@ -87,7 +88,7 @@ impl<T: IdHashItem, S: BuildHasher> IdHashMap<T, S> {
         ensures kept { OnErr result (HashKeeps ⟦<Self as Keyed>⟧.keyed self.old self.new) }
     {
         let hash = self.hasher.hash_one(item.key());
-        match find_slot(&self.store, &self.index, hash, item.key()) {
+        match find_slot::<T, OwnKey, T::Key>(&self.store, &self.index, hash, item.key()) {
             Some(slot) => Err(Halt::Akin(item, slot)),
             None => match self.insert_new(hash, item) {
                 Ok(_) => Ok(()),

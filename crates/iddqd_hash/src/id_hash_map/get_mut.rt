@@ -4,8 +4,9 @@ ghost use Rattle.std.specs.Borrow.{sem};
 ghost use Rattle.iddqd_store.specs.Contents.{IsAbsent};
 ghost use Rattle.iddqd_store.specs.SlotItems.{item_of_slot};
 
-use super::store_and_index::find_slot;
 use super::{IdHashMap, Keyed, RefMut};
+use iddqd_hash_index::OwnKey;
+use iddqd_hash_parts::find_slot;
 use iddqd_store::{Equivalent, IdHashItem};
 use std::hash::{BuildHasher, Hash};
 
@@ -34,7 +35,7 @@ impl<T, S> IdHashMap<T, S> {
 
 impl<T: IdHashItem, S: BuildHasher> IdHashMap<T, S> {
     ghost use Rattle.iddqd_hash.specs.Guard.{GuardFinds, GuardKeeps, GuardKeepsAkin, GuardOverwrites, guard_lender, lent_map, rests_at_none};
-    ghost use Rattle.iddqd_hash.specs.HashItems.{HashesAsKeys};
+    ghost use Rattle.iddqd_hash_parts.specs.HashItems.{HashesAsKeys};
     ghost use Rattle.iddqd_hash.specs.HashMap.{SpareFits};
 
     /// Returns a guard of the item that the query finds. If it finds none, nothing has changed. The guard has to be
@@ -59,7 +60,7 @@ impl<T: IdHashItem, S: BuildHasher> IdHashMap<T, S> {
         ensures spare { SpareFits self.old }
     {
         let hash = self.hasher.hash_one(query);
-        let slot = find_slot(&self.store, &self.index, hash, query)?;
+        let slot = find_slot::<T, OwnKey, Q>(&self.store, &self.index, hash, query)?;
         Some(RefMut {
             map: self,
             slot,

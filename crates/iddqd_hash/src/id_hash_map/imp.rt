@@ -3,17 +3,18 @@ ghost use Rattle.std.specs.Prelude.{◌≡◌, ◌+◌, ◌≤◌, IfNone, is_so
 ghost use Rattle.iddqd_store.specs.Contents.{Finds, find_item, items_without};
 ghost use Rattle.iddqd_store.specs.Holding.{Removes};
 
-use super::store_and_index::{find_slot, take_out};
 use super::{IdHashMap, Keyed};
+use iddqd_hash_index::OwnKey;
+use iddqd_hash_parts::{find_slot, take_out};
 use iddqd_store::{Equivalent, IdHashItem, Steps};
 use std::hash::{BuildHasher, Hash};
 
 impl<T: IdHashItem, S: BuildHasher> IdHashMap<T, S> {
-    ghost use Rattle.iddqd_hash.specs.HashItems.{HashesAsKeys, holding_of, of_same_hash};
+    ghost use Rattle.iddqd_hash_parts.specs.HashItems.{HashesAsKeys, holding_of, of_same_hash};
     ghost use Rattle.iddqd_hash.specs.HashMap.{HashStays, SpareFits};
 
     /// Returns the item that the query finds, with as many comparisons as `get_counted`. Hashes the query once. Fetches
-    /// the item once more than it compares.
+    /// the item once more than it compares. `String` keys are asked for by a `Text`, as in `get(&Text("web"))`.
     #[inline]
     pub fn get<Q: Hash + Equivalent<T::Key>>(&self, query: &Q) -> Option<&T>
         requires keyed { ⟦<Self as Keyed>⟧.keyed self.now }
@@ -73,7 +74,7 @@ impl<T: IdHashItem, S: BuildHasher> IdHashMap<T, S> {
         ensures stays { HashStays ⟦<Self as Keyed>⟧.keyed self.old self.new }
     {
         let hash = self.hasher.hash_one(query);
-        let slot = find_slot(&self.store, &self.index, hash, query)?;
+        let slot = find_slot::<T, OwnKey, Q>(&self.store, &self.index, hash, query)?;
         Some(take_out(&mut self.store, &mut self.index, hash, slot))
     }
 }

@@ -5,8 +5,9 @@ ghost use Rattle.std.specs.Borrow.{sem};
 ghost use Rattle.iddqd_store.specs.Contents.{IsAbsent};
 ghost use Rattle.iddqd_store.specs.Refusal.{OnRefused};
 
-use super::store_and_index::{exchange, find_slot, put_in, reserve_one};
 use super::{IdHashMap, Keyed};
+use iddqd_hash_index::OwnKey;
+use iddqd_hash_parts::{exchange, find_slot, put_in, reserve_one};
 use iddqd_store::{DuplicateItem, Few, IdHashItem, InsertError, Refused};
 use std::hash::BuildHasher;
 
@@ -27,7 +28,12 @@ impl<T: IdHashItem, S: BuildHasher> IdHashMap<T, S> {
         ensures no_spare { IfErr result (OnRefused (self.old.spare ≡ 0)) }
     {
         let hash = self.hasher.hash_one(item.key());
-        if let Some(slot) = find_slot(&self.store, &self.index, hash, item.key()) {
+        if let Some(slot) = find_slot::<T, OwnKey, T::Key>(
+            &self.store,
+            &self.index,
+            hash,
+            item.key(),
+        ) {
             let existing = Few::One(self.item_in_slot(slot));
             return Err(InsertError::Duplicate(DuplicateItem::internal_new(item, existing)));
         }
@@ -55,7 +61,7 @@ impl<T: IdHashItem, S: BuildHasher> IdHashMap<T, S> {
         ensures stays { HashStays ⟦<Self as Keyed>⟧.keyed self.old self.new }
     {
         let hash = self.hasher.hash_one(item.key());
-        match find_slot(&self.store, &self.index, hash, item.key()) {
+        match find_slot::<T, OwnKey, T::Key>(&self.store, &self.index, hash, item.key()) {
             Some(slot) => Ok(Some(exchange(&mut self.store, &self.index, hash, slot, item))),
             None => {
                 self.insert_new(hash, item)?;

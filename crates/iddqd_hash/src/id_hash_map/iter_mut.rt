@@ -1,6 +1,6 @@
 //! A walk that lends the items of a hash map for writing, one after the other.
 ghost use Rattle.std.specs.Prelude.{◌≡◌};
-ghost use Rattle.iddqd_hash.specs.SlotOrder.{behind};
+ghost use Rattle.iddqd_hash_parts.specs.SlotOrder.{behind};
 
 mod steps;
 

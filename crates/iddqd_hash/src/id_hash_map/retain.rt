@@ -6,14 +6,14 @@ ghost use Rattle.iddqd_store.specs.Holding.{LeavesSlots, Removes};
 ghost use Rattle.iddqd_store.specs.SlotItems.{item_of_slot};
 ghost use Rattle.iddqd_store.specs.Visiting.{VisitsKeepKeys, kept_by, visitor_after};
 
-use super::store_and_index::take_out;
 use super::{IdHashMap, Keyed};
+use iddqd_hash_parts::take_out;
 use iddqd_store::{IdHashItem, Visit};
 use std::hash::BuildHasher;
 
 impl<T: IdHashItem, S: BuildHasher> IdHashMap<T, S> {
     ghost use Rattle.iddqd_hash.specs.Guard.{VisitsSlot};
-    ghost use Rattle.iddqd_hash.specs.HashItems.{holding_of};
+    ghost use Rattle.iddqd_hash_parts.specs.HashItems.{holding_of};
     ghost use Rattle.iddqd_hash.specs.HashMap.{HashStays, LosesPlaceOf};
 
     /// Calls `keep` once with each item, in no particular order, and removes each for which it returns false. Looks at

@@ -4,9 +4,9 @@ ghost use Rattle.iddqd_store.specs.Refusal.{memory_refused, reservation_kind};
 ghost use Rattle.iddqd_hash.specs.HashMap.{HasNoItems, HashKeeps, HashShrinks, LacksRoomFor, Reserves, SpareFits};
 
 use super::compact::compact;
-use super::store_and_index::{reserve_room, shrink_room};
 use super::{DefaultHashBuilder, IdHashMap, Keyed};
 use iddqd_hash_index::HashIndex;
+use iddqd_hash_parts::{reserve_room, shrink_room};
 use iddqd_store::{IdHashItem, ItemStore, MAX_ITEMS, TryReserveError};
 use std::alloc::Global;
 use std::hash::BuildHasher;

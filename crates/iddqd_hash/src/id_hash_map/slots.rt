@@ -1,9 +1,10 @@
 //! From slot to slot, in the order of their numbers.
 ghost use Rattle.std.specs.Prelude.{◌≡◌, ◌<◌, length, IfNone, IfSome};
 ghost use Rattle.iddqd_store.specs.SlotItems.{HaveSlots};
-ghost use Rattle.iddqd_hash.specs.SlotOrder.{AreRising, IsNext, slots_below};
+ghost use Rattle.iddqd_hash_parts.specs.SlotOrder.{AreRising, IsNext, slots_below};
 
 use super::IdHashMap;
+use iddqd_hash_parts::slot_from;
 
 impl<T, S> IdHashMap<T, S> {
     ghost use Rattle.iddqd_hash.specs.HashMap.{SpareFits};
@@ -22,7 +23,6 @@ impl<T, S> IdHashMap<T, S> {
         ensures spare { SpareFits self.now }
         ensures own { HaveSlots self.now.slots self.now.items }
     {
-        let (slot, _) = self.store.next_occupied(from)?;
-        Some(slot)
+        slot_from(&self.store, from)
     }
 }

@@ -6,11 +6,11 @@ ghost use Rattle.iddqd_hash_index.specs.HashPairs.{AreOccupied, of_hash};
 use super::cell::Cell;
 use super::group::{Group, LANES};
 use super::probe_sequence::{after, home, tag};
-use iddqd_store::{Equivalent, IdHashItem, ItemStore, Steps};
+use iddqd_store::{Equivalent, ItemStore, KeyOf, Steps};
 
 // The slot in this group whose item has the query's key. It compares keys at lanes of exactly this hash.
 #[inline]
-fn find_at<T: IdHashItem, Q: Equivalent<T::Key>>(
+fn find_at<T, K: KeyOf<T>, Q: Equivalent<K::Key>>(
     groups: &[Group],
     cells: &[Cell],
     at: usize,
@@ -24,8 +24,8 @@ fn find_at<T: IdHashItem, Q: Equivalent<T::Key>>(
     requires occupied { AreOccupied store.now (pairs_of groups.now cells.now) hash }
 
     // what it finds
-    ensures found { FindsIn groups.now cells.now hash T.key (Q.equivalent query.now) store.now result }
-    ensures missed { LacksAt groups.now cells.now hash T.key (Q.equivalent query.now) store.now at result }
+    ensures found { FindsIn groups.now cells.now hash K.key (Q.equivalent query.now) store.now result }
+    ensures missed { LacksAt groups.now cells.now hash K.key (Q.equivalent query.now) store.now at result }
 
     // what it costs
     ensures compared { ComparedAt groups.now cells.now hash at steps.old steps.new }
@@ -37,7 +37,7 @@ fn find_at<T: IdHashItem, Q: Equivalent<T::Key>>(
         let slot = cell.slot();
         if cell.hash() == hash {
             let item = store.get(slot).unwrap();
-            if steps.equal(query, item.key()) {
+            if steps.equal(query, K::key_of(item)) {
                 return Some(slot);
             }
         }
@@ -48,7 +48,7 @@ fn find_at<T: IdHashItem, Q: Equivalent<T::Key>>(
 
 // The slot whose item has the query's key. It compares keys at pairs of exactly this hash, and goes round once at most.
 #[inline]
-pub(super) fn find_among<T: IdHashItem, Q: Equivalent<T::Key>>(
+pub(super) fn find_among<T, K: KeyOf<T>, Q: Equivalent<K::Key>>(
     groups: &[Group],
     cells: &[Cell],
     store: &ItemStore<T>,
@@ -61,8 +61,8 @@ pub(super) fn find_among<T: IdHashItem, Q: Equivalent<T::Key>>(
     requires occupied { AreOccupied store.now (pairs_of groups.now cells.now) hash }
 
     // what it finds
-    ensures found { FindsIn groups.now cells.now hash T.key (Q.equivalent query.now) store.now result }
-    ensures absent { LacksIn groups.now cells.now hash T.key (Q.equivalent query.now) store.now result }
+    ensures found { FindsIn groups.now cells.now hash K.key (Q.equivalent query.now) store.now result }
+    ensures absent { LacksIn groups.now cells.now hash K.key (Q.equivalent query.now) store.now result }
 
     // what it costs
     ensures steps { steps.new ≤ steps.old + of_hash (pairs_of groups.now cells.now) hash }
@@ -74,7 +74,7 @@ pub(super) fn find_among<T: IdHashItem, Q: Equivalent<T::Key>>(
     }
     let mut at = home(hash, count);
     'walk: for step in 0..count {
-        if let Some(slot) = find_at(groups, cells, at, store, hash, query, steps) {
+        if let Some(slot) = find_at::<T, K, Q>(groups, cells, at, store, hash, query, steps) {
             return Some(slot);
         }
         if groups[at].has_no_overflow() {

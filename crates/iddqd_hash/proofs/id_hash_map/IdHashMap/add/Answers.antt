@@ -4,12 +4,12 @@ use Rattle.iddqd_store.specs.Hashing.{hash_under}
 use Rattle.iddqd_store.specs.SlotItems.{item_of_slot}
 use Rattle.iddqd_store.specs.Store.{item_at}
 use Rattle.iddqd_store.proofs.StoreLemmas.{given}
-use Rattle.iddqd_hash.specs.HashItems.{IsKeyed, KeyedItems}
+use Rattle.iddqd_hash_parts.specs.HashItems.{IsKeyed, KeyedItems}
 use Rattle.iddqd_hash.specs.HashMap.{HashKeeps}
-use Rattle.iddqd_hash.specs.StoreAndIndex.{items_in, map_of}
-use Rattle.iddqd_hash.proofs.GetMutLemmas.{item_in_slot}
-use Rattle.iddqd_hash.proofs.MapLemmas.{listed_under_query, unchanged}
-use Rattle.iddqd_hash.proofs.StoreAndIndexLemmas.{listed_occupied}
+use Rattle.iddqd_hash_parts.specs.StoreAndIndex.{items_in, map_of}
+use Rattle.iddqd_hash_parts.proofs.GetMutLemmas.{item_in_slot}
+use Rattle.iddqd_hash_parts.proofs.MapLemmas.{listed_under_query, unchanged}
+use Rattle.iddqd_hash_parts.proofs.StoreAndIndexLemmas.{listed_occupied}
 use Rattle.iddqd_hash.proofs.id_hash_map.IdHashMap.add.Given.{Over}
 use Rattle.iddqd_hash.proofs.id_hash_map.IdHashMap.add.Goals as goal
 

@@ -5,8 +5,8 @@ use Rattle.iddqd_store.specs.Collecting.{AddsAll, GivesThen}
 use Rattle.iddqd_store.proofs.AddingLemmas.{adds_last, adds_none, halts_adding}
 use Rattle.iddqd_store.proofs.CollectingLemmas.{fills_kept, fills_on, fills_taken, gives_all, gives_then}
 use Rattle.iddqd_store.specs.Hashing.{hash_under}
-use Rattle.iddqd_hash.specs.HashItems.{holding_of, IsKeyed, KeyedItems}
-use Rattle.iddqd_hash.proofs.MapLemmas.{stays_on}
+use Rattle.iddqd_hash_parts.specs.HashItems.{holding_of, IsKeyed, KeyedItems}
+use Rattle.iddqd_hash_parts.proofs.MapLemmas.{stays_on}
 use Rattle.iddqd_hash.proofs.id_hash_map.IdHashMap.add_each.Goals as goal
 
 pub loop-item-init : goal.loop-item-init

@@ -1,5 +1,5 @@
 use Rattle.std.proofs.Common.{◌+◌, ◌≤◌, length, ap, arith, subst}
-use Rattle.iddqd_hash.proofs.MapLemmas.{spare_held}
+use Rattle.iddqd_hash_parts.proofs.MapLemmas.{spare_held}
 use Rattle.iddqd_hash.proofs.id_hash_map.IdHashMap.capacity.Goals as goal
 
 pub returns-clause-holds : goal.returns-clause-holds

@@ -1,10 +1,10 @@
 use Rattle.std.proofs.Common.{ap, subst, arith}
 use Rattle.iddqd_store.specs.Hashing.{hash_under}
 use Rattle.iddqd_hash.specs.HashMap.{KeepsSpare}
-use Rattle.iddqd_hash.specs.StoreAndIndex.{map_of}
-use Rattle.iddqd_hash.proofs.MapLemmas.{emptied_keyed, emptied_spare}
-use Rattle.iddqd_hash.proofs.StoreAndIndexLemmas.{paired_empty}
-use Rattle.iddqd_hash.specs.HashItems.{IsKeyed}
+use Rattle.iddqd_hash_parts.specs.StoreAndIndex.{map_of}
+use Rattle.iddqd_hash_parts.proofs.MapLemmas.{emptied_keyed, emptied_spare}
+use Rattle.iddqd_hash_parts.proofs.StoreAndIndexLemmas.{paired_empty}
+use Rattle.iddqd_hash_parts.specs.HashItems.{IsKeyed}
 use Rattle.iddqd_hash.proofs.id_hash_map.IdHashMap.clear.Goals as goal
 
 pub invariant_of-self : goal.invariant_of-self

@@ -2,12 +2,12 @@ use Rattle.std.proofs.Common.{◌∙◌, ap, arith, subst, sym, rules}
 use Rattle.std.proofs.lemmas.Result.{err_from_is_err_and}
 use Rattle.std.specs.List.{AllZip}
 use Rattle.iddqd_store.specs.Hashing.{hash_under}
-use Rattle.iddqd_hash.specs.HashItems.{IsKeyed, KeyedItems}
+use Rattle.iddqd_hash_parts.specs.HashItems.{IsKeyed, KeyedItems}
 use Rattle.iddqd_hash.specs.HashMap.{CloneHashesAlike}
-use Rattle.iddqd_hash.specs.StoreAndIndex.{items_in}
-use Rattle.iddqd_hash.proofs.CloneLemmas.{same_slots, cloned_items, paired_copied, copied_keyed}
-use Rattle.iddqd_hash.proofs.FoundLemmas.{same_numbers}
-use Rattle.iddqd_hash.proofs.MapLemmas.{spare_fits}
+use Rattle.iddqd_hash_parts.specs.StoreAndIndex.{items_in}
+use Rattle.iddqd_hash_parts.proofs.CloneLemmas.{same_slots, cloned_items, paired_copied, copied_keyed}
+use Rattle.iddqd_hash_parts.proofs.FoundLemmas.{same_numbers}
+use Rattle.iddqd_hash_parts.proofs.MapLemmas.{spare_fits}
 use Rattle.iddqd_hash.proofs.id_hash_map.IdHashMap.clone.Goals as goal
 
 pub invariant_of-result : goal.invariant_of-result

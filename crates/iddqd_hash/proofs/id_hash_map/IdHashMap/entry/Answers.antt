@@ -4,13 +4,13 @@ use Rattle.iddqd_store.specs.Hashing.{hash_under}
 use Rattle.iddqd_store.specs.SlotItems.{item_of_slot}
 use Rattle.iddqd_store.proofs.OrderLemmas.{found_answers}
 use Rattle.iddqd_store.proofs.WrittenLemmas.{others_found, written_found}
-use Rattle.iddqd_hash.specs.HashItems.{IsKeyed, KeyedItems}
-use Rattle.iddqd_hash.specs.StoreAndIndex.{items_in, slots_in}
-use Rattle.iddqd_hash.proofs.EntryLemmas.{told_listed}
-use Rattle.iddqd_hash.proofs.FoundLemmas.{replaced_absent, without_absent}
-use Rattle.iddqd_hash.proofs.GetMutLemmas.{item_in_slot}
-use Rattle.iddqd_hash.proofs.MapLemmas.{listed_under_query}
-use Rattle.iddqd_hash.proofs.StoreAndIndexLemmas.{listed_occupied}
+use Rattle.iddqd_hash_parts.specs.HashItems.{IsKeyed, KeyedItems}
+use Rattle.iddqd_hash_parts.specs.StoreAndIndex.{items_in, slots_in}
+use Rattle.iddqd_hash_parts.proofs.InSlotLemmas.{told_listed}
+use Rattle.iddqd_hash_parts.proofs.FoundLemmas.{replaced_absent, without_absent}
+use Rattle.iddqd_hash_parts.proofs.GetMutLemmas.{item_in_slot}
+use Rattle.iddqd_hash_parts.proofs.MapLemmas.{listed_under_query}
+use Rattle.iddqd_hash_parts.proofs.StoreAndIndexLemmas.{listed_occupied}
 use Rattle.iddqd_hash.proofs.id_hash_map.IdHashMap.entry.Goals as goal
 
 pub find_slot-requires-clause-stored : goal.find_slot-requires-clause-stored

@@ -3,8 +3,8 @@ use Rattle.std.proofs.iter.Next.{on}
 use Rattle.iddqd_store.specs.Contents.{OverwritesItem}
 use Rattle.iddqd_store.proofs.CollectingLemmas.{fills_kept, fills_on, gives_all, gives_then, overwrites_last, overwritten}
 use Rattle.iddqd_store.specs.Hashing.{hash_under}
-use Rattle.iddqd_hash.specs.HashItems.{holding_of, IsKeyed, KeyedItems}
-use Rattle.iddqd_hash.proofs.MapLemmas.{stays_on}
+use Rattle.iddqd_hash_parts.specs.HashItems.{holding_of, IsKeyed, KeyedItems}
+use Rattle.iddqd_hash_parts.proofs.MapLemmas.{stays_on}
 use Rattle.iddqd_hash.proofs.id_hash_map.IdHashMap.extend.Goals as goal
 
 pub loop-item-preserved : goal.loop-item-preserved

@@ -1,6 +1,6 @@
 use Rattle.iddqd_store.specs.Collecting.{OverwritesAll}
 use Rattle.iddqd_store.specs.Hashing.{hash_under}
-use Rattle.iddqd_hash.specs.HashItems.{KeyedItems}
+use Rattle.iddqd_hash_parts.specs.HashItems.{KeyedItems}
 use Rattle.iddqd_hash.specs.HashMap.{HashFills}
 use Rattle.iddqd_hash.proofs.id_hash_map.IdHashMap.extend.Given as goal
 

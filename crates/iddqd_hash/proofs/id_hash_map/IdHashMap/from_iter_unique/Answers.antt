@@ -4,7 +4,7 @@ use Rattle.std.proofs.iter.Next.{on}
 use Rattle.std.proofs.lemmas.Result.{err_from_is_err_and}
 use Rattle.iddqd_store.specs.Collecting.{GivesThen}
 use Rattle.iddqd_store.proofs.CollectingLemmas.{collected_differ, collects_last, gives_all, gives_then, shows_first}
-use Rattle.iddqd_hash.specs.HashItems.{IsKeyed}
+use Rattle.iddqd_hash_parts.specs.HashItems.{IsKeyed}
 use Rattle.iddqd_hash.proofs.id_hash_map.IdHashMap.from_iter_unique.Goals as goal
 
 pub loop-item-preserved : goal.loop-item-preserved

@@ -1,7 +1,7 @@
 use Rattle.std.proofs.Common.{◌≡◌}
 use Rattle.std.specs.Prelude.{IsPermutation}
 use Rattle.iddqd_store.specs.Hashing.{hash_under}
-use Rattle.iddqd_hash.specs.HashItems.{KeyedItems}
+use Rattle.iddqd_hash_parts.specs.HashItems.{KeyedItems}
 use Rattle.iddqd_hash.specs.HashMap.{SpareFits}
 use Rattle.iddqd_hash.proofs.id_hash_map.IdHashMap.from_iter_unique.Given as goal
 

@@ -1,10 +1,10 @@
 use Rattle.std.proofs.Common.{◌+◌, ◌≤◌, sym, ap, subst, ◌∙◌, arith, rules}
 use Rattle.iddqd_store.specs.Contents.{find_item}
 use Rattle.iddqd_store.specs.Hashing.{hash_under}
-use Rattle.iddqd_hash.specs.HashItems.{IsKeyed, KeyedItems, of_stored_hash}
+use Rattle.iddqd_hash_parts.specs.HashItems.{IsKeyed, KeyedItems, of_stored_hash}
 use Rattle.iddqd_hash.specs.HashMap.{SpareFits}
-use Rattle.iddqd_hash.proofs.HashCountLemmas.{bound_of}
-use Rattle.iddqd_hash.proofs.MapLemmas.{query_item, spare_fits}
+use Rattle.iddqd_hash_parts.proofs.HashCountLemmas.{bound_of}
+use Rattle.iddqd_hash_parts.proofs.MapLemmas.{query_item, spare_fits}
 use Rattle.iddqd_hash.proofs.id_hash_map.IdHashMap.get_counted.Goals as goal
 
 pub returns-clause-found : goal.returns-clause-found

@@ -3,11 +3,11 @@ use Rattle.iddqd_store.specs.Contents.{IsAbsent, find_item}
 use Rattle.iddqd_store.specs.Hashing.{hash_under}
 use Rattle.iddqd_store.specs.SlotItems.{item_of_slot}
 use Rattle.iddqd_store.proofs.WrittenLemmas.{written_found}
-use Rattle.iddqd_hash.specs.HashItems.{IsKeyed, KeyedItems}
+use Rattle.iddqd_hash_parts.specs.HashItems.{IsKeyed, KeyedItems}
 use Rattle.iddqd_hash.specs.HashMap.{SpareFits}
-use Rattle.iddqd_hash.proofs.GetMutLemmas.{item_in_slot, keyed_akin_written, keyed_written}
-use Rattle.iddqd_hash.proofs.MapLemmas.{listed_under_query, spare_fits}
-use Rattle.iddqd_hash.proofs.StoreAndIndexLemmas.{listed_occupied}
+use Rattle.iddqd_hash_parts.proofs.GetMutLemmas.{item_in_slot, keyed_akin_written, keyed_written}
+use Rattle.iddqd_hash_parts.proofs.MapLemmas.{listed_under_query, spare_fits}
+use Rattle.iddqd_hash_parts.proofs.StoreAndIndexLemmas.{listed_occupied}
 use Rattle.iddqd_hash.proofs.id_hash_map.IdHashMap.get_mut.Goals as goal
 
 pub find_slot-requires-clause-stored : goal.find_slot-requires-clause-stored

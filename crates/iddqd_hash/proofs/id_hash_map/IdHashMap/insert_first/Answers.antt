@@ -1,9 +1,9 @@
 use Rattle.std.proofs.Common.{◌∙◌, ◌≡◌, Some, sym, ap, subst}
 use Rattle.iddqd_store.specs.Contents.{find_item}
 use Rattle.iddqd_store.specs.Hashing.{hash_under}
-use Rattle.iddqd_hash.specs.HashItems.{IsKeyed, KeyedItems}
-use Rattle.iddqd_hash.specs.StoreAndIndex.{items_in, map_of}
-use Rattle.iddqd_hash.proofs.MapLemmas.{listed_under_query}
+use Rattle.iddqd_hash_parts.specs.HashItems.{IsKeyed, KeyedItems}
+use Rattle.iddqd_hash_parts.specs.StoreAndIndex.{items_in, map_of}
+use Rattle.iddqd_hash_parts.proofs.MapLemmas.{listed_under_query}
 use Rattle.iddqd_hash.proofs.id_hash_map.IdHashMap.insert_first.Given.{Over}
 use Rattle.iddqd_hash.proofs.id_hash_map.IdHashMap.insert_first.Goals as goal
 

@@ -7,12 +7,12 @@ use Rattle.iddqd_store.specs.Refusal.{refusal_kind}
 use Rattle.iddqd_store.specs.SlotItems.{item_of_slot, written_to_slot}
 use Rattle.iddqd_store.proofs.RefusalLemmas.{kind_by_length}
 use Rattle.iddqd_store.proofs.WrittenLemmas.{told_of_slot}
-use Rattle.iddqd_hash.specs.HashItems.{IsKeyed, KeyedItems}
+use Rattle.iddqd_hash_parts.specs.HashItems.{IsKeyed, KeyedItems}
 use Rattle.iddqd_hash.specs.HashMap.{HashInserts, HashKeeps}
-use Rattle.iddqd_hash.specs.StoreAndIndex.{items_in, map_of}
-use Rattle.iddqd_hash.proofs.EntryLemmas.{added_item, added_others, added_written}
-use Rattle.iddqd_hash.proofs.MapLemmas.{inserted_after, map_inserted, map_kept}
-use Rattle.iddqd_hash.proofs.SlotItemLemmas.{length-items}
+use Rattle.iddqd_hash_parts.specs.StoreAndIndex.{items_in, map_of}
+use Rattle.iddqd_hash_parts.proofs.InSlotLemmas.{added_item, added_others, added_written}
+use Rattle.iddqd_hash_parts.proofs.MapLemmas.{inserted_after, map_inserted, map_kept}
+use Rattle.iddqd_hash_parts.proofs.SlotItemLemmas.{length-items}
 use Rattle.iddqd_hash.proofs.id_hash_map.IdHashMap.insert_new.Goals as goal
 
 pub returns-in-Err-clause-refused : goal.returns-in-Err-clause-refused

@@ -3,11 +3,11 @@ use Rattle.std.proofs.lemmas.Result.{err_from_is_err_and}
 use Rattle.iddqd_store.proofs.ChangeLemmas.{find_inserted, find_replaced}
 use Rattle.iddqd_store.specs.Contents.{find_item, items_overwritten}
 use Rattle.iddqd_store.specs.Hashing.{hash_under}
-use Rattle.iddqd_hash.specs.HashItems.{IsKeyed, KeyedItems}
+use Rattle.iddqd_hash_parts.specs.HashItems.{IsKeyed, KeyedItems}
 use Rattle.iddqd_hash.specs.HashMap.{KeepsSpare}
-use Rattle.iddqd_hash.specs.StoreAndIndex.{hash_of_slot, hashes_in, items_in, map_of, slots_in}
-use Rattle.iddqd_hash.proofs.FoundLemmas.{found_passes}
-use Rattle.iddqd_hash.proofs.MapLemmas.{exchanged_numbers, exchanged_items, exchanged_keyed, keeps_spare, listed_under_query}
+use Rattle.iddqd_hash_parts.specs.StoreAndIndex.{hash_of_slot, hashes_in, items_in, map_of, slots_in}
+use Rattle.iddqd_hash_parts.proofs.FoundLemmas.{found_passes}
+use Rattle.iddqd_hash_parts.proofs.MapLemmas.{exchanged_numbers, exchanged_items, exchanged_keyed, keeps_spare, listed_under_query}
 use Rattle.iddqd_hash.proofs.id_hash_map.IdHashMap.insert_overwrite.Given.{Over}
 use Rattle.iddqd_hash.proofs.id_hash_map.IdHashMap.insert_overwrite.Goals as goal
 

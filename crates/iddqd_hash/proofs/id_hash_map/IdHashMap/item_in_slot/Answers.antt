@@ -1,7 +1,7 @@
 use Rattle.std.proofs.Common.{◌∙◌, sym, ap, option_copied, is_some}
 use Rattle.iddqd_store.specs.SlotItems.{item_of_slot}
 use Rattle.iddqd_store.proofs.StoreLemmas.{some_lent}
-use Rattle.iddqd_hash.proofs.GetMutLemmas.{item_in_slot}
+use Rattle.iddqd_hash_parts.proofs.GetMutLemmas.{item_in_slot}
 use Rattle.iddqd_hash.proofs.id_hash_map.IdHashMap.item_in_slot.Goals as goal
 
 pub unwrap-requires : goal.unwrap-requires

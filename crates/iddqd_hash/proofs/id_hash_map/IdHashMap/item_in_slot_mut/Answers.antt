@@ -2,9 +2,9 @@ use Rattle.std.proofs.Common.{◌≡◌, ◌∙◌, Some, sym, ap, refl, is_some
 use Rattle.iddqd_store.specs.SlotItems.{item_of_slot, written_to_slot}
 use Rattle.iddqd_store.specs.Store.{item_at, with_item}
 use Rattle.iddqd_store.proofs.StoreLemmas.{len_lent, updates-set, vacant_lent}
-use Rattle.iddqd_hash.specs.StoreAndIndex.{hash_of_slot}
-use Rattle.iddqd_hash.proofs.GetMutLemmas.{item_in_slot, items_lent, numbers_lent}
-use Rattle.iddqd_hash.proofs.StoreAndIndexLemmas.{paired_kept}
+use Rattle.iddqd_hash_parts.specs.StoreAndIndex.{hash_of_slot}
+use Rattle.iddqd_hash_parts.proofs.GetMutLemmas.{item_in_slot, items_lent, numbers_lent}
+use Rattle.iddqd_hash_parts.proofs.StoreAndIndexLemmas.{paired_kept}
 use Rattle.iddqd_hash.proofs.id_hash_map.IdHashMap.item_in_slot_mut.Goals as goal
 
 pub get_mut-requires : goal.get_mut-requires

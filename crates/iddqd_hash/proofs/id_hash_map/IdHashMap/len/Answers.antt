@@ -1,8 +1,8 @@
 use Rattle.std.proofs.Common.{length, ap, arith, subst}
 use Rattle.iddqd_store.specs.SlotItems.{HaveSlots}
 use Rattle.iddqd_hash.specs.HashMap.{SpareFits}
-use Rattle.iddqd_hash.proofs.MapLemmas.{spare_fits}
-use Rattle.iddqd_hash.proofs.SlotItemLemmas.{length-items, slots_apart}
+use Rattle.iddqd_hash_parts.proofs.MapLemmas.{spare_fits}
+use Rattle.iddqd_hash_parts.proofs.SlotItemLemmas.{length-items, slots_apart}
 use Rattle.iddqd_hash.proofs.id_hash_map.IdHashMap.len.Goals as goal
 
 pub returns-clause-len : goal.returns-clause-len

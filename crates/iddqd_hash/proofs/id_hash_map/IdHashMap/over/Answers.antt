@@ -1,5 +1,5 @@
-use Rattle.iddqd_hash.proofs.MapLemmas.{emptied_keyed}
-use Rattle.iddqd_hash.specs.HashItems.{IsKeyed}
+use Rattle.iddqd_hash_parts.proofs.MapLemmas.{emptied_keyed}
+use Rattle.iddqd_hash_parts.specs.HashItems.{IsKeyed}
 use Rattle.iddqd_hash.proofs.id_hash_map.IdHashMap.over.Goals as goal
 
 pub returns-clause-keyed : goal.returns-clause-keyed

@@ -2,12 +2,12 @@ use Rattle.std.proofs.Common.{◌∙◌, ◌+◌, sym, ap, subst, refl, slice_ge
 use Rattle.std.specs.List.{remove}
 use Rattle.iddqd_store.specs.Contents.{IsAbsent, items_without}
 use Rattle.iddqd_store.specs.Hashing.{hash_under}
-use Rattle.iddqd_hash.specs.HashItems.{IsKeyed, KeyedItems}
+use Rattle.iddqd_hash_parts.specs.HashItems.{IsKeyed, KeyedItems}
 use Rattle.iddqd_hash.specs.HashMap.{KeepsSpare}
-use Rattle.iddqd_hash.specs.StoreAndIndex.{items_in, map_of}
-use Rattle.iddqd_hash.proofs.FoundLemmas.{found_passes, without_absent}
-use Rattle.iddqd_hash.proofs.MapLemmas.{listed_under_query, same_spare, taken_items, taken_keyed, taken_spare}
-use Rattle.iddqd_hash.proofs.SlotItemLemmas.{slot_left}
+use Rattle.iddqd_hash_parts.specs.StoreAndIndex.{items_in, map_of}
+use Rattle.iddqd_hash_parts.proofs.FoundLemmas.{found_passes, without_absent}
+use Rattle.iddqd_hash_parts.proofs.MapLemmas.{listed_under_query, same_spare, taken_items, taken_keyed, taken_spare}
+use Rattle.iddqd_hash_parts.proofs.SlotItemLemmas.{slot_left}
 use Rattle.iddqd_hash.proofs.id_hash_map.IdHashMap.remove.Goals as goal
 
 pub find_slot-requires-clause-stored : goal.find_slot-requires-clause-stored

@@ -1,11 +1,11 @@
 use Rattle.std.proofs.Common.{◌≡◌, ◌+◌, ◌≤◌, ◌∙◌, length, IfErr, OnOk, sym, subst, rules}
 use Rattle.iddqd_store.specs.Hashing.{hash_under}
 use Rattle.iddqd_store.specs.Refusal.{reservation_kind}
-use Rattle.iddqd_hash.specs.HashItems.{IsKeyed, KeyedItems}
+use Rattle.iddqd_hash_parts.specs.HashItems.{IsKeyed, KeyedItems}
 use Rattle.iddqd_hash.specs.HashMap.{HashKeeps}
-use Rattle.iddqd_hash.specs.StoreAndIndex.{map_of}
-use Rattle.iddqd_hash.proofs.MapLemmas.{map_kept}
-use Rattle.iddqd_hash.proofs.SlotItemLemmas.{length-items}
+use Rattle.iddqd_hash_parts.specs.StoreAndIndex.{map_of}
+use Rattle.iddqd_hash_parts.proofs.MapLemmas.{map_kept}
+use Rattle.iddqd_hash_parts.proofs.SlotItemLemmas.{length-items}
 use Rattle.iddqd_hash.proofs.id_hash_map.IdHashMap.reserve.Goals as goal
 
 pub returns-clause-reserves : goal.returns-clause-reserves

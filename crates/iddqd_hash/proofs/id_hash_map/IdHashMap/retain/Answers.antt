@@ -5,10 +5,10 @@ use Rattle.std.proofs.lemmas.List.Edits.{length-remove}
 use Rattle.std.proofs.lemmas.Option.{slice_get_within}
 use Rattle.iddqd_store.proofs.VisitLemmas.{IsAsked, asked_dropped, asked_end, asked_kept}
 use Rattle.iddqd_store.proofs.WrittenLemmas.{place_read}
-use Rattle.iddqd_hash.specs.SlotOrder.{slots_below}
-use Rattle.iddqd_hash.proofs.RisingLemmas.{below_gone, below_next, below_zero, there_listed}
+use Rattle.iddqd_hash_parts.specs.SlotOrder.{slots_below}
+use Rattle.iddqd_hash_parts.proofs.RisingLemmas.{below_gone, below_next, below_zero, there_listed}
 use Rattle.iddqd_hash.proofs.id_hash_map.IdHashMap.retain.Goals.{then-not-keep, else-not-keep}
-use Rattle.iddqd_hash.specs.HashItems.{IsKeyed}
+use Rattle.iddqd_hash_parts.specs.HashItems.{IsKeyed}
 use Rattle.iddqd_hash.proofs.id_hash_map.IdHashMap.retain.Goals as goal
 
 pub loop-slot-init : goal.loop-slot-init

@@ -2,8 +2,8 @@ use Rattle.std.proofs.Common.{◌≡◌, ◌+◌, ◌-◌, ◌≤◌, length}
 use Rattle.std.specs.Fn.{CalledAt}
 use Rattle.iddqd_store.specs.Hashing.{hash_under}
 use Rattle.iddqd_store.proofs.VisitLemmas.{IsAsked}
-use Rattle.iddqd_hash.specs.HashItems.{KeyedItems}
-use Rattle.iddqd_hash.specs.SlotOrder.{slots_below}
+use Rattle.iddqd_hash_parts.specs.HashItems.{KeyedItems}
+use Rattle.iddqd_hash_parts.specs.SlotOrder.{slots_below}
 use Rattle.iddqd_hash.proofs.id_hash_map.IdHashMap.retain.Given as goal
 
 abbrev pub invariant-loop-slot : goal.invariant-loop-slot

@@ -7,10 +7,10 @@ use Rattle.iddqd_store.specs.SlotItems.{still_there}
 use Rattle.iddqd_store.specs.Visiting.{kept_by, visitor_after}
 use Rattle.iddqd_store.proofs.VisitLemmas.{visited_dropped, visited_kept, visitor_dropped, visitor_kept, written_then_removed}
 use Rattle.iddqd_store.proofs.WrittenLemmas.{place_read}
-use Rattle.iddqd_hash.specs.SlotOrder.{slots_below}
-use Rattle.iddqd_hash.proofs.RisingLemmas.{below_gone, below_next, below_zero, there_listed}
+use Rattle.iddqd_hash_parts.specs.SlotOrder.{slots_below}
+use Rattle.iddqd_hash_parts.proofs.RisingLemmas.{below_gone, below_next, below_zero, there_listed}
 use Rattle.iddqd_hash.proofs.id_hash_map.IdHashMap.retain_mut.Goals.{then-not-visit_slot, else-not-visit_slot}
-use Rattle.iddqd_hash.specs.HashItems.{IsKeyed}
+use Rattle.iddqd_hash_parts.specs.HashItems.{IsKeyed}
 use Rattle.iddqd_hash.proofs.id_hash_map.IdHashMap.retain_mut.Goals as goal
 
 pub loop-slot-init : goal.loop-slot-init

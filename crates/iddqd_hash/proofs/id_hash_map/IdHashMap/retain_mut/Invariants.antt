@@ -1,8 +1,8 @@
 use Rattle.std.proofs.Common.{◌≡◌, ◌+◌, ◌-◌, ◌≤◌, ◌++◌, length, take, drop}
 use Rattle.iddqd_store.specs.Hashing.{hash_under}
 use Rattle.iddqd_store.specs.Visiting.{kept_by, visitor_after}
-use Rattle.iddqd_hash.specs.HashItems.{KeyedItems}
-use Rattle.iddqd_hash.specs.SlotOrder.{slots_below}
+use Rattle.iddqd_hash_parts.specs.HashItems.{KeyedItems}
+use Rattle.iddqd_hash_parts.specs.SlotOrder.{slots_below}
 use Rattle.iddqd_hash.proofs.id_hash_map.IdHashMap.retain_mut.Given as goal
 
 abbrev pub invariant-loop-slot : goal.invariant-loop-slot

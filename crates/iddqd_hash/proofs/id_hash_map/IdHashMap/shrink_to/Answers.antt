@@ -3,11 +3,11 @@ use Rattle.std.proofs.Common.{IsPermutation, min as least}
 use Rattle.iddqd_store.specs.Contents.{NoTwoAkin}
 use Rattle.iddqd_store.specs.Hashing.{hash_under}
 use Rattle.iddqd_store.specs.Store.{vacant}
-use Rattle.iddqd_hash.specs.HashItems.{IsKeyed}
-use Rattle.iddqd_hash.specs.StoreAndIndex.{items_in}
-use Rattle.iddqd_hash.proofs.MapLemmas.{keyed_under, make_keyed, spare_fits}
-use Rattle.iddqd_hash.proofs.StoreAndIndexLemmas.{under_same}
-use Rattle.iddqd_hash.proofs.SlotItemLemmas.{length-items, slots_apart}
+use Rattle.iddqd_hash_parts.specs.HashItems.{IsKeyed}
+use Rattle.iddqd_hash_parts.specs.StoreAndIndex.{items_in}
+use Rattle.iddqd_hash_parts.proofs.MapLemmas.{keyed_under, make_keyed, spare_fits}
+use Rattle.iddqd_hash_parts.proofs.StoreAndIndexLemmas.{under_same}
+use Rattle.iddqd_hash_parts.proofs.SlotItemLemmas.{length-items, slots_apart}
 use Rattle.iddqd_hash.proofs.id_hash_map.IdHashMap.shrink_to.Goals as goal
 
 pub compact-requires-clause-keyed : goal.compact-requires-clause-keyed

@@ -1,6 +1,6 @@
 use Rattle.std.proofs.Common.{subst}
 use Rattle.iddqd_hash.specs.HashMap.{SpareFits}
-use Rattle.iddqd_hash.proofs.MapLemmas.{spare_fits}
+use Rattle.iddqd_hash_parts.proofs.MapLemmas.{spare_fits}
 use Rattle.iddqd_hash.proofs.id_hash_map.IdHashMap.spare.Goals as goal
 
 pub returns-clause-within_limit : goal.returns-clause-within_limit

@@ -1,19 +1,14 @@
-use Rattle.std.proofs.Common.{◌≡◌, ◌∙◌, ◌+◌, sym, ap, subst, is_some, None, ℕ, get_or, set, ⊎_elim, rules}
-use Rattle.std.proofs.lemmas.Bool.{cases_eq}
+use Rattle.std.proofs.Common.{◌∙◌, ◌+◌, sym, ap, subst, is_some, rules}
 use Rattle.std.specs.List.{remove, slice_get}
 use Rattle.iddqd_store.specs.Hashing.{hash_under}
 use Rattle.iddqd_store.specs.SlotItems.{item_of_slot}
-use Rattle.iddqd_store.specs.Store.{item_at}
-use Rattle.iddqd_store.proofs.StoreLemmas.{updates-set}
-use Rattle.iddqd_hash.specs.HashItems.{IsKeyed, KeyedItems}
+use Rattle.iddqd_hash_parts.specs.HashItems.{IsKeyed, KeyedItems}
 use Rattle.iddqd_hash.specs.HashMap.{KeepsSpare}
-use Rattle.iddqd_hash.specs.StoreAndIndex.{map_of}
-use Rattle.iddqd_hash.proofs.FoundLemmas.{same_numbers}
-use Rattle.iddqd_hash.proofs.SlotItemLemmas.{same_items, slot_left}
-use Rattle.iddqd_hash.proofs.EntryLemmas.{listed_told}
-use Rattle.iddqd_hash.proofs.GetMutLemmas.{item_in_slot}
-use Rattle.iddqd_hash.proofs.MapLemmas.{taken_keyed, taken_spare}
-use Rattle.iddqd_hash.proofs.RisingLemmas.{slot_removed}
+use Rattle.iddqd_hash_parts.specs.StoreAndIndex.{map_of}
+use Rattle.iddqd_hash_parts.proofs.SlotItemLemmas.{slot_left}
+use Rattle.iddqd_hash_parts.proofs.InSlotLemmas.{listed_told, place_lost}
+use Rattle.iddqd_hash_parts.proofs.GetMutLemmas.{item_in_slot}
+use Rattle.iddqd_hash_parts.proofs.MapLemmas.{taken_keyed, taken_spare}
 use Rattle.iddqd_hash.proofs.id_hash_map.IdHashMap.take_hashed.Goals as goal
 
 pub take_out-requires-clause-listed : goal.take_out-requires-clause-listed
@@ -31,18 +26,8 @@ returns-clause-value g c =
 pub returns-clause-gone : goal.returns-clause-gone
 returns-clause-gone g c at there =
     let m = c.self.inside in
-    let slot = c.args.slot in
-    let new = c.take_out.new.store in
-    let gone = c.take_out.ensures.updates in
-    let left = updates-set m.store slot None (ap is_some c.take_out.ensures.item) in
-    let same : (k : ℕ) → item_at new k ≡ get_or (set m.store.slots slot None) k None = λ k. ⊎_elim
-    (λ e. ap (item_at new) e ∙ gone.changed ∙ sym left.changed ∙ ap (λ n. get_or (set m.store.slots slot None) n None) (sym e))
-    (λ n. gone.others k n ∙ sym (left.others k n))
-    (cases_eq k slot) in
-    let removed = slot_removed (λ s. s) (λ s t h. h) (λ s. s) m.store.slots slot at c.take_out.result c.take_out.ensures.item (ap (λ v. slice_get v.slots at) c.self.view_is ∙ there) in (
-      same_items new.slots (set m.store.slots slot None) same ∙ removed.1 ∙ ap (λ v. remove v.items at) c.self.view_is,
-      same_numbers g.T.IdHashItem.key (λ s. s) new.slots (set m.store.slots slot None) (λ k. ap is_some (same k)) ∙ removed.0 ∙ ap (λ v. remove v.slots at) c.self.view_is,
-    )
+    let lost = place_lost m.store c.take_out.new.store c.args.slot c.take_out.result c.take_out.ensures.item c.take_out.ensures.updates at (ap (λ v. slice_get v.slots at) c.self.view_is ∙ there) in
+    (lost.0 ∙ ap (λ v. remove v.items at) c.self.view_is, lost.1 ∙ ap (λ v. remove v.slots at) c.self.view_is)
 
 pub returns-clause-stays : goal.returns-clause-stays
 unfolding IsKeyed

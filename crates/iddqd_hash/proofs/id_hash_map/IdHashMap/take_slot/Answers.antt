@@ -3,7 +3,7 @@ use Rattle.std.specs.Option.{option_map}
 use Rattle.iddqd_store.specs.Hashing.{hash_under}
 use Rattle.iddqd_store.specs.SlotItems.{item_of_slot}
 use Rattle.iddqd_store.proofs.WrittenLemmas.{told_of_slot}
-use Rattle.iddqd_hash.specs.HashItems.{IsKeyed}
+use Rattle.iddqd_hash_parts.specs.HashItems.{IsKeyed}
 use Rattle.iddqd_hash.proofs.id_hash_map.IdHashMap.take_slot.Goals as goal
 
 pub take_hashed-requires-clause-listed : goal.take_hashed-requires-clause-listed

@@ -2,11 +2,11 @@ use Rattle.std.proofs.Common.{◌∙◌, refl, sym, subst, rules, IsPermutation}
 use Rattle.std.proofs.lemmas.List.Sorted.{IsPermutation-refl, IsPermutation-trans}
 use Rattle.iddqd_store.specs.Contents.{NoTwoAkin}
 use Rattle.iddqd_store.specs.Hashing.{hash_under}
-use Rattle.iddqd_hash.specs.HashItems.{IsKeyed}
-use Rattle.iddqd_hash.specs.StoreAndIndex.{items_in}
-use Rattle.iddqd_hash.proofs.CompactLemmas.{paired_same, under_kept}
-use Rattle.iddqd_hash.proofs.MapLemmas.{keyed_under, make_keyed}
-use Rattle.iddqd_hash.proofs.SlotItemLemmas.{same_items}
+use Rattle.iddqd_hash_parts.specs.HashItems.{IsKeyed}
+use Rattle.iddqd_hash_parts.specs.StoreAndIndex.{items_in}
+use Rattle.iddqd_hash_parts.proofs.CompactLemmas.{paired_same, under_kept}
+use Rattle.iddqd_hash_parts.proofs.MapLemmas.{keyed_under, make_keyed}
+use Rattle.iddqd_hash_parts.proofs.SlotItemLemmas.{same_items}
 use Rattle.iddqd_hash.proofs.id_hash_map.compact.compact.Goals as goal
 
 pub loop-store-init : goal.loop-store-init

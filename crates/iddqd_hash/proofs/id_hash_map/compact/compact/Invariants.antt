@@ -1,7 +1,7 @@
 use Rattle.iddqd_store.specs.Hashing.{hash_under}
 use Rattle.iddqd_store.specs.Store.{EndsOccupied, vacant}
-use Rattle.iddqd_hash.specs.HashItems.{KeyedItems}
-use Rattle.iddqd_hash.specs.StoreAndIndex.{MovesItems, PairsOccupied, map_of}
+use Rattle.iddqd_hash_parts.specs.HashItems.{KeyedItems}
+use Rattle.iddqd_hash_parts.specs.StoreAndIndex.{MovesItems, PairsOccupied, map_of}
 use Rattle.iddqd_hash.proofs.id_hash_map.compact.compact.Given as goal
 
 abbrev pub invariant-loop-store : goal.invariant-loop-store

@@ -5,13 +5,13 @@ use Rattle.iddqd_hash_index.specs.HashPairs.{HasInstead, HashPairs}
 use Rattle.iddqd_store.specs.Contents.{NoTwoAkin}
 use Rattle.iddqd_store.specs.Hashing.{hash_under}
 use Rattle.iddqd_store.specs.Store.{Store, item_at, MovesLast}
-use Rattle.iddqd_hash.specs.HashItems.{IsKeyed}
+use Rattle.iddqd_hash_parts.specs.HashItems.{IsKeyed}
 use Rattle.iddqd_store.proofs.OrderLemmas.{differ_moved}
 use Rattle.iddqd_store.proofs.StoreLemmas.{last_moves}
-use Rattle.iddqd_hash.specs.StoreAndIndex.{AreListedUnder, items_in, map_of}
-use Rattle.iddqd_hash.proofs.CompactLemmas.{last_listed, moved_items, moved_paired, moved_under, under_kept}
-use Rattle.iddqd_hash.proofs.MapLemmas.{keyed_under, make_keyed}
-use Rattle.iddqd_hash.proofs.SlotItemLemmas.{same_items}
+use Rattle.iddqd_hash_parts.specs.StoreAndIndex.{AreListedUnder, items_in, map_of}
+use Rattle.iddqd_hash_parts.proofs.CompactLemmas.{last_listed, moved_items, moved_paired, moved_under, under_kept}
+use Rattle.iddqd_hash_parts.proofs.MapLemmas.{keyed_under, make_keyed}
+use Rattle.iddqd_hash_parts.proofs.SlotItemLemmas.{same_items}
 use Rattle.iddqd_hash.proofs.id_hash_map.compact.move_last.Given.{Over}
 use Rattle.iddqd_hash.proofs.id_hash_map.compact.move_last.Goals as goal
 

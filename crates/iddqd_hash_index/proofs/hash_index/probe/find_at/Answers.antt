@@ -36,8 +36,8 @@ returns-then-equal-clause-found g c =
     let there = listed _ _ c.args.at c.in-Some.lane _ _ c.requires.within hit.0 (λ z. omega (arith, hit.1, c.tag.ensures.value)) (sym c.hash.ensures ∙ c.if-hash.true) c.slot-slot.ensures in
     let held = ap option_copied (sym c.unwrap-item.ensures) ∙ c.get.ensures in (
       there,
-      subst (λ o. IsSomeAnd o (λ x. g.Q.Equivalent.equivalent c.args.query.now (g.T.IdHashItem.key x) ≡ true)) held
-          (ap (g.Q.Equivalent.equivalent c.args.query.now) (sym c.key.ensures) ∙ sym c.equal.ensures.value ∙ c.if-equal.true),
+      subst (λ o. IsSomeAnd o (λ x. g.Q.Equivalent.equivalent c.args.query.now (g.K.KeyOf.key x) ≡ true)) held
+          (ap (g.Q.Equivalent.equivalent c.args.query.now) (sym c.key_of.ensures) ∙ sym c.equal.ensures.value ∙ c.if-equal.true),
     )
 
 pub returns-then-equal-clause-compared : goal.returns-then-equal-clause-compared
@@ -60,14 +60,14 @@ search-preserved g c =
     let within = c.requires.within in
     let small = hit.0 in
     let left = c.without-lanes.ensures.left in
-    let Test : ℕ → Type 0 = λ s. IsSomeAnd (item_at c.args.store.now s) (λ x. g.Q.Equivalent.equivalent c.args.query.now (g.T.IdHashItem.key x) ≡ true) in
+    let Test : ℕ → Type 0 = λ s. IsSomeAnd (item_at c.args.store.now s) (λ x. g.Q.Equivalent.equivalent c.args.query.now (g.K.KeyOf.key x) ≡ true) in
     let Missed : ℕ → Type 0 = λ k. hash_at c.args.cells.now (12 * c.args.at + k) ≡ c.args.hash → ¬ Test (slot_at c.args.cells.now (12 * c.args.at + k)) in
     elim c.if-hash.branch [
       | then-hash+else-equal w ↦ record {
         left = LanesLeft-next _ _ Missed _ _ _ left c.search.invariant.left (λ _ passes.
             let held = sym (ap option_copied (sym w.unwrap-item.ensures) ∙ w.get.ensures ∙ ap (item_at c.args.store.now) c.slot-slot.ensures) in
-            let passed = subst (λ o. IsSomeAnd o (λ x. g.Q.Equivalent.equivalent c.args.query.now (g.T.IdHashItem.key x) ≡ true)) held passes in
-            absurd (true≢false (sym passed ∙ ap (g.Q.Equivalent.equivalent c.args.query.now) (sym w.key.ensures) ∙ sym w.equal.ensures.value ∙ w.if-equal.false)));
+            let passed = subst (λ o. IsSomeAnd o (λ x. g.Q.Equivalent.equivalent c.args.query.now (g.K.KeyOf.key x) ≡ true)) held passes in
+            absurd (true≢false (sym passed ∙ ap (g.Q.Equivalent.equivalent c.args.query.now) (sym w.key_of.ensures) ∙ sym w.equal.ensures.value ∙ w.if-equal.false)));
         compared = Compared-one (12 * length gs) (tag_at gs) (pair_at c.args.cells.now) c.args.hash _ _ _ _ c.search.invariant.compared
             (IsVisited-wider _ _ lane _ small left) (12 * c.args.at + lane) _
             (omega arith) (λ z. omega (arith, hit.1, c.tag.ensures.value, sym (cell_tag gs c.args.at lane small) ∙ z)) (sym c.hash.ensures ∙ w.if-hash.true)

@@ -2,8 +2,8 @@ use Rattle.std.proofs.Common.{◌≡◌, ◌∙◌, Some, ap, subst, sym, true, 
 use Rattle.std.specs.Option.{IfSome, option_map}
 use Rattle.iddqd_store.specs.Hashing.{hash_under}
 use Rattle.iddqd_store.proofs.WrittenLemmas.{others_written, read_back, written_twice}
-use Rattle.iddqd_hash.specs.HashItems.{IsKeyed, KeyedItems}
-use Rattle.iddqd_hash.proofs.GetMutLemmas.{keyed_akin_written}
+use Rattle.iddqd_hash_parts.specs.HashItems.{IsKeyed, KeyedItems}
+use Rattle.iddqd_hash_parts.proofs.GetMutLemmas.{keyed_akin_written}
 use Rattle.iddqd_hash.specs.Entry.{entry_item, entry_map, entry_others, entry_with}
 use Rattle.iddqd_hash.proofs.id_hash_map.entry.Entry.and_modify.Goals as goal
 

@@ -1,7 +1,7 @@
 use Rattle.std.proofs.Common.{◌≡◌, ◌∙◌, None, ap, is_some, refl, subst, sym, true≢false, rules}
 use Rattle.iddqd_store.specs.Hashing.{hash_under}
-use Rattle.iddqd_hash.specs.HashItems.{IsKeyed, KeyedItems}
-use Rattle.iddqd_hash.proofs.GetMutLemmas.{keyed_akin_written, keyed_written}
+use Rattle.iddqd_hash_parts.specs.HashItems.{IsKeyed, KeyedItems}
+use Rattle.iddqd_hash_parts.proofs.GetMutLemmas.{keyed_akin_written, keyed_written}
 use Rattle.iddqd_hash.specs.Entry.{entry_item, entry_map, entry_lender, entry_with}
 use Rattle.iddqd_hash.proofs.id_hash_map.entry.Entry.or_insert.Goals as goal
 

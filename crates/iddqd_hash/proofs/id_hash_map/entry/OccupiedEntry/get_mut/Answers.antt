@@ -2,9 +2,9 @@ use Rattle.std.proofs.Common.{refl}
 use Rattle.iddqd_store.specs.Hashing.{hash_under}
 use Rattle.iddqd_store.specs.SlotItems.{still_there}
 use Rattle.iddqd_hash.specs.Entry.{with_entry_item}
-use Rattle.iddqd_hash.specs.HashItems.{IsKeyed}
+use Rattle.iddqd_hash_parts.specs.HashItems.{IsKeyed}
 use Rattle.iddqd_hash.proofs.EntryLemmas.{same_entry}
-use Rattle.iddqd_hash.proofs.GetMutLemmas.{keyed_akin_written, keyed_written}
+use Rattle.iddqd_hash_parts.proofs.GetMutLemmas.{keyed_akin_written, keyed_written}
 use Rattle.iddqd_hash.proofs.id_hash_map.entry.OccupiedEntry.get_mut.Goals as goal
 
 pub invariant_of-self-lent : goal.invariant_of-self-lent

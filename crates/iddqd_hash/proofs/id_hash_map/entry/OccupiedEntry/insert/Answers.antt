@@ -2,8 +2,8 @@ use Rattle.std.proofs.Common.{◌≡◌, ◌∙◌, Some, ap, subst, true}
 use Rattle.std.specs.Option.{IfSome}
 use Rattle.iddqd_store.specs.Hashing.{hash_under}
 use Rattle.iddqd_store.proofs.WrittenLemmas.{others_written, read_back}
-use Rattle.iddqd_hash.proofs.GetMutLemmas.{keyed_akin_written}
-use Rattle.iddqd_hash.specs.HashItems.{IsKeyed}
+use Rattle.iddqd_hash_parts.proofs.GetMutLemmas.{keyed_akin_written}
+use Rattle.iddqd_hash_parts.specs.HashItems.{IsKeyed}
 use Rattle.iddqd_hash.proofs.id_hash_map.entry.OccupiedEntry.insert.Goals as goal
 
 pub returns-clause-new : goal.returns-clause-new

@@ -1,7 +1,7 @@
 use Rattle.std.proofs.Common.{refl}
 use Rattle.iddqd_store.specs.Hashing.{hash_under}
-use Rattle.iddqd_hash.proofs.GetMutLemmas.{keyed_akin_written, keyed_written}
-use Rattle.iddqd_hash.specs.HashItems.{IsKeyed}
+use Rattle.iddqd_hash_parts.proofs.GetMutLemmas.{keyed_akin_written, keyed_written}
+use Rattle.iddqd_hash_parts.specs.HashItems.{IsKeyed}
 use Rattle.iddqd_hash.proofs.id_hash_map.entry.VacantEntry.insert.Goals as goal
 
 pub returns-in-Ok : goal.returns-in-Ok

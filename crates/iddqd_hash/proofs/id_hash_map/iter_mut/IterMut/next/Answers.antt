@@ -5,10 +5,10 @@ use Rattle.std.proofs.lemmas.Option.{slice_get_past}
 use Rattle.iddqd_store.specs.Hashing.{hash_under}
 use Rattle.iddqd_store.specs.SlotItems.{written_to_slot}
 use Rattle.iddqd_store.proofs.WrittenLemmas.{place_read}
-use Rattle.iddqd_hash.specs.HashItems.{IsKeyed}
-use Rattle.iddqd_hash.specs.SlotOrder.{behind, slots_below}
-use Rattle.iddqd_hash.proofs.GetMutLemmas.{keyed_akin_written, keyed_written}
-use Rattle.iddqd_hash.proofs.RisingLemmas.{behind_next, there_listed}
+use Rattle.iddqd_hash_parts.specs.HashItems.{IsKeyed}
+use Rattle.iddqd_hash_parts.specs.SlotOrder.{behind, slots_below}
+use Rattle.iddqd_hash_parts.proofs.GetMutLemmas.{keyed_akin_written, keyed_written}
+use Rattle.iddqd_hash_parts.proofs.RisingLemmas.{behind_next, there_listed}
 use Rattle.iddqd_hash.proofs.id_hash_map.iter_mut.IterMut.next.Goals as goal
 
 -- two proofs that numbers are equal are one

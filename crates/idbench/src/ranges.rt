@@ -1,0 +1,197 @@
+//! What is timed of ordered maps alone: walks from the back, ranges, and positions.
+use crate::items::{BenchKey, Item};
+use crate::phases::{Plan, filled, nanos_since};
+use crate::report::write_phases;
+use crate::subjects::Subject;
+use std::alloc::Global;
+use std::collections::BTreeMap;
+use std::io::{self, Write};
+use std::ops::Bound;
+use std::time::{Clock, Instant};
+use test_support::maps::Ordered;
+
+/// The phases. The last two are of this map alone.
+const RANGES: [&str; 5] = [
+    "backwards",
+    "range_10",
+    "range_1000",
+    "get_index",
+    "index_of",
+];
+
+// Of how many keys one begins a range of a thousand items.
+const APART: usize = 100;
+
+/// An ordered map that is timed.
+pub(crate) trait Ranged: Subject {
+    /// The sum of all values, by a walk from the last.
+    fn sum_back(&self) -> u64;
+
+    /// The sum of the values of this many items, from the key on.
+    fn sum_from(&self, key: &Self::Key, count: usize) -> u64;
+
+    /// The value of the item at the position; `None` if the map has no positions.
+    fn value_at(&self, position: usize) -> Option<u64>;
+
+    /// The position of the key; `None` if the map has no positions.
+    fn position_of(&self, key: &Self::Key) -> Option<usize>;
+}
+
+impl<K: BenchKey> Ranged for Ordered<Item<K>> {
+    fn sum_back(&self) -> u64 {
+        let mut sum = 0u64;
+        for item in self.map().iter().rev() {
+            sum = sum.wrapping_add(item.value);
+        }
+        sum
+    }
+
+    fn sum_from(&self, key: &K, count: usize) -> u64 {
+        let mut sum = 0u64;
+        for item in self.walk_from(key).take(count) {
+            sum = sum.wrapping_add(item.value);
+        }
+        sum
+    }
+
+    fn value_at(&self, position: usize) -> Option<u64> {
+        Some(self.get_index(position)?.value)
+    }
+
+    fn position_of(&self, key: &K) -> Option<usize> {
+        self.index_of(key).0.ok()
+    }
+}
+
+impl<K: BenchKey> Ranged for BTreeMap<K, Item<K>> {
+    fn sum_back(&self) -> u64 {
+        let mut sum = 0u64;
+        for item in self.values().rev() {
+            sum = sum.wrapping_add(item.value);
+        }
+        sum
+    }
+
+    fn sum_from(&self, key: &K, count: usize) -> u64 {
+        let mut sum = 0u64;
+        let bounds = (Bound::Included(key), Bound::Unbounded);
+        for (_, item) in self.range::<(Bound<&K>, Bound<&K>)>(bounds).take(count) {
+            sum = sum.wrapping_add(item.value);
+        }
+        sum
+    }
+
+    fn value_at(&self, _position: usize) -> Option<u64> {
+        None
+    }
+
+    fn position_of(&self, _key: &K) -> Option<usize> {
+        None
+    }
+}
+
+// The sum of ranges of this many items, each from a key on.
+fn sum_ranges<S: Ranged>(map: &S, keys: &[S::Key], apart: usize, count: usize) -> u64 {
+    let mut sum = 0u64;
+    for key in keys.iter().step_by(apart) {
+        sum = sum.wrapping_add(map.sum_from(key, count));
+    }
+    sum
+}
+
+// The sum of the values at each position, in no order; `None` if the map has no positions.
+fn sum_positions<S: Ranged>(map: &S, positions: &[u64]) -> Option<u64> {
+    let mut sum = 0u64;
+    for position in positions {
+        sum = sum.wrapping_add(map.value_at(*position as usize)?);
+    }
+    Some(sum)
+}
+
+// The sum of the positions of the keys; `None` if the map has no positions.
+fn sum_places<S: Ranged>(map: &S, keys: &[S::Key]) -> Option<u64> {
+    let mut sum = 0u64;
+    for key in keys {
+        sum = sum.wrapping_add(map.position_of(key)? as u64);
+    }
+    Some(sum)
+}
+
+// The nanoseconds of a walk from the back, and the sum of its values.
+fn walked_back<S: Ranged>(clock: &impl Clock, map: &S) -> io::Result<(u64, u64)> {
+    let start = Instant::now(clock)?;
+    let sum = map.sum_back();
+    Ok((nanos_since(clock, start)?, sum))
+}
+
+// The nanoseconds of ranges of this many items, as if each key began one, and the sum of their values.
+fn time_ranges<S: Ranged>(
+    clock: &impl Clock,
+    map: &S,
+    keys: &[S::Key],
+    (apart, count): (usize, usize),
+) -> io::Result<(u64, u64)> {
+    let start = Instant::now(clock)?;
+    let sum = sum_ranges(map, keys, apart, count);
+    Ok((nanos_since(clock, start)?.saturating_mul(apart as u64), sum))
+}
+
+// The nanoseconds of lookups by position and of positions of keys; 0 if the map has no positions.
+fn placed<S: Ranged>(
+    clock: &impl Clock,
+    map: &S,
+    positions: &[u64],
+    keys: &[S::Key],
+) -> io::Result<(u64, u64)> {
+    let start = Instant::now(clock)?;
+    let Some(_sum) = sum_positions(map, positions) else {
+        return Ok((0, 0));
+    };
+    let get_index = nanos_since(clock, start)?;
+    let start = Instant::now(clock)?;
+    let found = sum_places(map, keys);
+    let index_of = nanos_since(clock, start)?;
+    Ok((get_index, if found.is_some() { index_of } else { 0 }))
+}
+
+// The nanoseconds of each phase over a map with the items of the plan, and the sum of what was found.
+fn timed<S: Ranged>(clock: &impl Clock, alloc: Global, plan: &Plan) -> io::Result<([u64; 5], u64)> {
+    let map: S = filled(alloc, plan)?;
+    let keys: Vec<S::Key> = plan.keys(alloc, 0)?;
+    let (backwards, sum) = walked_back(clock, &map)?;
+    let (range_10, near) = time_ranges(clock, &map, keys.as_slice(), (1, 10))?;
+    let (range_1000, far) = time_ranges(clock, &map, keys.as_slice(), (APART, 1_000))?;
+    let (get_index, index_of) = placed(clock, &map, plan.shuffled(), keys.as_slice())?;
+    let nanos = [backwards, range_10, range_1000, get_index, index_of];
+    Ok((nanos, sum.wrapping_add(near).wrapping_add(far)))
+}
+
+fn least(times: [u64; 5], others: [u64; 5]) -> [u64; 5] {
+    let mut both = times;
+    for (time, again) in both.iter_mut().zip(others) {
+        *time = (*time).min(again);
+    }
+    both
+}
+
+/// Times the ordered map and std's with keys of one type, taking turns: whether their sums agree. The times are written
+/// if they are asked for.
+pub(crate) fn compare_ranges<K: BenchKey>(
+    clock: &impl Clock,
+    alloc: Global,
+    out: &mut impl Write,
+    plan: (&Plan, u64, u32),
+    is_told: bool,
+) -> io::Result<bool> {
+    let (plan, size, rounds) = plan;
+    let mut ours = timed::<Ordered<Item<K>>>(clock, alloc, plan)?;
+    let mut std = timed::<BTreeMap<K, Item<K>>>(clock, alloc, plan)?;
+    for _ in 1..rounds {
+        ours.0 = least(ours.0, timed::<Ordered<Item<K>>>(clock, alloc, plan)?.0);
+        std.0 = least(std.0, timed::<BTreeMap<K, Item<K>>>(clock, alloc, plan)?.0);
+    }
+    if is_told {
+        write_phases(out, ("ord", K::name()), size, &RANGES, (&ours.0, &std.0))?;
+    }
+    Ok(ours.1 == std.1)
+}

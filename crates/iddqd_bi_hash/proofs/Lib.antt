@@ -1,0 +1,7 @@
+pub mod BothLemmas
+pub mod ChangeLemmas
+pub mod CollectedLemmas
+pub mod DisplacedLemmas
+pub mod GuardLemmas
+pub mod MetLemmas
+pub mod UniqueLemmas

@@ -1,0 +1,27 @@
+use Rattle.std.proofs.Common.{◌∙◌, ap, arith}
+use Rattle.iddqd_bi_hash.proofs.BothLemmas.{inserted}
+use Rattle.iddqd_bi_hash.proofs.MetLemmas.{neither_found}
+use Rattle.iddqd_bi_hash.proofs.bi_hash_map.BiHashMap.insert_reserved.Goals as goal
+
+pub put_in-requires-clause-room : goal.put_in-requires-clause-room
+put_in-requires-clause-room g c = let spare = ap (λ v. v.spare) c.self.view_is in (omega (arith, c.requires.room, spare), omega (arith, c.requires.room, spare))
+
+pub put_in-requires-clause-listable1 : goal.put_in-requires-clause-listable1
+put_in-requires-clause-listable1 g c = omega (arith, c.requires.room, ap (λ v. v.spare) c.self.view_is)
+
+pub put_in-requires-clause-listable2 : goal.put_in-requires-clause-listable2
+put_in-requires-clause-listable2 g c = omega (arith, c.requires.room, ap (λ v. v.spare) c.self.view_is)
+
+pub returns-clause-inserts : goal.returns-clause-inserts
+returns-clause-inserts g c =
+    let m = c.self.inside in
+    let put = c.put_in in
+    let new = put.new in
+    let done = put.ensures in
+    let x = c.args.item in
+    let none = neither_found (λ y. g.T.K1.PartialEq.eq (g.T.BiHashItem.key1 x) (g.T.BiHashItem.key1 y)) (λ y. g.T.K2.PartialEq.eq (g.T.BiHashItem.key2 x) (g.T.BiHashItem.key2 y)) c.args.self.now.items c.requires.absent in
+    inserted _ _ _ _ _ _ _ m.hasher m.store new.store m.index1 m.index2 new.index1 new.index2 c.self.invariant done.paired _ c.self.view_is g.met.T.K1.Eq.laws g.met.T.K2.Eq.laws c.requires.keyed x put.result c.args.hash1 c.args.hash2 none.0 none.1
+    c.requires.room c.requires.hash1 c.requires.hash2 done.pairs1 done.pairs2 done.was_vacant done.updates done.spare1 done.spare2 done.len done.vacant done.bounds
+
+pub returns-clause-capacity : goal.returns-clause-capacity
+returns-clause-capacity g c = c.put_in.ensures.bounds.capacity ∙ ap (λ v. v.capacity) c.self.view_is

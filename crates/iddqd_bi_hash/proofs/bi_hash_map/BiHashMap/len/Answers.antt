@@ -1,0 +1,16 @@
+use Rattle.std.proofs.Common.{length, ap, arith, subst}
+use Rattle.iddqd_store.specs.SlotItems.{HaveSlots}
+use Rattle.iddqd_hash_parts.proofs.SlotItemLemmas.{length-items, slots_apart}
+use Rattle.iddqd_bi_hash.proofs.BothLemmas.{fits}
+use Rattle.iddqd_bi_hash.proofs.bi_hash_map.BiHashMap.len.Goals as goal
+
+pub returns-clause-len : goal.returns-clause-len
+returns-clause-len g c = omega (arith, c.len.ensures.items, length-items c.self.inside.store.slots, ap (λ v. length v.items) c.self.view_is)
+
+pub returns-clause-spare : goal.returns-clause-spare
+returns-clause-spare g c =
+    let m = c.self.inside in
+    fits m.hasher m.store m.index1 m.index2 c.self.invariant _ c.self.view_is
+
+pub returns-clause-slots : goal.returns-clause-slots
+returns-clause-slots g c = subst (λ v. HaveSlots v.slots v.items) c.self.view_is (slots_apart c.self.inside.store.slots)

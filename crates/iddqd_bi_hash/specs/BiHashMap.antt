@@ -1,0 +1,116 @@
+-- What the calls of a hash map of two keys return and leave. `IsKeyedByBoth` says what lookups require.
+-- Room:
+--     SpareFits, KeepsSpare, Reserves, LacksRoomFor      as of a map of one key (`HashChanges`)
+-- Changes:
+--     IsEmptyMap, HasNoItems      a map without items, before it allocates and after
+--     BiStays      what stays in each call that changes a keyed map: it is keyed, keeps the spare, and has the same hasher
+--     BiInserts      an item was inserted
+--     BiKeeps      nothing has changed but the room, which may have grown
+--     LosesPlaceOf      a slot is gone
+-- Searches, insertions and refusals:
+--     HasHash      each key that a query stands for has this hash
+--     FindsSlot      the slot of the item that a query finds by one key
+--     BiOverwrites      the item was inserted, and those that had one of its keys are returned
+--     RefusesItem, BiHandsBack      a refused item is returned, beside the existing ones or because there is no room
+-- After a loan:
+--     ends_bi_inserted      what the map is once the result of an insertion is dropped
+use Rattle.std.specs.Prelude.{◌≡◌, ℕ, ◌+◌, [], Bool, true, length, map, IfErr, IfNone, IfSome, IsSome, OnSome, Option, Result, Some}
+use Rattle.std.specs.Borrow.{Fml, RattleType, MutBor, LendsSoOk, unit}
+use Rattle.std.specs.Hash.{HashWrites}
+use Rattle.std.specs.Option.{option_and_then}
+use Rattle.iddqd_store.specs.Contents.{AddsItem, find_item}
+use Rattle.iddqd_store.specs.Errors.{new_item_of, duplicates_of, values_of}
+use Rattle.iddqd_store.specs.Holding.{InsertsItem, KeepsItems}
+use Rattle.iddqd_store.specs.Refusal.{OnDuplicate, RefusalKind, refusal_kind}
+use Rattle.iddqd_store.specs.SlotItems.{HaveSlots, item_of_slot}
+use Rattle.iddqd_store.specs.declared.errors.Few.{Few}
+use Rattle.iddqd_store.specs.declared.errors.InsertError.{InsertError}
+use Rattle.iddqd_store.specs.declared.errors.InsertError.TheVariants.{Duplicate, Refused}
+use Rattle.iddqd_store.specs.declared.errors.Refused as refused
+use Rattle.iddqd_hash_parts.specs.HashChanges as changes
+use Rattle.iddqd_hash_parts.specs.HashItems.{HashItems}
+use Rattle.iddqd_hash_parts.specs.SlotsFound.{values_if_any}
+use Rattle.iddqd_bi_hash.specs.BiHashItems.{BiHashItems, by_key1, holding_of}
+use Rattle.iddqd_bi_hash.specs.TwoKeys.{items_displaced, items_met, items_unmet}
+use Rattle.iddqd_bi_hash.specs.contracts.bi_hash_map.BiHashMap.{the_row}
+
+module _ {S T : Type 0} where
+  -- no item, no slot and so no stored hash; nothing is spare, since nothing is allocated
+  abbrev pub IsEmptyMap : ℕ → BiHashItems S T → Type 0
+  IsEmptyMap limit m = m ≡ record m { items = []; slots = []; hashes1 = []; hashes2 = []; spare = 0; vacant = 0; capacity = 0; limit = limit }
+
+  -- no item, no slot and no stored hash; memory may be allocated
+  abbrev pub HasNoItems : ℕ → BiHashItems S T → Type 0
+  HasNoItems limit m = m ≡ record m { items = []; slots = []; hashes1 = []; hashes2 = []; vacant = 0; limit = limit }
+
+  abbrev pub SpareFits : BiHashItems S T → Type 0
+  SpareFits m = changes.SpareFits (by_key1 m)
+
+  abbrev pub KeepsSpare : BiHashItems S T → BiHashItems S T → Type 0
+  KeepsSpare old new = changes.KeepsSpare (by_key1 old) (by_key1 new)
+
+  abbrev pub Reserves : ℕ → BiHashItems S T → BiHashItems S T → Type 0
+  Reserves n old new = changes.Reserves n (by_key1 old) (by_key1 new)
+
+  abbrev pub LacksRoomFor : ℕ → BiHashItems S T → RefusalKind → Type 0
+  LacksRoomFor n m = changes.LacksRoomFor n (by_key1 m)
+
+  abbrev pub LosesPlaceOf : ℕ → BiHashItems S T → BiHashItems S T → Type 0
+  LosesPlaceOf slot old new = changes.LosesPlaceOf slot (by_key1 old) (by_key1 new)
+
+  -- each key that passes the test has this hash
+  abbrev pub HasHash : {K : Type 0} → (BiHashItems S T → HashWrites → ℕ) → BiHashItems S T → (K → Bool) → (K → HashWrites) → ℕ → Type 0
+  HasHash hash m test input h = (k : _) → test k ≡ true → hash m (input k) ≡ h
+
+  -- the slot of the item whose key passes the test, under the hash that is stored for it, or none
+  pub record FindsSlot {K : Type 0} (key : T → K) (test : K → Bool) (m : HashItems S T) (hash : ℕ) (found : Option ℕ) : Type 0 where
+    pub item : option_and_then (item_of_slot m.slots m.items) found ≡ find_item key test m.items
+    pub there : IfSome found (λ slot. IsSome (item_of_slot m.slots m.items slot))
+    pub listed : IfSome found (λ slot. item_of_slot m.slots m.hashes slot ≡ Some hash)
+
+  module _ (IsKeyed : BiHashItems S T → Type 0) where
+    pub record BiStays (old new : BiHashItems S T) : Type 0 where
+      pub keyed : IsKeyed new
+      pub spare : KeepsSpare old new
+      pub hasher : new.hasher ≡ old.hasher
+
+    pub record BiInserts (x : T) (old new : BiHashItems S T) : Type 0 where
+      pub takes : InsertsItem x (holding_of old) (holding_of new)
+      pub stays : BiStays old new
+
+    pub record BiKeeps (old new : BiHashItems S T) : Type 0 where
+      pub keeps : KeepsItems (holding_of old) (holding_of new)
+      pub stays : BiStays old new
+
+module _ {S T K L : Type 0} (key1 : T → K) (key2 : T → L) (eq1 : K → K → Bool) (eq2 : L → L → Bool) where
+  -- x is returned: beside the items that have one of its keys, in the order of their slots, or because there was no room
+  abbrev pub RefusesItem : BiHashItems S T → T → InsertError T → Type 0
+  RefusesItem m x (Duplicate d) =
+      (new_item_of d ≡ x) × (map (λ lent. lent.now) (duplicates_of d) ≡ items_met key1 key2 eq1 eq2 x m.items)
+  RefusesItem m x (Refused r) =
+      (r.item ≡ x) × (items_met key1 key2 eq1 eq2 x m.items ≡ []) × (r.error ≡ refusal_kind m.limit m.items)
+
+  -- x was refused room, since nothing was spare, and is returned; no item has one of its keys
+  pub record BiHandsBack (m : BiHashItems S T) (x : T) (r : refused.Refused T) : Type 0 where
+    pub item : r.item ≡ x
+    pub absent : items_met key1 key2 eq1 eq2 x m.items ≡ []
+    pub kind : r.error ≡ refusal_kind m.limit m.items
+    pub no_spare : m.spare ≡ 0
+
+  -- x was inserted, and the items that had one of its keys are returned; if there were some, no memory was needed
+  pub record BiOverwrites (IsKeyed : BiHashItems S T → Type 0) (x : T) (old new : BiHashItems S T) (back : Option (Few T)) : Type 0 where
+    pub displaced : values_if_any back ≡ items_displaced key1 key2 eq1 eq2 x old.items
+    pub put : AddsItem x (items_unmet key1 key2 eq1 eq2 x old.items) new.items
+    pub slots : HaveSlots new.slots new.items
+    pub vacant : IfSome back (λ few. new.vacant + 1 ≡ old.vacant + length (values_of few))
+    pub capacity : OnSome back (new.capacity ≡ old.capacity)
+    pub inserted : IfNone back (BiInserts IsKeyed x old new)
+    pub limit : new.limit ≡ old.limit
+
+-- once the result of an insertion is dropped: at `Ok` the map has the item; at `Err` it keeps its items, and beside duplicates nothing
+-- has changed
+abbrev pub ends_bi_inserted : (S T : RattleType) (IsKeyed : BiHashItems S.Denot T.Denot → Type 0) → MutBor (BiHashItems S.Denot T.Denot) → Result (MutBor unit.Denot) (InsertError T.Denot) → T.Denot → Fml
+ends_bi_inserted S T IsKeyed map result x =
+    LendsSoOk (the_row T S) unit map result
+    (λ new _. BiInserts IsKeyed x map.now new)
+    (λ new. BiKeeps IsKeyed map.now new × IfErr result (OnDuplicate (new ≡ map.now)))

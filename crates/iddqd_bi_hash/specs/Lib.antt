@@ -1,0 +1,17 @@
+pub mod BiHashItems
+pub mod BiHashMap
+pub mod Collecting
+pub mod Guard
+pub mod StoreAndIndexes
+pub mod TwoKeys
+pub use Rattle.iddqd_hash_parts.specs.HashChanges
+pub use Rattle.iddqd_hash_parts.specs.HashItems
+pub use Rattle.iddqd_hash_parts.specs.SlotsFound
+pub use Rattle.iddqd_store.specs.Contents
+pub use Rattle.iddqd_store.specs.Errors
+pub use Rattle.iddqd_store.specs.Hashing
+pub use Rattle.iddqd_store.specs.Holding
+pub use Rattle.iddqd_store.specs.Query
+pub use Rattle.iddqd_store.specs.Refusal
+pub use Rattle.iddqd_store.specs.SlotItems
+pub use Rattle.iddqd_store.specs.Validation

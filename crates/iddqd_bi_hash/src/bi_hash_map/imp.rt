@@ -1,0 +1,134 @@
+//! Lookups and removals by one of the keys.
+ghost use Rattle.std.specs.Prelude.{◌≡◌, IfNone, IsSome, Some, is_some};
+ghost use Rattle.iddqd_store.specs.Contents.{Finds, find_item, items_without};
+ghost use Rattle.iddqd_store.specs.Holding.{Removes};
+ghost use Rattle.iddqd_store.specs.SlotItems.{item_of_slot};
+
+use super::store_and_indexes::take_out;
+use super::{BiHashMap, Keyed};
+use crate::items::BiHashItem;
+use iddqd_store::Equivalent;
+use std::hash::{BuildHasher, Hash};
+
+impl<T: BiHashItem, S: BuildHasher> BiHashMap<T, S> {
+    ghost use Rattle.iddqd_hash_parts.specs.HashItems.{HashesAsKeys};
+    ghost use Rattle.iddqd_bi_hash.specs.BiHashItems.{holding_of};
+    ghost use Rattle.iddqd_bi_hash.specs.BiHashMap.{BiStays, LosesPlaceOf, SpareFits};
+
+    /// Returns the item that the query finds by the first key, or `None`. Hashes the query once, and compares at most as
+    /// many keys as have its hash. Does not allocate.
+    #[inline]
+    pub fn get1<Q: Hash + Equivalent<T::K1>>(&self, query: &Q) -> Option<&T>
+        requires keyed { ⟦<Self as Keyed>⟧.keyed self.now }
+        requires hashes { HashesAsKeys Q.equivalent Q.hash_input T.K1.hash_input query.now }
+        ensures found { Finds T.key1 (Q.equivalent query.now) self.now.items result }
+        ensures spare { SpareFits self.now }
+    {
+        let hash = self.hasher.hash_one(query);
+        let found = self.slot_by_key1(hash, query)?;
+        Some(self.item_in_slot(found))
+    }
+
+    /// Returns the item that the query finds by the second key, or `None`. Hashes the query once, and compares at most as
+    /// many keys as have its hash. Does not allocate.
+    #[inline]
+    pub fn get2<Q: Hash + Equivalent<T::K2>>(&self, query: &Q) -> Option<&T>
+        requires keyed { ⟦<Self as Keyed>⟧.keyed self.now }
+        requires hashes { HashesAsKeys Q.equivalent Q.hash_input T.K2.hash_input query.now }
+        ensures found { Finds T.key2 (Q.equivalent query.now) self.now.items result }
+        ensures spare { SpareFits self.now }
+    {
+        let hash = self.hasher.hash_one(query);
+        let found = self.slot_by_key2(hash, query)?;
+        Some(self.item_in_slot(found))
+    }
+
+    /// Whether the query finds an item by the first key, with as many comparisons as `get1`.
+    #[inline]
+    pub fn contains_key1<Q: Hash + Equivalent<T::K1>>(&self, query: &Q) -> bool
+        requires keyed { ⟦<Self as Keyed>⟧.keyed self.now }
+        requires hashes { HashesAsKeys Q.equivalent Q.hash_input T.K1.hash_input query.now }
+        ensures { result ≡ is_some (find_item T.key1 (Q.equivalent query.now) self.now.items) }
+    {
+        self.get1(query).is_some()
+    }
+
+    /// Whether the query finds an item by the second key, with as many comparisons as `get2`.
+    #[inline]
+    pub fn contains_key2<Q: Hash + Equivalent<T::K2>>(&self, query: &Q) -> bool
+        requires keyed { ⟦<Self as Keyed>⟧.keyed self.now }
+        requires hashes { HashesAsKeys Q.equivalent Q.hash_input T.K2.hash_input query.now }
+        ensures { result ≡ is_some (find_item T.key2 (Q.equivalent query.now) self.now.items) }
+    {
+        self.get2(query).is_some()
+    }
+
+    /// Removes and returns the item that the query finds by the first key. If it finds none, nothing changes. The item's
+    /// slot is vacant then, and its room is spare. Hashes the query once, and the item's other key once. Does not
+    /// allocate.
+    pub fn remove1<Q: Hash + Equivalent<T::K1>>(&mut self, query: &Q) -> Option<T>
+        requires keyed { ⟦<Self as Keyed>⟧.keyed self.old }
+        requires hashes { HashesAsKeys Q.equivalent Q.hash_input T.K1.hash_input query.now }
+
+        // what is removed
+        ensures value { result ≡ find_item T.key1 (Q.equivalent query.now) self.old.items }
+        ensures items { self.new.items ≡ items_without T.key1 (Q.equivalent query.now) self.old.items }
+        ensures removed { Removes result (holding_of self.old) (holding_of self.new) }
+        ensures unchanged { IfNone result (self.new ≡ self.old) }
+
+        // what stays
+        ensures stays { BiStays ⟦<Self as Keyed>⟧.keyed self.old self.new }
+    {
+        let hash = self.hasher.hash_one(query);
+        let slot = self.slot_by_key1(hash, query)?;
+        let other = self.hasher.hash_one(self.item_in_slot(slot).key2());
+        Some(self.take_hashed(hash, other, slot))
+    }
+
+    /// Removes and returns the item that the query finds by the second key. If it finds none, nothing changes. The item's
+    /// slot is vacant then, and its room is spare. Hashes the query once, and the item's other key once. Does not
+    /// allocate.
+    pub fn remove2<Q: Hash + Equivalent<T::K2>>(&mut self, query: &Q) -> Option<T>
+        requires keyed { ⟦<Self as Keyed>⟧.keyed self.old }
+        requires hashes { HashesAsKeys Q.equivalent Q.hash_input T.K2.hash_input query.now }
+
+        // what is removed
+        ensures value { result ≡ find_item T.key2 (Q.equivalent query.now) self.old.items }
+        ensures items { self.new.items ≡ items_without T.key2 (Q.equivalent query.now) self.old.items }
+        ensures removed { Removes result (holding_of self.old) (holding_of self.new) }
+        ensures unchanged { IfNone result (self.new ≡ self.old) }
+
+        // what stays
+        ensures stays { BiStays ⟦<Self as Keyed>⟧.keyed self.old self.new }
+    {
+        let hash = self.hasher.hash_one(query);
+        let slot = self.slot_by_key2(hash, query)?;
+        let other = self.hasher.hash_one(self.item_in_slot(slot).key1());
+        Some(self.take_hashed(other, hash, slot))
+    }
+
+    // Removes the item of the slot, with the hashes that are stored for it.
+    pub(super) fn take_hashed(&mut self, hash1: u64, hash2: u64, slot: u32) -> T
+        requires keyed { ⟦<Self as Keyed>⟧.keyed self.old }
+        requires there { IsSome (item_of_slot self.old.slots self.old.items slot) }
+        requires listed1 { item_of_slot self.old.slots self.old.hashes1 slot ≡ Some hash1 }
+        requires listed2 { item_of_slot self.old.slots self.old.hashes2 slot ≡ Some hash2 }
+
+        // what is removed
+        ensures value { item_of_slot self.old.slots self.old.items slot ≡ Some result }
+        ensures gone { LosesPlaceOf slot self.old self.new }
+        ensures removed { Removes (Some result) (holding_of self.old) (holding_of self.new) }
+
+        // what stays
+        ensures stays { BiStays ⟦<Self as Keyed>⟧.keyed self.old self.new }
+    {
+        take_out(
+            &mut self.store,
+            &mut self.index1,
+            &mut self.index2,
+            hash1,
+            hash2,
+            slot,
+        )
+    }
+}

@@ -1,0 +1,80 @@
+//! Insertions of items with new keys. Each looks for the items that have one of the keys first, then at the limit, then
+//! asks for memory. After a refusal no item has changed.
+ghost use Rattle.std.specs.Prelude.{◌≡◌, ◌<◌, [], IfErr, OnOk, OnErr};
+ghost use Rattle.std.specs.Borrow.{sem};
+ghost use Rattle.iddqd_store.specs.Contents.{IsAbsent};
+ghost use Rattle.iddqd_store.specs.Refusal.{OnRefused};
+ghost use Rattle.iddqd_bi_hash.specs.TwoKeys.{items_met};
+
+use super::store_and_indexes::{put_in, reserve_one};
+use super::{BiHashMap, Keyed};
+use crate::items::BiHashItem;
+use iddqd_store::{DuplicateItem, InsertError, Refused};
+use std::hash::BuildHasher;
+
+impl<T: BiHashItem, S: BuildHasher> BiHashMap<T, S> {
+    ghost use Rattle.iddqd_bi_hash.specs.BiHashMap.{BiHandsBack, BiInserts, BiKeeps, RefusesItem, ends_bi_inserted};
+
+    /// Inserts the item, if no item has one of its keys. Duplicates need no memory: the error has references to the one
+    /// or two items that have a key of it, in the order of their slots, and the map is unchanged. If the limit or memory
+    /// refuses the item, it is returned, and no item has changed. If `spare` is above 0, an item with new keys is never
+    /// refused. Hashes each key once and searches once by each. If an index grows, it reads each of its pairs.
+    /// In a caller's proof, match the error by a name, as in `Err(_error)`. `Err(_)` in the last `match` of a function
+    /// leaves nothing known of the map, if the items own memory.
+    pub fn insert_unique(&mut self, item: T) -> Result<&mut (), InsertError<'_, T>>
+        requires keyed { ⟦<Self as Keyed>⟧.keyed self.old }
+        ensures* after { sem 𝓛 (ends_bi_inserted S.row T.row ⟦<Self as Keyed>⟧.keyed self.entry result item) }
+        ensures absent1 { OnOk result (IsAbsent T.key1 (T.K1.eq (T.key1 item)) self.old.items) }
+        ensures absent2 { OnOk result (IsAbsent T.key2 (T.K2.eq (T.key2 item)) self.old.items) }
+        ensures refused { IfErr result (RefusesItem T.key1 T.key2 T.K1.eq T.K2.eq self.old item) }
+        ensures no_spare { IfErr result (OnRefused (self.old.spare ≡ 0)) }
+    {
+        let hash1 = self.hasher.hash_one(item.key1());
+        let hash2 = self.hasher.hash_one(item.key2());
+        if let Some(slots) = self.slots_met(hash1, hash2, &item) {
+            let existing = self.items_in_slots(slots);
+            return Err(InsertError::Duplicate(DuplicateItem::internal_new(item, existing)));
+        }
+        match self.insert_new(hash1, hash2, item) {
+            Ok(()) => Ok(&mut self.done),
+            Err(refused) => Err(InsertError::Refused(refused)),
+        }
+    }
+
+    // Inserts an item whose keys no other has.
+    pub(super) fn insert_new(&mut self, hash1: u64, hash2: u64, item: T) -> Result<(), Refused<T>>
+        requires keyed { ⟦<Self as Keyed>⟧.keyed self.old }
+        requires absent { items_met T.key1 T.key2 T.K1.eq T.K2.eq item self.old.items ≡ [] }
+        requires hash1 { hash1 ≡ ⟦<Self as Keyed>⟧.hash self.old (T.K1.hash_input (T.key1 item)) }
+        requires hash2 { hash2 ≡ ⟦<Self as Keyed>⟧.hash self.old (T.K2.hash_input (T.key2 item)) }
+        ensures inserts { OnOk result (BiInserts ⟦<Self as Keyed>⟧.keyed item self.old self.new) }
+        ensures refused { IfErr result (BiHandsBack T.key1 T.key2 T.K1.eq T.K2.eq self.old item) }
+        ensures kept { OnErr result (BiKeeps ⟦<Self as Keyed>⟧.keyed self.old self.new) }
+    {
+        if let Err(error) = reserve_one(&mut self.store, &mut self.index1, &mut self.index2) {
+            return Err(Refused { item, error });
+        }
+        self.insert_reserved(hash1, hash2, item);
+        Ok(())
+    }
+
+    // The same where there is room. Does not allocate.
+    pub(super) fn insert_reserved(&mut self, hash1: u64, hash2: u64, item: T)
+        requires keyed { ⟦<Self as Keyed>⟧.keyed self.old }
+        requires absent { items_met T.key1 T.key2 T.K1.eq T.K2.eq item self.old.items ≡ [] }
+        requires hash1 { hash1 ≡ ⟦<Self as Keyed>⟧.hash self.old (T.K1.hash_input (T.key1 item)) }
+        requires hash2 { hash2 ≡ ⟦<Self as Keyed>⟧.hash self.old (T.K2.hash_input (T.key2 item)) }
+        requires room { 0 < self.old.spare }
+        ensures inserts { BiInserts ⟦<Self as Keyed>⟧.keyed item self.old self.new }
+        ensures capacity { self.new.capacity ≡ self.old.capacity }
+    {
+        put_in(
+            &mut self.store,
+            &mut self.index1,
+            &mut self.index2,
+            hash1,
+            hash2,
+            item,
+        );
+    }
+}

@@ -1,0 +1,80 @@
+//! An insertion that replaces the items that have one of the keys.
+ghost use Rattle.std.specs.Prelude.{◌≡◌, ◌+◌, ◌<◌, ◌++◌, length, IfOk, IfErr, IfNone, IfSome, OnErr, OnSome};
+ghost use Rattle.iddqd_store.specs.Errors.{values_of};
+ghost use Rattle.iddqd_hash_parts.specs.SlotsFound.{values_if_any};
+ghost use Rattle.iddqd_bi_hash.specs.TwoKeys.{as_list, items_displaced, items_unmet};
+
+use super::{BiHashMap, Keyed};
+use crate::items::BiHashItem;
+use iddqd_store::{Few, Refused};
+use std::hash::BuildHasher;
+
+// One or two values, or none.
+fn few_of<T>(one: Option<T>, other: Option<T>) -> Option<Few<T>>
+    ensures { values_if_any result ≡ as_list one ++ as_list other }
+{
+    match (one, other) {
+        (None, None) => None,
+        (None, Some(y)) => Some(Few::One(y)),
+        (Some(x), None) => Some(Few::One(x)),
+        (Some(x), Some(y)) => Some(Few::Two(x, y)),
+    }
+}
+
+impl<T: BiHashItem, S: BuildHasher> BiHashMap<T, S> {
+    ghost use Rattle.iddqd_bi_hash.specs.BiHashMap.{BiHandsBack, BiKeeps, BiOverwrites, BiStays};
+
+    /// Inserts the item, and removes and returns the one or two items that have one of its keys, that of the first key
+    /// first. If there is one, this needs no memory and is never refused. If there is none, inserts the item as
+    /// `insert_unique` does, and returns `None`. If the limit or memory refuses the item, it is returned, and no item has
+    /// changed. Hashes each key twice, and once the other key of each item that is removed.
+    pub fn insert_overwrite(&mut self, item: T) -> Result<Option<Few<T>>, Refused<T>>
+        requires keyed { ⟦<Self as Keyed>⟧.keyed self.old }
+
+        // on success
+        ensures put { IfOk result (BiOverwrites T.key1 T.key2 T.K1.eq T.K2.eq ⟦<Self as Keyed>⟧.keyed item self.old self.new) }
+
+        // on refusal
+        ensures refused { IfErr result (BiHandsBack T.key1 T.key2 T.K1.eq T.K2.eq self.old item) }
+        ensures kept { OnErr result (BiKeeps ⟦<Self as Keyed>⟧.keyed self.old self.new) }
+
+        // either way
+        ensures stays { BiStays ⟦<Self as Keyed>⟧.keyed self.old self.new }
+    {
+        let hash1 = self.hasher.hash_one(item.key1());
+        let hash2 = self.hasher.hash_one(item.key2());
+        match self.displace(&item) {
+            None => {
+                self.insert_new(hash1, hash2, item)?;
+                Ok(None)
+            }
+            Some(back) => {
+                self.insert_reserved(hash1, hash2, item);
+                Ok(Some(back))
+            }
+        }
+    }
+
+    // Removes and returns the items that have one of the item's keys, that of the first key first.
+    pub(super) fn displace(&mut self, item: &T) -> Option<Few<T>>
+        requires keyed { ⟦<Self as Keyed>⟧.keyed self.old }
+
+        // what is removed
+        ensures displaced { values_if_any result ≡ items_displaced T.key1 T.key2 T.K1.eq T.K2.eq item.now self.old.items }
+        ensures items { self.new.items ≡ items_unmet T.key1 T.key2 T.K1.eq T.K2.eq item.now self.old.items }
+        ensures unchanged { IfNone result (self.new ≡ self.old) }
+        ensures vacant { IfSome result (λ few. self.new.vacant ≡ self.old.vacant + length (values_of few)) }
+
+        // room
+        ensures room { OnSome result (0 < self.new.spare) }
+        ensures capacity { self.new.capacity ≡ self.old.capacity }
+        ensures limit { self.new.limit ≡ self.old.limit }
+
+        // what stays
+        ensures stays { BiStays ⟦<Self as Keyed>⟧.keyed self.old self.new }
+    {
+        let one = self.remove1(item.key1());
+        let other = self.remove2(item.key2());
+        few_of(one, other)
+    }
+}

@@ -1,0 +1,104 @@
+//! The slots that searches find, and their items.
+ghost use Rattle.std.specs.Prelude.{◌≡◌, ◌<◌, IfNone, IfSome, IsSome, Some, length, map};
+ghost use Rattle.std.specs.List.{AllByRecursion, filter_map};
+ghost use Rattle.iddqd_store.specs.Errors.{values_of};
+ghost use Rattle.iddqd_store.specs.SlotItems.{HaveSlots, item_of_slot};
+ghost use Rattle.iddqd_hash_parts.specs.SlotOrder.{AreRising, IsNext, slots_below};
+ghost use Rattle.iddqd_hash_parts.specs.SlotsFound.{values_if_any};
+ghost use Rattle.iddqd_bi_hash.specs.TwoKeys.{items_met};
+
+use super::by_key::{First, Second};
+use super::{BiHashMap, Keyed};
+use crate::items::BiHashItem;
+use iddqd_hash_parts::{find_slot, slot_from, with_found};
+use iddqd_store::{Equivalent, Few};
+use std::hash::BuildHasher;
+
+impl<T, S> BiHashMap<T, S> {
+    // The item of the slot.
+    #[inline]
+    pub(super) fn item_in_slot(&self, slot: u32) -> &T
+        requires { IsSome (item_of_slot self.now.slots self.now.items slot) }
+        ensures { item_of_slot self.now.slots self.now.items slot ≡ Some result.now }
+    {
+        self.store.get(slot).unwrap()
+    }
+
+    // The items of the slots.
+    pub(super) fn items_in_slots(&self, slots: Few<u32>) -> Few<&T>
+        requires { AllByRecursion (λ slot. IsSome (item_of_slot self.now.slots self.now.items slot)) (values_of slots) }
+        ensures { map (λ lent. Some lent.now) (values_of result) ≡ map (item_of_slot self.now.slots self.now.items) (values_of slots) }
+    {
+        match slots {
+            Few::One(a) => Few::One(self.item_in_slot(a)),
+            Few::Two(a, b) => Few::Two(self.item_in_slot(a), self.item_in_slot(b)),
+            Few::Three(a, b, c) => Few::Three(
+                self.item_in_slot(a),
+                self.item_in_slot(b),
+                self.item_in_slot(c),
+            ),
+        }
+    }
+}
+
+impl<T, S> BiHashMap<T, S> {
+    ghost use Rattle.iddqd_bi_hash.specs.BiHashMap.{SpareFits};
+
+    // Returns the first slot from this number on that has an item. Looks at each slot up to that one.
+    pub(super) fn slot_from(&self, from: u32) -> Option<u32>
+        // if a slot has an item
+        ensures there { IfSome result (IsNext self.now.slots from) }
+        ensures fits { IfSome result (λ slot. slot < u32.MAX) }
+
+        // if none has
+        ensures none { IfNone result (slots_below from self.now.slots ≡ length self.now.slots) }
+
+        // either way
+        ensures rises { AreRising self.now.slots }
+        ensures spare { SpareFits self.now }
+        ensures own { HaveSlots self.now.slots self.now.items }
+    {
+        slot_from(&self.store, from)
+    }
+}
+
+impl<T: BiHashItem, S: BuildHasher> BiHashMap<T, S> {
+    ghost use Rattle.iddqd_bi_hash.specs.BiHashItems.{by_key1, by_key2};
+    ghost use Rattle.iddqd_bi_hash.specs.BiHashMap.{FindsSlot, HasHash, SpareFits};
+
+    // Returns the slot of the item that the query finds by the first key. The hash is that of each key for which the
+    // query stands.
+    #[inline]
+    pub(super) fn slot_by_key1<Q: Equivalent<T::K1>>(&self, hash: u64, query: &Q) -> Option<u32>
+        requires keyed { ⟦<Self as Keyed>⟧.keyed self.now }
+        requires hash { HasHash ⟦<Self as Keyed>⟧.hash self.now (Q.equivalent query.now) T.K1.hash_input hash }
+        ensures slot { FindsSlot T.key1 (Q.equivalent query.now) (by_key1 self.now) hash result }
+        ensures spare { SpareFits self.now }
+    {
+        find_slot::<T, First, Q>(&self.store, &self.index1, hash, query)
+    }
+
+    // The same by the second key.
+    #[inline]
+    pub(super) fn slot_by_key2<Q: Equivalent<T::K2>>(&self, hash: u64, query: &Q) -> Option<u32>
+        requires keyed { ⟦<Self as Keyed>⟧.keyed self.now }
+        requires hash { HasHash ⟦<Self as Keyed>⟧.hash self.now (Q.equivalent query.now) T.K2.hash_input hash }
+        ensures slot { FindsSlot T.key2 (Q.equivalent query.now) (by_key2 self.now) hash result }
+        ensures spare { SpareFits self.now }
+    {
+        find_slot::<T, Second, Q>(&self.store, &self.index2, hash, query)
+    }
+
+    // Returns the slots of the items that have one of the item's keys, the lesser first and each once.
+    pub(super) fn slots_met(&self, hash1: u64, hash2: u64, item: &T) -> Option<Few<u32>>
+        requires keyed { ⟦<Self as Keyed>⟧.keyed self.now }
+        requires hash1 { hash1 ≡ ⟦<Self as Keyed>⟧.hash self.now (T.K1.hash_input (T.key1 item.now)) }
+        requires hash2 { hash2 ≡ ⟦<Self as Keyed>⟧.hash self.now (T.K2.hash_input (T.key2 item.now)) }
+        ensures there { AllByRecursion (λ slot. IsSome (item_of_slot self.now.slots self.now.items slot)) (values_if_any result) }
+        ensures met { filter_map (item_of_slot self.now.slots self.now.items) (values_if_any result) ≡ items_met T.key1 T.key2 T.K1.eq T.K2.eq item.now self.now.items }
+    {
+        let one = find_slot::<T, First, T::K1>(&self.store, &self.index1, hash1, item.key1());
+        let other = find_slot::<T, Second, T::K2>(&self.store, &self.index2, hash2, item.key2());
+        with_found(with_found(None, one), other)
+    }
+}

@@ -1,0 +1,75 @@
+//! Lookups and removals by both keys of one item.
+ghost use Rattle.std.specs.Prelude.{◌≡◌, IfNone, is_some};
+ghost use Rattle.iddqd_store.specs.Holding.{Removes};
+ghost use Rattle.iddqd_bi_hash.specs.TwoKeys.{FindsByBoth, find_by_both, items_without_both};
+
+use super::{BiHashMap, Keyed};
+use crate::items::BiHashItem;
+use iddqd_store::Equivalent;
+use std::hash::{BuildHasher, Hash};
+
+impl<T: BiHashItem, S: BuildHasher> BiHashMap<T, S> {
+    ghost use Rattle.iddqd_hash_parts.specs.HashItems.{HashesAsKeys};
+    ghost use Rattle.iddqd_bi_hash.specs.BiHashItems.{holding_of};
+    ghost use Rattle.iddqd_bi_hash.specs.BiHashMap.{BiStays, SpareFits};
+
+    /// Returns the item that both queries find, or `None`. Searches by the first key, with as many comparisons as `get1`,
+    /// and compares the second key once. Hashes the first query once. Does not allocate.
+    pub fn get_unique<Q: Hash + Equivalent<T::K1>, R: Equivalent<T::K2>>(
+        &self,
+        query1: &Q,
+        query2: &R,
+    ) -> Option<&T>
+        requires keyed { ⟦<Self as Keyed>⟧.keyed self.now }
+        requires hashes { HashesAsKeys Q.equivalent Q.hash_input T.K1.hash_input query1.now }
+        ensures found { FindsByBoth T.key1 T.key2 (Q.equivalent query1.now) (R.equivalent query2.now) self.now.items result }
+        ensures spare { SpareFits self.now }
+    {
+        let found = self.get1(query1)?;
+        if query2.equivalent(found.key2()) {
+            Some(found)
+        } else {
+            None
+        }
+    }
+
+    /// Whether both queries find one item, with as many comparisons as `get_unique`.
+    pub fn contains_key_unique<Q: Hash + Equivalent<T::K1>, R: Equivalent<T::K2>>(
+        &self,
+        query1: &Q,
+        query2: &R,
+    ) -> bool
+        requires keyed { ⟦<Self as Keyed>⟧.keyed self.now }
+        requires hashes { HashesAsKeys Q.equivalent Q.hash_input T.K1.hash_input query1.now }
+        ensures found { result ≡ is_some (find_by_both T.key1 T.key2 (Q.equivalent query1.now) (R.equivalent query2.now) self.now.items) }
+        ensures spare { SpareFits self.now }
+    {
+        self.get_unique(query1, query2).is_some()
+    }
+
+    /// Removes and returns the item that both queries find. If there is none, nothing changes. Hashes the first query
+    /// twice, and the second key of the item once. Does not allocate.
+    pub fn remove_unique<Q: Hash + Equivalent<T::K1>, R: Equivalent<T::K2>>(
+        &mut self,
+        query1: &Q,
+        query2: &R,
+    ) -> Option<T>
+        requires keyed { ⟦<Self as Keyed>⟧.keyed self.old }
+        requires hashes { HashesAsKeys Q.equivalent Q.hash_input T.K1.hash_input query1.now }
+
+        // what is removed
+        ensures value { result ≡ find_by_both T.key1 T.key2 (Q.equivalent query1.now) (R.equivalent query2.now) self.old.items }
+        ensures items { self.new.items ≡ items_without_both T.key1 T.key2 (Q.equivalent query1.now) (R.equivalent query2.now) self.old.items }
+        ensures removed { Removes result (holding_of self.old) (holding_of self.new) }
+        ensures unchanged { IfNone result (self.new ≡ self.old) }
+
+        // what stays
+        ensures stays { BiStays ⟦<Self as Keyed>⟧.keyed self.old self.new }
+    {
+        if self.contains_key_unique(query1, query2) {
+            self.remove1(query1)
+        } else {
+            None
+        }
+    }
+}

@@ -1,0 +1,12 @@
+//! A hash map of two keys, which live in its items.
+#![tactic(auto)]
+
+pub mod bi_hash_map;
+mod items;
+
+pub use bi_hash_map::{BiHashMap, DefaultHashBuilder, Keyed};
+pub use iddqd_store::{
+    DuplicateItem, Equivalent, Few, FromIterError, InsertError, MAX_ITEMS, Refused, Text,
+    TryReserveError, ValidateCompact, ValidationError,
+};
+pub use items::BiHashItem;

@@ -1,0 +1,63 @@
+//! Walks over the keys.
+ghost use Rattle.std.specs.Prelude.{◌≡◌, length, map, IfSome};
+ghost use Rattle.std.specs.Iterator.{UpTo, YieldsFirstRef, at_most, item_count};
+ghost use Rattle.std.specs.Iterator.SizeHint.{IsWithinCount};
+
+use super::{IdHashMap, Iter};
+use iddqd_store::IdHashItem;
+use std::hash::Hash;
+use std::iter::FusedIterator;
+use std::marker::Model;
+
+/// References to the keys of a map's items, in the order of `iter`. The whole walk looks at each slot once, and compares
+/// no keys. Contracts see the keys to come.
+#[derive(Drop)]
+pub struct Keys<'a, K: Eq + Hash + 'a, T: IdHashItem<Key = K>> {
+    items: Iter<'a, T>,
+}
+
+impl<'a, K: Eq + Hash + 'a, T: IdHashItem<Key = K>> Model for Keys<'a, K, T> {
+    ghost use Rattle.std.specs.Prelude.{List, map};
+
+    ghost Value = { List K };
+
+    ghost view = { λ it. map T.key it.items };
+}
+
+impl<'a, K: Eq + Hash + 'a, T: IdHashItem<Key = K>> Iterator for Keys<'a, K, T> {
+    type Item = &'a K;
+
+    ghost next_gives = { YieldsFirstRef (λ rest. rest) };
+
+    ghost remaining = { item_count (λ rest. rest) };
+
+    fn next(&mut self) -> Option<&'a K> {
+        Some(self.items.next()?.key())
+    }
+
+    fn size_hint(&self) -> (usize, Option<usize>)
+        ensures exact { result ≡ (length self.now, Some (length self.now)) }
+        ensures lower { IsWithinCount result.0 (at_most (length self.now)) }
+        ensures upper { IfSome result.1 (UpTo (at_most (length self.now))) }
+    {
+        let len = self.len();
+        (len, Some(len))
+    }
+}
+
+impl<'a, K: Eq + Hash + 'a, T: IdHashItem<Key = K>> ExactSizeIterator for Keys<'a, K, T> {
+    fn len(&self) -> usize {
+        self.items.len()
+    }
+}
+
+impl<'a, K: Eq + Hash + 'a, T: IdHashItem<Key = K>> FusedIterator for Keys<'a, K, T> {}
+
+impl<T: IdHashItem, S> IdHashMap<T, S> {
+    /// Returns a walk over the items' keys, in the order of `iter`. Does not allocate, and compares no keys.
+    pub fn keys(&self) -> Keys<'_, T::Key, T>
+        ensures { result ≡ map T.key self.now.items }
+    {
+        Keys { items: self.iter() }
+    }
+}

@@ -1,0 +1,14 @@
+pub mod CloneLemmas
+pub mod CompactLemmas
+pub mod FoundLemmas
+pub mod GetMutLemmas
+pub mod HashCountLemmas
+pub mod InSlotLemmas
+pub mod MapLemmas
+pub mod PairLemmas
+pub mod RisingLemmas
+pub mod SlotFoundLemmas
+pub mod SlotItemLemmas
+pub mod SlotsFoundLemmas
+pub mod StoreAndIndexLemmas
+pub mod WalkedLemmas

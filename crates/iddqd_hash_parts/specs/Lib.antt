@@ -1,0 +1,6 @@
+pub mod HashChanges
+pub mod HashItems
+pub mod SlotOrder
+pub mod SlotsFound
+pub mod StoreAndIndex
+pub mod Walked

@@ -1,0 +1,19 @@
+//! What a hash map knows of its store and of an index, and the walks over the store. Maps of one key and of several stand
+//! on it.
+#![tactic(auto)]
+
+mod into_iter;
+mod iter;
+mod keyed;
+mod next_slot;
+mod slots_found;
+mod store_and_index;
+
+pub use into_iter::IntoIter;
+pub use iter::Iter;
+pub use keyed::Keyed;
+pub use next_slot::slot_from;
+pub use slots_found::with_found;
+pub use store_and_index::{
+    exchange, find_slot, put_in, reserve_one, reserve_room, shrink_room, take_out,
+};

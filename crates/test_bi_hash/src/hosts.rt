@@ -1,0 +1,31 @@
+//! Hosts, by number and by address.
+use iddqd_bi_hash::BiHashItem;
+
+/// A host, which its number tells from others, and its address.
+#[derive(Clone, Copy, Drop)]
+pub struct Host {
+    /// The first key.
+    pub number: u32,
+    /// The second key.
+    pub address: u64,
+    /// What is known of it.
+    pub load: u32,
+}
+
+impl BiHashItem for Host {
+    type K1 = u32;
+
+    type K2 = u64;
+
+    ghost key1 = { λ host. host.number };
+
+    ghost key2 = { λ host. host.address };
+
+    fn key1(&self) -> &u32 {
+        &self.number
+    }
+
+    fn key2(&self) -> &u64 {
+        &self.address
+    }
+}

@@ -1,0 +1,18 @@
+//! What callers of a map of two keys learn, and what no clause of it says: that each call succeeds with memory at hand,
+//! and long runs of calls.
+#![tactic(auto)]
+
+mod callers;
+#[cfg(test)]
+mod checks;
+pub mod hosts;
+#[cfg(test)]
+mod plain;
+#[cfg(test)]
+mod random;
+#[cfg(test)]
+mod refused;
+#[cfg(test)]
+mod rows;
+#[cfg(test)]
+mod shapes;

@@ -1,0 +1,146 @@
+//! Worked examples on few hosts, some slots vacant.
+use crate::checks::check;
+use crate::hosts::Host;
+use iddqd_bi_hash::{BiHashMap, Few, InsertError, ValidateCompact};
+use std::alloc::Global;
+use std::process::Abort;
+use std::test::Fail;
+
+fn host(number: u32, address: u64, load: u32) -> Host {
+    Host {
+        number,
+        address,
+        load,
+    }
+}
+
+// Hosts 1 to 3, of which 2 and 3 leave, so that slots are vacant; 4 and 5 come.
+fn hosts(rt: &impl Abort, alloc: Global) -> BiHashMap<Host> {
+    let mut all = BiHashMap::new(alloc);
+    for n in 1..4u32 {
+        check(rt, all.insert_unique(host(n, n as u64 + 100, n)).is_ok());
+    }
+    check(rt, all.remove2(&102).is_some());
+    check(rt, all.remove1(&3).is_some());
+    for n in 4..6u32 {
+        check(rt, all.insert_unique(host(n, n as u64 + 100, n)).is_ok());
+    }
+    all
+}
+
+// The loads of the hosts that are in the way, in the order in which they are shown; 0 for none.
+fn in_the_way(all: &mut BiHashMap<Host>, new: Host) -> (u32, u32) {
+    match all.insert_unique(new) {
+        Err(InsertError::Duplicate(both)) => match both.duplicates() {
+            Few::One(a) => (a.load, 0),
+            Few::Two(a, b) | Few::Three(a, b, _) => (a.load, b.load),
+        },
+        _ => (0, 0),
+    }
+}
+
+#[test]
+fn lookups(rt: HostRuntime) {
+    let all = hosts(&rt, rt.alloc());
+    check(&rt, all.len() == 3);
+    check(&rt, all.get1(&4).is_some_and(|found| found.load == 4));
+    check(&rt, all.get2(&104).is_some_and(|found| found.load == 4));
+    check(&rt, !all.contains_key1(&2));
+    check(&rt, !all.contains_key2(&103));
+    check(&rt, all.get_unique(&4, &104).is_some());
+    check(&rt, all.get_unique(&4, &105).is_none());
+    check(&rt, all.contains_key_unique(&5, &105));
+    check(&rt, all.iter().count() == 3);
+}
+
+#[test]
+fn met_by_one_key_or_both(rt: HostRuntime) {
+    let mut all = hosts(&rt, rt.alloc());
+    check(&rt, in_the_way(&mut all, host(4, 1, 9)) == (4, 0));
+    check(&rt, in_the_way(&mut all, host(9, 105, 9)) == (5, 0));
+    check(&rt, in_the_way(&mut all, host(1, 101, 9)) == (1, 0));
+    check(&rt, in_the_way(&mut all, host(4, 101, 9)) == (1, 4));
+    check(&rt, in_the_way(&mut all, host(1, 104, 9)) == (1, 4));
+    check(&rt, all.len() == 3);
+    check(&rt, in_the_way(&mut all, host(9, 9, 9)) == (0, 0));
+    check(&rt, all.len() == 4);
+}
+
+#[test]
+fn one_or_two_overwritten(rt: HostRuntime) {
+    let mut all = hosts(&rt, rt.alloc());
+    match all.insert_overwrite(host(4, 101, 9)) {
+        Ok(Some(Few::Two(a, b))) => check(&rt, (a.load, b.load) == (4, 1)),
+        _ => check(&rt, false),
+    }
+    check(&rt, all.len() == 2);
+    match all.insert_overwrite(host(4, 101, 10)) {
+        Ok(Some(Few::One(a))) => check(&rt, a.load == 9),
+        _ => check(&rt, false),
+    }
+    check(
+        &rt,
+        matches!(all.insert_overwrite(host(7, 107, 7)), Ok(None)),
+    );
+    check(&rt, all.len() == 3);
+    check(&rt, all.remove_unique(&4, &107).is_none());
+    check(
+        &rt,
+        all.remove_unique(&4, &101)
+            .is_some_and(|gone| gone.load == 10),
+    );
+}
+
+#[test]
+fn room_and_limit(rt: HostRuntime) {
+    let mut all = hosts(&rt, rt.alloc());
+    check(&rt, all.reserve(1000).is_ok());
+    check(&rt, all.spare() >= 1000);
+    check(&rt, all.try_reserve(2000).is_ok());
+    all.clear();
+    check(&rt, all.is_empty() && all.spare() >= 2000);
+    let mut few: BiHashMap<Host> = BiHashMap::with_limit(rt.alloc(), 1, Default::default());
+    check(&rt, few.insert_unique(host(1, 1, 1)).is_ok());
+    match few.insert_unique(host(2, 2, 2)) {
+        Err(InsertError::Refused(refused)) => {
+            check(
+                &rt,
+                refused.error.is_capacity_overflow() && refused.item.load == 2,
+            );
+        }
+        _ => check(&rt, false),
+    }
+    check(
+        &rt,
+        matches!(few.insert_overwrite(host(1, 2, 3)), Ok(Some(Few::One(_)))),
+    );
+}
+
+#[test]
+fn guards_and_visits(rt: HostRuntime) {
+    let mut all = hosts(&rt, rt.alloc());
+    if let Some(mut found) = all.get1_mut(&4) {
+        found.load = 40;
+        found.finish();
+    }
+    if let Some(mut found) = all.get2_mut(&105) {
+        found.load = 50;
+        found.finish();
+    }
+    if let Some(mut found) = all.get_mut_unique(&1, &101) {
+        found.load = 10;
+        found.finish();
+    }
+    check(&rt, all.get_mut_unique(&1, &105).is_none());
+    check(&rt, all.get2(&104).is_some_and(|found| found.load == 40));
+    check(&rt, all.get1(&5).is_some_and(|found| found.load == 50));
+    check(&rt, all.get1(&1).is_some_and(|found| found.load == 10));
+    all.retain(|there| there.load < 50);
+    check(&rt, all.len() == 2 && !all.contains_key2(&105));
+    check(&rt, all.validate(ValidateCompact::NonCompact).is_ok());
+    let mut loads = 0;
+    for there in all {
+        loads = there.load.saturating_add(loads);
+    }
+    check(&rt, loads == 50);
+}
