@@ -93,7 +93,7 @@ impl<K: BenchKey> Ranged for BTreeMap<K, Item<K>> {
 // The sum of ranges of this many items, each from a key on.
 fn sum_ranges<S: Ranged>(map: &S, keys: &[S::Key], apart: usize, count: usize) -> u64 {
     let mut sum = 0u64;
-    for key in keys.iter().step_by(apart) {
+    for key in keys.iter().step_by(apart.max(1)) {
         sum = sum.wrapping_add(map.sum_from(key, count));
     }
     sum

@@ -5,6 +5,8 @@
 mod callers;
 #[cfg(test)]
 mod checks;
+#[cfg(test)]
+mod held;
 pub mod hosts;
 #[cfg(test)]
 mod plain;

@@ -1,8 +1,9 @@
 //! Long random runs of calls, against a plain list.
 use crate::checks::check;
+use crate::held::Hosts;
 use crate::hosts::Host;
 use crate::plain::{Plain, is_same};
-use iddqd_bi_hash::{BiHashMap, Few, InsertError};
+use iddqd_bi_hash::{Few, InsertError};
 use std::process::Abort;
 
 // A generator by shifts (Marsaglia's of 64 bits).
@@ -31,9 +32,9 @@ impl Draws {
 }
 
 // Inserts the host into both if no host has one of its keys.
-fn insert(rt: &impl Abort, map: &mut BiHashMap<Host>, plain: &mut Plain, host: Host) {
+fn insert(rt: &impl Abort, hosts: &mut Hosts, plain: &mut Plain, host: Host) {
     let met = plain.met(host.number, host.address);
-    match map.insert_unique(host) {
+    match hosts.map.insert_unique(host) {
         Ok(()) => {
             check(rt, met == 0);
             check(rt, plain.hosts.push(host).is_ok());
@@ -61,8 +62,8 @@ fn came_back(plain: &Plain, host: &Host, back: Option<Few<Host>>) -> bool {
 }
 
 // Inserts the host into both in place of those that have one of its keys.
-fn overwrite(rt: &impl Abort, map: &mut BiHashMap<Host>, plain: &mut Plain, host: Host) {
-    match map.insert_overwrite(host) {
+fn overwrite(rt: &impl Abort, hosts: &mut Hosts, plain: &mut Plain, host: Host) {
+    match hosts.map.insert_overwrite(host) {
         Ok(back) => {
             check(rt, came_back(plain, &host, back));
             plain.remove(host.number, host.address);
@@ -73,14 +74,14 @@ fn overwrite(rt: &impl Abort, map: &mut BiHashMap<Host>, plain: &mut Plain, host
 }
 
 // Removes by either key.
-fn remove(rt: &impl Abort, map: &mut BiHashMap<Host>, plain: &mut Plain, host: Host) {
+fn remove(rt: &impl Abort, hosts: &mut Hosts, plain: &mut Plain, host: Host) {
     let gone = if host.load % 2 == 0 {
         let there = plain.by_number(host.number);
-        check(rt, is_same(map.remove1(&host.number), there));
+        check(rt, is_same(hosts.map.remove1(&host.number), there));
         there
     } else {
         let there = plain.by_address(host.address);
-        check(rt, is_same(map.remove2(&host.address), there));
+        check(rt, is_same(hosts.map.remove2(&host.address), there));
         there
     };
     if let Some(gone) = gone {
@@ -89,15 +90,18 @@ fn remove(rt: &impl Abort, map: &mut BiHashMap<Host>, plain: &mut Plain, host: H
 }
 
 // Each key finds in both the same.
-fn same(rt: &impl Abort, map: &BiHashMap<Host>, plain: &Plain) {
-    check(rt, map.len() == plain.hosts.len());
-    check(rt, map.iter().count() == plain.hosts.len());
+fn same(rt: &impl Abort, hosts: &Hosts, plain: &Plain) {
+    check(rt, hosts.map.len() == plain.hosts.len());
+    check(rt, hosts.map.iter().count() == plain.hosts.len());
     for key in 0..12u32 {
-        check(rt, is_same(map.get1(&key).copied(), plain.by_number(key)));
+        check(
+            rt,
+            is_same(hosts.map.get1(&key).copied(), plain.by_number(key)),
+        );
         check(
             rt,
             is_same(
-                map.get2(&(key as u64)).copied(),
+                hosts.map.get2(&(key as u64)).copied(),
                 plain.by_address(key as u64),
             ),
         );
@@ -106,16 +110,16 @@ fn same(rt: &impl Abort, map: &BiHashMap<Host>, plain: &Plain) {
 
 #[test]
 fn many_calls(rt: HostRuntime) {
-    let mut map = BiHashMap::new(rt.alloc());
+    let mut hosts = Hosts::new(rt.alloc());
     let mut plain = Plain::with_room(rt.alloc(), 12).expect(&rt, "room");
     let mut draws = Draws { state: 77 };
     for _ in 0..2000 {
         let host = draws.host();
         match draws.below(3) {
-            0 => insert(&rt, &mut map, &mut plain, host),
-            1 => overwrite(&rt, &mut map, &mut plain, host),
-            _ => remove(&rt, &mut map, &mut plain, host),
+            0 => insert(&rt, &mut hosts, &mut plain, host),
+            1 => overwrite(&rt, &mut hosts, &mut plain, host),
+            _ => remove(&rt, &mut hosts, &mut plain, host),
         }
-        same(&rt, &map, &plain);
+        same(&rt, &hosts, &plain);
     }
 }

@@ -1,5 +1,6 @@
 //! Worked examples on few hosts, some slots vacant.
 use crate::checks::check;
+use crate::held::Hosts;
 use crate::hosts::Host;
 use iddqd_bi_hash::{BiHashMap, Few, InsertError, ValidateCompact};
 use std::alloc::Global;
@@ -15,22 +16,21 @@ fn host(number: u32, address: u64, load: u32) -> Host {
 }
 
 // Hosts 1 to 3, of which 2 and 3 leave, so that slots are vacant; 4 and 5 come.
-fn hosts(rt: &impl Abort, alloc: Global) -> BiHashMap<Host> {
-    let mut all = BiHashMap::new(alloc);
-    for n in 1..4u32 {
-        check(rt, all.insert_unique(host(n, n as u64 + 100, n)).is_ok());
-    }
-    check(rt, all.remove2(&102).is_some());
-    check(rt, all.remove1(&3).is_some());
-    for n in 4..6u32 {
-        check(rt, all.insert_unique(host(n, n as u64 + 100, n)).is_ok());
-    }
+fn hosts(rt: &impl Abort, alloc: Global) -> Hosts {
+    let mut all = Hosts::new(alloc);
+    check(rt, all.is_put(host(1, 101, 1)));
+    check(rt, all.is_put(host(2, 102, 2)));
+    check(rt, all.is_put(host(3, 103, 3)));
+    check(rt, all.map.remove2(&102).is_some());
+    check(rt, all.map.remove1(&3).is_some());
+    check(rt, all.is_put(host(4, 104, 4)));
+    check(rt, all.is_put(host(5, 105, 5)));
     all
 }
 
 // The loads of the hosts that are in the way, in the order in which they are shown; 0 for none.
-fn in_the_way(all: &mut BiHashMap<Host>, new: Host) -> (u32, u32) {
-    match all.insert_unique(new) {
+fn in_the_way(all: &mut Hosts, new: Host) -> (u32, u32) {
+    match all.map.insert_unique(new) {
         Err(InsertError::Duplicate(both)) => match both.duplicates() {
             Few::One(a) => (a.load, 0),
             Few::Two(a, b) | Few::Three(a, b, _) => (a.load, b.load),
@@ -42,15 +42,15 @@ fn in_the_way(all: &mut BiHashMap<Host>, new: Host) -> (u32, u32) {
 #[test]
 fn lookups(rt: HostRuntime) {
     let all = hosts(&rt, rt.alloc());
-    check(&rt, all.len() == 3);
-    check(&rt, all.get1(&4).is_some_and(|found| found.load == 4));
-    check(&rt, all.get2(&104).is_some_and(|found| found.load == 4));
-    check(&rt, !all.contains_key1(&2));
-    check(&rt, !all.contains_key2(&103));
-    check(&rt, all.get_unique(&4, &104).is_some());
-    check(&rt, all.get_unique(&4, &105).is_none());
-    check(&rt, all.contains_key_unique(&5, &105));
-    check(&rt, all.iter().count() == 3);
+    check(&rt, all.map.len() == 3);
+    check(&rt, all.map.get1(&4).is_some_and(|found| found.load == 4));
+    check(&rt, all.map.get2(&104).is_some_and(|found| found.load == 4));
+    check(&rt, !all.map.contains_key1(&2));
+    check(&rt, !all.map.contains_key2(&103));
+    check(&rt, all.map.get_unique(&4, &104).is_some());
+    check(&rt, all.map.get_unique(&4, &105).is_none());
+    check(&rt, all.map.contains_key_unique(&5, &105));
+    check(&rt, all.map.iter().count() == 3);
 }
 
 #[test]
@@ -61,32 +61,33 @@ fn met_by_one_key_or_both(rt: HostRuntime) {
     check(&rt, in_the_way(&mut all, host(1, 101, 9)) == (1, 0));
     check(&rt, in_the_way(&mut all, host(4, 101, 9)) == (1, 4));
     check(&rt, in_the_way(&mut all, host(1, 104, 9)) == (1, 4));
-    check(&rt, all.len() == 3);
+    check(&rt, all.map.len() == 3);
     check(&rt, in_the_way(&mut all, host(9, 9, 9)) == (0, 0));
-    check(&rt, all.len() == 4);
+    check(&rt, all.map.len() == 4);
 }
 
 #[test]
 fn one_or_two_overwritten(rt: HostRuntime) {
     let mut all = hosts(&rt, rt.alloc());
-    match all.insert_overwrite(host(4, 101, 9)) {
+    match all.map.insert_overwrite(host(4, 101, 9)) {
         Ok(Some(Few::Two(a, b))) => check(&rt, (a.load, b.load) == (4, 1)),
         _ => check(&rt, false),
     }
-    check(&rt, all.len() == 2);
-    match all.insert_overwrite(host(4, 101, 10)) {
+    check(&rt, all.map.len() == 2);
+    match all.map.insert_overwrite(host(4, 101, 10)) {
         Ok(Some(Few::One(a))) => check(&rt, a.load == 9),
         _ => check(&rt, false),
     }
     check(
         &rt,
-        matches!(all.insert_overwrite(host(7, 107, 7)), Ok(None)),
+        matches!(all.map.insert_overwrite(host(7, 107, 7)), Ok(None)),
     );
-    check(&rt, all.len() == 3);
-    check(&rt, all.remove_unique(&4, &107).is_none());
+    check(&rt, all.map.len() == 3);
+    check(&rt, all.map.remove_unique(&4, &107).is_none());
     check(
         &rt,
-        all.remove_unique(&4, &101)
+        all.map
+            .remove_unique(&4, &101)
             .is_some_and(|gone| gone.load == 10),
     );
 }
@@ -94,11 +95,11 @@ fn one_or_two_overwritten(rt: HostRuntime) {
 #[test]
 fn room_and_limit(rt: HostRuntime) {
     let mut all = hosts(&rt, rt.alloc());
-    check(&rt, all.reserve(1000).is_ok());
-    check(&rt, all.spare() >= 1000);
-    check(&rt, all.try_reserve(2000).is_ok());
-    all.clear();
-    check(&rt, all.is_empty() && all.spare() >= 2000);
+    check(&rt, all.map.reserve(1000).is_ok());
+    check(&rt, all.map.spare() >= 1000);
+    check(&rt, all.map.try_reserve(2000).is_ok());
+    all.map.clear();
+    check(&rt, all.map.is_empty() && all.map.spare() >= 2000);
     let mut few: BiHashMap<Host> = BiHashMap::with_limit(rt.alloc(), 1, Default::default());
     check(&rt, few.insert_unique(host(1, 1, 1)).is_ok());
     match few.insert_unique(host(2, 2, 2)) {
@@ -119,27 +120,21 @@ fn room_and_limit(rt: HostRuntime) {
 #[test]
 fn guards_and_visits(rt: HostRuntime) {
     let mut all = hosts(&rt, rt.alloc());
-    if let Some(mut found) = all.get1_mut(&4) {
-        found.load = 40;
-        found.finish();
-    }
-    if let Some(mut found) = all.get2_mut(&105) {
-        found.load = 50;
-        found.finish();
-    }
-    if let Some(mut found) = all.get_mut_unique(&1, &101) {
-        found.load = 10;
-        found.finish();
-    }
-    check(&rt, all.get_mut_unique(&1, &105).is_none());
-    check(&rt, all.get2(&104).is_some_and(|found| found.load == 40));
-    check(&rt, all.get1(&5).is_some_and(|found| found.load == 50));
-    check(&rt, all.get1(&1).is_some_and(|found| found.load == 10));
-    all.retain(|there| there.load < 50);
-    check(&rt, all.len() == 2 && !all.contains_key2(&105));
-    check(&rt, all.validate(ValidateCompact::NonCompact).is_ok());
+    all.set_by_number(4, 40);
+    all.set_by_address(105, 50);
+    check(&rt, all.set_by_both(1, 101, 10));
+    check(&rt, !all.set_by_both(1, 105, 10));
+    check(
+        &rt,
+        all.map.get2(&104).is_some_and(|found| found.load == 40),
+    );
+    check(&rt, all.map.get1(&5).is_some_and(|found| found.load == 50));
+    check(&rt, all.map.get1(&1).is_some_and(|found| found.load == 10));
+    all.map.retain(|there| there.load < 50);
+    check(&rt, all.map.len() == 2 && !all.map.contains_key2(&105));
+    check(&rt, all.map.validate(ValidateCompact::NonCompact).is_ok());
     let mut loads = 0;
-    for there in all {
+    for there in all.map {
         loads = there.load.saturating_add(loads);
     }
     check(&rt, loads == 50);

@@ -1,4 +1,4 @@
-//! What `Debug` writes of maps, entries and guards, and `Display` of errors that hold an item.
+//! What `Debug` writes of maps, and `Display` of errors that hold an item.
 use crate::checks::check;
 use iddqd::errors::{
     DuplicateItem, ExtendError, ExtendUniqueError, Few, FromIterError, InsertError, Refused,
@@ -84,67 +84,6 @@ fn hash_map_for_debugging(rt: HostRuntime) {
     check(&rt, is_debugged(alloc, &doors, items));
     let keyed = "{1: Door { number: 1, open: false }}";
     check(&rt, is_debugged(alloc, &doors.debug_with_keys(), keyed));
-}
-
-#[test]
-fn entries_in_order_for_debugging(rt: HostRuntime) {
-    let alloc = rt.alloc();
-    let mut doors = two_in_order(alloc);
-    let occupied = "Occupied(OccupiedEntry { item: Door { number: 1, open: false }, .. })";
-    check(&rt, is_debugged(alloc, &doors.entry(&1), occupied));
-    let vacant = "Vacant(VacantEntry { .. })";
-    check(&rt, is_debugged(alloc, &doors.entry(&3), vacant));
-}
-
-#[test]
-fn entries_by_hash_for_debugging(rt: HostRuntime) {
-    let alloc = rt.alloc();
-    let mut doors = one_by_hash(alloc);
-    let occupied = "Occupied(OccupiedEntry { item: Door { number: 1, open: false }, .. })";
-    check(&rt, is_debugged(alloc, &doors.entry(&1), occupied));
-    let vacant = "Vacant(VacantEntry { .. })";
-    check(&rt, is_debugged(alloc, &doors.entry(&3), vacant));
-}
-
-// A guard is written as its item, before it is spent and after.
-#[test]
-fn guard_in_order_for_debugging(rt: HostRuntime) {
-    let alloc = rt.alloc();
-    let mut doors = two_in_order(alloc);
-    if let Some(mut door) = doors.get_mut(&2) {
-        door.open = true;
-        let item = "Door { number: 2, open: true }";
-        let before = is_debugged(alloc, &door, item);
-        let door = door.into_ref();
-        check(&rt, before && is_debugged(alloc, &door, item));
-    }
-}
-
-#[test]
-fn guard_by_hash_for_debugging(rt: HostRuntime) {
-    let alloc = rt.alloc();
-    let mut doors = one_by_hash(alloc);
-    if let Some(mut door) = doors.get_mut(&1) {
-        door.open = true;
-        let item = "Door { number: 1, open: true }";
-        let before = is_debugged(alloc, &door, item);
-        let door = door.into_ref();
-        check(&rt, before && is_debugged(alloc, &door, item));
-    }
-}
-
-#[test]
-fn walks_for_debugging(rt: HostRuntime) {
-    let alloc = rt.alloc();
-    let walk = "IterMut { .. }";
-    check(
-        &rt,
-        is_debugged(alloc, &two_in_order(alloc).iter_mut(), walk),
-    );
-    check(
-        &rt,
-        is_debugged(alloc, &one_by_hash(alloc).iter_mut(), walk),
-    );
 }
 
 fn refused(item: u32) -> Refused<u32> {

@@ -16,8 +16,6 @@ mod ordered;
 #[cfg(test)]
 mod plain;
 #[cfg(test)]
-mod ranged;
-#[cfg(test)]
 mod refused;
 #[cfg(test)]
 mod runs;
