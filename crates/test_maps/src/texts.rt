@@ -1,10 +1,13 @@
-//! What `Debug` writes of maps, and `Display` of errors that hold an item.
+//! What `Debug` writes of maps, entries and guards, and `Display` of errors that hold an item.
+ghost use Rattle.std.specs.Ordering.{nat_cmp};
+ghost use Rattle.iddqd.specs.Contents.{Ascends};
+
 use crate::checks::check;
 use iddqd::errors::{
     DuplicateItem, ExtendError, ExtendUniqueError, Few, FromIterError, InsertError, Refused,
     TryReserveError,
 };
-use iddqd::{IdHashItem, IdHashMap, IdOrdItem, IdOrdMap};
+use iddqd::{IdHashItem, IdHashMap, IdOrdItem, IdOrdMap, Keyed};
 use std::alloc::{AllocError, Global};
 use std::fmt::{Debug, Display};
 use std::io;
@@ -52,14 +55,18 @@ fn is_displayed(alloc: Global, value: &impl Display, expected: &str) -> bool {
 }
 
 // Two doors, the greater number first.
-fn two_in_order(alloc: Global) -> IdOrdMap<Door> {
+fn two_in_order(alloc: Global) -> IdOrdMap<Door>
+    ensures keyed { Ascends (λ door. door.number) nat_cmp result.items }
+{
     let mut doors = IdOrdMap::new(alloc);
     let _ = doors.insert_overwrite(shut(2));
     let _ = doors.insert_overwrite(shut(1));
     doors
 }
 
-fn one_by_hash(alloc: Global) -> IdHashMap<Door> {
+fn one_by_hash(alloc: Global) -> IdHashMap<Door>
+    ensures keyed { ⟦<IdHashMap<Door> as Keyed>⟧.keyed result }
+{
     let mut doors = IdHashMap::new(alloc);
     let _ = doors.insert_overwrite(shut(1));
     doors
@@ -84,6 +91,76 @@ fn hash_map_for_debugging(rt: HostRuntime) {
     check(&rt, is_debugged(alloc, &doors, items));
     let keyed = "{1: Door { number: 1, open: false }}";
     check(&rt, is_debugged(alloc, &doors.debug_with_keys(), keyed));
+}
+
+// The entry of the number.
+fn is_entry_in_order(alloc: Global, number: u32, expected: &str) -> bool {
+    is_debugged(alloc, &two_in_order(alloc).entry(&number), expected)
+}
+
+fn is_entry_by_hash(alloc: Global, number: u32, expected: &str) -> bool {
+    is_debugged(alloc, &one_by_hash(alloc).entry(&number), expected)
+}
+
+#[test]
+fn entries_for_debugging(rt: HostRuntime) {
+    let alloc = rt.alloc();
+    let occupied = "Occupied(OccupiedEntry { item: Door { number: 1, open: false }, .. })";
+    check(&rt, is_entry_in_order(alloc, 1, occupied));
+    check(&rt, is_entry_by_hash(alloc, 1, occupied));
+    let vacant = "Vacant(VacantEntry { .. })";
+    check(&rt, is_entry_in_order(alloc, 3, vacant));
+    check(&rt, is_entry_by_hash(alloc, 3, vacant));
+}
+
+// Opens the door of the number, and shows its guard, before it is spent and after.
+#[tactic(auto, using(iddqd::proofs::GuardLemmas::same_key_kept))]
+fn is_guard_in_order(alloc: Global, number: u32, expected: &str) -> bool {
+    match two_in_order(alloc).get_mut(&number) {
+        Some(mut door) => {
+            door.open = true;
+            let is_before = is_debugged(alloc, &door, expected);
+            let door = door.into_ref();
+            is_before && is_debugged(alloc, &door, expected)
+        }
+        None => false,
+    }
+}
+
+#[tactic(auto, using(iddqd::proofs::GuardLemmas::hash_key_kept))]
+fn is_guard_by_hash(alloc: Global, number: u32, expected: &str) -> bool {
+    match one_by_hash(alloc).get_mut(&number) {
+        Some(mut door) => {
+            door.open = true;
+            let is_before = is_debugged(alloc, &door, expected);
+            let door = door.into_ref();
+            is_before && is_debugged(alloc, &door, expected)
+        }
+        None => false,
+    }
+}
+
+// A guard is written as its item.
+#[test]
+fn guards_for_debugging(rt: HostRuntime) {
+    let alloc = rt.alloc();
+    let open = "Door { number: 1, open: true }";
+    check(&rt, is_guard_in_order(alloc, 1, open));
+    check(&rt, is_guard_by_hash(alloc, 1, open));
+}
+
+#[test]
+fn walks_for_debugging(rt: HostRuntime) {
+    let alloc = rt.alloc();
+    let walk = "IterMut { .. }";
+    check(
+        &rt,
+        is_debugged(alloc, &two_in_order(alloc).iter_mut(), walk),
+    );
+    check(
+        &rt,
+        is_debugged(alloc, &one_by_hash(alloc).iter_mut(), walk),
+    );
 }
 
 fn refused(item: u32) -> Refused<u32> {

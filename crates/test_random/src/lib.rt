@@ -16,6 +16,8 @@ mod ordered;
 #[cfg(test)]
 mod plain;
 #[cfg(test)]
+mod ranged;
+#[cfg(test)]
 mod refused;
 #[cfg(test)]
 mod runs;

@@ -7,7 +7,7 @@ use test_support::caseless::Coarse;
 use test_support::maps::Ordered;
 
 // The greatest count of comparisons among this many items: four, and two more for each binary digit of the count.
-fn bound(count: usize) -> u32 {
+pub(crate) fn bound(count: usize) -> u32 {
     let digits = 64_u32.saturating_sub((count as u64).leading_zeros());
     digits.saturating_mul(2).saturating_add(4)
 }

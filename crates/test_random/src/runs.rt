@@ -4,7 +4,7 @@ use crate::draws::Draws;
 use crate::lengths::{CALLS, MANY_CALLS, MAPS};
 use crate::plain::Plain;
 use crate::writing::{Written, write_first};
-use crate::{calls, many, ordered};
+use crate::{calls, many, ordered, ranged};
 use iddqd::{IdHashMap, IdOrdMap};
 use std::alloc::{AllocError, Global};
 use std::collections::hash_map::RandomState;
@@ -187,20 +187,28 @@ enum OrderedCall {
     RemoveCounted,
     ShowOrInsert,
     ShowInserted,
+    Position,
+    RemovePosition,
+    Range,
+    RemoveRange,
     OfEither(Call),
 }
 
-// A fourth of the calls are an ordered map's alone.
+// A third of the calls are an ordered map's alone.
 fn drawn_ordered_call(draws: &mut Draws) -> OrderedCall {
-    if draws.below(4) != 0 {
+    if draws.below(3) != 0 {
         return OrderedCall::OfEither(drawn_call(draws));
     }
-    match draws.below(8) {
-        0..=1 => OrderedCall::Pop,
-        2..=4 => OrderedCall::InsertCounted,
-        5 => OrderedCall::RemoveCounted,
-        6 => OrderedCall::ShowOrInsert,
-        _ => OrderedCall::ShowInserted,
+    match draws.below(24) {
+        0..=2 => OrderedCall::Pop,
+        3..=9 => OrderedCall::InsertCounted,
+        10..=11 => OrderedCall::RemoveCounted,
+        12..=13 => OrderedCall::ShowOrInsert,
+        14..=15 => OrderedCall::ShowInserted,
+        16..=18 => OrderedCall::Position,
+        19 => OrderedCall::RemovePosition,
+        20..=22 => OrderedCall::Range,
+        _ => OrderedCall::RemoveRange,
     }
 }
 
@@ -217,6 +225,10 @@ fn is_answered_in_order(
         OrderedCall::RemoveCounted => Ok(ordered::remove_counted(map, plain, draws)),
         OrderedCall::ShowOrInsert => ordered::show_or_insert(map, plain, draws),
         OrderedCall::ShowInserted => ordered::show_inserted(map, plain, draws),
+        OrderedCall::Position => Ok(ranged::position(map, plain, draws)),
+        OrderedCall::RemovePosition => Ok(ranged::remove_position(map, plain, draws)),
+        OrderedCall::Range => ranged::range(alloc, map, draws),
+        OrderedCall::RemoveRange => ranged::remove_range(alloc, map, plain, draws),
         OrderedCall::OfEither(call) => is_answered(alloc, map, plain, draws, call),
     }
 }
