@@ -7,16 +7,21 @@
 --     BiInserts      an item was inserted
 --     BiKeeps      nothing has changed but the room, which may have grown
 --     LosesPlaceOf      a slot is gone
+--     LeavesVacant      these items' slots are vacant
 -- Searches, insertions and refusals:
 --     HasHash      each key that a query stands for has this hash
 --     FindsSlot      the slot of the item that a query finds by one key
+--     IsOccupied, AreOccupied      a slot has an item, and each of several has
+--     AreItemsOf      the items of several slots are lent
+--     AreSlotsMet, Displaces, KeepsUnmet      of an item: the slots of those that have one of its keys; those are returned; the others stay
 --     BiOverwrites      the item was inserted, and those that had one of its keys are returned
 --     RefusesItem, BiHandsBack      a refused item is returned, beside the existing ones or because there is no room
 -- After a loan:
 --     ends_bi_inserted      what the map is once the result of an insertion is dropped
-use Rattle.std.specs.Prelude.{◌≡◌, ℕ, ◌+◌, [], Bool, true, length, map, IfErr, IfNone, IfSome, IsSome, OnSome, Option, Result, Some}
-use Rattle.std.specs.Borrow.{Fml, RattleType, MutBor, LendsSoOk, unit}
+use Rattle.std.specs.Prelude.{◌≡◌, ℕ, ◌+◌, [], Bool, true, List, length, map, IfErr, IfNone, IfSome, IsSome, OnSome, Option, Result, Some}
+use Rattle.std.specs.Borrow.{Bor, Fml, RattleType, MutBor, LendsSoOk, unit}
 use Rattle.std.specs.Hash.{HashWrites}
+use Rattle.std.specs.List.{AllByRecursion, filter_map}
 use Rattle.std.specs.Option.{option_and_then}
 use Rattle.iddqd_store.specs.Contents.{AddsItem, find_item}
 use Rattle.iddqd_store.specs.Errors.{new_item_of, duplicates_of, values_of}
@@ -58,6 +63,19 @@ module _ {S T : Type 0} where
   abbrev pub LosesPlaceOf : ℕ → BiHashItems S T → BiHashItems S T → Type 0
   LosesPlaceOf slot old new = changes.LosesPlaceOf slot (by_key1 old) (by_key1 new)
 
+  abbrev pub LeavesVacant : BiHashItems S T → BiHashItems S T → Few T → Type 0
+  LeavesVacant old new few = new.vacant ≡ old.vacant + length (values_of few)
+
+  abbrev pub IsOccupied : BiHashItems S T → ℕ → Type 0
+  IsOccupied m slot = IsSome (item_of_slot m.slots m.items slot)
+
+  abbrev pub AreOccupied : BiHashItems S T → List ℕ → Type 0
+  AreOccupied m slots = AllByRecursion (λ slot. IsSome (item_of_slot m.slots m.items slot)) slots
+
+  -- what is lent are the items of these slots, in this order
+  abbrev pub AreItemsOf : BiHashItems S T → List ℕ → List (Bor T) → Type 0
+  AreItemsOf m slots lents = map (λ lent. Some lent.now) lents ≡ map (item_of_slot m.slots m.items) slots
+
   -- each key that passes the test has this hash
   abbrev pub HasHash : {K : Type 0} → (BiHashItems S T → HashWrites → ℕ) → BiHashItems S T → (K → Bool) → (K → HashWrites) → ℕ → Type 0
   HasHash hash m test input h = (k : _) → test k ≡ true → hash m (input k) ≡ h
@@ -82,6 +100,10 @@ module _ {S T : Type 0} where
       pub keeps : KeepsItems (holding_of old) (holding_of new)
       pub stays : BiStays old new
 
+-- what is returned are the items that have one of x's keys
+abbrev pub Displaces : {T K L : Type 0} (key1 : T → K) (key2 : T → L) (eq1 : K → K → Bool) (eq2 : L → L → Bool) → T → List T → Option (Few T) → Type 0
+Displaces key1 key2 eq1 eq2 x items back = values_if_any back ≡ items_displaced key1 key2 eq1 eq2 x items
+
 module _ {S T K L : Type 0} (key1 : T → K) (key2 : T → L) (eq1 : K → K → Bool) (eq2 : L → L → Bool) where
   -- x is returned: beside the items that have one of its keys, in the order of their slots, or because there was no room
   abbrev pub RefusesItem : BiHashItems S T → T → InsertError T → Type 0
@@ -89,6 +111,13 @@ module _ {S T K L : Type 0} (key1 : T → K) (key2 : T → L) (eq1 : K → K →
       (new_item_of d ≡ x) × (map (λ lent. lent.now) (duplicates_of d) ≡ items_met key1 key2 eq1 eq2 x m.items)
   RefusesItem m x (Refused r) =
       (r.item ≡ x) × (items_met key1 key2 eq1 eq2 x m.items ≡ []) × (r.error ≡ refusal_kind m.limit m.items)
+
+  -- the slots that are found, if any, are of the items that have one of x's keys
+  abbrev pub AreSlotsMet : T → BiHashItems S T → Option (Few ℕ) → Type 0
+  AreSlotsMet x m found = filter_map (item_of_slot m.slots m.items) (values_if_any found) ≡ items_met key1 key2 eq1 eq2 x m.items
+
+  abbrev pub KeepsUnmet : T → BiHashItems S T → BiHashItems S T → Type 0
+  KeepsUnmet x old new = new.items ≡ items_unmet key1 key2 eq1 eq2 x old.items
 
   -- x was refused room, since nothing was spare, and is returned; no item has one of its keys
   pub record BiHandsBack (m : BiHashItems S T) (x : T) (r : refused.Refused T) : Type 0 where
@@ -99,7 +128,7 @@ module _ {S T K L : Type 0} (key1 : T → K) (key2 : T → L) (eq1 : K → K →
 
   -- x was inserted, and the items that had one of its keys are returned; if there were some, no memory was needed
   pub record BiOverwrites (IsKeyed : BiHashItems S T → Type 0) (x : T) (old new : BiHashItems S T) (back : Option (Few T)) : Type 0 where
-    pub displaced : values_if_any back ≡ items_displaced key1 key2 eq1 eq2 x old.items
+    pub displaced : Displaces key1 key2 eq1 eq2 x old.items back
     pub put : AddsItem x (items_unmet key1 key2 eq1 eq2 x old.items) new.items
     pub slots : HaveSlots new.slots new.items
     pub vacant : IfSome back (λ few. new.vacant + 1 ≡ old.vacant + length (values_of few))

@@ -9,11 +9,12 @@
 --     shown_map, shown_item, shown_lender      the same of what `into_ref` returns
 --     lends_item, item_follows, guard_follows      the map, or the guard, ends with the last value written
 --     rests_at_none      with no guard the map stays as it is
-use Rattle.std.specs.Prelude.{◌≡◌, ℕ, [], Bool, IsTrue, Option, Some}
+use Rattle.std.specs.Prelude.{◌≡◌, ℕ, [], Bool, Option, Some}
 use Rattle.std.specs.Borrow.{Fml, GName, RattleType, MutBor, Lends, RestsIfNone, follows}
 use mir.Syntax.{named}
 use Rattle.iddqd_store.specs.Contents.{find_item, items_overwritten}
 use Rattle.iddqd_store.specs.SlotItems.{item_of_slot, still_there, written_to_slot}
+use Rattle.iddqd_hash_parts.specs.declared.keyed.Keyed as keyed
 use Rattle.iddqd_bi_hash.specs.BiHashItems.{BiHashItems}
 use Rattle.iddqd_bi_hash.specs.TwoKeys.{find_by_both}
 use Rattle.iddqd_bi_hash.specs.declared.bi_hash_map.ref_mut.RefMut.{RefMut}
@@ -69,13 +70,13 @@ module _ {S T K L : Type 0} (key1 : T → K) (key2 : T → L) where
   abbrev pub GuardFindsByBoth : (K → Bool) → (L → Bool) → RefMut T S → Type 0
   GuardFindsByBoth test1 test2 r = find_by_both key1 key2 test1 test2 (lent_map r).items ≡ lent_item r
 
-  -- the map is keyed after a write of an item of the same keys, or of equal ones
+  -- the map is keyed after a write of an item of the same keys
   abbrev pub GuardKeeps : (BiHashItems S T → Type 0) → RefMut T S → Type 0
   GuardKeeps IsKeyed r = (x w : T) → lent_item r ≡ Some x → key1 w ≡ key1 x → key2 w ≡ key2 x → IsKeyed (lent_with r w)
 
-  abbrev pub GuardKeepsAkin : (K → K → Bool) → (L → L → Bool) → (BiHashItems S T → Type 0) → RefMut T S → Type 0
-  GuardKeepsAkin eq1 eq2 IsKeyed r =
-      (x w : T) → lent_item r ≡ Some x → IsTrue (eq1 (key1 x) (key1 w)) → IsTrue (eq2 (key2 x) (key2 w)) → IsKeyed (lent_with r w)
+-- the map is keyed after a write of an item of equal keys
+abbrev pub GuardKeepsAkin : {S T : Type 0} → keyed.Ghosts (BiHashItems S T) T → RefMut T S → Type 0
+GuardKeepsAkin {S} {T} map r = (x w : T) → lent_item r ≡ Some x → map.akin x w → map.keyed (lent_with r w)
 
 module _ (S T : RattleType) where
   abbrev pub lends_item : MutBor (BiHashItems S.Denot T.Denot) → ℕ → MutBor T.Denot → Fml

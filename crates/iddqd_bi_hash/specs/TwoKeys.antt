@@ -1,6 +1,6 @@
 -- A plain list of items that have two keys. By one key alone, all is as in a list of items of that key (`Contents`).
 --     find_by_both, FindsByBoth, LacksByBoth      the item whose keys pass both tests (`get_unique`), or that there is none
---     items_without_both      the items, without that one
+--     items_without_both, RemovesByBoth      the items, without that one; it was removed
 --     items_met, items_unmet      of an item: the items that have one of its keys, in their order and each once, and the others
 --     items_displaced      of an item: those that have one of its keys, that of the first key first (`insert_overwrite`)
 use Rattle.std.specs.Borrow.{Bor}
@@ -29,6 +29,9 @@ module _ {T K L : Type 0} (key1 : T → K) (key2 : T → L) where
 
   abbrev pub items_without_both : (K → Bool) → (L → Bool) → List T → List T
   items_without_both test1 test2 items = filter (λ x. not (passes_both test1 test2 x)) items
+
+  abbrev pub RemovesByBoth : (K → Bool) → (L → Bool) → List T → List T → Type 0
+  RemovesByBoth test1 test2 old new = new ≡ items_without_both test1 test2 old
 
   module _ (eq1 : K → K → Bool) (eq2 : L → L → Bool) (x : T) where
     abbrev pub has_one_of_keys : T → Bool

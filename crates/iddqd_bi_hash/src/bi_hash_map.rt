@@ -75,9 +75,13 @@ impl<T, S> Model for BiHashMap<T, S> {
 impl<T: BiHashItem, S: BuildHasher> Keyed for BiHashMap<T, S> {
     ghost use Rattle.iddqd_bi_hash.specs.BiHashItems.{IsKeyedByBoth};
 
+    type Item = T;
+
     ghost keyed = { IsKeyedByBoth T.key1 T.key2 T.K1.eq T.K2.eq T.K1.hash_input T.K2.hash_input (hash_under S.BuildHasher S.Hasher.Hasher) };
 
     ghost hash = { λ m. hash_under S.BuildHasher S.Hasher.Hasher m.hasher };
+
+    ghost akin = { λ x y. IsTrue (T.K1.eq (T.key1 x) (T.key1 y)) × IsTrue (T.K2.eq (T.key2 x) (T.key2 y)) };
 }
 
 impl<T, S> BiHashMap<T, S> {

@@ -14,7 +14,7 @@
 --     VisitsEntry      the entry's item was visited
 --     entry_follows      the entry ends with the last value written to its item
 --     EntryKeeps, EntryKeepsAkin      an item of the same key, or of an equal one, may be written
---     rests_if_refused, lends_or_keeps, enters_or_keeps      if an item was refused, the map keeps its items
+--     rests_if_refused, lent_or_kept, entered_or_kept      if an item was refused, the map keeps its items
 pub use Rattle.iddqd_hash.specs.declared.id_hash_map.entry.Entry.TheVariants.{Vacant, Occupied}
 use Rattle.std.specs.Prelude.{◌≡◌, ℕ, [], Bool, IfNone, IfSome, IsSome, IsTrue, List, Option, None, Some, Result, option_map}
 use Rattle.std.specs.Borrow.{Fml, GName, RattleType, MutBor, RestsIfErr, follows}
@@ -28,6 +28,7 @@ use Rattle.iddqd_hash.specs.declared.id_hash_map.entry.OccupiedEntry.{OccupiedEn
 use Rattle.iddqd_hash.specs.declared.id_hash_map.ref_mut.RefMut.{RefMut}
 use Rattle.iddqd_hash.specs.Guard.{guard_lender, lent_item, lent_map, lent_with, with_item_in}
 use Rattle.iddqd_hash_parts.specs.HashItems.{HashItems, holding_of}
+use Rattle.iddqd_hash_parts.specs.declared.keyed.Keyed as keyed
 use Rattle.iddqd_hash.specs.HashMap.{HashHandsBack, HashInserts, HashKeeps, HashStays}
 use Rattle.iddqd_hash.specs.contracts.id_hash_map.IdHashMap as map
 use Rattle.iddqd_hash.specs.contracts.id_hash_map.entry.OccupiedEntry as occupied
@@ -122,24 +123,24 @@ module _ {S T K : Type 0} (key : T → K) where
   abbrev pub EntryHandsBack : (K → K → Bool) → Entry T S → T → Refused T → Type 0
   EntryHandsBack eq e x refused = HashHandsBack key eq (entry_map e) x refused
 
-module _ {S T : Type 0} (IsKeyed : HashItems S T → Type 0) where
+module _ {S T : Type 0} (own : keyed.Ghosts (HashItems S T) T) where
   -- the entry's item was removed from its map
   pub record RemovesAt (x : T) (e : OccupiedEntry T S) (new : HashItems S T) : Type 0 where
     pub item : entry_item (Occupied e) ≡ Some x
     pub others : new.items ≡ entry_others (Occupied e)
     pub removes : Removes (Some x) (holding_of (entry_map (Occupied e))) (holding_of new)
-    pub stays : HashStays IsKeyed (entry_map (Occupied e)) new
+    pub stays : HashStays own.keyed (entry_map (Occupied e)) new
 
   -- x was inserted into the entry's map, and the guard lends it; a write through it is as if that item had been inserted
   pub record LendsInserted (x : T) (e : Entry T S) (r : RefMut T S) : Type 0 where
-    pub inserts : HashInserts IsKeyed x (entry_map e) (lent_map r)
+    pub inserts : HashInserts own.keyed x (entry_map e) (lent_map r)
     pub item : lent_item r ≡ Some x
     pub written : (w : T) → AddsItem w (entry_map e).items (lent_with r w).items
 
   -- x was inserted into the entry's map, and this is its entry
   pub record EntersInserted (x : T) (e : Entry T S) (found : OccupiedEntry T S) : Type 0 where
     pub lender : entry_lender (Occupied found) ≡ entry_lender e
-    pub inserts : HashInserts IsKeyed x (entry_map e) (entry_map (Occupied found))
+    pub inserts : HashInserts own.keyed x (entry_map e) (entry_map (Occupied found))
     pub item : entry_item (Occupied found) ≡ Some x
     pub written : (w : T) → AddsItem w (entry_map e).items (entry_with (Occupied found) w).items
     pub others : entry_others (Occupied found) ≡ (entry_map e).items
@@ -150,15 +151,14 @@ module _ {S T : Type 0} (IsKeyed : HashItems S T → Type 0) where
   abbrev pub LendsMade : (T → Type 0) → Entry T S → RefMut T S → Type 0
   LendsMade made e r = entry_item e ≡ None → (x : T) × made x × LendsInserted x e r
 
--- if the map is keyed, it is so after a write of an item of the same key, or of an equal one
-module _ {S T K : Type 0} (key : T → K) (IsKeyed : HashItems S T → Type 0) where
-  abbrev pub EntryKeeps : OccupiedEntry T S → MutBor T → Type 0
-  EntryKeeps e lent =
-      IsKeyed (entry_map (Occupied e)) → (w : T) → key w ≡ key lent.now → IsKeyed (entry_with (Occupied e) w)
+  -- if the map is keyed, it is so after a write of an item of the same key, or of an equal one
+  abbrev pub EntryKeeps : {K : Type 0} → (T → K) → OccupiedEntry T S → MutBor T → Type 0
+  EntryKeeps key e lent =
+      own.keyed (entry_map (Occupied e)) → (w : T) → key w ≡ key lent.now → own.keyed (entry_with (Occupied e) w)
 
-  abbrev pub EntryKeepsAkin : (K → K → Bool) → OccupiedEntry T S → MutBor T → Type 0
-  EntryKeepsAkin eq e lent =
-      IsKeyed (entry_map (Occupied e)) → (w : T) → IsTrue (eq (key lent.now) (key w)) → IsKeyed (entry_with (Occupied e) w)
+  abbrev pub EntryKeepsAkin : OccupiedEntry T S → MutBor T → Type 0
+  EntryKeepsAkin e lent =
+      own.keyed (entry_map (Occupied e)) → (w : T) → own.akin lent.now w → own.keyed (entry_with (Occupied e) w)
 
 module _ (S T : RattleType) where
   -- the entry's lifetime is the second of the signature
@@ -167,11 +167,11 @@ module _ (S T : RattleType) where
       follows (occupied.the_row (record { mir = named 1; lft = [] }) T S) T e.ghost_name x.ghost_name (with_entry_item e.now)
 
   -- if an item was refused, the map behind the entry keeps its items; otherwise the result holds the map under this name
-  abbrev pub rests_if_refused : {A E : Type 0} → (HashItems S.Denot T.Denot → Type 0) → (A → GName) → Entry T.Denot S.Denot → Result A E → Fml
-  rests_if_refused IsKeyed name e r = RestsIfErr (map.the_row T S) (entry_map_ref e) name r (HashKeeps IsKeyed (entry_map e))
+  abbrev pub rests_if_refused : {A E : Type 0} → keyed.Ghosts (HashItems S.Denot T.Denot) T.Denot → (A → GName) → Entry T.Denot S.Denot → Result A E → Fml
+  rests_if_refused own name e r = RestsIfErr (map.the_row T S) (entry_map_ref e) name r (HashKeeps own.keyed (entry_map e))
 
-  abbrev pub lends_or_keeps : {E : Type 0} → (HashItems S.Denot T.Denot → Type 0) → Entry T.Denot S.Denot → Result (RefMut T.Denot S.Denot) E → Fml
-  lends_or_keeps IsKeyed e r = rests_if_refused IsKeyed guard_lender e r
+  abbrev pub lent_or_kept : {E : Type 0} → keyed.Ghosts (HashItems S.Denot T.Denot) T.Denot → Entry T.Denot S.Denot → Result (RefMut T.Denot S.Denot) E → Fml
+  lent_or_kept own e r = rests_if_refused own guard_lender e r
 
-  abbrev pub enters_or_keeps : {E : Type 0} → (HashItems S.Denot T.Denot → Type 0) → Entry T.Denot S.Denot → Result (OccupiedEntry T.Denot S.Denot) E → Fml
-  enters_or_keeps IsKeyed e r = rests_if_refused IsKeyed (λ found. entry_lender (Occupied found)) e r
+  abbrev pub entered_or_kept : {E : Type 0} → keyed.Ghosts (HashItems S.Denot T.Denot) T.Denot → Entry T.Denot S.Denot → Result (OccupiedEntry T.Denot S.Denot) E → Fml
+  entered_or_kept own e r = rests_if_refused own (λ found. entry_lender (Occupied found)) e r

@@ -9,12 +9,13 @@
 --     shown_map, shown_item, shown_lender      the same of what `into_ref` returns
 --     lends_item, item_follows, guard_follows      the map, or the guard, ends with the last value written
 --     rests_at_none      with no guard the map stays as it is
-use Rattle.std.specs.Prelude.{◌≡◌, ℕ, [], Bool, IsTrue, Option, Some}
+use Rattle.std.specs.Prelude.{◌≡◌, ℕ, [], Bool, Option, Some}
 use Rattle.std.specs.Borrow.{Fml, GName, RattleType, MutBor, Lends, RestsIfNone, follows}
 use mir.Syntax.{named}
 use Rattle.iddqd_store.specs.Contents.{find_item, items_overwritten}
 use Rattle.iddqd_store.specs.SlotItems.{item_of_slot, still_there, written_to_slot}
 use Rattle.iddqd_hash_parts.specs.HashItems.{HashItems}
+use Rattle.iddqd_hash_parts.specs.declared.keyed.Keyed as keyed
 use Rattle.iddqd_hash.specs.declared.id_hash_map.ref_mut.RefMut.{RefMut}
 use Rattle.iddqd_hash.specs.declared.id_hash_map.ref_mut.Shown.{Shown}
 use Rattle.iddqd_hash.specs.contracts.id_hash_map.IdHashMap as map
@@ -71,12 +72,13 @@ module _ {S T K : Type 0} (key : T → K) where
   abbrev pub GuardOverwrites : (K → Bool) → HashItems S T → RefMut T S → Type 0
   GuardOverwrites test m r = (w : T) → (with_item_in m (lent_slot r) w).items ≡ items_overwritten key test w m.items
 
-  -- the map is keyed after a write of an item of the same key, or of an equal one
+  -- the map is keyed after a write of an item of the same key
   abbrev pub GuardKeeps : (HashItems S T → Type 0) → RefMut T S → Type 0
   GuardKeeps IsKeyed r = (x w : T) → lent_item r ≡ Some x → key w ≡ key x → IsKeyed (lent_with r w)
 
-  abbrev pub GuardKeepsAkin : (K → K → Bool) → (HashItems S T → Type 0) → RefMut T S → Type 0
-  GuardKeepsAkin eq IsKeyed r = (x w : T) → lent_item r ≡ Some x → IsTrue (eq (key x) (key w)) → IsKeyed (lent_with r w)
+-- the map is keyed after a write of an item of an equal key
+abbrev pub GuardKeepsAkin : {S T : Type 0} → keyed.Ghosts (HashItems S T) T → RefMut T S → Type 0
+GuardKeepsAkin {S} {T} map r = (x w : T) → lent_item r ≡ Some x → map.akin x w → map.keyed (lent_with r w)
 
 module _ (S T : RattleType) where
   abbrev pub lends_item : MutBor (HashItems S.Denot T.Denot) → ℕ → MutBor T.Denot → Fml

@@ -5,12 +5,13 @@
 --     walk_with w x      the map once x is written to the item that the walk lends next
 --     walk_lends      the walk ends with the last value written to the item, and one item further
 --     WalkKeeps, WalkKeepsAkin      an item of the same key, or of an equal one, may be written
-use Rattle.std.specs.Prelude.{◌≡◌, ℕ, ◌+◌, [], Bool, IfSome, IsTrue, Option, slice_get, slice_set}
+use Rattle.std.specs.Prelude.{◌≡◌, ℕ, ◌+◌, [], IfSome, Option, slice_get, slice_set}
 use Rattle.std.specs.Borrow.{Fml, GName, RattleType, MutBor, LendsIf}
 use Rattle.std.proofs.Common.{refl}
 use mir.Syntax.{named}
 use Rattle.iddqd_hash_parts.specs.HashItems.{HashItems}
 use Rattle.iddqd_hash_parts.specs.SlotOrder.{behind}
+use Rattle.iddqd_hash_parts.specs.declared.keyed.Keyed as keyed
 use Rattle.iddqd_hash.specs.declared.id_hash_map.iter_mut.IterMut.{IterMut}
 use Rattle.iddqd_hash.specs.contracts.id_hash_map.iter_mut.IterMut as walk
 
@@ -46,11 +47,11 @@ module _ (S T : RattleType) where
   walk_lends w r = LendsIf (walk.the_row (record { mir = named 1; lft = [] }) T S) T w r (with_next w.now) w.now
 
 -- if the map is keyed, it is so after a write of an item of the same key, or of an equal one
-module _ {S T K : Type 0} (key : T → K) (IsKeyed : HashItems S T → Type 0) where
-  abbrev pub WalkKeeps : IterMut T S → Option (MutBor T) → Type 0
-  WalkKeeps walk result =
+module _ {S T : Type 0} where
+  abbrev pub WalkKeeps : {K : Type 0} → (T → K) → (HashItems S T → Type 0) → IterMut T S → Option (MutBor T) → Type 0
+  WalkKeeps key IsKeyed walk result =
       IsKeyed (walk_map walk) → IfSome result (λ lent. (w : T) → key w ≡ key lent.now → IsKeyed (walk_with walk w))
 
-  abbrev pub WalkKeepsAkin : (K → K → Bool) → IterMut T S → Option (MutBor T) → Type 0
-  WalkKeepsAkin eq walk result =
-      IsKeyed (walk_map walk) → IfSome result (λ lent. (w : T) → IsTrue (eq (key lent.now) (key w)) → IsKeyed (walk_with walk w))
+  abbrev pub WalkKeepsAkin : keyed.Ghosts (HashItems S T) T → IterMut T S → Option (MutBor T) → Type 0
+  WalkKeepsAkin map walk result =
+      map.keyed (walk_map walk) → IfSome result (λ lent. (w : T) → map.akin lent.now w → map.keyed (walk_with walk w))

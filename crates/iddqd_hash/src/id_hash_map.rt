@@ -81,9 +81,13 @@ impl<T, S> Model for IdHashMap<T, S> {
 impl<T: IdHashItem, S: BuildHasher> Keyed for IdHashMap<T, S> {
     ghost use Rattle.iddqd_hash_parts.specs.HashItems.{IsKeyed};
 
+    type Item = T;
+
     ghost keyed = { IsKeyed T.key T.Key.eq T.Key.hash_input (hash_under S.BuildHasher S.Hasher.Hasher) };
 
     ghost hash = { λ m. hash_under S.BuildHasher S.Hasher.Hasher m.hasher };
+
+    ghost akin = { λ x y. IsTrue (T.Key.eq (T.key x) (T.key y)) };
 }
 
 impl<T, S> IdHashMap<T, S> {

@@ -16,17 +16,12 @@ use Rattle.std.specs.List.{filter_map, sum_by}
 use Rattle.std.specs.Option.{option_and_then}
 use Rattle.iddqd_hash_index.specs.HashPairs.{HashPairs, SamePairs, of_slot}
 use Rattle.iddqd_store.specs.Contents.{find_item}
-use Rattle.iddqd_store.specs.Refusal.{RefusalKind, reservation_kind}
 use Rattle.iddqd_store.specs.Store.{Store, item_at, store_len, vacant}
 use Rattle.iddqd_hash_parts.specs.HashItems.{HashItems}
 
 -- each slot is listed once, so the sum is its one hash
 abbrev pub hash_of_slot : List (ℕ × ℕ) → ℕ → ℕ
 hash_of_slot pairs slot = sum_by (λ p. if p.1 == slot then p.0 else 0) pairs
-
--- why room for so many items in all was refused
-abbrev pub IsKindOf : ℕ → ℕ → RefusalKind → Type 0
-IsKindOf limit wanted kind = kind ≡ reservation_kind limit wanted
 
 module _ {T : Type 0} where
   abbrev pub items_in : Store T → List T

@@ -1,6 +1,6 @@
 //! From slot to slot, in the order of their numbers.
-ghost use Rattle.std.specs.Prelude.{◌≡◌, ◌<◌, length, IfNone, IfSome};
-ghost use Rattle.iddqd_hash_parts.specs.SlotOrder.{AreRising, IsNext, slots_below};
+ghost use Rattle.std.specs.Prelude.{◌<◌, IfNone, IfSome};
+ghost use Rattle.iddqd_hash_parts.specs.SlotOrder.{AreBelow, AreRising, IsNext};
 ghost use Rattle.iddqd_hash_parts.specs.StoreAndIndex.{slots_in};
 
 use iddqd_store::ItemStore;
@@ -13,7 +13,7 @@ pub fn slot_from<T>(store: &ItemStore<T>, from: u32) -> Option<u32>
     ensures fits { IfSome result (λ slot. slot < u32.MAX) }
 
     // if none has
-    ensures none { IfNone result (slots_below from (slots_in store.now) ≡ length (slots_in store.now)) }
+    ensures none { IfNone result (AreBelow (slots_in store.now) from) }
 
     // either way
     ensures rises { AreRising (slots_in store.now) }

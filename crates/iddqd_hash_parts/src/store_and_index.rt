@@ -3,9 +3,9 @@ ghost use Rattle.std.specs.Prelude.{◌≡◌, ◌+◌, ◌-◌, ◌<◌, ◌≤
 ghost use Rattle.std.specs.Prelude.{min as least};
 ghost use Rattle.iddqd_store.specs.Contents.{NoTwoAkin};
 ghost use Rattle.iddqd_hash_index.specs.HashPairs.{HasOneMore, SamePairs};
-ghost use Rattle.iddqd_store.specs.Refusal.{memory_refused, refusal_kind};
+ghost use Rattle.iddqd_store.specs.Refusal.{IsKindOf, memory_refused, refusal_kind};
 ghost use Rattle.iddqd_store.specs.Store.{item_at, store_len, vacant, HasRoomFor, Updates};
-ghost use Rattle.iddqd_hash_parts.specs.StoreAndIndex.{AreHashed, GrowsRoom, IsKindOf, IsOnlySlot, IsSlotFound, KeepsBounds, PairsOccupied, items_in, room_in, spare_in};
+ghost use Rattle.iddqd_hash_parts.specs.StoreAndIndex.{AreHashed, GrowsRoom, IsOnlySlot, IsSlotFound, KeepsBounds, PairsOccupied, items_in, room_in, spare_in};
 
 use iddqd_hash_index::HashIndex;
 use iddqd_store::{Equivalent, ItemStore, KeyOf, Steps, TryReserveError};
@@ -22,6 +22,8 @@ pub fn find_slot<T, K: KeyOf<T>, Q: Equivalent<K::Key>>(
     requires paired { PairsOccupied store.now index.now.pairs }
     requires differ { NoTwoAkin K.key K.Key.eq (items_in store.now) }
     requires stored { AreHashed K.key (Q.equivalent query.now) store.now index.now.pairs hash }
+
+    // what it finds
     ensures item { IsSlotFound K.key (Q.equivalent query.now) store.now result }
     ensures only { IsOnlySlot K.key (Q.equivalent query.now) store.now result }
     ensures listed { IfSome result (λ slot. Contains index.now.pairs (hash, slot)) }
@@ -70,7 +72,7 @@ pub fn reserve_room<T>(
     // on success
     ensures in_limit { OnOk result (length index.old.pairs + additional ≤ store.old.limit) }
     ensures spare_left { OnOk result (additional ≤ spare_in store.new index.new) }
-    ensures capacity_left { OnOk result (length index.old.pairs + additional ≤ store.new.capacity) }
+    ensures in_memory { OnOk result (length index.old.pairs + additional ≤ store.new.capacity) }
 
     // on refusal
     ensures kind { IfErr result (IsKindOf store.old.limit (length index.old.pairs + additional)) }

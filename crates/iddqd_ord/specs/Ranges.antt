@@ -9,6 +9,7 @@
 --     number_less      how many items are less than the query
 --     IsIndexOf      the item at the position found is the one that the query finds; without one, there is none
 --     bound_now      a bound by the value of its query
+--     FindsRange, RemovesRange      the items whose keys lie in a range are found, or were removed
 --     SplitsAt, EndsAt      the elements that pass are those from a position on, or those before it
 --     StartsAt, StopsAt      the position of the first item from a bound on, or of the first one behind it
 use Rattle.std.specs.Borrow.{Bor}
@@ -17,8 +18,10 @@ use Rattle.std.specs.Prelude.{◌≡◌, ℕ, ◌-◌, ◌<◌, ◌≤◌, Bool,
 use Rattle.std.specs.declared.cmp.Ordering.{Ordering}
 use Rattle.std.specs.Ordering.{is_ge, is_gt, is_le, is_lt}
 use Rattle.std.specs.declared.ops.Bound.{Bound}
+use Rattle.std.specs.declared.ops.RangeBounds as range_bounds
 use Rattle.std.specs.declared.ops.Bound.TheVariants.{Included, Excluded, Unbounded}
-use Rattle.iddqd_store.specs.Contents.{IsAbsent, find_item}
+use Rattle.iddqd_store.specs.Contents.{IsAbsent, find_item, items_without}
+use Rattle.iddqd_store.specs.Holding.{Holding}
 
 module _ {Q K : Type 0} (compare : Q → K → Ordering) where
   -- the key is not before the bound
@@ -41,6 +44,19 @@ module _ {Q K : Type 0} (compare : Q → K → Ordering) where
     -- the items whose keys are between the bounds
     abbrev pub items_between : Bound Q → Bound Q → List T → List T
     items_between low high items = filter (λ x. is_between low high (key x)) items
+
+-- of a range whose bounds are what its trait says (std's `has_bounds`)
+module _ {R Q K T : Type 0} (bounds : range_bounds.Ghosts R Q) (compare : Q → K → Ordering) (key : T → K) where
+  -- the items whose keys lie in the range
+  abbrev pub FindsRange : R → List T → List T → Type 0
+  FindsRange range items found =
+      bounds.has_bounds range → found ≡ items_between compare key (bounds.start_bound range) (bounds.end_bound range) items
+
+  -- those items were removed
+  abbrev pub RemovesRange : R → Holding T → Holding T → Type 0
+  RemovesRange range old new =
+      bounds.has_bounds range
+      → new.items ≡ items_without key (is_between compare (bounds.start_bound range) (bounds.end_bound range)) old.items
 
 -- the value of the query of a bound
 abbrev pub bound_now : {Q : Type 0} → Bound (Bor Q) → Bound Q

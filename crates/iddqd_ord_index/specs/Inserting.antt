@@ -1,6 +1,7 @@
 -- How an insertion by a key ends.
 --     IfFound, OnInserted, IfUnprepared      what holds if an item has the key, if the slot was inserted, if a node is needed
---     FindsIn, BelongsIn, InsertsIn      the slot of the key's item, the place where the key belongs, an insertion there
+--     BelongsIn      the place where a query belongs
+--     FindsIn, InsertsIn, ReturnsPlace      what each end of an insertion says: the slot of the key's item, an insertion, the place
 --     KeepsUnlessInserted old new result      nothing has changed but by an insertion
 --     HasFor, KeepsStock, EndsIn      the unused nodes, and how the insertion ends in a node; inside
 use Rattle.std.specs.Prelude.{◌≡◌, ℕ, Bool, false, ◌<◌, ◌≤◌, IsTrue, List, OnSome, Some, Err, insert}
@@ -35,17 +36,22 @@ IfUnprepared Inserted P = Unit
 IfUnprepared (Unprepared place) P = P place
 
 module _ {T K : Type 0} (key : T → K) where
-  -- the slot of the item whose key passes the test
-  abbrev pub FindsIn : (K → Bool) → Store T → List ℕ → ℕ → Type 0
-  FindsIn test store slots slot = FindsSlot key test store slots (Some slot)
+  -- a slot that was found is that of the item whose key passes the test
+  abbrev pub FindsIn : (K → Bool) → Store T → List ℕ → Insertion → Type 0
+  FindsIn test store slots result = IfFound result (λ slot. FindsSlot key test store slots (Some slot))
 
   -- the place where the query belongs, which no item's key is equal to
   abbrev pub BelongsIn : (K → Ordering) → Store T → List ℕ → ℕ → Type 0
   BelongsIn compare store slots place = IsPlaceAmong compare (listed_keys key store slots) (Err place)
 
-  -- the slot was inserted there
-  abbrev pub InsertsIn : (K → Ordering) → Store T → ℕ → SlotList → SlotList → Type 0
-  InsertsIn compare store slot old new = (place : ℕ) × BelongsIn compare store old.slots place × (new ≡ unprepared (insert old.slots place slot))
+  -- if the slot was inserted, it is where the query belongs
+  abbrev pub InsertsIn : (K → Ordering) → Store T → ℕ → SlotList → SlotList → Insertion → Type 0
+  InsertsIn compare store slot old new result =
+      OnInserted result ((place : ℕ) × BelongsIn compare store old.slots place × (new ≡ unprepared (insert old.slots place slot)))
+
+  -- if a node is needed, it returns the place where the query belongs
+  abbrev pub ReturnsPlace : (K → Ordering) → Store T → List ℕ → Insertion → Type 0
+  ReturnsPlace compare store slots result = IfUnprepared result (BelongsIn compare store slots)
 
 -- the index is as it was, unless the slot was inserted
 abbrev pub KeepsUnlessInserted : SlotList → SlotList → Insertion → Type 0

@@ -1,5 +1,5 @@
 -- What the fields of a node show. No public clause cites this module.
-use Rattle.std.specs.Prelude.{◌≡◌, ℕ, ◌+◌, List, [], All, insert, length, map, Option, Some, None}
+use Rattle.std.specs.Prelude.{◌≡◌, ℕ, ◌+◌, List, [], ◌++◌, All, insert, length, map, Option, Some, None}
 use Rattle.std.proofs.Common.{Box, Global}
 use Rattle.iddqd_ord_index.specs.Cells.{filled, items_present, IsPacked}
 use Rattle.arrayvec.specs.ArrayVec.{ArrayVec}
@@ -50,6 +50,14 @@ IsThere (Some b) = Unit
 
 abbrev pub HasBlock : Branches → Type 0
 HasBlock bs = IsThere bs.block
+
+-- the branches of two blocks, those of the second behind those of the first
+abbrev pub JoinsBlocks : (lower upper all : Block) → Type 0
+JoinsBlocks lower upper all = subtrees all.nodes ≡ subtrees lower.nodes ++ subtrees upper.nodes
+
+-- two blocks have the branches of one, and one more behind the i-th
+abbrev pub SplitsWith : ℕ → Subtree → (old lower upper : Block) → Type 0
+SplitsWith i more old lower upper = insert (subtrees old.nodes) (i + 1) more ≡ subtrees lower.nodes ++ subtrees upper.nodes
 
 -- a block without branches
 abbrev pub IsBare : Block → Type 0

@@ -48,6 +48,10 @@ module _ {T K : Type 0} (key : T → K) where
   abbrev pub items_without : (K → Bool) → List T → List T
   items_without test items = filter (λ x. not (test (key x))) items
 
+  -- the item whose key passes the test was removed, if there was one
+  abbrev pub RemovesFound : (K → Bool) → List T → List T → Type 0
+  RemovesFound test old new = new ≡ items_without test old
+
   -- the items, with y in place of the one whose key passes the test (`insert_overwrite`)
   abbrev pub items_overwritten : (K → Bool) → T → List T → List T
   items_overwritten test y items = map (λ x. if test (key x) then y else x) items

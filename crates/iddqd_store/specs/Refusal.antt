@@ -33,6 +33,10 @@ refusal_kind limit items = if length items == limit then limit_refused else memo
 abbrev pub reservation_kind : ℕ → ℕ → RefusalKind
 reservation_kind limit wanted = if nat_lt limit wanted then limit_refused else memory_refused
 
+-- why room for so many items in all was refused
+abbrev pub IsKindOf : ℕ → ℕ → RefusalKind → Type 0
+IsKindOf limit wanted kind = kind ≡ reservation_kind limit wanted
+
 -- the list is this one value
 abbrev pub IsOnly : {T : Type 0} → List (Bor T) → T → Type 0
 IsOnly [] x = ⊥

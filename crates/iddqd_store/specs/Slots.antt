@@ -1,5 +1,6 @@
 -- How the slots of an `ItemStore` are stored, and the chain of the vacant ones. No public clause cites this file.
 use Rattle.std.specs.Prelude.{◌≡◌, ◌≢◌, ℕ, ◌^◌, ◌<◌, ◌≤◌, List, map, length, Option, Some, None, is_some, count_by, slice_index_or, if◌then◌else◌, ◌==◌}
+use Rattle.iddqd_store.specs.Store.{MovesLast}
 use Rattle.iddqd_store.specs.declared.item_store.chain.Slot.{Slot}
 use Rattle.iddqd_store.specs.declared.item_store.chain.Slot.TheVariants.{Vacant, Occupied}
 
@@ -21,6 +22,10 @@ module _ {T : Type 0} where
   -- the item of each slot
   abbrev pub items_of : List (Slot T) → List (Option T)
   items_of es = map item_of es
+
+  -- the item of the last slot moves to the vacant one
+  abbrev pub MovesItem : List (Slot T) → List (Slot T) → (last hole : ℕ) → Type 0
+  MovesItem old new last hole = MovesLast (items_of old) (items_of new) last hole
 
   -- the links of the slot of this number
   abbrev pub links_at : List (Slot T) → ℕ → Option (ℕ × ℕ)

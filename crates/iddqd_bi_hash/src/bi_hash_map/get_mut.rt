@@ -11,12 +11,13 @@ use iddqd_store::Equivalent;
 use std::hash::{BuildHasher, Hash};
 
 impl<T, S> BiHashMap<T, S> {
+    ghost use Rattle.iddqd_bi_hash.specs.BiHashMap.{IsOccupied};
     ghost use Rattle.iddqd_bi_hash.specs.Guard.{lends_item};
 
     // The item of the slot, for writing.
     #[inline]
     pub(super) fn item_in_slot_mut(&mut self, slot: u32) -> &mut T
-        requires { IsSome (item_of_slot self.old.slots self.old.items slot) }
+        requires { IsOccupied self.old slot }
         ensures* writes_back { sem 𝓛 (lends_item S.row T.row self.entry slot result) }
         ensures value { item_of_slot self.old.slots self.old.items slot ≡ Some result.now }
     {
@@ -41,7 +42,7 @@ impl<T: BiHashItem, S: BuildHasher> BiHashMap<T, S> {
         ensures found { IfSome result (GuardFinds T.key1 (Q.equivalent query.now)) }
         ensures written { IfSome result (GuardOverwrites T.key1 (Q.equivalent query.now) self.old) }
         ensures keyed { IfSome result (GuardKeeps T.key1 T.key2 ⟦<Self as Keyed>⟧.keyed) }
-        ensures keyed_akin { IfSome result (GuardKeepsAkin T.key1 T.key2 T.K1.eq T.K2.eq ⟦<Self as Keyed>⟧.keyed) }
+        ensures keyed_akin { IfSome result (GuardKeepsAkin ⟦<Self as Keyed>⟧) }
 
         // if none is
         ensures* unchanged_at_none { sem 𝓛 (rests_at_none S.row T.row self.entry result) }
@@ -71,7 +72,7 @@ impl<T: BiHashItem, S: BuildHasher> BiHashMap<T, S> {
         ensures found { IfSome result (GuardFinds T.key2 (Q.equivalent query.now)) }
         ensures written { IfSome result (GuardOverwrites T.key2 (Q.equivalent query.now) self.old) }
         ensures keyed { IfSome result (GuardKeeps T.key1 T.key2 ⟦<Self as Keyed>⟧.keyed) }
-        ensures keyed_akin { IfSome result (GuardKeepsAkin T.key1 T.key2 T.K1.eq T.K2.eq ⟦<Self as Keyed>⟧.keyed) }
+        ensures keyed_akin { IfSome result (GuardKeepsAkin ⟦<Self as Keyed>⟧) }
 
         // if none is
         ensures* unchanged_at_none { sem 𝓛 (rests_at_none S.row T.row self.entry result) }
@@ -105,7 +106,7 @@ impl<T: BiHashItem, S: BuildHasher> BiHashMap<T, S> {
         ensures found { IfSome result (GuardFindsByBoth T.key1 T.key2 (Q.equivalent query1.now) (R.equivalent query2.now)) }
         ensures written { IfSome result (GuardOverwrites T.key1 (Q.equivalent query1.now) self.old) }
         ensures keyed { IfSome result (GuardKeeps T.key1 T.key2 ⟦<Self as Keyed>⟧.keyed) }
-        ensures keyed_akin { IfSome result (GuardKeepsAkin T.key1 T.key2 T.K1.eq T.K2.eq ⟦<Self as Keyed>⟧.keyed) }
+        ensures keyed_akin { IfSome result (GuardKeepsAkin ⟦<Self as Keyed>⟧) }
 
         // if none is
         ensures* unchanged_at_none { sem 𝓛 (rests_at_none S.row T.row self.entry result) }

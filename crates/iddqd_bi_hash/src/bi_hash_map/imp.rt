@@ -1,6 +1,6 @@
 //! Lookups and removals by one of the keys.
 ghost use Rattle.std.specs.Prelude.{◌≡◌, IfNone, IsSome, Some, is_some};
-ghost use Rattle.iddqd_store.specs.Contents.{Finds, find_item, items_without};
+ghost use Rattle.iddqd_store.specs.Contents.{Finds, RemovesFound, find_item};
 ghost use Rattle.iddqd_store.specs.Holding.{Removes};
 ghost use Rattle.iddqd_store.specs.SlotItems.{item_of_slot};
 
@@ -13,7 +13,7 @@ use std::hash::{BuildHasher, Hash};
 impl<T: BiHashItem, S: BuildHasher> BiHashMap<T, S> {
     ghost use Rattle.iddqd_hash_parts.specs.HashItems.{HashesAsKeys};
     ghost use Rattle.iddqd_bi_hash.specs.BiHashItems.{holding_of};
-    ghost use Rattle.iddqd_bi_hash.specs.BiHashMap.{BiStays, LosesPlaceOf, SpareFits};
+    ghost use Rattle.iddqd_bi_hash.specs.BiHashMap.{BiStays, IsOccupied, LosesPlaceOf, SpareFits};
 
     /// Returns the item that the query finds by the first key, or `None`. Hashes the query once, and compares at most as
     /// many keys as have its hash. Does not allocate.
@@ -72,7 +72,7 @@ impl<T: BiHashItem, S: BuildHasher> BiHashMap<T, S> {
 
         // what is removed
         ensures value { result ≡ find_item T.key1 (Q.equivalent query.now) self.old.items }
-        ensures items { self.new.items ≡ items_without T.key1 (Q.equivalent query.now) self.old.items }
+        ensures items { RemovesFound T.key1 (Q.equivalent query.now) self.old.items self.new.items }
         ensures removed { Removes result (holding_of self.old) (holding_of self.new) }
         ensures unchanged { IfNone result (self.new ≡ self.old) }
 
@@ -94,7 +94,7 @@ impl<T: BiHashItem, S: BuildHasher> BiHashMap<T, S> {
 
         // what is removed
         ensures value { result ≡ find_item T.key2 (Q.equivalent query.now) self.old.items }
-        ensures items { self.new.items ≡ items_without T.key2 (Q.equivalent query.now) self.old.items }
+        ensures items { RemovesFound T.key2 (Q.equivalent query.now) self.old.items self.new.items }
         ensures removed { Removes result (holding_of self.old) (holding_of self.new) }
         ensures unchanged { IfNone result (self.new ≡ self.old) }
 
@@ -110,7 +110,7 @@ impl<T: BiHashItem, S: BuildHasher> BiHashMap<T, S> {
     // Removes the item of the slot, with the hashes that are stored for it.
     pub(super) fn take_hashed(&mut self, hash1: u64, hash2: u64, slot: u32) -> T
         requires keyed { ⟦<Self as Keyed>⟧.keyed self.old }
-        requires there { IsSome (item_of_slot self.old.slots self.old.items slot) }
+        requires there { IsOccupied self.old slot }
         requires listed1 { item_of_slot self.old.slots self.old.hashes1 slot ≡ Some hash1 }
         requires listed2 { item_of_slot self.old.slots self.old.hashes2 slot ≡ Some hash2 }
 

@@ -23,9 +23,15 @@ impl<T: BiHashItem, S: BuildHasher> BiHashMap<T, S> {
     /// leaves nothing known of the map, if the items own memory.
     pub fn insert_unique(&mut self, item: T) -> Result<&mut (), InsertError<'_, T>>
         requires keyed { ⟦<Self as Keyed>⟧.keyed self.old }
+
+        // once the result is dropped
         ensures* after { sem 𝓛 (ends_bi_inserted S.row T.row ⟦<Self as Keyed>⟧.keyed self.entry result item) }
+
+        // on success
         ensures absent1 { OnOk result (IsAbsent T.key1 (T.K1.eq (T.key1 item)) self.old.items) }
         ensures absent2 { OnOk result (IsAbsent T.key2 (T.K2.eq (T.key2 item)) self.old.items) }
+
+        // on refusal
         ensures refused { IfErr result (RefusesItem T.key1 T.key2 T.K1.eq T.K2.eq self.old item) }
         ensures no_spare { IfErr result (OnRefused (self.old.spare ≡ 0)) }
     {
@@ -47,7 +53,11 @@ impl<T: BiHashItem, S: BuildHasher> BiHashMap<T, S> {
         requires absent { items_met T.key1 T.key2 T.K1.eq T.K2.eq item self.old.items ≡ [] }
         requires hash1 { hash1 ≡ ⟦<Self as Keyed>⟧.hash self.old (T.K1.hash_input (T.key1 item)) }
         requires hash2 { hash2 ≡ ⟦<Self as Keyed>⟧.hash self.old (T.K2.hash_input (T.key2 item)) }
+
+        // on success
         ensures inserts { OnOk result (BiInserts ⟦<Self as Keyed>⟧.keyed item self.old self.new) }
+
+        // on refusal
         ensures refused { IfErr result (BiHandsBack T.key1 T.key2 T.K1.eq T.K2.eq self.old item) }
         ensures kept { OnErr result (BiKeeps ⟦<Self as Keyed>⟧.keyed self.old self.new) }
     {
@@ -65,6 +75,8 @@ impl<T: BiHashItem, S: BuildHasher> BiHashMap<T, S> {
         requires hash1 { hash1 ≡ ⟦<Self as Keyed>⟧.hash self.old (T.K1.hash_input (T.key1 item)) }
         requires hash2 { hash2 ≡ ⟦<Self as Keyed>⟧.hash self.old (T.K2.hash_input (T.key2 item)) }
         requires room { 0 < self.old.spare }
+
+        // afterwards
         ensures inserts { BiInserts ⟦<Self as Keyed>⟧.keyed item self.old self.new }
         ensures capacity { self.new.capacity ≡ self.old.capacity }
     {

@@ -2,7 +2,7 @@
 ghost use Rattle.std.specs.Prelude.{◌≡◌, ◌+◌, ◌<◌, ◌++◌, length, IfOk, IfErr, IfNone, IfSome, OnErr, OnSome};
 ghost use Rattle.iddqd_store.specs.Errors.{values_of};
 ghost use Rattle.iddqd_hash_parts.specs.SlotsFound.{values_if_any};
-ghost use Rattle.iddqd_bi_hash.specs.TwoKeys.{as_list, items_displaced, items_unmet};
+ghost use Rattle.iddqd_bi_hash.specs.TwoKeys.{as_list};
 
 use super::{BiHashMap, Keyed};
 use crate::items::BiHashItem;
@@ -22,7 +22,7 @@ fn few_of<T>(one: Option<T>, other: Option<T>) -> Option<Few<T>>
 }
 
 impl<T: BiHashItem, S: BuildHasher> BiHashMap<T, S> {
-    ghost use Rattle.iddqd_bi_hash.specs.BiHashMap.{BiHandsBack, BiKeeps, BiOverwrites, BiStays};
+    ghost use Rattle.iddqd_bi_hash.specs.BiHashMap.{BiHandsBack, BiKeeps, BiOverwrites, BiStays, Displaces, KeepsUnmet, LeavesVacant};
 
     /// Inserts the item, and removes and returns the one or two items that have one of its keys, that of the first key
     /// first. If there is one, this needs no memory and is never refused. If there is none, inserts the item as
@@ -60,10 +60,10 @@ impl<T: BiHashItem, S: BuildHasher> BiHashMap<T, S> {
         requires keyed { ⟦<Self as Keyed>⟧.keyed self.old }
 
         // what is removed
-        ensures displaced { values_if_any result ≡ items_displaced T.key1 T.key2 T.K1.eq T.K2.eq item.now self.old.items }
-        ensures items { self.new.items ≡ items_unmet T.key1 T.key2 T.K1.eq T.K2.eq item.now self.old.items }
+        ensures displaced { Displaces T.key1 T.key2 T.K1.eq T.K2.eq item.now self.old.items result }
+        ensures items { KeepsUnmet T.key1 T.key2 T.K1.eq T.K2.eq item.now self.old self.new }
         ensures unchanged { IfNone result (self.new ≡ self.old) }
-        ensures vacant { IfSome result (λ few. self.new.vacant ≡ self.old.vacant + length (values_of few)) }
+        ensures vacant { IfSome result (LeavesVacant self.old self.new) }
 
         // room
         ensures room { OnSome result (0 < self.new.spare) }

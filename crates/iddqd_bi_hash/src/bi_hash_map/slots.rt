@@ -1,11 +1,9 @@
 //! The slots that searches find, and their items.
 ghost use Rattle.std.specs.Prelude.{◌≡◌, ◌<◌, IfNone, IfSome, IsSome, Some, length, map};
-ghost use Rattle.std.specs.List.{AllByRecursion, filter_map};
 ghost use Rattle.iddqd_store.specs.Errors.{values_of};
 ghost use Rattle.iddqd_store.specs.SlotItems.{HaveSlots, item_of_slot};
-ghost use Rattle.iddqd_hash_parts.specs.SlotOrder.{AreRising, IsNext, slots_below};
+ghost use Rattle.iddqd_hash_parts.specs.SlotOrder.{AreBelow, AreRising, IsNext};
 ghost use Rattle.iddqd_hash_parts.specs.SlotsFound.{values_if_any};
-ghost use Rattle.iddqd_bi_hash.specs.TwoKeys.{items_met};
 
 use super::by_key::{First, Second};
 use super::{BiHashMap, Keyed};
@@ -15,10 +13,12 @@ use iddqd_store::{Equivalent, Few};
 use std::hash::BuildHasher;
 
 impl<T, S> BiHashMap<T, S> {
+    ghost use Rattle.iddqd_bi_hash.specs.BiHashMap.{AreItemsOf, AreOccupied, IsOccupied};
+
     // The item of the slot.
     #[inline]
     pub(super) fn item_in_slot(&self, slot: u32) -> &T
-        requires { IsSome (item_of_slot self.now.slots self.now.items slot) }
+        requires { IsOccupied self.now slot }
         ensures { item_of_slot self.now.slots self.now.items slot ≡ Some result.now }
     {
         self.store.get(slot).unwrap()
@@ -26,8 +26,8 @@ impl<T, S> BiHashMap<T, S> {
 
     // The items of the slots.
     pub(super) fn items_in_slots(&self, slots: Few<u32>) -> Few<&T>
-        requires { AllByRecursion (λ slot. IsSome (item_of_slot self.now.slots self.now.items slot)) (values_of slots) }
-        ensures { map (λ lent. Some lent.now) (values_of result) ≡ map (item_of_slot self.now.slots self.now.items) (values_of slots) }
+        requires { AreOccupied self.now (values_of slots) }
+        ensures { AreItemsOf self.now (values_of slots) (values_of result) }
     {
         match slots {
             Few::One(a) => Few::One(self.item_in_slot(a)),
@@ -51,7 +51,7 @@ impl<T, S> BiHashMap<T, S> {
         ensures fits { IfSome result (λ slot. slot < u32.MAX) }
 
         // if none has
-        ensures none { IfNone result (slots_below from self.now.slots ≡ length self.now.slots) }
+        ensures none { IfNone result (AreBelow self.now.slots from) }
 
         // either way
         ensures rises { AreRising self.now.slots }
@@ -64,7 +64,7 @@ impl<T, S> BiHashMap<T, S> {
 
 impl<T: BiHashItem, S: BuildHasher> BiHashMap<T, S> {
     ghost use Rattle.iddqd_bi_hash.specs.BiHashItems.{by_key1, by_key2};
-    ghost use Rattle.iddqd_bi_hash.specs.BiHashMap.{FindsSlot, HasHash, SpareFits};
+    ghost use Rattle.iddqd_bi_hash.specs.BiHashMap.{AreOccupied, AreSlotsMet, FindsSlot, HasHash, SpareFits};
 
     // Returns the slot of the item that the query finds by the first key. The hash is that of each key for which the
     // query stands.
@@ -94,8 +94,8 @@ impl<T: BiHashItem, S: BuildHasher> BiHashMap<T, S> {
         requires keyed { ⟦<Self as Keyed>⟧.keyed self.now }
         requires hash1 { hash1 ≡ ⟦<Self as Keyed>⟧.hash self.now (T.K1.hash_input (T.key1 item.now)) }
         requires hash2 { hash2 ≡ ⟦<Self as Keyed>⟧.hash self.now (T.K2.hash_input (T.key2 item.now)) }
-        ensures there { AllByRecursion (λ slot. IsSome (item_of_slot self.now.slots self.now.items slot)) (values_if_any result) }
-        ensures met { filter_map (item_of_slot self.now.slots self.now.items) (values_if_any result) ≡ items_met T.key1 T.key2 T.K1.eq T.K2.eq item.now self.now.items }
+        ensures there { AreOccupied self.now (values_if_any result) }
+        ensures met { AreSlotsMet T.key1 T.key2 T.K1.eq T.K2.eq item.now self.now result }
     {
         let one = find_slot::<T, First, T::K1>(&self.store, &self.index1, hash1, item.key1());
         let other = find_slot::<T, Second, T::K2>(&self.store, &self.index2, hash2, item.key2());

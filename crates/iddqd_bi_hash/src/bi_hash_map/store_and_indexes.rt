@@ -1,9 +1,9 @@
 //! Calls that change the store and both indexes together. No key plays a part.
 ghost use Rattle.std.specs.Prelude.{◌≡◌, ◌+◌, ◌-◌, ◌<◌, ◌≤◌, length, IfErr, OnOk, OnErr, Some, None, Contains};
 ghost use Rattle.iddqd_hash_index.specs.HashPairs.{HasOneMore};
-ghost use Rattle.iddqd_store.specs.Refusal.{refusal_kind};
+ghost use Rattle.iddqd_store.specs.Refusal.{IsKindOf, refusal_kind};
 ghost use Rattle.iddqd_store.specs.Store.{item_at, store_len, vacant, HasRoomFor, Updates};
-ghost use Rattle.iddqd_hash_parts.specs.StoreAndIndex.{GrowsRoom, IsKindOf, KeepsBounds};
+ghost use Rattle.iddqd_hash_parts.specs.StoreAndIndex.{GrowsRoom, KeepsBounds};
 ghost use Rattle.iddqd_bi_hash.specs.StoreAndIndexes.{ArePaired, spare_in_both};
 
 use iddqd_hash_index::HashIndex;
@@ -50,7 +50,7 @@ pub(super) fn reserve_room<T>(
     // on success
     ensures in_limit { OnOk result (length index1.old.pairs + additional ≤ store.old.limit) }
     ensures spare_left { OnOk result (additional ≤ spare_in_both store.new index1.new index2.new) }
-    ensures capacity_left { OnOk result (length index1.old.pairs + additional ≤ store.new.capacity) }
+    ensures in_memory { OnOk result (length index1.old.pairs + additional ≤ store.new.capacity) }
 
     // on refusal
     ensures kind { IfErr result (IsKindOf store.old.limit (length index1.old.pairs + additional)) }

@@ -1,7 +1,7 @@
 //! Lookups and removals by both keys of one item.
 ghost use Rattle.std.specs.Prelude.{◌≡◌, IfNone, is_some};
 ghost use Rattle.iddqd_store.specs.Holding.{Removes};
-ghost use Rattle.iddqd_bi_hash.specs.TwoKeys.{FindsByBoth, find_by_both, items_without_both};
+ghost use Rattle.iddqd_bi_hash.specs.TwoKeys.{FindsByBoth, RemovesByBoth, find_by_both};
 
 use super::{BiHashMap, Keyed};
 use crate::items::BiHashItem;
@@ -59,7 +59,7 @@ impl<T: BiHashItem, S: BuildHasher> BiHashMap<T, S> {
 
         // what is removed
         ensures value { result ≡ find_by_both T.key1 T.key2 (Q.equivalent query1.now) (R.equivalent query2.now) self.old.items }
-        ensures items { self.new.items ≡ items_without_both T.key1 T.key2 (Q.equivalent query1.now) (R.equivalent query2.now) self.old.items }
+        ensures items { RemovesByBoth T.key1 T.key2 (Q.equivalent query1.now) (R.equivalent query2.now) self.old.items self.new.items }
         ensures removed { Removes result (holding_of self.old) (holding_of self.new) }
         ensures unchanged { IfNone result (self.new ≡ self.old) }
 

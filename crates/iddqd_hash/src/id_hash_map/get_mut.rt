@@ -50,7 +50,7 @@ impl<T: IdHashItem, S: BuildHasher> IdHashMap<T, S> {
         ensures found { IfSome result (GuardFinds T.key (Q.equivalent query.now)) }
         ensures written { IfSome result (GuardOverwrites T.key (Q.equivalent query.now) self.old) }
         ensures keyed { IfSome result (GuardKeeps T.key ⟦<Self as Keyed>⟧.keyed) }
-        ensures keyed_akin { IfSome result (GuardKeepsAkin T.key T.Key.eq ⟦<Self as Keyed>⟧.keyed) }
+        ensures keyed_akin { IfSome result (GuardKeepsAkin ⟦<Self as Keyed>⟧) }
 
         // if none is
         ensures* unchanged_at_none { sem 𝓛 (rests_at_none S.row T.row self.entry result) }

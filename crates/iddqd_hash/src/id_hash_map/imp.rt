@@ -1,6 +1,6 @@
 //! Lookups and removals.
 ghost use Rattle.std.specs.Prelude.{◌≡◌, ◌+◌, ◌≤◌, IfNone, is_some};
-ghost use Rattle.iddqd_store.specs.Contents.{Finds, find_item, items_without};
+ghost use Rattle.iddqd_store.specs.Contents.{Finds, RemovesFound, find_item};
 ghost use Rattle.iddqd_store.specs.Holding.{Removes};
 
 use super::{IdHashMap, Keyed};
@@ -66,7 +66,7 @@ impl<T: IdHashItem, S: BuildHasher> IdHashMap<T, S> {
 
         // what is removed
         ensures value { result ≡ find_item T.key (Q.equivalent query.now) self.old.items }
-        ensures items { self.new.items ≡ items_without T.key (Q.equivalent query.now) self.old.items }
+        ensures items { RemovesFound T.key (Q.equivalent query.now) self.old.items self.new.items }
         ensures removed { Removes result (holding_of self.old) (holding_of self.new) }
         ensures unchanged { IfNone result (self.new ≡ self.old) }
 

@@ -1,7 +1,7 @@
 //! From slot to slot, in the order of their numbers.
 ghost use Rattle.std.specs.Prelude.{◌≡◌, ◌<◌, length, IfNone, IfSome};
 ghost use Rattle.iddqd_store.specs.SlotItems.{HaveSlots};
-ghost use Rattle.iddqd_hash_parts.specs.SlotOrder.{AreRising, IsNext, slots_below};
+ghost use Rattle.iddqd_hash_parts.specs.SlotOrder.{AreBelow, AreRising, IsNext};
 
 use super::IdHashMap;
 use iddqd_hash_parts::slot_from;
@@ -16,7 +16,7 @@ impl<T, S> IdHashMap<T, S> {
         ensures fits { IfSome result (λ slot. slot < u32.MAX) }
 
         // if none has
-        ensures none { IfNone result (slots_below from self.now.slots ≡ length self.now.slots) }
+        ensures none { IfNone result (AreBelow self.now.slots from) }
 
         // either way
         ensures rises { AreRising self.now.slots }

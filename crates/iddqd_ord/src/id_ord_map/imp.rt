@@ -1,6 +1,6 @@
 //! Lookups and removals.
 ghost use Rattle.std.specs.Prelude.{◌≡◌, ◌+◌, ◌*◌, ◌≤◌, length, is_some};
-ghost use Rattle.iddqd_store.specs.Contents.{Ascends, Finds, find_item, items_without};
+ghost use Rattle.iddqd_store.specs.Contents.{Ascends, Finds, RemovesFound, find_item};
 ghost use Rattle.iddqd_ord_index.specs.Digits.{digits};
 ghost use Rattle.iddqd_store.specs.Holding.{Removes};
 
@@ -46,7 +46,7 @@ impl<T: IdOrdItem> IdOrdMap<T> {
     pub fn remove<Q: Comparable<T::Key>>(&mut self, query: &Q) -> Option<T>
         requires keyed { Ascends T.key T.Key.cmp self.old.items }
         ensures value { result ≡ find_item T.key (Q.equivalent query.now) self.old.items }
-        ensures items { self.new.items ≡ items_without T.key (Q.equivalent query.now) self.old.items }
+        ensures items { RemovesFound T.key (Q.equivalent query.now) self.old.items self.new.items }
         ensures removed { Removes result self.old self.new }
         ensures keyed { Ascends T.key T.Key.cmp self.new.items }
     {
@@ -62,7 +62,7 @@ impl<T: IdOrdItem> IdOrdMap<T> {
     ) -> Option<T>
         requires keyed { Ascends T.key T.Key.cmp self.old.items }
         ensures value { result ≡ find_item T.key (Q.equivalent query.now) self.old.items }
-        ensures items { self.new.items ≡ items_without T.key (Q.equivalent query.now) self.old.items }
+        ensures items { RemovesFound T.key (Q.equivalent query.now) self.old.items self.new.items }
         ensures removed { Removes result self.old self.new }
         ensures keyed { Ascends T.key T.Key.cmp self.new.items }
 

@@ -2,7 +2,7 @@
 ghost use Rattle.std.specs.Prelude.{◌≡◌, ℕ, ◌+◌, ◌*◌, ◌≤◌, length, sum_by};
 ghost use Rattle.iddqd_store.specs.Contents.{Ascends, Finds};
 ghost use Rattle.iddqd_ord_index.specs.Digits.{digits};
-ghost use Rattle.iddqd_ord.specs.Ranges.{FindsLast, IsPart, StartsAt, StopsAt, bound_now, is_from, is_up_to, items_between};
+ghost use Rattle.iddqd_ord.specs.Ranges.{FindsLast, FindsRange, IsPart, StartsAt, StopsAt, bound_now, is_from, is_up_to};
 
 use super::{IdOrdMap, Iter};
 use iddqd_store::{Comparable, IdOrdItem, Steps};
@@ -14,8 +14,7 @@ impl<T: IdOrdItem> IdOrdMap<T> {
     /// Does not allocate.
     pub fn range<Q: Comparable<T::Key>, R: RangeBounds<Q>>(&self, range: R) -> Iter<'_, T>
         requires keyed { Ascends T.key T.Key.cmp self.now.items }
-        ensures items { R.has_bounds range
-            → result ≡ items_between Q.compare T.key (R.start_bound range) (R.end_bound range) self.now.items }
+        ensures items { FindsRange R.RangeBounds Q.compare T.key range self.now.items result }
         ensures part { IsPart result self.now.items }
         ensures sums { (number : T → ℕ) → sum_by number result ≤ sum_by number self.now.items }
         ensures fits { length result ≤ u32.MAX }
@@ -31,8 +30,7 @@ impl<T: IdOrdItem> IdOrdMap<T> {
         steps: &mut Steps,
     ) -> Iter<'_, T>
         requires keyed { Ascends T.key T.Key.cmp self.now.items }
-        ensures items { R.has_bounds range
-            → result ≡ items_between Q.compare T.key (R.start_bound range) (R.end_bound range) self.now.items }
+        ensures items { FindsRange R.RangeBounds Q.compare T.key range self.now.items result }
         ensures part { IsPart result self.now.items }
         ensures sums { (number : T → ℕ) → sum_by number result ≤ sum_by number self.now.items }
         ensures fits { length result ≤ u32.MAX }

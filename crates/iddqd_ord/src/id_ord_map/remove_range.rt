@@ -1,8 +1,8 @@
 //! Removal of the items between two bounds.
 ghost use Rattle.std.specs.Prelude.{◌≡◌, ◌+◌, length};
-ghost use Rattle.iddqd_store.specs.Contents.{Ascends, items_without};
+ghost use Rattle.iddqd_store.specs.Contents.{Ascends};
 ghost use Rattle.iddqd_store.specs.Holding.{LeavesSlots};
-ghost use Rattle.iddqd_ord.specs.Ranges.{is_between};
+ghost use Rattle.iddqd_ord.specs.Ranges.{RemovesRange};
 
 use super::IdOrdMap;
 use iddqd_store::{Comparable, IdOrdItem, Steps};
@@ -16,8 +16,7 @@ impl<T: IdOrdItem> IdOrdMap<T> {
     where
         T: Drop,
         requires keyed { Ascends T.key T.Key.cmp self.old.items }
-        ensures items { R.has_bounds range
-            → self.new.items ≡ items_without T.key (is_between Q.compare (R.start_bound range) (R.end_bound range)) self.old.items }
+        ensures items { RemovesRange R.RangeBounds Q.compare T.key range self.old self.new }
         ensures number { result + length self.new.items ≡ length self.old.items }
         ensures leaves { LeavesSlots self.old self.new }
         ensures keyed { Ascends T.key T.Key.cmp self.new.items }

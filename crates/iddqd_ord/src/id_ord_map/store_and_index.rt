@@ -1,8 +1,8 @@
 //! What changes the store and the index together. Nothing here looks at a key.
 ghost use Rattle.std.specs.Prelude.{◌≡◌, ◌+◌, ◌-◌, ◌<◌, ◌≤◌, length, insert, remove, IsTrue, IfErr, OnErr, OnOk, Err, Some, slice_get};
-ghost use Rattle.iddqd_store.specs.Refusal.{memory_refused, refusal_kind, reservation_kind};
+ghost use Rattle.iddqd_store.specs.Refusal.{IsKindOf, memory_refused, refusal_kind};
 ghost use Rattle.iddqd_store.specs.Store.{vacant, HasRoomFor};
-ghost use Rattle.iddqd_ord.specs.StoreAndIndex.{KeepsBounds, ListsOccupied, items_in};
+ghost use Rattle.iddqd_ord.specs.StoreAndIndex.{KeepsBounds, ListsOccupied, NeedsMemory, items_in};
 
 use iddqd_ord_index::{OrdIndex, Place};
 use iddqd_store::{ItemStore, TryReserveError};
@@ -48,8 +48,8 @@ pub(super) fn reserve_slots<T>(
     ensures in_limit { OnOk result (length index.now.slots + additional ≤ store.old.limit) }
 
     // on refusal
-    ensures kind { IfErr result (λ e. e ≡ reservation_kind store.old.limit (length index.now.slots + additional)) }
-    ensures needed { result ≡ Err memory_refused → store.old.capacity < length index.now.slots + additional }
+    ensures kind { IfErr result (IsKindOf store.old.limit (length index.now.slots + additional)) }
+    ensures needed { NeedsMemory store.old.capacity (length index.now.slots + additional) result }
     ensures asked { OnErr result (0 < additional) }
 
     // in either case

@@ -2,7 +2,7 @@
 ghost use Rattle.std.specs.Prelude.{◌≡◌, ◌+◌, ◌*◌, ◌<◌, ◌≤◌, false, length, Contains};
 ghost use Rattle.iddqd_store.specs.Contents.{Ascends};
 ghost use Rattle.iddqd_ord_index.specs.Digits.{digits};
-ghost use Rattle.iddqd_ord_index.specs.Inserting.{BelongsIn, FindsIn, IfFound, IfUnprepared, InsertsIn, KeepsUnlessInserted, OnInserted};
+ghost use Rattle.iddqd_ord_index.specs.Inserting.{FindsIn, IfFound, IfUnprepared, InsertsIn, KeepsUnlessInserted, ReturnsPlace};
 ghost use Rattle.iddqd_ord_index.specs.Listed.{listed_items, AreOccupied};
 
 use super::{OrdIndex, Place};
@@ -39,14 +39,14 @@ impl OrdIndex {
         requires room { length self.old.slots < u32.MAX }
 
         // if an item has the key
-        ensures found { IfFound result (FindsIn T.key (Q.equivalent query.now) store.now self.old.slots) }
+        ensures found { FindsIn T.key (Q.equivalent query.now) store.now self.old.slots result }
         ensures listed { IfFound result (Contains self.old.slots) }
 
         // if the slot was inserted
-        ensures inserted { OnInserted result (InsertsIn T.key (Q.compare query.now) store.now slot self.old self.new) }
+        ensures inserted { InsertsIn T.key (Q.compare query.now) store.now slot self.old self.new result }
 
         // if it needs a node
-        ensures place { IfUnprepared result (BelongsIn T.key (Q.compare query.now) store.now self.old.slots) }
+        ensures place { ReturnsPlace T.key (Q.compare query.now) store.now self.old.slots result }
         ensures in_list { IfUnprepared result (λ place. place ≤ length self.old.slots) }
         ensures unprepared { IfUnprepared result (λ _. self.old.prepared ≡ false) }
 

@@ -153,6 +153,8 @@ impl NodePool {
 fn fill_nodes(nodes: &mut Vec<Box<Node>>, wanted: usize, alloc: Global) -> Result<(), AllocError>
     requires unused { AreUnused nodes.old.items }
     requires room { wanted ≤ vec_capacity nodes.old }
+
+    // afterwards
     ensures unused { AreUnused nodes.new.items }
     ensures room { vec_capacity nodes.new ≡ vec_capacity nodes.old }
     ensures kept { vec_len nodes.old ≤ vec_len nodes.new }
@@ -169,6 +171,8 @@ fn fill_nodes(nodes: &mut Vec<Box<Node>>, wanted: usize, alloc: Global) -> Resul
 fn fill_blocks(blocks: &mut Vec<Box<Block>>, wanted: usize, alloc: Global) -> Result<(), AllocError>
     requires bare { AreBare blocks.old.items }
     requires room { wanted ≤ vec_capacity blocks.old }
+
+    // afterwards
     ensures bare { AreBare blocks.new.items }
     ensures room { vec_capacity blocks.new ≡ vec_capacity blocks.old }
     ensures kept { vec_len blocks.old ≤ vec_len blocks.new }

@@ -1,7 +1,7 @@
 //! How a store closes up: vacant slots at its end are removed, and its last item moves to a vacant one.
 ghost use Rattle.std.specs.Prelude.{◌≡◌, ◌≢◌, ◌-◌, ◌<◌, ◌≤◌, None, is_some, count_by, vec_len, vec_capacity};
-ghost use Rattle.iddqd_store.specs.Store.{HaveAsMany, MovesLast};
-ghost use Rattle.iddqd_store.specs.Slots.{no_slot, items_of, links_at, IsChained, SameSlots};
+ghost use Rattle.iddqd_store.specs.Store.{HaveAsMany};
+ghost use Rattle.iddqd_store.specs.Slots.{no_slot, items_of, links_at, IsChained, MovesItem, SameSlots};
 
 use super::chain::{Slot, fill_first, unlink};
 
@@ -36,7 +36,7 @@ pub(super) fn move_last<T>(slots: &mut Vec<Slot<T>>, hole: u32) -> u32
 
     // afterwards
     ensures chained { IsChained (links_at slots.new.items) result }
-    ensures moves { MovesLast (items_of slots.old.items) (items_of slots.new.items) (vec_len slots.old - 1) hole }
+    ensures moves { MovesItem slots.old.items slots.new.items (vec_len slots.old - 1) hole }
     ensures count { HaveAsMany (items_of slots.old.items) (items_of slots.new.items) }
     ensures shorter { vec_len slots.new < vec_len slots.old }
     ensures capacity { vec_capacity slots.new ≡ vec_capacity slots.old }

@@ -1,11 +1,11 @@
 //! The calls of an entry that is occupied or vacant.
 ghost use Rattle.std.specs.Prelude.{◌≡◌, IfErr, IfOk, None};
 ghost use Rattle.std.specs.Borrow.{sem};
-ghost use Rattle.iddqd_hash.specs.Entry.{EntryHandsBack, LacksKeyOf, LacksKeysOf, LendsIfOccupied, LendsIfVacant, LendsMade, VisitsEntry, VisitKeepsKey, entry_item, entry_map, entry_lender, lends_or_keeps};
+ghost use Rattle.iddqd_hash.specs.Entry.{EntryHandsBack, LacksKeyOf, LacksKeysOf, LendsIfOccupied, LendsIfVacant, LendsMade, VisitsEntry, VisitKeepsKey, entry_item, entry_map, entry_lender, lent_or_kept};
 ghost use Rattle.iddqd_hash.specs.Guard.{GuardKeeps, GuardKeepsAkin, guard_lender};
 
 use super::{Entry, OccupiedEntry};
-use crate::id_hash_map::{IdHashMap, Keyed, RefMut};
+use crate::id_hash_map::{IdHashMap as Map, Keyed, RefMut};
 use iddqd_store::{IdHashItem, Refused, Visit};
 use std::hash::BuildHasher;
 
@@ -17,18 +17,18 @@ impl<'a, T: IdHashItem, S: BuildHasher> Entry<'a, T, S> {
     pub fn or_insert(self, item: T) -> Result<RefMut<'a, T, S>, Refused<T>>
     where
         T: Drop,
-        requires keyed { ⟦<IdHashMap<T, S> as Keyed>⟧.keyed (entry_map self) }
+        requires keyed { ⟦<Map<T, S> as Keyed>⟧.keyed (entry_map self) }
         requires absent { entry_item self ≡ None → LacksKeyOf T.key T.Key.eq item self }
 
         // on success
         ensures same_map { IfOk result (λ r. guard_lender r ≡ entry_lender self.entry) }
         ensures found { IfOk result (LendsIfOccupied self.entry) }
-        ensures inserted { IfOk result (LendsIfVacant ⟦<IdHashMap<T, S> as Keyed>⟧.keyed item self.entry) }
-        ensures keyed { IfOk result (GuardKeeps T.key ⟦<IdHashMap<T, S> as Keyed>⟧.keyed) }
-        ensures keyed_akin { IfOk result (GuardKeepsAkin T.key T.Key.eq ⟦<IdHashMap<T, S> as Keyed>⟧.keyed) }
+        ensures inserted { IfOk result (LendsIfVacant ⟦<Map<T, S> as Keyed>⟧ item self.entry) }
+        ensures keyed { IfOk result (GuardKeeps T.key ⟦<Map<T, S> as Keyed>⟧.keyed) }
+        ensures keyed_akin { IfOk result (GuardKeepsAkin ⟦<Map<T, S> as Keyed>⟧) }
 
         // on refusal
-        ensures* kept { sem 𝓛 (lends_or_keeps S.row T.row ⟦<IdHashMap<T, S> as Keyed>⟧.keyed self.entry result) }
+        ensures* kept { sem 𝓛 (lent_or_kept S.row T.row ⟦<Map<T, S> as Keyed>⟧ self.entry result) }
         ensures absent { IfErr result (λ refused. entry_item self.entry ≡ None) }
         ensures refused { IfErr result (EntryHandsBack T.key T.Key.eq self.entry item) }
     {
@@ -47,19 +47,19 @@ impl<'a, T: IdHashItem, S: BuildHasher> Entry<'a, T, S> {
 
     /// As `or_insert`, with the item that the closure makes. Calls it only if the entry is vacant.
     pub fn or_insert_with<F: FnOnce() -> T>(self, make: F) -> Result<RefMut<'a, T, S>, Refused<T>>
-        requires keyed { ⟦<IdHashMap<T, S> as Keyed>⟧.keyed (entry_map self) }
+        requires keyed { ⟦<Map<T, S> as Keyed>⟧.keyed (entry_map self) }
         requires callable { entry_item self ≡ None → F.pre make }
         requires absent { entry_item self ≡ None → LacksKeysOf T.key T.Key.eq (F.post make) self }
 
         // on success
         ensures same_map { IfOk result (λ r. guard_lender r ≡ entry_lender self.entry) }
         ensures found { IfOk result (LendsIfOccupied self.entry) }
-        ensures inserted { IfOk result (LendsMade ⟦<IdHashMap<T, S> as Keyed>⟧.keyed (F.post make) self.entry) }
-        ensures keyed { IfOk result (GuardKeeps T.key ⟦<IdHashMap<T, S> as Keyed>⟧.keyed) }
-        ensures keyed_akin { IfOk result (GuardKeepsAkin T.key T.Key.eq ⟦<IdHashMap<T, S> as Keyed>⟧.keyed) }
+        ensures inserted { IfOk result (LendsMade ⟦<Map<T, S> as Keyed>⟧ (F.post make) self.entry) }
+        ensures keyed { IfOk result (GuardKeeps T.key ⟦<Map<T, S> as Keyed>⟧.keyed) }
+        ensures keyed_akin { IfOk result (GuardKeepsAkin ⟦<Map<T, S> as Keyed>⟧) }
 
         // on refusal
-        ensures* kept { sem 𝓛 (lends_or_keeps S.row T.row ⟦<IdHashMap<T, S> as Keyed>⟧.keyed self.entry result) }
+        ensures* kept { sem 𝓛 (lent_or_kept S.row T.row ⟦<Map<T, S> as Keyed>⟧ self.entry result) }
         ensures absent { IfErr result (λ refused. entry_item self.entry ≡ None) }
         ensures item { IfErr result (λ refused. F.post make refused.item) }
         ensures refused { IfErr result (λ e. EntryHandsBack T.key T.Key.eq self.entry e.item e) }
@@ -80,11 +80,11 @@ impl<'a, T: IdHashItem, S: BuildHasher> Entry<'a, T, S> {
     /// Visits the entry's item once, and ignores the result. If the entry is vacant, it does nothing (the crate passes
     /// a guard to a closure). The visit may not change the key. Hashes and compares no keys.
     pub fn and_modify<V: Visit<T>>(self, visitor: &mut V) -> Entry<'a, T, S>
-        requires keyed { ⟦<IdHashMap<T, S> as Keyed>⟧.keyed (entry_map self) }
+        requires keyed { ⟦<Map<T, S> as Keyed>⟧.keyed (entry_map self) }
         requires keeps_key { VisitKeepsKey T.key T.Key.eq V.visits visitor.old self }
         ensures same_map { entry_lender result ≡ entry_lender self.entry }
         ensures modified { VisitsEntry V.visits visitor.old self.entry visitor.new result }
-        ensures keyed { ⟦<IdHashMap<T, S> as Keyed>⟧.keyed (entry_map result) }
+        ensures keyed { ⟦<Map<T, S> as Keyed>⟧.keyed (entry_map result) }
     {
         match self {
             Entry::Occupied(mut entry) => {

@@ -5,7 +5,7 @@ ghost use Rattle.iddqd_hash.specs.Entry.{EntryKeeps, EntryKeepsAkin, HasKeyOf, O
 ghost use Rattle.iddqd_hash.specs.Guard.{GuardKeeps, GuardKeepsAkin, lent_map, guard_lender, lent_slot, shown_item, shown_map, shown_lender};
 
 use super::OccupiedEntry;
-use crate::id_hash_map::{IdHashMap, Keyed, RefMut, Shown};
+use crate::id_hash_map::{IdHashMap as Map, Keyed, RefMut, Shown};
 use iddqd_store::IdHashItem;
 use std::hash::BuildHasher;
 use std::mem;
@@ -38,8 +38,8 @@ impl<'a, T: IdHashItem, S: BuildHasher> OccupiedEntry<'a, T, S> {
     pub fn get_mut(&mut self) -> &mut T
         ensures* writes_back { sem 𝓛 (entry_follows S.row T.row self.entry result) }
         ensures value { entry_item (Occupied self.old) ≡ Some result.now }
-        ensures keyed { EntryKeeps T.key ⟦<IdHashMap<T, S> as Keyed>⟧.keyed self.old result }
-        ensures keyed_akin { EntryKeepsAkin T.key ⟦<IdHashMap<T, S> as Keyed>⟧.keyed T.Key.eq self.old result }
+        ensures keyed { EntryKeeps ⟦<Map<T, S> as Keyed>⟧ T.key self.old result }
+        ensures keyed_akin { EntryKeepsAkin ⟦<Map<T, S> as Keyed>⟧ self.old result }
     {
         let slot = self.slot;
         self.map.item_in_slot_mut(slot)
@@ -48,7 +48,7 @@ impl<'a, T: IdHashItem, S: BuildHasher> OccupiedEntry<'a, T, S> {
     /// Returns a guard of the item, for writing while the map is borrowed. The guard has to be spent.
     #[inline]
     pub fn into_mut(self) -> RefMut<'a, T, S>
-        requires keyed { ⟦<IdHashMap<T, S> as Keyed>⟧.keyed (entry_map (Occupied self)) }
+        requires keyed { ⟦<Map<T, S> as Keyed>⟧.keyed (entry_map (Occupied self)) }
 
         // what is lent
         ensures same_map { guard_lender result ≡ entry_lender (Occupied self.entry) }
@@ -56,8 +56,8 @@ impl<'a, T: IdHashItem, S: BuildHasher> OccupiedEntry<'a, T, S> {
         ensures slot { lent_slot result ≡ entry_slot self.entry }
 
         // what may be written
-        ensures keyed { GuardKeeps T.key ⟦<IdHashMap<T, S> as Keyed>⟧.keyed result }
-        ensures keyed_akin { GuardKeepsAkin T.key T.Key.eq ⟦<IdHashMap<T, S> as Keyed>⟧.keyed result }
+        ensures keyed { GuardKeeps T.key ⟦<Map<T, S> as Keyed>⟧.keyed result }
+        ensures keyed_akin { GuardKeepsAkin ⟦<Map<T, S> as Keyed>⟧ result }
     {
         let OccupiedEntry { map, slot, hash: _ } = self;
         RefMut {
@@ -70,7 +70,7 @@ impl<'a, T: IdHashItem, S: BuildHasher> OccupiedEntry<'a, T, S> {
     /// Replaces the entry's item by one of equal key, and returns the old one: the whole item, its key's spelling too.
     /// Hashes and compares no keys.
     pub fn insert(&mut self, item: T) -> T
-        requires keyed { ⟦<IdHashMap<T, S> as Keyed>⟧.keyed (entry_map (Occupied self.old)) }
+        requires keyed { ⟦<Map<T, S> as Keyed>⟧.keyed (entry_map (Occupied self.old)) }
         requires akin { IfSome (entry_item (Occupied self.old)) (HasKeyOf T.key T.Key.eq item) }
 
         // what is replaced
@@ -82,15 +82,15 @@ impl<'a, T: IdHashItem, S: BuildHasher> OccupiedEntry<'a, T, S> {
         ensures same_map { entry_lender (Occupied self.new) ≡ entry_lender (Occupied self.old) }
         ensures slot { entry_slot self.new ≡ entry_slot self.old }
         ensures others { entry_others (Occupied self.new) ≡ entry_others (Occupied self.old) }
-        ensures keyed { ⟦<IdHashMap<T, S> as Keyed>⟧.keyed (entry_map (Occupied self.new)) }
+        ensures keyed { ⟦<Map<T, S> as Keyed>⟧.keyed (entry_map (Occupied self.new)) }
     {
         mem::replace(self.get_mut(), item)
     }
 
     /// Removes and returns the item. Its slot is vacant then, and its room is spare. Hashes and compares no keys.
     pub fn remove(self) -> T
-        requires keyed { ⟦<IdHashMap<T, S> as Keyed>⟧.keyed (entry_map (Occupied self)) }
-        ensures { RemovesAt ⟦<IdHashMap<T, S> as Keyed>⟧.keyed result self.entry self.exit.0.now }
+        requires keyed { ⟦<Map<T, S> as Keyed>⟧.keyed (entry_map (Occupied self)) }
+        ensures { RemovesAt ⟦<Map<T, S> as Keyed>⟧ result self.entry self.exit.0.now }
     {
         let slot = self.slot;
         let hash = self.hash;

@@ -1,11 +1,11 @@
 //! Insertions by a vacant entry. Each looks at the limit first, then asks for memory, and only then changes anything.
 ghost use Rattle.std.specs.Prelude.{◌≡◌, IfErr, IfOk};
 ghost use Rattle.std.specs.Borrow.{sem};
-ghost use Rattle.iddqd_hash.specs.Entry.{EntersInserted, EntryHandsBack, LacksKeyOf, LendsInserted, Vacant, entry_map, entry_lender, enters_or_keeps, lends_or_keeps};
+ghost use Rattle.iddqd_hash.specs.Entry.{EntersInserted, EntryHandsBack, LacksKeyOf, LendsInserted, Vacant, entry_map, entry_lender, entered_or_kept, lent_or_kept};
 ghost use Rattle.iddqd_hash.specs.Guard.{GuardKeeps, GuardKeepsAkin, guard_lender};
 
 use super::{OccupiedEntry, VacantEntry};
-use crate::id_hash_map::{IdHashMap, Keyed, RefMut};
+use crate::id_hash_map::{IdHashMap as Map, Keyed, RefMut};
 use iddqd_store::{IdHashItem, Refused};
 use std::hash::BuildHasher;
 
@@ -17,17 +17,17 @@ impl<'a, T: IdHashItem, S: BuildHasher> VacantEntry<'a, T, S> {
     /// Match the refusal by a name, as in `Err(_refused)`. Beside a guard that is moved out of `Ok`, `Err(_)` gets no
     /// proof, if the items are not `Copy`.
     pub fn insert(self, item: T) -> Result<RefMut<'a, T, S>, Refused<T>>
-        requires keyed { ⟦<IdHashMap<T, S> as Keyed>⟧.keyed (entry_map (Vacant self)) }
+        requires keyed { ⟦<Map<T, S> as Keyed>⟧.keyed (entry_map (Vacant self)) }
         requires absent { LacksKeyOf T.key T.Key.eq item (Vacant self) }
 
         // on success
         ensures same_map { IfOk result (λ r. guard_lender r ≡ entry_lender (Vacant self.entry)) }
-        ensures inserted { IfOk result (LendsInserted ⟦<IdHashMap<T, S> as Keyed>⟧.keyed item (Vacant self.entry)) }
-        ensures keyed { IfOk result (GuardKeeps T.key ⟦<IdHashMap<T, S> as Keyed>⟧.keyed) }
-        ensures keyed_akin { IfOk result (GuardKeepsAkin T.key T.Key.eq ⟦<IdHashMap<T, S> as Keyed>⟧.keyed) }
+        ensures inserted { IfOk result (LendsInserted ⟦<Map<T, S> as Keyed>⟧ item (Vacant self.entry)) }
+        ensures keyed { IfOk result (GuardKeeps T.key ⟦<Map<T, S> as Keyed>⟧.keyed) }
+        ensures keyed_akin { IfOk result (GuardKeepsAkin ⟦<Map<T, S> as Keyed>⟧) }
 
         // on refusal
-        ensures* kept { sem 𝓛 (lends_or_keeps S.row T.row ⟦<IdHashMap<T, S> as Keyed>⟧.keyed (Vacant self.entry) result) }
+        ensures* kept { sem 𝓛 (lent_or_kept S.row T.row ⟦<Map<T, S> as Keyed>⟧ (Vacant self.entry) result) }
         ensures refused { IfErr result (EntryHandsBack T.key T.Key.eq (Vacant self.entry) item) }
     {
         let VacantEntry { map } = self;
@@ -43,10 +43,10 @@ impl<'a, T: IdHashItem, S: BuildHasher> VacantEntry<'a, T, S> {
 
     /// Inserts the item as `insert` does, and returns its entry.
     pub fn insert_entry(self, item: T) -> Result<OccupiedEntry<'a, T, S>, Refused<T>>
-        requires keyed { ⟦<IdHashMap<T, S> as Keyed>⟧.keyed (entry_map (Vacant self)) }
+        requires keyed { ⟦<Map<T, S> as Keyed>⟧.keyed (entry_map (Vacant self)) }
         requires absent { LacksKeyOf T.key T.Key.eq item (Vacant self) }
-        ensures inserted { IfOk result (EntersInserted ⟦<IdHashMap<T, S> as Keyed>⟧.keyed item (Vacant self.entry)) }
-        ensures* kept { sem 𝓛 (enters_or_keeps S.row T.row ⟦<IdHashMap<T, S> as Keyed>⟧.keyed (Vacant self.entry) result) }
+        ensures inserted { IfOk result (EntersInserted ⟦<Map<T, S> as Keyed>⟧ item (Vacant self.entry)) }
+        ensures* kept { sem 𝓛 (entered_or_kept S.row T.row ⟦<Map<T, S> as Keyed>⟧ (Vacant self.entry) result) }
         ensures refused { IfErr result (EntryHandsBack T.key T.Key.eq (Vacant self.entry) item) }
     {
         let VacantEntry { map } = self;

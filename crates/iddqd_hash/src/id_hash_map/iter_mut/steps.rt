@@ -45,7 +45,7 @@ impl<T: IdHashItem, S: BuildHasher> IterMut<'_, T, S> {
         ensures value { option_copied_mut result ≡ walk_item self.old }
         ensures found { IsSome result ↔ (walk_done self.old < length (walk_map self.old).items) }
         ensures keyed { WalkKeeps T.key ⟦<IdHashMap<T, S> as Keyed>⟧.keyed self.old result }
-        ensures keyed_akin { WalkKeepsAkin T.key ⟦<IdHashMap<T, S> as Keyed>⟧.keyed T.Key.eq self.old result }
+        ensures keyed_akin { WalkKeepsAkin ⟦<IdHashMap<T, S> as Keyed>⟧ self.old result }
     {
         if self.done < self.map.len() {
             let slot = self.map.slot_from(self.next)?;

@@ -1,6 +1,6 @@
 //! The branches of a node and the number of slots below each, changed together.
 ghost use Rattle.std.specs.Prelude.{true, false, ◌≡◌, ◌+◌, ◌^◌, ◌<◌, ◌≤◌, ◌==◌, [], ◌++◌, length, take, drop, insert, remove, slice_index, slice_index_or, slice_set, nat_le, if◌then◌else◌, IfOk, IfSome};
-ghost use Rattle.iddqd_ord_index.specs.Nodes.{below, below_with, counts_of, nodes_of, subtrees, AreBranches, HasBlock, IsBare, IsBlock};
+ghost use Rattle.iddqd_ord_index.specs.Nodes.{below, below_with, counts_of, nodes_of, subtrees, AreBranches, HasBlock, IsBare, IsBlock, JoinsBlocks, SplitsWith};
 ghost use Rattle.iddqd_ord_index.specs.Shape.{lists, starts, unused, IsBranchAt};
 
 use super::{Block, Branches, Node};
@@ -59,7 +59,7 @@ impl Block {
         // afterwards
         ensures block { IsBlock self.new }
         ensures upper_block { IsBlock upper.new }
-        ensures below { subtrees self.new.nodes ≡ subtrees self.old.nodes ++ subtrees upper.old.nodes }
+        ensures below { JoinsBlocks self.old upper.old self.new }
         ensures upper_below { subtrees upper.new.nodes ≡ [] }
     {
         let len = self.counts.len();
@@ -106,7 +106,7 @@ impl Block {
         // afterwards
         ensures block { IsBlock self.new }
         ensures upper_block { IsBlock upper.new }
-        ensures below { insert (subtrees self.old.nodes) (i + 1) node.value ≡ subtrees self.new.nodes ++ subtrees upper.new.nodes }
+        ensures below { SplitsWith i node.value self.old self.new upper.new }
         ensures lower { length (subtrees self.new.nodes) ≡ (if nat_le i 5 then 7 else 6) }
         ensures upper { length (subtrees upper.new.nodes) ≡ (if nat_le i 5 then 6 else 7) }
     {

@@ -1,7 +1,7 @@
 //! Insertion: a node without room gives its upper half away.
 ghost use Rattle.std.specs.Prelude.{◌≡◌, ◌+◌, ◌^◌, ◌<◌, ◌≤◌, [], ◌∷◌, ◌++◌, length, insert, nat_le, OnSome, if◌then◌else◌};
 ghost use Rattle.arrayvec.specs.ArrayVec.{array_vec_len};
-ghost use Rattle.iddqd_ord_index.specs.Changes.{AddsIn, AddsTo, SplitsIn};
+ghost use Rattle.iddqd_ord_index.specs.Changes.{AddsIn as Adds, AddsTo, SplitsIn};
 ghost use Rattle.iddqd_ord_index.specs.Nodes.{below, AreBranches, IsBare};
 ghost use Rattle.iddqd_ord_index.specs.Shape.{lists, levels, tree, unused, in_order, IsBranch, IsDense, IsForked};
 
@@ -94,7 +94,7 @@ pub(super) fn add_branch(
     ensures levels { levels (below branches.new) ≡ levels (below branches.old) }
 
     // the slots, and the unused nodes
-    ensures adds { AddsIn i middle upper.value branches.old slots.old branches.new slots.new result }
+    ensures adds { Adds i middle upper.value branches.old slots.old branches.new slots.new result }
     ensures left { pool.old.count ≤ pool.new.count + 1 }
     ensures pool { (pool.new.wanted ≡ pool.old.wanted) × (pool.new.room ≡ pool.old.room) }
 {

@@ -15,7 +15,7 @@ returns-clause-reserves g c =
     let n = c.args.additional in
     let len = c.self.invariant.counted ∙ sym (length-items m.store.slots) in
     let capacity = subst (λ v. OnOk room.result (length v.items + n ≤ room.new.store.capacity)) c.self.view_is
-    (subst (λ k. OnOk room.result (k + n ≤ room.new.store.capacity)) len room.ensures.capacity_left) in
+    (subst (λ k. OnOk room.result (k + n ≤ room.new.store.capacity)) len room.ensures.in_memory) in
     let in_limit = subst (λ v. OnOk room.result (length v.items + n ≤ v.limit)) c.self.view_is
     (subst (λ k. OnOk room.result (k + n ≤ m.store.limit)) len room.ensures.in_limit) in
     search rules
