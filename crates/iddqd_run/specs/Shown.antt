@@ -6,9 +6,11 @@ use Rattle.std.specs.Option.{option_map}
 use Rattle.iddqd_run.specs.Answer as answer
 use Rattle.iddqd.specs.Contents.{Ascends}
 use Rattle.iddqd.specs.Holding.{max_items}
+use Rattle.idtable_lines.specs.Asked.{asked}
 use Rattle.idtable_lines.specs.Lines.{Request, AddAll, paired_request, pairs_of, words_of}
 use Rattle.idtable_commands.specs.Step.{MapState}
 use Rattle.idtable_lines.specs.declared.arguments.Kind.{Kind}
+use Rattle.idtable_lines.specs.declared.lines.Line.{Line}
 use Rattle.idtable_lines.specs.declared.arguments.Kind.TheVariants.{Hash, Ord}
 use Rattle.iddqd_run.specs.declared.by_name.ListStop.{ListStop}
 use Rattle.iddqd_run.specs.declared.by_name.ListStop.TheVariants.{Entries}
@@ -130,6 +132,10 @@ module _ (kind : Kind) (request : Request) where
     pub reply : List ℕ
     pub written : AppendsBytes (line_of reply) before after
     pub answers : AnswersInText old refusals reply new
+
+-- the same, to a line
+abbrev pub RepliesTo : Kind → Line → (old new : List Entry) → (before after : String Global) → ℕ → Type 0
+RepliesTo kind line = Replies kind (asked line)
 
 -- the same, to a line that adds the entries of items
 abbrev pub AddsEach : Kind → List Entry → (old new : List Entry) → (before after : String Global) → ℕ → Type 0

@@ -1,7 +1,7 @@
 //! The replies to a text, line by line, over a map of either kind.
 ghost use Rattle.std.specs.Prelude.{◌≡◌, [], IfOk};
-ghost use Rattle.idtable_lines.specs.Asked.{asked, request_asked};
-ghost use Rattle.iddqd_run.specs.Shown.{AnswersAsText, AnswersRequest, Replies};
+ghost use Rattle.idtable_lines.specs.Asked.{request_asked};
+ghost use Rattle.iddqd_run.specs.Shown.{AnswersAsText, AnswersRequest, RepliesTo};
 
 use crate::by_name::ByName;
 use crate::entries::{Entry, LineReply, write_reply};
@@ -38,7 +38,7 @@ impl<M: ByName<Item = Entry, Key = String>> Table<M> {
         line: Line<'_>,
         text: &mut String,
     ) -> Result<u64, AllocError>
-        ensures { IfOk result (Replies M.kind (asked line.entry) self.old self.new text.old text.new) }
+        ensures { IfOk result (RepliesTo M.kind line.entry self.old self.new text.old text.new) }
     {
         match line {
             Line::Request(request) => write_reply(text, self.reply_to(alloc, request)),

@@ -1,7 +1,7 @@
 //! From a reader to a writer.
 ghost use Rattle.std.specs.Prelude.{◌≡◌, ◌≢◌, OnOk, OnErr, IfOk, IfErr};
-ghost use Rattle.std.specs.Io.KnownBytes.{Appends, Consumes, IsAtEnd};
-ghost use Rattle.iddqd_run.specs.Served.{AppendsBeginning, ServesAll, ServesBeginning, WritesNothing};
+ghost use Rattle.std.specs.Io.KnownBytes.{Appends, IsAtEnd};
+ghost use Rattle.iddqd_run.specs.Served.{AppendsBeginning, ReadsInto, ServesAll, ServesBeginning, WritesNothing};
 ghost use Rattle.iddqd_run.specs.Words.{text_for};
 
 use crate::answering::answer;
@@ -47,7 +47,7 @@ pub fn serve<R: Read, W: Write>(
 ) -> Result<u64, Fault>
     ensures answered { IfOk result (ServesAll R.remaining W.contents kind reader.old reader.new writer.old writer.new) }
     ensures begun { IfErr result (ServesBeginning R.remaining W.contents kind reader.old reader.new writer.old writer.new) }
-    ensures unwritten { IfErr result (WritesNothing (W.contents writer.old) (W.contents writer.new)) }
+    ensures unwritten { IfErr result (WritesNothing W.contents writer.old writer.new) }
 {
     let input = read_whole(alloc, reader)?;
     let answered = match kind {
@@ -72,7 +72,7 @@ pub fn serve<R: Read, W: Write>(
 
 // The reader's bytes to its end, a large chunk at a time.
 fn read_whole<R: Read>(alloc: Global, reader: &mut R) -> Result<Vec<u8>, Fault>
-    ensures bytes { IfOk result (λ input. Consumes (R.remaining reader.old) (R.remaining reader.new) input.items) }
+    ensures bytes { IfOk result (ReadsInto R.remaining reader.old reader.new) }
     ensures at_end { OnOk result (IsAtEnd (R.remaining reader.new)) }
     ensures fault { IfErr result (λ fault. fault ≢ Fault.Write) }
 {
@@ -99,7 +99,7 @@ fn read_whole<R: Read>(alloc: Global, reader: &mut R) -> Result<Vec<u8>, Fault>
 // Writes the text, and nothing more after a write that failed.
 fn write_whole<W: Write>(writer: &mut W, text: &[u8]) -> Result<(), Fault>
     ensures whole { OnOk result (Appends (W.contents writer.old) (W.contents writer.new) text.now) }
-    ensures begun { OnErr result (AppendsBeginning (W.contents writer.old) (W.contents writer.new) text.now) }
+    ensures begun { OnErr result (AppendsBeginning W.contents writer.old writer.new text.now) }
     ensures fault { IfErr result (λ fault. fault ≡ Fault.Write) }
 {
     let mut rest = text;
