@@ -1,5 +1,5 @@
 -- What callers say of positions and ranges of pairs and of names.
-use Rattle.std.specs.Prelude.{◌≡◌, ℕ, ◌-◌, false, List, Option, Some, IfSome, count_by, filter, length, slice_get, slice_set, string_bytes}
+use Rattle.std.specs.Prelude.{◌≡◌, ℕ, ◌-◌, false, List, Option, Some, IfSome, option_map, count_by, filter, length, slice_get, slice_set, string_bytes}
 use Rattle.std.specs.Cmp.Lexicographic.{slice_cmp}
 use Rattle.std.specs.Ordering.{is_ge, is_gt, is_le, nat_cmp}
 use Rattle.std.specs.declared.ops.Bound.TheVariants.{Included, Excluded}
@@ -21,6 +21,9 @@ last_pair_to key pairs =
 
 abbrev pub rank_of_key : ℕ → List Pair → ℕ
 rank_of_key key pairs = count_by (λ p. is_gt (nat_cmp key p.key)) pairs
+
+abbrev pub value_of_last : List Pair → Option ℕ
+value_of_last pairs = option_map (λ p. p.value) (slice_get pairs (length pairs - 1))
 
 -- how many names there are from one text up to another
 abbrev pub name_count_between : List ℕ → List ℕ → List Named → ℕ

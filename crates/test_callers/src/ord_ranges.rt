@@ -3,7 +3,7 @@ ghost use Rattle.std.specs.Prelude.{◌≡◌, ◌≤◌, ◌/◌, ◌-◌, drop
 ghost use Rattle.std.specs.Ordering.{nat_cmp};
 ghost use Rattle.std.specs.String.{string_cmp};
 ghost use Rattle.iddqd.specs.Contents.{Ascends};
-ghost use Rattle.test_callers.specs.Ranges.{IsGoneBetween, StaysBeside, first_name_from, last_pair_to, name_count_between, pairs_between, rank_of_key, SetsValueAt};
+ghost use Rattle.test_callers.specs.Ranges.{IsGoneBetween, StaysBeside, first_name_from, last_pair_to, name_count_between, pairs_between, rank_of_key, value_of_last, SetsValueAt};
 
 use iddqd::{IdOrdMap, Text};
 use std::ops::Bound;
@@ -90,7 +90,7 @@ fn sum_of_page(all: &IdOrdMap<Pair>, first: usize, count: usize) -> u64
 
 /// The last value, by a walk from the back.
 fn last_value(all: &IdOrdMap<Pair>) -> Option<u32>
-    ensures { result ≡ option_map (λ p. p.value) (slice_get all.now.items (length all.now.items - 1)) }
+    ensures { result ≡ value_of_last all.now.items }
 {
     Some(all.iter().next_back()?.value)
 }
