@@ -6,6 +6,7 @@ use Rattle.std.specs.Option.{option_map}
 use Rattle.iddqd_run.specs.Answer as answer
 use Rattle.iddqd.specs.Contents.{Ascends}
 use Rattle.iddqd.specs.Holding.{max_items}
+use Rattle.iddqd.specs.Refusal.{RefusalKind, refusal_kind}
 use Rattle.idtable_lines.specs.Asked.{asked}
 use Rattle.idtable_lines.specs.Lines.{Request, AddAll, paired_request, pairs_of, words_of}
 use Rattle.idtable_commands.specs.Step.{MapState}
@@ -53,6 +54,10 @@ reply_text RefusedMemory = codes "refused memory"
 -- the reply to a line whose new entry finds no room among these
 abbrev pub no_room_reply : {T : Type 0} → List T → LineReply
 no_room_reply items = if length items == max_items then RefusedCapacity else RefusedMemory
+
+-- the reply if a map of these entries refused a new one, whichever they are
+abbrev pub ShowsNoRoom : RefusalKind → LineReply → Type 0
+ShowsNoRoom refused reply = (items : List Entry) → refused ≡ refusal_kind max_items items → reply ≡ no_room_reply items
 
 -- the reply to a line that finds no room for this many entries in all
 abbrev pub no_space_reply : ℕ → LineReply

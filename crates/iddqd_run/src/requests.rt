@@ -1,9 +1,9 @@
 //! What a line asks of a table, and its reply.
 ghost use Rattle.std.specs.Prelude.{◌≡◌, ◌≢◌, ℕ, ◌+◌, ◌≤◌, List, length, string_bytes};
 ghost use Rattle.iddqd.specs.Errors.{values_of};
-ghost use Rattle.iddqd.specs.Refusal.{IsOnly, refusal_kind, reservation_kind};
+ghost use Rattle.iddqd.specs.Refusal.{IsOnly, reservation_kind};
 ghost use Rattle.idtable_lines.specs.Lines.{Add, Put, Get, Del, Cost, Set, Keep, Reserve, Shrink, Len};
-ghost use Rattle.iddqd_run.specs.Shown.{AnswersRequest, no_room_reply, no_space_reply};
+ghost use Rattle.iddqd_run.specs.Shown.{AnswersRequest, ShowsNoRoom, no_space_reply};
 ghost use Rattle.iddqd_run.specs.declared.entries.Entry.{Entry};
 ghost use Rattle.iddqd_run.specs.declared.entries.LineReply.TheVariants.{RefusedMemory};
 
@@ -154,7 +154,7 @@ fn look_up<M: ByName>(map: &M, name: &str, steps: &mut Steps)
 
 /// The reply if there was no room: for a new entry, or for this many in all.
 pub(crate) fn no_room<'a>(error: TryReserveError) -> LineReply<'a>
-    ensures entry { (xs : List Entry) → error ≡ refusal_kind MAX_ITEMS xs → result ≡ no_room_reply xs }
+    ensures entry { ShowsNoRoom error result }
     ensures space { (n : ℕ) → error ≡ reservation_kind MAX_ITEMS n → result ≡ no_space_reply n }
 {
     if error.is_capacity_overflow() {
