@@ -196,6 +196,7 @@ impl<T> ItemStore<T> {
         requires { IsOccupied self.old slot }
         ensures item { item_at self.old slot ≡ Some result }
         ensures store { self.new ≡ with_item self.old slot item }
+        ensures updates { Updates self.old self.new slot (Some item) }
         ensures len { store_len self.new ≡ store_len self.old }
         ensures vacant { vacant self.new ≡ vacant self.old }
     {
@@ -212,6 +213,7 @@ impl<T> ItemStore<T> {
         requires { IsOccupied self.old slot }
         ensures item { item_at self.old slot ≡ Some result }
         ensures store { self.new ≡ record self.old { slots = slice_set self.old.slots slot None } }
+        ensures updates { Updates self.old self.new slot None }
         ensures len { store_len self.new + 1 ≡ store_len self.old }
         ensures vacant { vacant self.new ≡ vacant self.old + 1 }
     {

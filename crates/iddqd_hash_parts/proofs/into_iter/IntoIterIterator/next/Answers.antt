@@ -1,6 +1,4 @@
-use Rattle.std.proofs.Common.{◌∙◌, length, None, sym, ap, subst, arith}
-use Rattle.iddqd_store.specs.Store.{Updates}
-use Rattle.iddqd_store.proofs.StoreLemmas.{updates-set}
+use Rattle.std.proofs.Common.{◌∙◌, length, sym, ap, arith}
 use Rattle.iddqd_hash_parts.proofs.SlotItemLemmas.{length-items}
 use Rattle.iddqd_hash_parts.proofs.WalkedLemmas.{empty_from_length, nothing_left, none_before, taken_next}
 use Rattle.iddqd_hash_parts.proofs.into_iter.IntoIterIterator.next.Goals as goal
@@ -22,8 +20,7 @@ returns-clause-steps g c =
     let it = c.self.inside in
     let slot = c.in_ok-slot.slot in
     let first = c.in_ok-slot.ensures.slot in
-    let updates = subst (λ s. Updates it.store s slot None) (sym c.remove.ensures.store) (updates-set it.store slot None first.occupied) in
-    sym c.self.view_is ∙ taken_next it.store c.remove.new.self it.next slot c.self.invariant first updates c.remove.result c.remove.ensures.item
+    sym c.self.view_is ∙ taken_next it.store c.remove.new.self it.next slot c.self.invariant first c.remove.ensures.updates c.remove.result c.remove.ensures.item
 
 pub returns-clause-goes : goal.returns-clause-goes
 returns-clause-goes g c =

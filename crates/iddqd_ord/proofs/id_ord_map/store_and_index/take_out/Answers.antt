@@ -4,12 +4,12 @@ use Rattle.iddqd_ord.proofs.id_ord_map.store_and_index.take_out.Goals as goal
 
 pub returns-clause-paired : goal.returns-clause-paired
 returns-clause-paired g c =
-    (taken_out c.args.store.now c.remove.new.self c.args.index.now.slots c.remove-slot.new.self.slots c.args.place c.remove-slot.result c.remove.result c.requires.paired c.remove-slot.ensures.slot (ap (λ i. i.slots) c.remove-slot.ensures.after) c.remove.ensures.item c.remove.ensures.store c.remove.ensures.len).paired
+    (taken_out c.args.store.now c.remove.new.self c.args.index.now.slots c.remove-slot.new.self.slots c.args.place c.remove-slot.result c.remove.result c.requires.paired c.remove-slot.ensures.slot (ap (λ i. i.slots) c.remove-slot.ensures.after) c.remove.ensures.item c.remove.ensures.updates c.remove.ensures.len).paired
 
 pub returns-clause-item : goal.returns-clause-item
 returns-clause-item g c =
-    (taken_out c.args.store.now c.remove.new.self c.args.index.now.slots c.remove-slot.new.self.slots c.args.place c.remove-slot.result c.remove.result c.requires.paired c.remove-slot.ensures.slot (ap (λ i. i.slots) c.remove-slot.ensures.after) c.remove.ensures.item c.remove.ensures.store c.remove.ensures.len).item
+    (taken_out c.args.store.now c.remove.new.self c.args.index.now.slots c.remove-slot.new.self.slots c.args.place c.remove-slot.result c.remove.result c.requires.paired c.remove-slot.ensures.slot (ap (λ i. i.slots) c.remove-slot.ensures.after) c.remove.ensures.item c.remove.ensures.updates c.remove.ensures.len).item
 
 pub returns-clause-items : goal.returns-clause-items
 returns-clause-items g c =
-    (taken_out c.args.store.now c.remove.new.self c.args.index.now.slots c.remove-slot.new.self.slots c.args.place c.remove-slot.result c.remove.result c.requires.paired c.remove-slot.ensures.slot (ap (λ i. i.slots) c.remove-slot.ensures.after) c.remove.ensures.item c.remove.ensures.store c.remove.ensures.len).items
+    (taken_out c.args.store.now c.remove.new.self c.args.index.now.slots c.remove-slot.new.self.slots c.args.place c.remove-slot.result c.remove.result c.requires.paired c.remove-slot.ensures.slot (ap (λ i. i.slots) c.remove-slot.ensures.after) c.remove.ensures.item c.remove.ensures.updates c.remove.ensures.len).items

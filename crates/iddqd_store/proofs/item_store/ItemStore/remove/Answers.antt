@@ -1,6 +1,7 @@
--- For speed alone: the prover finds these proofs by itself, but later.
-use Rattle.std.proofs.Common.{arith, rules}
+-- All but `updates` for speed alone: the prover finds these proofs by itself, but later.
+use Rattle.std.proofs.Common.{None, arith, rules}
 use Rattle.std.proofs.lemmas.Grind.{common_steps}
+use Rattle.iddqd_store.proofs.StoreLemmas.{updates-set}
 use Rattle.iddqd_store.proofs.item_store.ItemStore.remove.Goals as goal
 
 pub invariant_of-self : goal.invariant_of-self
@@ -11,6 +12,9 @@ returns-clause-item g c = search rules
 
 pub returns-clause-store : goal.returns-clause-store
 returns-clause-store g c = grind (arith, common_steps)
+
+pub returns-clause-updates : goal.returns-clause-updates
+returns-clause-updates g c = rw (returns-clause-store g c) (updates-set c.args.self.now c.args.slot None c.requires)
 
 pub returns-clause-len : goal.returns-clause-len
 returns-clause-len g c = grind (arith, common_steps)

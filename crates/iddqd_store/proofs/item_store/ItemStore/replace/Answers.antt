@@ -1,7 +1,8 @@
-use Rattle.std.proofs.Common.{refl, arith}
+use Rattle.std.proofs.Common.{Some, refl, arith}
 use Rattle.std.proofs.lemmas.Grind.{common_steps}
 use Rattle.std.proofs.lemmas.List.{map-set}
 use Rattle.iddqd_store.proofs.SlotLemmas.{IsSound-replace, count-replaced, vacant-replaced}
+use Rattle.iddqd_store.proofs.StoreLemmas.{updates-set}
 use Rattle.iddqd_store.proofs.item_store.ItemStore.replace.Goals as goal
 
 pub invariant_of-self : goal.invariant_of-self
@@ -11,6 +12,9 @@ invariant_of-self g c =
 
 pub returns-clause-store : goal.returns-clause-store
 returns-clause-store g c = rw (← c.self.view_is, c.replace.ensures.after, map-set) refl
+
+pub returns-clause-updates : goal.returns-clause-updates
+returns-clause-updates g c = rw (returns-clause-store g c) (updates-set c.args.self.now c.args.slot (Some c.args.item) c.requires)
 
 pub returns-clause-len : goal.returns-clause-len
 returns-clause-len g c =

@@ -1,8 +1,6 @@
-use Rattle.std.proofs.Common.{◌∙◌, [], ◌∷◌, length, length-append, None, sym, ap, subst, nat_eq, arith}
+use Rattle.std.proofs.Common.{◌∙◌, [], ◌∷◌, length, length-append, sym, ap, subst, nat_eq, arith}
 use Rattle.std.specs.List.{IsDistinct}
 use Rattle.iddqd_ord_index.specs.Listed.{listed_items, AreOccupied}
-use Rattle.iddqd_store.specs.Store.{Updates}
-use Rattle.iddqd_store.proofs.StoreLemmas.{updates-set}
 use Rattle.iddqd_ord.proofs.WalkLemmas.{front_distinct, front_there, front_listed, front_occupied}
 use Rattle.iddqd_ord.proofs.id_ord_map.into_iter.IntoIterDoubleEndedIterator.next_back.Goals as goal
 
@@ -13,8 +11,7 @@ invariant_of-self-2 g c =
     let rest = c.next_back.new.self in
     let occupied = subst (AreOccupied it.store) c.in_ok-last.ensures.steps c.self.invariant.0 in
     let once = subst (IsDistinct nat_eq) c.in_ok-last.ensures.steps c.self.invariant.1 in
-    let updates = subst (λ s. Updates it.store s slot None) (sym c.remove.ensures.store) (updates-set it.store slot None (front_occupied it.store slot rest occupied).1) in
-    (front_there it.store c.remove.new.self slot rest occupied once updates, front_distinct it.store c.remove.new.self slot rest occupied once updates)
+    (front_there it.store c.remove.new.self slot rest occupied once c.remove.ensures.updates, front_distinct it.store c.remove.new.self slot rest occupied once c.remove.ensures.updates)
 
 pub returns-clause-steps : goal.returns-clause-steps
 returns-clause-steps g c =
@@ -23,8 +20,7 @@ returns-clause-steps g c =
     let rest = c.next_back.new.self in
     let occupied = subst (AreOccupied it.store) c.in_ok-last.ensures.steps c.self.invariant.0 in
     let once = subst (IsDistinct nat_eq) c.in_ok-last.ensures.steps c.self.invariant.1 in
-    let updates = subst (λ s. Updates it.store s slot None) (sym c.remove.ensures.store) (updates-set it.store slot None (front_occupied it.store slot rest occupied).1) in
-    sym c.self.view_is ∙ ap (listed_items it.store) c.in_ok-last.ensures.steps ∙ front_listed it.store c.remove.new.self slot rest occupied once updates c.remove.result c.remove.ensures.item
+    sym c.self.view_is ∙ ap (listed_items it.store) c.in_ok-last.ensures.steps ∙ front_listed it.store c.remove.new.self slot rest occupied once c.remove.ensures.updates c.remove.result c.remove.ensures.item
 
 pub returns-clause-goes : goal.returns-clause-goes
 returns-clause-goes g c =

@@ -1,8 +1,6 @@
-use Rattle.std.proofs.Common.{◌∙◌, length, None, sym, ap, subst, nat_eq, arith}
+use Rattle.std.proofs.Common.{◌∙◌, length, sym, ap, subst, nat_eq, arith}
 use Rattle.std.specs.List.{IsDistinct}
 use Rattle.iddqd_ord_index.specs.Listed.{listed_items, AreOccupied}
-use Rattle.iddqd_store.specs.Store.{Updates}
-use Rattle.iddqd_store.proofs.StoreLemmas.{updates-set}
 use Rattle.iddqd_ord.proofs.WalkLemmas.{rest_distinct, rest_there, rest_listed}
 use Rattle.iddqd_ord.proofs.id_ord_map.into_iter.IntoIterIterator.next.Goals as goal
 
@@ -13,8 +11,7 @@ invariant_of-self-2 g c =
     let rest = c.next.new.self in
     let occupied = subst (AreOccupied it.store) c.in_ok-slot.ensures.steps c.self.invariant.0 in
     let once = subst (IsDistinct nat_eq) c.in_ok-slot.ensures.steps c.self.invariant.1 in
-    let updates = subst (λ s. Updates it.store s slot None) (sym c.remove.ensures.store) (updates-set it.store slot None (occupied 0 slot (omega arith))) in
-    (rest_there it.store c.remove.new.self slot rest occupied once updates, rest_distinct it.store c.remove.new.self slot rest occupied once updates)
+    (rest_there it.store c.remove.new.self slot rest occupied once c.remove.ensures.updates, rest_distinct it.store c.remove.new.self slot rest occupied once c.remove.ensures.updates)
 
 pub returns-clause-steps : goal.returns-clause-steps
 returns-clause-steps g c =
@@ -23,8 +20,7 @@ returns-clause-steps g c =
     let rest = c.next.new.self in
     let occupied = subst (AreOccupied it.store) c.in_ok-slot.ensures.steps c.self.invariant.0 in
     let once = subst (IsDistinct nat_eq) c.in_ok-slot.ensures.steps c.self.invariant.1 in
-    let updates = subst (λ s. Updates it.store s slot None) (sym c.remove.ensures.store) (updates-set it.store slot None (occupied 0 slot (omega arith))) in
-    sym c.self.view_is ∙ ap (listed_items it.store) c.in_ok-slot.ensures.steps ∙ rest_listed it.store c.remove.new.self slot rest occupied once updates c.remove.result c.remove.ensures.item
+    sym c.self.view_is ∙ ap (listed_items it.store) c.in_ok-slot.ensures.steps ∙ rest_listed it.store c.remove.new.self slot rest occupied once c.remove.ensures.updates c.remove.result c.remove.ensures.item
 
 pub returns-clause-goes : goal.returns-clause-goes
 returns-clause-goes g c =
