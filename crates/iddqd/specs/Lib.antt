@@ -11,4 +11,5 @@ pub use Rattle.iddqd_store.specs.Holding
 pub use Rattle.iddqd_store.specs.Query
 pub use Rattle.iddqd_store.specs.Refusal
 pub use Rattle.iddqd_store.specs.SlotItems
+pub use Rattle.iddqd_store.specs.Unique
 pub use Rattle.iddqd_store.specs.Visiting

@@ -1,16 +1,19 @@
--- What the items in a map say of those that were collected.
---     displaced_moved      the items that have a key of another are the same in any order of the items
---     shows_first      the error of one step is that of the whole
-use Rattle.std.proofs.Common.{◌≡◌, Bool, true, false, cond, not, List, [], ◌∷◌, ◌++◌, filter, find, Option, Some, None, refl, sym, ap, ◌∙◌, subst, IsPermutation}
-use Rattle.std.proofs.lemmas.List.Sorted.{IsPermutation-sym}
+-- Items are put in a map of two keys one after the other.
+--     both_differ      in a keyed map no two items have a key in common
+--     by_two_keys      the items that a new one meets are the same in any order of the items, and one that meets none may be inserted
+use Rattle.std.proofs.Common.{◌≡◌, ℕ, Bool, true, false, cond, not, List, [], ◌∷◌, ◌++◌, filter, find, Option, Some, None, refl, sym, ap, ◌∙◌, IsPermutation}
 use Rattle.std.specs.Cmp.{IsEquivalence}
+use Rattle.std.specs.Hash.{HashWrites}
 use Rattle.std.specs.Option.{option_and_then}
-use Rattle.iddqd_store.specs.Contents.{NoTwoAkin, find_item, items_without}
-use Rattle.iddqd_store.specs.declared.errors.FromIterError.{FromIterError}
-use Rattle.iddqd_store.specs.declared.errors.FromIterError.TheVariants.{Duplicate, Refused}
+use Rattle.iddqd_store.specs.Contents.{IsAbsent, NoTwoAkin, find_item, items_without}
+use Rattle.iddqd_store.proofs.AddingLemmas.{UniqueLaws}
+use Rattle.iddqd_store.proofs.KeepsLemmas.{differ_insert}
 use Rattle.iddqd_store.proofs.OrderLemmas.{differ_moved, find_moved}
-use Rattle.iddqd_bi_hash.specs.Collecting.{DifferInBoth, ShowsDisplaced, ShowsFirstRepeat}
+use Rattle.iddqd_hash_parts.proofs.FoundLemmas.{without_absent}
+use Rattle.iddqd_bi_hash.specs.BiHashItems.{BiHashItems, IsKeyedByBoth, differ_by_key1, differ_by_key2}
+use Rattle.iddqd_bi_hash.specs.Collecting.{DifferInBoth, Meets}
 use Rattle.iddqd_bi_hash.specs.TwoKeys.{as_list, items_displaced}
+use Rattle.iddqd_bi_hash.proofs.DisplacedLemmas.{at_none}
 use Rattle.iddqd_bi_hash.proofs.UniqueLemmas.{both_found}
 
 -- a search among the items that pass is one by both tests
@@ -24,13 +27,14 @@ find_kept p q (x ∷ xs) = by (q x) (p x) refl refl (find_kept p q xs)
     by false true e f rest = rw (e, f) rest
     by false false e f rest = rw (e, f) rest
 
-module _ {T K L : Type 0} (key1 : T → K) (key2 : T → L) {eq1 : K → K → Bool} {eq2 : L → L → Bool} (equivalence1 : IsEquivalence eq1) (equivalence2 : IsEquivalence eq2) (xs items : List T) (same : IsPermutation xs items) (differ1 : NoTwoAkin key1 eq1 items) (differ2 : NoTwoAkin key2 eq2 items) where
-  pub both_differ : DifferInBoth key1 key2 eq1 eq2 xs
-  both_differ = record {
-    one = differ_moved key1 equivalence1 items xs (IsPermutation-sym xs items same) differ1;
-    other = differ_moved key2 equivalence2 items xs (IsPermutation-sym xs items same) differ2;
-  }
+pub both_differ : {S T K L : Type 0} (key1 : T → K) (key2 : T → L) (eq1 : K → K → Bool) (eq2 : L → L → Bool) (input1 : K → HashWrites) (input2 : L → HashWrites) (hash : S → HashWrites → ℕ) (m : BiHashItems S T)
+    → IsKeyedByBoth key1 key2 eq1 eq2 input1 input2 hash m → DifferInBoth key1 key2 eq1 eq2 m.items
+both_differ key1 key2 eq1 eq2 input1 input2 hash m keyed = record {
+  one = differ_by_key1 key1 key2 eq1 eq2 input1 input2 hash m keyed;
+  other = differ_by_key2 key1 key2 eq1 eq2 input1 input2 hash m keyed;
+}
 
+module _ {T K L : Type 0} (key1 : T → K) (key2 : T → L) {eq1 : K → K → Bool} {eq2 : L → L → Bool} (equivalence1 : IsEquivalence eq1) (equivalence2 : IsEquivalence eq2) where
   module _ (x : T) where
     abbrev one : List T → Option T
     one ys = find_item key1 (eq1 (key1 x)) ys
@@ -47,15 +51,35 @@ module _ {T K L : Type 0} (key1 : T → K) (key2 : T → L) {eq1 : K → K → B
         find_kept (λ y. eq2 (key2 x) (key2 y)) (λ y. not (eq1 (key1 x) (key1 y))) ys
         ∙ both_found key2 key1 (eq2 (key2 x)) (equivalence2.congr (key2 x)) (λ k. not (eq1 (key1 x) k)) ys differ
 
-    pub displaced_moved : items_displaced key1 key2 eq1 eq2 x items ≡ items_displaced key1 key2 eq1 eq2 x xs
-    displaced_moved =
-        let back = IsPermutation-sym xs items same in
-        let first = find_moved key1 equivalence1 (eq1 (key1 x)) (equivalence1.congr (key1 x)) items xs back differ1 in
-        let then = second items differ2 ∙ ap (option_and_then apart) (sym (find_moved key2 equivalence2 (eq2 (key2 x)) (equivalence2.congr (key2 x)) items xs back differ2)) ∙ sym (second xs both_differ.other) in
-        ap (λ o. as_list o ++ as_list (other (items_without key1 (eq1 (key1 x)) items))) (sym first)
-        ∙ ap (λ o. as_list (one xs) ++ as_list o) then
+    -- an item that meets none has neither key of one
+    neither_key : (ys : List T) → Meets key1 key2 eq1 eq2 x ys [] → IsAbsent key1 (eq1 (key1 x)) ys × IsAbsent key2 (eq2 (key2 x)) ys
+    neither_key ys none =
+        let left = items_without key1 (eq1 (key1 x)) ys in
+        let absent = at_none {P = (one ys ≡ None) × (other left ≡ None)} None (one ys) (other left) none (λ a b. (a, b)) in
+        (absent.0, ap other (without_absent key1 (eq1 (key1 x)) ys absent.0) ∙ absent.1)
 
-  pub shows_first : (gives : List T → T → Type 0) (x : T) (e : FromIterError T) → gives xs x → ShowsDisplaced key1 key2 eq1 eq2 items x e → ShowsFirstRepeat key1 key2 eq1 eq2 gives e
-  shows_first gives x (Duplicate d) came shown =
-      (xs, subst (gives xs) (sym shown.0) came, both_differ, shown.1 ∙ displaced_moved x ∙ ap (λ y. items_displaced key1 key2 eq1 eq2 y xs) (sym shown.0))
-  shows_first gives x (Refused r) came shown = tt
+  module _ (xs ys : List T) (moved : IsPermutation xs ys) (differ : DifferInBoth key1 key2 eq1 eq2 xs) where
+    both_moved : DifferInBoth key1 key2 eq1 eq2 ys
+    both_moved = record {
+      one = differ_moved key1 equivalence1 xs ys moved differ.one;
+      other = differ_moved key2 equivalence2 xs ys moved differ.other;
+    }
+
+    displaced_moved : (x : T) → items_displaced key1 key2 eq1 eq2 x xs ≡ items_displaced key1 key2 eq1 eq2 x ys
+    displaced_moved x =
+        let first = find_moved key1 equivalence1 (eq1 (key1 x)) (equivalence1.congr (key1 x)) xs ys moved differ.one in
+        let then = second x xs differ.other ∙ ap (option_and_then (apart x)) (sym (find_moved key2 equivalence2 (eq2 (key2 x)) (equivalence2.congr (key2 x)) xs ys moved differ.other)) ∙ sym (second x ys both_moved.other) in
+        ap (λ o. as_list o ++ as_list (other x (items_without key1 (eq1 (key1 x)) xs))) (sym first)
+        ∙ ap (λ o. as_list (one x ys) ++ as_list o) then
+
+  pub by_two_keys : UniqueLaws (DifferInBoth key1 key2 eq1 eq2) (Meets key1 key2 eq1 eq2)
+  by_two_keys = record {
+    differ_moved = both_moved;
+    meets_moved = λ xs ys moved differ x met meets. meets ∙ displaced_moved xs ys moved differ x;
+    differ_insert = λ x items place none differ.
+        let absent = neither_key x items none in
+        record {
+          one = differ_insert key1 equivalence1 x items place absent.0 differ.one;
+          other = differ_insert key2 equivalence2 x items place absent.1 differ.other;
+        };
+  }

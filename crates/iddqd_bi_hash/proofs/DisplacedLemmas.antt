@@ -3,7 +3,7 @@
 --     none_left      none of it passes
 --     never_more, one_less      how many are left
 --     at_some, at_none, as_many, as_vacant      what was removed, as one or two values
-use Rattle.std.proofs.Common.{◌≡◌, ℕ, ◌+◌, ◌<◌, ◌≤◌, Bool, true, false, cond, not, List, [], ◌∷◌, ◌++◌, length, filter, find, Option, Some, None, IfNone, IfSome, OnSome, is_some, refl, sym, ap, ◌∙◌, arith, length-append}
+use Rattle.std.proofs.Common.{◌≡◌, ℕ, ◌+◌, ◌≤◌, Bool, true, false, cond, not, List, [], ◌∷◌, ◌++◌, length, filter, find, Option, Some, None, IfNone, IfSome, OnSome, is_some, refl, sym, ap, ◌∙◌, arith, length-append}
 use Rattle.iddqd_store.specs.Errors.{values_of}
 use Rattle.iddqd_store.specs.declared.errors.Few.{Few}
 use Rattle.iddqd_store.specs.declared.errors.Few.TheVariants.{One, Two, Three}

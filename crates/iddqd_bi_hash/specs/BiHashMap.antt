@@ -24,7 +24,7 @@ use Rattle.std.specs.Hash.{HashWrites}
 use Rattle.std.specs.List.{AllByRecursion, filter_map}
 use Rattle.std.specs.Option.{option_and_then}
 use Rattle.iddqd_store.specs.Contents.{AddsItem, find_item}
-use Rattle.iddqd_store.specs.Errors.{new_item_of, duplicates_of, values_of}
+use Rattle.iddqd_store.specs.Errors.{new_item_of, lent_duplicates_of, values_of}
 use Rattle.iddqd_store.specs.Holding.{InsertsItem, KeepsItems}
 use Rattle.iddqd_store.specs.Refusal.{OnDuplicate, RefusalKind, refusal_kind}
 use Rattle.iddqd_store.specs.SlotItems.{HaveSlots, item_of_slot}
@@ -108,7 +108,7 @@ module _ {S T K L : Type 0} (key1 : T → K) (key2 : T → L) (eq1 : K → K →
   -- x is returned: beside the items that have one of its keys, in the order of their slots, or because there was no room
   abbrev pub RefusesItem : BiHashItems S T → T → InsertError T → Type 0
   RefusesItem m x (Duplicate d) =
-      (new_item_of d ≡ x) × (map (λ lent. lent.now) (duplicates_of d) ≡ items_met key1 key2 eq1 eq2 x m.items)
+      (new_item_of d ≡ x) × (lent_duplicates_of d ≡ items_met key1 key2 eq1 eq2 x m.items)
   RefusesItem m x (Refused r) =
       (r.item ≡ x) × (items_met key1 key2 eq1 eq2 x m.items ≡ []) × (r.error ≡ refusal_kind m.limit m.items)
 

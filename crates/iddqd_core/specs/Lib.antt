@@ -12,5 +12,6 @@ pub use Rattle.iddqd_store.specs.Query
 pub use Rattle.iddqd_store.specs.Refusal
 pub use Rattle.iddqd_store.specs.SlotItems
 pub use Rattle.iddqd_store.specs.Store
+pub use Rattle.iddqd_store.specs.Unique
 pub use Rattle.iddqd_store.specs.Validation
 pub use Rattle.iddqd_store.specs.Visiting

@@ -3,7 +3,7 @@
 --     none_passing      without a test there is none
 --     passing_more      with what one search more found
 --     passing_items, passing_occupied      their items are those that pass, and each of them has one
-use Rattle.std.proofs.Common.{◌≡◌, ◌≢◌, ℕ, zero, suc, ◌+◌, ◌<◌, ◌≤◌, Bool, true, false, cond, List, [], ◌∷◌, filter, Option, Some, None, is_some, IsSomeAnd, refl, sym, ap, ◌∙◌, arith, subst}
+use Rattle.std.proofs.Common.{◌≡◌, ◌≢◌, ℕ, zero, suc, ◌+◌, ◌<◌, Bool, true, false, cond, List, [], ◌∷◌, filter, Option, Some, None, is_some, IsSomeAnd, refl, sym, ap, ◌∙◌, arith, subst}
 use Rattle.std.proofs.lemmas.Bool.{eq-eqb, ne_eqb, lt-ltb, le-ltb}
 use Rattle.std.specs.List.{AllByRecursion, cons_option, filter_map}
 use Rattle.iddqd_store.specs.Store.{Store, item_at, IsOccupied}

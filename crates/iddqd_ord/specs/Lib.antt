@@ -12,4 +12,5 @@ pub use Rattle.iddqd_store.specs.Errors
 pub use Rattle.iddqd_store.specs.Holding
 pub use Rattle.iddqd_store.specs.Refusal
 pub use Rattle.iddqd_store.specs.SlotItems
+pub use Rattle.iddqd_store.specs.Unique
 pub use Rattle.iddqd_store.specs.Visiting

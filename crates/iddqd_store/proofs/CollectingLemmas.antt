@@ -4,22 +4,17 @@
 --     fills_kept, fills_taken, fills_on      what a reservation, one new item, and two calls after one another leave besides the items
 --     overwritten      one item is put in
 --     gives_all, gives_then      an iterator that gave these items, and then none or one more
---     collected_differ, shows_first      what the items in a map say of those that were collected
 use Rattle.std.proofs.Common.{◌≡◌, ℕ, Bool, List, [], ◌∷◌, ◌++◌, Option, Some, None, IfNone, OnSome, length, nat_eq, refl, sym, ap, ◌∙◌, subst, arith, IsPermutation}
 use Rattle.std.proofs.lemmas.List.{length-map}
 use Rattle.std.proofs.lemmas.List.Edits.{length-insert}
-use Rattle.std.proofs.lemmas.List.Sorted.{IsPermutation-cons, IsPermutation-insert, IsPermutation-sym, IsPermutation-to_front, IsPermutation-trans}
+use Rattle.std.proofs.lemmas.List.Sorted.{IsPermutation-cons, IsPermutation-insert, IsPermutation-to_front, IsPermutation-trans}
 use Rattle.std.proofs.iter.runs.Consumers.{total_runs}
-use Rattle.std.specs.Cmp.{IsEquivalence}
 use Rattle.std.specs.Iterator.{Drains, YieldsThen}
 use Rattle.std.specs.List.{IsDistinct}
-use Rattle.iddqd_store.specs.Collecting.{GivesAll, GivesThen, IsFirstRepeat, OverwritesAll, ShowsAkin, ShowsFirstRepeat}
-use Rattle.iddqd_store.specs.Contents.{AddsItem, NoTwoAkin, OverwritesItem, find_item, items_overwritten}
+use Rattle.iddqd_store.specs.Collecting.{GivesAll, GivesThen, OverwritesAll}
+use Rattle.iddqd_store.specs.Contents.{AddsItem, OverwritesItem, find_item, items_overwritten}
 use Rattle.iddqd_store.specs.Holding.{FillsSlots, Holding, KeepsItems, InsertsItem}
 use Rattle.iddqd_store.specs.SlotItems.{HaveSlots}
-use Rattle.iddqd_store.specs.declared.errors.FromIterError.{FromIterError}
-use Rattle.iddqd_store.specs.declared.errors.FromIterError.TheVariants.{Duplicate, Refused}
-use Rattle.iddqd_store.proofs.OrderLemmas.{differ_moved, find_moved}
 
 module _ {T K : Type 0} (key : T → K) (eq : K → K → Bool) (limit : ℕ) (x : T) where
   pub overwrites_last : (xs old between : List T) (back : Option T) (new : List T) → OverwritesAll key eq limit xs old between → OverwritesItem key eq x limit between back new → OverwritesAll key eq limit (xs ++ x ∷ []) old new
@@ -38,20 +33,6 @@ gives_all becomes steps iter xs gave = (gave.0, gave.1, total_runs steps gave.0 
 pub gives_then : {U S T : Type 0} (becomes : U → S → Type 0) (steps : S → Option T → S → Type 0) (iter : U) (xs : List T) (x : T) → (it : S) × (rest : S) × becomes iter it × YieldsThen steps it xs (Some x) rest → GivesThen becomes steps iter xs x
 unfolding GivesThen
 gives_then becomes steps iter xs x gave = gave
-
-module _ {T K : Type 0} (key : T → K) {eq : K → K → Bool} (equivalence : IsEquivalence eq) (xs items : List T) (same : IsPermutation xs items) (differ : NoTwoAkin key eq items) where
-  pub collected_differ : NoTwoAkin key eq xs
-  collected_differ = differ_moved key equivalence items xs (IsPermutation-sym xs items same) differ
-
-  pub first_repeat : (x earlier : T) → find_item key (eq (key x)) items ≡ Some earlier → IsFirstRepeat key eq xs x earlier
-  first_repeat x earlier found = record {
-    differ = collected_differ;
-    akin = find_moved key equivalence (eq (key x)) (equivalence.congr (key x)) items xs (IsPermutation-sym xs items same) differ ∙ found;
-  }
-
-  pub shows_first : (gives : List T → T → Type 0) (x : T) (e : FromIterError T) → gives xs x → ShowsAkin key eq items x e → ShowsFirstRepeat key eq gives e
-  shows_first gives x (Duplicate d) came akin = (xs, akin.1, subst (gives xs) (sym akin.0) came, subst (λ y. IsFirstRepeat key eq xs y akin.1) (sym akin.0) (first_repeat x akin.1 akin.2), akin.3)
-  shows_first gives x (Refused r) came akin = tt
 
 module _ {T : Type 0} where
   pub fills_kept : (old new : Holding T) → HaveSlots old.slots old.items → KeepsItems old new → FillsSlots old new

@@ -1,49 +1,42 @@
--- What `extend_unique` leaves and shows.
+-- What `extend_unique` of a map of one key leaves and shows. `Unique` has the same of any keys.
 --     AddsGiven      all items were inserted
 --     ShowsFirstConflict      what it shows of the iterator's items
---     StopsAdding      what it shows, and what is in the map then
+--     RefusesAdding, StopsAdding      there was no room; what it shows in either case, and what is in the map then
 --     HaltsAdding, HaltsAt      the same while the existing item is known by its slot alone, and one step of it
 --     AddsEach, HaltsEach, ShowsConflict      the same of what an iterable gives
 --     OnItemRefused, OnItemBack      what holds if an item is returned because there is no room, of the error and of a halt
-use Rattle.std.specs.Prelude.{◌≡◌, Bool, List, Option, Some, IfSome, IfNone, OnSome}
-use Rattle.iddqd_store.specs.Collecting.{AddsAll, GivesAll, GivesThen, IsFirstConflict}
-use Rattle.iddqd_store.specs.Contents.{find_item}
-use Rattle.iddqd_store.specs.Errors.{new_item_of, duplicates_of}
-use Rattle.iddqd_store.specs.Holding.{Holding, KeepsItems}
-use Rattle.iddqd_store.specs.Refusal.{FindsNoRoom, IsOnly}
+use Rattle.std.specs.Prelude.{◌≡◌, Bool, List, [], ◌∷◌, Option, Some, OnSome}
+use Rattle.iddqd_store.specs.Collecting.{GivesAll, GivesThen, Meets}
+use Rattle.iddqd_store.specs.Contents.{NoTwoAkin, find_item}
+use Rattle.iddqd_store.specs.Holding.{Holding}
+use Rattle.iddqd_store.specs.Refusal.{FindsNoRoom}
 use Rattle.iddqd_store.specs.SlotItems.{item_of_slot}
+use Rattle.iddqd_store.specs.Unique as unique
 use Rattle.iddqd_store.specs.declared.errors.ExtendError.{ExtendError}
 use Rattle.iddqd_store.specs.declared.errors.ExtendUniqueError.{ExtendUniqueError}
 use Rattle.iddqd_store.specs.declared.errors.ExtendUniqueError.TheVariants.{Duplicate, Refused}
 use Rattle.iddqd_store.specs.declared.halts.Halt.{Halt}
 use Rattle.iddqd_store.specs.declared.halts.Halt.TheVariants.{Akin, NoRoom}
 
--- gives says which items came before one
 module _ {T K : Type 0} (key : T → K) (eq : K → K → Bool) where
-  -- all items of the iterator are in the map
   abbrev pub AddsGiven : (gives : List T → Type 0) (old new : List T) → Type 0
-  AddsGiven gives old new = (items : List T) × gives items × AddsAll key eq items old new
+  AddsGiven = unique.AddsGiven (NoTwoAkin key eq)
 
-  -- the first conflict is shown: its item as new, and the existing one alone as its duplicate
   abbrev pub ShowsFirstConflict : (gives : List T → T → Type 0) (old : List T) → ExtendUniqueError T → Type 0
-  ShowsFirstConflict gives old (Duplicate d) = (before : List T) × (there : T) × gives before (new_item_of d) × IsFirstConflict key eq old before (new_item_of d) there × IsOnly (duplicates_of d) there
-  ShowsFirstConflict gives old (Refused e) = Unit
+  ShowsFirstConflict = unique.ShowsFirstConflict (NoTwoAkin key eq) (Meets key eq)
 
-  -- an item finds no room and is returned, and those before it are in the map; without an item, the iterator was not asked, and
-  -- nothing has changed but the room
   abbrev pub RefusesAdding : (gives : List T → T → Type 0) (old new : Holding T) → ExtendError T → Type 0
-  RefusesAdding gives old new e =
-      IfSome e.item (λ x. (before : List T) × gives before x × AddsAll key eq before old.items new.items × FindsNoRoom key eq old.limit new.items x e.error)
-      × IfNone e.item (KeepsItems old new)
+  RefusesAdding = unique.RefusesAdding (NoTwoAkin key eq) (Meets key eq)
 
-  -- the first conflict is shown, and the items before it are in the map; or there was no room
   abbrev pub StopsAdding : (gives : List T → T → Type 0) (old new : Holding T) → ExtendUniqueError T → Type 0
-  StopsAdding gives old new (Duplicate d) = (before : List T) × (there : T) × gives before (new_item_of d) × IsFirstConflict key eq old.items before (new_item_of d) there × IsOnly (duplicates_of d) there × AddsAll key eq before old.items new.items
-  StopsAdding gives old new (Refused e) = RefusesAdding gives old new e
+  StopsAdding = unique.StopsAdding (NoTwoAkin key eq) (Meets key eq)
 
   -- the same, with the slot of the existing item
   abbrev pub HaltsAdding : (gives : List T → T → Type 0) (old new : Holding T) → Halt T → Type 0
-  HaltsAdding gives old new (Akin x slot) = (before : List T) × (there : T) × gives before x × IsFirstConflict key eq old.items before x there × (item_of_slot new.slots new.items slot ≡ Some there) × AddsAll key eq before old.items new.items
+  HaltsAdding gives old new (Akin x slot) =
+      (there : T)
+      × unique.StopsBeside (NoTwoAkin key eq) (Meets key eq) gives old.items new.items x (there ∷ [])
+      × (item_of_slot new.slots new.items slot ≡ Some there)
   HaltsAdding gives old new (NoRoom e) = RefusesAdding gives old new e
 
   -- x is not inserted

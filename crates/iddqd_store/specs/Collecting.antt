@@ -2,23 +2,23 @@
 --     room_to_reserve      for how many items room is reserved before they are inserted
 --     GivesAll, GivesThen      what an iterator gives: these items and no more, or these and then one
 --     OverwritesAll      each item replaces the one of an equal key, or is added if there is none (`extend`)
---     IsFirstRepeat      the first item whose key an earlier one has, and that one (`from_iter_unique`)
---     ShowsFirstRepeat      the error of `from_iter_unique`
+--     OverwritesGiven, StopsOverwriting      what `extend` leaves
+--     Collects      what `from_iter` makes
+-- In a map of one key (`Unique` has the same of any keys):
+--     Meets      the item that has a new item's key, or none
 --     AddsAll      the items are added, and no two of all have equal keys (`extend_unique`)
 --     IsFirstConflict      the first item whose key one in the map has by then, and that one
---     ShowsAkin      one step of `from_iter_unique`
---     OverwritesGiven, StopsOverwriting      what `extend` leaves
---     Collects, CollectsUnique      what `from_iter` and `from_iter_unique` make
-use Rattle.std.specs.Prelude.{◌≡◌, ℕ, ◌+◌, ◌/◌, ◌==◌, if◌then◌else◌, Bool, List, [], ◌∷◌, ◌++◌, Option, Some, IfSome, IsPermutation}
+--     ShowsFirstRepeat, ShowsAkin      the error of `from_iter_unique`, and one step of it
+--     CollectsUnique      what `from_iter_unique` makes
+use Rattle.std.specs.Prelude.{◌≡◌, ℕ, ◌+◌, ◌/◌, ◌==◌, if◌then◌else◌, Bool, List, [], ◌∷◌, Option, Some, IfSome}
 use Rattle.std.specs.Iterator.{YieldsThen}
 use Rattle.std.specs.Iterator.Runs.{WholeRun}
-use Rattle.iddqd_store.specs.Contents.{NoTwoAkin, OverwritesItem, find_item}
-use Rattle.iddqd_store.specs.Errors.{new_item_of, duplicates_of}
+use Rattle.iddqd_store.specs.Contents.{IsAbsent, NoTwoAkin, OverwritesItem, find_item}
 use Rattle.iddqd_store.specs.Holding.{Holding, max_items}
 use Rattle.iddqd_store.specs.Refusal.{FindsNoRoom}
+use Rattle.iddqd_store.specs.Unique as unique
 use Rattle.iddqd_store.specs.declared.errors.ExtendError.{ExtendError}
 use Rattle.iddqd_store.specs.declared.errors.FromIterError.{FromIterError}
-use Rattle.iddqd_store.specs.declared.errors.FromIterError.TheVariants.{Duplicate, Refused}
 
 -- for how many items room is reserved, if so many are in the map and so many are announced: all of them in a map without items,
 -- and half of them, rounded up, in another
@@ -38,31 +38,25 @@ module _ {T K : Type 0} (key : T → K) (eq : K → K → Bool) where
   OverwritesAll limit [] old new = new ≡ old
   OverwritesAll limit (x ∷ xs) old new = (between : List T) × (back : Option T) × OverwritesItem key eq x limit old back between × OverwritesAll limit xs between new
 
-  -- the items before x differ in their keys, and x has the key of the earlier one
-  pub record IsFirstRepeat (before : List T) (x earlier : T) : Type 0 where
-    pub differ : NoTwoAkin key eq before
-    pub akin : find_item key (eq (key x)) before ≡ Some earlier
+  -- of the items, x meets the one that has its key, or none
+  abbrev pub Meets : T → List T → List T → Type 0
+  Meets x items [] = IsAbsent key (eq (key x)) items
+  Meets x items (there ∷ []) = find_item key (eq (key x)) items ≡ Some there
+  Meets x items (a ∷ b ∷ more) = ⊥
 
-  -- the first item that repeats a key is shown as new, and the earlier one alone as its duplicate; gives says which items came
-  -- before
-  abbrev pub ShowsFirstRepeat : (List T → T → Type 0) → FromIterError T → Type 0
-  ShowsFirstRepeat gives (Duplicate d) = (before : List T) × (earlier : T) × gives before (new_item_of d) × IsFirstRepeat before (new_item_of d) earlier × (duplicates_of d ≡ earlier ∷ [])
-  ShowsFirstRepeat gives (Refused e) = Unit
+  abbrev pub ShowsFirstRepeat : (gives : List T → T → Type 0) → FromIterError T → Type 0
+  ShowsFirstRepeat = unique.ShowsFirstRepeat (NoTwoAkin key eq) Meets
 
-  -- the items xs are added to the old ones, in any order, and no two of them all have equal keys
-  pub record AddsAll (xs old new : List T) : Type 0 where
-    pub differ : NoTwoAkin key eq (old ++ xs)
-    pub same : IsPermutation (old ++ xs) new
+  abbrev pub AddsAll : (xs old new : List T) → Type 0
+  AddsAll = unique.AddsAll (NoTwoAkin key eq)
 
   -- of items that are added to the old ones, those before x have keys of their own, and x has the key of an old one or of one of
   -- them
   abbrev pub IsFirstConflict : (old before : List T) → (x there : T) → Type 0
-  IsFirstConflict old before x there = IsFirstRepeat (old ++ before) x there
+  IsFirstConflict old before x there = unique.IsFirstConflict (NoTwoAkin key eq) Meets old before x (there ∷ [])
 
-  -- x is shown as new, and the one item that has its key alone as its duplicate
   abbrev pub ShowsAkin : List T → T → FromIterError T → Type 0
-  ShowsAkin items x (Duplicate d) = (new_item_of d ≡ x) × (akin : T) × (find_item key (eq (key x)) items ≡ Some akin) × (duplicates_of d ≡ akin ∷ [])
-  ShowsAkin items x (Refused e) = Unit
+  ShowsAkin = unique.ShowsMet Meets
 
 -- of what an iterable gives, as `becomes` and `steps` say
 module _ {T K U I : Type 0} (key : T → K) (eq : K → K → Bool) (becomes : U → I → Type 0) (steps : I → Option T → I → Type 0) (iter : U) where
@@ -81,4 +75,4 @@ module _ {T K U I : Type 0} (key : T → K) (eq : K → K → Bool) (becomes : U
 
   -- a new map has the items, and no two of them have equal keys
   abbrev pub CollectsUnique : Holding T → Type 0
-  CollectsUnique m = (xs : List T) × GivesAll becomes steps iter xs × NoTwoAkin key eq xs × IsPermutation xs m.items
+  CollectsUnique m = unique.AddsGiven (NoTwoAkin key eq) (GivesAll becomes steps iter) [] m.items

@@ -1,6 +1,7 @@
 -- What a contract reads of an error.
 --     values_of few      the values of a `Few`, in order
 --     new_item_of, duplicates_of      what a `DuplicateItem` holds
+--     lent_duplicates_of      the items themselves, if it holds references
 --     OwnsDuplicatesOf      what `into_owned` returns
 use Rattle.std.specs.Borrow.{Bor}
 use Rattle.std.specs.Prelude.{◌≡◌, List, [], ◌∷◌, map}
@@ -23,6 +24,11 @@ module _ {T D : Type 0} where
   abbrev pub duplicates_of : DuplicateItem T D → List D
   duplicates_of d = values_of d.duplicates
 
--- the same error, with the values themselves in place of references to them
-abbrev pub OwnsDuplicatesOf : {T : Type 0} → DuplicateItem T (Bor T) → DuplicateItem T T → Type 0
-OwnsDuplicatesOf lent owned = duplicates_of owned ≡ map (λ one. one.now) (duplicates_of lent)
+module _ {T : Type 0} where
+  -- the existing items themselves, of an error that lends them
+  abbrev pub lent_duplicates_of : DuplicateItem T (Bor T) → List T
+  lent_duplicates_of d = map (λ lent. lent.now) (duplicates_of d)
+
+  -- the same error, with the items themselves in place of references to them
+  abbrev pub OwnsDuplicatesOf : DuplicateItem T (Bor T) → DuplicateItem T T → Type 0
+  OwnsDuplicatesOf lent owned = duplicates_of owned ≡ lent_duplicates_of lent

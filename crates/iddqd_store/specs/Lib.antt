@@ -10,5 +10,6 @@ pub mod Refusal
 pub mod SlotItems
 pub mod Slots
 pub mod Store
+pub mod Unique
 pub mod Validation
 pub mod Visiting

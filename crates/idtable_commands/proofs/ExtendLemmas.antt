@@ -18,7 +18,7 @@ use Rattle.std.proofs.lemmas.List.Sorted.{IsPermutation-append_left, IsPermutati
 use Rattle.std.proofs.lemmas.Option.{slice_get_within}
 use Rattle.iddqd.specs.Collecting.{AddsAll, room_to_reserve}
 use Rattle.iddqd.specs.Contents.{NoTwoAkin, OverwritesItem, find_item}
-use Rattle.iddqd.proofs.AddingLemmas.{adds_last, adds_none, conflicts_first}
+use Rattle.iddqd.proofs.AddingLemmas.{adds_last, adds_none, by_one_key, conflicts_first}
 use Rattle.iddqd.proofs.OrderLemmas.{differ_moved, find_moved}
 use Rattle.iddqd.specs.Errors.{duplicates_of, new_item_of}
 use Rattle.iddqd.specs.Refusal.{FindsNoRoom, IsOnly}
@@ -87,11 +87,11 @@ module _ {T K : Type 0} (key : T → K) {eq : K → K → Bool} (equivalence : I
 
   module _ (limit : ℕ) where
     pub takes_none : (old new : List T) → new ≡ old → NoTwoAkin key eq old → InsertsAll key eq limit [] old new
-    takes_none old new same differ = subst (InsertsAll key eq limit [] old) (sym same) (record { added = adds_none key old differ; room = λ some. absurd (omega (arith, some)) })
+    takes_none old new same differ = subst (InsertsAll key eq limit [] old) (sym same) (record { added = adds_none (by_one_key key equivalence) old differ; room = λ some. absurd (omega (arith, some)) })
 
     pub takes_last : (xs old middle new : List T) (x : T) → InsertsAll key eq limit xs old middle → OverwritesItem key eq x limit middle None new → InsertsAll key eq limit (xs ++ x ∷ []) old new
     takes_last xs old middle new x takes put = record {
-      added = adds_last key equivalence xs old middle takes.added x new put.0 put.2;
+      added = adds_last (by_one_key key equivalence) xs old middle takes.added x new put.0 put.2;
       room = λ _. omega (arith, put.1, ap length put.2.put, length-insert middle put.2.place x put.2.within);
     }
 
@@ -105,7 +105,7 @@ module _ {T K : Type 0} (key : T → K) {eq : K → K → Bool} (equivalence : I
     pub meets_here : (front rest xs old new : List T) (x there : T) → xs ≡ front ++ x ∷ rest → InsertsAll key eq limit front old new → find_item key (eq (key x)) new ≡ Some there → MeetsAkin key eq limit xs x there (length front) old new
     meets_here front rest xs old new x there is takes found =
         let stops = stops_here front rest xs old new x is takes in
-        record { stops = stops; first = conflicts_first key equivalence (take (length front) xs) old new stops.taken.added x there found }
+        record { stops = stops; first = conflicts_first (by_one_key key equivalence) (take (length front) xs) old new stops.taken.added x (there ∷ []) found }
 
     pub spare_first : (rule : MapRule K) (xs : List T) (old new : MapState T) → InsertsAll key eq limit xs old.items new.items → KeepsRoom rule limit old new → new.spare ≡ 0 → old.spare ≤ length xs
     spare_first (Ordered compare) xs old new takes room none = omega (arith, room.0)

@@ -1,4 +1,4 @@
-use Rattle.std.proofs.Common.{◌∙◌, not, sym, rules}
+use Rattle.std.proofs.Common.{◌∙◌, sym, rules}
 use Rattle.iddqd_bi_hash.specs.BiHashItems.{differ_by_key1}
 use Rattle.iddqd_bi_hash.proofs.DisplacedLemmas.{weaker_none}
 use Rattle.iddqd_bi_hash.proofs.UniqueLemmas.{first_is_both, guard_by_both}

@@ -1,8 +1,8 @@
-use Rattle.std.proofs.Common.{[], ◌∙◌, rules, subst, sym}
+use Rattle.std.proofs.Common.{[], rules, subst, sym}
 use Rattle.std.proofs.iter.Next.{on}
 use Rattle.std.proofs.lemmas.Result.{err_from_is_err_and}
 use Rattle.iddqd_store.specs.Collecting.{AddsAll, GivesThen}
-use Rattle.iddqd_store.proofs.AddingLemmas.{adds_last, adds_none, halts_adding}
+use Rattle.iddqd_store.proofs.AddingLemmas.{adds_last, adds_none, by_one_key, halts_adding}
 use Rattle.iddqd_store.proofs.CollectingLemmas.{fills_kept, fills_on, fills_taken, gives_all, gives_then}
 use Rattle.iddqd_store.specs.Hashing.{hash_under}
 use Rattle.iddqd_hash_parts.specs.HashItems.{holding_of, IsKeyed, KeyedItems}
@@ -18,7 +18,7 @@ loop-item-init g c =
     let kept = c.reserve.ensures.kept in (
       search rules,
       search rules,
-      subst (AddsAll key g.T.Key.PartialEq.eq [] old.items) (sym kept.keeps.items) (adds_none key old.items c.requires.keyed.differ),
+      subst (AddsAll key g.T.Key.PartialEq.eq [] old.items) (sym kept.keeps.items) (adds_none (by_one_key key g.met.T.Key.Eq.laws) old.items c.requires.keyed.differ),
       record { fills = fills_kept (holding_of old) (holding_of new) c.len.ensures.slots kept.keeps; stays = kept.stays },
     )
 
@@ -34,7 +34,7 @@ loop-item-preserved g c =
     let goes = on x c.in-Some.is c.next.ensures.goes inv.1 in (
       goes.0,
       goes.1,
-      adds_last g.T.IdHashItem.key g.met.T.Key.Eq.laws c.loop-item.yielded old.items between.items inv.2 x new.items put.absent put.inserts.takes.added,
+      adds_last (by_one_key g.T.IdHashItem.key g.met.T.Key.Eq.laws) c.loop-item.yielded old.items between.items inv.2 x new.items put.absent put.inserts.takes.added,
       record {
         fills = fills_on (holding_of old) (holding_of between) (holding_of new) inv.3.fills (fills_taken x (holding_of between) (holding_of new) put.inserts.takes);
         stays = stays_on (KeyedItems g.T.IdHashItem.key g.T.Key.PartialEq.eq g.T.Key.Hash.hash_input (hash_under g.S.BuildHasher g.S.Hasher.Hasher)) old between new inv.3.stays put.inserts.stays;

@@ -1,4 +1,4 @@
-use Rattle.std.proofs.Common.{subst, ap, arith, ◌∙◌, length, rules}
+use Rattle.std.proofs.Common.{subst, ap, arith, length, rules}
 use Rattle.std.proofs.iter.Next.{on}
 use Rattle.iddqd_store.specs.Contents.{OverwritesItem}
 use Rattle.iddqd_store.proofs.CollectingLemmas.{fills_kept, fills_on, gives_all, gives_then, overwrites_last, overwritten}

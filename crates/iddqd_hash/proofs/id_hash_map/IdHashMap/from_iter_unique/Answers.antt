@@ -3,7 +3,8 @@ use Rattle.std.proofs.lemmas.Grind.{common_steps}
 use Rattle.std.proofs.iter.Next.{on}
 use Rattle.std.proofs.lemmas.Result.{err_from_is_err_and}
 use Rattle.iddqd_store.specs.Collecting.{GivesThen}
-use Rattle.iddqd_store.proofs.CollectingLemmas.{collected_differ, collects_last, gives_all, gives_then, shows_first}
+use Rattle.iddqd_store.proofs.AddingLemmas.{by_one_key, collected_differ, shows_first}
+use Rattle.iddqd_store.proofs.CollectingLemmas.{collects_last, gives_all, gives_then}
 use Rattle.iddqd_hash_parts.specs.HashItems.{IsKeyed}
 use Rattle.iddqd_hash.proofs.id_hash_map.IdHashMap.from_iter_unique.Goals as goal
 
@@ -40,7 +41,7 @@ returns-in_err-insert_first g c =
     let gives = GivesThen g.U.IntoIterator.into_iter_gives g.U.IntoIter.Iterator.next_gives c.args.iter in
     rw back.1 (record {
       items = tt;
-      repeat = shows_first key g.met.T.Key.Eq.laws c.loop-item.yielded items inv.2 inv.7.differ gives c.in-Some.item _ (gives_then g.U.IntoIterator.into_iter_gives g.U.IntoIter.Iterator.next_gives c.args.iter c.loop-item.yielded c.in-Some.item (search rules)) (rw back.2 c.in_err-insert_first.ensures.akin);
+      repeat = shows_first (by_one_key key g.met.T.Key.Eq.laws) c.loop-item.yielded items inv.2 inv.7.differ gives c.in-Some.item _ (gives_then g.U.IntoIterator.into_iter_gives g.U.IntoIter.Iterator.next_gives c.args.iter c.loop-item.yielded c.in-Some.item (search rules)) (rw back.2 c.in_err-insert_first.ensures.akin);
       collected = tt;
     })
 
@@ -50,7 +51,11 @@ returns g c =
     let key = g.T.IdHashItem.key in
     let inv = c.loop-item.invariant in
     record {
-      items = (c.loop-item.yielded, gives_all g.U.IntoIterator.into_iter_gives g.U.IntoIter.Iterator.next_gives c.args.iter c.loop-item.yielded (search rules), collected_differ key g.met.T.Key.Eq.laws c.loop-item.yielded c.loop-item.map.items inv.2 inv.7.differ, inv.2);
+      items = (
+        c.loop-item.yielded,
+        gives_all g.U.IntoIterator.into_iter_gives g.U.IntoIter.Iterator.next_gives c.args.iter c.loop-item.yielded (search rules),
+        record { differ = collected_differ (by_one_key key g.met.T.Key.Eq.laws) c.loop-item.yielded c.loop-item.map.items inv.2 inv.7.differ; same = inv.2 },
+      );
       repeat = tt;
       collected = record { vacant = inv.4; limit = inv.5; spare = inv.3; hasher = search rules; keyed = inv.7 };
     }

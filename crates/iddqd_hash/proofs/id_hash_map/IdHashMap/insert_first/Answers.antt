@@ -1,4 +1,5 @@
 use Rattle.std.proofs.Common.{◌∙◌, ◌≡◌, Some, sym, ap, subst}
+use Rattle.iddqd_store.specs.Collecting.{Meets}
 use Rattle.iddqd_store.specs.Contents.{find_item}
 use Rattle.iddqd_store.specs.Hashing.{hash_under}
 use Rattle.iddqd_hash_parts.specs.HashItems.{IsKeyed, KeyedItems}
@@ -26,4 +27,4 @@ returns-in-Some-clause-akin g c =
     let x = c.args.item in
     let akin = c.take_out.result in
     let found : find_item key (eq (key x)) c.args.self.now.items ≡ Some akin = ap (λ v. find_item key (eq (key x)) v.items) (sym c.self.view_is) ∙ ap (λ k. find_item key (eq k) (items_in c.self.inside.store)) (sym c.key-2.ensures) ∙ sym c.in-Some.ensures.item ∙ c.take_out.ensures.item in
-    (c.internal_new.ensures.new, akin, found, c.internal_new.ensures.duplicates)
+    (c.internal_new.ensures.new, subst (Meets key eq x c.args.self.now.items) (sym c.internal_new.ensures.duplicates) found)

@@ -4,7 +4,7 @@ use Rattle.std.proofs.lemmas.Result.{err_from_is_err_and}
 use Rattle.iddqd_store.specs.Collecting.{AddsAll, GivesThen}
 use Rattle.iddqd_store.specs.Holding.{KeepsItems}
 use Rattle.iddqd_store.specs.Query.{differ_from_ascends}
-use Rattle.iddqd_store.proofs.AddingLemmas.{adds_last, adds_none, halts_adding}
+use Rattle.iddqd_store.proofs.AddingLemmas.{adds_last, adds_none, by_one_key, halts_adding}
 use Rattle.iddqd_store.proofs.CollectingLemmas.{fills_kept, fills_on, fills_taken, gives_all, gives_then}
 use Rattle.iddqd_ord.proofs.id_ord_map.IdOrdMap.add_each.Goals as goal
 
@@ -20,7 +20,7 @@ loop-item-init g c =
     let kept : KeepsItems old new = record { items = items; slots = ap (λ m. m.slots) rest; vacant = ap (λ m. m.vacant) rest; capacity = c.reserve.ensures.capacity; limit = ap (λ m. m.limit) rest } in (
       search rules,
       search rules,
-      subst (AddsAll key eq [] old.items) (sym items) (adds_none key old.items differ),
+      subst (AddsAll key eq [] old.items) (sym items) (adds_none (by_one_key key g.met.T.Key.Eq.laws) old.items differ),
       record { fills = fills_kept old new c.len.ensures.slots kept; keyed = c.reserve.ensures.keyed },
     )
 
@@ -35,7 +35,7 @@ loop-item-preserved g c =
     let goes = on x c.in-Some.is c.next.ensures.goes inv.1 in (
       goes.0,
       goes.1,
-      adds_last g.T.IdOrdItem.key g.met.T.Key.Eq.laws c.loop-item.yielded old.items between.items inv.2 x new.items put.absent put.inserted.takes.added,
+      adds_last (by_one_key g.T.IdOrdItem.key g.met.T.Key.Eq.laws) c.loop-item.yielded old.items between.items inv.2 x new.items put.absent put.inserted.takes.added,
       record { fills = fills_on old between new inv.3.fills (fills_taken x between new put.inserted.takes); keyed = put.inserted.keyed },
     )
 

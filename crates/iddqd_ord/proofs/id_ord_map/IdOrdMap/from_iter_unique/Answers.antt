@@ -4,7 +4,8 @@ use Rattle.std.proofs.iter.Next.{on}
 use Rattle.std.proofs.lemmas.Result.{err_from_is_err_and}
 use Rattle.iddqd_store.specs.Collecting.{GivesThen}
 use Rattle.iddqd_store.specs.Query.{differ_from_ascends}
-use Rattle.iddqd_store.proofs.CollectingLemmas.{collected_differ, collects_last, gives_all, gives_then, shows_first}
+use Rattle.iddqd_store.proofs.AddingLemmas.{by_one_key, collected_differ, shows_first}
+use Rattle.iddqd_store.proofs.CollectingLemmas.{collects_last, gives_all, gives_then}
 use Rattle.iddqd_ord.proofs.id_ord_map.IdOrdMap.from_iter_unique.Goals as goal
 
 pub loop-item-preserved : goal.loop-item-preserved
@@ -40,7 +41,7 @@ returns-in_err-insert_first g c =
     let gives = GivesThen g.U.IntoIterator.into_iter_gives g.U.IntoIter.Iterator.next_gives c.args.iter in
     rw back.1 (record {
       items = tt;
-      repeat = shows_first key g.met.T.Key.Eq.laws c.loop-item.yielded items inv.2 differ gives c.in-Some.item _ (gives_then g.U.IntoIterator.into_iter_gives g.U.IntoIter.Iterator.next_gives c.args.iter c.loop-item.yielded c.in-Some.item (search rules)) (rw back.2 c.in_err-insert_first.ensures.akin);
+      repeat = shows_first (by_one_key key g.met.T.Key.Eq.laws) c.loop-item.yielded items inv.2 differ gives c.in-Some.item _ (gives_then g.U.IntoIterator.into_iter_gives g.U.IntoIter.Iterator.next_gives c.args.iter c.loop-item.yielded c.in-Some.item (search rules)) (rw back.2 c.in_err-insert_first.ensures.akin);
       vacant = tt;
       limit = tt;
       keyed = tt;
@@ -53,7 +54,11 @@ returns g c =
     let items = c.loop-item.map.items in
     let differ = differ_from_ascends key g.T.Key.Ord.cmp g.met.T.Key.Ord.matches_eq items inv.5 in
     record {
-      items = (c.loop-item.yielded, gives_all g.U.IntoIterator.into_iter_gives g.U.IntoIter.Iterator.next_gives c.args.iter c.loop-item.yielded (search rules), collected_differ key g.met.T.Key.Eq.laws c.loop-item.yielded items inv.2 differ, inv.2);
+      items = (
+        c.loop-item.yielded,
+        gives_all g.U.IntoIterator.into_iter_gives g.U.IntoIter.Iterator.next_gives c.args.iter c.loop-item.yielded (search rules),
+        record { differ = collected_differ (by_one_key key g.met.T.Key.Eq.laws) c.loop-item.yielded items inv.2 differ; same = inv.2 },
+      );
       repeat = tt;
       vacant = inv.3;
       limit = inv.4;

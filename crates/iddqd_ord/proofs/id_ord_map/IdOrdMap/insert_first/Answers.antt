@@ -1,4 +1,5 @@
-use Rattle.std.proofs.Common.{◌∙◌, sym, ap, slice_get}
+use Rattle.std.proofs.Common.{◌∙◌, sym, ap, slice_get, subst}
+use Rattle.iddqd_store.specs.Collecting.{Meets}
 use Rattle.iddqd_store.proofs.QueryLemmas.{OrderedQuery, own_query, place_there, find_nowhere}
 use Rattle.iddqd_ord.proofs.id_ord_map.IdOrdMap.insert_first.Given.{Over}
 use Rattle.iddqd_ord.proofs.id_ord_map.IdOrdMap.insert_first.Goals as goal
@@ -11,12 +12,9 @@ returns-in-Ok-clause-akin g c =
     let key = g.T.IdOrdItem.key in
     let items = c.args.self.now.items in
     let place = c.in-Ok.place in
-    let p = rw (ap (λ m. m.items) c.self.view_is, c.key.ensures) at c.in-Ok.ensures.place in (
-      c.internal_new.ensures.new,
-      c.take_out.result,
-      place_there key (query g (key c.args.item)) items c.requires.keyed place p.0 p.1 ∙ ap (λ m. slice_get m.items place) (sym c.self.view_is) ∙ c.take_out.ensures.item,
-      c.internal_new.ensures.duplicates,
-    )
+    let p = rw (ap (λ m. m.items) c.self.view_is, c.key.ensures) at c.in-Ok.ensures.place in
+    let found = place_there key (query g (key c.args.item)) items c.requires.keyed place p.0 p.1 ∙ ap (λ m. slice_get m.items place) (sym c.self.view_is) ∙ c.take_out.ensures.item in
+    (c.internal_new.ensures.new, subst (Meets key g.T.Key.PartialEq.eq c.args.item items) (sym c.internal_new.ensures.duplicates) found)
 
 pub returns-in-Ok-insert_at-clause-absent : goal.returns-in-Ok-insert_at-clause-absent
 returns-in-Ok-insert_at-clause-absent g c =

@@ -1,7 +1,7 @@
 use Rattle.std.proofs.Common.{◌∙◌, [], ◌∷◌, length, length-append, sym, ap, subst, nat_eq, arith}
 use Rattle.std.specs.List.{IsDistinct}
 use Rattle.iddqd_ord_index.specs.Listed.{listed_items, AreOccupied}
-use Rattle.iddqd_ord.proofs.WalkLemmas.{front_distinct, front_there, front_listed, front_occupied}
+use Rattle.iddqd_ord.proofs.WalkLemmas.{front_distinct, front_there, front_listed}
 use Rattle.iddqd_ord.proofs.id_ord_map.into_iter.IntoIterDoubleEndedIterator.next_back.Goals as goal
 
 pub invariant_of-self-2 : goal.invariant_of-self-2
