@@ -6,7 +6,7 @@
 --     IsKeyedByBoth      the same, as contracts say it: a caller's proof passes it on as one fact, and does not look inside
 --     IsKeyedByTexts      the same of two text keys, with the default hasher
 --     differ_by_key1, differ_by_key2      in a keyed map no two items have equal first keys, or equal second keys
-use Rattle.std.specs.Prelude.{◌≡◌, ℕ, Bool, List, String, refl}
+use Rattle.std.specs.Prelude.{ℕ, Bool, List, String, refl}
 use Rattle.std.specs.Coded.{Coded, code_by, coded×, coded_ℕ, coded_list}
 use Rattle.std.specs.Hash.{HashWrites}
 use Rattle.std.specs.String.{string_eq}
