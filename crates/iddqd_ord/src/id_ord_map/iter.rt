@@ -10,8 +10,8 @@ use std::alloc::AllocError;
 use std::iter::FusedIterator;
 use std::marker::Model;
 
-/// Items of a map that stand side by side in the order of their keys. `next` lends the first of those that are left, and
-/// goes along the index. `next_back` lends the last, and goes down the index. A step compares no keys.
+/// Items of a map that stand side by side in the order of their keys. `next` lends the first of those that are left,
+/// `next_back` the last. Both read several slots of the index at a time, and compare no keys.
 #[derive(Drop)]
 pub struct Iter<'a, T> {
     store: &'a ItemStore<T>,

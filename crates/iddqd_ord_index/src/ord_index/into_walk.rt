@@ -12,8 +12,9 @@ use std::marker::Model;
 #[derive(Drop)]
 pub struct IntoWalk {
     root: Node,
-    // The slots that were read last.
-    cache: RunCache,
+    // The slots that `next` and `next_back` have read last.
+    front: RunCache,
+    back: RunCache,
     next: u32,
     end: u32,
 }
@@ -26,7 +27,7 @@ impl Model for IntoWalk {
 
     ghost view = { λ w. drop w.next (take w.end w.root.slots) };
 
-    ghost invariant = { λ w. (w.next ≤ w.end) × (w.end ≤ length w.root.slots) × IsRunOf w.cache w.root.slots };
+    ghost invariant = { λ w. (w.next ≤ w.end) × (w.end ≤ length w.root.slots) × IsRunOf w.front w.root.slots × IsRunOf w.back w.root.slots };
 }
 
 impl IntoWalk {
@@ -36,7 +37,8 @@ impl IntoWalk {
     {
         IntoWalk {
             root,
-            cache: RunCache::new(),
+            front: RunCache::new(),
+            back: RunCache::new(),
             next: 0,
             end: len,
         }
@@ -54,7 +56,7 @@ impl Iterator for IntoWalk {
         if self.next == self.end {
             return None;
         }
-        let slot = self.cache.slot_at(&self.root, self.next);
+        let slot = self.front.slot_at(&self.root, self.next);
         self.next += 1;
         Some(slot)
     }
@@ -77,7 +79,7 @@ impl DoubleEndedIterator for IntoWalk {
             return None;
         }
         let last = self.end - 1;
-        let slot = self.root.slot_at(last);
+        let slot = self.back.slot_before(&self.root, last);
         self.end = last;
         Some(slot)
     }

@@ -68,6 +68,20 @@ impl RunCache {
         self.read(root, at)
     }
 
+    // The same for who goes on to lower positions: it reads the slots that end at this position, as far as there is room.
+    #[inline]
+    pub(crate) fn slot_before(&mut self, root: &Node, at: u32) -> u32
+        requires in_list { at < length root.now.slots }
+        requires cached { IsRunOf self.old root.now.slots }
+        ensures slot { result ≡ slice_index root.now.slots at }
+        ensures cached { IsRunOf self.new root.now.slots }
+    {
+        if at < self.start || (at - self.start) as usize >= self.slots.len() {
+            self.read(root, at.saturating_sub(15));
+        }
+        self.slot_at(root, at)
+    }
+
     // Reads the slots from the position on, and returns the first.
     #[inline(never)]
     fn read(&mut self, root: &Node, at: u32) -> u32

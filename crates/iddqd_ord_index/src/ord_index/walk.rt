@@ -4,6 +4,7 @@ ghost use Rattle.iddqd_ord_index.specs.Runs.{BeginsWith};
 ghost use Rattle.std.specs.Iterator.{UpTo, YieldsFirst, YieldsLast, at_most, item_count};
 ghost use Rattle.std.specs.Iterator.SizeHint.{IsWithinCount};
 
+use super::run_cache::RunCache;
 use crate::tree::node::{LeafWalk, Node};
 use std::alloc::AllocError;
 use std::iter::FusedIterator;
@@ -16,19 +17,21 @@ pub struct Walk<'a> {
     root: &'a Node,
     // The slots from the next one on that lie below one node. They may go on past the end.
     leaves: LeafWalk<'a>,
+    // The slots that `next_back` has read last.
+    back: RunCache,
     next: u32,
     end: u32,
 }
 
 impl<'a> Model for Walk<'a> {
     ghost use Rattle.std.specs.Prelude.{◌≤◌, List, ℕ, drop, length, take};
-    ghost use Rattle.iddqd_ord_index.specs.Runs.{BeginsWith};
+    ghost use Rattle.iddqd_ord_index.specs.Runs.{BeginsWith, IsRunOf};
 
     ghost Value = { List ℕ };
 
     ghost view = { λ w. drop w.next (take w.end w.root.now.slots) };
 
-    ghost invariant = { λ w. (w.next ≤ w.end) × (w.end ≤ length w.root.now.slots) × BeginsWith w.leaves (drop w.next w.root.now.slots) };
+    ghost invariant = { λ w. (w.next ≤ w.end) × (w.end ≤ length w.root.now.slots) × BeginsWith w.leaves (drop w.next w.root.now.slots) × IsRunOf w.back w.root.now.slots };
 }
 
 impl<'a> Walk<'a> {
@@ -41,6 +44,7 @@ impl<'a> Walk<'a> {
         Walk {
             root,
             leaves: LeafWalk::along(&[]),
+            back: RunCache::new(),
             next: from,
             end: to,
         }
@@ -117,7 +121,7 @@ impl DoubleEndedIterator for Walk<'_> {
             return None;
         }
         let last = self.end - 1;
-        let slot = self.root.slot_at(last);
+        let slot = self.back.slot_before(self.root, last);
         self.end = last;
         Some(slot)
     }

@@ -4,7 +4,7 @@ use Rattle.iddqd_ord_index.proofs.ord_index.into_walk.IntoWalkIterator.next.Goal
 
 pub invariant_of-self : goal.invariant_of-self
 invariant_of-self c =
-    (omega (arith, c.self.invariant.0, c.if-self.false), c.self.invariant.1, c.slot_at-slot.ensures.cached)
+    (omega (arith, c.self.invariant.0, c.if-self.false), c.self.invariant.1, c.slot_at-slot.ensures.cached, c.self.invariant.3)
 
 pub returns-clause-steps : goal.returns-clause-steps
 returns-clause-steps c =

@@ -4,7 +4,7 @@ use Rattle.iddqd_ord_index.proofs.ord_index.walk.WalkIterator.next.Goals as goal
 
 pub invariant_of-self : goal.invariant_of-self
 invariant_of-self c =
-    (omega (arith, c.self.invariant.0, c.if-self.false), c.self.invariant.1, c.step-slot.ensures.there)
+    (omega (arith, c.self.invariant.0, c.if-self.false), c.self.invariant.1, c.step-slot.ensures.there, c.self.invariant.3)
 
 pub returns-clause-steps : goal.returns-clause-steps
 returns-clause-steps c =
