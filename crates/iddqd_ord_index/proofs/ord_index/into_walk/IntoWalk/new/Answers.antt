@@ -4,8 +4,7 @@ use Rattle.iddqd_ord_index.proofs.ord_index.into_walk.IntoWalk.new.Goals as goal
 
 pub invariant_of-result : goal.invariant_of-result
 invariant_of-result c =
-    let slots = c.args.root.slots in
-    (
+    let slots = c.args.root.slots in (
       omega arith,
       omega (arith, c.requires),
       empty_run c.new.result slots c.new.ensures,
