@@ -1,5 +1,5 @@
 -- A node of which a branch got a slot.
-use Rattle.std.proofs.Common.{◌≡◌, ℕ, ◌+◌, ◌-◌, ◌≤◌, List, ◌∷◌, Some, None, Box, Global, length, set, get_or, ap, sym, subst, ◌∙◌, arith, length-append}
+use Rattle.std.proofs.Common.{◌≡◌, ℕ, ◌+◌, ◌-◌, ◌≤◌, List, ◌∷◌, Some, None, length, set, get_or, ap, sym, subst, ◌∙◌, arith, length-append}
 use Rattle.std.specs.List.{insert}
 use Rattle.std.proofs.lemmas.List.{map-set}
 use Rattle.std.proofs.lemmas.List.Edits.{length-insert}
@@ -55,36 +55,36 @@ module _ (ts : List Subtree) (ss : List ℕ) (at slot i rest : ℕ) (new : Subtr
       }
 
 -- how many slots are above the split
-pub above : (ts : List Subtree) (ss : List ℕ) (at slot i rest middle count : ℕ) (before new upper d : Subtree) → IsForked ts ss → IsBranchAt (lists ts) at i rest → before ≡ get_or ts i unused → IsSplit (insert before.slots rest slot) new middle upper → count ≡ length (get_or ts i unused).slots → d ≡ upper
-    → count + 1 ≡ length new.slots + (length d.slots + 1)
-above ts ss at slot i rest middle count before new upper d f branch_at v s n e =
+pub above : (ts : List Subtree) (ss : List ℕ) (at slot i rest middle count : ℕ) (before new upper : Subtree) → IsForked ts ss → IsBranchAt (lists ts) at i rest → before ≡ get_or ts i unused → IsSplit (insert before.slots rest slot) new middle upper → count ≡ length (get_or ts i unused).slots
+    → count + 1 ≡ length new.slots + (length upper.slots + 1)
+above ts ss at slot i rest middle count before new upper f branch_at v s n =
     let l = ap (λ t. length t.slots) v in
     let m = parted_length before.slots rest slot middle new upper (omega (arith, rest_within ts ss at i rest f branch_at)) s in
-    omega (arith, ap (λ t. length t.slots) e)
+    omega arith
 
 -- the branch put back with a slot more, with all that is known of it then
-pub put_grown : (old new : Branches) (ss : List ℕ) (at slot i rest count : ℕ) (b : Box Node Global) (before self : Subtree)
-    → AreBranches old → IsForked (below old) ss → IsBranchAt (lists (below old)) at i rest → before ≡ get_or (below old) i unused → IsGrown (insert before.slots rest slot) before.width b.value → b.value.height ≡ before.height → IsDense b.value
+pub put_grown : (old new : Branches) (ss : List ℕ) (at slot i rest count : ℕ) (b : Node) (before self : Subtree)
+    → AreBranches old → IsForked (below old) ss → IsBranchAt (lists (below old)) at i rest → before ≡ get_or (below old) i unused → IsGrown (insert before.slots rest slot) before.width b → b.height ≡ before.height → IsDense b
     → (nodes_of new) ≡ set (set (nodes_of old) i None) i (Some b) → (counts_of new) ≡ set (counts_of old) i (count + 1) → count ≡ length (get_or (below old) i unused).slots → tree (below old) ss ≡ self
     → AreBranches new × IsMade (below old) (below new) ss (insert self.slots at slot)
 put_grown old new ss at slot i rest count b before self a f branch_at v s h w n m c view =
     let ts = below old in
-    let g = subst (λ t. IsGrown (insert t.slots rest slot) t.width b.value) v s in
-    let r = grown ts ss at slot i rest b.value f branch_at (h ∙ ap (λ t. t.height) v) w g in
+    let g = subst (λ t. IsGrown (insert t.slots rest slot) t.width b) v s in
+    let r = grown ts ss at slot i rest b f branch_at (h ∙ ap (λ t. t.height) v) w g in
     let l = length-insert (get_or ts i unused).slots rest slot (rest_within ts ss at i rest f branch_at) in
     let p = branches_put old new i (count + 1) b a (branch_at_in ts ss at i rest f branch_at) n m (omega (arith, ap length g.slots)) in
     (p.0, subst (λ l. IsMade ts (below new) ss (insert l.slots at slot)) view (subst (λ us. IsMade ts us ss (insert (in_order (lists ts) ss) at slot)) (sym p.1) r))
 
 -- the lower half put back, with all that is known of it then
-pub put_parted : (old new : Branches) (ss : List ℕ) (at slot i rest count more less middle : ℕ) (d : Subtree) (b : Box Node Global) (before upper self : Subtree)
-    → AreBranches old → IsForked (below old) ss → IsBranchAt (lists (below old)) at i rest → before ≡ get_or (below old) i unused → IsSplit (insert before.slots rest slot) b.value middle upper → b.value.height ≡ before.height → IsDense b.value
+pub put_parted : (old new : Branches) (ss : List ℕ) (at slot i rest count more less middle : ℕ) (b : Node) (before upper self : Subtree)
+    → AreBranches old → IsForked (below old) ss → IsBranchAt (lists (below old)) at i rest → before ≡ get_or (below old) i unused → IsSplit (insert before.slots rest slot) b middle upper → b.height ≡ before.height → IsDense b
     → (nodes_of new) ≡ set (set (nodes_of old) i None) i (Some b) → (counts_of new) ≡ set (counts_of old) i less → less ≡ count + 1 - more - 1
-    → count ≡ length (get_or (below old) i unused).slots → d ≡ upper → more ≡ length d.slots → tree (below old) ss ≡ self
+    → count ≡ length (get_or (below old) i unused).slots → more ≡ length upper.slots → tree (below old) ss ≡ self
     → AreBranches new × IsParted (below old) (below new) ss i middle upper (insert self.slots at slot)
-put_parted old new ss at slot i rest count more less middle d b before upper self a f branch_at v s h w n m z c e l view =
+put_parted old new ss at slot i rest count more less middle b before upper self a f branch_at v s h w n m z c l view =
     let ts = below old in
-    let k = above ts ss at slot i rest middle count before b.value upper d f branch_at v s c e in
+    let k = above ts ss at slot i rest middle count before b upper f branch_at v s c in
     let p = branches_put old new i less b a (branch_at_in ts ss at i rest f branch_at) n m (omega arith) in
-    let g = subst (λ t. IsSplit (insert t.slots rest slot) b.value middle upper) v s in
-    let r = parted ts ss at slot i rest b.value f branch_at (h ∙ ap (λ t. t.height) v) w middle upper g in
+    let g = subst (λ t. IsSplit (insert t.slots rest slot) b middle upper) v s in
+    let r = parted ts ss at slot i rest b f branch_at (h ∙ ap (λ t. t.height) v) w middle upper g in
     (p.0, subst (λ l. IsParted ts (below new) ss i middle upper (insert l.slots at slot)) view (subst (λ us. IsParted ts us ss i middle upper (insert (in_order (lists ts) ss) at slot)) (sym p.1) r))

@@ -1,32 +1,29 @@
 -- The branches of a node, by the cells and the counts that hold them.
-use Rattle.std.proofs.Common.{◌≡◌, ℕ, ◌+◌, ◌<◌, List, [], length, map, take, drop, set, get_or, ap, sym, ◌∙◌, subst, arith, Option, Some, None, Box, Global}
+use Rattle.std.proofs.Common.{◌≡◌, ℕ, ◌+◌, ◌<◌, List, [], length, map, take, drop, set, get_or, ap, sym, ◌∙◌, subst, refl, arith, Option, Some, None, Box, Global}
 use Rattle.std.specs.List.{insert, remove}
-use Rattle.std.proofs.lemmas.List.{get_or-map, length-map, map-set, nil_from_length, take-map, drop-map}
+use Rattle.std.proofs.lemmas.List.{get_or-map, get_or_default, length-map, map-set, nil_from_length}
 use Rattle.iddqd_ord_index.specs.Cells.{items_present, filled, IsPacked}
 use Rattle.iddqd_ord_index.specs.Nodes.{below, subtrees, AreBranches, AreCounted, IsBlock, cells_in, counts_in, counts_of, nodes_of, HasBlock, IsBare, IsThere}
 use Rattle.iddqd_ord_index.specs.Shape.{Subtree, lists, starts, unused}
 use Rattle.iddqd_ord_index.specs.declared.tree.node.Block.{Block}
 use Rattle.iddqd_ord_index.specs.declared.tree.node.Branches.{Branches}
 use Rattle.iddqd_ord_index.specs.declared.tree.node.Node.{Node}
-use Rattle.iddqd_ord_index.proofs.PackedLemmas.{cell_at, map-insert, map-remove}
+use Rattle.iddqd_ord_index.proofs.PackedLemmas.{cell_at}
 use Rattle.iddqd_ord_index.proofs.InOrderLemmas.{starts_take, starts_drop}
 use Rattle.iddqd_ord_index.proofs.EditLemmas.{put_packed, put_subtrees}
 
-pub length-subtrees : (os : List (Option (Box Node Global))) → length (subtrees os) ≡ length (items_present os)
-length-subtrees os = length-map (items_present os) (λ b. b.value)
+pub length-subtrees : (os : List (Option Node)) → length (subtrees os) ≡ length (items_present os)
+length-subtrees os = refl
 
-pub box_at : (os : List (Option (Box Node Global))) (i : ℕ) (b : Box Node Global) (d : Subtree) → i < length (subtrees os) → b ≡ get_or (items_present os) i b → b.value ≡ get_or (subtrees os) i d
-box_at os i b d lt e =
-    let n = length-subtrees os in
-    ap (λ b. b.value) e ∙ sym (get_or-map (λ b. b.value) (items_present os) i b d (omega arith))
+pub box_at : (os : List (Option Node)) (i : ℕ) (b d : Subtree) → i < length (subtrees os) → b ≡ get_or (subtrees os) i b → b ≡ get_or (subtrees os) i d
+box_at os i b d lt e = e ∙ get_or_default (subtrees os) i b d lt
 
--- the box in a cell in front is the branch there
-pub subtree_at : (os : List (Option (Box Node Global))) (i : ℕ) (o : Option (Box Node Global)) (b : Box Node Global) (d : Subtree) → IsPacked os → i < length (subtrees os) → o ≡ get_or os i o → o ≡ Some b → get_or (subtrees os) i d ≡ b.value
+-- the node in a cell in front is the branch there
+pub subtree_at : (os : List (Option Node)) (i : ℕ) (o : Option Node) (b : Node) (d : Subtree) → IsPacked os → i < length (subtrees os) → o ≡ get_or os i o → o ≡ Some b → get_or (subtrees os) i d ≡ b
 subtree_at os i o b d p lt e s =
-    let n = length-subtrees os in
-    let c = cell_at os i o b p (omega arith) e in
+    let c = cell_at os i o b p lt e in
     let f : b ≡ get_or (items_present os) i b = cc in
-    get_or-map (λ b. b.value) (items_present os) i b d (omega arith) ∙ ap (λ b. b.value) (sym f)
+    get_or_default (subtrees os) i d b lt ∙ sym f
 
 module _ (bs : Branches) (a : AreBranches bs) where
   pub length-counts : length (counts_of bs) ≡ length (below bs)
@@ -39,7 +36,7 @@ module _ (bs : Branches) (a : AreBranches bs) where
   count_at i d lt = ap (λ l. get_or l i d) a.counted ∙ get_or-map (λ t. length t.slots) (below bs) i unused d lt
 
 -- the numbers of slots beside cells
-module _ (os : List (Option (Box Node Global))) (ns : List ℕ) (a : AreCounted os ns) where
+module _ (os : List (Option Node)) (ns : List ℕ) (a : AreCounted os ns) where
   pub counted_length : length ns ≡ length (subtrees os)
   counted_length = ap length a.counted ∙ length-map (subtrees os) (λ t. length t.slots)
 
@@ -92,7 +89,7 @@ pub length-lists : (ts : List Subtree) → length (lists ts) ≡ length ts
 length-lists ts = length-map ts (λ t. t.slots)
 
 -- branches with a list of subtrees that one operation makes of both
-pub branches_are : (os : List (Option (Box Node Global))) (ns : List ℕ) (ts : List Subtree) → IsPacked os → subtrees os ≡ ts → ns ≡ map (λ t. length t.slots) ts → AreCounted os ns
+pub branches_are : (os : List (Option Node)) (ns : List ℕ) (ts : List Subtree) → IsPacked os → subtrees os ≡ ts → ns ≡ map (λ t. length t.slots) ts → AreCounted os ns
 branches_are os ns ts p e c = record { packed = p; counted = c ∙ sym (ap (λ l. map (λ t. length t.slots) l) e) }
 
 -- how many slots stand before each branch, by the counts
@@ -107,27 +104,27 @@ module _ (bs : Branches) (a : AreBranches bs) (cs : List ℕ) (same : cs ≡ (co
   starts_less i lt = let n = length-lists (below bs) in omega (arith, starts_drop (lists (below bs)) i (omega arith), counts_at i lt)
 
 -- a branch more or less
-module _ (os ps : List (Option (Box Node Global))) (i : ℕ) where
-  pub below_insert : (b : Box Node Global) → items_present ps ≡ insert (items_present os) i b → subtrees ps ≡ insert (subtrees os) i b.value
-  below_insert b e = ap (λ l. map (λ b. b.value) l) e ∙ map-insert (λ b. b.value) (items_present os) i b
+module _ (os ps : List (Option Node)) (i : ℕ) where
+  pub below_insert : (b : Node) → items_present ps ≡ insert (items_present os) i b → subtrees ps ≡ insert (subtrees os) i b
+  below_insert b e = e
 
   pub below_remove : items_present ps ≡ remove (items_present os) i → subtrees ps ≡ remove (subtrees os) i
-  below_remove e = ap (λ l. map (λ b. b.value) l) e ∙ map-remove (λ b. b.value) (items_present os) i
+  below_remove e = e
 
   pub below_take : items_present ps ≡ take i (items_present os) → subtrees ps ≡ take i (subtrees os)
-  below_take e = ap (λ l. map (λ b. b.value) l) e ∙ sym (take-map (λ b. b.value) i (items_present os))
+  below_take e = e
 
   pub below_drop : items_present ps ≡ drop i (items_present os) → subtrees ps ≡ drop i (subtrees os)
-  below_drop e = ap (λ l. map (λ b. b.value) l) e ∙ sym (drop-map (λ b. b.value) i (items_present os))
+  below_drop e = e
 
 -- a branch that was taken out of its cell, and one that was put there
-pub branches_put : (old new : Branches) (i count : ℕ) (b : Box Node Global) → AreBranches old → i < length (below old) → (nodes_of new) ≡ set (set (nodes_of old) i None) i (Some b) → (counts_of new) ≡ set (counts_of old) i count → count ≡ length b.value.slots
-    → AreBranches new × (below new ≡ set (below old) i b.value)
+pub branches_put : (old new : Branches) (i count : ℕ) (b : Node) → AreBranches old → i < length (below old) → (nodes_of new) ≡ set (set (nodes_of old) i None) i (Some b) → (counts_of new) ≡ set (counts_of old) i count → count ≡ length b.slots
+    → AreBranches new × (below new ≡ set (below old) i b)
 branches_put old new i count b a lt n c k =
     let w : i < length (items_present (nodes_of old)) = omega (arith, length-nodes old a) in
-    let e : below new ≡ set (below old) i b.value = ap subtrees n ∙ put_subtrees (nodes_of old) i b a.packed w in
+    let e : below new ≡ set (below old) i b = ap subtrees n ∙ put_subtrees (nodes_of old) i b a.packed w in
     let p : IsPacked (nodes_of new) = subst (λ l. IsPacked l) (sym n) (put_packed (nodes_of old) i b a.packed w) in
-    let f : set (counts_of old) i count ≡ set (counts_of old) i (length b.value.slots) = ap (λ x. set (counts_of old) i x) k in
-    let g : set (counts_of old) i (length b.value.slots) ≡ map (λ t. length t.slots) (set (below old) i b.value) =
-    ap (λ l. set l i (length b.value.slots)) a.counted ∙ sym (map-set (λ t. length t.slots) (below old) i b.value) in
-    (branches_are (nodes_of new) (counts_of new) (set (below old) i b.value) p e (c ∙ (f ∙ g)), e)
+    let f : set (counts_of old) i count ≡ set (counts_of old) i (length b.slots) = ap (λ x. set (counts_of old) i x) k in
+    let g : set (counts_of old) i (length b.slots) ≡ map (λ t. length t.slots) (set (below old) i b) =
+    ap (λ l. set l i (length b.slots)) a.counted ∙ sym (map-set (λ t. length t.slots) (below old) i b) in
+    (branches_are (nodes_of new) (counts_of new) (set (below old) i b) p e (c ∙ (f ∙ g)), e)

@@ -1,5 +1,5 @@
 -- What a change of a branch does to the node's list.
-use Rattle.std.proofs.Common.{◌≡◌, ℕ, suc, zero, ◌+◌, ◌-◌, ◌<◌, List, [], ◌∷◌, ◌++◌, length, map, take, drop, set, get_or, refl, ap, sym, ◌∙◌, subst, arith, append_assoc, length-set, add-one, Option, Some, None, Box, Global}
+use Rattle.std.proofs.Common.{◌≡◌, ℕ, suc, zero, ◌+◌, ◌-◌, ◌<◌, List, [], ◌∷◌, ◌++◌, length, map, take, drop, set, get_or, refl, ap, sym, ◌∙◌, subst, arith, append_assoc, length-set, add-one, Option, Some, None}
 use Rattle.std.specs.List.{insert, All}
 use Rattle.std.proofs.lemmas.List.{length-map, length-take-le, map-set, set-set, take-set, take_more_set, drop-set-lt, get_or-set_same, set-append_left, set-append_right, set_at, drop_more, drop_all, drop-append-le}
 use Rattle.std.proofs.Math.Seq.{drop-append-add}
@@ -111,7 +111,7 @@ module _ (ls : List (List ℕ)) (ss : List ℕ) (at i rest : ℕ) (branch_at : I
       ∙ (ap (λ l. before ++ (get_or ls i [] ++ l)) f ∙ sym x))
 
 -- a branch that was taken out and put back
-module _ (os : List (Option (Box Node Global))) (i : ℕ) (b : Box Node Global) (p : IsPacked os) (lt : i < length (items_present os)) where
+module _ (os : List (Option Node)) (i : ℕ) (b : Node) (p : IsPacked os) (lt : i < length (items_present os)) where
   put_back : set (set os i None) i (Some b) ≡ filled (set (items_present os) i b)
   put_back =
       let n = length-set (items_present os) i b in
@@ -127,11 +127,11 @@ module _ (os : List (Option (Box Node Global))) (i : ℕ) (b : Box Node Global) 
   pub put_held : items_present (set (set os i None) i (Some b)) ≡ set (items_present os) i b
   put_held = held_is _ (set (items_present os) i b) put_back
 
-  pub put_subtrees : subtrees (set (set os i None) i (Some b)) ≡ set (subtrees os) i b.value
-  put_subtrees = ap (λ hs. map (λ b. b.value) hs) put_held ∙ map-set (λ b. b.value) (items_present os) i b
+  pub put_subtrees : subtrees (set (set os i None) i (Some b)) ≡ set (subtrees os) i b
+  put_subtrees = put_held
 
-  pub put_lists : lists (subtrees (set (set os i None) i (Some b))) ≡ set (lists (subtrees os)) i b.value.slots
-  put_lists = ap lists put_subtrees ∙ map-set (λ k. k.slots) (subtrees os) i b.value
+  pub put_lists : lists (subtrees (set (set os i None) i (Some b))) ≡ set (lists (subtrees os)) i b.slots
+  put_lists = ap lists put_subtrees ∙ map-set (λ k. k.slots) (subtrees os) i b
 
 pub levels_set : (ks : List Subtree) (i : ℕ) (k : Subtree) → k.height + 1 ≡ levels ks → levels (set ks i k) ≡ levels ks
 levels_set [] i k e = refl

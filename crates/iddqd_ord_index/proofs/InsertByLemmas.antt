@@ -3,7 +3,7 @@
 --     own_found, leaf_place      what is found there
 --     child_all, child_monotone, child_among, child_place, child_at      a branch, and what is found in it
 --     put_same      the branch is put back as it was
-use Rattle.std.proofs.Common.{◌≡◌, ℕ, ◌+◌, ◌-◌, ◌<◌, ◌≤◌, List, length, take, set, get_or, inl, inr, Ok, Err, Some, None, Box, Global, subst, sym, ap, ◌∙◌, arith}
+use Rattle.std.proofs.Common.{◌≡◌, ℕ, ◌+◌, ◌-◌, ◌<◌, ◌≤◌, List, length, take, set, get_or, inl, inr, Ok, Err, Some, None, subst, sym, ap, ◌∙◌, arith}
 use Rattle.std.proofs.lemmas.Bool.{cases_lt}
 use Rattle.std.proofs.lemmas.List.{set-get_or}
 use Rattle.std.specs.declared.cmp.Ordering.{Ordering}
@@ -90,7 +90,7 @@ module _ (order : ℕ → Ordering) (P : ℕ → Type 0) (ts : List Subtree) (ss
           }
 
 -- the branch put back as it was
-pub put_same : (old new : Branches) (i count : ℕ) (b : Box Node Global) (before : Subtree) → AreBranches old → i < length (below old) → b.value ≡ before → before ≡ get_or (below old) i unused
+pub put_same : (old new : Branches) (i count : ℕ) (b : Node) (before : Subtree) → AreBranches old → i < length (below old) → b ≡ before → before ≡ get_or (below old) i unused
     → (nodes_of new) ≡ set (set (nodes_of old) i None) i (Some b) → (counts_of new) ≡ set (counts_of old) i count → count ≡ length (get_or (below old) i unused).slots
     → AreBranches new × (below new ≡ below old)
 put_same old new i count b before a lt e v n c k =

@@ -1,7 +1,7 @@
 -- Leaves in cells, and a node's own slots between them.
 --     rest_leaves, next_leaf      the first leaf is taken up, with the slot before it
 --     below_branch_at      what is left of a node behind a position, by the branch that the position lies in
-use Rattle.std.proofs.Common.{◌≡◌, ℕ, suc, ◌+◌, ◌-◌, ◌<◌, ◌≤◌, List, [], ◌∷◌, ◌++◌, length, take, drop, get_or, refl, ap, sym, subst, ◌∙◌, arith, add-one, suc-le-suc, length-drop, Option, Some, None, Box, Global}
+use Rattle.std.proofs.Common.{◌≡◌, ℕ, suc, ◌+◌, ◌-◌, ◌<◌, ◌≤◌, List, [], ◌∷◌, ◌++◌, length, take, drop, get_or, refl, ap, sym, subst, ◌∙◌, arith, add-one, suc-le-suc, length-drop, Option, Some, None}
 use Rattle.std.specs.List.{All}
 use Rattle.std.proofs.lemmas.List.{take_rest, drop-map, get_or-drop}
 use Rattle.iddqd_ord_index.specs.Cells.{items_present}
@@ -13,7 +13,7 @@ use Rattle.iddqd_ord_index.proofs.BelowLemmas.{length-subtrees}
 use Rattle.iddqd_ord_index.proofs.EditLemmas.{dropped}
 
 abbrev Cell : Type 0
-Cell = Option (Box Node Global)
+Cell = Option Node
 
 few_present : (os : List Cell) → length (items_present os) ≤ length os
 few_present [] = omega arith

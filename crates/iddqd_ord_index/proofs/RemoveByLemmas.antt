@@ -1,5 +1,5 @@
 -- A removal by key at a node: of an own slot, of one below a branch, or of none.
-use Rattle.std.proofs.Common.{◌≡◌, ℕ, ◌+◌, ◌-◌, ◌<◌, List, [], ◌∷◌, length, take, drop, get_or, set, Some, None, Err, Box, Global, refl, sym, ap, ◌∙◌, arith, length-drop}
+use Rattle.std.proofs.Common.{◌≡◌, ℕ, ◌+◌, ◌-◌, ◌<◌, List, [], ◌∷◌, length, take, drop, get_or, set, Some, None, Err, refl, sym, ap, ◌∙◌, arith, length-drop}
 use Rattle.std.proofs.lemmas.List.{set-get_or}
 use Rattle.std.specs.List.{All}
 use Rattle.std.specs.declared.cmp.Ordering.{Ordering}
@@ -39,7 +39,7 @@ pub missed_below : (order : ℕ → Ordering) (xs ys : List ℕ) (base : ℕ) �
 missed_below order xs ys base part k p = (omega (arith, p.0, part.fits), λ j lt. missed_front order xs ys base part k j p.0 p.1 lt, λ j le lt. missed_back order xs ys base part k j p.0 p.2 le lt)
 
 -- a branch that did not change was put back
-pub put_same : (old new : Branches) (i count : ℕ) (b : Box Node Global) → AreBranches old → i < length (below old) → b.value ≡ get_or (below old) i unused → count ≡ length (get_or (below old) i unused).slots
+pub put_same : (old new : Branches) (i count : ℕ) (b : Node) → AreBranches old → i < length (below old) → b ≡ get_or (below old) i unused → count ≡ length (get_or (below old) i unused).slots
     → (nodes_of new) ≡ set (set (nodes_of old) i None) i (Some b) → (counts_of new) ≡ set (counts_of old) i count → AreBranches new × (below new ≡ below old)
 put_same old new i count b a lt v c n k =
     let q = branches_put old new i count b a lt n k (c ∙ ap (λ t. length t.slots) (sym v)) in

@@ -1,12 +1,12 @@
 -- A node of which a branch lost a slot.
-use Rattle.std.proofs.Common.{◌≡◌, ℕ, suc, ◌+◌, ◌-◌, ◌<◌, ◌≤◌, Bool, true, false, List, [], ◌∷◌, ◌++◌, length, take, drop, set, get_or, refl, ap, sym, ◌∙◌, inl, inr, subst, arith, append_assoc, length-set, min, ltb, Some, None, Box, Global}
+use Rattle.std.proofs.Common.{◌≡◌, ℕ, suc, ◌+◌, ◌-◌, ◌<◌, ◌≤◌, Bool, true, false, List, [], ◌∷◌, ◌++◌, length, take, drop, set, get_or, refl, ap, sym, ◌∙◌, inl, inr, subst, arith, append_assoc, length-set, min, ltb, Some, None}
 use Rattle.std.specs.Bool.{if◌then◌else◌}
 use Rattle.std.specs.List.{remove}
 use Rattle.std.proofs.lemmas.Bool.{cases_lt, ltb-false}
 use Rattle.std.proofs.lemmas.List.{append-nil, take-append-drop, drop_all, drop_more, take-set, drop-set-lt, get_or-set_same, get_or-set_other, length-take-le, map-set}
 use Rattle.std.proofs.lemmas.List.Edits.{length-remove, remove-append_left, remove-append_right}
 use Rattle.iddqd_ord_index.specs.Changes.{Stock}
-use Rattle.iddqd_ord_index.specs.Neighbours.{IsGivenBack, IsNear, IsShort, given_back}
+use Rattle.iddqd_ord_index.specs.Neighbours.{IsGivenBack, IsNear, IsShort, MayGiveBack}
 use Rattle.iddqd_ord_index.specs.Nodes.{below, AreBranches, counts_of, nodes_of}
 use Rattle.iddqd_ord_index.specs.Shape.{Subtree, behind, in_order, starts, lists, levels, tree, unused, IsBranchAt, IsForked, IsBranch, IsDense}
 use Rattle.iddqd_ord_index.specs.declared.tree.node.Branches.{Branches}
@@ -150,13 +150,13 @@ pub some_below : (ts : List Subtree) (ss : List ℕ) (at i rest : ℕ) → IsFor
 some_below ts ss at i rest f branch_at = branch_some (levels ts) (get_or ts i unused) (branch_is ts ss f i (branch_at_in ts ss at i rest f branch_at))
 
 -- the branch put back, with all that is known of it then
-pub put_shrunk : (old new : Branches) (ss ss' : List ℕ) (at i rest count taken slot least : ℕ) (b : Box Node Global) (before self : Subtree)
+pub put_shrunk : (old new : Branches) (ss ss' : List ℕ) (at i rest count taken slot least : ℕ) (b : Node) (before self : Subtree)
     → AreBranches old → IsForked (below old) ss → IsBranchAt (lists (below old)) at i rest → before ≡ get_or (below old) i unused → count ≡ length (get_or (below old) i unused).slots
     → (1 < self.height → 0 < self.width) → at < length self.slots → least ≡ min rest (count - 1)
-    → taken ≡ get_or before.slots least 0 → b.value.slots ≡ remove before.slots least → b.value.height ≡ before.height → before.width ≤ b.value.width + 1 → IsDense b.value
+    → taken ≡ get_or before.slots least 0 → b.slots ≡ remove before.slots least → b.height ≡ before.height → before.width ≤ b.width + 1 → IsDense b
     → (rest < count → (slot ≡ taken) × (ss' ≡ ss)) → (rest ≡ count → (slot ≡ get_or ss i 0) × (ss' ≡ set ss i taken)) → length ss' ≡ length ss
     → (nodes_of new) ≡ set (set (nodes_of old) i None) i (Some b) → (counts_of new) ≡ set (counts_of old) i (count - 1) → tree (below old) ss ≡ self
-    → AreBranches new × IsShrunk (below old) (below new) ss' i self.slots (remove self.slots at) slot at × ((get_or (below new) i unused).width ≡ b.value.width)
+    → AreBranches new × IsShrunk (below old) (below new) ss' i self.slots (remove self.slots at) slot at × ((get_or (below new) i unused).width ≡ b.width)
 put_shrunk old new ss ss' at i rest count taken slot least b before self a f branch_at v c some lt m t n h w d bel own same nodes counts view =
     let ts = below old in
     let p = branch_at_in ts ss at i rest f branch_at in
@@ -164,37 +164,37 @@ put_shrunk old new ss ss' at i rest count taken slot least b before self a f bra
     let full = some_below ts ss at i rest f branch_at in
     let e : least ≡ min rest (length (get_or ts i unused).slots - 1) = m ∙ ap (λ n. min rest (n - 1)) c in
     let t' : taken ≡ get_or (get_or ts i unused).slots (min rest (length (get_or ts i unused).slots - 1)) 0 = t ∙ (ap (λ t. get_or t.slots least 0) v ∙ ap (λ j. get_or (get_or ts i unused).slots j 0) e) in
-    let n' : b.value.slots ≡ remove (get_or ts i unused).slots (min rest (length (get_or ts i unused).slots - 1)) = n ∙ (ap (λ t. remove t.slots least) v ∙ ap (λ j. remove (get_or ts i unused).slots j) e) in
+    let n' : b.slots ≡ remove (get_or ts i unused).slots (min rest (length (get_or ts i unused).slots - 1)) = n ∙ (ap (λ t. remove t.slots least) v ∙ ap (λ j. remove (get_or ts i unused).slots j) e) in
     let z = ap (λ t. t.width) v in
-    let r = shrunk ts ss ss' at i rest taken slot b.value f branch_at (omega (arith, some (omega (arith, k.height, k.dense.low, ap (λ t. t.height) view)), ap (λ t. t.width) view)) same (omega (arith, ap (λ t. length t.slots) view))
+    let r = shrunk ts ss ss' at i rest taken slot b f branch_at (omega (arith, some (omega (arith, k.height, k.dense.low, ap (λ t. t.height) view)), ap (λ t. t.width) view)) same (omega (arith, ap (λ t. length t.slots) view))
     (h ∙ ap (λ t. t.height) v) (omega arith) d full t' n' (λ x. bel (omega arith)) (λ x. own (omega arith)) in
     let q = branches_put old new i (count - 1) b a p nodes counts (omega (arith, ap length n', length-remove (get_or ts i unused).slots (min rest (length (get_or ts i unused).slots - 1)) (omega arith))) in (
       q.0,
       subst (λ x. IsShrunk ts (below new) ss' i x.slots (remove x.slots at) slot at) view (subst (λ us. IsShrunk ts us ss' i (in_order (lists ts) ss) (remove (in_order (lists ts) ss) at) slot at) (sym q.1) r),
-      ap (λ us. (get_or us i unused).width) q.1 ∙ ap (λ x. x.width) (get_or-set_same ts i b.value unused p),
+      ap (λ us. (get_or us i unused).width) q.1 ∙ ap (λ x. x.width) (get_or-set_same ts i b unused p),
     )
 
--- what a node given back does to the unused ones
-given_more : (s : Stock) → s.nodes ≤ (given_back s).nodes
-given_more s = more (ltb s.nodes s.wanted) s.nodes
-  where
-    more : (b : Bool) (n : ℕ) → n ≤ (if b then n + 1 else n)
-    more true n = omega arith
-    more false n = omega arith
-
 -- the unused ones after a rebalance that may have merged
-pub given_or_kept : (old new : Stock) (n m : ℕ) → m ≤ n → (m ≡ n → new ≡ old) → (m < n → IsGivenBack old new) → (old.nodes ≤ new.nodes) × (new.wanted ≡ old.wanted) × (new.room ≡ old.room)
-given_or_kept old new n m le kept given =
+pub given_or_kept : (h : ℕ) (old new : Stock) (n m : ℕ) → m ≤ n → (m ≡ n → new ≡ old) → (m < n → MayGiveBack h old new) → (old.count ≤ new.count) × (new.wanted ≡ old.wanted) × (new.room ≡ old.room)
+given_or_kept h old new n m le kept given =
     elim (cases_lt m n) [
-      | inl lt ↦ (let e = given lt in (omega (arith, e.nodes, given_more old), e.wanted, e.room))
-      | inr ge ↦ (let e = kept (omega arith) in (omega (arith, ap (λ s. s.nodes) e), ap (λ s. s.wanted) e, ap (λ s. s.room) e))
+      | inl lt ↦ (let e = given lt in (e.kept, e.wanted, e.room))
+      | inr ge ↦ (let e = kept (omega arith) in (omega (arith, ap (λ s. s.count) e), ap (λ s. s.wanted) e, ap (λ s. s.room) e))
     ]
 
 -- where one more is given back, after so many that are kept as long as they are wanted, one more is kept
-pub one_more_back : (old new : Stock) (many : ℕ) → IsGivenBack old new → min many old.wanted ≤ old.nodes → min (many + 1) old.wanted ≤ new.nodes
+one_more_back : (old new : Stock) (many : ℕ) → IsGivenBack old new → min many old.wanted ≤ old.count → min (many + 1) old.wanted ≤ new.count
 one_more_back old new many e enough =
-    subst (λ n. min (many + 1) old.wanted ≤ n) (sym e.nodes) (by (ltb old.nodes old.wanted) refl)
+    subst (λ n. min (many + 1) old.wanted ≤ n) (sym e.count) (by (ltb old.count old.wanted) refl)
   where
-    by : (b : Bool) → ltb old.nodes old.wanted ≡ b → min (many + 1) old.wanted ≤ (if b then old.nodes + 1 else old.nodes)
+    by : (b : Bool) → ltb old.count old.wanted ≡ b → min (many + 1) old.wanted ≤ (if b then old.count + 1 else old.count)
     by true lt = omega (arith, enough)
-    by false ge = omega (arith, enough, ltb-false old.nodes old.wanted ge)
+    by false ge = omega (arith, enough, ltb-false old.count old.wanted ge)
+
+-- a node of height h whose branch has given back what it owes, and two branches of which were merged, has given back what it owes
+pub gives_more : (h : ℕ) (first old new : Stock) → 2 ≤ h → first.count ≤ old.count → old.wanted ≡ first.wanted → min (first.count + (h - 1) - 2) first.wanted ≤ old.count → MayGiveBack h old new → min (first.count + h - 2) first.wanted ≤ new.count
+gives_more h first old new low kept wanted owed given =
+    elim (cases_lt 2 h) [
+      | inl lt ↦ omega (arith, one_more_back old new (first.count + (h - 1) - 2) (given.inner lt) (omega arith))
+      | inr ge ↦ omega (arith, given.kept)
+    ]

@@ -5,7 +5,7 @@ use Rattle.std.specs.Prelude.{◌≡◌, ℕ, ◌+◌, ◌-◌, ◌<◌, ◌≤�
 use Rattle.std.proofs.Common.{Box, Global}
 use Rattle.arrayvec.specs.ArrayVec.{ArrayVec}
 use Rattle.iddqd_ord_index.specs.Nodes.{below, slots_with, IsBare}
-use Rattle.iddqd_ord_index.specs.Shape.{Subtree, IsDense, tree, unused}
+use Rattle.iddqd_ord_index.specs.Shape.{Subtree, IsDense, tree}
 use Rattle.iddqd_ord_index.specs.declared.tree.node.Block.{Block}
 use Rattle.iddqd_ord_index.specs.declared.tree.node.Branches.{Branches}
 use Rattle.iddqd_ord_index.specs.declared.tree.node.Node.{Node}
@@ -23,15 +23,15 @@ pub record IsSplit (all : List ℕ) (lower : Subtree) (middle : ℕ) (upper : Su
   pub upper_height : upper.height ≡ lower.height
   pub upper_dense : IsDense upper
 
-abbrev pub AddsTo : List ℕ → ℕ → Subtree → Option (ℕ × Box Node Global) → Type 0
+abbrev pub AddsTo : List ℕ → ℕ → Subtree → Option (ℕ × Node) → Type 0
 AddsTo all width new None = IsGrown all width new
-AddsTo all width new (Some r) = IsSplit all new r.0 r.1.value
+AddsTo all width new (Some r) = IsSplit all new r.0 r.1
 
 -- a slot and a branch behind it were put in at place i of a node, and an upper half was split off, or may have been
 abbrev pub SplitsIn : ℕ → ℕ → Subtree → Branches → ArrayVec ℕ → Branches → ArrayVec ℕ → ℕ → Subtree → Type 0
 SplitsIn i middle upper bs ss cs ts top half = IsSplit (slots_with bs ss i middle upper) (tree (below cs) ts.items) top half
 
-abbrev pub AddsIn : ℕ → ℕ → Subtree → Branches → ArrayVec ℕ → Branches → ArrayVec ℕ → Option (ℕ × Box Node Global) → Type 0
+abbrev pub AddsIn : ℕ → ℕ → Subtree → Branches → ArrayVec ℕ → Branches → ArrayVec ℕ → Option (ℕ × Node) → Type 0
 AddsIn i middle upper bs ss cs ts result = AddsTo (slots_with bs ss i middle upper) (length ss.items) (tree (below cs) ts.items) result
 
 -- a slot was put in the place of the i-th one
@@ -45,27 +45,21 @@ IsSameOrOneLess new old = (new ≤ old) × (old ≤ new + 1)
 abbrev pub IsShorter : ArrayVec ℕ → ArrayVec ℕ → Type 0
 IsShorter new old = length new.items < length old.items
 
--- unused nodes, each a leaf without slots
-abbrev pub AreUnused : List (Box Node Global) → Type 0
-AreUnused bs = All (λ b. b.value ≡ unused) bs
-
 -- blocks without branches
 abbrev pub AreBare : List (Box Block Global) → Type 0
 AreBare bs = All (λ b. IsBare b.value) bs
 
--- a tree's unused nodes and blocks for branches: for how many inner nodes there are both, how many nodes there are, how many
--- are wanted, and how many fit without memory
+-- a tree's unused blocks for branches: how many there are, how many are wanted, and how many fit without memory
 pub record Stock : Type 0 where
   pub count : ℕ
-  pub nodes : ℕ
   pub wanted : ℕ
   pub room : ℕ
 
--- a tree of so many levels wants one node more, and has room for it
+-- a tree of so many levels wants as many blocks: one for each split of an inner node, and one for a new root
 abbrev pub WantsFor : ℕ → Stock → Type 0
-WantsFor levels s = (s.wanted ≡ levels + 1) × (levels < s.room)
+WantsFor levels s = (s.wanted ≡ levels) × (levels ≤ s.room)
 
--- one node less, and a block with it, if it is an inner one
+-- one block less
 pub record IsTaken (old new : Stock) : Type 0 where
   pub left : old.count ≤ new.count + 1
   pub wanted : new.wanted ≡ old.wanted
@@ -75,6 +69,6 @@ pub record IsTaken (old new : Stock) : Type 0 where
 abbrev pub IsFilled : ℕ → Stock → Type 0
 IsFilled wanted s = (wanted ≤ s.count) × (wanted < s.room) × (s.wanted ≡ wanted)
 
--- if a node has a slot less, each level below has given a node back, as long as it was wanted
+-- if a node has a slot less, each level below but the leaves has given a block back, as long as it was wanted
 abbrev pub GivesBack : Subtree → Subtree → Stock → Stock → Type 0
-GivesBack old new s t = new.width < old.width → min (s.nodes + old.height - 1) s.wanted ≤ t.nodes
+GivesBack old new s t = new.width < old.width → min (s.count + old.height - 2) s.wanted ≤ t.count

@@ -3,7 +3,7 @@
 --     BelongsIn      the place where a query belongs
 --     FindsIn, InsertsIn, ReturnsPlace      what each end of an insertion says: the slot of the key's item, an insertion, the place
 --     KeepsUnlessInserted old new result      nothing has changed but by an insertion
---     HasFor, KeepsStock, EndsIn      the unused nodes, and how the insertion ends in a node; inside
+--     HasFor, KeepsStock, EndsIn      the unused blocks, and how the insertion ends in a node; inside
 use Rattle.std.specs.Prelude.{◌≡◌, ℕ, Bool, false, ◌<◌, ◌≤◌, IsTrue, List, OnSome, Some, Err, insert}
 use Rattle.std.specs.declared.cmp.Ordering.{Ordering}
 use Rattle.iddqd_store.specs.Store.{Store}
@@ -59,11 +59,11 @@ KeepsUnlessInserted old new (Found slot) = new ≡ old
 KeepsUnlessInserted old new Inserted = Unit
 KeepsUnlessInserted old new (Unprepared place) = new ≡ old
 
--- so many unused nodes are there, and room for one more
+-- so many unused blocks are there, and room for one more
 abbrev pub HasFor : ℕ → Stock → Type 0
 HasFor wanted s = (wanted ≤ s.count) × (wanted < s.room)
 
--- the unused nodes are as they were, unless the slot was inserted
+-- the unused blocks are as they were, unless the slot was inserted
 abbrev pub KeepsStock : Stock → Stock → Outcome → Type 0
 KeepsStock old new (node.Found slot) = new ≡ old
 KeepsStock old new (node.Inserted split) = Unit

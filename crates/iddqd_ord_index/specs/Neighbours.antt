@@ -1,5 +1,5 @@
 -- Two neighbours of which one is a slot short, and what they are when they are rebalanced. No public clause cites this module.
-use Rattle.std.specs.Prelude.{◌≡◌, ℕ, ◌+◌, ◌<◌, ◌≤◌, min, nat_lt, if◌then◌else◌, List, ◌∷◌, ◌++◌, length, Option, Some, None, slice_index_or}
+use Rattle.std.specs.Prelude.{◌≡◌, ℕ, ◌+◌, ◌<◌, ◌≤◌, min, nat_lt, if◌then◌else◌, List, ◌∷◌, ◌++◌, length, slice_index_or}
 use Rattle.std.proofs.Common.{◌≢◌}
 use Rattle.iddqd_ord_index.specs.Changes.{Stock}
 use Rattle.iddqd_ord_index.specs.Shape.{Subtree, IsDense, IsBranch, levels, unused}
@@ -25,20 +25,15 @@ pub record IsPair (a b : Subtree) : Type 0 where
   pub other : 9 ≤ a.width + b.width
 
 -- the slots of both stand in the lower one
-pub record IsMerged (a : Subtree) (middle : ℕ) (b lower upper : Subtree) : Type 0 where
+pub record IsMerged (a : Subtree) (middle : ℕ) (b lower : Subtree) : Type 0 where
   pub slots : lower.slots ≡ a.slots ++ middle ∷ b.slots
   pub lower_branch : IsBranch (a.height + 1) lower
-  pub unused : upper ≡ unused
 
 -- the same slots, cut at another one
 pub record IsShifted (a : Subtree) (middle : ℕ) (b lower : Subtree) (top : ℕ) (upper : Subtree) : Type 0 where
   pub slots : a.slots ++ middle ∷ b.slots ≡ lower.slots ++ top ∷ upper.slots
   pub lower_branch : IsBranch (a.height + 1) lower
   pub upper_branch : IsBranch (a.height + 1) upper
-
-abbrev pub IsRebalanced : Subtree → ℕ → Subtree → Subtree → Option ℕ → Subtree → Type 0
-IsRebalanced a middle b lower None upper = IsMerged a middle b lower upper
-IsRebalanced a middle b lower (Some top) upper = IsShifted a middle b lower top upper
 
 -- a branch of a node of height h that may be a slot short
 pub record IsShort (h : ℕ) (t : Subtree) : Type 0 where
@@ -54,11 +49,18 @@ pub record IsNear (ts : List Subtree) (ss : List ℕ) (i : ℕ) : Type 0 where
   pub short : IsShort (levels ts) (slice_index_or ts i unused)
   pub others : (k : ℕ) → k < length ts → k ≢ i → IsBranch (levels ts) (slice_index_or ts k unused)
 
--- an unused node is kept as long as it is wanted
+-- an unused block is kept as long as it is wanted
 abbrev pub given_back : Stock → Stock
-given_back s = record s { nodes = if nat_lt s.nodes s.wanted then s.nodes + 1 else s.nodes }
+given_back s = record s { count = if nat_lt s.count s.wanted then s.count + 1 else s.count }
 
 pub record IsGivenBack (old new : Stock) : Type 0 where
-  pub nodes : new.nodes ≡ (given_back old).nodes
+  pub count : new.count ≡ (given_back old).count
+  pub wanted : new.wanted ≡ old.wanted
+  pub room : new.room ≡ old.room
+
+-- two branches of a node of height h were merged: those that are no leaves have given a block back
+pub record MayGiveBack (h : ℕ) (old new : Stock) : Type 0 where
+  pub inner : 2 < h → IsGivenBack old new
+  pub kept : old.count ≤ new.count
   pub wanted : new.wanted ≡ old.wanted
   pub room : new.room ≡ old.room

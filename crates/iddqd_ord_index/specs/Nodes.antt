@@ -10,11 +10,11 @@ use Rattle.iddqd_ord_index.specs.declared.tree.node.Node.{Node}
 use Rattle.iddqd_ord_index.specs.declared.tree.node.Node.TheInside.{Inside}
 
 -- the subtrees in these cells
-abbrev pub subtrees : List (Option (Box Node Global)) → List Subtree
-subtrees os = map (λ b. b.value) (items_present os)
+abbrev pub subtrees : List (Option Node) → List Subtree
+subtrees os = items_present os
 
 -- the cells in a block, all empty where there is none; and the numbers of slots below the branches
-abbrev pub cells_in : Option (Box Block Global) → List (Option (Box Node Global))
+abbrev pub cells_in : Option (Box Block Global) → List (Option Node)
 cells_in None = filled []
 cells_in (Some b) = b.value.nodes
 
@@ -22,7 +22,7 @@ abbrev pub counts_in : Option (Box Block Global) → List ℕ
 counts_in None = []
 counts_in (Some b) = b.value.counts.items
 
-abbrev pub nodes_of : Branches → List (Option (Box Node Global))
+abbrev pub nodes_of : Branches → List (Option Node)
 nodes_of bs = cells_in bs.block
 
 abbrev pub counts_of : Branches → List ℕ
@@ -33,7 +33,7 @@ abbrev pub below : Branches → List Subtree
 below bs = subtrees (nodes_of bs)
 
 -- the branches stand in front, and beside each the number of slots below it
-pub record AreCounted (os : List (Option (Box Node Global))) (ns : List ℕ) : Type 0 where
+pub record AreCounted (os : List (Option Node)) (ns : List ℕ) : Type 0 where
   pub packed : IsPacked os
   pub counted : ns ≡ map (λ t. length t.slots) (subtrees os)
 
@@ -71,7 +71,7 @@ pub record IsNode (n : Inside) : Type 0 where
   pub forked : IsForked (below n.branches) n.slots.items
 
 -- so many leaves, one in each cell
-pub record AreLeaves (os : List (Option (Box Node Global))) (n : ℕ) : Type 0 where
+pub record AreLeaves (os : List (Option Node)) (n : ℕ) : Type 0 where
   pub cells : length os ≡ n
   pub present : length (subtrees os) ≡ n
   pub low : All (λ t. t.height ≡ 1) (subtrees os)
@@ -89,8 +89,8 @@ abbrev pub slots_with_pair : Branches → ArrayVec ℕ → ℕ → Subtree → S
 slots_with_pair bs ss j lower upper = in_order (insert (insert (lists (below bs)) j upper.slots) j lower.slots) ss.items
 
 -- two branches were put in at place j, or what they are once they are rebalanced
-abbrev pub InsertsPair : ℕ → Box Node Global → Box Node Global → Branches → ArrayVec ℕ → Branches → ArrayVec ℕ → Type 0
-InsertsPair j lower upper bs ss cs ts = slots_of cs ts ≡ slots_with_pair bs ss j lower.value upper.value
+abbrev pub InsertsPair : ℕ → Subtree → Subtree → Branches → ArrayVec ℕ → Branches → ArrayVec ℕ → Type 0
+InsertsPair j lower upper bs ss cs ts = slots_of cs ts ≡ slots_with_pair bs ss j lower upper
 
 -- the branches with one more behind the i-th
 abbrev pub below_with : Branches → ℕ → Subtree → List Subtree

@@ -12,7 +12,7 @@ mod run_cache;
 mod walk;
 
 use crate::tree::node::Node;
-use crate::tree::pool::NodePool;
+use crate::tree::pool::BlockPool;
 use crate::tree::root;
 use iddqd_store::TryReserveError;
 pub use insert_by::Insertion;
@@ -57,7 +57,7 @@ pub struct OrdIndex {
     root: Node,
     len: u32,
     levels: usize,
-    pool: NodePool,
+    pool: BlockPool,
     // Whether an insertion needs no memory.
     prepared: bool,
     // The slots that `slot_in_turn` has read last.
@@ -86,7 +86,7 @@ impl OrdIndex {
             root: Node::new(),
             len: 0,
             levels: 1,
-            pool: NodePool::new(alloc),
+            pool: BlockPool::new(alloc),
             prepared: false,
             cache: RunCache::new(),
             alloc,
@@ -139,7 +139,7 @@ impl OrdIndex {
         ensures err { OnErr result (self.new ≡ self.old) }
         ensures only_memory { IfErr result (λ e. e ≡ memory_refused) }
     {
-        match self.pool.prepare(self.levels + 1, self.alloc) {
+        match self.pool.prepare(self.levels, self.alloc) {
             Ok(()) => {
                 self.prepared = true;
                 Ok(())
@@ -166,7 +166,7 @@ impl OrdIndex {
             &mut self.pool,
         );
         self.len += 1;
-        self.pool.want(self.levels + 1);
+        self.pool.want(self.levels);
     }
 
     /// Removes the slot at the place, and returns it. Does not allocate.
@@ -239,7 +239,7 @@ impl OrdIndex {
         self.root.rename(place.position, new);
     }
 
-    /// Removes every slot. It drops the nodes of the tree and keeps the unused ones, and does not allocate.
+    /// Removes every slot. It drops the nodes of the tree and keeps the unused blocks, and does not allocate.
     pub fn clear(&mut self)
         ensures { self.new ≡ unprepared [] }
     {
@@ -284,7 +284,7 @@ impl OrdIndex {
         let Ok(root) = self.root.try_clone(self.alloc) else {
             return Err(TryReserveError::alloc_error());
         };
-        let Ok(pool) = NodePool::wanting(self.levels + 1, self.alloc) else {
+        let Ok(pool) = BlockPool::wanting(self.levels, self.alloc) else {
             return Err(TryReserveError::alloc_error());
         };
         Ok(OrdIndex {

@@ -24,7 +24,7 @@ pub enum Insertion {
 impl OrdIndex {
     /// Inserts the slot where the query's key belongs, unless an item has that key. It goes down the tree once, and
     /// makes at most 4 + 2 d comparisons, d the number of binary digits of `len`. The slot's own item is not looked at.
-    /// If the leaf is full and too few unused nodes are kept, nothing changes, and it returns the place. A prepared
+    /// If the leaf is full and too few unused blocks are kept, nothing changes, and it returns the place. A prepared
     /// index always has enough. After an insertion the index is not prepared. Does not allocate.
     pub fn insert_by<T: IdOrdItem, Q: Comparable<T::Key>>(
         &mut self,
@@ -57,7 +57,7 @@ impl OrdIndex {
         ensures steps { steps.new ≤ steps.old + 4 + 2 * digits (length self.old.slots) }
         ensures never_resets { steps.old ≤ steps.new }
     {
-        let ready = self.pool.is_filled(self.levels + 1);
+        let ready = self.pool.is_filled(self.levels);
         let (pool, root) = (&mut self.pool, &mut self.root);
         let split = match root.insert_by(store, query, slot, ready, pool, steps) {
             Outcome::Found(found) => return Insertion::Found(found),
@@ -69,7 +69,7 @@ impl OrdIndex {
         if let Some((middle, upper)) = split {
             rise(&mut self.root, self.len, middle, upper, &mut self.pool);
             self.levels += 1;
-            self.pool.want(self.levels + 1);
+            self.pool.want(self.levels);
         }
         self.len += 1;
         Insertion::Inserted

@@ -1,6 +1,6 @@
 //! A node of the tree. Contracts see it as its slots in order with those below it, its height, and its own number of slots.
-ghost use Rattle.std.specs.Prelude.{◌≡◌, ◌+◌, ◌^◌, ◌<◌, ◌≤◌, [], length, IfSome};
-ghost use Rattle.iddqd_ord_index.specs.Nodes.{below, IsBare};
+ghost use Rattle.std.specs.Prelude.{◌≡◌, ◌+◌, ◌^◌, ◌<◌, ◌≤◌, [], length};
+ghost use Rattle.iddqd_ord_index.specs.Nodes.{below};
 ghost use Rattle.iddqd_ord_index.specs.Shape.{unused};
 
 mod below;
@@ -36,12 +36,12 @@ pub(crate) struct Branches {
     block: Option<Box<Block>>,
 }
 
-/// The branches of an inner node, and how many slots lie below each.
+/// The branches of an inner node, which lie in the block itself, and how many slots lie below each.
 #[cycle(tree)]
 #[derive(Drop)]
 pub(crate) struct Block {
     counts: ArrayVec<u32, 12>,
-    nodes: [Option<Box<Node>>; 12],
+    nodes: [Option<Node>; 12],
 }
 
 impl Model for Node {
@@ -63,7 +63,7 @@ impl Model for Node {
 }
 
 impl Node {
-    // An unused node, which is a leaf without slots.
+    // A leaf without slots.
     pub(crate) fn new() -> Self
         ensures { result ≡ unused }
     {
@@ -71,15 +71,6 @@ impl Node {
             slots: Slots::new(),
             branches: Branches::new(),
         }
-    }
-
-    // Takes the block away, if there is one, from an unused node.
-    pub(crate) fn take_block(&mut self) -> Option<Box<Block>>
-        requires unused { self.old ≡ unused }
-        ensures unused { self.new ≡ unused }
-        ensures bare { IfSome result (λ block. IsBare block.value) }
-    {
-        self.branches.take_block()
     }
 
     // How many slots the node itself has.

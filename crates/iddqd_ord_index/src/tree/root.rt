@@ -7,7 +7,7 @@ ghost use Rattle.iddqd_ord_index.specs.Shape.{IsDense, most_levels};
 ghost use Rattle.iddqd_ord_index.specs.Standing.{StandsMonotone};
 
 use super::node::Node;
-use super::pool::NodePool;
+use super::pool::BlockPool;
 use iddqd_store::{Comparable, IdOrdItem, ItemStore, Steps};
 use std::mem;
 
@@ -18,7 +18,7 @@ pub(crate) fn add(
     len: u32,
     at: u32,
     slot: u32,
-    pool: &mut NodePool,
+    pool: &mut BlockPool,
 ) -> usize
     requires levels { levels ≡ root.old.height }
     requires low { levels ≤ most_levels }
@@ -26,7 +26,7 @@ pub(crate) fn add(
     requires place { at ≤ len }
     requires room { len + 1 < 2 ^ 32 }
     requires top { 1 < root.old.height → 1 ≤ root.old.width }
-    requires enough { root.old.height < pool.old.count }
+    requires enough { root.old.height ≤ pool.old.count }
 
     // the tree
     ensures slots { root.new.slots ≡ insert root.old.slots at slot }
@@ -34,7 +34,7 @@ pub(crate) fn add(
     ensures higher { result ≤ levels + 1 }
     ensures top { 1 < root.new.height → 1 ≤ root.new.width }
 
-    // the nodes
+    // the blocks
     ensures dense { IsDense root.new }
     ensures pool { (pool.new.wanted ≡ pool.old.wanted) × (pool.new.room ≡ pool.old.room) }
 {
@@ -42,15 +42,14 @@ pub(crate) fn add(
         return levels;
     };
     let above = upper.len();
-    let (mut lower, block) = pool.take_inner();
-    mem::swap(&mut *lower, root);
-    root.make_root(block, lower, len - above, middle, upper, above);
+    let lower = mem::replace(root, Node::new());
+    root.make_root(pool.take(), lower, len - above, middle, upper, above);
     levels + 1
 }
 
 // Removes the slot at the position, and returns it with the number of levels. If the root falls, there are as many
-// unused nodes as are wanted.
-pub(crate) fn remove(root: &mut Node, levels: usize, at: u32, pool: &mut NodePool) -> (u32, usize)
+// unused blocks as are wanted.
+pub(crate) fn remove(root: &mut Node, levels: usize, at: u32, pool: &mut BlockPool) -> (u32, usize)
     requires levels { levels ≡ root.old.height }
     requires place { at < length root.old.slots }
     requires room { length root.old.slots < 2 ^ 32 }
@@ -63,11 +62,11 @@ pub(crate) fn remove(root: &mut Node, levels: usize, at: u32, pool: &mut NodePoo
     ensures levels { result.1 ≡ root.new.height }
     ensures top { 1 < root.new.height → 1 ≤ root.new.width }
 
-    // the nodes
+    // the blocks
     ensures dense { IsDense root.new }
     ensures wanted { 1 < result.1 → WantsFor result.1 pool.new }
-    ensures kept { pool.old.nodes ≤ pool.new.nodes }
-    ensures fallen { result.1 < levels → pool.new.wanted ≤ pool.new.nodes }
+    ensures kept { pool.old.count ≤ pool.new.count }
+    ensures fallen { result.1 < levels → pool.new.wanted ≤ pool.new.count }
 {
     let slot = root.remove(at, pool);
     (slot, fall(root, levels, pool))
@@ -80,7 +79,7 @@ pub(crate) fn remove_by<T: IdOrdItem, Q: Comparable<T::Key>>(
     levels: usize,
     store: &ItemStore<T>,
     query: &Q,
-    pool: &mut NodePool,
+    pool: &mut BlockPool,
     steps: &mut Steps,
 ) -> (Option<u32>, usize)
     requires occupied { AreOccupied store.now root.old.slots }
@@ -95,11 +94,11 @@ pub(crate) fn remove_by<T: IdOrdItem, Q: Comparable<T::Key>>(
     ensures levels { result.1 ≡ root.new.height }
     ensures top { 1 < root.new.height → 1 ≤ root.new.width }
 
-    // the nodes
+    // the blocks
     ensures dense { IsDense root.new }
     ensures wanted { 1 < result.1 → WantsFor result.1 pool.new }
-    ensures kept { pool.old.nodes ≤ pool.new.nodes }
-    ensures fallen { result.1 < levels → pool.new.wanted ≤ pool.new.nodes }
+    ensures kept { pool.old.count ≤ pool.new.count }
+    ensures fallen { result.1 < levels → pool.new.wanted ≤ pool.new.count }
 
     // what it costs
     ensures steps { steps.new ≤ steps.old + 4 * root.old.height }
@@ -110,28 +109,28 @@ pub(crate) fn remove_by<T: IdOrdItem, Q: Comparable<T::Key>>(
 }
 
 // Lets the root fall a level if it has lost its last slot of its own, and returns the number of levels.
-fn fall(root: &mut Node, levels: usize, pool: &mut NodePool) -> usize
+fn fall(root: &mut Node, levels: usize, pool: &mut BlockPool) -> usize
     requires levels { levels ≡ root.old.height }
     requires dense { IsDense root.old }
     requires wanted { 1 < levels → WantsFor levels pool.old }
-    requires given { 1 < levels → root.old.width ≡ 0 → levels ≤ pool.old.nodes + 1 }
+    requires given { 1 < levels → root.old.width ≡ 0 → levels ≤ pool.old.count + 2 }
 
     // the tree
     ensures slots { root.new.slots ≡ root.old.slots }
     ensures levels { result ≡ root.new.height }
     ensures top { 1 < root.new.height → 1 ≤ root.new.width }
 
-    // the nodes
+    // the blocks
     ensures dense { IsDense root.new }
     ensures wanted { 1 < result → WantsFor result pool.new }
-    ensures kept { pool.old.nodes ≤ pool.new.nodes }
-    ensures fallen { result < levels → pool.new.wanted ≤ pool.new.nodes }
+    ensures kept { pool.old.count ≤ pool.new.count }
+    ensures fallen { result < levels → pool.new.wanted ≤ pool.new.count }
 {
     if levels == 1 || root.width() > 0 {
         return levels;
     }
-    let node = root.collapse();
-    pool.want(levels);
-    pool.give_back(node);
+    let block = root.collapse();
+    pool.want(levels - 1);
+    pool.give_back(block);
     levels - 1
 }

@@ -1,5 +1,5 @@
 //! The branches of a node and the number of slots below each, changed together.
-ghost use Rattle.std.specs.Prelude.{true, false, ◌≡◌, ◌+◌, ◌^◌, ◌<◌, ◌≤◌, ◌==◌, [], ◌++◌, length, take, drop, insert, remove, slice_index, slice_index_or, slice_set, nat_le, if◌then◌else◌, IfOk, IfSome};
+ghost use Rattle.std.specs.Prelude.{true, false, ◌≡◌, ◌+◌, ◌^◌, ◌<◌, ◌≤◌, ◌==◌, [], ◌++◌, length, take, drop, insert, remove, slice_index, slice_index_or, slice_set, nat_le, if◌then◌else◌, IfOk, IfSome, IsSome};
 ghost use Rattle.iddqd_ord_index.specs.Nodes.{below, below_with, counts_of, nodes_of, subtrees, AreBranches, HasBlock, IsBare, IsBlock, JoinsBlocks, SplitsWith};
 ghost use Rattle.iddqd_ord_index.specs.Shape.{lists, starts, unused, IsBranchAt};
 
@@ -22,29 +22,29 @@ impl Block {
         }
     }
 
-    fn insert(&mut self, i: usize, node: Box<Node>, count: u32)
+    fn insert(&mut self, i: usize, node: Node, count: u32)
         requires block { IsBlock self.old }
         requires in_bounds { i ≤ length (subtrees self.old.nodes) }
         requires room { length (subtrees self.old.nodes) < 12 }
-        requires count { count ≡ length node.value.slots }
+        requires count { count ≡ length node.slots }
 
         // afterwards
         ensures block { IsBlock self.new }
-        ensures below { subtrees self.new.nodes ≡ insert (subtrees self.old.nodes) i node.value }
+        ensures below { subtrees self.new.nodes ≡ insert (subtrees self.old.nodes) i node }
     {
         cells::insert(&mut self.nodes, i, node);
         self.counts.insert(i, count);
     }
 
-    fn remove(&mut self, i: usize) -> (Box<Node>, u32)
+    fn remove(&mut self, i: usize) -> (Node, u32)
         requires block { IsBlock self.old }
         requires in_bounds { i < length (subtrees self.old.nodes) }
 
         // afterwards
         ensures block { IsBlock self.new }
         ensures below { subtrees self.new.nodes ≡ remove (subtrees self.old.nodes) i }
-        ensures node { result.0.value ≡ slice_index_or (subtrees self.old.nodes) i unused }
-        ensures count { result.1 ≡ length result.0.value.slots }
+        ensures node { result.0 ≡ slice_index_or (subtrees self.old.nodes) i unused }
+        ensures count { result.1 ≡ length result.0.slots }
     {
         let node = cells::remove(&mut self.nodes, i);
         (node, self.counts.remove(i))
@@ -95,18 +95,18 @@ impl Block {
     }
 
     // Puts a branch in behind the i-th of twelve, and moves the upper half into `upper`, which has none.
-    fn split(&mut self, i: usize, node: Box<Node>, count: u32, upper: &mut Block)
+    fn split(&mut self, i: usize, node: Node, count: u32, upper: &mut Block)
         requires block { IsBlock self.old }
         requires full { length (subtrees self.old.nodes) ≡ 12 }
         requires in_bounds { i < 12 }
-        requires count { count ≡ length node.value.slots }
+        requires count { count ≡ length node.slots }
         requires upper_block { IsBlock upper.old }
         requires upper_empty { subtrees upper.old.nodes ≡ [] }
 
         // afterwards
         ensures block { IsBlock self.new }
         ensures upper_block { IsBlock upper.new }
-        ensures below { SplitsWith i node.value self.old self.new upper.new }
+        ensures below { SplitsWith i node self.old self.new upper.new }
         ensures lower { length (subtrees self.new.nodes) ≡ (if nat_le i 5 then 7 else 6) }
         ensures upper { length (subtrees upper.new.nodes) ≡ (if nat_le i 5 then 6 else 7) }
     {
@@ -157,6 +157,7 @@ impl Branches {
         ensures branches { AreBranches self.new }
         ensures none { below self.new ≡ [] }
         ensures bare { IfSome result (λ block. IsBare block.value) }
+        ensures some { HasBlock self.old → IsSome result }
     {
         self.block.take()
     }
@@ -211,7 +212,7 @@ impl Branches {
     }
 
     // The branches behind the i-th one.
-    pub(super) fn behind(&self, i: usize) -> &[Option<Box<Node>>]
+    pub(super) fn behind(&self, i: usize) -> &[Option<Node>]
         requires branches { AreBranches self.now }
         requires in_bounds { i < length (below self.now) }
         ensures branches { subtrees result.now ≡ drop (i + 1) (below self.now) }
@@ -220,7 +221,7 @@ impl Branches {
         let Some(block) = &self.block else {
             unreachable!()
         };
-        let nodes: &[Option<Box<Node>>] = &block.nodes[..];
+        let nodes: &[Option<Node>] = &block.nodes[..];
         &nodes[i + 1..block.counts.len()]
     }
 
@@ -256,16 +257,16 @@ impl Branches {
     }
 
     // Inserts a branch as the i-th one, with this many slots below it.
-    pub(super) fn insert(&mut self, i: usize, node: Box<Node>, count: u32)
+    pub(super) fn insert(&mut self, i: usize, node: Node, count: u32)
         requires branches { AreBranches self.old }
         requires in_bounds { i ≤ length (below self.old) }
         requires room { length (below self.old) < 12 }
-        requires count { count ≡ length node.value.slots }
+        requires count { count ≡ length node.slots }
         requires block { HasBlock self.old }
 
         // afterwards
         ensures branches { AreBranches self.new }
-        ensures below { below self.new ≡ insert (below self.old) i node.value }
+        ensures below { below self.new ≡ insert (below self.old) i node }
         ensures block { HasBlock self.new }
     {
         let Some(block) = &mut self.block else {
@@ -275,15 +276,15 @@ impl Branches {
     }
 
     // Removes the i-th branch, and returns it with the number of slots below it.
-    pub(super) fn remove(&mut self, i: usize) -> (Box<Node>, u32)
+    pub(super) fn remove(&mut self, i: usize) -> (Node, u32)
         requires branches { AreBranches self.old }
         requires in_bounds { i < length (below self.old) }
 
         // afterwards
         ensures branches { AreBranches self.new }
         ensures below { below self.new ≡ remove (below self.old) i }
-        ensures node { result.0.value ≡ slice_index_or (below self.old) i unused }
-        ensures count { result.1 ≡ length result.0.value.slots }
+        ensures node { result.0 ≡ slice_index_or (below self.old) i unused }
+        ensures count { result.1 ≡ length result.0.slots }
         ensures block { HasBlock self.new }
     {
         let Some(block) = &mut self.block else {
@@ -293,12 +294,12 @@ impl Branches {
     }
 
     // Takes the i-th branch out of its cell, which `put` fills again.
-    pub(super) fn take(&mut self, i: usize) -> Box<Node>
+    pub(super) fn take(&mut self, i: usize) -> Node
         requires branches { AreBranches self.old }
         requires in_bounds { i < length (below self.old) }
         ensures cell { nodes_of self.new ≡ slice_set (nodes_of self.old) i None }
         ensures counts { counts_of self.new ≡ counts_of self.old }
-        ensures node { result.value ≡ slice_index_or (below self.old) i unused }
+        ensures node { result ≡ slice_index_or (below self.old) i unused }
     {
         let Some(block) = &mut self.block else {
             unreachable!()
@@ -308,7 +309,7 @@ impl Branches {
     }
 
     // Puts a branch, with this many slots below it, into the cell that `take` has left empty.
-    pub(super) fn put(&mut self, i: usize, node: Box<Node>, count: u32)
+    pub(super) fn put(&mut self, i: usize, node: Node, count: u32)
         requires cell { i < length (nodes_of self.old) }
         requires counts { i < length (counts_of self.old) }
         ensures cell { nodes_of self.new ≡ slice_set (nodes_of self.old) i (Some node) }
@@ -333,6 +334,7 @@ impl Branches {
         ensures upper_branches { AreBranches upper.new }
         ensures below { below self.new ≡ below self.old ++ below upper.old }
         ensures upper_below { below upper.new ≡ [] }
+        ensures upper_block { HasBlock upper.old → HasBlock upper.new }
     {
         let Some(block) = &mut self.block else {
             return;
@@ -347,20 +349,20 @@ impl Branches {
     pub(super) fn split(
         &mut self,
         i: usize,
-        node: Box<Node>,
+        node: Node,
         count: u32,
         mut block: Box<Block>,
     ) -> Branches
         requires branches { AreBranches self.old }
         requires full { length (below self.old) ≡ 12 }
         requires in_bounds { i < 12 }
-        requires count { count ≡ length node.value.slots }
+        requires count { count ≡ length node.slots }
         requires bare { IsBare block.value }
 
         // afterwards
         ensures branches { AreBranches self.new }
         ensures upper_branches { AreBranches result }
-        ensures below { below_with self.old i node.value ≡ below self.new ++ below result }
+        ensures below { below_with self.old i node ≡ below self.new ++ below result }
         ensures lower { length (below self.new) ≡ (if nat_le i 5 then 7 else 6) }
         ensures upper { length (below result) ≡ (if nat_le i 5 then 6 else 7) }
     {

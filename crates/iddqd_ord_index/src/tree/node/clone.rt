@@ -13,7 +13,7 @@ impl Node {
         let mut branches = self.branches.try_like(alloc)?;
         for i in 0..self.branches.len() {
             let node = self.branches.get(i).try_clone(alloc)?;
-            branches.insert(i, Box::new(alloc, node)?, self.branches.count(i));
+            branches.insert(i, node, self.branches.count(i));
         }
         let mut slots = Slots::new();
         slots.extend_from_slice(self.slots.as_slice());

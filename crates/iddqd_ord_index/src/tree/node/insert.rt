@@ -6,7 +6,7 @@ ghost use Rattle.iddqd_ord_index.specs.Nodes.{below, AreBranches, IsBare};
 ghost use Rattle.iddqd_ord_index.specs.Shape.{lists, levels, tree, unused, in_order, IsBranch, IsDense, IsForked};
 
 use super::{Block, Branches, Node};
-use crate::tree::pool::NodePool;
+use crate::tree::pool::BlockPool;
 use crate::tree::slots::Slots;
 
 // Inserts `slot` at place `i` of eleven, moves the upper half into `upper`, which is empty, and returns the slot
@@ -42,7 +42,7 @@ fn split_inner(
     branches: &mut Branches,
     i: usize,
     middle: u32,
-    upper: Box<Node>,
+    upper: Node,
     count: u32,
     half: &mut Node,
     block: Box<Block>,
@@ -52,8 +52,8 @@ fn split_inner(
     requires full { array_vec_len slots.old ≡ 11 }
     requires inner { 0 < length (below branches.old) }
     requires in_bounds { i ≤ 11 }
-    requires upper { IsBranch (levels (below branches.old)) upper.value }
-    requires count { count ≡ length upper.value.slots }
+    requires upper { IsBranch (levels (below branches.old)) upper }
+    requires count { count ≡ length upper.slots }
     requires half { half.old ≡ unused }
     requires bare { IsBare block.value }
 
@@ -63,7 +63,7 @@ fn split_inner(
     ensures levels { levels (below branches.new) ≡ levels (below branches.old) }
 
     // the slots
-    ensures split { SplitsIn i middle upper.value branches.old slots.old branches.new slots.new result half.new }
+    ensures split { SplitsIn i middle upper branches.old slots.old branches.new slots.new result half.new }
 {
     let top = split_slots(slots, i, middle, &mut half.slots);
     half.branches = branches.split(i, upper, count, block);
@@ -76,16 +76,16 @@ pub(super) fn add_branch(
     branches: &mut Branches,
     i: usize,
     middle: u32,
-    upper: Box<Node>,
+    upper: Node,
     count: u32,
-    pool: &mut NodePool,
-) -> Option<(u32, Box<Node>)>
+    pool: &mut BlockPool,
+) -> Option<(u32, Node)>
     requires branches { AreBranches branches.old }
     requires forked { IsForked (below branches.old) slots.old.items }
     requires inner { 0 < length (below branches.old) }
     requires in_bounds { i ≤ length slots.old.items }
-    requires upper { IsBranch (levels (below branches.old)) upper.value }
-    requires count { count ≡ length upper.value.slots }
+    requires upper { IsBranch (levels (below branches.old)) upper }
+    requires count { count ≡ length upper.slots }
     requires enough { 0 < pool.old.count }
 
     // the branches
@@ -93,8 +93,8 @@ pub(super) fn add_branch(
     ensures forked { IsForked (below branches.new) slots.new.items }
     ensures levels { levels (below branches.new) ≡ levels (below branches.old) }
 
-    // the slots, and the unused nodes
-    ensures adds { Adds i middle upper.value branches.old slots.old branches.new slots.new result }
+    // the slots, and the unused blocks
+    ensures adds { Adds i middle upper branches.old slots.old branches.new slots.new result }
     ensures left { pool.old.count ≤ pool.new.count + 1 }
     ensures pool { (pool.new.wanted ≡ pool.old.wanted) × (pool.new.room ≡ pool.old.room) }
 {
@@ -103,32 +103,41 @@ pub(super) fn add_branch(
         branches.insert(i + 1, upper, count);
         return None;
     }
-    let (mut half, block) = pool.take_inner();
-    let top = split_inner(slots, branches, i, middle, upper, count, &mut half, block);
+    let mut half = Node::new();
+    let top = split_inner(
+        slots,
+        branches,
+        i,
+        middle,
+        upper,
+        count,
+        &mut half,
+        pool.take(),
+    );
     Some((top, half))
 }
 
 impl Node {
-    // Makes an unused node the root above two halves, with this many slots below each. They lie in this block.
+    // Makes an empty leaf the root above two halves, with this many slots below each. They lie in this block.
     pub(crate) fn make_root(
         &mut self,
         block: Box<Block>,
-        lower: Box<Node>,
+        lower: Node,
         lower_count: u32,
         middle: u32,
-        upper: Box<Node>,
+        upper: Node,
         upper_count: u32,
     )
         requires unused { self.old ≡ unused }
         requires bare { IsBare block.value }
-        requires lower { IsBranch (lower.value.height + 1) lower.value }
-        requires upper { IsBranch (lower.value.height + 1) upper.value }
-        requires lower_count { lower_count ≡ length lower.value.slots }
-        requires upper_count { upper_count ≡ length upper.value.slots }
+        requires lower { IsBranch (lower.height + 1) lower }
+        requires upper { IsBranch (lower.height + 1) upper }
+        requires lower_count { lower_count ≡ length lower.slots }
+        requires upper_count { upper_count ≡ length upper.slots }
 
         // afterwards
-        ensures slots { self.new.slots ≡ lower.value.slots ++ middle ∷ upper.value.slots }
-        ensures height { self.new.height ≡ lower.value.height + 1 }
+        ensures slots { self.new.slots ≡ lower.slots ++ middle ∷ upper.slots }
+        ensures height { self.new.height ≡ lower.height + 1 }
         ensures width { self.new.width ≡ 1 }
         ensures dense { IsDense self.new }
     {
@@ -139,58 +148,42 @@ impl Node {
     }
 
     // Inserts a slot into a leaf. One without room gives its upper half away.
-    pub(super) fn add_to_leaf(
-        &mut self,
-        at: u32,
-        slot: u32,
-        pool: &mut NodePool,
-    ) -> Option<(u32, Box<Node>)>
+    pub(super) fn add_to_leaf(&mut self, at: u32, slot: u32) -> Option<(u32, Node)>
         requires leaf { self.old.height ≡ 1 }
         requires place { at ≤ length self.old.slots }
-        requires enough { self.old.width ≡ 11 → 0 < pool.old.count }
 
-        // the node
+        // afterwards
         ensures adds { AddsTo (insert self.old.slots at slot) self.old.width self.new result }
         ensures full { OnSome result (self.old.width ≡ 11) }
         ensures height { self.new.height ≡ self.old.height }
         ensures dense { IsDense self.new }
-
-        // the unused nodes
-        ensures left { pool.old.count ≤ pool.new.count + 1 }
-        ensures pool { (pool.new.wanted ≡ pool.old.wanted) × (pool.new.room ≡ pool.old.room) }
     {
         if self.slots.len() < 11 {
             self.slots.insert(at as usize, slot);
             return None;
         }
-        let mut half = pool.take();
-        let upper: &mut Node = &mut half;
-        let middle = split_slots(&mut self.slots, at as usize, slot, &mut upper.slots);
+        let mut half = Node::new();
+        let middle = split_slots(&mut self.slots, at as usize, slot, &mut half.slots);
         Some((middle, half))
     }
 
     // Inserts a slot at the position. A node without room gives its upper half away, with the slot before it.
-    pub(crate) fn add(
-        &mut self,
-        at: u32,
-        slot: u32,
-        pool: &mut NodePool,
-    ) -> Option<(u32, Box<Node>)>
+    pub(crate) fn add(&mut self, at: u32, slot: u32, pool: &mut BlockPool) -> Option<(u32, Node)>
         requires place { at ≤ length self.old.slots }
         requires room { length self.old.slots + 1 < 2 ^ 32 }
-        requires enough { self.old.height ≤ pool.old.count }
+        requires enough { self.old.height ≤ pool.old.count + 1 }
 
         // the node
         ensures adds { AddsTo (insert self.old.slots at slot) self.old.width self.new result }
         ensures height { self.new.height ≡ self.old.height }
         ensures dense { IsDense self.new }
 
-        // the unused nodes
-        ensures left { pool.old.count ≤ pool.new.count + self.old.height }
+        // the unused blocks
+        ensures left { pool.old.count < pool.new.count + self.old.height }
         ensures pool { (pool.new.wanted ≡ pool.old.wanted) × (pool.new.room ≡ pool.old.room) }
     {
         if self.branches.is_empty() {
-            return self.add_to_leaf(at, slot, pool);
+            return self.add_to_leaf(at, slot);
         }
         let (i, rest) = self.branches.branch_at(at);
         let count = self.branches.count(i) + 1;

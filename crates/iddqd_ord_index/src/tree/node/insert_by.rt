@@ -7,7 +7,7 @@ ghost use Rattle.iddqd_ord_index.specs.Standing.{slot_standing, StandsMonotone};
 
 use super::Node;
 use super::insert::add_branch;
-use crate::tree::pool::NodePool;
+use crate::tree::pool::BlockPool;
 use crate::tree::search::search;
 use iddqd_store::{Comparable, IdOrdItem, ItemStore, Steps};
 
@@ -17,35 +17,35 @@ pub(crate) enum Outcome {
     // This slot has the key. Nothing has changed.
     Found(u32),
     // The slot was inserted. A node without room has given its upper half away, with the slot before it.
-    Inserted(Option<(u32, Box<Node>)>),
+    Inserted(Option<(u32, Node)>),
     // The leaf is full and may not be split. Nothing has changed; the slot belongs at this position.
     Full(u32),
 }
 
 impl Node {
     // Inserts the slot where the query belongs, by at most four comparisons a level. A full leaf is split if the
-    // unused nodes are `ready` for that.
+    // unused blocks are `ready` for that.
     pub(crate) fn insert_by<T: IdOrdItem, Q: Comparable<T::Key>>(
         &mut self,
         store: &ItemStore<T>,
         query: &Q,
         slot: u32,
         ready: bool,
-        pool: &mut NodePool,
+        pool: &mut BlockPool,
         steps: &mut Steps,
     ) -> Outcome
         requires occupied { AreOccupied store.now self.old.slots }
         requires monotone { StandsMonotone T.key (Q.compare query.now) store.now self.old.slots }
         requires room { length self.old.slots + 1 < 2 ^ 32 }
-        requires enough { IsTrue ready → self.old.height ≤ pool.old.count }
+        requires enough { IsTrue ready → self.old.height ≤ pool.old.count + 1 }
 
         // the node
         ensures ends { EndsIn (slot_standing T.key (Q.compare query.now) store.now) ready slot self.old self.new result }
         ensures height { self.new.height ≡ self.old.height }
         ensures dense { IsDense self.new }
 
-        // the unused nodes
-        ensures left { pool.old.count ≤ pool.new.count + self.old.height }
+        // the unused blocks
+        ensures left { pool.old.count < pool.new.count + self.old.height }
         ensures kept { KeepsStock pool.old pool.new result }
         ensures pool { (pool.new.wanted ≡ pool.old.wanted) × (pool.new.room ≡ pool.old.room) }
 
@@ -61,7 +61,7 @@ impl Node {
             if self.slots.len() == 11 && !ready {
                 return Outcome::Full(i as u32);
             }
-            return Outcome::Inserted(self.add_to_leaf(i as u32, slot, pool));
+            return Outcome::Inserted(self.add_to_leaf(i as u32, slot));
         }
         let count = self.branches.count(i);
         let mut node = self.branches.take(i);

@@ -1,10 +1,10 @@
 //! Two neighbours of which one is a slot short: both are merged, or one borrows from the other.
-ghost use Rattle.std.specs.Prelude.{◌≡◌, ◌+◌, ◌<◌, ◌≤◌, ◌∷◌, ◌++◌, length, take, drop};
-ghost use Rattle.iddqd_ord_index.specs.Neighbours.{joined, IsAsHigh, IsRebalanced, IsNarrower, IsPair, IsWider};
-ghost use Rattle.iddqd_ord_index.specs.Nodes.{below, AreBranches, HasBlock};
-ghost use Rattle.iddqd_ord_index.specs.Shape.{unused, IsDense};
+ghost use Rattle.std.specs.Prelude.{◌≡◌, ◌+◌, ◌<◌, ◌≤◌, ◌++◌, length, take, drop, IfSome, IsSome};
+ghost use Rattle.iddqd_ord_index.specs.Neighbours.{joined, IsAsHigh, IsMerged, IsNarrower, IsPair, IsShifted, IsWider};
+ghost use Rattle.iddqd_ord_index.specs.Nodes.{below, AreBranches, HasBlock, IsBare};
+ghost use Rattle.iddqd_ord_index.specs.Shape.{IsDense};
 
-use super::{Branches, Node};
+use super::{Block, Branches, Node};
 
 // Moves the first branch of `upper`, if it has any, behind those of `lower`.
 fn move_first(lower: &mut Branches, upper: &mut Branches)
@@ -49,22 +49,22 @@ fn move_last(lower: &mut Branches, len: usize, upper: &mut Branches)
 }
 
 impl Node {
-    // Moves all of `upper` behind `middle` into the node. `upper` is unused from then on.
-    fn merge(&mut self, middle: u32, upper: &mut Node)
-        requires height { self.old.height ≡ upper.old.height }
-        requires fits { self.old.width + upper.old.width < 11 }
+    // Moves all of `upper` behind `middle` into the node, and returns the block of `upper`, which only a leaf lacks.
+    pub(super) fn merge(&mut self, middle: u32, mut upper: Node) -> Option<Box<Block>>
+        requires pair { IsPair self.old upper }
+        requires fits { self.old.width + upper.width < 11 }
 
-        // afterwards
-        ensures slots { self.new.slots ≡ self.old.slots ++ middle ∷ upper.old.slots }
-        ensures height { self.new.height ≡ self.old.height }
-        ensures width { self.new.width ≡ self.old.width + upper.old.width + 1 }
-        ensures dense { IsDense self.new }
-        ensures unused { upper.new ≡ unused }
+        // the node
+        ensures merged { IsMerged self.old middle upper self.new }
+
+        // the block
+        ensures bare { IfSome result (λ block. IsBare block.value) }
+        ensures some { 1 < self.old.height → IsSome result }
     {
         self.branches.append(&mut upper.branches);
         self.slots.push(middle);
         self.slots.extend_from_slice(upper.slots.as_slice());
-        upper.slots.clear();
+        upper.branches.take_block()
     }
 
     // Inserts `middle` behind the node's slots with the first branch of `upper`, and returns the first own slot of
@@ -106,21 +106,15 @@ impl Node {
         last
     }
 
-    // Rebalances two neighbours of which one is a slot short. Returns `None` if all is in the lower one now, else the
-    // slot between them.
-    pub(super) fn rebalance(&mut self, middle: u32, upper: &mut Node) -> Option<u32>
-        requires { IsPair self.old upper.old }
-        ensures { IsRebalanced self.old middle upper.old self.new result upper.new }
+    // Moves a slot from the wider of two neighbours to the narrower one. Returns the slot between them.
+    pub(super) fn shift(&mut self, middle: u32, upper: &mut Node) -> u32
+        requires pair { IsPair self.old upper.old }
+        requires many { 11 ≤ self.old.width + upper.old.width }
+        ensures { IsShifted self.old middle upper.old self.new result upper.new }
     {
-        let lower_width = self.width();
-        let upper_width = upper.width();
-        if lower_width + upper_width < 11 {
-            self.merge(middle, upper);
-            return None;
+        if self.width() < upper.width() {
+            return self.borrow_first(middle, upper);
         }
-        if lower_width < upper_width {
-            return Some(self.borrow_first(middle, upper));
-        }
-        Some(self.lend_last(middle, upper))
+        self.lend_last(middle, upper)
     }
 }

@@ -1,14 +1,13 @@
 //! Removal: a branch that is a slot short is rebalanced with a neighbour.
-ghost use Rattle.std.specs.Prelude.{◌≡◌, ◌+◌, ◌-◌, ◌^◌, ◌<◌, ◌≤◌, All, min, length, insert, remove, slice_index, slice_set, slice_index_or};
+ghost use Rattle.std.specs.Prelude.{◌≡◌, ◌+◌, ◌-◌, ◌^◌, ◌<◌, ◌≤◌, All, min, length, insert, remove, slice_index, slice_set, slice_index_or, IfSome, IsSome};
 ghost use Rattle.iddqd_ord_index.specs.Changes.{GivesBack, IsReplaced, IsSameOrOneLess, IsShorter};
-ghost use Rattle.iddqd_ord_index.specs.Neighbours.{IsGivenBack, IsPair, IsNear};
-ghost use Rattle.iddqd_ord_index.specs.Nodes.{below, slots_of, AreBranches, HasBlock, InsertsPair};
+ghost use Rattle.iddqd_ord_index.specs.Neighbours.{IsPair, IsNear, MayGiveBack};
+ghost use Rattle.iddqd_ord_index.specs.Nodes.{below, slots_of, AreBranches, HasBlock, InsertsPair, IsBare};
 ghost use Rattle.iddqd_ord_index.specs.Shape.{levels, lists, starts, unused, in_order, IsBranch, IsDense, IsForked};
 
-use super::{Branches, Node};
-use crate::tree::pool::NodePool;
+use super::{Block, Branches, Node};
+use crate::tree::pool::BlockPool;
 use crate::tree::slots::Slots;
-use std::mem;
 
 // Rebalances the neighbours `lower` and `upper`, which have `total` slots. It puts them, or the one that they are now,
 // in as the j-th branch and the next.
@@ -16,47 +15,46 @@ fn rebalance_at(
     slots: &mut Slots,
     branches: &mut Branches,
     j: usize,
-    mut lower: Box<Node>,
-    mut upper: Box<Node>,
+    mut lower: Node,
+    mut upper: Node,
     total: u32,
-    pool: &mut NodePool,
+    pool: &mut BlockPool,
 )
     requires branches { AreBranches branches.old }
     requires block { HasBlock branches.old }
-    requires all { All (IsBranch (lower.value.height + 1)) (below branches.old) }
+    requires all { All (IsBranch (lower.height + 1)) (below branches.old) }
     requires fork { length (below branches.old) + 1 ≡ length slots.old.items }
     requires in_bounds { j < length slots.old.items }
-    requires pair { IsPair lower.value upper.value }
-    requires total { total ≡ length lower.value.slots + length upper.value.slots }
+    requires pair { IsPair lower upper }
+    requires total { total ≡ length lower.slots + length upper.slots }
     requires room { total + 1 < 2 ^ 32 }
 
     // the branches
     ensures branches { AreBranches branches.new }
     ensures forked { IsForked (below branches.new) slots.new.items }
-    ensures levels { levels (below branches.new) ≡ lower.value.height + 1 }
+    ensures levels { levels (below branches.new) ≡ lower.height + 1 }
 
     // the slots
     ensures slots { InsertsPair j lower upper branches.old slots.old branches.new slots.new }
     ensures width { IsSameOrOneLess (length slots.new.items) (length slots.old.items) }
 
-    // the unused nodes
+    // the unused blocks
     ensures kept { length slots.new.items ≡ length slots.old.items → pool.new ≡ pool.old }
-    ensures gives_back { IsShorter slots.new slots.old → IsGivenBack pool.old pool.new }
+    ensures gives_back { IsShorter slots.new slots.old → MayGiveBack (lower.height + 1) pool.old pool.new }
 {
     let middle = slots.as_slice()[j];
-    match lower.rebalance(middle, &mut upper) {
-        Some(top) => {
-            let count = lower.len();
-            slots.replace(j, top);
-            branches.insert(j, upper, total - count);
-            branches.insert(j, lower, count);
-        }
-        None => {
-            slots.remove(j);
-            branches.insert(j, lower, total + 1);
-            pool.give_back(upper);
-        }
+    if lower.width() + upper.width() < 11 {
+        slots.remove(j);
+        let block = lower.merge(middle, upper);
+        branches.insert(j, lower, total + 1);
+        pool.give_back(block);
+        return;
     }
+    let top = lower.shift(middle, &mut upper);
+    let count = lower.len();
+    slots.replace(j, top);
+    branches.insert(j, upper, total - count);
+    branches.insert(j, lower, count);
 }
 
 // Rebalances the i-th branch, whose node has this many slots of its own, if it is one short.
@@ -65,7 +63,7 @@ pub(super) fn rebalance(
     branches: &mut Branches,
     i: usize,
     width: usize,
-    pool: &mut NodePool,
+    pool: &mut BlockPool,
 )
     requires branches { AreBranches branches.old }
     requires near { IsNear (below branches.old) slots.old.items i }
@@ -81,9 +79,9 @@ pub(super) fn rebalance(
     ensures slots { slots_of branches.new slots.new ≡ slots_of branches.old slots.old }
     ensures width { IsSameOrOneLess (length slots.new.items) (length slots.old.items) }
 
-    // the unused nodes
+    // the unused blocks
     ensures kept { length slots.new.items ≡ length slots.old.items → pool.new ≡ pool.old }
-    ensures gives_back { IsShorter slots.new slots.old → IsGivenBack pool.old pool.new }
+    ensures gives_back { IsShorter slots.new slots.old → MayGiveBack (levels (below branches.old)) pool.old pool.new }
     ensures short { IsShorter slots.new slots.old → width < 5 }
 {
     if width >= 5 {
@@ -120,9 +118,9 @@ fn replace_own(slots: &mut Slots, i: usize, rest: u32, len: u32, taken: u32) -> 
 
 impl Node {
     // Removes the slot at the position. The node's own width may fall by one, and so below what a branch needs. If
-    // it falls, two nodes have merged at each level below, and each of these has given one back, as long as it is
-    // wanted.
-    pub(crate) fn remove(&mut self, at: u32, pool: &mut NodePool) -> u32
+    // it falls, two nodes have merged at each level below. Each merge of inner nodes has given a block back, as long
+    // as it is wanted.
+    pub(crate) fn remove(&mut self, at: u32, pool: &mut BlockPool) -> u32
         requires place { at < length self.old.slots }
         requires room { length self.old.slots < 2 ^ 32 }
         requires some { 1 < self.old.height → 0 < self.old.width }
@@ -134,8 +132,8 @@ impl Node {
         ensures width { self.old.width ≤ self.new.width + 1 }
         ensures dense { IsDense self.new }
 
-        // the unused nodes
-        ensures kept { pool.old.nodes ≤ pool.new.nodes }
+        // the unused blocks
+        ensures kept { pool.old.count ≤ pool.new.count }
         ensures gives_back { GivesBack self.old self.new pool.old pool.new }
         ensures pool { (pool.new.wanted ≡ pool.old.wanted) × (pool.new.room ≡ pool.old.room) }
     {
@@ -153,8 +151,8 @@ impl Node {
         slot
     }
 
-    // A root without a slot of its own becomes its only branch, and the node that it was is unused.
-    pub(crate) fn collapse(&mut self) -> Box<Node>
+    // A root without a slot of its own becomes its only branch. Returns the block that the branch lay in.
+    pub(crate) fn collapse(&mut self) -> Option<Box<Block>>
         requires inner { 1 < self.old.height }
         requires empty { self.old.width ≡ 0 }
 
@@ -163,10 +161,12 @@ impl Node {
         ensures height { self.new.height + 1 ≡ self.old.height }
         ensures width { 5 ≤ self.new.width }
         ensures dense { IsDense self.new }
-        ensures unused { result.value ≡ unused }
+        ensures bare { IfSome result (λ block. IsBare block.value) }
+        ensures some { IsSome result }
     {
-        let (mut node, _) = self.branches.remove(0);
-        mem::swap(&mut *node, self);
-        node
+        let (node, _) = self.branches.remove(0);
+        let block = self.branches.take_block();
+        *self = node;
+        block
     }
 }

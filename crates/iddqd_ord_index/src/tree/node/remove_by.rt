@@ -9,13 +9,13 @@ ghost use Rattle.iddqd_ord_index.specs.Standing.{StandsMonotone};
 
 use super::remove::rebalance;
 use super::{Branches, Node};
-use crate::tree::pool::NodePool;
+use crate::tree::pool::BlockPool;
 use crate::tree::search::search;
 use crate::tree::slots::Slots;
 use iddqd_store::{Comparable, IdOrdItem, ItemStore, Steps};
 
 // Removes the i-th own slot of a node and returns it. The last slot of the i-th branch takes its place.
-fn remove_own(slots: &mut Slots, branches: &mut Branches, i: usize, pool: &mut NodePool) -> u32
+fn remove_own(slots: &mut Slots, branches: &mut Branches, i: usize, pool: &mut BlockPool) -> u32
     requires branches { AreBranches branches.old }
     requires forked { IsForked (below branches.old) slots.old.items }
     requires inner { 0 < length (below branches.old) }
@@ -32,8 +32,8 @@ fn remove_own(slots: &mut Slots, branches: &mut Branches, i: usize, pool: &mut N
     ensures slots { LosesOwn i branches.old slots.old branches.new slots.new }
     ensures width { IsSameOrOneLess (length slots.new.items) (length slots.old.items) }
 
-    // the unused nodes
-    ensures kept { pool.old.nodes ≤ pool.new.nodes }
+    // the unused blocks
+    ensures kept { pool.old.count ≤ pool.new.count }
     ensures given { GivesBackIn branches.old slots.old branches.new slots.new pool.old pool.new }
     ensures pool { (pool.new.wanted ≡ pool.old.wanted) × (pool.new.room ≡ pool.old.room) }
 {
@@ -54,7 +54,7 @@ impl Node {
         &mut self,
         store: &ItemStore<T>,
         query: &Q,
-        pool: &mut NodePool,
+        pool: &mut BlockPool,
         steps: &mut Steps,
     ) -> Option<u32>
         requires occupied { AreOccupied store.now self.old.slots }
@@ -69,8 +69,8 @@ impl Node {
         ensures width { self.old.width ≤ self.new.width + 1 }
         ensures dense { IsDense self.new }
 
-        // the unused nodes
-        ensures kept { pool.old.nodes ≤ pool.new.nodes }
+        // the unused blocks
+        ensures kept { pool.old.count ≤ pool.new.count }
         ensures gives_back { GivesBack self.old self.new pool.old pool.new }
         ensures pool { (pool.new.wanted ≡ pool.old.wanted) × (pool.new.room ≡ pool.old.room) }
 

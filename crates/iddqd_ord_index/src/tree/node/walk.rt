@@ -14,7 +14,7 @@ pub(crate) struct LeafWalk<'a> {
     run: &'a [u32],
     // The own slots that come in the node above, and the leaf behind each.
     slots: &'a [u32],
-    leaves: &'a [Option<Box<Node>>],
+    leaves: &'a [Option<Node>],
 }
 
 impl<'a> Model for LeafWalk<'a> {
@@ -64,7 +64,7 @@ impl<'a> LeafWalk<'a> {
 }
 
 // The slots of the first of these leaves.
-fn first_leaf(leaves: &[Option<Box<Node>>]) -> &[u32]
+fn first_leaf(leaves: &[Option<Node>]) -> &[u32]
     requires leaves { AreLeaves leaves.now (length leaves.now) }
     requires some { 0 < length leaves.now }
     ensures { result.now ≡ (slice_index_or (subtrees leaves.now) 0 unused).slots }
@@ -93,7 +93,7 @@ impl Node {
         let mut node = self;
         let mut place = at;
         let mut slots: &[u32] = &[];
-        let mut leaves: &[Option<Box<Node>>] = &[];
+        let mut leaves: &[Option<Node>] = &[];
         'down: while !node.branches.is_empty() {
             let (i, rest) = node.branches.branch_at(place);
             if rest == node.branches.count(i) {

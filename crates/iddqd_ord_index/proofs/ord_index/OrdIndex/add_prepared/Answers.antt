@@ -9,9 +9,6 @@ use Rattle.iddqd_ord_index.proofs.ord_index.OrdIndex.add_prepared.Goals as goal
 pub add-self-inside-requires-clause-low : goal.add-self-inside-requires-clause-low
 add-self-inside-requires-clause-low c = omega (arith, height_most c.self.inside.root c.self.invariant.dense c.self.invariant.top (omega (arith, c.self.invariant.numbered)), c.self.invariant.levels)
 
-pub overflow_add-self-inside : goal.overflow_add-self-inside
-overflow_add-self-inside c = omega (arith, height_most c.self.inside.root c.self.invariant.dense c.self.invariant.top (omega (arith, c.self.invariant.numbered)), c.self.invariant.levels, c.add-self-inside.ensures.higher)
-
 pub invariant_of-self : goal.invariant_of-self
 invariant_of-self c =
     let slots = c.self.inside.root.slots in

@@ -32,9 +32,6 @@ query g q = record {
   below = g.met.Q.Comparable.greater_below q;
 }
 
-pub overflow_add-self-inside : goal.overflow_add-self-inside
-overflow_add-self-inside g c = omega (arith, height_most c.self.inside.root c.self.invariant.dense c.self.invariant.top (omega (arith, c.self.invariant.numbered)), c.self.invariant.levels)
-
 pub insert_by-requires-clause-monotone : goal.insert_by-requires-clause-monotone
 insert_by-requires-clause-monotone g c =
     subst (λ i. IsMonotone (order g c.args.query.now c.args.store.now) i.slots) (sym c.self.view_is) (monotone g.T.IdOrdItem.key (g.Q.Comparable.compare c.args.query.now) c.args.store.now c.args.self.now.slots c.requires.occupied g.met.T.Key.Ord.total (g.met.Q.Comparable.less_above c.args.query.now) (g.met.Q.Comparable.greater_below c.args.query.now) c.requires.ascending)
@@ -68,13 +65,10 @@ rise-requires-clause-total g c =
     let ends = c.in-Inserted.ensures.ends in
     let slots = c.self.inside.root.slots in
     let split = subst (λ r. AddsTo (insert slots ends.0 c.args.slot) c.self.inside.root.width c.insert_by.new.self r) c.in-Some.is ends.2 in
-    omega (arith, parted_length slots ends.0 c.args.slot c.in-Some.middle c.insert_by.new.self c.in-Some.upper.value ends.1.0 split, c.self.invariant.len)
+    omega (arith, parted_length slots ends.0 c.args.slot c.in-Some.middle c.insert_by.new.self c.in-Some.upper ends.1.0 split, c.self.invariant.len)
 
 pub overflow_add-self : goal.overflow_add-self
 overflow_add-self g c = omega (arith, height_most c.self.inside.root c.self.invariant.dense c.self.invariant.top (omega (arith, c.self.invariant.numbered)), c.self.invariant.levels)
-
-pub overflow_add-self-inside-in-Some : goal.overflow_add-self-inside-in-Some
-overflow_add-self-inside-in-Some g c = omega (arith, height_most c.self.inside.root c.self.invariant.dense c.self.invariant.top (omega (arith, c.self.invariant.numbered)), c.self.invariant.levels)
 
 added : (g : Over) (c : goal.After-self-2-1 g) → IsAdded c.self.inside c.in-Inserted.ensures.ends.0 c.args.slot c.match-split.self-inside
 added g c =

@@ -2,9 +2,6 @@ use Rattle.std.proofs.Common.{arith, rules}
 use Rattle.iddqd_ord_index.proofs.HeightLemmas.{height_most}
 use Rattle.iddqd_ord_index.proofs.ord_index.OrdIndex.prepare.Goals as goal
 
-pub overflow_add-self-inside : goal.overflow_add-self-inside
-overflow_add-self-inside c = omega (arith, height_most c.self.inside.root c.self.invariant.dense c.self.invariant.top (omega (arith, c.self.invariant.numbered)), c.self.invariant.levels)
-
 pub prepare-requires : goal.prepare-requires
 prepare-requires c = omega (arith, height_most c.self.inside.root c.self.invariant.dense c.self.invariant.top (omega (arith, c.self.invariant.numbered)), c.self.invariant.levels)
 

@@ -1,12 +1,8 @@
 use Rattle.std.proofs.Common.{◌≡◌, ◌<◌, ◌≤◌, length, refl, sym, ap, subst, ◌∙◌, arith, nat_eq}
 use Rattle.std.specs.List.{IsDistinct}
 use Rattle.iddqd_ord_index.specs.Shape.{IsDense}
-use Rattle.iddqd_ord_index.proofs.HeightLemmas.{height_most}
 use Rattle.iddqd_ord_index.proofs.IndexLemmas.{empty_run, unready}
 use Rattle.iddqd_ord_index.proofs.ord_index.OrdIndex.try_clone.Goals as goal
-
-pub overflow_add-self-inside : goal.overflow_add-self-inside
-overflow_add-self-inside c = omega (arith, height_most c.self.inside.root c.self.invariant.dense c.self.invariant.top (omega (arith, c.self.invariant.numbered)), c.self.invariant.levels)
 
 pub invariant_of-result : goal.invariant_of-result
 invariant_of-result c =

@@ -1,4 +1,4 @@
-use Rattle.std.proofs.Common.{◌≡◌, ◌+◌, ◌-◌, ◌∙◌, List, length, map, take, drop, ap, sym, arith, Option, Some, Box, Global}
+use Rattle.std.proofs.Common.{◌≡◌, ◌+◌, ◌-◌, ◌∙◌, List, length, map, take, drop, ap, sym, arith, Option, Some}
 use Rattle.std.proofs.lemmas.List.{length-map}
 use Rattle.iddqd_ord_index.specs.Cells.{items_present}
 use Rattle.iddqd_ord_index.specs.declared.tree.node.Node.{Node}
@@ -6,7 +6,7 @@ use Rattle.iddqd_ord_index.proofs.BelowLemmas.{below_drop, counted_length, lengt
 use Rattle.iddqd_ord_index.proofs.PackedLemmas.{held_all, tail_cells}
 use Rattle.iddqd_ord_index.proofs.tree.node.Branches.behind.Goals as goal
 
-abbrev part : goal.After-result-1 → List (Option (Box Node Global))
+abbrev part : goal.After-result-1 → List (Option Node)
 part c = take (c.len.result - (c.args.i + 1)) (drop (c.args.i + 1) c.deref.result.now.nodes)
 
 cells : (c : goal.After-result-1) → part c ≡ map Some (drop (c.args.i + 1) (items_present c.deref.result.now.nodes))

@@ -20,4 +20,4 @@ returns c =
     let b = read_block c.args.self.now c.in-Some.block block c.in-Some.is c.deref.ensures c.requires.branches in
     let e = read_below c.args.self.now c.in-Some.block block c.in-Some.is c.deref.ensures in
     let n = ap length e in
-    sym (ap (λ ts. get_or ts c.args.i unused) e ∙ (subtree_at block.nodes c.args.i _ c.in-Some-nodes.node unused b.packed (omega (arith, c.requires.in_bounds)) c.index-deref-i.is (c.index-deref-i.is ∙ c.in-Some-nodes.is) ∙ sym c.deref-in-Some-nodes.ensures))
+    sym (ap (λ ts. get_or ts c.args.i unused) e ∙ (subtree_at block.nodes c.args.i _ c.in-Some-nodes.node unused b.packed (omega (arith, c.requires.in_bounds)) c.index-deref-i.is (c.index-deref-i.is ∙ c.in-Some-nodes.is)))

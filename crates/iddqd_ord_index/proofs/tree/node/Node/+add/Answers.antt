@@ -1,6 +1,5 @@
 use Rattle.std.proofs.Common.{◌≡◌, ◌+◌, ◌-◌, Some, ℕ, length, set, get_or, refl, subst, ap, sym, ◌∙◌, arith}
 use Rattle.std.proofs.lemmas.Grind.{common_steps}
-use Rattle.std.specs.Box.{with_value}
 use Rattle.std.specs.List.{insert}
 use Rattle.std.proofs.lemmas.List.Edits.{length-insert}
 use Rattle.iddqd_ord_index.specs.Changes.{AddsTo, IsGrown}
@@ -35,7 +34,7 @@ add-requires t c =
     let w = branch_within ts ss f i n in
     let b = branch_is ts ss f i n in
     let r = rest_within ts ss c.args.at i c.branch_at-i.result.1 f c.branch_at-i.ensures in
-    let v : c.deref_mut.result.now ≡ get_or ts i unused = c.deref_mut.ensures.value ∙ c.take-node.ensures.node in
+    let v : c.take-node.result ≡ get_or ts i unused = c.take-node.ensures.node in
     let h = ap (λ t. t.height) v in
     let l = ap (λ t. length t.slots) v in
     let s = c.self.view_is in (
@@ -52,12 +51,12 @@ made t c =
     let rest = c.branch_at-i.result.1 in
     let f = c.self.invariant.forked in
     let new = c.add.new.self in
-    let v : c.deref_mut.result.now ≡ get_or ts i unused = c.deref_mut.ensures.value ∙ c.take-node.ensures.node in
+    let v : c.take-node.result ≡ get_or ts i unused = c.take-node.ensures.node in
     let g = subst (λ t. IsGrown (insert t.slots rest c.args.slot) t.width new) v c.in_default.ensures.adds in
     let r = grown ts ss c.args.at c.args.slot i rest new f c.branch_at-i.ensures (c.in_default.ensures.height ∙ ap (λ t. t.height) v) c.in_default.ensures.dense g in
     let m = length-insert (get_or ts i unused).slots rest c.args.slot (rest_within ts ss c.args.at i rest f c.branch_at-i.ensures) in
-    let b = branches_put old c.put.new.self i (c.count-count.result + 1) (with_value c.take-node.result new) c.self.invariant.branches (branch_at_in ts ss c.args.at i rest f c.branch_at-i.ensures)
-    (c.put.ensures.cell ∙ ap (λ l. set l i (Some (with_value c.take-node.result new))) c.take-node.ensures.cell)
+    let b = branches_put old c.put.new.self i (c.count-count.result + 1) new c.self.invariant.branches (branch_at_in ts ss c.args.at i rest f c.branch_at-i.ensures)
+    (c.put.ensures.cell ∙ ap (λ l. set l i (Some new)) c.take-node.ensures.cell)
     (c.put.ensures.counts ∙ ap (λ l. set l i (c.count-count.result + 1)) c.take-node.ensures.counts)
     (omega (arith, c.count-count.ensures, ap length g.slots)) in
     let a = ap (λ t. insert t.slots c.args.at c.args.slot) c.self.view_is in
@@ -81,26 +80,26 @@ len-above-requires t c =
     let ss = c.self.inside.slots.items in
     let f = c.self.invariant.forked in
     let w = branch_within ts ss f c.branch_at-i.result.0 (branch_at_in ts ss c.args.at c.branch_at-i.result.0 c.branch_at-i.result.1 f c.branch_at-i.ensures) in
-    let a = above ts ss c.args.at c.args.slot c.branch_at-i.result.0 c.branch_at-i.result.1 c.in-Some.middle c.count-count.result c.deref_mut.result.now c.add.new.self c.in-Some.upper.value c.deref.result.now f c.branch_at-i.ensures (c.deref_mut.ensures.value ∙ c.take-node.ensures.node) c.in-Some.ensures.adds c.count-count.ensures c.deref.ensures in
+    let a = above ts ss c.args.at c.args.slot c.branch_at-i.result.0 c.branch_at-i.result.1 c.in-Some.middle c.count-count.result c.take-node.result c.add.new.self c.in-Some.upper f c.branch_at-i.ensures c.take-node.ensures.node c.in-Some.ensures.adds c.count-count.ensures in
     omega (arith, c.count-count.ensures, ap (λ t. length t.slots) c.self.view_is, c.requires.room)
 
 pub overflow_sub-count : goal.overflow_sub-count
 overflow_sub-count t c =
-    let a = above (below c.self.inside.branches) c.self.inside.slots.items c.args.at c.args.slot c.branch_at-i.result.0 c.branch_at-i.result.1 c.in-Some.middle c.count-count.result c.deref_mut.result.now c.add.new.self c.in-Some.upper.value c.deref.result.now c.self.invariant.forked c.branch_at-i.ensures (c.deref_mut.ensures.value ∙ c.take-node.ensures.node) c.in-Some.ensures.adds c.count-count.ensures c.deref.ensures in
+    let a = above (below c.self.inside.branches) c.self.inside.slots.items c.args.at c.args.slot c.branch_at-i.result.0 c.branch_at-i.result.1 c.in-Some.middle c.count-count.result c.take-node.result c.add.new.self c.in-Some.upper c.self.invariant.forked c.branch_at-i.ensures c.take-node.ensures.node c.in-Some.ensures.adds c.count-count.ensures in
     omega (arith, c.len-above.ensures)
 
 pub overflow_sub-count-2 : goal.overflow_sub-count-2
 overflow_sub-count-2 t c =
-    let a = above (below c.self.inside.branches) c.self.inside.slots.items c.args.at c.args.slot c.branch_at-i.result.0 c.branch_at-i.result.1 c.in-Some.middle c.count-count.result c.deref_mut.result.now c.add.new.self c.in-Some.upper.value c.deref.result.now c.self.invariant.forked c.branch_at-i.ensures (c.deref_mut.ensures.value ∙ c.take-node.ensures.node) c.in-Some.ensures.adds c.count-count.ensures c.deref.ensures in
+    let a = above (below c.self.inside.branches) c.self.inside.slots.items c.args.at c.args.slot c.branch_at-i.result.0 c.branch_at-i.result.1 c.in-Some.middle c.count-count.result c.take-node.result c.add.new.self c.in-Some.upper c.self.invariant.forked c.branch_at-i.ensures c.take-node.ensures.node c.in-Some.ensures.adds c.count-count.ensures in
     omega (arith, c.len-above.ensures)
 
-made_parted : (t : ℕ) (c : goal.After-add_branch-arg-3-1 t) → AreBranches c.put-2.new.self × IsParted (below c.self.inside.branches) (below c.put-2.new.self) c.self.inside.slots.items c.branch_at-i.result.0 c.in-Some.middle c.in-Some.upper.value (insert c.args.self.now.slots c.args.at c.args.slot)
+made_parted : (t : ℕ) (c : goal.After-add_branch-arg-3-1 t) → AreBranches c.put-2.new.self × IsParted (below c.self.inside.branches) (below c.put-2.new.self) c.self.inside.slots.items c.branch_at-i.result.0 c.in-Some.middle c.in-Some.upper (insert c.args.self.now.slots c.args.at c.args.slot)
 made_parted t c =
-    put_parted c.self.inside.branches c.put-2.new.self c.self.inside.slots.items c.args.at c.args.slot c.branch_at-i.result.0 c.branch_at-i.result.1 c.count-count.result c.len-above.result (c.count-count.result + 1 - c.len-above.result - 1) c.in-Some.middle c.deref.result.now (with_value c.take-node.result c.add.new.self) c.deref_mut.result.now c.in-Some.upper.value c.args.self.now
-    c.self.invariant.branches c.self.invariant.forked c.branch_at-i.ensures (c.deref_mut.ensures.value ∙ c.take-node.ensures.node) c.in-Some.ensures.adds c.in-Some.ensures.height c.in-Some.ensures.dense
-    (c.put-2.ensures.cell ∙ ap (λ l. set l c.branch_at-i.result.0 (Some (with_value c.take-node.result c.add.new.self))) c.take-node.ensures.cell)
+    put_parted c.self.inside.branches c.put-2.new.self c.self.inside.slots.items c.args.at c.args.slot c.branch_at-i.result.0 c.branch_at-i.result.1 c.count-count.result c.len-above.result (c.count-count.result + 1 - c.len-above.result - 1) c.in-Some.middle c.add.new.self c.take-node.result c.in-Some.upper c.args.self.now
+    c.self.invariant.branches c.self.invariant.forked c.branch_at-i.ensures c.take-node.ensures.node c.in-Some.ensures.adds c.in-Some.ensures.height c.in-Some.ensures.dense
+    (c.put-2.ensures.cell ∙ ap (λ l. set l c.branch_at-i.result.0 (Some c.add.new.self)) c.take-node.ensures.cell)
     (c.put-2.ensures.counts ∙ ap (λ l. set l c.branch_at-i.result.0 (c.count-count.result + 1 - c.len-above.result - 1)) c.take-node.ensures.counts)
-    refl c.count-count.ensures c.deref.ensures c.len-above.ensures c.self.view_is
+    refl c.count-count.ensures c.len-above.ensures c.self.view_is
 
 pub add_branch-requires-clause-branches : goal.add_branch-requires-clause-branches
 add_branch-requires-clause-branches t c = let m = made_parted t c in m.0
@@ -118,26 +117,26 @@ pub add_branch-requires-clause-upper : goal.add_branch-requires-clause-upper
 add_branch-requires-clause-upper t c = let m = made_parted t c in m.1.branch
 
 pub add_branch-requires-clause-count : goal.add_branch-requires-clause-count
-add_branch-requires-clause-count t c = c.len-above.ensures ∙ ap (λ t. length t.slots) c.deref.ensures
+add_branch-requires-clause-count t c = c.len-above.ensures
 
 pub returns-clause-adds : goal.returns-clause-adds
 returns-clause-adds t c =
-    let m = put_parted c.self.inside.branches c.put-2.new.self c.self.inside.slots.items c.args.at c.args.slot c.branch_at-i.result.0 c.branch_at-i.result.1 c.count-count.result c.len-above.result (c.count-count.result + 1 - c.len-above.result - 1) c.in-Some.middle c.deref.result.now (with_value c.take-node.result c.add.new.self) c.deref_mut.result.now c.in-Some.upper.value c.args.self.now
-    c.self.invariant.branches c.self.invariant.forked c.branch_at-i.ensures (c.deref_mut.ensures.value ∙ c.take-node.ensures.node) c.in-Some.ensures.adds c.in-Some.ensures.height c.in-Some.ensures.dense
-    (c.put-2.ensures.cell ∙ ap (λ l. set l c.branch_at-i.result.0 (Some (with_value c.take-node.result c.add.new.self))) c.take-node.ensures.cell)
+    let m = put_parted c.self.inside.branches c.put-2.new.self c.self.inside.slots.items c.args.at c.args.slot c.branch_at-i.result.0 c.branch_at-i.result.1 c.count-count.result c.len-above.result (c.count-count.result + 1 - c.len-above.result - 1) c.in-Some.middle c.add.new.self c.take-node.result c.in-Some.upper c.args.self.now
+    c.self.invariant.branches c.self.invariant.forked c.branch_at-i.ensures c.take-node.ensures.node c.in-Some.ensures.adds c.in-Some.ensures.height c.in-Some.ensures.dense
+    (c.put-2.ensures.cell ∙ ap (λ l. set l c.branch_at-i.result.0 (Some c.add.new.self)) c.take-node.ensures.cell)
     (c.put-2.ensures.counts ∙ ap (λ l. set l c.branch_at-i.result.0 (c.count-count.result + 1 - c.len-above.result - 1)) c.take-node.ensures.counts)
-    refl c.count-count.ensures c.deref.ensures c.len-above.ensures c.self.view_is in
+    refl c.count-count.ensures c.len-above.ensures c.self.view_is in
     let w = ap (λ t. t.width) c.self.view_is in
     subst (λ n. AddsTo (insert c.args.self.now.slots c.args.at c.args.slot) n (tree (below c.add_branch.new.branches) c.add_branch.new.slots.items) c.add_branch.result) w
     (subst (λ l. AddsTo l (length c.self.inside.slots.items) (tree (below c.add_branch.new.branches) c.add_branch.new.slots.items) c.add_branch.result) m.1.list c.add_branch.ensures.adds)
 
 pub returns-clause-height : goal.returns-clause-height
 returns-clause-height t c =
-    let m = put_parted c.self.inside.branches c.put-2.new.self c.self.inside.slots.items c.args.at c.args.slot c.branch_at-i.result.0 c.branch_at-i.result.1 c.count-count.result c.len-above.result (c.count-count.result + 1 - c.len-above.result - 1) c.in-Some.middle c.deref.result.now (with_value c.take-node.result c.add.new.self) c.deref_mut.result.now c.in-Some.upper.value c.args.self.now
-    c.self.invariant.branches c.self.invariant.forked c.branch_at-i.ensures (c.deref_mut.ensures.value ∙ c.take-node.ensures.node) c.in-Some.ensures.adds c.in-Some.ensures.height c.in-Some.ensures.dense
-    (c.put-2.ensures.cell ∙ ap (λ l. set l c.branch_at-i.result.0 (Some (with_value c.take-node.result c.add.new.self))) c.take-node.ensures.cell)
+    let m = put_parted c.self.inside.branches c.put-2.new.self c.self.inside.slots.items c.args.at c.args.slot c.branch_at-i.result.0 c.branch_at-i.result.1 c.count-count.result c.len-above.result (c.count-count.result + 1 - c.len-above.result - 1) c.in-Some.middle c.add.new.self c.take-node.result c.in-Some.upper c.args.self.now
+    c.self.invariant.branches c.self.invariant.forked c.branch_at-i.ensures c.take-node.ensures.node c.in-Some.ensures.adds c.in-Some.ensures.height c.in-Some.ensures.dense
+    (c.put-2.ensures.cell ∙ ap (λ l. set l c.branch_at-i.result.0 (Some c.add.new.self)) c.take-node.ensures.cell)
     (c.put-2.ensures.counts ∙ ap (λ l. set l c.branch_at-i.result.0 (c.count-count.result + 1 - c.len-above.result - 1)) c.take-node.ensures.counts)
-    refl c.count-count.ensures c.deref.ensures c.len-above.ensures c.self.view_is in
+    refl c.count-count.ensures c.len-above.ensures c.self.view_is in
     c.add_branch.ensures.levels ∙ (m.1.height ∙ ap (λ t. t.height) c.self.view_is)
 
 pub returns-clause-dense : goal.returns-clause-dense

@@ -1,5 +1,4 @@
-use Rattle.std.proofs.Common.{◌≡◌, ◌+◌, ◌-◌, ◌<◌, ◌≤◌, Some, None, Ok, Err, ℕ, Option, Box, Global, IsTrue, length, take, set, get_or, refl, subst, ap, sym, ◌∙◌, arith}
-use Rattle.std.specs.Box.{with_value}
+use Rattle.std.proofs.Common.{◌≡◌, ◌+◌, ◌-◌, ◌<◌, ◌≤◌, Some, None, Ok, Err, ℕ, Option, IsTrue, length, take, set, get_or, refl, subst, ap, sym, ◌∙◌, arith}
 use Rattle.std.specs.declared.cmp.Ordering.{Ordering}
 use Rattle.std.specs.List.{All, insert}
 use Rattle.std.specs.Option.{OnSome}
@@ -21,11 +20,11 @@ use Rattle.iddqd_ord_index.proofs.tree.node.Node.+insert_by.Goals.{else-len-eq11
 abbrev order : (g : Over) → g.row.Q.Denot → Store g.row.T.Denot → ℕ → Ordering
 order g q store = slot_standing g.T.IdOrdItem.key (g.Q.Comparable.compare q) store
 
-not_split : {P : Type 0} (Q : Type 0) (split : Option (ℕ × Box Node Global)) → OnSome split P → ¬ P → OnSome split Q
+not_split : {P : Type 0} (Q : Type 0) (split : Option (ℕ × Node)) → OnSome split P → ¬ P → OnSome split Q
 not_split Q (Some r) p not = absurd (not p)
 not_split Q None p not = tt
 
-split_if : {P : Type 0} (split : Option (ℕ × Box Node Global)) → P → OnSome split P
+split_if : {P : Type 0} (split : Option (ℕ × Node)) → P → OnSome split P
 split_if (Some r) p = p
 split_if None p = tt
 
@@ -136,8 +135,8 @@ insert_by-requires g t c κs within =
     let i = c.in-Err.i in
     let p : IsPlace x ss (Err i) = subst (λ l. IsPlace x l (Err i)) c.as_slice.ensures.value c.in-Err.ensures.place in
     let some = c.is_empty.ensures.some c.if-is_empty.false in
-    let d = c.deref_mut.result.now in
-    let e : d ≡ get_or ts i unused = c.deref_mut.ensures.value ∙ c.take-node.ensures.node in
+    let d = c.take-node.result in
+    let e : d ≡ get_or ts i unused = c.take-node.ensures.node in
     let b = child_is x occupied ts ss c.args.self.now c.requires.monotone c.requires.occupied f s some i p in
     let h = ap (λ t. t.height) e in
     let w = child_part x occupied ts ss c.args.self.now c.requires.monotone c.requires.occupied f s some i p d e in (
@@ -156,10 +155,10 @@ invariant_of-self g t c =
     let i = c.in-Err.i in
     let p : IsPlace x ss (Err i) = subst (λ l. IsPlace x l (Err i)) c.as_slice.ensures.value c.in-Err.ensures.place in
     let some = c.is_empty.ensures.some c.if-is_empty.false in
-    let d = c.deref_mut.result.now in
-    let e : d ≡ get_or ts i unused = c.deref_mut.ensures.value ∙ c.take-node.ensures.node in
-    let k = put_same c.self.inside.branches c.put.new.self i c.count-count.result (with_value c.take-node.result c.insert_by.new.self) d c.self.invariant.branches (child_in x occupied ts ss c.args.self.now c.requires.monotone c.requires.occupied f s some i p) c.in-Found.ensures.ends.0 e
-    (c.put.ensures.cell ∙ ap (λ l. set l i (Some (with_value c.take-node.result c.insert_by.new.self))) c.take-node.ensures.cell)
+    let d = c.take-node.result in
+    let e : d ≡ get_or ts i unused = c.take-node.ensures.node in
+    let k = put_same c.self.inside.branches c.put.new.self i c.count-count.result c.insert_by.new.self d c.self.invariant.branches (child_in x occupied ts ss c.args.self.now c.requires.monotone c.requires.occupied f s some i p) c.in-Found.ensures.ends.0 e
+    (c.put.ensures.cell ∙ ap (λ l. set l i (Some c.insert_by.new.self)) c.take-node.ensures.cell)
     (c.put.ensures.counts ∙ ap (λ l. set l i c.count-count.result) c.take-node.ensures.counts)
     c.count-count.ensures in
     record { branches = k.0; forked = subst (λ us. IsForked us ss) (sym k.1) f }
@@ -175,10 +174,10 @@ returns-in-Found-clause-ends g t c =
     let i = c.in-Err.i in
     let p : IsPlace x ss (Err i) = subst (λ l. IsPlace x l (Err i)) c.as_slice.ensures.value c.in-Err.ensures.place in
     let some = c.is_empty.ensures.some c.if-is_empty.false in
-    let d = c.deref_mut.result.now in
-    let e : d ≡ get_or ts i unused = c.deref_mut.ensures.value ∙ c.take-node.ensures.node in
-    let k = put_same c.self.inside.branches c.put.new.self i c.count-count.result (with_value c.take-node.result c.insert_by.new.self) d c.self.invariant.branches (child_in x occupied ts ss c.args.self.now c.requires.monotone c.requires.occupied f s some i p) c.in-Found.ensures.ends.0 e
-    (c.put.ensures.cell ∙ ap (λ l. set l i (Some (with_value c.take-node.result c.insert_by.new.self))) c.take-node.ensures.cell)
+    let d = c.take-node.result in
+    let e : d ≡ get_or ts i unused = c.take-node.ensures.node in
+    let k = put_same c.self.inside.branches c.put.new.self i c.count-count.result c.insert_by.new.self d c.self.invariant.branches (child_in x occupied ts ss c.args.self.now c.requires.monotone c.requires.occupied f s some i p) c.in-Found.ensures.ends.0 e
+    (c.put.ensures.cell ∙ ap (λ l. set l i (Some c.insert_by.new.self)) c.take-node.ensures.cell)
     (c.put.ensures.counts ∙ ap (λ l. set l i c.count-count.result) c.take-node.ensures.counts)
     c.count-count.ensures in
     (ap (λ us. tree us ss) k.1 ∙ s, child_among x occupied ts ss c.args.self.now c.requires.monotone c.requires.occupied f s some i p d e c.in-Found.found c.in-Found.ensures.ends.1)
@@ -194,10 +193,10 @@ returns-in-Found-clause-height g t c =
     let i = c.in-Err.i in
     let p : IsPlace x ss (Err i) = subst (λ l. IsPlace x l (Err i)) c.as_slice.ensures.value c.in-Err.ensures.place in
     let some = c.is_empty.ensures.some c.if-is_empty.false in
-    let d = c.deref_mut.result.now in
-    let e : d ≡ get_or ts i unused = c.deref_mut.ensures.value ∙ c.take-node.ensures.node in
-    let k = put_same c.self.inside.branches c.put.new.self i c.count-count.result (with_value c.take-node.result c.insert_by.new.self) d c.self.invariant.branches (child_in x occupied ts ss c.args.self.now c.requires.monotone c.requires.occupied f s some i p) c.in-Found.ensures.ends.0 e
-    (c.put.ensures.cell ∙ ap (λ l. set l i (Some (with_value c.take-node.result c.insert_by.new.self))) c.take-node.ensures.cell)
+    let d = c.take-node.result in
+    let e : d ≡ get_or ts i unused = c.take-node.ensures.node in
+    let k = put_same c.self.inside.branches c.put.new.self i c.count-count.result c.insert_by.new.self d c.self.invariant.branches (child_in x occupied ts ss c.args.self.now c.requires.monotone c.requires.occupied f s some i p) c.in-Found.ensures.ends.0 e
+    (c.put.ensures.cell ∙ ap (λ l. set l i (Some c.insert_by.new.self)) c.take-node.ensures.cell)
     (c.put.ensures.counts ∙ ap (λ l. set l i c.count-count.result) c.take-node.ensures.counts)
     c.count-count.ensures in
     ap levels k.1 ∙ ap (λ t. t.height) s
@@ -213,10 +212,10 @@ returns-in-Found-clause-dense g t c =
     let i = c.in-Err.i in
     let p : IsPlace x ss (Err i) = subst (λ l. IsPlace x l (Err i)) c.as_slice.ensures.value c.in-Err.ensures.place in
     let some = c.is_empty.ensures.some c.if-is_empty.false in
-    let d = c.deref_mut.result.now in
-    let e : d ≡ get_or ts i unused = c.deref_mut.ensures.value ∙ c.take-node.ensures.node in
-    let k = put_same c.self.inside.branches c.put.new.self i c.count-count.result (with_value c.take-node.result c.insert_by.new.self) d c.self.invariant.branches (child_in x occupied ts ss c.args.self.now c.requires.monotone c.requires.occupied f s some i p) c.in-Found.ensures.ends.0 e
-    (c.put.ensures.cell ∙ ap (λ l. set l i (Some (with_value c.take-node.result c.insert_by.new.self))) c.take-node.ensures.cell)
+    let d = c.take-node.result in
+    let e : d ≡ get_or ts i unused = c.take-node.ensures.node in
+    let k = put_same c.self.inside.branches c.put.new.self i c.count-count.result c.insert_by.new.self d c.self.invariant.branches (child_in x occupied ts ss c.args.self.now c.requires.monotone c.requires.occupied f s some i p) c.in-Found.ensures.ends.0 e
+    (c.put.ensures.cell ∙ ap (λ l. set l i (Some c.insert_by.new.self)) c.take-node.ensures.cell)
     (c.put.ensures.counts ∙ ap (λ l. set l i c.count-count.result) c.take-node.ensures.counts)
     c.count-count.ensures in
     subst IsDense (sym (ap (λ us. tree us ss) k.1)) (dense_of ts ss f)
@@ -232,8 +231,8 @@ returns-in-Found-clause-steps g t c =
     let i = c.in-Err.i in
     let p : IsPlace x ss (Err i) = subst (λ l. IsPlace x l (Err i)) c.as_slice.ensures.value c.in-Err.ensures.place in
     let some = c.is_empty.ensures.some c.if-is_empty.false in
-    let d = c.deref_mut.result.now in
-    let e : d ≡ get_or ts i unused = c.deref_mut.ensures.value ∙ c.take-node.ensures.node in
+    let d = c.take-node.result in
+    let e : d ≡ get_or ts i unused = c.take-node.ensures.node in
     omega (arith, digits_four (length c.as_slice.result.now) c.as_slice.ensures.fits, c.in-Err.ensures.steps, c.in-Found.ensures.steps, (child_is x occupied ts ss c.args.self.now c.requires.monotone c.requires.occupied f s some i p).height, ap (λ t. t.height) e, ap (λ t. t.height) s)
 
 pub start-requires-clause-branches : goal.start-requires-clause-branches
@@ -247,10 +246,10 @@ start-requires-clause-branches g t c =
     let i = c.in-Err.i in
     let p : IsPlace x ss (Err i) = subst (λ l. IsPlace x l (Err i)) c.as_slice.ensures.value c.in-Err.ensures.place in
     let some = c.is_empty.ensures.some c.if-is_empty.false in
-    let d = c.deref_mut.result.now in
-    let e : d ≡ get_or ts i unused = c.deref_mut.ensures.value ∙ c.take-node.ensures.node in
-    let k = put_same c.self.inside.branches c.put-in-Full.new.self i c.count-count.result (with_value c.take-node.result c.insert_by.new.self) d c.self.invariant.branches (child_in x occupied ts ss c.args.self.now c.requires.monotone c.requires.occupied f s some i p) c.in-Full.ensures.ends.0 e
-    (c.put-in-Full.ensures.cell ∙ ap (λ l. set l i (Some (with_value c.take-node.result c.insert_by.new.self))) c.take-node.ensures.cell)
+    let d = c.take-node.result in
+    let e : d ≡ get_or ts i unused = c.take-node.ensures.node in
+    let k = put_same c.self.inside.branches c.put-in-Full.new.self i c.count-count.result c.insert_by.new.self d c.self.invariant.branches (child_in x occupied ts ss c.args.self.now c.requires.monotone c.requires.occupied f s some i p) c.in-Full.ensures.ends.0 e
+    (c.put-in-Full.ensures.cell ∙ ap (λ l. set l i (Some c.insert_by.new.self)) c.take-node.ensures.cell)
     (c.put-in-Full.ensures.counts ∙ ap (λ l. set l i c.count-count.result) c.take-node.ensures.counts)
     c.count-count.ensures in
     k.0
@@ -266,10 +265,10 @@ start-requires-clause-in_bounds g t c =
     let i = c.in-Err.i in
     let p : IsPlace x ss (Err i) = subst (λ l. IsPlace x l (Err i)) c.as_slice.ensures.value c.in-Err.ensures.place in
     let some = c.is_empty.ensures.some c.if-is_empty.false in
-    let d = c.deref_mut.result.now in
-    let e : d ≡ get_or ts i unused = c.deref_mut.ensures.value ∙ c.take-node.ensures.node in
-    let k = put_same c.self.inside.branches c.put-in-Full.new.self i c.count-count.result (with_value c.take-node.result c.insert_by.new.self) d c.self.invariant.branches (child_in x occupied ts ss c.args.self.now c.requires.monotone c.requires.occupied f s some i p) c.in-Full.ensures.ends.0 e
-    (c.put-in-Full.ensures.cell ∙ ap (λ l. set l i (Some (with_value c.take-node.result c.insert_by.new.self))) c.take-node.ensures.cell)
+    let d = c.take-node.result in
+    let e : d ≡ get_or ts i unused = c.take-node.ensures.node in
+    let k = put_same c.self.inside.branches c.put-in-Full.new.self i c.count-count.result c.insert_by.new.self d c.self.invariant.branches (child_in x occupied ts ss c.args.self.now c.requires.monotone c.requires.occupied f s some i p) c.in-Full.ensures.ends.0 e
+    (c.put-in-Full.ensures.cell ∙ ap (λ l. set l i (Some c.insert_by.new.self)) c.take-node.ensures.cell)
     (c.put-in-Full.ensures.counts ∙ ap (λ l. set l i c.count-count.result) c.take-node.ensures.counts)
     c.count-count.ensures in
     subst (λ us. i < length us) (sym k.1) (child_in x occupied ts ss c.args.self.now c.requires.monotone c.requires.occupied f s some i p)
@@ -285,10 +284,10 @@ start-requires-clause-room g t c =
     let i = c.in-Err.i in
     let p : IsPlace x ss (Err i) = subst (λ l. IsPlace x l (Err i)) c.as_slice.ensures.value c.in-Err.ensures.place in
     let some = c.is_empty.ensures.some c.if-is_empty.false in
-    let d = c.deref_mut.result.now in
-    let e : d ≡ get_or ts i unused = c.deref_mut.ensures.value ∙ c.take-node.ensures.node in
-    let k = put_same c.self.inside.branches c.put-in-Full.new.self i c.count-count.result (with_value c.take-node.result c.insert_by.new.self) d c.self.invariant.branches (child_in x occupied ts ss c.args.self.now c.requires.monotone c.requires.occupied f s some i p) c.in-Full.ensures.ends.0 e
-    (c.put-in-Full.ensures.cell ∙ ap (λ l. set l i (Some (with_value c.take-node.result c.insert_by.new.self))) c.take-node.ensures.cell)
+    let d = c.take-node.result in
+    let e : d ≡ get_or ts i unused = c.take-node.ensures.node in
+    let k = put_same c.self.inside.branches c.put-in-Full.new.self i c.count-count.result c.insert_by.new.self d c.self.invariant.branches (child_in x occupied ts ss c.args.self.now c.requires.monotone c.requires.occupied f s some i p) c.in-Full.ensures.ends.0 e
+    (c.put-in-Full.ensures.cell ∙ ap (λ l. set l i (Some c.insert_by.new.self)) c.take-node.ensures.cell)
     (c.put-in-Full.ensures.counts ∙ ap (λ l. set l i c.count-count.result) c.take-node.ensures.counts)
     c.count-count.ensures in
     subst (λ us. starts (lists us) ≤ 4294967296) (sym k.1) (omega (arith, (child_starts x occupied ts ss c.args.self.now c.requires.monotone c.requires.occupied f s some i p).0, c.requires.room))
@@ -304,10 +303,10 @@ overflow_add-result g t c =
     let i = c.in-Err.i in
     let p : IsPlace x ss (Err i) = subst (λ l. IsPlace x l (Err i)) c.as_slice.ensures.value c.in-Err.ensures.place in
     let some = c.is_empty.ensures.some c.if-is_empty.false in
-    let d = c.deref_mut.result.now in
-    let e : d ≡ get_or ts i unused = c.deref_mut.ensures.value ∙ c.take-node.ensures.node in
-    let k = put_same c.self.inside.branches c.put-in-Full.new.self i c.count-count.result (with_value c.take-node.result c.insert_by.new.self) d c.self.invariant.branches (child_in x occupied ts ss c.args.self.now c.requires.monotone c.requires.occupied f s some i p) c.in-Full.ensures.ends.0 e
-    (c.put-in-Full.ensures.cell ∙ ap (λ l. set l i (Some (with_value c.take-node.result c.insert_by.new.self))) c.take-node.ensures.cell)
+    let d = c.take-node.result in
+    let e : d ≡ get_or ts i unused = c.take-node.ensures.node in
+    let k = put_same c.self.inside.branches c.put-in-Full.new.self i c.count-count.result c.insert_by.new.self d c.self.invariant.branches (child_in x occupied ts ss c.args.self.now c.requires.monotone c.requires.occupied f s some i p) c.in-Full.ensures.ends.0 e
+    (c.put-in-Full.ensures.cell ∙ ap (λ l. set l i (Some c.insert_by.new.self)) c.take-node.ensures.cell)
     (c.put-in-Full.ensures.counts ∙ ap (λ l. set l i c.count-count.result) c.take-node.ensures.counts)
     c.count-count.ensures in
     let b : c.start.result ≡ starts (take i (lists ts)) = c.start.ensures ∙ ap (λ us. starts (take i (lists us))) k.1 in
@@ -324,10 +323,10 @@ invariant_of-self-in-Full g t c =
     let i = c.in-Err.i in
     let p : IsPlace x ss (Err i) = subst (λ l. IsPlace x l (Err i)) c.as_slice.ensures.value c.in-Err.ensures.place in
     let some = c.is_empty.ensures.some c.if-is_empty.false in
-    let d = c.deref_mut.result.now in
-    let e : d ≡ get_or ts i unused = c.deref_mut.ensures.value ∙ c.take-node.ensures.node in
-    let k = put_same c.self.inside.branches c.put-in-Full.new.self i c.count-count.result (with_value c.take-node.result c.insert_by.new.self) d c.self.invariant.branches (child_in x occupied ts ss c.args.self.now c.requires.monotone c.requires.occupied f s some i p) c.in-Full.ensures.ends.0 e
-    (c.put-in-Full.ensures.cell ∙ ap (λ l. set l i (Some (with_value c.take-node.result c.insert_by.new.self))) c.take-node.ensures.cell)
+    let d = c.take-node.result in
+    let e : d ≡ get_or ts i unused = c.take-node.ensures.node in
+    let k = put_same c.self.inside.branches c.put-in-Full.new.self i c.count-count.result c.insert_by.new.self d c.self.invariant.branches (child_in x occupied ts ss c.args.self.now c.requires.monotone c.requires.occupied f s some i p) c.in-Full.ensures.ends.0 e
+    (c.put-in-Full.ensures.cell ∙ ap (λ l. set l i (Some c.insert_by.new.self)) c.take-node.ensures.cell)
     (c.put-in-Full.ensures.counts ∙ ap (λ l. set l i c.count-count.result) c.take-node.ensures.counts)
     c.count-count.ensures in
     record { branches = k.0; forked = subst (λ us. IsForked us ss) (sym k.1) f }
@@ -343,10 +342,10 @@ returns-in-Full-clause-ends g t c =
     let i = c.in-Err.i in
     let p : IsPlace x ss (Err i) = subst (λ l. IsPlace x l (Err i)) c.as_slice.ensures.value c.in-Err.ensures.place in
     let some = c.is_empty.ensures.some c.if-is_empty.false in
-    let d = c.deref_mut.result.now in
-    let e : d ≡ get_or ts i unused = c.deref_mut.ensures.value ∙ c.take-node.ensures.node in
-    let k = put_same c.self.inside.branches c.put-in-Full.new.self i c.count-count.result (with_value c.take-node.result c.insert_by.new.self) d c.self.invariant.branches (child_in x occupied ts ss c.args.self.now c.requires.monotone c.requires.occupied f s some i p) c.in-Full.ensures.ends.0 e
-    (c.put-in-Full.ensures.cell ∙ ap (λ l. set l i (Some (with_value c.take-node.result c.insert_by.new.self))) c.take-node.ensures.cell)
+    let d = c.take-node.result in
+    let e : d ≡ get_or ts i unused = c.take-node.ensures.node in
+    let k = put_same c.self.inside.branches c.put-in-Full.new.self i c.count-count.result c.insert_by.new.self d c.self.invariant.branches (child_in x occupied ts ss c.args.self.now c.requires.monotone c.requires.occupied f s some i p) c.in-Full.ensures.ends.0 e
+    (c.put-in-Full.ensures.cell ∙ ap (λ l. set l i (Some c.insert_by.new.self)) c.take-node.ensures.cell)
     (c.put-in-Full.ensures.counts ∙ ap (λ l. set l i c.count-count.result) c.take-node.ensures.counts)
     c.count-count.ensures in
     let b : c.start.result ≡ starts (take i (lists ts)) = c.start.ensures ∙ ap (λ us. starts (take i (lists us))) k.1 in
@@ -363,10 +362,10 @@ returns-in-Full-clause-height g t c =
     let i = c.in-Err.i in
     let p : IsPlace x ss (Err i) = subst (λ l. IsPlace x l (Err i)) c.as_slice.ensures.value c.in-Err.ensures.place in
     let some = c.is_empty.ensures.some c.if-is_empty.false in
-    let d = c.deref_mut.result.now in
-    let e : d ≡ get_or ts i unused = c.deref_mut.ensures.value ∙ c.take-node.ensures.node in
-    let k = put_same c.self.inside.branches c.put-in-Full.new.self i c.count-count.result (with_value c.take-node.result c.insert_by.new.self) d c.self.invariant.branches (child_in x occupied ts ss c.args.self.now c.requires.monotone c.requires.occupied f s some i p) c.in-Full.ensures.ends.0 e
-    (c.put-in-Full.ensures.cell ∙ ap (λ l. set l i (Some (with_value c.take-node.result c.insert_by.new.self))) c.take-node.ensures.cell)
+    let d = c.take-node.result in
+    let e : d ≡ get_or ts i unused = c.take-node.ensures.node in
+    let k = put_same c.self.inside.branches c.put-in-Full.new.self i c.count-count.result c.insert_by.new.self d c.self.invariant.branches (child_in x occupied ts ss c.args.self.now c.requires.monotone c.requires.occupied f s some i p) c.in-Full.ensures.ends.0 e
+    (c.put-in-Full.ensures.cell ∙ ap (λ l. set l i (Some c.insert_by.new.self)) c.take-node.ensures.cell)
     (c.put-in-Full.ensures.counts ∙ ap (λ l. set l i c.count-count.result) c.take-node.ensures.counts)
     c.count-count.ensures in
     ap levels k.1 ∙ ap (λ t. t.height) s
@@ -382,10 +381,10 @@ returns-in-Full-clause-dense g t c =
     let i = c.in-Err.i in
     let p : IsPlace x ss (Err i) = subst (λ l. IsPlace x l (Err i)) c.as_slice.ensures.value c.in-Err.ensures.place in
     let some = c.is_empty.ensures.some c.if-is_empty.false in
-    let d = c.deref_mut.result.now in
-    let e : d ≡ get_or ts i unused = c.deref_mut.ensures.value ∙ c.take-node.ensures.node in
-    let k = put_same c.self.inside.branches c.put-in-Full.new.self i c.count-count.result (with_value c.take-node.result c.insert_by.new.self) d c.self.invariant.branches (child_in x occupied ts ss c.args.self.now c.requires.monotone c.requires.occupied f s some i p) c.in-Full.ensures.ends.0 e
-    (c.put-in-Full.ensures.cell ∙ ap (λ l. set l i (Some (with_value c.take-node.result c.insert_by.new.self))) c.take-node.ensures.cell)
+    let d = c.take-node.result in
+    let e : d ≡ get_or ts i unused = c.take-node.ensures.node in
+    let k = put_same c.self.inside.branches c.put-in-Full.new.self i c.count-count.result c.insert_by.new.self d c.self.invariant.branches (child_in x occupied ts ss c.args.self.now c.requires.monotone c.requires.occupied f s some i p) c.in-Full.ensures.ends.0 e
+    (c.put-in-Full.ensures.cell ∙ ap (λ l. set l i (Some c.insert_by.new.self)) c.take-node.ensures.cell)
     (c.put-in-Full.ensures.counts ∙ ap (λ l. set l i c.count-count.result) c.take-node.ensures.counts)
     c.count-count.ensures in
     subst IsDense (sym (ap (λ us. tree us ss) k.1)) (dense_of ts ss f)
@@ -401,8 +400,8 @@ returns-in-Full-clause-steps g t c =
     let i = c.in-Err.i in
     let p : IsPlace x ss (Err i) = subst (λ l. IsPlace x l (Err i)) c.as_slice.ensures.value c.in-Err.ensures.place in
     let some = c.is_empty.ensures.some c.if-is_empty.false in
-    let d = c.deref_mut.result.now in
-    let e : d ≡ get_or ts i unused = c.deref_mut.ensures.value ∙ c.take-node.ensures.node in
+    let d = c.take-node.result in
+    let e : d ≡ get_or ts i unused = c.take-node.ensures.node in
     omega (arith, digits_four (length c.as_slice.result.now) c.as_slice.ensures.fits, c.in-Err.ensures.steps, c.in-Full.ensures.steps, (child_is x occupied ts ss c.args.self.now c.requires.monotone c.requires.occupied f s some i p).height, ap (λ t. t.height) e, ap (λ t. t.height) s)
 
 pub overflow_add-count : goal.overflow_add-count
@@ -416,8 +415,8 @@ overflow_add-count g t c =
     let i = c.in-Err.i in
     let p : IsPlace x ss (Err i) = subst (λ l. IsPlace x l (Err i)) c.as_slice.ensures.value c.in-Err.ensures.place in
     let some = c.is_empty.ensures.some c.if-is_empty.false in
-    let d = c.deref_mut.result.now in
-    let e : d ≡ get_or ts i unused = c.deref_mut.ensures.value ∙ c.take-node.ensures.node in
+    let d = c.take-node.result in
+    let e : d ≡ get_or ts i unused = c.take-node.ensures.node in
     omega (arith, c.count-count.ensures, branch_within ts ss f i (child_in x occupied ts ss c.args.self.now c.requires.monotone c.requires.occupied f s some i p), ap (λ t. length t.slots) s, c.requires.room)
 
 pub invariant_of-self-in-Inserted-None : goal.invariant_of-self-in-Inserted-None
@@ -431,15 +430,15 @@ invariant_of-self-in-Inserted-None g t c =
     let i = c.in-Err.i in
     let p : IsPlace x ss (Err i) = subst (λ l. IsPlace x l (Err i)) c.as_slice.ensures.value c.in-Err.ensures.place in
     let some = c.is_empty.ensures.some c.if-is_empty.false in
-    let d = c.deref_mut.result.now in
-    let e : d ≡ get_or ts i unused = c.deref_mut.ensures.value ∙ c.take-node.ensures.node in
+    let d = c.take-node.result in
+    let e : d ≡ get_or ts i unused = c.take-node.ensures.node in
     let ends = c.in-Inserted-None.ensures.ends in
     let rest = ends.0 in
     let grown = subst (λ r. AddsTo (insert d.slots rest c.args.slot) d.width c.insert_by.new.self r) c.in-Inserted-None.field-0-is ends.2 in
     let at : ℕ = starts (take i (lists ts)) + rest in
     let put = c.put-in-Inserted-None in
-    let m = put_grown c.self.inside.branches put.new.self ss at c.args.slot i rest c.count-count.result (with_value c.take-node.result c.insert_by.new.self) d c.args.self.now c.self.invariant.branches f (child_at x occupied ts ss c.args.self.now c.requires.monotone c.requires.occupied f s some i p d e rest ends.1.0) e grown c.in-Inserted-None.ensures.height c.in-Inserted-None.ensures.dense
-    (put.ensures.cell ∙ ap (λ l. set l i (Some (with_value c.take-node.result c.insert_by.new.self))) c.take-node.ensures.cell)
+    let m = put_grown c.self.inside.branches put.new.self ss at c.args.slot i rest c.count-count.result c.insert_by.new.self d c.args.self.now c.self.invariant.branches f (child_at x occupied ts ss c.args.self.now c.requires.monotone c.requires.occupied f s some i p d e rest ends.1.0) e grown c.in-Inserted-None.ensures.height c.in-Inserted-None.ensures.dense
+    (put.ensures.cell ∙ ap (λ l. set l i (Some c.insert_by.new.self)) c.take-node.ensures.cell)
     (put.ensures.counts ∙ ap (λ l. set l i (c.count-count.result + 1)) c.take-node.ensures.counts)
     c.count-count.ensures s in
     record { branches = m.0; forked = m.1.forked }
@@ -455,15 +454,15 @@ returns-in-Inserted-None-clause-ends g t c =
     let i = c.in-Err.i in
     let p : IsPlace x ss (Err i) = subst (λ l. IsPlace x l (Err i)) c.as_slice.ensures.value c.in-Err.ensures.place in
     let some = c.is_empty.ensures.some c.if-is_empty.false in
-    let d = c.deref_mut.result.now in
-    let e : d ≡ get_or ts i unused = c.deref_mut.ensures.value ∙ c.take-node.ensures.node in
+    let d = c.take-node.result in
+    let e : d ≡ get_or ts i unused = c.take-node.ensures.node in
     let ends = c.in-Inserted-None.ensures.ends in
     let rest = ends.0 in
     let grown = subst (λ r. AddsTo (insert d.slots rest c.args.slot) d.width c.insert_by.new.self r) c.in-Inserted-None.field-0-is ends.2 in
     let at : ℕ = starts (take i (lists ts)) + rest in
     let put = c.put-in-Inserted-None in
-    let m = put_grown c.self.inside.branches put.new.self ss at c.args.slot i rest c.count-count.result (with_value c.take-node.result c.insert_by.new.self) d c.args.self.now c.self.invariant.branches f (child_at x occupied ts ss c.args.self.now c.requires.monotone c.requires.occupied f s some i p d e rest ends.1.0) e grown c.in-Inserted-None.ensures.height c.in-Inserted-None.ensures.dense
-    (put.ensures.cell ∙ ap (λ l. set l i (Some (with_value c.take-node.result c.insert_by.new.self))) c.take-node.ensures.cell)
+    let m = put_grown c.self.inside.branches put.new.self ss at c.args.slot i rest c.count-count.result c.insert_by.new.self d c.args.self.now c.self.invariant.branches f (child_at x occupied ts ss c.args.self.now c.requires.monotone c.requires.occupied f s some i p d e rest ends.1.0) e grown c.in-Inserted-None.ensures.height c.in-Inserted-None.ensures.dense
+    (put.ensures.cell ∙ ap (λ l. set l i (Some c.insert_by.new.self)) c.take-node.ensures.cell)
     (put.ensures.counts ∙ ap (λ l. set l i (c.count-count.result + 1)) c.take-node.ensures.counts)
     c.count-count.ensures s in
     (at, child_place x occupied ts ss c.args.self.now c.requires.monotone c.requires.occupied f s some i p d e rest ends.1, record { slots = m.1.list; wider = omega (arith, ap (λ t. t.width) s) }, tt)
@@ -479,15 +478,15 @@ returns-in-Inserted-None-clause-height g t c =
     let i = c.in-Err.i in
     let p : IsPlace x ss (Err i) = subst (λ l. IsPlace x l (Err i)) c.as_slice.ensures.value c.in-Err.ensures.place in
     let some = c.is_empty.ensures.some c.if-is_empty.false in
-    let d = c.deref_mut.result.now in
-    let e : d ≡ get_or ts i unused = c.deref_mut.ensures.value ∙ c.take-node.ensures.node in
+    let d = c.take-node.result in
+    let e : d ≡ get_or ts i unused = c.take-node.ensures.node in
     let ends = c.in-Inserted-None.ensures.ends in
     let rest = ends.0 in
     let grown = subst (λ r. AddsTo (insert d.slots rest c.args.slot) d.width c.insert_by.new.self r) c.in-Inserted-None.field-0-is ends.2 in
     let at : ℕ = starts (take i (lists ts)) + rest in
     let put = c.put-in-Inserted-None in
-    let m = put_grown c.self.inside.branches put.new.self ss at c.args.slot i rest c.count-count.result (with_value c.take-node.result c.insert_by.new.self) d c.args.self.now c.self.invariant.branches f (child_at x occupied ts ss c.args.self.now c.requires.monotone c.requires.occupied f s some i p d e rest ends.1.0) e grown c.in-Inserted-None.ensures.height c.in-Inserted-None.ensures.dense
-    (put.ensures.cell ∙ ap (λ l. set l i (Some (with_value c.take-node.result c.insert_by.new.self))) c.take-node.ensures.cell)
+    let m = put_grown c.self.inside.branches put.new.self ss at c.args.slot i rest c.count-count.result c.insert_by.new.self d c.args.self.now c.self.invariant.branches f (child_at x occupied ts ss c.args.self.now c.requires.monotone c.requires.occupied f s some i p d e rest ends.1.0) e grown c.in-Inserted-None.ensures.height c.in-Inserted-None.ensures.dense
+    (put.ensures.cell ∙ ap (λ l. set l i (Some c.insert_by.new.self)) c.take-node.ensures.cell)
     (put.ensures.counts ∙ ap (λ l. set l i (c.count-count.result + 1)) c.take-node.ensures.counts)
     c.count-count.ensures s in
     m.1.height ∙ ap (λ t. t.height) s
@@ -503,15 +502,15 @@ returns-in-Inserted-None-clause-dense g t c =
     let i = c.in-Err.i in
     let p : IsPlace x ss (Err i) = subst (λ l. IsPlace x l (Err i)) c.as_slice.ensures.value c.in-Err.ensures.place in
     let some = c.is_empty.ensures.some c.if-is_empty.false in
-    let d = c.deref_mut.result.now in
-    let e : d ≡ get_or ts i unused = c.deref_mut.ensures.value ∙ c.take-node.ensures.node in
+    let d = c.take-node.result in
+    let e : d ≡ get_or ts i unused = c.take-node.ensures.node in
     let ends = c.in-Inserted-None.ensures.ends in
     let rest = ends.0 in
     let grown = subst (λ r. AddsTo (insert d.slots rest c.args.slot) d.width c.insert_by.new.self r) c.in-Inserted-None.field-0-is ends.2 in
     let at : ℕ = starts (take i (lists ts)) + rest in
     let put = c.put-in-Inserted-None in
-    let m = put_grown c.self.inside.branches put.new.self ss at c.args.slot i rest c.count-count.result (with_value c.take-node.result c.insert_by.new.self) d c.args.self.now c.self.invariant.branches f (child_at x occupied ts ss c.args.self.now c.requires.monotone c.requires.occupied f s some i p d e rest ends.1.0) e grown c.in-Inserted-None.ensures.height c.in-Inserted-None.ensures.dense
-    (put.ensures.cell ∙ ap (λ l. set l i (Some (with_value c.take-node.result c.insert_by.new.self))) c.take-node.ensures.cell)
+    let m = put_grown c.self.inside.branches put.new.self ss at c.args.slot i rest c.count-count.result c.insert_by.new.self d c.args.self.now c.self.invariant.branches f (child_at x occupied ts ss c.args.self.now c.requires.monotone c.requires.occupied f s some i p d e rest ends.1.0) e grown c.in-Inserted-None.ensures.height c.in-Inserted-None.ensures.dense
+    (put.ensures.cell ∙ ap (λ l. set l i (Some c.insert_by.new.self)) c.take-node.ensures.cell)
     (put.ensures.counts ∙ ap (λ l. set l i (c.count-count.result + 1)) c.take-node.ensures.counts)
     c.count-count.ensures s in
     dense_of (below c.put-in-Inserted-None.new.self) ss m.1.forked
@@ -527,8 +526,8 @@ returns-in-Inserted-None-clause-steps g t c =
     let i = c.in-Err.i in
     let p : IsPlace x ss (Err i) = subst (λ l. IsPlace x l (Err i)) c.as_slice.ensures.value c.in-Err.ensures.place in
     let some = c.is_empty.ensures.some c.if-is_empty.false in
-    let d = c.deref_mut.result.now in
-    let e : d ≡ get_or ts i unused = c.deref_mut.ensures.value ∙ c.take-node.ensures.node in
+    let d = c.take-node.result in
+    let e : d ≡ get_or ts i unused = c.take-node.ensures.node in
     omega (arith, digits_four (length c.as_slice.result.now) c.as_slice.ensures.fits, c.in-Err.ensures.steps, c.in-Inserted-None.ensures.steps, (child_is x occupied ts ss c.args.self.now c.requires.monotone c.requires.occupied f s some i p).height, ap (λ t. t.height) e, ap (λ t. t.height) s)
 
 pub len-above-requires : goal.len-above-requires
@@ -542,13 +541,13 @@ len-above-requires g t c =
     let i = c.in-Err.i in
     let p : IsPlace x ss (Err i) = subst (λ l. IsPlace x l (Err i)) c.as_slice.ensures.value c.in-Err.ensures.place in
     let some = c.is_empty.ensures.some c.if-is_empty.false in
-    let d = c.deref_mut.result.now in
-    let e : d ≡ get_or ts i unused = c.deref_mut.ensures.value ∙ c.take-node.ensures.node in
+    let d = c.take-node.result in
+    let e : d ≡ get_or ts i unused = c.take-node.ensures.node in
     let ends = c.in-Inserted-Some.ensures.ends in
     let rest = ends.0 in
     let split = subst (λ r. AddsTo (insert d.slots rest c.args.slot) d.width c.insert_by.new.self r) c.in-Inserted-Some.field-0-is ends.2 in
     let at : ℕ = starts (take i (lists ts)) + rest in
-    let spread = above ts ss at c.args.slot i rest c.in-Inserted-Some.middle c.count-count.result d c.insert_by.new.self c.in-Inserted-Some.upper.value c.deref.result.now f (child_at x occupied ts ss c.args.self.now c.requires.monotone c.requires.occupied f s some i p d e rest ends.1.0) e split c.count-count.ensures c.deref.ensures in
+    let spread = above ts ss at c.args.slot i rest c.in-Inserted-Some.middle c.count-count.result d c.insert_by.new.self c.in-Inserted-Some.upper f (child_at x occupied ts ss c.args.self.now c.requires.monotone c.requires.occupied f s some i p d e rest ends.1.0) e split c.count-count.ensures in
     omega (arith, c.count-count.ensures, branch_within ts ss f i (child_in x occupied ts ss c.args.self.now c.requires.monotone c.requires.occupied f s some i p), ap (λ t. length t.slots) s, c.requires.room)
 
 pub overflow_sub-count : goal.overflow_sub-count
@@ -562,13 +561,13 @@ overflow_sub-count g t c =
     let i = c.in-Err.i in
     let p : IsPlace x ss (Err i) = subst (λ l. IsPlace x l (Err i)) c.as_slice.ensures.value c.in-Err.ensures.place in
     let some = c.is_empty.ensures.some c.if-is_empty.false in
-    let d = c.deref_mut.result.now in
-    let e : d ≡ get_or ts i unused = c.deref_mut.ensures.value ∙ c.take-node.ensures.node in
+    let d = c.take-node.result in
+    let e : d ≡ get_or ts i unused = c.take-node.ensures.node in
     let ends = c.in-Inserted-Some.ensures.ends in
     let rest = ends.0 in
     let split = subst (λ r. AddsTo (insert d.slots rest c.args.slot) d.width c.insert_by.new.self r) c.in-Inserted-Some.field-0-is ends.2 in
     let at : ℕ = starts (take i (lists ts)) + rest in
-    let spread = above ts ss at c.args.slot i rest c.in-Inserted-Some.middle c.count-count.result d c.insert_by.new.self c.in-Inserted-Some.upper.value c.deref.result.now f (child_at x occupied ts ss c.args.self.now c.requires.monotone c.requires.occupied f s some i p d e rest ends.1.0) e split c.count-count.ensures c.deref.ensures in
+    let spread = above ts ss at c.args.slot i rest c.in-Inserted-Some.middle c.count-count.result d c.insert_by.new.self c.in-Inserted-Some.upper f (child_at x occupied ts ss c.args.self.now c.requires.monotone c.requires.occupied f s some i p d e rest ends.1.0) e split c.count-count.ensures in
     omega (arith, c.len-above.ensures)
 
 pub add_branch-requires-clause-branches : goal.add_branch-requires-clause-branches
@@ -582,18 +581,18 @@ add_branch-requires-clause-branches g t c =
     let i = c.in-Err.i in
     let p : IsPlace x ss (Err i) = subst (λ l. IsPlace x l (Err i)) c.as_slice.ensures.value c.in-Err.ensures.place in
     let some = c.is_empty.ensures.some c.if-is_empty.false in
-    let d = c.deref_mut.result.now in
-    let e : d ≡ get_or ts i unused = c.deref_mut.ensures.value ∙ c.take-node.ensures.node in
+    let d = c.take-node.result in
+    let e : d ≡ get_or ts i unused = c.take-node.ensures.node in
     let ends = c.in-Inserted-Some.ensures.ends in
     let rest = ends.0 in
     let split = subst (λ r. AddsTo (insert d.slots rest c.args.slot) d.width c.insert_by.new.self r) c.in-Inserted-Some.field-0-is ends.2 in
     let at : ℕ = starts (take i (lists ts)) + rest in
     let put = c.put-in-Inserted-Some in
     let middle = c.in-Inserted-Some.middle in
-    let m = put_parted c.self.inside.branches put.new.self ss at c.args.slot i rest c.count-count.result c.len-above.result (c.count-count.result - c.len-above.result) middle c.deref.result.now (with_value c.take-node.result c.insert_by.new.self) d c.in-Inserted-Some.upper.value c.args.self.now c.self.invariant.branches f (child_at x occupied ts ss c.args.self.now c.requires.monotone c.requires.occupied f s some i p d e rest ends.1.0) e split c.in-Inserted-Some.ensures.height c.in-Inserted-Some.ensures.dense
-    (put.ensures.cell ∙ ap (λ l. set l i (Some (with_value c.take-node.result c.insert_by.new.self))) c.take-node.ensures.cell)
+    let m = put_parted c.self.inside.branches put.new.self ss at c.args.slot i rest c.count-count.result c.len-above.result (c.count-count.result - c.len-above.result) middle c.insert_by.new.self d c.in-Inserted-Some.upper c.args.self.now c.self.invariant.branches f (child_at x occupied ts ss c.args.self.now c.requires.monotone c.requires.occupied f s some i p d e rest ends.1.0) e split c.in-Inserted-Some.ensures.height c.in-Inserted-Some.ensures.dense
+    (put.ensures.cell ∙ ap (λ l. set l i (Some c.insert_by.new.self)) c.take-node.ensures.cell)
     (put.ensures.counts ∙ ap (λ l. set l i (c.count-count.result - c.len-above.result)) c.take-node.ensures.counts)
-    (omega arith) c.count-count.ensures c.deref.ensures c.len-above.ensures s in
+    (omega arith) c.count-count.ensures c.len-above.ensures s in
     m.0
 
 pub add_branch-requires-clause-forked : goal.add_branch-requires-clause-forked
@@ -607,18 +606,18 @@ add_branch-requires-clause-forked g t c =
     let i = c.in-Err.i in
     let p : IsPlace x ss (Err i) = subst (λ l. IsPlace x l (Err i)) c.as_slice.ensures.value c.in-Err.ensures.place in
     let some = c.is_empty.ensures.some c.if-is_empty.false in
-    let d = c.deref_mut.result.now in
-    let e : d ≡ get_or ts i unused = c.deref_mut.ensures.value ∙ c.take-node.ensures.node in
+    let d = c.take-node.result in
+    let e : d ≡ get_or ts i unused = c.take-node.ensures.node in
     let ends = c.in-Inserted-Some.ensures.ends in
     let rest = ends.0 in
     let split = subst (λ r. AddsTo (insert d.slots rest c.args.slot) d.width c.insert_by.new.self r) c.in-Inserted-Some.field-0-is ends.2 in
     let at : ℕ = starts (take i (lists ts)) + rest in
     let put = c.put-in-Inserted-Some in
     let middle = c.in-Inserted-Some.middle in
-    let m = put_parted c.self.inside.branches put.new.self ss at c.args.slot i rest c.count-count.result c.len-above.result (c.count-count.result - c.len-above.result) middle c.deref.result.now (with_value c.take-node.result c.insert_by.new.self) d c.in-Inserted-Some.upper.value c.args.self.now c.self.invariant.branches f (child_at x occupied ts ss c.args.self.now c.requires.monotone c.requires.occupied f s some i p d e rest ends.1.0) e split c.in-Inserted-Some.ensures.height c.in-Inserted-Some.ensures.dense
-    (put.ensures.cell ∙ ap (λ l. set l i (Some (with_value c.take-node.result c.insert_by.new.self))) c.take-node.ensures.cell)
+    let m = put_parted c.self.inside.branches put.new.self ss at c.args.slot i rest c.count-count.result c.len-above.result (c.count-count.result - c.len-above.result) middle c.insert_by.new.self d c.in-Inserted-Some.upper c.args.self.now c.self.invariant.branches f (child_at x occupied ts ss c.args.self.now c.requires.monotone c.requires.occupied f s some i p d e rest ends.1.0) e split c.in-Inserted-Some.ensures.height c.in-Inserted-Some.ensures.dense
+    (put.ensures.cell ∙ ap (λ l. set l i (Some c.insert_by.new.self)) c.take-node.ensures.cell)
     (put.ensures.counts ∙ ap (λ l. set l i (c.count-count.result - c.len-above.result)) c.take-node.ensures.counts)
-    (omega arith) c.count-count.ensures c.deref.ensures c.len-above.ensures s in
+    (omega arith) c.count-count.ensures c.len-above.ensures s in
     m.1.forked
 
 pub add_branch-requires-clause-inner : goal.add_branch-requires-clause-inner
@@ -632,18 +631,18 @@ add_branch-requires-clause-inner g t c =
     let i = c.in-Err.i in
     let p : IsPlace x ss (Err i) = subst (λ l. IsPlace x l (Err i)) c.as_slice.ensures.value c.in-Err.ensures.place in
     let some = c.is_empty.ensures.some c.if-is_empty.false in
-    let d = c.deref_mut.result.now in
-    let e : d ≡ get_or ts i unused = c.deref_mut.ensures.value ∙ c.take-node.ensures.node in
+    let d = c.take-node.result in
+    let e : d ≡ get_or ts i unused = c.take-node.ensures.node in
     let ends = c.in-Inserted-Some.ensures.ends in
     let rest = ends.0 in
     let split = subst (λ r. AddsTo (insert d.slots rest c.args.slot) d.width c.insert_by.new.self r) c.in-Inserted-Some.field-0-is ends.2 in
     let at : ℕ = starts (take i (lists ts)) + rest in
     let put = c.put-in-Inserted-Some in
     let middle = c.in-Inserted-Some.middle in
-    let m = put_parted c.self.inside.branches put.new.self ss at c.args.slot i rest c.count-count.result c.len-above.result (c.count-count.result - c.len-above.result) middle c.deref.result.now (with_value c.take-node.result c.insert_by.new.self) d c.in-Inserted-Some.upper.value c.args.self.now c.self.invariant.branches f (child_at x occupied ts ss c.args.self.now c.requires.monotone c.requires.occupied f s some i p d e rest ends.1.0) e split c.in-Inserted-Some.ensures.height c.in-Inserted-Some.ensures.dense
-    (put.ensures.cell ∙ ap (λ l. set l i (Some (with_value c.take-node.result c.insert_by.new.self))) c.take-node.ensures.cell)
+    let m = put_parted c.self.inside.branches put.new.self ss at c.args.slot i rest c.count-count.result c.len-above.result (c.count-count.result - c.len-above.result) middle c.insert_by.new.self d c.in-Inserted-Some.upper c.args.self.now c.self.invariant.branches f (child_at x occupied ts ss c.args.self.now c.requires.monotone c.requires.occupied f s some i p d e rest ends.1.0) e split c.in-Inserted-Some.ensures.height c.in-Inserted-Some.ensures.dense
+    (put.ensures.cell ∙ ap (λ l. set l i (Some c.insert_by.new.self)) c.take-node.ensures.cell)
     (put.ensures.counts ∙ ap (λ l. set l i (c.count-count.result - c.len-above.result)) c.take-node.ensures.counts)
-    (omega arith) c.count-count.ensures c.deref.ensures c.len-above.ensures s in
+    (omega arith) c.count-count.ensures c.len-above.ensures s in
     inner_of (below put.new.self) (omega (arith, m.1.height, inner_levels ts ss f some))
 
 pub add_branch-requires-clause-upper : goal.add_branch-requires-clause-upper
@@ -657,23 +656,23 @@ add_branch-requires-clause-upper g t c =
     let i = c.in-Err.i in
     let p : IsPlace x ss (Err i) = subst (λ l. IsPlace x l (Err i)) c.as_slice.ensures.value c.in-Err.ensures.place in
     let some = c.is_empty.ensures.some c.if-is_empty.false in
-    let d = c.deref_mut.result.now in
-    let e : d ≡ get_or ts i unused = c.deref_mut.ensures.value ∙ c.take-node.ensures.node in
+    let d = c.take-node.result in
+    let e : d ≡ get_or ts i unused = c.take-node.ensures.node in
     let ends = c.in-Inserted-Some.ensures.ends in
     let rest = ends.0 in
     let split = subst (λ r. AddsTo (insert d.slots rest c.args.slot) d.width c.insert_by.new.self r) c.in-Inserted-Some.field-0-is ends.2 in
     let at : ℕ = starts (take i (lists ts)) + rest in
     let put = c.put-in-Inserted-Some in
     let middle = c.in-Inserted-Some.middle in
-    let m = put_parted c.self.inside.branches put.new.self ss at c.args.slot i rest c.count-count.result c.len-above.result (c.count-count.result - c.len-above.result) middle c.deref.result.now (with_value c.take-node.result c.insert_by.new.self) d c.in-Inserted-Some.upper.value c.args.self.now c.self.invariant.branches f (child_at x occupied ts ss c.args.self.now c.requires.monotone c.requires.occupied f s some i p d e rest ends.1.0) e split c.in-Inserted-Some.ensures.height c.in-Inserted-Some.ensures.dense
-    (put.ensures.cell ∙ ap (λ l. set l i (Some (with_value c.take-node.result c.insert_by.new.self))) c.take-node.ensures.cell)
+    let m = put_parted c.self.inside.branches put.new.self ss at c.args.slot i rest c.count-count.result c.len-above.result (c.count-count.result - c.len-above.result) middle c.insert_by.new.self d c.in-Inserted-Some.upper c.args.self.now c.self.invariant.branches f (child_at x occupied ts ss c.args.self.now c.requires.monotone c.requires.occupied f s some i p d e rest ends.1.0) e split c.in-Inserted-Some.ensures.height c.in-Inserted-Some.ensures.dense
+    (put.ensures.cell ∙ ap (λ l. set l i (Some c.insert_by.new.self)) c.take-node.ensures.cell)
     (put.ensures.counts ∙ ap (λ l. set l i (c.count-count.result - c.len-above.result)) c.take-node.ensures.counts)
-    (omega arith) c.count-count.ensures c.deref.ensures c.len-above.ensures s in
+    (omega arith) c.count-count.ensures c.len-above.ensures s in
     m.1.branch
 
 pub add_branch-requires-clause-count : goal.add_branch-requires-clause-count
 add_branch-requires-clause-count g t c =
-    c.len-above.ensures ∙ ap (λ t. length t.slots) c.deref.ensures
+    c.len-above.ensures
 
 pub add_branch-requires-clause-enough : goal.add_branch-requires-clause-enough
 add_branch-requires-clause-enough g t c =
@@ -686,8 +685,8 @@ add_branch-requires-clause-enough g t c =
     let i = c.in-Err.i in
     let p : IsPlace x ss (Err i) = subst (λ l. IsPlace x l (Err i)) c.as_slice.ensures.value c.in-Err.ensures.place in
     let some = c.is_empty.ensures.some c.if-is_empty.false in
-    let d = c.deref_mut.result.now in
-    let e : d ≡ get_or ts i unused = c.deref_mut.ensures.value ∙ c.take-node.ensures.node in
+    let d = c.take-node.result in
+    let e : d ≡ get_or ts i unused = c.take-node.ensures.node in
     let ready = subst (λ r. OnSome r (IsTrue c.args.ready)) c.in-Inserted-Some.field-0-is c.in-Inserted-Some.ensures.ends.3 in
     omega (arith, c.requires.enough ready, c.in-Inserted-Some.ensures.left, (child_is x occupied ts ss c.args.self.now c.requires.monotone c.requires.occupied f s some i p).height, ap (λ t. t.height) e, ap (λ t. t.height) s)
 
@@ -702,18 +701,18 @@ returns-in-Inserted-Some-clause-ends g t c =
     let i = c.in-Err.i in
     let p : IsPlace x ss (Err i) = subst (λ l. IsPlace x l (Err i)) c.as_slice.ensures.value c.in-Err.ensures.place in
     let some = c.is_empty.ensures.some c.if-is_empty.false in
-    let d = c.deref_mut.result.now in
-    let e : d ≡ get_or ts i unused = c.deref_mut.ensures.value ∙ c.take-node.ensures.node in
+    let d = c.take-node.result in
+    let e : d ≡ get_or ts i unused = c.take-node.ensures.node in
     let ends = c.in-Inserted-Some.ensures.ends in
     let rest = ends.0 in
     let split = subst (λ r. AddsTo (insert d.slots rest c.args.slot) d.width c.insert_by.new.self r) c.in-Inserted-Some.field-0-is ends.2 in
     let at : ℕ = starts (take i (lists ts)) + rest in
     let put = c.put-in-Inserted-Some in
     let middle = c.in-Inserted-Some.middle in
-    let m = put_parted c.self.inside.branches put.new.self ss at c.args.slot i rest c.count-count.result c.len-above.result (c.count-count.result - c.len-above.result) middle c.deref.result.now (with_value c.take-node.result c.insert_by.new.self) d c.in-Inserted-Some.upper.value c.args.self.now c.self.invariant.branches f (child_at x occupied ts ss c.args.self.now c.requires.monotone c.requires.occupied f s some i p d e rest ends.1.0) e split c.in-Inserted-Some.ensures.height c.in-Inserted-Some.ensures.dense
-    (put.ensures.cell ∙ ap (λ l. set l i (Some (with_value c.take-node.result c.insert_by.new.self))) c.take-node.ensures.cell)
+    let m = put_parted c.self.inside.branches put.new.self ss at c.args.slot i rest c.count-count.result c.len-above.result (c.count-count.result - c.len-above.result) middle c.insert_by.new.self d c.in-Inserted-Some.upper c.args.self.now c.self.invariant.branches f (child_at x occupied ts ss c.args.self.now c.requires.monotone c.requires.occupied f s some i p d e rest ends.1.0) e split c.in-Inserted-Some.ensures.height c.in-Inserted-Some.ensures.dense
+    (put.ensures.cell ∙ ap (λ l. set l i (Some c.insert_by.new.self)) c.take-node.ensures.cell)
     (put.ensures.counts ∙ ap (λ l. set l i (c.count-count.result - c.len-above.result)) c.take-node.ensures.counts)
-    (omega arith) c.count-count.ensures c.deref.ensures c.len-above.ensures s in (
+    (omega arith) c.count-count.ensures c.len-above.ensures s in (
       at,
       child_place x occupied ts ss c.args.self.now c.requires.monotone c.requires.occupied f s some i p d e rest ends.1,
       subst (λ n. AddsTo (insert c.args.self.now.slots at c.args.slot) n (tree (below c.add_branch.new.branches) c.add_branch.new.slots.items) c.add_branch.result) (ap (λ t. t.width) s)
@@ -732,18 +731,18 @@ returns-in-Inserted-Some-clause-height g t c =
     let i = c.in-Err.i in
     let p : IsPlace x ss (Err i) = subst (λ l. IsPlace x l (Err i)) c.as_slice.ensures.value c.in-Err.ensures.place in
     let some = c.is_empty.ensures.some c.if-is_empty.false in
-    let d = c.deref_mut.result.now in
-    let e : d ≡ get_or ts i unused = c.deref_mut.ensures.value ∙ c.take-node.ensures.node in
+    let d = c.take-node.result in
+    let e : d ≡ get_or ts i unused = c.take-node.ensures.node in
     let ends = c.in-Inserted-Some.ensures.ends in
     let rest = ends.0 in
     let split = subst (λ r. AddsTo (insert d.slots rest c.args.slot) d.width c.insert_by.new.self r) c.in-Inserted-Some.field-0-is ends.2 in
     let at : ℕ = starts (take i (lists ts)) + rest in
     let put = c.put-in-Inserted-Some in
     let middle = c.in-Inserted-Some.middle in
-    let m = put_parted c.self.inside.branches put.new.self ss at c.args.slot i rest c.count-count.result c.len-above.result (c.count-count.result - c.len-above.result) middle c.deref.result.now (with_value c.take-node.result c.insert_by.new.self) d c.in-Inserted-Some.upper.value c.args.self.now c.self.invariant.branches f (child_at x occupied ts ss c.args.self.now c.requires.monotone c.requires.occupied f s some i p d e rest ends.1.0) e split c.in-Inserted-Some.ensures.height c.in-Inserted-Some.ensures.dense
-    (put.ensures.cell ∙ ap (λ l. set l i (Some (with_value c.take-node.result c.insert_by.new.self))) c.take-node.ensures.cell)
+    let m = put_parted c.self.inside.branches put.new.self ss at c.args.slot i rest c.count-count.result c.len-above.result (c.count-count.result - c.len-above.result) middle c.insert_by.new.self d c.in-Inserted-Some.upper c.args.self.now c.self.invariant.branches f (child_at x occupied ts ss c.args.self.now c.requires.monotone c.requires.occupied f s some i p d e rest ends.1.0) e split c.in-Inserted-Some.ensures.height c.in-Inserted-Some.ensures.dense
+    (put.ensures.cell ∙ ap (λ l. set l i (Some c.insert_by.new.self)) c.take-node.ensures.cell)
     (put.ensures.counts ∙ ap (λ l. set l i (c.count-count.result - c.len-above.result)) c.take-node.ensures.counts)
-    (omega arith) c.count-count.ensures c.deref.ensures c.len-above.ensures s in
+    (omega arith) c.count-count.ensures c.len-above.ensures s in
     c.add_branch.ensures.levels ∙ (m.1.height ∙ ap (λ t. t.height) s)
 
 pub returns-in-Inserted-Some-clause-dense : goal.returns-in-Inserted-Some-clause-dense
@@ -761,6 +760,6 @@ returns-in-Inserted-Some-clause-steps g t c =
     let i = c.in-Err.i in
     let p : IsPlace x ss (Err i) = subst (λ l. IsPlace x l (Err i)) c.as_slice.ensures.value c.in-Err.ensures.place in
     let some = c.is_empty.ensures.some c.if-is_empty.false in
-    let d = c.deref_mut.result.now in
-    let e : d ≡ get_or ts i unused = c.deref_mut.ensures.value ∙ c.take-node.ensures.node in
+    let d = c.take-node.result in
+    let e : d ≡ get_or ts i unused = c.take-node.ensures.node in
     omega (arith, digits_four (length c.as_slice.result.now) c.as_slice.ensures.fits, c.in-Err.ensures.steps, c.in-Inserted-Some.ensures.steps, (child_is x occupied ts ss c.args.self.now c.requires.monotone c.requires.occupied f s some i p).height, ap (λ t. t.height) e, ap (λ t. t.height) s)

@@ -1,14 +1,14 @@
-use Rattle.std.proofs.Common.{ℕ, ◌≡◌, ◌+◌, ◌-◌, ◌<◌, Some, length, set, get_or, ap, sym, ◌∙◌, arith}
+use Rattle.std.proofs.Common.{ℕ, ◌≡◌, ◌-◌, ◌<◌, Some, length, set, get_or, subst, ap, sym, ◌∙◌, arith}
 use Rattle.std.proofs.lemmas.Grind.{common_steps}
-use Rattle.std.specs.Box.{with_value}
 use Rattle.std.specs.List.{remove}
 use Rattle.std.proofs.lemmas.List.Edits.{length-remove}
+use Rattle.iddqd_ord_index.specs.Neighbours.{MayGiveBack}
 use Rattle.iddqd_ord_index.specs.Nodes.{below}
-use Rattle.iddqd_ord_index.specs.Shape.{lists, in_order, unused}
+use Rattle.iddqd_ord_index.specs.Shape.{levels, lists, in_order, unused}
 use Rattle.iddqd_ord_index.proofs.BranchAtLemmas.{starts_is, own_read, branch_is, branch_within, branch_at_in}
 use Rattle.iddqd_ord_index.proofs.BelowLemmas.{length-lists}
 use Rattle.iddqd_ord_index.proofs.DenseLemmas.{dense_of}
-use Rattle.iddqd_ord_index.proofs.RemoveLemmas.{IsShrunk, some_below, put_shrunk, given_or_kept, one_more_back}
+use Rattle.iddqd_ord_index.proofs.RemoveLemmas.{IsShrunk, some_below, put_shrunk, given_or_kept, gives_more}
 use Rattle.iddqd_ord_index.proofs.InOrderLemmas.{starts_in_order}
 use Rattle.iddqd_ord_index.proofs.tree.node.Node.+remove.Goals as goal
 
@@ -37,7 +37,7 @@ remove-taken-requires t c =
     let s = some_below ts ss c.args.at i c.branch_at-i.result.1 f c.branch_at-i.ensures in
     let w = branch_within ts ss f i n in
     let b = branch_is ts ss f i n in
-    let v : c.deref_mut.result.now ≡ get_or ts i unused = c.deref_mut.ensures.value ∙ c.take-node.ensures.node in
+    let v : c.take-node.result ≡ get_or ts i unused = c.take-node.ensures.node in
     let h = ap (λ t. t.height) v in
     let l = ap (λ t. length t.slots) v in
     let x = c.self.view_is in (
@@ -53,26 +53,26 @@ replace_own-slot-requires-clause-own t c = λ e. (
 
 pub rebalance-requires : goal.rebalance-requires
 rebalance-requires t c =
-    let m = put_shrunk c.self.inside.branches c.put.new.self c.self.inside.slots.items c.replace_own-slot.new.slots.items c.args.at c.branch_at-i.result.0 c.branch_at-i.result.1 c.count-len.result c.remove-taken.result c.replace_own-slot.result c.min.result (with_value c.take-node.result c.remove-taken.new.self) c.deref_mut.result.now c.args.self.now
-    c.self.invariant.branches c.self.invariant.forked c.branch_at-i.ensures (c.deref_mut.ensures.value ∙ c.take-node.ensures.node) c.count-len.ensures c.requires.some c.requires.place c.min.ensures c.remove-taken.ensures.value c.remove-taken.ensures.slots c.remove-taken.ensures.height c.remove-taken.ensures.width c.remove-taken.ensures.dense
+    let m = put_shrunk c.self.inside.branches c.put.new.self c.self.inside.slots.items c.replace_own-slot.new.slots.items c.args.at c.branch_at-i.result.0 c.branch_at-i.result.1 c.count-len.result c.remove-taken.result c.replace_own-slot.result c.min.result c.remove-taken.new.self c.take-node.result c.args.self.now
+    c.self.invariant.branches c.self.invariant.forked c.branch_at-i.ensures c.take-node.ensures.node c.count-len.ensures c.requires.some c.requires.place c.min.ensures c.remove-taken.ensures.value c.remove-taken.ensures.slots c.remove-taken.ensures.height c.remove-taken.ensures.width c.remove-taken.ensures.dense
     c.replace_own-slot.ensures.below c.replace_own-slot.ensures.own c.replace_own-slot.ensures.len
-    (c.put.ensures.cell ∙ ap (λ l. set l c.branch_at-i.result.0 (Some (with_value c.take-node.result c.remove-taken.new.self))) c.take-node.ensures.cell)
+    (c.put.ensures.cell ∙ ap (λ l. set l c.branch_at-i.result.0 (Some c.remove-taken.new.self)) c.take-node.ensures.cell)
     (c.put.ensures.counts ∙ ap (λ l. set l c.branch_at-i.result.0 (c.count-len.result - 1)) c.take-node.ensures.counts) c.self.view_is in
     let s = starts_in_order (lists (below c.put.new.self)) c.replace_own-slot.new.slots.items (length-lists (below c.put.new.self) ∙ m.1.near.fork) in
     record {
       branches = m.0;
       near = m.1.near;
-      width = c.width-width.ensures.width ∙ (ap (λ t. t.width) c.deref.ensures ∙ sym m.2);
+      width = c.width-width.ensures.width ∙ sym m.2;
       room = omega (arith, ap length m.1.list, length-remove c.args.self.now.slots c.args.at c.requires.place, c.requires.room);
     }
 
 -- the branches and slots after the branch was put back
 left : (t : ℕ) (c : goal.After-rebalance t) → IsShrunk (below c.self.inside.branches) (below c.put.new.self) c.replace_own-slot.new.slots.items c.branch_at-i.result.0 c.args.self.now.slots (remove c.args.self.now.slots c.args.at) c.replace_own-slot.result c.args.at
 left t c =
-    let m = put_shrunk c.self.inside.branches c.put.new.self c.self.inside.slots.items c.replace_own-slot.new.slots.items c.args.at c.branch_at-i.result.0 c.branch_at-i.result.1 c.count-len.result c.remove-taken.result c.replace_own-slot.result c.min.result (with_value c.take-node.result c.remove-taken.new.self) c.deref_mut.result.now c.args.self.now
-    c.self.invariant.branches c.self.invariant.forked c.branch_at-i.ensures (c.deref_mut.ensures.value ∙ c.take-node.ensures.node) c.count-len.ensures c.requires.some c.requires.place c.min.ensures c.remove-taken.ensures.value c.remove-taken.ensures.slots c.remove-taken.ensures.height c.remove-taken.ensures.width c.remove-taken.ensures.dense
+    let m = put_shrunk c.self.inside.branches c.put.new.self c.self.inside.slots.items c.replace_own-slot.new.slots.items c.args.at c.branch_at-i.result.0 c.branch_at-i.result.1 c.count-len.result c.remove-taken.result c.replace_own-slot.result c.min.result c.remove-taken.new.self c.take-node.result c.args.self.now
+    c.self.invariant.branches c.self.invariant.forked c.branch_at-i.ensures c.take-node.ensures.node c.count-len.ensures c.requires.some c.requires.place c.min.ensures c.remove-taken.ensures.value c.remove-taken.ensures.slots c.remove-taken.ensures.height c.remove-taken.ensures.width c.remove-taken.ensures.dense
     c.replace_own-slot.ensures.below c.replace_own-slot.ensures.own c.replace_own-slot.ensures.len
-    (c.put.ensures.cell ∙ ap (λ l. set l c.branch_at-i.result.0 (Some (with_value c.take-node.result c.remove-taken.new.self))) c.take-node.ensures.cell)
+    (c.put.ensures.cell ∙ ap (λ l. set l c.branch_at-i.result.0 (Some c.remove-taken.new.self)) c.take-node.ensures.cell)
     (c.put.ensures.counts ∙ ap (λ l. set l c.branch_at-i.result.0 (c.count-len.result - 1)) c.take-node.ensures.counts) c.self.view_is in
     m.1
 
@@ -90,12 +90,12 @@ returns-clause-dense t c = dense_of (below c.rebalance.new.branches) c.rebalance
 
 pub returns-clause-kept : goal.returns-clause-kept
 returns-clause-kept t c =
-    let g = given_or_kept c.remove-taken.new.pool c.rebalance.new.pool (length c.replace_own-slot.new.slots.items) (length c.rebalance.new.slots.items) c.rebalance.ensures.width.0 c.rebalance.ensures.kept c.rebalance.ensures.gives_back in
+    let g = given_or_kept (levels (below c.put.new.self)) c.remove-taken.new.pool c.rebalance.new.pool (length c.replace_own-slot.new.slots.items) (length c.rebalance.new.slots.items) c.rebalance.ensures.width.0 c.rebalance.ensures.kept c.rebalance.ensures.gives_back in
     omega (arith, g.0, c.remove-taken.ensures.kept)
 
 pub returns-clause-pool : goal.returns-clause-pool
 returns-clause-pool t c =
-    let g = given_or_kept c.remove-taken.new.pool c.rebalance.new.pool (length c.replace_own-slot.new.slots.items) (length c.rebalance.new.slots.items) c.rebalance.ensures.width.0 c.rebalance.ensures.kept c.rebalance.ensures.gives_back in
+    let g = given_or_kept (levels (below c.put.new.self)) c.remove-taken.new.pool c.rebalance.new.pool (length c.replace_own-slot.new.slots.items) (length c.rebalance.new.slots.items) c.rebalance.ensures.width.0 c.rebalance.ensures.kept c.rebalance.ensures.gives_back in
     (g.1 ∙ c.remove-taken.ensures.pool.0, g.2 ∙ c.remove-taken.ensures.pool.1)
 
 pub returns-clause-gives_back : goal.returns-clause-gives_back
@@ -104,13 +104,15 @@ returns-clause-gives_back t c = λ falls.
     let i = c.branch_at-i.result.0 in
     let f = c.self.invariant.forked in
     let b = branch_is ts c.self.inside.slots.items f i (branch_at_in ts c.self.inside.slots.items c.args.at i c.branch_at-i.result.1 f c.branch_at-i.ensures) in
-    let v : c.deref_mut.result.now ≡ get_or ts i unused = c.deref_mut.ensures.value ∙ c.take-node.ensures.node in
+    let v : c.take-node.result ≡ get_or ts i unused = c.take-node.ensures.node in
     let merged : length c.rebalance.new.slots.items < length c.replace_own-slot.new.slots.items = omega (arith, falls, c.replace_own-slot.ensures.len, ap (λ x. x.width) c.self.view_is) in
     let short = c.rebalance.ensures.short merged in
-    let fell : c.remove-taken.new.self.width < c.deref_mut.result.now.width = omega (arith, short, c.width-width.ensures.width, ap (λ x. x.width) c.deref.ensures, b.wide, ap (λ x. x.width) v) in
+    let fell : c.remove-taken.new.self.width < c.take-node.result.width = omega (arith, short, c.width-width.ensures.width, b.wide, ap (λ x. x.width) v) in
     let below_it = c.remove-taken.ensures.gives_back fell in
-    let more = one_more_back c.remove-taken.new.pool c.rebalance.new.pool (c.args.pool.now.nodes + c.deref_mut.result.now.height - 1) (c.rebalance.ensures.gives_back merged) (omega (arith, below_it, c.remove-taken.ensures.pool.0)) in
-    omega (arith, more, b.height, ap (λ x. x.height) v, ap (λ x. x.height) c.self.view_is, c.remove-taken.ensures.pool.0, b.dense.low)
+    let high : levels (below c.put.new.self) ≡ c.args.self.now.height = (left t c).height ∙ ap (λ x. x.height) c.self.view_is in
+    let h = ap (λ x. x.height) v in
+    gives_more c.args.self.now.height c.args.pool.now c.remove-taken.new.pool c.rebalance.new.pool (omega (arith, high, b.height, b.dense.low, ap (λ x. x.height) c.self.view_is)) c.remove-taken.ensures.kept c.remove-taken.ensures.pool.0
+    (omega (arith, below_it, b.height, ap (λ x. x.height) c.self.view_is)) (subst (λ k. MayGiveBack k c.remove-taken.new.pool c.rebalance.new.pool) high (c.rebalance.ensures.gives_back merged))
 
 pub count-len-requires-clause-in_bounds : goal.count-len-requires-clause-in_bounds
 count-len-requires-clause-in_bounds t c = grind (arith, common_steps)

@@ -1,9 +1,9 @@
 use Rattle.std.proofs.Common.{ℕ, ◌≡◌, ◌+◌, ◌-◌, ◌<◌, Some, Ok, Err, length, take, set, get_or, refl, subst, ap, sym, ◌∙◌, arith}
 use Rattle.std.proofs.lemmas.List.Edits.{length-remove}
-use Rattle.std.specs.Box.{with_value}
 use Rattle.std.specs.List.{All, remove}
 use Rattle.std.specs.declared.cmp.Ordering.TheVariants.{Equal}
 use Rattle.iddqd_store.specs.Store.{IsOccupied}
+use Rattle.iddqd_ord_index.specs.Neighbours.{MayGiveBack}
 use Rattle.iddqd_ord_index.specs.NodeRemoval.{own_place}
 use Rattle.iddqd_ord_index.specs.Nodes.{below, AreBranches}
 use Rattle.iddqd_ord_index.specs.Shape.{levels, lists, starts, tree, unused, IsBranchAt, IsForked}
@@ -15,7 +15,7 @@ use Rattle.iddqd_ord_index.proofs.DescentLemmas.{inner, digits_four}
 use Rattle.iddqd_ord_index.proofs.FoundLemmas.{whole_part, part_all, part_mono, found_place}
 use Rattle.iddqd_ord_index.proofs.InOrderLemmas.{starts_in_order}
 use Rattle.iddqd_ord_index.proofs.RemoveByLemmas.{own_slots, missed_below, put_same}
-use Rattle.iddqd_ord_index.proofs.RemoveLemmas.{IsShrunk, one_more_back, put_shrunk}
+use Rattle.iddqd_ord_index.proofs.RemoveLemmas.{IsShrunk, gives_more, put_shrunk}
 use Rattle.iddqd_ord_index.proofs.tree.node.Node.+remove_by.Given.{Over}
 use Rattle.iddqd_ord_index.proofs.tree.node.Node.+remove_by.Goals as goal
 
@@ -57,7 +57,7 @@ remove_by-requires g t c κs within =
     let s : IsPlace (slot_standing g.T.IdOrdItem.key (g.Q.Comparable.compare c.args.query.now) c.args.store.now) c.self.inside.slots.items (Err c.in-Err-place.i) = subst (λ l. IsPlace (slot_standing g.T.IdOrdItem.key (g.Q.Comparable.compare c.args.query.now) c.args.store.now) l (Err c.in-Err-place.i)) c.as_slice.ensures.value c.in-Err-place.ensures.place in
     let b = n.branch c.in-Err-place.i s.0 in
     let part = n.down c.in-Err-place.i s in
-    let v : c.deref_mut.result.now ≡ get_or (below c.self.inside.branches) c.in-Err-place.i unused = c.deref_mut.ensures.value ∙ c.take-node.ensures.node in
+    let v : c.take-node.result ≡ get_or (below c.self.inside.branches) c.in-Err-place.i unused = c.take-node.ensures.node in
     let x = c.self.view_is in (
       omega (arith, b.1.height, ap (λ t. t.height) v, ap (λ t. t.height) x, c.decreases),
       (
@@ -84,9 +84,9 @@ kept g t c =
     let n = inner (slot_standing g.T.IdOrdItem.key (g.Q.Comparable.compare c.args.query.now) c.args.store.now) (IsOccupied c.args.store.now) c.args.self.now.slots (below c.self.inside.branches) c.self.inside.slots.items 0 c.args.self.now c.requires.monotone c.requires.occupied c.self.invariant.forked (c.is_empty.ensures.some c.if-is_empty.false) c.self.view_is (whole_part (slot_standing g.T.IdOrdItem.key (g.Q.Comparable.compare c.args.query.now) c.args.store.now) c.args.self.now.slots) in
     let s : IsPlace (slot_standing g.T.IdOrdItem.key (g.Q.Comparable.compare c.args.query.now) c.args.store.now) c.self.inside.slots.items (Err c.in-Err-place.i) = subst (λ l. IsPlace (slot_standing g.T.IdOrdItem.key (g.Q.Comparable.compare c.args.query.now) c.args.store.now) l (Err c.in-Err-place.i)) c.as_slice.ensures.value c.in-Err-place.ensures.place in
     let b = n.branch c.in-Err-place.i s.0 in
-    let v : c.deref_mut.result.now ≡ get_or (below c.self.inside.branches) c.in-Err-place.i unused = c.deref_mut.ensures.value ∙ c.take-node.ensures.node in
-    put_same c.self.inside.branches c.put.new.self c.in-Err-place.i c.count-len.result (with_value c.take-node.result c.remove_by.new.self) c.self.invariant.branches b.0 (c.in_default.ensures.unchanged ∙ v) c.count-len.ensures
-    (c.put.ensures.cell ∙ ap (λ l. set l c.in-Err-place.i (Some (with_value c.take-node.result c.remove_by.new.self))) c.take-node.ensures.cell)
+    let v : c.take-node.result ≡ get_or (below c.self.inside.branches) c.in-Err-place.i unused = c.take-node.ensures.node in
+    put_same c.self.inside.branches c.put.new.self c.in-Err-place.i c.count-len.result c.remove_by.new.self c.self.invariant.branches b.0 (c.in_default.ensures.unchanged ∙ v) c.count-len.ensures
+    (c.put.ensures.cell ∙ ap (λ l. set l c.in-Err-place.i (Some c.remove_by.new.self)) c.take-node.ensures.cell)
     (c.put.ensures.counts ∙ ap (λ l. set l c.in-Err-place.i c.count-len.result) c.take-node.ensures.counts)
 
 pub invariant_of-self-in_default : goal.invariant_of-self-in_default
@@ -99,7 +99,7 @@ returns-in_default-clause-slots g t c =
     let n = inner (slot_standing g.T.IdOrdItem.key (g.Q.Comparable.compare c.args.query.now) c.args.store.now) (IsOccupied c.args.store.now) c.args.self.now.slots (below c.self.inside.branches) c.self.inside.slots.items 0 c.args.self.now c.requires.monotone c.requires.occupied c.self.invariant.forked (c.is_empty.ensures.some c.if-is_empty.false) c.self.view_is (whole_part (slot_standing g.T.IdOrdItem.key (g.Q.Comparable.compare c.args.query.now) c.args.store.now) c.args.self.now.slots) in
     let s : IsPlace (slot_standing g.T.IdOrdItem.key (g.Q.Comparable.compare c.args.query.now) c.args.store.now) c.self.inside.slots.items (Err c.in-Err-place.i) = subst (λ l. IsPlace (slot_standing g.T.IdOrdItem.key (g.Q.Comparable.compare c.args.query.now) c.args.store.now) l (Err c.in-Err-place.i)) c.as_slice.ensures.value c.in-Err-place.ensures.place in
     let b = n.branch c.in-Err-place.i s.0 in
-    let v : c.deref_mut.result.now ≡ get_or (below c.self.inside.branches) c.in-Err-place.i unused = c.deref_mut.ensures.value ∙ c.take-node.ensures.node in
+    let v : c.take-node.result ≡ get_or (below c.self.inside.branches) c.in-Err-place.i unused = c.take-node.ensures.node in
     let r = c.in_default.ensures.slots in
     let q = subst (λ t. IsPlace (slot_standing g.T.IdOrdItem.key (g.Q.Comparable.compare c.args.query.now) c.args.store.now) t.slots (Err r.0.0)) v r.0.1 in
     ((_, missed_below (slot_standing g.T.IdOrdItem.key (g.Q.Comparable.compare c.args.query.now) c.args.store.now) c.args.self.now.slots _ _ (n.down c.in-Err-place.i s) r.0.0 q), ap (λ ts. (tree ts c.self.inside.slots.items).slots) (kept g t c).1 ∙ ap (λ t. t.slots) c.self.view_is)
@@ -119,7 +119,7 @@ returns-in_default-clause-steps g t c =
     let n = inner (slot_standing g.T.IdOrdItem.key (g.Q.Comparable.compare c.args.query.now) c.args.store.now) (IsOccupied c.args.store.now) c.args.self.now.slots (below c.self.inside.branches) c.self.inside.slots.items 0 c.args.self.now c.requires.monotone c.requires.occupied c.self.invariant.forked (c.is_empty.ensures.some c.if-is_empty.false) c.self.view_is (whole_part (slot_standing g.T.IdOrdItem.key (g.Q.Comparable.compare c.args.query.now) c.args.store.now) c.args.self.now.slots) in
     let s : IsPlace (slot_standing g.T.IdOrdItem.key (g.Q.Comparable.compare c.args.query.now) c.args.store.now) c.self.inside.slots.items (Err c.in-Err-place.i) = subst (λ l. IsPlace (slot_standing g.T.IdOrdItem.key (g.Q.Comparable.compare c.args.query.now) c.args.store.now) l (Err c.in-Err-place.i)) c.as_slice.ensures.value c.in-Err-place.ensures.place in
     let b = n.branch c.in-Err-place.i s.0 in
-    let v : c.deref_mut.result.now ≡ get_or (below c.self.inside.branches) c.in-Err-place.i unused = c.deref_mut.ensures.value ∙ c.take-node.ensures.node in
+    let v : c.take-node.result ≡ get_or (below c.self.inside.branches) c.in-Err-place.i unused = c.take-node.ensures.node in
     omega (arith, digits_four (length c.as_slice.result.now) c.as_slice.ensures.fits, c.search-place.ensures.steps, c.remove_by.ensures.steps, b.1.height, ap (λ t. t.height) v, ap (λ t. t.height) c.self.view_is)
 
 pub rebalance-requires : goal.rebalance-requires
@@ -133,22 +133,22 @@ rebalance-requires g t c =
     let part = subst (IsPart (slot_standing g.T.IdOrdItem.key (g.Q.Comparable.compare c.args.query.now) c.args.store.now) c.args.self.now.slots (get_or (below bs) i unused).slots) zero (n.down i s) in
     let fork = length-lists (below bs) in
     let b = n.branch i s.0 in
-    let v : c.deref_mut.result.now ≡ get_or (below c.self.inside.branches) c.in-Err-place.i unused = c.deref_mut.ensures.value ∙ c.take-node.ensures.node in
+    let v : c.take-node.result ≡ get_or (below c.self.inside.branches) c.in-Err-place.i unused = c.take-node.ensures.node in
     let r = c.in-Some.ensures.slots in
     let k = r.0 in
     let lt : k < length (get_or (below bs) i unused).slots = omega (arith, r.2.0, ap (λ t. length t.slots) v) in
     let at : IsBranchAt (lists (below bs)) (starts (take i (lists (below bs))) + k) i k = record { branch = omega (arith, b.0); within = omega (arith, ap length (list_at (below bs) i b.0)); sum = refl } in
     let within : starts (take i (lists (below bs))) + k < length c.args.self.now.slots = omega (arith, part.fits) in
-    let m = put_shrunk bs c.put-2.new.self ss ss (starts (take i (lists (below bs))) + k) i k c.count-len.result c.in-Some.slot c.in-Some.slot k (with_value c.take-node.result c.remove_by.new.self) c.deref_mut.result.now c.args.self.now
+    let m = put_shrunk bs c.put-2.new.self ss ss (starts (take i (lists (below bs))) + k) i k c.count-len.result c.in-Some.slot c.in-Some.slot k c.remove_by.new.self c.take-node.result c.args.self.now
     c.self.invariant.branches c.self.invariant.forked at v c.count-len.ensures c.requires.some within (omega (arith, c.count-len.ensures)) r.1 r.3 c.in-Some.ensures.height c.in-Some.ensures.width c.in-Some.ensures.dense
     (λ _. (refl, refl)) (λ e. absurd (omega (arith, c.count-len.ensures))) refl
-    (c.put-2.ensures.cell ∙ ap (λ l. set l c.in-Err-place.i (Some (with_value c.take-node.result c.remove_by.new.self))) c.take-node.ensures.cell)
+    (c.put-2.ensures.cell ∙ ap (λ l. set l c.in-Err-place.i (Some c.remove_by.new.self)) c.take-node.ensures.cell)
     (c.put-2.ensures.counts ∙ ap (λ l. set l c.in-Err-place.i (c.count-len.result - 1)) c.take-node.ensures.counts) c.self.view_is in
     let z = starts_in_order (lists (below c.put-2.new.self)) ss (length-lists (below c.put-2.new.self) ∙ m.1.near.fork) in
     record {
       branches = m.0;
       near = m.1.near;
-      width = c.width-width.ensures.width ∙ (ap (λ t. t.width) c.deref.ensures ∙ sym m.2);
+      width = c.width-width.ensures.width ∙ sym m.2;
       room = omega (arith, ap length m.1.list, length-remove c.args.self.now.slots (starts (take i (lists (below bs))) + k) within, c.requires.room);
     }
 
@@ -165,16 +165,16 @@ left g t c =
     let part = subst (IsPart (slot_standing g.T.IdOrdItem.key (g.Q.Comparable.compare c.args.query.now) c.args.store.now) c.args.self.now.slots (get_or (below bs) i unused).slots) zero (n.down i s) in
     let fork = length-lists (below bs) in
     let b = n.branch i s.0 in
-    let v : c.deref_mut.result.now ≡ get_or (below c.self.inside.branches) c.in-Err-place.i unused = c.deref_mut.ensures.value ∙ c.take-node.ensures.node in
+    let v : c.take-node.result ≡ get_or (below c.self.inside.branches) c.in-Err-place.i unused = c.take-node.ensures.node in
     let r = c.in-Some.ensures.slots in
     let k = r.0 in
     let lt : k < length (get_or (below bs) i unused).slots = omega (arith, r.2.0, ap (λ t. length t.slots) v) in
     let at : IsBranchAt (lists (below bs)) (starts (take i (lists (below bs))) + k) i k = record { branch = omega (arith, b.0); within = omega (arith, ap length (list_at (below bs) i b.0)); sum = refl } in
     let within : starts (take i (lists (below bs))) + k < length c.args.self.now.slots = omega (arith, part.fits) in
-    let m = put_shrunk bs c.put-2.new.self ss ss (starts (take i (lists (below bs))) + k) i k c.count-len.result c.in-Some.slot c.in-Some.slot k (with_value c.take-node.result c.remove_by.new.self) c.deref_mut.result.now c.args.self.now
+    let m = put_shrunk bs c.put-2.new.self ss ss (starts (take i (lists (below bs))) + k) i k c.count-len.result c.in-Some.slot c.in-Some.slot k c.remove_by.new.self c.take-node.result c.args.self.now
     c.self.invariant.branches c.self.invariant.forked at v c.count-len.ensures c.requires.some within (omega (arith, c.count-len.ensures)) r.1 r.3 c.in-Some.ensures.height c.in-Some.ensures.width c.in-Some.ensures.dense
     (λ _. (refl, refl)) (λ e. absurd (omega (arith, c.count-len.ensures))) refl
-    (c.put-2.ensures.cell ∙ ap (λ l. set l c.in-Err-place.i (Some (with_value c.take-node.result c.remove_by.new.self))) c.take-node.ensures.cell)
+    (c.put-2.ensures.cell ∙ ap (λ l. set l c.in-Err-place.i (Some c.remove_by.new.self)) c.take-node.ensures.cell)
     (c.put-2.ensures.counts ∙ ap (λ l. set l c.in-Err-place.i (c.count-len.result - 1)) c.take-node.ensures.counts) c.self.view_is in
     m.1
 
@@ -188,7 +188,7 @@ returns-clause-slots g t c =
     let zero : 0 + starts (take i (lists (below bs))) ≡ starts (take i (lists (below bs))) = omega arith in
     let part = subst (IsPart (slot_standing g.T.IdOrdItem.key (g.Q.Comparable.compare c.args.query.now) c.args.store.now) c.args.self.now.slots (get_or (below bs) i unused).slots) zero (n.down i s) in
     let b = n.branch c.in-Err-place.i s.0 in
-    let v : c.deref_mut.result.now ≡ get_or (below c.self.inside.branches) c.in-Err-place.i unused = c.deref_mut.ensures.value ∙ c.take-node.ensures.node in
+    let v : c.take-node.result ≡ get_or (below c.self.inside.branches) c.in-Err-place.i unused = c.take-node.ensures.node in
     let r = c.in-Some.ensures.slots in
     let k = r.0 in
     let lt : k < length (get_or (below bs) i unused).slots = omega (arith, r.2.0, ap (λ t. length t.slots) v) in
@@ -207,7 +207,7 @@ returns-clause-steps g t c =
     let n = inner (slot_standing g.T.IdOrdItem.key (g.Q.Comparable.compare c.args.query.now) c.args.store.now) (IsOccupied c.args.store.now) c.args.self.now.slots (below c.self.inside.branches) c.self.inside.slots.items 0 c.args.self.now c.requires.monotone c.requires.occupied c.self.invariant.forked (c.is_empty.ensures.some c.if-is_empty.false) c.self.view_is (whole_part (slot_standing g.T.IdOrdItem.key (g.Q.Comparable.compare c.args.query.now) c.args.store.now) c.args.self.now.slots) in
     let s : IsPlace (slot_standing g.T.IdOrdItem.key (g.Q.Comparable.compare c.args.query.now) c.args.store.now) c.self.inside.slots.items (Err c.in-Err-place.i) = subst (λ l. IsPlace (slot_standing g.T.IdOrdItem.key (g.Q.Comparable.compare c.args.query.now) c.args.store.now) l (Err c.in-Err-place.i)) c.as_slice.ensures.value c.in-Err-place.ensures.place in
     let b = n.branch c.in-Err-place.i s.0 in
-    let v : c.deref_mut.result.now ≡ get_or (below c.self.inside.branches) c.in-Err-place.i unused = c.deref_mut.ensures.value ∙ c.take-node.ensures.node in
+    let v : c.take-node.result ≡ get_or (below c.self.inside.branches) c.in-Err-place.i unused = c.take-node.ensures.node in
     omega (arith, digits_four (length c.as_slice.result.now) c.as_slice.ensures.fits, c.search-place.ensures.steps, c.remove_by.ensures.steps, b.1.height, ap (λ t. t.height) v, ap (λ t. t.height) c.self.view_is)
 
 pub overflow_sub-len : goal.overflow_sub-len
@@ -222,10 +222,12 @@ returns-clause-gives_back g t c = λ falls.
     let n = inner (slot_standing g.T.IdOrdItem.key (g.Q.Comparable.compare c.args.query.now) c.args.store.now) (IsOccupied c.args.store.now) c.args.self.now.slots (below c.self.inside.branches) c.self.inside.slots.items 0 c.args.self.now c.requires.monotone c.requires.occupied c.self.invariant.forked (c.is_empty.ensures.some c.if-is_empty.false) c.self.view_is (whole_part (slot_standing g.T.IdOrdItem.key (g.Q.Comparable.compare c.args.query.now) c.args.store.now) c.args.self.now.slots) in
     let s : IsPlace (slot_standing g.T.IdOrdItem.key (g.Q.Comparable.compare c.args.query.now) c.args.store.now) c.self.inside.slots.items (Err c.in-Err-place.i) = subst (λ l. IsPlace (slot_standing g.T.IdOrdItem.key (g.Q.Comparable.compare c.args.query.now) c.args.store.now) l (Err c.in-Err-place.i)) c.as_slice.ensures.value c.in-Err-place.ensures.place in
     let b = n.branch c.in-Err-place.i s.0 in
-    let v : c.deref_mut.result.now ≡ get_or (below c.self.inside.branches) c.in-Err-place.i unused = c.deref_mut.ensures.value ∙ c.take-node.ensures.node in
+    let v : c.take-node.result ≡ get_or (below c.self.inside.branches) c.in-Err-place.i unused = c.take-node.ensures.node in
     let merged : length c.rebalance.new.slots.items < length c.self.inside.slots.items = omega (arith, falls, ap (λ x. x.width) c.self.view_is) in
     let short = c.rebalance.ensures.short merged in
-    let fell : c.remove_by.new.self.width < c.deref_mut.result.now.width = omega (arith, short, c.width-width.ensures.width, ap (λ x. x.width) c.deref.ensures, b.1.wide, ap (λ x. x.width) v) in
+    let fell : c.remove_by.new.self.width < c.take-node.result.width = omega (arith, short, c.width-width.ensures.width, b.1.wide, ap (λ x. x.width) v) in
     let below_it = c.remove_by.ensures.gives_back fell in
-    let more = one_more_back c.remove_by.new.pool c.rebalance.new.pool (c.args.pool.now.nodes + c.deref_mut.result.now.height - 1) (c.rebalance.ensures.gives_back merged) (omega (arith, below_it, c.remove_by.ensures.pool.0)) in
-    omega (arith, more, b.1.height, ap (λ x. x.height) v, ap (λ x. x.height) c.self.view_is, c.remove_by.ensures.pool.0, b.1.dense.low)
+    let high : levels (below c.put-2.new.self) ≡ c.args.self.now.height = (left g t c).height ∙ ap (λ x. x.height) c.self.view_is in
+    let h = ap (λ x. x.height) v in
+    gives_more c.args.self.now.height c.args.pool.now c.remove_by.new.pool c.rebalance.new.pool (omega (arith, high, b.1.height, b.1.dense.low, ap (λ x. x.height) c.self.view_is)) c.remove_by.ensures.kept c.remove_by.ensures.pool.0
+    (omega (arith, below_it, b.1.height, ap (λ x. x.height) c.self.view_is)) (subst (λ k. MayGiveBack k c.remove_by.new.pool c.rebalance.new.pool) high (c.rebalance.ensures.gives_back merged))

@@ -1,7 +1,6 @@
 use Rattle.std.proofs.Common.{◌≡◌, ◌+◌, ◌<◌, ℕ, Some, List, length, get_or, set, subst, ap, sym, ◌∙◌, arith, length-set}
 use Rattle.std.proofs.lemmas.Grind.{common_steps}
 use Rattle.std.proofs.lemmas.List.{map-set}
-use Rattle.std.specs.Box.{with_value}
 use Rattle.iddqd_ord_index.specs.Nodes.{below, AreBranches}
 use Rattle.iddqd_ord_index.specs.Shape.{Subtree, lists, in_order, levels, unused, IsBranchAt, IsForked, IsBranch, IsDense}
 use Rattle.iddqd_ord_index.proofs.BranchAtLemmas.{starts_is, own_read, branch_is, rest_within, branch_at_in, branch_at_fork, branch_at_list}
@@ -67,14 +66,14 @@ made t c =
     let rest = c.branch_at-i.result.1 in
     let f = c.self.invariant.forked in
     let new = c.rename.new.self in
-    let v : c.deref_mut.result.now ≡ get_or ts i unused = c.deref_mut.ensures.value ∙ c.take-node.ensures.node in
+    let v : c.take-node.result ≡ get_or ts i unused = c.take-node.ensures.node in
     let s : new.slots ≡ set (get_or ts i unused).slots rest c.args.new = c.rename.ensures.slots ∙ ap (λ t. set t.slots rest c.args.new) v in
     let m = length-set (get_or ts i unused).slots rest c.args.new in
     let w = rest_within ts ss c.args.at i rest f c.branch_at-i.ensures in
     let lt : rest < length (get_or ts i unused).slots = omega (arith, c.count-count.ensures, c.if-rest-count.false) in
     let r = renamed ts ss c.args.at i rest c.args.new new f c.branch_at-i.ensures lt s (c.rename.ensures.height ∙ ap (λ t. t.height) v) (c.rename.ensures.width ∙ ap (λ t. t.width) v) c.rename.ensures.dense in
-    let b = branches_put old c.put.new.self i c.count-count.result (with_value c.take-node.result new) c.self.invariant.branches (branch_at_in ts ss c.args.at i rest f c.branch_at-i.ensures)
-    (c.put.ensures.cell ∙ ap (λ l. set l i (Some (with_value c.take-node.result new))) c.take-node.ensures.cell)
+    let b = branches_put old c.put.new.self i c.count-count.result new c.self.invariant.branches (branch_at_in ts ss c.args.at i rest f c.branch_at-i.ensures)
+    (c.put.ensures.cell ∙ ap (λ l. set l i (Some new)) c.take-node.ensures.cell)
     (c.put.ensures.counts ∙ ap (λ l. set l i c.count-count.result) c.take-node.ensures.counts)
     (c.count-count.ensures ∙ (sym m ∙ sym (ap length s))) in
     let a = ap (λ t. set t.slots c.args.at c.args.new) c.self.view_is in

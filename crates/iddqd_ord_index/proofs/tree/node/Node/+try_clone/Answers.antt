@@ -29,12 +29,12 @@ loop-i-preserved t c =
     let i = c.loop-i.i in
     let n = length-take-le i ts (omega (arith, c.len-i-end.ensures)) in
     let m : length (below c.loop-i.branches) ≡ i = omega (arith, ap length c.loop-i.invariant.copied) in
-    let v : c.in_ok-new.field-0.value ≡ get_or ts i unused = c.in_ok-new.ensures.ok ∙ (c.in_ok-node.ensures ∙ c.get.ensures) in
-    let e = at_end (below c.loop-i.branches) i c.in_ok-new.field-0.value (sym m) in
+    let v : c.in_ok-node.node ≡ get_or ts i unused = c.in_ok-node.ensures ∙ c.get.ensures in
+    let e = at_end (below c.loop-i.branches) i c.in_ok-node.node (sym m) in
     record {
       branches = c.insert.ensures.branches;
       block = λ _. c.insert.ensures.block;
-      copied = c.insert.ensures.below ∙ (e ∙ (ap (λ l. l ++ c.in_ok-new.field-0.value ∷ []) c.loop-i.invariant.copied
+      copied = c.insert.ensures.below ∙ (e ∙ (ap (λ l. l ++ c.in_ok-node.node ∷ []) c.loop-i.invariant.copied
           ∙ (ap (λ x. take i ts ++ x ∷ []) v ∙ sym (take_more ts i unused (omega (arith, c.len-i-end.ensures))))));
     }
 

@@ -8,9 +8,9 @@ use Rattle.iddqd_ord_index.proofs.tree.node.insert.add_branch.Goals as goal
 pub returns-then-len-lt11-clause-adds : goal.returns-then-len-lt11-clause-adds
 returns-then-len-lt11-clause-adds c =
     let ts = below c.args.branches.now in
-    let l = more_lists ts (below c.insert-then-len-lt11.new.self) c.args.slots.now.items c.args.i c.args.middle c.args.upper.value c.requires.forked c.requires.inner c.requires.in_bounds c.insert-then-len-lt11.ensures.below c.requires.upper in
+    let l = more_lists ts (below c.insert-then-len-lt11.new.self) c.args.slots.now.items c.args.i c.args.middle c.args.upper c.requires.forked c.requires.inner c.requires.in_bounds c.insert-then-len-lt11.ensures.below c.requires.upper in
     record {
-      slots = ap (λ l. in_order l c.insert.new.self.items) l ∙ ap (λ ss. in_order (insert (lists ts) (c.args.i + 1) c.args.upper.value.slots) ss) c.insert.ensures.items;
+      slots = ap (λ l. in_order l c.insert.new.self.items) l ∙ ap (λ ss. in_order (insert (lists ts) (c.args.i + 1) c.args.upper.slots) ss) c.insert.ensures.items;
       wider = omega (arith, c.insert.ensures.len);
     }
 
@@ -20,4 +20,4 @@ overflow_add-i c = search rules
 pub returns-then-len-lt11-clause-forked : goal.returns-then-len-lt11-clause-forked
 returns-then-len-lt11-clause-forked c =
     let us = below c.insert-then-len-lt11.new.self in
-    subst (λ ss. IsForked us ss) (sym c.insert.ensures.items) (more_forked (below c.args.branches.now) us c.args.slots.now.items c.args.i c.args.middle c.args.upper.value c.requires.forked c.requires.inner c.requires.in_bounds c.insert-then-len-lt11.ensures.below c.requires.upper)
+    subst (λ ss. IsForked us ss) (sym c.insert.ensures.items) (more_forked (below c.args.branches.now) us c.args.slots.now.items c.args.i c.args.middle c.args.upper c.requires.forked c.requires.inner c.requires.in_bounds c.insert-then-len-lt11.ensures.below c.requires.upper)

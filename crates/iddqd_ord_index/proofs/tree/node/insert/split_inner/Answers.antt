@@ -20,8 +20,8 @@ halves c =
     let h = levels ts in
     let lo = below c.split.new.self in
     let up = below c.split.result in
-    let a = lower_all ts lo up c.args.upper.value (c.args.i + 1) h c.split.ensures.below c.requires.forked.branches c.requires.upper in
-    let b = upper_all ts lo up c.args.upper.value (c.args.i + 1) h c.split.ensures.below c.requires.forked.branches c.requires.upper in
+    let a = lower_all ts lo up c.args.upper (c.args.i + 1) h c.split.ensures.below c.requires.forked.branches c.requires.upper in
+    let b = upper_all ts lo up c.args.upper (c.args.i + 1) h c.split.ensures.below c.requires.forked.branches c.requires.upper in
     let n = c.split.ensures.lower ∙ (one_more_lower (leb c.args.i 5) ∙ ap (λ n. n + 1) (sym c.split_slots-top.ensures.lower)) in
     let m = c.split.ensures.upper ∙ (one_more_upper (leb c.args.i 5) ∙ ap (λ n. n + 1) (sym c.split_slots-top.ensures.upper)) in
     record {
@@ -47,7 +47,7 @@ returns-clause-split c =
     let h = halves c in
     let ts = below c.args.branches.now in
     record {
-      slots = lists_join ts (below c.split.new.self) (below c.split.result) c.args.upper.value (c.args.i + 1) (levels ts) c.split.ensures.below c.requires.forked.branches c.requires.upper
+      slots = lists_join ts (below c.split.new.self) (below c.split.result) c.args.upper (c.args.i + 1) (levels ts) c.split.ensures.below c.requires.forked.branches c.requires.upper
           c.split_slots-top.new.slots.items c.split_slots-top.new.upper.items _ c.split_slots-top.result c.split_slots-top.ensures.items h.lower (omega (arith, h.upper));
       wide = c.split_slots-top.ensures.wide.0;
       upper_wide = c.split_slots-top.ensures.wide.1;

@@ -1,7 +1,6 @@
 use Rattle.std.proofs.Common.{◌≡◌, ◌-◌, ◌<◌, Some, length, set, get_or, refl, ap, sym, ◌∙◌, arith, length-set}
 use Rattle.std.proofs.lemmas.List.Edits.{length-remove}
 use Rattle.std.specs.List.{remove}
-use Rattle.std.specs.Box.{with_value}
 use Rattle.iddqd_ord_index.specs.NodeRemoval.{own_place}
 use Rattle.iddqd_ord_index.specs.Nodes.{below, slots_of}
 use Rattle.iddqd_ord_index.specs.Shape.{levels, lists, tree, unused}
@@ -30,7 +29,7 @@ remove-last-requires c =
     let f = c.requires.forked in
     let lt : c.args.i < length ts = omega (arith, f.fork c.requires.inner, c.requires.in_bounds) in
     let k = branch_is ts ss f c.args.i lt in
-    let v : c.deref_mut.result.now ≡ get_or ts c.args.i unused = c.deref_mut.ensures.value ∙ c.take-node.ensures.node in
+    let v : c.take-node.result ≡ get_or ts c.args.i unused = c.take-node.ensures.node in
     let l = ap (λ t. length t.slots) v in
     record {
       place = omega (arith, c.count-len.ensures, branch_some (levels ts) (get_or ts c.args.i unused) k);
@@ -45,16 +44,16 @@ rebalance-requires c =
     let f = c.requires.forked in
     let b = own_branch_at (below bs) ss f c.requires.inner c.args.i c.requires.in_bounds in
     let within = own_position (below bs) ss f c.requires.inner c.args.i c.requires.in_bounds in
-    let m = put_shrunk bs c.put.new.self ss c.replace-slot.new.self.items (own_place bs c.args.i) c.args.i (length (get_or (below bs) c.args.i unused).slots) c.count-len.result c.remove-last.result c.replace-slot.result (c.count-len.result - 1) (with_value c.take-node.result c.remove-last.new.self) c.deref_mut.result.now (tree (below bs) ss)
-    c.requires.branches f b (c.deref_mut.ensures.value ∙ c.take-node.ensures.node) c.count-len.ensures (λ lt. omega arith) within (omega (arith, c.count-len.ensures)) c.remove-last.ensures.value c.remove-last.ensures.slots c.remove-last.ensures.height c.remove-last.ensures.width c.remove-last.ensures.dense
+    let m = put_shrunk bs c.put.new.self ss c.replace-slot.new.self.items (own_place bs c.args.i) c.args.i (length (get_or (below bs) c.args.i unused).slots) c.count-len.result c.remove-last.result c.replace-slot.result (c.count-len.result - 1) c.remove-last.new.self c.take-node.result (tree (below bs) ss)
+    c.requires.branches f b c.take-node.ensures.node c.count-len.ensures (λ lt. omega arith) within (omega (arith, c.count-len.ensures)) c.remove-last.ensures.value c.remove-last.ensures.slots c.remove-last.ensures.height c.remove-last.ensures.width c.remove-last.ensures.dense
     (λ lt. absurd (omega arith)) (λ e. (c.replace-slot.ensures.value, c.replace-slot.ensures.items)) (ap length c.replace-slot.ensures.items ∙ length-set ss c.args.i c.remove-last.result)
-    (c.put.ensures.cell ∙ ap (λ l. set l c.args.i (Some (with_value c.take-node.result c.remove-last.new.self))) c.take-node.ensures.cell)
+    (c.put.ensures.cell ∙ ap (λ l. set l c.args.i (Some c.remove-last.new.self)) c.take-node.ensures.cell)
     (c.put.ensures.counts ∙ ap (λ l. set l c.args.i (c.count-len.result - 1)) c.take-node.ensures.counts) refl in
     let s = starts_in_order (lists (below c.put.new.self)) c.replace-slot.new.self.items (length-lists (below c.put.new.self) ∙ m.1.near.fork) in
     record {
       branches = m.0;
       near = m.1.near;
-      width = c.width-width.ensures.width ∙ (ap (λ t. t.width) c.deref.ensures ∙ sym m.2);
+      width = c.width-width.ensures.width ∙ sym m.2;
       room = omega (arith, ap length m.1.list, length-remove (tree (below bs) ss).slots (own_place bs c.args.i) within, c.requires.room);
     }
 
@@ -67,10 +66,10 @@ left c =
     let f = c.requires.forked in
     let b = own_branch_at (below bs) ss f c.requires.inner c.args.i c.requires.in_bounds in
     let within = own_position (below bs) ss f c.requires.inner c.args.i c.requires.in_bounds in
-    let m = put_shrunk bs c.put.new.self ss c.replace-slot.new.self.items (own_place bs c.args.i) c.args.i (length (get_or (below bs) c.args.i unused).slots) c.count-len.result c.remove-last.result c.replace-slot.result (c.count-len.result - 1) (with_value c.take-node.result c.remove-last.new.self) c.deref_mut.result.now (tree (below bs) ss)
-    c.requires.branches f b (c.deref_mut.ensures.value ∙ c.take-node.ensures.node) c.count-len.ensures (λ lt. omega arith) within (omega (arith, c.count-len.ensures)) c.remove-last.ensures.value c.remove-last.ensures.slots c.remove-last.ensures.height c.remove-last.ensures.width c.remove-last.ensures.dense
+    let m = put_shrunk bs c.put.new.self ss c.replace-slot.new.self.items (own_place bs c.args.i) c.args.i (length (get_or (below bs) c.args.i unused).slots) c.count-len.result c.remove-last.result c.replace-slot.result (c.count-len.result - 1) c.remove-last.new.self c.take-node.result (tree (below bs) ss)
+    c.requires.branches f b c.take-node.ensures.node c.count-len.ensures (λ lt. omega arith) within (omega (arith, c.count-len.ensures)) c.remove-last.ensures.value c.remove-last.ensures.slots c.remove-last.ensures.height c.remove-last.ensures.width c.remove-last.ensures.dense
     (λ lt. absurd (omega arith)) (λ e. (c.replace-slot.ensures.value, c.replace-slot.ensures.items)) (ap length c.replace-slot.ensures.items ∙ length-set ss c.args.i c.remove-last.result)
-    (c.put.ensures.cell ∙ ap (λ l. set l c.args.i (Some (with_value c.take-node.result c.remove-last.new.self))) c.take-node.ensures.cell)
+    (c.put.ensures.cell ∙ ap (λ l. set l c.args.i (Some c.remove-last.new.self)) c.take-node.ensures.cell)
     (c.put.ensures.counts ∙ ap (λ l. set l c.args.i (c.count-len.result - 1)) c.take-node.ensures.counts) refl in
     m.1
 

@@ -1,7 +1,7 @@
 use Rattle.std.proofs.Common.{◌≡◌, ◌-◌, ◌≤◌, vec_len}
 use Rattle.std.specs.Vec.{vec_capacity}
 use Rattle.iddqd_ord_index.specs.Changes.{AreBare}
-use Rattle.iddqd_ord_index.proofs.tree.pool.fill_blocks.Given as goal
+use Rattle.iddqd_ord_index.proofs.tree.pool.fill.Given as goal
 
 abbrev pub invariant-fill : goal.invariant-fill
 invariant-fill l = record {
