@@ -1,6 +1,7 @@
 pub mod AddLemmas
 pub mod BranchAtLemmas
 pub mod BelowLemmas
+pub mod CellLemmas
 pub mod CutLemmas
 pub mod DenseLemmas
 pub mod DescentLemmas

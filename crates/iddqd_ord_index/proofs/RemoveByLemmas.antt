@@ -1,14 +1,10 @@
 -- A removal by key at a node: of an own slot, of one below a branch, or of none.
-use Rattle.std.proofs.Common.{◌≡◌, ℕ, ◌+◌, ◌-◌, ◌<◌, List, [], ◌∷◌, length, take, drop, get_or, set, Some, None, Err, refl, sym, ap, ◌∙◌, arith, length-drop}
-use Rattle.std.proofs.lemmas.List.{set-get_or}
+use Rattle.std.proofs.Common.{◌≡◌, ℕ, ◌+◌, ◌-◌, ◌<◌, List, [], ◌∷◌, length, take, drop, get_or, Err, refl, ap, arith, length-drop}
 use Rattle.std.specs.List.{All}
 use Rattle.std.specs.declared.cmp.Ordering.{Ordering}
-use Rattle.iddqd_ord_index.specs.Nodes.{below, AreBranches, counts_of, nodes_of}
 use Rattle.iddqd_ord_index.specs.Shape.{Subtree, in_order, lists, starts, tree, unused, IsBranchAt, IsForked}
 use Rattle.iddqd_ord_index.specs.Standing.{IsMonotone, IsPart, IsPlace}
-use Rattle.iddqd_ord_index.specs.declared.tree.node.Branches.{Branches}
-use Rattle.iddqd_ord_index.specs.declared.tree.node.Node.{Node}
-use Rattle.iddqd_ord_index.proofs.BelowLemmas.{branches_put, length-lists, list_at}
+use Rattle.iddqd_ord_index.proofs.BelowLemmas.{length-lists, list_at}
 use Rattle.iddqd_ord_index.proofs.BranchAtLemmas.{starts_is}
 use Rattle.iddqd_ord_index.proofs.DescentLemmas.{inner, leaf}
 use Rattle.iddqd_ord_index.proofs.FoundLemmas.{whole_part, missed_front, missed_back}
@@ -37,10 +33,3 @@ own_slots order P (t ∷ ts) ss self m a f v = let n = inner order P self.slots 
 -- the query is on no slot of the branch where it belongs, so on none of the node
 pub missed_below : (order : ℕ → Ordering) (xs ys : List ℕ) (base : ℕ) → IsPart order xs ys base → (k : ℕ) → IsPlace order ys (Err k) → IsPlace order xs (Err (base + k))
 missed_below order xs ys base part k p = (omega (arith, p.0, part.fits), λ j lt. missed_front order xs ys base part k j p.0 p.1 lt, λ j le lt. missed_back order xs ys base part k j p.0 p.2 le lt)
-
--- a branch that did not change was put back
-pub put_same : (old new : Branches) (i count : ℕ) (b : Node) → AreBranches old → i < length (below old) → b ≡ get_or (below old) i unused → count ≡ length (get_or (below old) i unused).slots
-    → (nodes_of new) ≡ set (set (nodes_of old) i None) i (Some b) → (counts_of new) ≡ set (counts_of old) i count → AreBranches new × (below new ≡ below old)
-put_same old new i count b a lt v c n k =
-    let q = branches_put old new i count b a lt n k (c ∙ ap (λ t. length t.slots) (sym v)) in
-    (q.0, q.1 ∙ (ap (set (below old) i) v ∙ set-get_or (below old) i unused))

@@ -38,10 +38,16 @@ fn remove_own(slots: &mut Slots, branches: &mut Branches, i: usize, pool: &mut B
     ensures pool { (pool.new.wanted ≡ pool.old.wanted) × (pool.new.room ≡ pool.old.room) }
 {
     let len = branches.count(i);
-    let mut node = branches.take(i);
+    let Some(block) = &mut branches.block else {
+        unreachable!()
+    };
+    let nodes: &mut [Option<Node>] = &mut block.nodes;
+    let Some(node) = &mut nodes[i] else {
+        unreachable!()
+    };
     let last = node.remove(len - 1, pool);
     let width = node.width();
-    branches.put(i, node, len - 1);
+    branches.set_count(i, len - 1);
     let slot = slots.replace(i, last);
     rebalance(slots, branches, i, width, pool);
     slot
@@ -90,13 +96,17 @@ impl Node {
             Err(i) => i,
         };
         let len = self.branches.count(i);
-        let mut node = self.branches.take(i);
-        let Some(slot) = node.remove_by(store, query, pool, steps) else {
-            self.branches.put(i, node, len);
-            return None;
+        // The branch stays in its cell, so that nothing is written if there is no such slot.
+        let Some(block) = &mut self.branches.block else {
+            unreachable!()
         };
+        let nodes: &mut [Option<Node>] = &mut block.nodes;
+        let Some(node) = &mut nodes[i] else {
+            unreachable!()
+        };
+        let slot = node.remove_by(store, query, pool, steps)?;
         let width = node.width();
-        self.branches.put(i, node, len - 1);
+        self.branches.set_count(i, len - 1);
         rebalance(&mut self.slots, &mut self.branches, i, width, pool);
         Some(slot)
     }
