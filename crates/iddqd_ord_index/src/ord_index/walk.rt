@@ -70,19 +70,24 @@ fn step<'a>(root: &'a Node, leaves: &mut LeafWalk<'a>, at: u32) -> u32
 {
     match leaves.next() {
         Some(slot) => slot,
-        None => descend(root, leaves, at),
+        None => {
+            let (slot, behind) = descend(root, at);
+            *leaves = behind;
+            slot
+        }
     }
 }
 
-// Returns the slot at the position, and leaves a walk that goes on behind it.
+// Returns the slot at the position, and a walk that goes on behind it. By value, so that the caller's walk can stay in registers.
 #[inline(never)]
-fn descend<'a>(root: &'a Node, leaves: &mut LeafWalk<'a>, at: u32) -> u32
+fn descend(root: &Node, at: u32) -> (u32, LeafWalk<'_>)
     requires in_list { at < length root.now.slots }
-    ensures slot { result ≡ slice_index root.now.slots at }
-    ensures there { BeginsWith leaves.new (drop (at + 1) root.now.slots) }
+    ensures slot { result.0 ≡ slice_index root.now.slots at }
+    ensures there { BeginsWith result.1 (drop (at + 1) root.now.slots) }
 {
-    *leaves = root.leaves_at(at);
-    leaves.next().unwrap()
+    let mut leaves = root.leaves_at(at);
+    let slot = leaves.next().unwrap();
+    (slot, leaves)
 }
 
 // Returns the slot at the position, at which the leaves end. It goes down from the root if they are at their front.
@@ -95,19 +100,24 @@ fn step_back<'a>(root: &'a Node, leaves: &mut LeafWalkBack<'a>, at: u32) -> u32
 {
     match leaves.next() {
         Some(slot) => slot,
-        None => descend_back(root, leaves, at),
+        None => {
+            let (slot, before) = descend_back(root, at);
+            *leaves = before;
+            slot
+        }
     }
 }
 
-// Returns the slot at the position, and leaves a walk that goes on before it.
+// Returns the slot at the position, and a walk that goes on before it.
 #[inline(never)]
-fn descend_back<'a>(root: &'a Node, leaves: &mut LeafWalkBack<'a>, at: u32) -> u32
+fn descend_back(root: &Node, at: u32) -> (u32, LeafWalkBack<'_>)
     requires in_list { at < length root.now.slots }
-    ensures slot { result ≡ slice_index root.now.slots at }
-    ensures there { EndsWith leaves.new (take at root.now.slots) }
+    ensures slot { result.0 ≡ slice_index root.now.slots at }
+    ensures there { EndsWith result.1 (take at root.now.slots) }
 {
-    *leaves = root.leaves_before(at);
-    leaves.next().unwrap()
+    let mut leaves = root.leaves_before(at);
+    let slot = leaves.next().unwrap();
+    (slot, leaves)
 }
 
 impl Iterator for Walk<'_> {
@@ -140,6 +150,7 @@ impl Iterator for Walk<'_> {
 impl DoubleEndedIterator for Walk<'_> {
     ghost next_back_gives = { YieldsLast (λ w. w) };
 
+    #[inline]
     fn next_back(&mut self) -> Option<u32> {
         if self.end == self.next {
             return None;
