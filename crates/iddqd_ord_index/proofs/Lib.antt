@@ -2,6 +2,7 @@ pub mod AddLemmas
 pub mod BackLemmas
 pub mod BranchAtLemmas
 pub mod BelowLemmas
+pub mod CellLemmas
 pub mod CutLemmas
 pub mod DenseLemmas
 pub mod DescentLemmas

@@ -37,10 +37,3 @@ own_slots order P (t ∷ ts) ss self m a f v = let n = inner order P self.slots 
 -- the query is on no slot of the branch where it belongs, so on none of the node
 pub missed_below : (order : ℕ → Ordering) (xs ys : List ℕ) (base : ℕ) → IsPart order xs ys base → (k : ℕ) → IsPlace order ys (Err k) → IsPlace order xs (Err (base + k))
 missed_below order xs ys base part k p = (omega (arith, p.0, part.fits), λ j lt. missed_front order xs ys base part k j p.0 p.1 lt, λ j le lt. missed_back order xs ys base part k j p.0 p.2 le lt)
-
--- a branch that did not change was put back
-pub put_same : (old new : Branches) (i count : ℕ) (b : Box Node Global) → AreBranches old → i < length (below old) → b.value ≡ get_or (below old) i unused → count ≡ length (get_or (below old) i unused).slots
-    → (nodes_of new) ≡ set (set (nodes_of old) i None) i (Some b) → (counts_of new) ≡ set (counts_of old) i count → AreBranches new × (below new ≡ below old)
-put_same old new i count b a lt v c n k =
-    let q = branches_put old new i count b a lt n k (c ∙ ap (λ t. length t.slots) (sym v)) in
-    (q.0, q.1 ∙ (ap (set (below old) i) v ∙ set-get_or (below old) i unused))

@@ -50,6 +50,15 @@ impl Block {
         (node, self.counts.remove(i))
     }
 
+    // Sets the number of slots below the i-th branch.
+    fn set_count(&mut self, i: usize, count: u32)
+        requires { i < length self.old.counts.items }
+        ensures nodes { self.new.nodes ≡ self.old.nodes }
+        ensures counts { self.new.counts.items ≡ slice_set self.old.counts.items i count }
+    {
+        replace(&mut self.counts, i, count);
+    }
+
     // Moves all branches of `upper` behind these.
     fn append(&mut self, upper: &mut Block)
         requires block { IsBlock self.old }
@@ -332,7 +341,19 @@ impl Branches {
             unreachable!()
         };
         cells::put(&mut block.nodes, i, node);
-        replace(&mut block.counts, i, count);
+        block.set_count(i, count);
+    }
+
+    // Sets the number of slots below the i-th branch.
+    pub(super) fn set_count(&mut self, i: usize, count: u32)
+        requires { i < length (counts_of self.old) }
+        ensures cells { nodes_of self.new ≡ nodes_of self.old }
+        ensures counts { counts_of self.new ≡ slice_set (counts_of self.old) i count }
+    {
+        let Some(block) = &mut self.block else {
+            unreachable!()
+        };
+        block.set_count(i, count);
     }
 
     // Moves all branches of `upper` behind these.

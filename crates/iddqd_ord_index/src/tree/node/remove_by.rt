@@ -90,13 +90,17 @@ impl Node {
             Err(i) => i,
         };
         let len = self.branches.count(i);
-        let mut node = self.branches.take(i);
-        let Some(slot) = node.remove_by(store, query, pool, steps) else {
-            self.branches.put(i, node, len);
-            return None;
+        // The branch stays in its cell, so that nothing is written if there is no such slot.
+        let Some(block) = &mut self.branches.block else {
+            unreachable!()
         };
+        let nodes: &mut [Option<Box<Node>>] = &mut block.nodes;
+        let Some(node) = &mut nodes[i] else {
+            unreachable!()
+        };
+        let slot = node.remove_by(store, query, pool, steps)?;
         let width = node.width();
-        self.branches.put(i, node, len - 1);
+        self.branches.set_count(i, len - 1);
         rebalance(&mut self.slots, &mut self.branches, i, width, pool);
         Some(slot)
     }

@@ -8,13 +8,14 @@ use Rattle.iddqd_ord_index.specs.NodeRemoval.{own_place}
 use Rattle.iddqd_ord_index.specs.Nodes.{below, AreBranches}
 use Rattle.iddqd_ord_index.specs.Shape.{levels, lists, starts, tree, unused, IsBranchAt, IsForked}
 use Rattle.iddqd_ord_index.specs.Standing.{slot_standing, IsMonotone, IsPart, IsPlace}
-use Rattle.iddqd_ord_index.proofs.BelowLemmas.{length-lists, list_at}
+use Rattle.iddqd_ord_index.proofs.BelowLemmas.{length-lists, list_at, none_below}
 use Rattle.iddqd_ord_index.proofs.BranchAtLemmas.{inner_levels, leaf_levels}
+use Rattle.iddqd_ord_index.proofs.CellLemmas.{branch_in, branches_with, cell_full, counted, changed_counts, changed_nodes, kept}
 use Rattle.iddqd_ord_index.proofs.DenseLemmas.{branch_some, dense_of}
 use Rattle.iddqd_ord_index.proofs.DescentLemmas.{inner, digits_four}
 use Rattle.iddqd_ord_index.proofs.FoundLemmas.{whole_part, part_all, part_mono, found_place}
 use Rattle.iddqd_ord_index.proofs.InOrderLemmas.{starts_in_order}
-use Rattle.iddqd_ord_index.proofs.RemoveByLemmas.{own_slots, missed_below, put_same}
+use Rattle.iddqd_ord_index.proofs.RemoveByLemmas.{own_slots, missed_below}
 use Rattle.iddqd_ord_index.proofs.RemoveLemmas.{IsShrunk, one_more_back, put_shrunk}
 use Rattle.iddqd_ord_index.proofs.tree.node.Node.+remove_by.Given.{Over}
 use Rattle.iddqd_ord_index.proofs.tree.node.Node.+remove_by.Goals as goal
@@ -57,7 +58,7 @@ remove_by-requires g t c κs within =
     let s : IsPlace (slot_standing g.T.IdOrdItem.key (g.Q.Comparable.compare c.args.query.now) c.args.store.now) c.self.inside.slots.items (Err c.in-Err-place.i) = subst (λ l. IsPlace (slot_standing g.T.IdOrdItem.key (g.Q.Comparable.compare c.args.query.now) c.args.store.now) l (Err c.in-Err-place.i)) c.as_slice.ensures.value c.in-Err-place.ensures.place in
     let b = n.branch c.in-Err-place.i s.0 in
     let part = n.down c.in-Err-place.i s in
-    let v : c.deref_mut.result.now ≡ get_or (below c.self.inside.branches) c.in-Err-place.i unused = c.deref_mut.ensures.value ∙ c.take-node.ensures.node in
+    let v : c.deref_mut-2.result.now ≡ get_or (below c.self.inside.branches) c.in-Err-place.i unused = c.deref_mut-2.ensures.value ∙ branch_in c.self.inside.branches c.in-Some.block c.deref_mut.result.now c.in-Some.is c.deref_mut.ensures.value c.self.invariant.branches c.in-Err-place.i b.0 _ c.in-Some-nodes.node c.index-nodes-i.is c.in-Some-nodes.is in
     let x = c.self.view_is in (
       omega (arith, b.1.height, ap (λ t. t.height) v, ap (λ t. t.height) x, c.decreases),
       (
@@ -78,48 +79,46 @@ remove_by-requires g t c κs within =
       ),
     )
 
--- a branch that kept its slots is in its place again
-kept : (g : Over) (t : ℕ) (c : goal.After-put g t) → AreBranches c.put.new.self × (below c.put.new.self ≡ below c.self.inside.branches)
-kept g t c =
+-- a branch that kept its slots is in its place
+same : (g : Over) (t : ℕ) (c : goal.After-from_residual g t) → AreBranches (branches_with c.in-Some.block c.deref_mut.result.now c.in-Err-place.i (with_value c.in-Some-nodes.node c.remove_by.new.self) c.deref_mut.result.now.counts) × (below (branches_with c.in-Some.block c.deref_mut.result.now c.in-Err-place.i (with_value c.in-Some-nodes.node c.remove_by.new.self) c.deref_mut.result.now.counts) ≡ below c.self.inside.branches)
+same g t c =
     let n = inner (slot_standing g.T.IdOrdItem.key (g.Q.Comparable.compare c.args.query.now) c.args.store.now) (IsOccupied c.args.store.now) c.args.self.now.slots (below c.self.inside.branches) c.self.inside.slots.items 0 c.args.self.now c.requires.monotone c.requires.occupied c.self.invariant.forked (c.is_empty.ensures.some c.if-is_empty.false) c.self.view_is (whole_part (slot_standing g.T.IdOrdItem.key (g.Q.Comparable.compare c.args.query.now) c.args.store.now) c.args.self.now.slots) in
     let s : IsPlace (slot_standing g.T.IdOrdItem.key (g.Q.Comparable.compare c.args.query.now) c.args.store.now) c.self.inside.slots.items (Err c.in-Err-place.i) = subst (λ l. IsPlace (slot_standing g.T.IdOrdItem.key (g.Q.Comparable.compare c.args.query.now) c.args.store.now) l (Err c.in-Err-place.i)) c.as_slice.ensures.value c.in-Err-place.ensures.place in
     let b = n.branch c.in-Err-place.i s.0 in
-    let v : c.deref_mut.result.now ≡ get_or (below c.self.inside.branches) c.in-Err-place.i unused = c.deref_mut.ensures.value ∙ c.take-node.ensures.node in
-    put_same c.self.inside.branches c.put.new.self c.in-Err-place.i c.count-len.result (with_value c.take-node.result c.remove_by.new.self) c.self.invariant.branches b.0 (c.in_default.ensures.unchanged ∙ v) c.count-len.ensures
-    (c.put.ensures.cell ∙ ap (λ l. set l c.in-Err-place.i (Some (with_value c.take-node.result c.remove_by.new.self))) c.take-node.ensures.cell)
-    (c.put.ensures.counts ∙ ap (λ l. set l c.in-Err-place.i c.count-len.result) c.take-node.ensures.counts)
+    let v : c.deref_mut-2.result.now ≡ get_or (below c.self.inside.branches) c.in-Err-place.i unused = c.deref_mut-2.ensures.value ∙ branch_in c.self.inside.branches c.in-Some.block c.deref_mut.result.now c.in-Some.is c.deref_mut.ensures.value c.self.invariant.branches c.in-Err-place.i b.0 _ c.in-Some-nodes.node c.index-nodes-i.is c.in-Some-nodes.is in
+    kept c.self.inside.branches c.in-Some.block c.deref_mut.result.now c.in-Some.is c.deref_mut.ensures.value c.self.invariant.branches c.in-Err-place.i b.0 (with_value c.in-Some-nodes.node c.remove_by.new.self) (c.in_err-slot.ensures.unchanged ∙ v)
 
-pub invariant_of-self-in_default : goal.invariant_of-self-in_default
-invariant_of-self-in_default g t c =
-    let w = kept g t c in
+pub invariant_of-self-in_err-slot : goal.invariant_of-self-in_err-slot
+invariant_of-self-in_err-slot g t c =
+    let w = same g t c in
     record { branches = w.0; forked = subst (λ ts. IsForked ts c.self.inside.slots.items) (sym w.1) c.self.invariant.forked }
 
-pub returns-in_default-clause-slots : goal.returns-in_default-clause-slots
-returns-in_default-clause-slots g t c =
+pub returns-in_err-slot-clause-slots : goal.returns-in_err-slot-clause-slots
+returns-in_err-slot-clause-slots g t c =
     let n = inner (slot_standing g.T.IdOrdItem.key (g.Q.Comparable.compare c.args.query.now) c.args.store.now) (IsOccupied c.args.store.now) c.args.self.now.slots (below c.self.inside.branches) c.self.inside.slots.items 0 c.args.self.now c.requires.monotone c.requires.occupied c.self.invariant.forked (c.is_empty.ensures.some c.if-is_empty.false) c.self.view_is (whole_part (slot_standing g.T.IdOrdItem.key (g.Q.Comparable.compare c.args.query.now) c.args.store.now) c.args.self.now.slots) in
     let s : IsPlace (slot_standing g.T.IdOrdItem.key (g.Q.Comparable.compare c.args.query.now) c.args.store.now) c.self.inside.slots.items (Err c.in-Err-place.i) = subst (λ l. IsPlace (slot_standing g.T.IdOrdItem.key (g.Q.Comparable.compare c.args.query.now) c.args.store.now) l (Err c.in-Err-place.i)) c.as_slice.ensures.value c.in-Err-place.ensures.place in
     let b = n.branch c.in-Err-place.i s.0 in
-    let v : c.deref_mut.result.now ≡ get_or (below c.self.inside.branches) c.in-Err-place.i unused = c.deref_mut.ensures.value ∙ c.take-node.ensures.node in
-    let r = c.in_default.ensures.slots in
+    let v : c.deref_mut-2.result.now ≡ get_or (below c.self.inside.branches) c.in-Err-place.i unused = c.deref_mut-2.ensures.value ∙ branch_in c.self.inside.branches c.in-Some.block c.deref_mut.result.now c.in-Some.is c.deref_mut.ensures.value c.self.invariant.branches c.in-Err-place.i b.0 _ c.in-Some-nodes.node c.index-nodes-i.is c.in-Some-nodes.is in
+    let r = c.in_err-slot.ensures.slots in
     let q = subst (λ t. IsPlace (slot_standing g.T.IdOrdItem.key (g.Q.Comparable.compare c.args.query.now) c.args.store.now) t.slots (Err r.0.0)) v r.0.1 in
-    ((_, missed_below (slot_standing g.T.IdOrdItem.key (g.Q.Comparable.compare c.args.query.now) c.args.store.now) c.args.self.now.slots _ _ (n.down c.in-Err-place.i s) r.0.0 q), ap (λ ts. (tree ts c.self.inside.slots.items).slots) (kept g t c).1 ∙ ap (λ t. t.slots) c.self.view_is)
+    rw c.from_residual.ensures ((_, missed_below (slot_standing g.T.IdOrdItem.key (g.Q.Comparable.compare c.args.query.now) c.args.store.now) c.args.self.now.slots _ _ (n.down c.in-Err-place.i s) r.0.0 q), ap (λ ts. (tree ts c.self.inside.slots.items).slots) (same g t c).1 ∙ ap (λ t. t.slots) c.self.view_is)
 
-pub returns-in_default-clause-unchanged : goal.returns-in_default-clause-unchanged
-returns-in_default-clause-unchanged g t c = (ap (λ ts. tree ts c.self.inside.slots.items) (kept g t c).1 ∙ c.self.view_is)
+pub returns-in_err-slot-clause-unchanged : goal.returns-in_err-slot-clause-unchanged
+returns-in_err-slot-clause-unchanged g t c = rw c.from_residual.ensures (ap (λ ts. tree ts c.self.inside.slots.items) (same g t c).1 ∙ c.self.view_is)
 
-pub returns-in_default-clause-height : goal.returns-in_default-clause-height
-returns-in_default-clause-height g t c = ap levels (kept g t c).1 ∙ ap (λ t. t.height) c.self.view_is
+pub returns-in_err-slot-clause-height : goal.returns-in_err-slot-clause-height
+returns-in_err-slot-clause-height g t c = ap levels (same g t c).1 ∙ ap (λ t. t.height) c.self.view_is
 
-pub returns-in_default-clause-dense : goal.returns-in_default-clause-dense
-returns-in_default-clause-dense g t c =
-    dense_of (below c.put.new.self) c.self.inside.slots.items (subst (λ ts. IsForked ts c.self.inside.slots.items) (sym (kept g t c).1) c.self.invariant.forked)
+pub returns-in_err-slot-clause-dense : goal.returns-in_err-slot-clause-dense
+returns-in_err-slot-clause-dense g t c =
+    dense_of (below (branches_with c.in-Some.block c.deref_mut.result.now c.in-Err-place.i (with_value c.in-Some-nodes.node c.remove_by.new.self) c.deref_mut.result.now.counts)) c.self.inside.slots.items (subst (λ ts. IsForked ts c.self.inside.slots.items) (sym (same g t c).1) c.self.invariant.forked)
 
-pub returns-in_default-clause-steps : goal.returns-in_default-clause-steps
-returns-in_default-clause-steps g t c =
+pub returns-in_err-slot-clause-steps : goal.returns-in_err-slot-clause-steps
+returns-in_err-slot-clause-steps g t c =
     let n = inner (slot_standing g.T.IdOrdItem.key (g.Q.Comparable.compare c.args.query.now) c.args.store.now) (IsOccupied c.args.store.now) c.args.self.now.slots (below c.self.inside.branches) c.self.inside.slots.items 0 c.args.self.now c.requires.monotone c.requires.occupied c.self.invariant.forked (c.is_empty.ensures.some c.if-is_empty.false) c.self.view_is (whole_part (slot_standing g.T.IdOrdItem.key (g.Q.Comparable.compare c.args.query.now) c.args.store.now) c.args.self.now.slots) in
     let s : IsPlace (slot_standing g.T.IdOrdItem.key (g.Q.Comparable.compare c.args.query.now) c.args.store.now) c.self.inside.slots.items (Err c.in-Err-place.i) = subst (λ l. IsPlace (slot_standing g.T.IdOrdItem.key (g.Q.Comparable.compare c.args.query.now) c.args.store.now) l (Err c.in-Err-place.i)) c.as_slice.ensures.value c.in-Err-place.ensures.place in
     let b = n.branch c.in-Err-place.i s.0 in
-    let v : c.deref_mut.result.now ≡ get_or (below c.self.inside.branches) c.in-Err-place.i unused = c.deref_mut.ensures.value ∙ c.take-node.ensures.node in
+    let v : c.deref_mut-2.result.now ≡ get_or (below c.self.inside.branches) c.in-Err-place.i unused = c.deref_mut-2.ensures.value ∙ branch_in c.self.inside.branches c.in-Some.block c.deref_mut.result.now c.in-Some.is c.deref_mut.ensures.value c.self.invariant.branches c.in-Err-place.i b.0 _ c.in-Some-nodes.node c.index-nodes-i.is c.in-Some-nodes.is in
     omega (arith, digits_four (length c.as_slice.result.now) c.as_slice.ensures.fits, c.search-place.ensures.steps, c.remove_by.ensures.steps, b.1.height, ap (λ t. t.height) v, ap (λ t. t.height) c.self.view_is)
 
 pub rebalance-requires : goal.rebalance-requires
@@ -133,18 +132,18 @@ rebalance-requires g t c =
     let part = subst (IsPart (slot_standing g.T.IdOrdItem.key (g.Q.Comparable.compare c.args.query.now) c.args.store.now) c.args.self.now.slots (get_or (below bs) i unused).slots) zero (n.down i s) in
     let fork = length-lists (below bs) in
     let b = n.branch i s.0 in
-    let v : c.deref_mut.result.now ≡ get_or (below c.self.inside.branches) c.in-Err-place.i unused = c.deref_mut.ensures.value ∙ c.take-node.ensures.node in
-    let r = c.in-Some.ensures.slots in
+    let v : c.deref_mut-2.result.now ≡ get_or (below c.self.inside.branches) c.in-Err-place.i unused = c.deref_mut-2.ensures.value ∙ branch_in c.self.inside.branches c.in-Some.block c.deref_mut.result.now c.in-Some.is c.deref_mut.ensures.value c.self.invariant.branches c.in-Err-place.i b.0 _ c.in-Some-nodes.node c.index-nodes-i.is c.in-Some-nodes.is in
+    let r = c.in_ok-slot.ensures.slots in
     let k = r.0 in
     let lt : k < length (get_or (below bs) i unused).slots = omega (arith, r.2.0, ap (λ t. length t.slots) v) in
     let at : IsBranchAt (lists (below bs)) (starts (take i (lists (below bs))) + k) i k = record { branch = omega (arith, b.0); within = omega (arith, ap length (list_at (below bs) i b.0)); sum = refl } in
     let within : starts (take i (lists (below bs))) + k < length c.args.self.now.slots = omega (arith, part.fits) in
-    let m = put_shrunk bs c.put-2.new.self ss ss (starts (take i (lists (below bs))) + k) i k c.count-len.result c.in-Some.slot c.in-Some.slot k (with_value c.take-node.result c.remove_by.new.self) c.deref_mut.result.now c.args.self.now
-    c.self.invariant.branches c.self.invariant.forked at v c.count-len.ensures c.requires.some within (omega (arith, c.count-len.ensures)) r.1 r.3 c.in-Some.ensures.height c.in-Some.ensures.width c.in-Some.ensures.dense
+    let m = put_shrunk bs c.set_count.new.self ss ss (starts (take i (lists (below bs))) + k) i k c.count-len.result c.in_ok-slot.slot c.in_ok-slot.slot k (with_value c.in-Some-nodes.node c.remove_by.new.self) c.deref_mut-2.result.now c.args.self.now
+    c.self.invariant.branches c.self.invariant.forked at v c.count-len.ensures c.requires.some within (omega (arith, c.count-len.ensures)) r.1 r.3 c.in_ok-slot.ensures.height c.in_ok-slot.ensures.width c.in_ok-slot.ensures.dense
     (λ _. (refl, refl)) (λ e. absurd (omega (arith, c.count-len.ensures))) refl
-    (c.put-2.ensures.cell ∙ ap (λ l. set l c.in-Err-place.i (Some (with_value c.take-node.result c.remove_by.new.self))) c.take-node.ensures.cell)
-    (c.put-2.ensures.counts ∙ ap (λ l. set l c.in-Err-place.i (c.count-len.result - 1)) c.take-node.ensures.counts) c.self.view_is in
-    let z = starts_in_order (lists (below c.put-2.new.self)) ss (length-lists (below c.put-2.new.self) ∙ m.1.near.fork) in
+    (c.set_count.ensures.cells ∙ changed_nodes c.self.inside.branches c.in-Some.block c.deref_mut.result.now c.in-Some.is c.deref_mut.ensures.value c.self.invariant.branches c.in-Err-place.i b.0 (with_value c.in-Some-nodes.node c.remove_by.new.self))
+    (c.set_count.ensures.counts ∙ changed_counts c.self.inside.branches c.in-Some.block c.deref_mut.result.now c.in-Some.is c.deref_mut.ensures.value c.self.invariant.branches c.in-Err-place.i b.0 (c.count-len.result - 1)) c.self.view_is in
+    let z = starts_in_order (lists (below c.set_count.new.self)) ss (length-lists (below c.set_count.new.self) ∙ m.1.near.fork) in
     record {
       branches = m.0;
       near = m.1.near;
@@ -153,8 +152,8 @@ rebalance-requires g t c =
     }
 
 -- the branches and slots after the branch was put back
-left : (g : Over) (t : ℕ) (c : goal.After-rebalance g t) → IsShrunk (below c.self.inside.branches) (below c.put-2.new.self) c.self.inside.slots.items c.in-Err-place.i c.args.self.now.slots
-    (remove c.args.self.now.slots (starts (take c.in-Err-place.i (lists (below c.self.inside.branches))) + c.in-Some.ensures.slots.0)) c.in-Some.slot (starts (take c.in-Err-place.i (lists (below c.self.inside.branches))) + c.in-Some.ensures.slots.0)
+left : (g : Over) (t : ℕ) (c : goal.After-rebalance g t) → IsShrunk (below c.self.inside.branches) (below c.set_count.new.self) c.self.inside.slots.items c.in-Err-place.i c.args.self.now.slots
+    (remove c.args.self.now.slots (starts (take c.in-Err-place.i (lists (below c.self.inside.branches))) + c.in_ok-slot.ensures.slots.0)) c.in_ok-slot.slot (starts (take c.in-Err-place.i (lists (below c.self.inside.branches))) + c.in_ok-slot.ensures.slots.0)
 left g t c =
     let bs = c.self.inside.branches in
     let ss = c.self.inside.slots.items in
@@ -165,17 +164,17 @@ left g t c =
     let part = subst (IsPart (slot_standing g.T.IdOrdItem.key (g.Q.Comparable.compare c.args.query.now) c.args.store.now) c.args.self.now.slots (get_or (below bs) i unused).slots) zero (n.down i s) in
     let fork = length-lists (below bs) in
     let b = n.branch i s.0 in
-    let v : c.deref_mut.result.now ≡ get_or (below c.self.inside.branches) c.in-Err-place.i unused = c.deref_mut.ensures.value ∙ c.take-node.ensures.node in
-    let r = c.in-Some.ensures.slots in
+    let v : c.deref_mut-2.result.now ≡ get_or (below c.self.inside.branches) c.in-Err-place.i unused = c.deref_mut-2.ensures.value ∙ branch_in c.self.inside.branches c.in-Some.block c.deref_mut.result.now c.in-Some.is c.deref_mut.ensures.value c.self.invariant.branches c.in-Err-place.i b.0 _ c.in-Some-nodes.node c.index-nodes-i.is c.in-Some-nodes.is in
+    let r = c.in_ok-slot.ensures.slots in
     let k = r.0 in
     let lt : k < length (get_or (below bs) i unused).slots = omega (arith, r.2.0, ap (λ t. length t.slots) v) in
     let at : IsBranchAt (lists (below bs)) (starts (take i (lists (below bs))) + k) i k = record { branch = omega (arith, b.0); within = omega (arith, ap length (list_at (below bs) i b.0)); sum = refl } in
     let within : starts (take i (lists (below bs))) + k < length c.args.self.now.slots = omega (arith, part.fits) in
-    let m = put_shrunk bs c.put-2.new.self ss ss (starts (take i (lists (below bs))) + k) i k c.count-len.result c.in-Some.slot c.in-Some.slot k (with_value c.take-node.result c.remove_by.new.self) c.deref_mut.result.now c.args.self.now
-    c.self.invariant.branches c.self.invariant.forked at v c.count-len.ensures c.requires.some within (omega (arith, c.count-len.ensures)) r.1 r.3 c.in-Some.ensures.height c.in-Some.ensures.width c.in-Some.ensures.dense
+    let m = put_shrunk bs c.set_count.new.self ss ss (starts (take i (lists (below bs))) + k) i k c.count-len.result c.in_ok-slot.slot c.in_ok-slot.slot k (with_value c.in-Some-nodes.node c.remove_by.new.self) c.deref_mut-2.result.now c.args.self.now
+    c.self.invariant.branches c.self.invariant.forked at v c.count-len.ensures c.requires.some within (omega (arith, c.count-len.ensures)) r.1 r.3 c.in_ok-slot.ensures.height c.in_ok-slot.ensures.width c.in_ok-slot.ensures.dense
     (λ _. (refl, refl)) (λ e. absurd (omega (arith, c.count-len.ensures))) refl
-    (c.put-2.ensures.cell ∙ ap (λ l. set l c.in-Err-place.i (Some (with_value c.take-node.result c.remove_by.new.self))) c.take-node.ensures.cell)
-    (c.put-2.ensures.counts ∙ ap (λ l. set l c.in-Err-place.i (c.count-len.result - 1)) c.take-node.ensures.counts) c.self.view_is in
+    (c.set_count.ensures.cells ∙ changed_nodes c.self.inside.branches c.in-Some.block c.deref_mut.result.now c.in-Some.is c.deref_mut.ensures.value c.self.invariant.branches c.in-Err-place.i b.0 (with_value c.in-Some-nodes.node c.remove_by.new.self))
+    (c.set_count.ensures.counts ∙ changed_counts c.self.inside.branches c.in-Some.block c.deref_mut.result.now c.in-Some.is c.deref_mut.ensures.value c.self.invariant.branches c.in-Err-place.i b.0 (c.count-len.result - 1)) c.self.view_is in
     m.1
 
 pub returns-clause-slots : goal.returns-clause-slots
@@ -188,8 +187,8 @@ returns-clause-slots g t c =
     let zero : 0 + starts (take i (lists (below bs))) ≡ starts (take i (lists (below bs))) = omega arith in
     let part = subst (IsPart (slot_standing g.T.IdOrdItem.key (g.Q.Comparable.compare c.args.query.now) c.args.store.now) c.args.self.now.slots (get_or (below bs) i unused).slots) zero (n.down i s) in
     let b = n.branch c.in-Err-place.i s.0 in
-    let v : c.deref_mut.result.now ≡ get_or (below c.self.inside.branches) c.in-Err-place.i unused = c.deref_mut.ensures.value ∙ c.take-node.ensures.node in
-    let r = c.in-Some.ensures.slots in
+    let v : c.deref_mut-2.result.now ≡ get_or (below c.self.inside.branches) c.in-Err-place.i unused = c.deref_mut-2.ensures.value ∙ branch_in c.self.inside.branches c.in-Some.block c.deref_mut.result.now c.in-Some.is c.deref_mut.ensures.value c.self.invariant.branches c.in-Err-place.i b.0 _ c.in-Some-nodes.node c.index-nodes-i.is c.in-Some-nodes.is in
+    let r = c.in_ok-slot.ensures.slots in
     let k = r.0 in
     let lt : k < length (get_or (below bs) i unused).slots = omega (arith, r.2.0, ap (λ t. length t.slots) v) in
     let m = left g t c in
@@ -207,7 +206,7 @@ returns-clause-steps g t c =
     let n = inner (slot_standing g.T.IdOrdItem.key (g.Q.Comparable.compare c.args.query.now) c.args.store.now) (IsOccupied c.args.store.now) c.args.self.now.slots (below c.self.inside.branches) c.self.inside.slots.items 0 c.args.self.now c.requires.monotone c.requires.occupied c.self.invariant.forked (c.is_empty.ensures.some c.if-is_empty.false) c.self.view_is (whole_part (slot_standing g.T.IdOrdItem.key (g.Q.Comparable.compare c.args.query.now) c.args.store.now) c.args.self.now.slots) in
     let s : IsPlace (slot_standing g.T.IdOrdItem.key (g.Q.Comparable.compare c.args.query.now) c.args.store.now) c.self.inside.slots.items (Err c.in-Err-place.i) = subst (λ l. IsPlace (slot_standing g.T.IdOrdItem.key (g.Q.Comparable.compare c.args.query.now) c.args.store.now) l (Err c.in-Err-place.i)) c.as_slice.ensures.value c.in-Err-place.ensures.place in
     let b = n.branch c.in-Err-place.i s.0 in
-    let v : c.deref_mut.result.now ≡ get_or (below c.self.inside.branches) c.in-Err-place.i unused = c.deref_mut.ensures.value ∙ c.take-node.ensures.node in
+    let v : c.deref_mut-2.result.now ≡ get_or (below c.self.inside.branches) c.in-Err-place.i unused = c.deref_mut-2.ensures.value ∙ branch_in c.self.inside.branches c.in-Some.block c.deref_mut.result.now c.in-Some.is c.deref_mut.ensures.value c.self.invariant.branches c.in-Err-place.i b.0 _ c.in-Some-nodes.node c.index-nodes-i.is c.in-Some-nodes.is in
     omega (arith, digits_four (length c.as_slice.result.now) c.as_slice.ensures.fits, c.search-place.ensures.steps, c.remove_by.ensures.steps, b.1.height, ap (λ t. t.height) v, ap (λ t. t.height) c.self.view_is)
 
 pub overflow_sub-len : goal.overflow_sub-len
@@ -222,10 +221,28 @@ returns-clause-gives_back g t c = λ falls.
     let n = inner (slot_standing g.T.IdOrdItem.key (g.Q.Comparable.compare c.args.query.now) c.args.store.now) (IsOccupied c.args.store.now) c.args.self.now.slots (below c.self.inside.branches) c.self.inside.slots.items 0 c.args.self.now c.requires.monotone c.requires.occupied c.self.invariant.forked (c.is_empty.ensures.some c.if-is_empty.false) c.self.view_is (whole_part (slot_standing g.T.IdOrdItem.key (g.Q.Comparable.compare c.args.query.now) c.args.store.now) c.args.self.now.slots) in
     let s : IsPlace (slot_standing g.T.IdOrdItem.key (g.Q.Comparable.compare c.args.query.now) c.args.store.now) c.self.inside.slots.items (Err c.in-Err-place.i) = subst (λ l. IsPlace (slot_standing g.T.IdOrdItem.key (g.Q.Comparable.compare c.args.query.now) c.args.store.now) l (Err c.in-Err-place.i)) c.as_slice.ensures.value c.in-Err-place.ensures.place in
     let b = n.branch c.in-Err-place.i s.0 in
-    let v : c.deref_mut.result.now ≡ get_or (below c.self.inside.branches) c.in-Err-place.i unused = c.deref_mut.ensures.value ∙ c.take-node.ensures.node in
+    let v : c.deref_mut-2.result.now ≡ get_or (below c.self.inside.branches) c.in-Err-place.i unused = c.deref_mut-2.ensures.value ∙ branch_in c.self.inside.branches c.in-Some.block c.deref_mut.result.now c.in-Some.is c.deref_mut.ensures.value c.self.invariant.branches c.in-Err-place.i b.0 _ c.in-Some-nodes.node c.index-nodes-i.is c.in-Some-nodes.is in
     let merged : length c.rebalance.new.slots.items < length c.self.inside.slots.items = omega (arith, falls, ap (λ x. x.width) c.self.view_is) in
     let short = c.rebalance.ensures.short merged in
-    let fell : c.remove_by.new.self.width < c.deref_mut.result.now.width = omega (arith, short, c.width-width.ensures.width, ap (λ x. x.width) c.deref.ensures, b.1.wide, ap (λ x. x.width) v) in
+    let fell : c.remove_by.new.self.width < c.deref_mut-2.result.now.width = omega (arith, short, c.width-width.ensures.width, ap (λ x. x.width) c.deref.ensures, b.1.wide, ap (λ x. x.width) v) in
     let below_it = c.remove_by.ensures.gives_back fell in
-    let more = one_more_back c.remove_by.new.pool c.rebalance.new.pool (c.args.pool.now.nodes + c.deref_mut.result.now.height - 1) (c.rebalance.ensures.gives_back merged) (omega (arith, below_it, c.remove_by.ensures.pool.0)) in
+    let more = one_more_back c.remove_by.new.pool c.rebalance.new.pool (c.args.pool.now.nodes + c.deref_mut-2.result.now.height - 1) (c.rebalance.ensures.gives_back merged) (omega (arith, below_it, c.remove_by.ensures.pool.0)) in
     omega (arith, more, b.1.height, ap (λ x. x.height) v, ap (λ x. x.height) c.self.view_is, c.remove_by.ensures.pool.0, b.1.dense.low)
+
+pub unreachable-requires : goal.unreachable-requires
+unreachable-requires g t c =
+    none_below c.self.inside.branches c.in_default.is (c.is_empty.ensures.some c.if-is_empty.false)
+
+pub unreachable-requires-in_default-nodes : goal.unreachable-requires-in_default-nodes
+unreachable-requires-in_default-nodes g t c =
+    let n = inner (slot_standing g.T.IdOrdItem.key (g.Q.Comparable.compare c.args.query.now) c.args.store.now) (IsOccupied c.args.store.now) c.args.self.now.slots (below c.self.inside.branches) c.self.inside.slots.items 0 c.args.self.now c.requires.monotone c.requires.occupied c.self.invariant.forked (c.is_empty.ensures.some c.if-is_empty.false) c.self.view_is (whole_part (slot_standing g.T.IdOrdItem.key (g.Q.Comparable.compare c.args.query.now) c.args.store.now) c.args.self.now.slots) in
+    let s : IsPlace (slot_standing g.T.IdOrdItem.key (g.Q.Comparable.compare c.args.query.now) c.args.store.now) c.self.inside.slots.items (Err c.in-Err-place.i) = subst (λ l. IsPlace (slot_standing g.T.IdOrdItem.key (g.Q.Comparable.compare c.args.query.now) c.args.store.now) l (Err c.in-Err-place.i)) c.as_slice.ensures.value c.in-Err-place.ensures.place in
+    let b = n.branch c.in-Err-place.i s.0 in
+    cell_full c.self.inside.branches c.in-Some.block c.deref_mut.result.now c.in-Some.is c.deref_mut.ensures.value c.self.invariant.branches c.in-Err-place.i b.0 _ c.index-nodes-i.is c.in_default-nodes.is
+
+pub set_count-requires : goal.set_count-requires
+set_count-requires g t c =
+    let n = inner (slot_standing g.T.IdOrdItem.key (g.Q.Comparable.compare c.args.query.now) c.args.store.now) (IsOccupied c.args.store.now) c.args.self.now.slots (below c.self.inside.branches) c.self.inside.slots.items 0 c.args.self.now c.requires.monotone c.requires.occupied c.self.invariant.forked (c.is_empty.ensures.some c.if-is_empty.false) c.self.view_is (whole_part (slot_standing g.T.IdOrdItem.key (g.Q.Comparable.compare c.args.query.now) c.args.store.now) c.args.self.now.slots) in
+    let s : IsPlace (slot_standing g.T.IdOrdItem.key (g.Q.Comparable.compare c.args.query.now) c.args.store.now) c.self.inside.slots.items (Err c.in-Err-place.i) = subst (λ l. IsPlace (slot_standing g.T.IdOrdItem.key (g.Q.Comparable.compare c.args.query.now) c.args.store.now) l (Err c.in-Err-place.i)) c.as_slice.ensures.value c.in-Err-place.ensures.place in
+    let b = n.branch c.in-Err-place.i s.0 in
+    counted c.self.inside.branches c.in-Some.block c.deref_mut.result.now c.in-Some.is c.deref_mut.ensures.value c.self.invariant.branches c.in-Err-place.i b.0
