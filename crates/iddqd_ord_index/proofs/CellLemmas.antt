@@ -3,7 +3,7 @@
 --     cell_full      the cell is not empty
 --     counted, changed_nodes, changed_counts      the cells and counts with another branch
 --     kept      the branch has not changed
-use Rattle.std.proofs.Common.{◌≡◌, ℕ, ◌<◌, length, set, get_or, ap, sym, ◌∙◌, subst, arith, Option, Some, None, Box, Global}
+use Rattle.std.proofs.Common.{◌≡◌, ℕ, ◌<◌, length, set, get_or, ap, sym, ◌∙◌, arith, Option, Some, None, Box, Global}
 use Rattle.std.specs.Box.{with_value}
 use Rattle.std.proofs.lemmas.List.{set-get_or, set-set}
 use Rattle.arrayvec.specs.ArrayVec.{ArrayVec}

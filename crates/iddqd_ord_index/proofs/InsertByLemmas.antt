@@ -1,19 +1,14 @@
--- A node that is searched for the place of a query and in which a branch is taken out and put back.
+-- A node that is searched for the place of a query and in whose branch the query belongs.
 --     own      the query stands to the node's own slots as to all
 --     own_found, leaf_place      what is found there
 --     child_all, child_monotone, child_among, child_place, child_at      a branch, and what is found in it
---     put_same      the branch is put back as it was
-use Rattle.std.proofs.Common.{◌≡◌, ℕ, ◌+◌, ◌-◌, ◌<◌, ◌≤◌, List, length, take, set, get_or, inl, inr, Ok, Err, Some, None, Box, Global, subst, sym, ap, ◌∙◌, arith}
+use Rattle.std.proofs.Common.{◌≡◌, ℕ, ◌+◌, ◌-◌, ◌<◌, ◌≤◌, List, length, take, get_or, inl, inr, Ok, Err, Some, subst, sym, ap, ◌∙◌, arith}
 use Rattle.std.proofs.lemmas.Bool.{cases_lt}
-use Rattle.std.proofs.lemmas.List.{set-get_or}
 use Rattle.std.specs.declared.cmp.Ordering.{Ordering}
 use Rattle.std.specs.List.{All}
-use Rattle.iddqd_ord_index.specs.Nodes.{below, AreBranches, counts_of, nodes_of}
 use Rattle.iddqd_ord_index.specs.Shape.{Subtree, lists, starts, levels, tree, unused, IsBranch, IsBranchAt, IsForked}
 use Rattle.iddqd_ord_index.specs.Standing.{IsAmong, IsMonotone, IsPart, IsPlace}
-use Rattle.iddqd_ord_index.specs.declared.tree.node.Branches.{Branches}
-use Rattle.iddqd_ord_index.specs.declared.tree.node.Node.{Node}
-use Rattle.iddqd_ord_index.proofs.BelowLemmas.{branches_put, length-lists, list_at}
+use Rattle.iddqd_ord_index.proofs.BelowLemmas.{length-lists, list_at}
 use Rattle.iddqd_ord_index.proofs.DescentLemmas.{IsInner, IsLeaf, inner, leaf}
 use Rattle.iddqd_ord_index.proofs.FoundLemmas.{found_place, missed_front, missed_back, part_all, part_mono, whole_part}
 
@@ -88,12 +83,3 @@ module _ (order : ℕ → Ordering) (P : ℕ → Type 0) (ts : List Subtree) (ss
             within = omega (arith, ap length (list_at ts i child_in), ap (λ t. length t.slots) e);
             sum = omega arith;
           }
-
--- the branch put back as it was
-pub put_same : (old new : Branches) (i count : ℕ) (b : Box Node Global) (before : Subtree) → AreBranches old → i < length (below old) → b.value ≡ before → before ≡ get_or (below old) i unused
-    → (nodes_of new) ≡ set (set (nodes_of old) i None) i (Some b) → (counts_of new) ≡ set (counts_of old) i count → count ≡ length (get_or (below old) i unused).slots
-    → AreBranches new × (below new ≡ below old)
-put_same old new i count b before a lt e v n c k =
-    let same = e ∙ v in
-    let p = branches_put old new i count b a lt n c (omega (arith, ap (λ t. length t.slots) same)) in
-    (p.0, p.1 ∙ (ap (λ t. set (below old) i t) same ∙ set-get_or (below old) i unused))

@@ -1,14 +1,10 @@
 -- A removal by key at a node: of an own slot, of one below a branch, or of none.
-use Rattle.std.proofs.Common.{◌≡◌, ℕ, ◌+◌, ◌-◌, ◌<◌, List, [], ◌∷◌, length, take, drop, get_or, set, Some, None, Err, Box, Global, refl, sym, ap, ◌∙◌, arith, length-drop}
-use Rattle.std.proofs.lemmas.List.{set-get_or}
+use Rattle.std.proofs.Common.{◌≡◌, ℕ, ◌+◌, ◌-◌, ◌<◌, List, [], ◌∷◌, length, take, drop, get_or, Err, refl, ap, arith, length-drop}
 use Rattle.std.specs.List.{All}
 use Rattle.std.specs.declared.cmp.Ordering.{Ordering}
-use Rattle.iddqd_ord_index.specs.Nodes.{below, AreBranches, counts_of, nodes_of}
 use Rattle.iddqd_ord_index.specs.Shape.{Subtree, in_order, lists, starts, tree, unused, IsBranchAt, IsForked}
 use Rattle.iddqd_ord_index.specs.Standing.{IsMonotone, IsPart, IsPlace}
-use Rattle.iddqd_ord_index.specs.declared.tree.node.Branches.{Branches}
-use Rattle.iddqd_ord_index.specs.declared.tree.node.Node.{Node}
-use Rattle.iddqd_ord_index.proofs.BelowLemmas.{branches_put, length-lists, list_at}
+use Rattle.iddqd_ord_index.proofs.BelowLemmas.{length-lists, list_at}
 use Rattle.iddqd_ord_index.proofs.BranchAtLemmas.{starts_is}
 use Rattle.iddqd_ord_index.proofs.DescentLemmas.{inner, leaf}
 use Rattle.iddqd_ord_index.proofs.FoundLemmas.{whole_part, missed_front, missed_back}

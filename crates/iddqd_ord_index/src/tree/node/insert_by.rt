@@ -64,23 +64,23 @@ impl Node {
             return Outcome::Inserted(self.add_to_leaf(i as u32, slot, pool));
         }
         let count = self.branches.count(i);
-        let mut node = self.branches.take(i);
+        let Some(block) = &mut self.branches.block else {
+            unreachable!()
+        };
+        let nodes: &mut [Option<Box<Node>>] = &mut block.nodes;
+        let Some(node) = &mut nodes[i] else {
+            unreachable!()
+        };
         match node.insert_by(store, query, slot, ready, pool, steps) {
-            Outcome::Found(found) => {
-                self.branches.put(i, node, count);
-                Outcome::Found(found)
-            }
-            Outcome::Full(rest) => {
-                self.branches.put(i, node, count);
-                Outcome::Full(self.branches.start(i) + rest)
-            }
+            Outcome::Found(found) => Outcome::Found(found),
+            Outcome::Full(rest) => Outcome::Full(self.branches.start(i) + rest),
             Outcome::Inserted(None) => {
-                self.branches.put(i, node, count + 1);
+                self.branches.set_count(i, count + 1);
                 Outcome::Inserted(None)
             }
             Outcome::Inserted(Some((middle, upper))) => {
                 let above = upper.len();
-                self.branches.put(i, node, count - above);
+                self.branches.set_count(i, count - above);
                 Outcome::Inserted(add_branch(
                     &mut self.slots,
                     &mut self.branches,

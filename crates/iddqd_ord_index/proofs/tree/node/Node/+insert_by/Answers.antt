@@ -1,4 +1,4 @@
-use Rattle.std.proofs.Common.{◌≡◌, ◌+◌, ◌-◌, ◌<◌, ◌≤◌, Some, None, Ok, Err, ℕ, Option, Box, Global, IsTrue, length, take, set, get_or, refl, subst, ap, sym, ◌∙◌, arith}
+use Rattle.std.proofs.Common.{◌≡◌, ◌+◌, ◌-◌, ◌<◌, ◌≤◌, Some, None, Ok, Err, ℕ, Option, Box, Global, IsTrue, length, take, get_or, refl, subst, ap, sym, ◌∙◌, arith}
 use Rattle.std.specs.Box.{with_value}
 use Rattle.std.specs.declared.cmp.Ordering.{Ordering}
 use Rattle.std.specs.List.{All, insert}
@@ -11,9 +11,11 @@ use Rattle.iddqd_ord_index.specs.Standing.{slot_standing, IsMonotone, IsPlace}
 use Rattle.iddqd_ord_index.specs.declared.tree.node.Node.{Node}
 use Rattle.iddqd_ord_index.proofs.AddLemmas.{above, put_grown, put_parted}
 use Rattle.iddqd_ord_index.proofs.BranchAtLemmas.{branch_within, inner_levels, inner_of}
+use Rattle.iddqd_ord_index.proofs.BelowLemmas.{none_below}
+use Rattle.iddqd_ord_index.proofs.CellLemmas.{branch_in, cell_full, changed_counts, changed_nodes, counted, kept}
 use Rattle.iddqd_ord_index.proofs.DenseLemmas.{dense_of}
 use Rattle.iddqd_ord_index.proofs.DescentLemmas.{digits_four}
-use Rattle.iddqd_ord_index.proofs.InsertByLemmas.{own, own_found, leaf_place, child_in, child_is, child_starts, child_part, child_monotone, child_all, child_among, child_place, child_at, put_same}
+use Rattle.iddqd_ord_index.proofs.InsertByLemmas.{own, own_found, leaf_place, child_in, child_is, child_starts, child_part, child_monotone, child_all, child_among, child_place, child_at}
 use Rattle.iddqd_ord_index.proofs.tree.node.Node.+insert_by.Given.{Over}
 use Rattle.iddqd_ord_index.proofs.tree.node.Node.+insert_by.Goals as goal
 use Rattle.iddqd_ord_index.proofs.tree.node.Node.+insert_by.Goals.{else-len-eq11-via-then-len-eq11+else-not-ready, else-len-eq11-via-else-len-eq11}
@@ -136,8 +138,8 @@ insert_by-requires g t c κs within =
     let i = c.in-Err.i in
     let p : IsPlace x ss (Err i) = subst (λ l. IsPlace x l (Err i)) c.as_slice.ensures.value c.in-Err.ensures.place in
     let some = c.is_empty.ensures.some c.if-is_empty.false in
-    let d = c.deref_mut.result.now in
-    let e : d ≡ get_or ts i unused = c.deref_mut.ensures.value ∙ c.take-node.ensures.node in
+    let d = c.deref_mut-2.result.now in
+    let e : d ≡ get_or ts i unused = c.deref_mut-2.ensures.value ∙ branch_in c.self.inside.branches c.in-Some.block c.deref_mut.result.now c.in-Some.is c.deref_mut.ensures.value c.self.invariant.branches i (child_in x occupied ts ss c.args.self.now c.requires.monotone c.requires.occupied f s some i p) _ c.in-Some-nodes.node c.index-nodes-i.is c.in-Some-nodes.is in
     let b = child_is x occupied ts ss c.args.self.now c.requires.monotone c.requires.occupied f s some i p in
     let h = ap (λ t. t.height) e in
     let w = child_part x occupied ts ss c.args.self.now c.requires.monotone c.requires.occupied f s some i p d e in (
@@ -156,12 +158,9 @@ invariant_of-self g t c =
     let i = c.in-Err.i in
     let p : IsPlace x ss (Err i) = subst (λ l. IsPlace x l (Err i)) c.as_slice.ensures.value c.in-Err.ensures.place in
     let some = c.is_empty.ensures.some c.if-is_empty.false in
-    let d = c.deref_mut.result.now in
-    let e : d ≡ get_or ts i unused = c.deref_mut.ensures.value ∙ c.take-node.ensures.node in
-    let k = put_same c.self.inside.branches c.put.new.self i c.count-count.result (with_value c.take-node.result c.insert_by.new.self) d c.self.invariant.branches (child_in x occupied ts ss c.args.self.now c.requires.monotone c.requires.occupied f s some i p) c.in-Found.ensures.ends.0 e
-    (c.put.ensures.cell ∙ ap (λ l. set l i (Some (with_value c.take-node.result c.insert_by.new.self))) c.take-node.ensures.cell)
-    (c.put.ensures.counts ∙ ap (λ l. set l i c.count-count.result) c.take-node.ensures.counts)
-    c.count-count.ensures in
+    let d = c.deref_mut-2.result.now in
+    let e : d ≡ get_or ts i unused = c.deref_mut-2.ensures.value ∙ branch_in c.self.inside.branches c.in-Some.block c.deref_mut.result.now c.in-Some.is c.deref_mut.ensures.value c.self.invariant.branches i (child_in x occupied ts ss c.args.self.now c.requires.monotone c.requires.occupied f s some i p) _ c.in-Some-nodes.node c.index-nodes-i.is c.in-Some-nodes.is in
+    let k = kept c.self.inside.branches c.in-Some.block c.deref_mut.result.now c.in-Some.is c.deref_mut.ensures.value c.self.invariant.branches i (child_in x occupied ts ss c.args.self.now c.requires.monotone c.requires.occupied f s some i p) (with_value c.in-Some-nodes.node c.insert_by.new.self) (c.in-Found.ensures.ends.0 ∙ e) in
     record { branches = k.0; forked = subst (λ us. IsForked us ss) (sym k.1) f }
 
 pub returns-in-Found-clause-ends : goal.returns-in-Found-clause-ends
@@ -175,12 +174,9 @@ returns-in-Found-clause-ends g t c =
     let i = c.in-Err.i in
     let p : IsPlace x ss (Err i) = subst (λ l. IsPlace x l (Err i)) c.as_slice.ensures.value c.in-Err.ensures.place in
     let some = c.is_empty.ensures.some c.if-is_empty.false in
-    let d = c.deref_mut.result.now in
-    let e : d ≡ get_or ts i unused = c.deref_mut.ensures.value ∙ c.take-node.ensures.node in
-    let k = put_same c.self.inside.branches c.put.new.self i c.count-count.result (with_value c.take-node.result c.insert_by.new.self) d c.self.invariant.branches (child_in x occupied ts ss c.args.self.now c.requires.monotone c.requires.occupied f s some i p) c.in-Found.ensures.ends.0 e
-    (c.put.ensures.cell ∙ ap (λ l. set l i (Some (with_value c.take-node.result c.insert_by.new.self))) c.take-node.ensures.cell)
-    (c.put.ensures.counts ∙ ap (λ l. set l i c.count-count.result) c.take-node.ensures.counts)
-    c.count-count.ensures in
+    let d = c.deref_mut-2.result.now in
+    let e : d ≡ get_or ts i unused = c.deref_mut-2.ensures.value ∙ branch_in c.self.inside.branches c.in-Some.block c.deref_mut.result.now c.in-Some.is c.deref_mut.ensures.value c.self.invariant.branches i (child_in x occupied ts ss c.args.self.now c.requires.monotone c.requires.occupied f s some i p) _ c.in-Some-nodes.node c.index-nodes-i.is c.in-Some-nodes.is in
+    let k = kept c.self.inside.branches c.in-Some.block c.deref_mut.result.now c.in-Some.is c.deref_mut.ensures.value c.self.invariant.branches i (child_in x occupied ts ss c.args.self.now c.requires.monotone c.requires.occupied f s some i p) (with_value c.in-Some-nodes.node c.insert_by.new.self) (c.in-Found.ensures.ends.0 ∙ e) in
     (ap (λ us. tree us ss) k.1 ∙ s, child_among x occupied ts ss c.args.self.now c.requires.monotone c.requires.occupied f s some i p d e c.in-Found.found c.in-Found.ensures.ends.1)
 
 pub returns-in-Found-clause-height : goal.returns-in-Found-clause-height
@@ -194,12 +190,9 @@ returns-in-Found-clause-height g t c =
     let i = c.in-Err.i in
     let p : IsPlace x ss (Err i) = subst (λ l. IsPlace x l (Err i)) c.as_slice.ensures.value c.in-Err.ensures.place in
     let some = c.is_empty.ensures.some c.if-is_empty.false in
-    let d = c.deref_mut.result.now in
-    let e : d ≡ get_or ts i unused = c.deref_mut.ensures.value ∙ c.take-node.ensures.node in
-    let k = put_same c.self.inside.branches c.put.new.self i c.count-count.result (with_value c.take-node.result c.insert_by.new.self) d c.self.invariant.branches (child_in x occupied ts ss c.args.self.now c.requires.monotone c.requires.occupied f s some i p) c.in-Found.ensures.ends.0 e
-    (c.put.ensures.cell ∙ ap (λ l. set l i (Some (with_value c.take-node.result c.insert_by.new.self))) c.take-node.ensures.cell)
-    (c.put.ensures.counts ∙ ap (λ l. set l i c.count-count.result) c.take-node.ensures.counts)
-    c.count-count.ensures in
+    let d = c.deref_mut-2.result.now in
+    let e : d ≡ get_or ts i unused = c.deref_mut-2.ensures.value ∙ branch_in c.self.inside.branches c.in-Some.block c.deref_mut.result.now c.in-Some.is c.deref_mut.ensures.value c.self.invariant.branches i (child_in x occupied ts ss c.args.self.now c.requires.monotone c.requires.occupied f s some i p) _ c.in-Some-nodes.node c.index-nodes-i.is c.in-Some-nodes.is in
+    let k = kept c.self.inside.branches c.in-Some.block c.deref_mut.result.now c.in-Some.is c.deref_mut.ensures.value c.self.invariant.branches i (child_in x occupied ts ss c.args.self.now c.requires.monotone c.requires.occupied f s some i p) (with_value c.in-Some-nodes.node c.insert_by.new.self) (c.in-Found.ensures.ends.0 ∙ e) in
     ap levels k.1 ∙ ap (λ t. t.height) s
 
 pub returns-in-Found-clause-dense : goal.returns-in-Found-clause-dense
@@ -213,12 +206,9 @@ returns-in-Found-clause-dense g t c =
     let i = c.in-Err.i in
     let p : IsPlace x ss (Err i) = subst (λ l. IsPlace x l (Err i)) c.as_slice.ensures.value c.in-Err.ensures.place in
     let some = c.is_empty.ensures.some c.if-is_empty.false in
-    let d = c.deref_mut.result.now in
-    let e : d ≡ get_or ts i unused = c.deref_mut.ensures.value ∙ c.take-node.ensures.node in
-    let k = put_same c.self.inside.branches c.put.new.self i c.count-count.result (with_value c.take-node.result c.insert_by.new.self) d c.self.invariant.branches (child_in x occupied ts ss c.args.self.now c.requires.monotone c.requires.occupied f s some i p) c.in-Found.ensures.ends.0 e
-    (c.put.ensures.cell ∙ ap (λ l. set l i (Some (with_value c.take-node.result c.insert_by.new.self))) c.take-node.ensures.cell)
-    (c.put.ensures.counts ∙ ap (λ l. set l i c.count-count.result) c.take-node.ensures.counts)
-    c.count-count.ensures in
+    let d = c.deref_mut-2.result.now in
+    let e : d ≡ get_or ts i unused = c.deref_mut-2.ensures.value ∙ branch_in c.self.inside.branches c.in-Some.block c.deref_mut.result.now c.in-Some.is c.deref_mut.ensures.value c.self.invariant.branches i (child_in x occupied ts ss c.args.self.now c.requires.monotone c.requires.occupied f s some i p) _ c.in-Some-nodes.node c.index-nodes-i.is c.in-Some-nodes.is in
+    let k = kept c.self.inside.branches c.in-Some.block c.deref_mut.result.now c.in-Some.is c.deref_mut.ensures.value c.self.invariant.branches i (child_in x occupied ts ss c.args.self.now c.requires.monotone c.requires.occupied f s some i p) (with_value c.in-Some-nodes.node c.insert_by.new.self) (c.in-Found.ensures.ends.0 ∙ e) in
     subst IsDense (sym (ap (λ us. tree us ss) k.1)) (dense_of ts ss f)
 
 pub returns-in-Found-clause-steps : goal.returns-in-Found-clause-steps
@@ -232,8 +222,8 @@ returns-in-Found-clause-steps g t c =
     let i = c.in-Err.i in
     let p : IsPlace x ss (Err i) = subst (λ l. IsPlace x l (Err i)) c.as_slice.ensures.value c.in-Err.ensures.place in
     let some = c.is_empty.ensures.some c.if-is_empty.false in
-    let d = c.deref_mut.result.now in
-    let e : d ≡ get_or ts i unused = c.deref_mut.ensures.value ∙ c.take-node.ensures.node in
+    let d = c.deref_mut-2.result.now in
+    let e : d ≡ get_or ts i unused = c.deref_mut-2.ensures.value ∙ branch_in c.self.inside.branches c.in-Some.block c.deref_mut.result.now c.in-Some.is c.deref_mut.ensures.value c.self.invariant.branches i (child_in x occupied ts ss c.args.self.now c.requires.monotone c.requires.occupied f s some i p) _ c.in-Some-nodes.node c.index-nodes-i.is c.in-Some-nodes.is in
     omega (arith, digits_four (length c.as_slice.result.now) c.as_slice.ensures.fits, c.in-Err.ensures.steps, c.in-Found.ensures.steps, (child_is x occupied ts ss c.args.self.now c.requires.monotone c.requires.occupied f s some i p).height, ap (λ t. t.height) e, ap (λ t. t.height) s)
 
 pub start-requires-clause-branches : goal.start-requires-clause-branches
@@ -247,12 +237,9 @@ start-requires-clause-branches g t c =
     let i = c.in-Err.i in
     let p : IsPlace x ss (Err i) = subst (λ l. IsPlace x l (Err i)) c.as_slice.ensures.value c.in-Err.ensures.place in
     let some = c.is_empty.ensures.some c.if-is_empty.false in
-    let d = c.deref_mut.result.now in
-    let e : d ≡ get_or ts i unused = c.deref_mut.ensures.value ∙ c.take-node.ensures.node in
-    let k = put_same c.self.inside.branches c.put-in-Full.new.self i c.count-count.result (with_value c.take-node.result c.insert_by.new.self) d c.self.invariant.branches (child_in x occupied ts ss c.args.self.now c.requires.monotone c.requires.occupied f s some i p) c.in-Full.ensures.ends.0 e
-    (c.put-in-Full.ensures.cell ∙ ap (λ l. set l i (Some (with_value c.take-node.result c.insert_by.new.self))) c.take-node.ensures.cell)
-    (c.put-in-Full.ensures.counts ∙ ap (λ l. set l i c.count-count.result) c.take-node.ensures.counts)
-    c.count-count.ensures in
+    let d = c.deref_mut-2.result.now in
+    let e : d ≡ get_or ts i unused = c.deref_mut-2.ensures.value ∙ branch_in c.self.inside.branches c.in-Some.block c.deref_mut.result.now c.in-Some.is c.deref_mut.ensures.value c.self.invariant.branches i (child_in x occupied ts ss c.args.self.now c.requires.monotone c.requires.occupied f s some i p) _ c.in-Some-nodes.node c.index-nodes-i.is c.in-Some-nodes.is in
+    let k = kept c.self.inside.branches c.in-Some.block c.deref_mut.result.now c.in-Some.is c.deref_mut.ensures.value c.self.invariant.branches i (child_in x occupied ts ss c.args.self.now c.requires.monotone c.requires.occupied f s some i p) (with_value c.in-Some-nodes.node c.insert_by.new.self) (c.in-Full.ensures.ends.0 ∙ e) in
     k.0
 
 pub start-requires-clause-in_bounds : goal.start-requires-clause-in_bounds
@@ -266,12 +253,9 @@ start-requires-clause-in_bounds g t c =
     let i = c.in-Err.i in
     let p : IsPlace x ss (Err i) = subst (λ l. IsPlace x l (Err i)) c.as_slice.ensures.value c.in-Err.ensures.place in
     let some = c.is_empty.ensures.some c.if-is_empty.false in
-    let d = c.deref_mut.result.now in
-    let e : d ≡ get_or ts i unused = c.deref_mut.ensures.value ∙ c.take-node.ensures.node in
-    let k = put_same c.self.inside.branches c.put-in-Full.new.self i c.count-count.result (with_value c.take-node.result c.insert_by.new.self) d c.self.invariant.branches (child_in x occupied ts ss c.args.self.now c.requires.monotone c.requires.occupied f s some i p) c.in-Full.ensures.ends.0 e
-    (c.put-in-Full.ensures.cell ∙ ap (λ l. set l i (Some (with_value c.take-node.result c.insert_by.new.self))) c.take-node.ensures.cell)
-    (c.put-in-Full.ensures.counts ∙ ap (λ l. set l i c.count-count.result) c.take-node.ensures.counts)
-    c.count-count.ensures in
+    let d = c.deref_mut-2.result.now in
+    let e : d ≡ get_or ts i unused = c.deref_mut-2.ensures.value ∙ branch_in c.self.inside.branches c.in-Some.block c.deref_mut.result.now c.in-Some.is c.deref_mut.ensures.value c.self.invariant.branches i (child_in x occupied ts ss c.args.self.now c.requires.monotone c.requires.occupied f s some i p) _ c.in-Some-nodes.node c.index-nodes-i.is c.in-Some-nodes.is in
+    let k = kept c.self.inside.branches c.in-Some.block c.deref_mut.result.now c.in-Some.is c.deref_mut.ensures.value c.self.invariant.branches i (child_in x occupied ts ss c.args.self.now c.requires.monotone c.requires.occupied f s some i p) (with_value c.in-Some-nodes.node c.insert_by.new.self) (c.in-Full.ensures.ends.0 ∙ e) in
     subst (λ us. i < length us) (sym k.1) (child_in x occupied ts ss c.args.self.now c.requires.monotone c.requires.occupied f s some i p)
 
 pub start-requires-clause-room : goal.start-requires-clause-room
@@ -285,12 +269,9 @@ start-requires-clause-room g t c =
     let i = c.in-Err.i in
     let p : IsPlace x ss (Err i) = subst (λ l. IsPlace x l (Err i)) c.as_slice.ensures.value c.in-Err.ensures.place in
     let some = c.is_empty.ensures.some c.if-is_empty.false in
-    let d = c.deref_mut.result.now in
-    let e : d ≡ get_or ts i unused = c.deref_mut.ensures.value ∙ c.take-node.ensures.node in
-    let k = put_same c.self.inside.branches c.put-in-Full.new.self i c.count-count.result (with_value c.take-node.result c.insert_by.new.self) d c.self.invariant.branches (child_in x occupied ts ss c.args.self.now c.requires.monotone c.requires.occupied f s some i p) c.in-Full.ensures.ends.0 e
-    (c.put-in-Full.ensures.cell ∙ ap (λ l. set l i (Some (with_value c.take-node.result c.insert_by.new.self))) c.take-node.ensures.cell)
-    (c.put-in-Full.ensures.counts ∙ ap (λ l. set l i c.count-count.result) c.take-node.ensures.counts)
-    c.count-count.ensures in
+    let d = c.deref_mut-2.result.now in
+    let e : d ≡ get_or ts i unused = c.deref_mut-2.ensures.value ∙ branch_in c.self.inside.branches c.in-Some.block c.deref_mut.result.now c.in-Some.is c.deref_mut.ensures.value c.self.invariant.branches i (child_in x occupied ts ss c.args.self.now c.requires.monotone c.requires.occupied f s some i p) _ c.in-Some-nodes.node c.index-nodes-i.is c.in-Some-nodes.is in
+    let k = kept c.self.inside.branches c.in-Some.block c.deref_mut.result.now c.in-Some.is c.deref_mut.ensures.value c.self.invariant.branches i (child_in x occupied ts ss c.args.self.now c.requires.monotone c.requires.occupied f s some i p) (with_value c.in-Some-nodes.node c.insert_by.new.self) (c.in-Full.ensures.ends.0 ∙ e) in
     subst (λ us. starts (lists us) ≤ 4294967296) (sym k.1) (omega (arith, (child_starts x occupied ts ss c.args.self.now c.requires.monotone c.requires.occupied f s some i p).0, c.requires.room))
 
 pub overflow_add-result : goal.overflow_add-result
@@ -304,12 +285,9 @@ overflow_add-result g t c =
     let i = c.in-Err.i in
     let p : IsPlace x ss (Err i) = subst (λ l. IsPlace x l (Err i)) c.as_slice.ensures.value c.in-Err.ensures.place in
     let some = c.is_empty.ensures.some c.if-is_empty.false in
-    let d = c.deref_mut.result.now in
-    let e : d ≡ get_or ts i unused = c.deref_mut.ensures.value ∙ c.take-node.ensures.node in
-    let k = put_same c.self.inside.branches c.put-in-Full.new.self i c.count-count.result (with_value c.take-node.result c.insert_by.new.self) d c.self.invariant.branches (child_in x occupied ts ss c.args.self.now c.requires.monotone c.requires.occupied f s some i p) c.in-Full.ensures.ends.0 e
-    (c.put-in-Full.ensures.cell ∙ ap (λ l. set l i (Some (with_value c.take-node.result c.insert_by.new.self))) c.take-node.ensures.cell)
-    (c.put-in-Full.ensures.counts ∙ ap (λ l. set l i c.count-count.result) c.take-node.ensures.counts)
-    c.count-count.ensures in
+    let d = c.deref_mut-2.result.now in
+    let e : d ≡ get_or ts i unused = c.deref_mut-2.ensures.value ∙ branch_in c.self.inside.branches c.in-Some.block c.deref_mut.result.now c.in-Some.is c.deref_mut.ensures.value c.self.invariant.branches i (child_in x occupied ts ss c.args.self.now c.requires.monotone c.requires.occupied f s some i p) _ c.in-Some-nodes.node c.index-nodes-i.is c.in-Some-nodes.is in
+    let k = kept c.self.inside.branches c.in-Some.block c.deref_mut.result.now c.in-Some.is c.deref_mut.ensures.value c.self.invariant.branches i (child_in x occupied ts ss c.args.self.now c.requires.monotone c.requires.occupied f s some i p) (with_value c.in-Some-nodes.node c.insert_by.new.self) (c.in-Full.ensures.ends.0 ∙ e) in
     let b : c.start.result ≡ starts (take i (lists ts)) = c.start.ensures ∙ ap (λ us. starts (take i (lists us))) k.1 in
     omega (arith, c.in-Full.ensures.ends.1.0, (child_part x occupied ts ss c.args.self.now c.requires.monotone c.requires.occupied f s some i p d e).fits, c.requires.room)
 
@@ -324,12 +302,9 @@ invariant_of-self-in-Full g t c =
     let i = c.in-Err.i in
     let p : IsPlace x ss (Err i) = subst (λ l. IsPlace x l (Err i)) c.as_slice.ensures.value c.in-Err.ensures.place in
     let some = c.is_empty.ensures.some c.if-is_empty.false in
-    let d = c.deref_mut.result.now in
-    let e : d ≡ get_or ts i unused = c.deref_mut.ensures.value ∙ c.take-node.ensures.node in
-    let k = put_same c.self.inside.branches c.put-in-Full.new.self i c.count-count.result (with_value c.take-node.result c.insert_by.new.self) d c.self.invariant.branches (child_in x occupied ts ss c.args.self.now c.requires.monotone c.requires.occupied f s some i p) c.in-Full.ensures.ends.0 e
-    (c.put-in-Full.ensures.cell ∙ ap (λ l. set l i (Some (with_value c.take-node.result c.insert_by.new.self))) c.take-node.ensures.cell)
-    (c.put-in-Full.ensures.counts ∙ ap (λ l. set l i c.count-count.result) c.take-node.ensures.counts)
-    c.count-count.ensures in
+    let d = c.deref_mut-2.result.now in
+    let e : d ≡ get_or ts i unused = c.deref_mut-2.ensures.value ∙ branch_in c.self.inside.branches c.in-Some.block c.deref_mut.result.now c.in-Some.is c.deref_mut.ensures.value c.self.invariant.branches i (child_in x occupied ts ss c.args.self.now c.requires.monotone c.requires.occupied f s some i p) _ c.in-Some-nodes.node c.index-nodes-i.is c.in-Some-nodes.is in
+    let k = kept c.self.inside.branches c.in-Some.block c.deref_mut.result.now c.in-Some.is c.deref_mut.ensures.value c.self.invariant.branches i (child_in x occupied ts ss c.args.self.now c.requires.monotone c.requires.occupied f s some i p) (with_value c.in-Some-nodes.node c.insert_by.new.self) (c.in-Full.ensures.ends.0 ∙ e) in
     record { branches = k.0; forked = subst (λ us. IsForked us ss) (sym k.1) f }
 
 pub returns-in-Full-clause-ends : goal.returns-in-Full-clause-ends
@@ -343,12 +318,9 @@ returns-in-Full-clause-ends g t c =
     let i = c.in-Err.i in
     let p : IsPlace x ss (Err i) = subst (λ l. IsPlace x l (Err i)) c.as_slice.ensures.value c.in-Err.ensures.place in
     let some = c.is_empty.ensures.some c.if-is_empty.false in
-    let d = c.deref_mut.result.now in
-    let e : d ≡ get_or ts i unused = c.deref_mut.ensures.value ∙ c.take-node.ensures.node in
-    let k = put_same c.self.inside.branches c.put-in-Full.new.self i c.count-count.result (with_value c.take-node.result c.insert_by.new.self) d c.self.invariant.branches (child_in x occupied ts ss c.args.self.now c.requires.monotone c.requires.occupied f s some i p) c.in-Full.ensures.ends.0 e
-    (c.put-in-Full.ensures.cell ∙ ap (λ l. set l i (Some (with_value c.take-node.result c.insert_by.new.self))) c.take-node.ensures.cell)
-    (c.put-in-Full.ensures.counts ∙ ap (λ l. set l i c.count-count.result) c.take-node.ensures.counts)
-    c.count-count.ensures in
+    let d = c.deref_mut-2.result.now in
+    let e : d ≡ get_or ts i unused = c.deref_mut-2.ensures.value ∙ branch_in c.self.inside.branches c.in-Some.block c.deref_mut.result.now c.in-Some.is c.deref_mut.ensures.value c.self.invariant.branches i (child_in x occupied ts ss c.args.self.now c.requires.monotone c.requires.occupied f s some i p) _ c.in-Some-nodes.node c.index-nodes-i.is c.in-Some-nodes.is in
+    let k = kept c.self.inside.branches c.in-Some.block c.deref_mut.result.now c.in-Some.is c.deref_mut.ensures.value c.self.invariant.branches i (child_in x occupied ts ss c.args.self.now c.requires.monotone c.requires.occupied f s some i p) (with_value c.in-Some-nodes.node c.insert_by.new.self) (c.in-Full.ensures.ends.0 ∙ e) in
     let b : c.start.result ≡ starts (take i (lists ts)) = c.start.ensures ∙ ap (λ us. starts (take i (lists us))) k.1 in
     (ap (λ us. tree us ss) k.1 ∙ s, subst (λ n. IsPlace x c.args.self.now.slots (Err (n + c.in-Full.rest))) (sym b) (child_place x occupied ts ss c.args.self.now c.requires.monotone c.requires.occupied f s some i p d e c.in-Full.rest c.in-Full.ensures.ends.1), c.in-Full.ensures.ends.2)
 
@@ -363,12 +335,9 @@ returns-in-Full-clause-height g t c =
     let i = c.in-Err.i in
     let p : IsPlace x ss (Err i) = subst (λ l. IsPlace x l (Err i)) c.as_slice.ensures.value c.in-Err.ensures.place in
     let some = c.is_empty.ensures.some c.if-is_empty.false in
-    let d = c.deref_mut.result.now in
-    let e : d ≡ get_or ts i unused = c.deref_mut.ensures.value ∙ c.take-node.ensures.node in
-    let k = put_same c.self.inside.branches c.put-in-Full.new.self i c.count-count.result (with_value c.take-node.result c.insert_by.new.self) d c.self.invariant.branches (child_in x occupied ts ss c.args.self.now c.requires.monotone c.requires.occupied f s some i p) c.in-Full.ensures.ends.0 e
-    (c.put-in-Full.ensures.cell ∙ ap (λ l. set l i (Some (with_value c.take-node.result c.insert_by.new.self))) c.take-node.ensures.cell)
-    (c.put-in-Full.ensures.counts ∙ ap (λ l. set l i c.count-count.result) c.take-node.ensures.counts)
-    c.count-count.ensures in
+    let d = c.deref_mut-2.result.now in
+    let e : d ≡ get_or ts i unused = c.deref_mut-2.ensures.value ∙ branch_in c.self.inside.branches c.in-Some.block c.deref_mut.result.now c.in-Some.is c.deref_mut.ensures.value c.self.invariant.branches i (child_in x occupied ts ss c.args.self.now c.requires.monotone c.requires.occupied f s some i p) _ c.in-Some-nodes.node c.index-nodes-i.is c.in-Some-nodes.is in
+    let k = kept c.self.inside.branches c.in-Some.block c.deref_mut.result.now c.in-Some.is c.deref_mut.ensures.value c.self.invariant.branches i (child_in x occupied ts ss c.args.self.now c.requires.monotone c.requires.occupied f s some i p) (with_value c.in-Some-nodes.node c.insert_by.new.self) (c.in-Full.ensures.ends.0 ∙ e) in
     ap levels k.1 ∙ ap (λ t. t.height) s
 
 pub returns-in-Full-clause-dense : goal.returns-in-Full-clause-dense
@@ -382,12 +351,9 @@ returns-in-Full-clause-dense g t c =
     let i = c.in-Err.i in
     let p : IsPlace x ss (Err i) = subst (λ l. IsPlace x l (Err i)) c.as_slice.ensures.value c.in-Err.ensures.place in
     let some = c.is_empty.ensures.some c.if-is_empty.false in
-    let d = c.deref_mut.result.now in
-    let e : d ≡ get_or ts i unused = c.deref_mut.ensures.value ∙ c.take-node.ensures.node in
-    let k = put_same c.self.inside.branches c.put-in-Full.new.self i c.count-count.result (with_value c.take-node.result c.insert_by.new.self) d c.self.invariant.branches (child_in x occupied ts ss c.args.self.now c.requires.monotone c.requires.occupied f s some i p) c.in-Full.ensures.ends.0 e
-    (c.put-in-Full.ensures.cell ∙ ap (λ l. set l i (Some (with_value c.take-node.result c.insert_by.new.self))) c.take-node.ensures.cell)
-    (c.put-in-Full.ensures.counts ∙ ap (λ l. set l i c.count-count.result) c.take-node.ensures.counts)
-    c.count-count.ensures in
+    let d = c.deref_mut-2.result.now in
+    let e : d ≡ get_or ts i unused = c.deref_mut-2.ensures.value ∙ branch_in c.self.inside.branches c.in-Some.block c.deref_mut.result.now c.in-Some.is c.deref_mut.ensures.value c.self.invariant.branches i (child_in x occupied ts ss c.args.self.now c.requires.monotone c.requires.occupied f s some i p) _ c.in-Some-nodes.node c.index-nodes-i.is c.in-Some-nodes.is in
+    let k = kept c.self.inside.branches c.in-Some.block c.deref_mut.result.now c.in-Some.is c.deref_mut.ensures.value c.self.invariant.branches i (child_in x occupied ts ss c.args.self.now c.requires.monotone c.requires.occupied f s some i p) (with_value c.in-Some-nodes.node c.insert_by.new.self) (c.in-Full.ensures.ends.0 ∙ e) in
     subst IsDense (sym (ap (λ us. tree us ss) k.1)) (dense_of ts ss f)
 
 pub returns-in-Full-clause-steps : goal.returns-in-Full-clause-steps
@@ -401,8 +367,8 @@ returns-in-Full-clause-steps g t c =
     let i = c.in-Err.i in
     let p : IsPlace x ss (Err i) = subst (λ l. IsPlace x l (Err i)) c.as_slice.ensures.value c.in-Err.ensures.place in
     let some = c.is_empty.ensures.some c.if-is_empty.false in
-    let d = c.deref_mut.result.now in
-    let e : d ≡ get_or ts i unused = c.deref_mut.ensures.value ∙ c.take-node.ensures.node in
+    let d = c.deref_mut-2.result.now in
+    let e : d ≡ get_or ts i unused = c.deref_mut-2.ensures.value ∙ branch_in c.self.inside.branches c.in-Some.block c.deref_mut.result.now c.in-Some.is c.deref_mut.ensures.value c.self.invariant.branches i (child_in x occupied ts ss c.args.self.now c.requires.monotone c.requires.occupied f s some i p) _ c.in-Some-nodes.node c.index-nodes-i.is c.in-Some-nodes.is in
     omega (arith, digits_four (length c.as_slice.result.now) c.as_slice.ensures.fits, c.in-Err.ensures.steps, c.in-Full.ensures.steps, (child_is x occupied ts ss c.args.self.now c.requires.monotone c.requires.occupied f s some i p).height, ap (λ t. t.height) e, ap (λ t. t.height) s)
 
 pub overflow_add-count : goal.overflow_add-count
@@ -416,8 +382,8 @@ overflow_add-count g t c =
     let i = c.in-Err.i in
     let p : IsPlace x ss (Err i) = subst (λ l. IsPlace x l (Err i)) c.as_slice.ensures.value c.in-Err.ensures.place in
     let some = c.is_empty.ensures.some c.if-is_empty.false in
-    let d = c.deref_mut.result.now in
-    let e : d ≡ get_or ts i unused = c.deref_mut.ensures.value ∙ c.take-node.ensures.node in
+    let d = c.deref_mut-2.result.now in
+    let e : d ≡ get_or ts i unused = c.deref_mut-2.ensures.value ∙ branch_in c.self.inside.branches c.in-Some.block c.deref_mut.result.now c.in-Some.is c.deref_mut.ensures.value c.self.invariant.branches i (child_in x occupied ts ss c.args.self.now c.requires.monotone c.requires.occupied f s some i p) _ c.in-Some-nodes.node c.index-nodes-i.is c.in-Some-nodes.is in
     omega (arith, c.count-count.ensures, branch_within ts ss f i (child_in x occupied ts ss c.args.self.now c.requires.monotone c.requires.occupied f s some i p), ap (λ t. length t.slots) s, c.requires.room)
 
 pub invariant_of-self-in-Inserted-None : goal.invariant_of-self-in-Inserted-None
@@ -431,16 +397,16 @@ invariant_of-self-in-Inserted-None g t c =
     let i = c.in-Err.i in
     let p : IsPlace x ss (Err i) = subst (λ l. IsPlace x l (Err i)) c.as_slice.ensures.value c.in-Err.ensures.place in
     let some = c.is_empty.ensures.some c.if-is_empty.false in
-    let d = c.deref_mut.result.now in
-    let e : d ≡ get_or ts i unused = c.deref_mut.ensures.value ∙ c.take-node.ensures.node in
+    let d = c.deref_mut-2.result.now in
+    let e : d ≡ get_or ts i unused = c.deref_mut-2.ensures.value ∙ branch_in c.self.inside.branches c.in-Some.block c.deref_mut.result.now c.in-Some.is c.deref_mut.ensures.value c.self.invariant.branches i (child_in x occupied ts ss c.args.self.now c.requires.monotone c.requires.occupied f s some i p) _ c.in-Some-nodes.node c.index-nodes-i.is c.in-Some-nodes.is in
     let ends = c.in-Inserted-None.ensures.ends in
     let rest = ends.0 in
     let grown = subst (λ r. AddsTo (insert d.slots rest c.args.slot) d.width c.insert_by.new.self r) c.in-Inserted-None.field-0-is ends.2 in
     let at : ℕ = starts (take i (lists ts)) + rest in
-    let put = c.put-in-Inserted-None in
-    let m = put_grown c.self.inside.branches put.new.self ss at c.args.slot i rest c.count-count.result (with_value c.take-node.result c.insert_by.new.self) d c.args.self.now c.self.invariant.branches f (child_at x occupied ts ss c.args.self.now c.requires.monotone c.requires.occupied f s some i p d e rest ends.1.0) e grown c.in-Inserted-None.ensures.height c.in-Inserted-None.ensures.dense
-    (put.ensures.cell ∙ ap (λ l. set l i (Some (with_value c.take-node.result c.insert_by.new.self))) c.take-node.ensures.cell)
-    (put.ensures.counts ∙ ap (λ l. set l i (c.count-count.result + 1)) c.take-node.ensures.counts)
+    let put = c.set_count in
+    let m = put_grown c.self.inside.branches put.new.self ss at c.args.slot i rest c.count-count.result (with_value c.in-Some-nodes.node c.insert_by.new.self) d c.args.self.now c.self.invariant.branches f (child_at x occupied ts ss c.args.self.now c.requires.monotone c.requires.occupied f s some i p d e rest ends.1.0) e grown c.in-Inserted-None.ensures.height c.in-Inserted-None.ensures.dense
+    (put.ensures.cells ∙ changed_nodes c.self.inside.branches c.in-Some.block c.deref_mut.result.now c.in-Some.is c.deref_mut.ensures.value c.self.invariant.branches i (child_in x occupied ts ss c.args.self.now c.requires.monotone c.requires.occupied f s some i p) (with_value c.in-Some-nodes.node c.insert_by.new.self))
+    (put.ensures.counts ∙ changed_counts c.self.inside.branches c.in-Some.block c.deref_mut.result.now c.in-Some.is c.deref_mut.ensures.value c.self.invariant.branches i (child_in x occupied ts ss c.args.self.now c.requires.monotone c.requires.occupied f s some i p) (c.count-count.result + 1))
     c.count-count.ensures s in
     record { branches = m.0; forked = m.1.forked }
 
@@ -455,16 +421,16 @@ returns-in-Inserted-None-clause-ends g t c =
     let i = c.in-Err.i in
     let p : IsPlace x ss (Err i) = subst (λ l. IsPlace x l (Err i)) c.as_slice.ensures.value c.in-Err.ensures.place in
     let some = c.is_empty.ensures.some c.if-is_empty.false in
-    let d = c.deref_mut.result.now in
-    let e : d ≡ get_or ts i unused = c.deref_mut.ensures.value ∙ c.take-node.ensures.node in
+    let d = c.deref_mut-2.result.now in
+    let e : d ≡ get_or ts i unused = c.deref_mut-2.ensures.value ∙ branch_in c.self.inside.branches c.in-Some.block c.deref_mut.result.now c.in-Some.is c.deref_mut.ensures.value c.self.invariant.branches i (child_in x occupied ts ss c.args.self.now c.requires.monotone c.requires.occupied f s some i p) _ c.in-Some-nodes.node c.index-nodes-i.is c.in-Some-nodes.is in
     let ends = c.in-Inserted-None.ensures.ends in
     let rest = ends.0 in
     let grown = subst (λ r. AddsTo (insert d.slots rest c.args.slot) d.width c.insert_by.new.self r) c.in-Inserted-None.field-0-is ends.2 in
     let at : ℕ = starts (take i (lists ts)) + rest in
-    let put = c.put-in-Inserted-None in
-    let m = put_grown c.self.inside.branches put.new.self ss at c.args.slot i rest c.count-count.result (with_value c.take-node.result c.insert_by.new.self) d c.args.self.now c.self.invariant.branches f (child_at x occupied ts ss c.args.self.now c.requires.monotone c.requires.occupied f s some i p d e rest ends.1.0) e grown c.in-Inserted-None.ensures.height c.in-Inserted-None.ensures.dense
-    (put.ensures.cell ∙ ap (λ l. set l i (Some (with_value c.take-node.result c.insert_by.new.self))) c.take-node.ensures.cell)
-    (put.ensures.counts ∙ ap (λ l. set l i (c.count-count.result + 1)) c.take-node.ensures.counts)
+    let put = c.set_count in
+    let m = put_grown c.self.inside.branches put.new.self ss at c.args.slot i rest c.count-count.result (with_value c.in-Some-nodes.node c.insert_by.new.self) d c.args.self.now c.self.invariant.branches f (child_at x occupied ts ss c.args.self.now c.requires.monotone c.requires.occupied f s some i p d e rest ends.1.0) e grown c.in-Inserted-None.ensures.height c.in-Inserted-None.ensures.dense
+    (put.ensures.cells ∙ changed_nodes c.self.inside.branches c.in-Some.block c.deref_mut.result.now c.in-Some.is c.deref_mut.ensures.value c.self.invariant.branches i (child_in x occupied ts ss c.args.self.now c.requires.monotone c.requires.occupied f s some i p) (with_value c.in-Some-nodes.node c.insert_by.new.self))
+    (put.ensures.counts ∙ changed_counts c.self.inside.branches c.in-Some.block c.deref_mut.result.now c.in-Some.is c.deref_mut.ensures.value c.self.invariant.branches i (child_in x occupied ts ss c.args.self.now c.requires.monotone c.requires.occupied f s some i p) (c.count-count.result + 1))
     c.count-count.ensures s in
     (at, child_place x occupied ts ss c.args.self.now c.requires.monotone c.requires.occupied f s some i p d e rest ends.1, record { slots = m.1.list; wider = omega (arith, ap (λ t. t.width) s) }, tt)
 
@@ -479,16 +445,16 @@ returns-in-Inserted-None-clause-height g t c =
     let i = c.in-Err.i in
     let p : IsPlace x ss (Err i) = subst (λ l. IsPlace x l (Err i)) c.as_slice.ensures.value c.in-Err.ensures.place in
     let some = c.is_empty.ensures.some c.if-is_empty.false in
-    let d = c.deref_mut.result.now in
-    let e : d ≡ get_or ts i unused = c.deref_mut.ensures.value ∙ c.take-node.ensures.node in
+    let d = c.deref_mut-2.result.now in
+    let e : d ≡ get_or ts i unused = c.deref_mut-2.ensures.value ∙ branch_in c.self.inside.branches c.in-Some.block c.deref_mut.result.now c.in-Some.is c.deref_mut.ensures.value c.self.invariant.branches i (child_in x occupied ts ss c.args.self.now c.requires.monotone c.requires.occupied f s some i p) _ c.in-Some-nodes.node c.index-nodes-i.is c.in-Some-nodes.is in
     let ends = c.in-Inserted-None.ensures.ends in
     let rest = ends.0 in
     let grown = subst (λ r. AddsTo (insert d.slots rest c.args.slot) d.width c.insert_by.new.self r) c.in-Inserted-None.field-0-is ends.2 in
     let at : ℕ = starts (take i (lists ts)) + rest in
-    let put = c.put-in-Inserted-None in
-    let m = put_grown c.self.inside.branches put.new.self ss at c.args.slot i rest c.count-count.result (with_value c.take-node.result c.insert_by.new.self) d c.args.self.now c.self.invariant.branches f (child_at x occupied ts ss c.args.self.now c.requires.monotone c.requires.occupied f s some i p d e rest ends.1.0) e grown c.in-Inserted-None.ensures.height c.in-Inserted-None.ensures.dense
-    (put.ensures.cell ∙ ap (λ l. set l i (Some (with_value c.take-node.result c.insert_by.new.self))) c.take-node.ensures.cell)
-    (put.ensures.counts ∙ ap (λ l. set l i (c.count-count.result + 1)) c.take-node.ensures.counts)
+    let put = c.set_count in
+    let m = put_grown c.self.inside.branches put.new.self ss at c.args.slot i rest c.count-count.result (with_value c.in-Some-nodes.node c.insert_by.new.self) d c.args.self.now c.self.invariant.branches f (child_at x occupied ts ss c.args.self.now c.requires.monotone c.requires.occupied f s some i p d e rest ends.1.0) e grown c.in-Inserted-None.ensures.height c.in-Inserted-None.ensures.dense
+    (put.ensures.cells ∙ changed_nodes c.self.inside.branches c.in-Some.block c.deref_mut.result.now c.in-Some.is c.deref_mut.ensures.value c.self.invariant.branches i (child_in x occupied ts ss c.args.self.now c.requires.monotone c.requires.occupied f s some i p) (with_value c.in-Some-nodes.node c.insert_by.new.self))
+    (put.ensures.counts ∙ changed_counts c.self.inside.branches c.in-Some.block c.deref_mut.result.now c.in-Some.is c.deref_mut.ensures.value c.self.invariant.branches i (child_in x occupied ts ss c.args.self.now c.requires.monotone c.requires.occupied f s some i p) (c.count-count.result + 1))
     c.count-count.ensures s in
     m.1.height ∙ ap (λ t. t.height) s
 
@@ -503,18 +469,18 @@ returns-in-Inserted-None-clause-dense g t c =
     let i = c.in-Err.i in
     let p : IsPlace x ss (Err i) = subst (λ l. IsPlace x l (Err i)) c.as_slice.ensures.value c.in-Err.ensures.place in
     let some = c.is_empty.ensures.some c.if-is_empty.false in
-    let d = c.deref_mut.result.now in
-    let e : d ≡ get_or ts i unused = c.deref_mut.ensures.value ∙ c.take-node.ensures.node in
+    let d = c.deref_mut-2.result.now in
+    let e : d ≡ get_or ts i unused = c.deref_mut-2.ensures.value ∙ branch_in c.self.inside.branches c.in-Some.block c.deref_mut.result.now c.in-Some.is c.deref_mut.ensures.value c.self.invariant.branches i (child_in x occupied ts ss c.args.self.now c.requires.monotone c.requires.occupied f s some i p) _ c.in-Some-nodes.node c.index-nodes-i.is c.in-Some-nodes.is in
     let ends = c.in-Inserted-None.ensures.ends in
     let rest = ends.0 in
     let grown = subst (λ r. AddsTo (insert d.slots rest c.args.slot) d.width c.insert_by.new.self r) c.in-Inserted-None.field-0-is ends.2 in
     let at : ℕ = starts (take i (lists ts)) + rest in
-    let put = c.put-in-Inserted-None in
-    let m = put_grown c.self.inside.branches put.new.self ss at c.args.slot i rest c.count-count.result (with_value c.take-node.result c.insert_by.new.self) d c.args.self.now c.self.invariant.branches f (child_at x occupied ts ss c.args.self.now c.requires.monotone c.requires.occupied f s some i p d e rest ends.1.0) e grown c.in-Inserted-None.ensures.height c.in-Inserted-None.ensures.dense
-    (put.ensures.cell ∙ ap (λ l. set l i (Some (with_value c.take-node.result c.insert_by.new.self))) c.take-node.ensures.cell)
-    (put.ensures.counts ∙ ap (λ l. set l i (c.count-count.result + 1)) c.take-node.ensures.counts)
+    let put = c.set_count in
+    let m = put_grown c.self.inside.branches put.new.self ss at c.args.slot i rest c.count-count.result (with_value c.in-Some-nodes.node c.insert_by.new.self) d c.args.self.now c.self.invariant.branches f (child_at x occupied ts ss c.args.self.now c.requires.monotone c.requires.occupied f s some i p d e rest ends.1.0) e grown c.in-Inserted-None.ensures.height c.in-Inserted-None.ensures.dense
+    (put.ensures.cells ∙ changed_nodes c.self.inside.branches c.in-Some.block c.deref_mut.result.now c.in-Some.is c.deref_mut.ensures.value c.self.invariant.branches i (child_in x occupied ts ss c.args.self.now c.requires.monotone c.requires.occupied f s some i p) (with_value c.in-Some-nodes.node c.insert_by.new.self))
+    (put.ensures.counts ∙ changed_counts c.self.inside.branches c.in-Some.block c.deref_mut.result.now c.in-Some.is c.deref_mut.ensures.value c.self.invariant.branches i (child_in x occupied ts ss c.args.self.now c.requires.monotone c.requires.occupied f s some i p) (c.count-count.result + 1))
     c.count-count.ensures s in
-    dense_of (below c.put-in-Inserted-None.new.self) ss m.1.forked
+    dense_of (below c.set_count.new.self) ss m.1.forked
 
 pub returns-in-Inserted-None-clause-steps : goal.returns-in-Inserted-None-clause-steps
 returns-in-Inserted-None-clause-steps g t c =
@@ -527,8 +493,8 @@ returns-in-Inserted-None-clause-steps g t c =
     let i = c.in-Err.i in
     let p : IsPlace x ss (Err i) = subst (λ l. IsPlace x l (Err i)) c.as_slice.ensures.value c.in-Err.ensures.place in
     let some = c.is_empty.ensures.some c.if-is_empty.false in
-    let d = c.deref_mut.result.now in
-    let e : d ≡ get_or ts i unused = c.deref_mut.ensures.value ∙ c.take-node.ensures.node in
+    let d = c.deref_mut-2.result.now in
+    let e : d ≡ get_or ts i unused = c.deref_mut-2.ensures.value ∙ branch_in c.self.inside.branches c.in-Some.block c.deref_mut.result.now c.in-Some.is c.deref_mut.ensures.value c.self.invariant.branches i (child_in x occupied ts ss c.args.self.now c.requires.monotone c.requires.occupied f s some i p) _ c.in-Some-nodes.node c.index-nodes-i.is c.in-Some-nodes.is in
     omega (arith, digits_four (length c.as_slice.result.now) c.as_slice.ensures.fits, c.in-Err.ensures.steps, c.in-Inserted-None.ensures.steps, (child_is x occupied ts ss c.args.self.now c.requires.monotone c.requires.occupied f s some i p).height, ap (λ t. t.height) e, ap (λ t. t.height) s)
 
 pub len-above-requires : goal.len-above-requires
@@ -542,8 +508,8 @@ len-above-requires g t c =
     let i = c.in-Err.i in
     let p : IsPlace x ss (Err i) = subst (λ l. IsPlace x l (Err i)) c.as_slice.ensures.value c.in-Err.ensures.place in
     let some = c.is_empty.ensures.some c.if-is_empty.false in
-    let d = c.deref_mut.result.now in
-    let e : d ≡ get_or ts i unused = c.deref_mut.ensures.value ∙ c.take-node.ensures.node in
+    let d = c.deref_mut-2.result.now in
+    let e : d ≡ get_or ts i unused = c.deref_mut-2.ensures.value ∙ branch_in c.self.inside.branches c.in-Some.block c.deref_mut.result.now c.in-Some.is c.deref_mut.ensures.value c.self.invariant.branches i (child_in x occupied ts ss c.args.self.now c.requires.monotone c.requires.occupied f s some i p) _ c.in-Some-nodes.node c.index-nodes-i.is c.in-Some-nodes.is in
     let ends = c.in-Inserted-Some.ensures.ends in
     let rest = ends.0 in
     let split = subst (λ r. AddsTo (insert d.slots rest c.args.slot) d.width c.insert_by.new.self r) c.in-Inserted-Some.field-0-is ends.2 in
@@ -562,8 +528,8 @@ overflow_sub-count g t c =
     let i = c.in-Err.i in
     let p : IsPlace x ss (Err i) = subst (λ l. IsPlace x l (Err i)) c.as_slice.ensures.value c.in-Err.ensures.place in
     let some = c.is_empty.ensures.some c.if-is_empty.false in
-    let d = c.deref_mut.result.now in
-    let e : d ≡ get_or ts i unused = c.deref_mut.ensures.value ∙ c.take-node.ensures.node in
+    let d = c.deref_mut-2.result.now in
+    let e : d ≡ get_or ts i unused = c.deref_mut-2.ensures.value ∙ branch_in c.self.inside.branches c.in-Some.block c.deref_mut.result.now c.in-Some.is c.deref_mut.ensures.value c.self.invariant.branches i (child_in x occupied ts ss c.args.self.now c.requires.monotone c.requires.occupied f s some i p) _ c.in-Some-nodes.node c.index-nodes-i.is c.in-Some-nodes.is in
     let ends = c.in-Inserted-Some.ensures.ends in
     let rest = ends.0 in
     let split = subst (λ r. AddsTo (insert d.slots rest c.args.slot) d.width c.insert_by.new.self r) c.in-Inserted-Some.field-0-is ends.2 in
@@ -582,17 +548,17 @@ add_branch-requires-clause-branches g t c =
     let i = c.in-Err.i in
     let p : IsPlace x ss (Err i) = subst (λ l. IsPlace x l (Err i)) c.as_slice.ensures.value c.in-Err.ensures.place in
     let some = c.is_empty.ensures.some c.if-is_empty.false in
-    let d = c.deref_mut.result.now in
-    let e : d ≡ get_or ts i unused = c.deref_mut.ensures.value ∙ c.take-node.ensures.node in
+    let d = c.deref_mut-2.result.now in
+    let e : d ≡ get_or ts i unused = c.deref_mut-2.ensures.value ∙ branch_in c.self.inside.branches c.in-Some.block c.deref_mut.result.now c.in-Some.is c.deref_mut.ensures.value c.self.invariant.branches i (child_in x occupied ts ss c.args.self.now c.requires.monotone c.requires.occupied f s some i p) _ c.in-Some-nodes.node c.index-nodes-i.is c.in-Some-nodes.is in
     let ends = c.in-Inserted-Some.ensures.ends in
     let rest = ends.0 in
     let split = subst (λ r. AddsTo (insert d.slots rest c.args.slot) d.width c.insert_by.new.self r) c.in-Inserted-Some.field-0-is ends.2 in
     let at : ℕ = starts (take i (lists ts)) + rest in
-    let put = c.put-in-Inserted-Some in
+    let put = c.set_count-in-Inserted-Some in
     let middle = c.in-Inserted-Some.middle in
-    let m = put_parted c.self.inside.branches put.new.self ss at c.args.slot i rest c.count-count.result c.len-above.result (c.count-count.result - c.len-above.result) middle c.deref.result.now (with_value c.take-node.result c.insert_by.new.self) d c.in-Inserted-Some.upper.value c.args.self.now c.self.invariant.branches f (child_at x occupied ts ss c.args.self.now c.requires.monotone c.requires.occupied f s some i p d e rest ends.1.0) e split c.in-Inserted-Some.ensures.height c.in-Inserted-Some.ensures.dense
-    (put.ensures.cell ∙ ap (λ l. set l i (Some (with_value c.take-node.result c.insert_by.new.self))) c.take-node.ensures.cell)
-    (put.ensures.counts ∙ ap (λ l. set l i (c.count-count.result - c.len-above.result)) c.take-node.ensures.counts)
+    let m = put_parted c.self.inside.branches put.new.self ss at c.args.slot i rest c.count-count.result c.len-above.result (c.count-count.result - c.len-above.result) middle c.deref.result.now (with_value c.in-Some-nodes.node c.insert_by.new.self) d c.in-Inserted-Some.upper.value c.args.self.now c.self.invariant.branches f (child_at x occupied ts ss c.args.self.now c.requires.monotone c.requires.occupied f s some i p d e rest ends.1.0) e split c.in-Inserted-Some.ensures.height c.in-Inserted-Some.ensures.dense
+    (put.ensures.cells ∙ changed_nodes c.self.inside.branches c.in-Some.block c.deref_mut.result.now c.in-Some.is c.deref_mut.ensures.value c.self.invariant.branches i (child_in x occupied ts ss c.args.self.now c.requires.monotone c.requires.occupied f s some i p) (with_value c.in-Some-nodes.node c.insert_by.new.self))
+    (put.ensures.counts ∙ changed_counts c.self.inside.branches c.in-Some.block c.deref_mut.result.now c.in-Some.is c.deref_mut.ensures.value c.self.invariant.branches i (child_in x occupied ts ss c.args.self.now c.requires.monotone c.requires.occupied f s some i p) (c.count-count.result - c.len-above.result))
     (omega arith) c.count-count.ensures c.deref.ensures c.len-above.ensures s in
     m.0
 
@@ -607,17 +573,17 @@ add_branch-requires-clause-forked g t c =
     let i = c.in-Err.i in
     let p : IsPlace x ss (Err i) = subst (λ l. IsPlace x l (Err i)) c.as_slice.ensures.value c.in-Err.ensures.place in
     let some = c.is_empty.ensures.some c.if-is_empty.false in
-    let d = c.deref_mut.result.now in
-    let e : d ≡ get_or ts i unused = c.deref_mut.ensures.value ∙ c.take-node.ensures.node in
+    let d = c.deref_mut-2.result.now in
+    let e : d ≡ get_or ts i unused = c.deref_mut-2.ensures.value ∙ branch_in c.self.inside.branches c.in-Some.block c.deref_mut.result.now c.in-Some.is c.deref_mut.ensures.value c.self.invariant.branches i (child_in x occupied ts ss c.args.self.now c.requires.monotone c.requires.occupied f s some i p) _ c.in-Some-nodes.node c.index-nodes-i.is c.in-Some-nodes.is in
     let ends = c.in-Inserted-Some.ensures.ends in
     let rest = ends.0 in
     let split = subst (λ r. AddsTo (insert d.slots rest c.args.slot) d.width c.insert_by.new.self r) c.in-Inserted-Some.field-0-is ends.2 in
     let at : ℕ = starts (take i (lists ts)) + rest in
-    let put = c.put-in-Inserted-Some in
+    let put = c.set_count-in-Inserted-Some in
     let middle = c.in-Inserted-Some.middle in
-    let m = put_parted c.self.inside.branches put.new.self ss at c.args.slot i rest c.count-count.result c.len-above.result (c.count-count.result - c.len-above.result) middle c.deref.result.now (with_value c.take-node.result c.insert_by.new.self) d c.in-Inserted-Some.upper.value c.args.self.now c.self.invariant.branches f (child_at x occupied ts ss c.args.self.now c.requires.monotone c.requires.occupied f s some i p d e rest ends.1.0) e split c.in-Inserted-Some.ensures.height c.in-Inserted-Some.ensures.dense
-    (put.ensures.cell ∙ ap (λ l. set l i (Some (with_value c.take-node.result c.insert_by.new.self))) c.take-node.ensures.cell)
-    (put.ensures.counts ∙ ap (λ l. set l i (c.count-count.result - c.len-above.result)) c.take-node.ensures.counts)
+    let m = put_parted c.self.inside.branches put.new.self ss at c.args.slot i rest c.count-count.result c.len-above.result (c.count-count.result - c.len-above.result) middle c.deref.result.now (with_value c.in-Some-nodes.node c.insert_by.new.self) d c.in-Inserted-Some.upper.value c.args.self.now c.self.invariant.branches f (child_at x occupied ts ss c.args.self.now c.requires.monotone c.requires.occupied f s some i p d e rest ends.1.0) e split c.in-Inserted-Some.ensures.height c.in-Inserted-Some.ensures.dense
+    (put.ensures.cells ∙ changed_nodes c.self.inside.branches c.in-Some.block c.deref_mut.result.now c.in-Some.is c.deref_mut.ensures.value c.self.invariant.branches i (child_in x occupied ts ss c.args.self.now c.requires.monotone c.requires.occupied f s some i p) (with_value c.in-Some-nodes.node c.insert_by.new.self))
+    (put.ensures.counts ∙ changed_counts c.self.inside.branches c.in-Some.block c.deref_mut.result.now c.in-Some.is c.deref_mut.ensures.value c.self.invariant.branches i (child_in x occupied ts ss c.args.self.now c.requires.monotone c.requires.occupied f s some i p) (c.count-count.result - c.len-above.result))
     (omega arith) c.count-count.ensures c.deref.ensures c.len-above.ensures s in
     m.1.forked
 
@@ -632,17 +598,17 @@ add_branch-requires-clause-inner g t c =
     let i = c.in-Err.i in
     let p : IsPlace x ss (Err i) = subst (λ l. IsPlace x l (Err i)) c.as_slice.ensures.value c.in-Err.ensures.place in
     let some = c.is_empty.ensures.some c.if-is_empty.false in
-    let d = c.deref_mut.result.now in
-    let e : d ≡ get_or ts i unused = c.deref_mut.ensures.value ∙ c.take-node.ensures.node in
+    let d = c.deref_mut-2.result.now in
+    let e : d ≡ get_or ts i unused = c.deref_mut-2.ensures.value ∙ branch_in c.self.inside.branches c.in-Some.block c.deref_mut.result.now c.in-Some.is c.deref_mut.ensures.value c.self.invariant.branches i (child_in x occupied ts ss c.args.self.now c.requires.monotone c.requires.occupied f s some i p) _ c.in-Some-nodes.node c.index-nodes-i.is c.in-Some-nodes.is in
     let ends = c.in-Inserted-Some.ensures.ends in
     let rest = ends.0 in
     let split = subst (λ r. AddsTo (insert d.slots rest c.args.slot) d.width c.insert_by.new.self r) c.in-Inserted-Some.field-0-is ends.2 in
     let at : ℕ = starts (take i (lists ts)) + rest in
-    let put = c.put-in-Inserted-Some in
+    let put = c.set_count-in-Inserted-Some in
     let middle = c.in-Inserted-Some.middle in
-    let m = put_parted c.self.inside.branches put.new.self ss at c.args.slot i rest c.count-count.result c.len-above.result (c.count-count.result - c.len-above.result) middle c.deref.result.now (with_value c.take-node.result c.insert_by.new.self) d c.in-Inserted-Some.upper.value c.args.self.now c.self.invariant.branches f (child_at x occupied ts ss c.args.self.now c.requires.monotone c.requires.occupied f s some i p d e rest ends.1.0) e split c.in-Inserted-Some.ensures.height c.in-Inserted-Some.ensures.dense
-    (put.ensures.cell ∙ ap (λ l. set l i (Some (with_value c.take-node.result c.insert_by.new.self))) c.take-node.ensures.cell)
-    (put.ensures.counts ∙ ap (λ l. set l i (c.count-count.result - c.len-above.result)) c.take-node.ensures.counts)
+    let m = put_parted c.self.inside.branches put.new.self ss at c.args.slot i rest c.count-count.result c.len-above.result (c.count-count.result - c.len-above.result) middle c.deref.result.now (with_value c.in-Some-nodes.node c.insert_by.new.self) d c.in-Inserted-Some.upper.value c.args.self.now c.self.invariant.branches f (child_at x occupied ts ss c.args.self.now c.requires.monotone c.requires.occupied f s some i p d e rest ends.1.0) e split c.in-Inserted-Some.ensures.height c.in-Inserted-Some.ensures.dense
+    (put.ensures.cells ∙ changed_nodes c.self.inside.branches c.in-Some.block c.deref_mut.result.now c.in-Some.is c.deref_mut.ensures.value c.self.invariant.branches i (child_in x occupied ts ss c.args.self.now c.requires.monotone c.requires.occupied f s some i p) (with_value c.in-Some-nodes.node c.insert_by.new.self))
+    (put.ensures.counts ∙ changed_counts c.self.inside.branches c.in-Some.block c.deref_mut.result.now c.in-Some.is c.deref_mut.ensures.value c.self.invariant.branches i (child_in x occupied ts ss c.args.self.now c.requires.monotone c.requires.occupied f s some i p) (c.count-count.result - c.len-above.result))
     (omega arith) c.count-count.ensures c.deref.ensures c.len-above.ensures s in
     inner_of (below put.new.self) (omega (arith, m.1.height, inner_levels ts ss f some))
 
@@ -657,17 +623,17 @@ add_branch-requires-clause-upper g t c =
     let i = c.in-Err.i in
     let p : IsPlace x ss (Err i) = subst (λ l. IsPlace x l (Err i)) c.as_slice.ensures.value c.in-Err.ensures.place in
     let some = c.is_empty.ensures.some c.if-is_empty.false in
-    let d = c.deref_mut.result.now in
-    let e : d ≡ get_or ts i unused = c.deref_mut.ensures.value ∙ c.take-node.ensures.node in
+    let d = c.deref_mut-2.result.now in
+    let e : d ≡ get_or ts i unused = c.deref_mut-2.ensures.value ∙ branch_in c.self.inside.branches c.in-Some.block c.deref_mut.result.now c.in-Some.is c.deref_mut.ensures.value c.self.invariant.branches i (child_in x occupied ts ss c.args.self.now c.requires.monotone c.requires.occupied f s some i p) _ c.in-Some-nodes.node c.index-nodes-i.is c.in-Some-nodes.is in
     let ends = c.in-Inserted-Some.ensures.ends in
     let rest = ends.0 in
     let split = subst (λ r. AddsTo (insert d.slots rest c.args.slot) d.width c.insert_by.new.self r) c.in-Inserted-Some.field-0-is ends.2 in
     let at : ℕ = starts (take i (lists ts)) + rest in
-    let put = c.put-in-Inserted-Some in
+    let put = c.set_count-in-Inserted-Some in
     let middle = c.in-Inserted-Some.middle in
-    let m = put_parted c.self.inside.branches put.new.self ss at c.args.slot i rest c.count-count.result c.len-above.result (c.count-count.result - c.len-above.result) middle c.deref.result.now (with_value c.take-node.result c.insert_by.new.self) d c.in-Inserted-Some.upper.value c.args.self.now c.self.invariant.branches f (child_at x occupied ts ss c.args.self.now c.requires.monotone c.requires.occupied f s some i p d e rest ends.1.0) e split c.in-Inserted-Some.ensures.height c.in-Inserted-Some.ensures.dense
-    (put.ensures.cell ∙ ap (λ l. set l i (Some (with_value c.take-node.result c.insert_by.new.self))) c.take-node.ensures.cell)
-    (put.ensures.counts ∙ ap (λ l. set l i (c.count-count.result - c.len-above.result)) c.take-node.ensures.counts)
+    let m = put_parted c.self.inside.branches put.new.self ss at c.args.slot i rest c.count-count.result c.len-above.result (c.count-count.result - c.len-above.result) middle c.deref.result.now (with_value c.in-Some-nodes.node c.insert_by.new.self) d c.in-Inserted-Some.upper.value c.args.self.now c.self.invariant.branches f (child_at x occupied ts ss c.args.self.now c.requires.monotone c.requires.occupied f s some i p d e rest ends.1.0) e split c.in-Inserted-Some.ensures.height c.in-Inserted-Some.ensures.dense
+    (put.ensures.cells ∙ changed_nodes c.self.inside.branches c.in-Some.block c.deref_mut.result.now c.in-Some.is c.deref_mut.ensures.value c.self.invariant.branches i (child_in x occupied ts ss c.args.self.now c.requires.monotone c.requires.occupied f s some i p) (with_value c.in-Some-nodes.node c.insert_by.new.self))
+    (put.ensures.counts ∙ changed_counts c.self.inside.branches c.in-Some.block c.deref_mut.result.now c.in-Some.is c.deref_mut.ensures.value c.self.invariant.branches i (child_in x occupied ts ss c.args.self.now c.requires.monotone c.requires.occupied f s some i p) (c.count-count.result - c.len-above.result))
     (omega arith) c.count-count.ensures c.deref.ensures c.len-above.ensures s in
     m.1.branch
 
@@ -686,8 +652,8 @@ add_branch-requires-clause-enough g t c =
     let i = c.in-Err.i in
     let p : IsPlace x ss (Err i) = subst (λ l. IsPlace x l (Err i)) c.as_slice.ensures.value c.in-Err.ensures.place in
     let some = c.is_empty.ensures.some c.if-is_empty.false in
-    let d = c.deref_mut.result.now in
-    let e : d ≡ get_or ts i unused = c.deref_mut.ensures.value ∙ c.take-node.ensures.node in
+    let d = c.deref_mut-2.result.now in
+    let e : d ≡ get_or ts i unused = c.deref_mut-2.ensures.value ∙ branch_in c.self.inside.branches c.in-Some.block c.deref_mut.result.now c.in-Some.is c.deref_mut.ensures.value c.self.invariant.branches i (child_in x occupied ts ss c.args.self.now c.requires.monotone c.requires.occupied f s some i p) _ c.in-Some-nodes.node c.index-nodes-i.is c.in-Some-nodes.is in
     let ready = subst (λ r. OnSome r (IsTrue c.args.ready)) c.in-Inserted-Some.field-0-is c.in-Inserted-Some.ensures.ends.3 in
     omega (arith, c.requires.enough ready, c.in-Inserted-Some.ensures.left, (child_is x occupied ts ss c.args.self.now c.requires.monotone c.requires.occupied f s some i p).height, ap (λ t. t.height) e, ap (λ t. t.height) s)
 
@@ -702,17 +668,17 @@ returns-in-Inserted-Some-clause-ends g t c =
     let i = c.in-Err.i in
     let p : IsPlace x ss (Err i) = subst (λ l. IsPlace x l (Err i)) c.as_slice.ensures.value c.in-Err.ensures.place in
     let some = c.is_empty.ensures.some c.if-is_empty.false in
-    let d = c.deref_mut.result.now in
-    let e : d ≡ get_or ts i unused = c.deref_mut.ensures.value ∙ c.take-node.ensures.node in
+    let d = c.deref_mut-2.result.now in
+    let e : d ≡ get_or ts i unused = c.deref_mut-2.ensures.value ∙ branch_in c.self.inside.branches c.in-Some.block c.deref_mut.result.now c.in-Some.is c.deref_mut.ensures.value c.self.invariant.branches i (child_in x occupied ts ss c.args.self.now c.requires.monotone c.requires.occupied f s some i p) _ c.in-Some-nodes.node c.index-nodes-i.is c.in-Some-nodes.is in
     let ends = c.in-Inserted-Some.ensures.ends in
     let rest = ends.0 in
     let split = subst (λ r. AddsTo (insert d.slots rest c.args.slot) d.width c.insert_by.new.self r) c.in-Inserted-Some.field-0-is ends.2 in
     let at : ℕ = starts (take i (lists ts)) + rest in
-    let put = c.put-in-Inserted-Some in
+    let put = c.set_count-in-Inserted-Some in
     let middle = c.in-Inserted-Some.middle in
-    let m = put_parted c.self.inside.branches put.new.self ss at c.args.slot i rest c.count-count.result c.len-above.result (c.count-count.result - c.len-above.result) middle c.deref.result.now (with_value c.take-node.result c.insert_by.new.self) d c.in-Inserted-Some.upper.value c.args.self.now c.self.invariant.branches f (child_at x occupied ts ss c.args.self.now c.requires.monotone c.requires.occupied f s some i p d e rest ends.1.0) e split c.in-Inserted-Some.ensures.height c.in-Inserted-Some.ensures.dense
-    (put.ensures.cell ∙ ap (λ l. set l i (Some (with_value c.take-node.result c.insert_by.new.self))) c.take-node.ensures.cell)
-    (put.ensures.counts ∙ ap (λ l. set l i (c.count-count.result - c.len-above.result)) c.take-node.ensures.counts)
+    let m = put_parted c.self.inside.branches put.new.self ss at c.args.slot i rest c.count-count.result c.len-above.result (c.count-count.result - c.len-above.result) middle c.deref.result.now (with_value c.in-Some-nodes.node c.insert_by.new.self) d c.in-Inserted-Some.upper.value c.args.self.now c.self.invariant.branches f (child_at x occupied ts ss c.args.self.now c.requires.monotone c.requires.occupied f s some i p d e rest ends.1.0) e split c.in-Inserted-Some.ensures.height c.in-Inserted-Some.ensures.dense
+    (put.ensures.cells ∙ changed_nodes c.self.inside.branches c.in-Some.block c.deref_mut.result.now c.in-Some.is c.deref_mut.ensures.value c.self.invariant.branches i (child_in x occupied ts ss c.args.self.now c.requires.monotone c.requires.occupied f s some i p) (with_value c.in-Some-nodes.node c.insert_by.new.self))
+    (put.ensures.counts ∙ changed_counts c.self.inside.branches c.in-Some.block c.deref_mut.result.now c.in-Some.is c.deref_mut.ensures.value c.self.invariant.branches i (child_in x occupied ts ss c.args.self.now c.requires.monotone c.requires.occupied f s some i p) (c.count-count.result - c.len-above.result))
     (omega arith) c.count-count.ensures c.deref.ensures c.len-above.ensures s in (
       at,
       child_place x occupied ts ss c.args.self.now c.requires.monotone c.requires.occupied f s some i p d e rest ends.1,
@@ -732,17 +698,17 @@ returns-in-Inserted-Some-clause-height g t c =
     let i = c.in-Err.i in
     let p : IsPlace x ss (Err i) = subst (λ l. IsPlace x l (Err i)) c.as_slice.ensures.value c.in-Err.ensures.place in
     let some = c.is_empty.ensures.some c.if-is_empty.false in
-    let d = c.deref_mut.result.now in
-    let e : d ≡ get_or ts i unused = c.deref_mut.ensures.value ∙ c.take-node.ensures.node in
+    let d = c.deref_mut-2.result.now in
+    let e : d ≡ get_or ts i unused = c.deref_mut-2.ensures.value ∙ branch_in c.self.inside.branches c.in-Some.block c.deref_mut.result.now c.in-Some.is c.deref_mut.ensures.value c.self.invariant.branches i (child_in x occupied ts ss c.args.self.now c.requires.monotone c.requires.occupied f s some i p) _ c.in-Some-nodes.node c.index-nodes-i.is c.in-Some-nodes.is in
     let ends = c.in-Inserted-Some.ensures.ends in
     let rest = ends.0 in
     let split = subst (λ r. AddsTo (insert d.slots rest c.args.slot) d.width c.insert_by.new.self r) c.in-Inserted-Some.field-0-is ends.2 in
     let at : ℕ = starts (take i (lists ts)) + rest in
-    let put = c.put-in-Inserted-Some in
+    let put = c.set_count-in-Inserted-Some in
     let middle = c.in-Inserted-Some.middle in
-    let m = put_parted c.self.inside.branches put.new.self ss at c.args.slot i rest c.count-count.result c.len-above.result (c.count-count.result - c.len-above.result) middle c.deref.result.now (with_value c.take-node.result c.insert_by.new.self) d c.in-Inserted-Some.upper.value c.args.self.now c.self.invariant.branches f (child_at x occupied ts ss c.args.self.now c.requires.monotone c.requires.occupied f s some i p d e rest ends.1.0) e split c.in-Inserted-Some.ensures.height c.in-Inserted-Some.ensures.dense
-    (put.ensures.cell ∙ ap (λ l. set l i (Some (with_value c.take-node.result c.insert_by.new.self))) c.take-node.ensures.cell)
-    (put.ensures.counts ∙ ap (λ l. set l i (c.count-count.result - c.len-above.result)) c.take-node.ensures.counts)
+    let m = put_parted c.self.inside.branches put.new.self ss at c.args.slot i rest c.count-count.result c.len-above.result (c.count-count.result - c.len-above.result) middle c.deref.result.now (with_value c.in-Some-nodes.node c.insert_by.new.self) d c.in-Inserted-Some.upper.value c.args.self.now c.self.invariant.branches f (child_at x occupied ts ss c.args.self.now c.requires.monotone c.requires.occupied f s some i p d e rest ends.1.0) e split c.in-Inserted-Some.ensures.height c.in-Inserted-Some.ensures.dense
+    (put.ensures.cells ∙ changed_nodes c.self.inside.branches c.in-Some.block c.deref_mut.result.now c.in-Some.is c.deref_mut.ensures.value c.self.invariant.branches i (child_in x occupied ts ss c.args.self.now c.requires.monotone c.requires.occupied f s some i p) (with_value c.in-Some-nodes.node c.insert_by.new.self))
+    (put.ensures.counts ∙ changed_counts c.self.inside.branches c.in-Some.block c.deref_mut.result.now c.in-Some.is c.deref_mut.ensures.value c.self.invariant.branches i (child_in x occupied ts ss c.args.self.now c.requires.monotone c.requires.occupied f s some i p) (c.count-count.result - c.len-above.result))
     (omega arith) c.count-count.ensures c.deref.ensures c.len-above.ensures s in
     c.add_branch.ensures.levels ∙ (m.1.height ∙ ap (λ t. t.height) s)
 
@@ -761,6 +727,79 @@ returns-in-Inserted-Some-clause-steps g t c =
     let i = c.in-Err.i in
     let p : IsPlace x ss (Err i) = subst (λ l. IsPlace x l (Err i)) c.as_slice.ensures.value c.in-Err.ensures.place in
     let some = c.is_empty.ensures.some c.if-is_empty.false in
-    let d = c.deref_mut.result.now in
-    let e : d ≡ get_or ts i unused = c.deref_mut.ensures.value ∙ c.take-node.ensures.node in
+    let d = c.deref_mut-2.result.now in
+    let e : d ≡ get_or ts i unused = c.deref_mut-2.ensures.value ∙ branch_in c.self.inside.branches c.in-Some.block c.deref_mut.result.now c.in-Some.is c.deref_mut.ensures.value c.self.invariant.branches i (child_in x occupied ts ss c.args.self.now c.requires.monotone c.requires.occupied f s some i p) _ c.in-Some-nodes.node c.index-nodes-i.is c.in-Some-nodes.is in
     omega (arith, digits_four (length c.as_slice.result.now) c.as_slice.ensures.fits, c.in-Err.ensures.steps, c.in-Inserted-Some.ensures.steps, (child_is x occupied ts ss c.args.self.now c.requires.monotone c.requires.occupied f s some i p).height, ap (λ t. t.height) e, ap (λ t. t.height) s)
+
+pub unreachable-requires : goal.unreachable-requires
+unreachable-requires g t c =
+    none_below c.self.inside.branches c.in_default.is (c.is_empty.ensures.some c.if-is_empty.false)
+
+pub unreachable-requires-in_default-nodes : goal.unreachable-requires-in_default-nodes
+unreachable-requires-in_default-nodes g t c =
+    let ts = below c.self.inside.branches in
+    let ss = c.self.inside.slots.items in
+    let f = c.self.invariant.forked in
+    let s = c.self.view_is in
+    let x = order g c.args.query.now c.args.store.now in
+    let occupied = IsOccupied c.args.store.now in
+    let i = c.in-Err.i in
+    let p : IsPlace x ss (Err i) = subst (λ l. IsPlace x l (Err i)) c.as_slice.ensures.value c.in-Err.ensures.place in
+    let some = c.is_empty.ensures.some c.if-is_empty.false in
+    cell_full c.self.inside.branches c.in-Some.block c.deref_mut.result.now c.in-Some.is c.deref_mut.ensures.value c.self.invariant.branches i (child_in x occupied ts ss c.args.self.now c.requires.monotone c.requires.occupied f s some i p) _ c.index-nodes-i.is c.in_default-nodes.is
+
+pub set_count-requires : goal.set_count-requires
+set_count-requires g t c =
+    let ts = below c.self.inside.branches in
+    let ss = c.self.inside.slots.items in
+    let f = c.self.invariant.forked in
+    let s = c.self.view_is in
+    let x = order g c.args.query.now c.args.store.now in
+    let occupied = IsOccupied c.args.store.now in
+    let i = c.in-Err.i in
+    let p : IsPlace x ss (Err i) = subst (λ l. IsPlace x l (Err i)) c.as_slice.ensures.value c.in-Err.ensures.place in
+    let some = c.is_empty.ensures.some c.if-is_empty.false in
+    counted c.self.inside.branches c.in-Some.block c.deref_mut.result.now c.in-Some.is c.deref_mut.ensures.value c.self.invariant.branches i (child_in x occupied ts ss c.args.self.now c.requires.monotone c.requires.occupied f s some i p)
+
+pub set_count-requires-in-Inserted-Some : goal.set_count-requires-in-Inserted-Some
+set_count-requires-in-Inserted-Some g t c =
+    let ts = below c.self.inside.branches in
+    let ss = c.self.inside.slots.items in
+    let f = c.self.invariant.forked in
+    let s = c.self.view_is in
+    let x = order g c.args.query.now c.args.store.now in
+    let occupied = IsOccupied c.args.store.now in
+    let i = c.in-Err.i in
+    let p : IsPlace x ss (Err i) = subst (λ l. IsPlace x l (Err i)) c.as_slice.ensures.value c.in-Err.ensures.place in
+    let some = c.is_empty.ensures.some c.if-is_empty.false in
+    counted c.self.inside.branches c.in-Some.block c.deref_mut.result.now c.in-Some.is c.deref_mut.ensures.value c.self.invariant.branches i (child_in x occupied ts ss c.args.self.now c.requires.monotone c.requires.occupied f s some i p)
+
+pub returns-in-Inserted-None-clause-left : goal.returns-in-Inserted-None-clause-left
+returns-in-Inserted-None-clause-left g t c =
+    let ts = below c.self.inside.branches in
+    let ss = c.self.inside.slots.items in
+    let f = c.self.invariant.forked in
+    let s = c.self.view_is in
+    let x = order g c.args.query.now c.args.store.now in
+    let occupied = IsOccupied c.args.store.now in
+    let i = c.in-Err.i in
+    let p : IsPlace x ss (Err i) = subst (λ l. IsPlace x l (Err i)) c.as_slice.ensures.value c.in-Err.ensures.place in
+    let some = c.is_empty.ensures.some c.if-is_empty.false in
+    let d = c.deref_mut-2.result.now in
+    let e : d ≡ get_or ts i unused = c.deref_mut-2.ensures.value ∙ branch_in c.self.inside.branches c.in-Some.block c.deref_mut.result.now c.in-Some.is c.deref_mut.ensures.value c.self.invariant.branches i (child_in x occupied ts ss c.args.self.now c.requires.monotone c.requires.occupied f s some i p) _ c.in-Some-nodes.node c.index-nodes-i.is c.in-Some-nodes.is in
+    omega (arith, c.in-Inserted-None.ensures.left, (child_is x occupied ts ss c.args.self.now c.requires.monotone c.requires.occupied f s some i p).height, ap (λ t. t.height) e, ap (λ t. t.height) s)
+
+pub returns-in-Inserted-Some-clause-left : goal.returns-in-Inserted-Some-clause-left
+returns-in-Inserted-Some-clause-left g t c =
+    let ts = below c.self.inside.branches in
+    let ss = c.self.inside.slots.items in
+    let f = c.self.invariant.forked in
+    let s = c.self.view_is in
+    let x = order g c.args.query.now c.args.store.now in
+    let occupied = IsOccupied c.args.store.now in
+    let i = c.in-Err.i in
+    let p : IsPlace x ss (Err i) = subst (λ l. IsPlace x l (Err i)) c.as_slice.ensures.value c.in-Err.ensures.place in
+    let some = c.is_empty.ensures.some c.if-is_empty.false in
+    let d = c.deref_mut-2.result.now in
+    let e : d ≡ get_or ts i unused = c.deref_mut-2.ensures.value ∙ branch_in c.self.inside.branches c.in-Some.block c.deref_mut.result.now c.in-Some.is c.deref_mut.ensures.value c.self.invariant.branches i (child_in x occupied ts ss c.args.self.now c.requires.monotone c.requires.occupied f s some i p) _ c.in-Some-nodes.node c.index-nodes-i.is c.in-Some-nodes.is in
+    omega (arith, c.add_branch.ensures.left, c.in-Inserted-Some.ensures.left, (child_is x occupied ts ss c.args.self.now c.requires.monotone c.requires.occupied f s some i p).height, ap (λ t. t.height) e, ap (λ t. t.height) s)
