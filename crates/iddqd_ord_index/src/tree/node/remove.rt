@@ -144,10 +144,16 @@ impl Node {
         }
         let (i, rest) = self.branches.branch_at(at);
         let len = self.branches.count(i);
-        let mut node = self.branches.take(i);
+        let Some(block) = &mut self.branches.block else {
+            unreachable!()
+        };
+        let nodes: &mut [Option<Box<Node>>] = &mut block.nodes;
+        let Some(node) = &mut nodes[i] else {
+            unreachable!()
+        };
         let taken = node.remove(rest.min(len - 1), pool);
         let width = node.width();
-        self.branches.put(i, node, len - 1);
+        self.branches.set_count(i, len - 1);
         let slot = replace_own(&mut self.slots, i, rest, len, taken);
         rebalance(&mut self.slots, &mut self.branches, i, width, pool);
         slot

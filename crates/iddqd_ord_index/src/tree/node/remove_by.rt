@@ -38,10 +38,16 @@ fn remove_own(slots: &mut Slots, branches: &mut Branches, i: usize, pool: &mut N
     ensures pool { (pool.new.wanted ≡ pool.old.wanted) × (pool.new.room ≡ pool.old.room) }
 {
     let len = branches.count(i);
-    let mut node = branches.take(i);
+    let Some(block) = &mut branches.block else {
+        unreachable!()
+    };
+    let nodes: &mut [Option<Box<Node>>] = &mut block.nodes;
+    let Some(node) = &mut nodes[i] else {
+        unreachable!()
+    };
     let last = node.remove(len - 1, pool);
     let width = node.width();
-    branches.put(i, node, len - 1);
+    branches.set_count(i, len - 1);
     let slot = slots.replace(i, last);
     rebalance(slots, branches, i, width, pool);
     slot
