@@ -3,6 +3,7 @@ mod chain;
 mod moves;
 mod next;
 mod room;
+mod walk;
 
 ghost use Rattle.std.specs.Prelude.{◌≡◌, ◌+◌, ◌-◌, ◌<◌, ◌≤◌, [], length, IfSome, IfNone, IfOk, Some, None, OnSome, option_copied, slice_set, vec_capacity, Err};
 ghost use Rattle.std.specs.Borrow.{sem};
@@ -14,6 +15,7 @@ use moves::{cut_vacant, move_last};
 use std::alloc::{AllocError, Global};
 use std::marker::Model;
 use std::mem;
+pub use walk::Items;
 
 /// The most items that a map can hold: one for each slot number, but for the last, which stands for no slot.
 pub const MAX_ITEMS: u32 = u32::MAX;

@@ -19,7 +19,7 @@ pub use errors::{
 };
 pub use halts::Halt;
 pub use hints::room_to_reserve;
-pub use item_store::{ItemStore, MAX_ITEMS};
+pub use item_store::{ItemStore, Items, MAX_ITEMS};
 pub use items::{IdHashItem, IdOrdItem, KeyOf};
 pub use queries::{Comparable, Equivalent};
 pub use steps::Steps;
