@@ -197,8 +197,12 @@ impl<T> ItemStore<T> {
     pub fn replace(&mut self, slot: u32, item: T) -> T
         requires { IsOccupied self.old slot }
         ensures item { item_at self.old slot ≡ Some result }
+
+        // the slots
         ensures store { self.new ≡ with_item self.old slot item }
         ensures updates { Updates self.old self.new slot (Some item) }
+
+        // the numbers
         ensures len { store_len self.new ≡ store_len self.old }
         ensures vacant { vacant self.new ≡ vacant self.old }
     {
@@ -214,8 +218,12 @@ impl<T> ItemStore<T> {
     pub fn remove(&mut self, slot: u32) -> T
         requires { IsOccupied self.old slot }
         ensures item { item_at self.old slot ≡ Some result }
+
+        // the slots
         ensures store { self.new ≡ record self.old { slots = slice_set self.old.slots slot None } }
         ensures updates { Updates self.old self.new slot None }
+
+        // the numbers
         ensures len { store_len self.new + 1 ≡ store_len self.old }
         ensures vacant { vacant self.new ≡ vacant self.old + 1 }
     {
