@@ -113,6 +113,8 @@ fn append_through(slots: &mut ArrayVec<u32, 16>, root: &Node, start: u32, at: u3
     requires forward { start ≤ at }
     requires room { at < start + 16 }
     requires none { slots.old.items ≡ [] }
+
+    // afterwards
     ensures read { BeginsWith slots.new.items (drop start root.now.slots) }
     ensures there { at < start + length slots.new.items }
 {
