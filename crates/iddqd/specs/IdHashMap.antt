@@ -9,7 +9,7 @@
 --     IsEmptyMap, HasNoItems, SpareFits, KeepsSpare      no item and no room; no item; the room fits the limit; the spare stays
 --     Reserves, LacksRoomFor      room was made, or refused
 --     HashOverwrites, map_overwritten      an item replaced the one of an equal key, or was inserted
---     OverwritesGiven, StopsOverwriting, SpareFirst, KeepsIfNoItem      what `extend` leaves
+--     Extends, Stops, SpareFirst, KeepsIfNoItem      what `extend` leaves
 --     Collects, CollectsUnique, IsCollected      what a map collects
 --     RefusesItem, ShowsConflict      what `insert_unique` and `extend_unique` show
 --     ends_hash_inserted, ends_hash_extended, lends_nothing      what the map is once the result of such a call is dropped
@@ -24,13 +24,13 @@
 --     LacksKeyOf, LacksKeysOf, HasKeyOf, VisitKeepsKey      what the calls of an entry ask of the item
 --     LendsFound, LendsInserted, LendsIfOccupied, LendsIfVacant, LendsMade, EntersInserted      what they lend
 --     EntryHandsBack, VisitsEntry, RemovesAt      what else they leave
---     EntryKeeps, EntryKeepsAkin, entry_follows, rests_if_refused, lent_or_kept, entered_or_kept      what an entry leaves
+--     EntryKeeps, EntryKeepsAkin, entry_follows, rests_if_refused, lent_or_kept, guard_or_kept, entry_or_kept      what an entry leaves
 --     walk_map, walk_lender, walk_done, walk_with      what a walk that lends items for writing holds
 --     WalkKeeps, WalkKeepsAkin, walk_lends      what a step of such a walk leaves
 unfoldable pub use Rattle.iddqd_hash.specs.HashItems.{IsKeyed}
 pub use Rattle.iddqd_hash.specs.HashItems.{HashItems, HashesAsKeys, IsKeyedByText, default_hash, differ_from_keyed, holding_of, of_same_hash, of_stored_hash, text_writes}
-pub use Rattle.iddqd_hash.specs.HashMap.{CloneHashesAlike, Collects, CollectsUnique, FindsEqual, HasNoItems, HashFills, HashHandsBack, HashInserts, HashKeeps, HashOverwrites, HashShrinks, HashStays, HaveEqualItems, IsCollected, IsEmptyMap, KeepsIfNoItem, KeepsSpare, LacksRoomFor, OverwritesGiven, RefusesItem, Reserves, ShowsConflict, SpareFirst, SpareFits, StopsOverwriting, ends_hash_extended, ends_hash_inserted, lends_nothing, map_overwritten}
+pub use Rattle.iddqd_hash.specs.HashMap.{CloneHashesAlike, Collects, CollectsUnique, Extends, FindsEqual, HasNoItems, HashFills, HashHandsBack, HashInserts, HashKeeps, HashOverwrites, HashShrinks, HashStays, HaveEqualItems, IsCollected, IsEmptyMap, KeepsIfNoItem, KeepsSpare, LacksRoomFor, RefusesItem, Reserves, ShowsConflict, SpareFirst, SpareFits, Stops, ends_hash_extended, ends_hash_inserted, lends_nothing, map_overwritten}
 pub use Rattle.iddqd_hash.specs.Guard.{GuardFinds, GuardKeeps, GuardKeepsAkin, GuardOverwrites, guard_follows, item_follows, lends_item, lent_item, lent_map, guard_lender, lent_slot, lent_with, rests_at_none, shown_item, shown_map, shown_lender, with_item_in}
 pub use Rattle.iddqd_hash.specs.declared.id_hash_map.entry.Entry.TheVariants.{Occupied, Vacant}
-pub use Rattle.iddqd_hash.specs.Entry.{EntersInserted, EntryKeeps, EntryKeepsAkin, EntryHandsBack, HasKeyOf, IsEntryFor, IsEntryOf, LacksKeyOf, LacksKeysOf, LendsFound, LendsIfOccupied, LendsIfVacant, LendsInserted, LendsMade, VisitsEntry, PassesTest, RemovesAt, VisitKeepsKey, entered_or_kept, entry_follows, entry_item, entry_map, entry_lender, entry_others, entry_slot, entry_with, lent_or_kept, rests_if_refused}
+pub use Rattle.iddqd_hash.specs.Entry.{EntersInserted, EntryKeeps, EntryKeepsAkin, EntryHandsBack, HasKeyOf, IsEntryFor, IsEntryOf, LacksKeyOf, LacksKeysOf, LendsFound, LendsIfOccupied, LendsIfVacant, LendsInserted, LendsMade, VisitsEntry, PassesTest, RemovesAt, VisitKeepsKey, entry_follows, entry_item, entry_map, entry_lender, entry_others, entry_slot, entry_or_kept, entry_with, guard_or_kept, lent_or_kept, rests_if_refused}
 pub use Rattle.iddqd_hash.specs.WritingWalk.{WalkKeeps, WalkKeepsAkin, walk_done, walk_item, walk_lends, walk_map, walk_lender, walk_with}

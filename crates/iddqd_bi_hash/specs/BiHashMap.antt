@@ -35,6 +35,7 @@ use Rattle.iddqd_store.specs.declared.errors.Refused as refused
 use Rattle.iddqd_hash_parts.specs.HashChanges as changes
 use Rattle.iddqd_hash_parts.specs.HashItems.{HashItems}
 use Rattle.iddqd_hash_parts.specs.SlotsFound.{values_if_any}
+use Rattle.iddqd_hash_parts.specs.declared.keyed.Keyed as keyed
 use Rattle.iddqd_bi_hash.specs.BiHashItems.{BiHashItems, by_key1, holding_of}
 use Rattle.iddqd_bi_hash.specs.TwoKeys.{items_displaced, items_met, items_unmet}
 use Rattle.iddqd_bi_hash.specs.contracts.bi_hash_map.BiHashMap.{the_row}
@@ -127,19 +128,19 @@ module _ {S T K L : Type 0} (key1 : T → K) (key2 : T → L) (eq1 : K → K →
     pub no_spare : m.spare ≡ 0
 
   -- x was inserted, and the items that had one of its keys are returned; if there were some, no memory was needed
-  pub record BiOverwrites (IsKeyed : BiHashItems S T → Type 0) (x : T) (old new : BiHashItems S T) (back : Option (Few T)) : Type 0 where
+  pub record BiOverwrites (x : T) (old new : BiHashItems S T) (back : Option (Few T)) : Type 0 where
     pub displaced : Displaces key1 key2 eq1 eq2 x old.items back
     pub put : AddsItem x (items_unmet key1 key2 eq1 eq2 x old.items) new.items
     pub slots : HaveSlots new.slots new.items
     pub vacant : IfSome back (λ few. new.vacant + 1 ≡ old.vacant + length (values_of few))
     pub capacity : OnSome back (new.capacity ≡ old.capacity)
-    pub inserted : IfNone back (BiInserts IsKeyed x old new)
+    pub inserted : IfNone back (InsertsItem x (holding_of old) (holding_of new))
     pub limit : new.limit ≡ old.limit
 
 -- once the result of an insertion is dropped: at `Ok` the map has the item; at `Err` it keeps its items, and beside duplicates nothing
 -- has changed
-abbrev pub ends_bi_inserted : (S T : RattleType) (IsKeyed : BiHashItems S.Denot T.Denot → Type 0) → MutBor (BiHashItems S.Denot T.Denot) → Result (MutBor unit.Denot) (InsertError T.Denot) → T.Denot → Fml
-ends_bi_inserted S T IsKeyed map result x =
+abbrev pub ends_bi_inserted : (S T : RattleType) (own : keyed.Ghosts (BiHashItems S.Denot T.Denot) T.Denot) → MutBor (BiHashItems S.Denot T.Denot) → Result (MutBor unit.Denot) (InsertError T.Denot) → T.Denot → Fml
+ends_bi_inserted S T own map result x =
     LendsSoOk (the_row T S) unit map result
-    (λ new _. BiInserts IsKeyed x map.now new)
-    (λ new. BiKeeps IsKeyed map.now new × IfErr result (OnDuplicate (new ≡ map.now)))
+    (λ new _. BiInserts own.keyed x map.now new)
+    (λ new. BiKeeps own.keyed map.now new × IfErr result (OnDuplicate (new ≡ map.now)))

@@ -2,14 +2,14 @@
 --     DifferInBoth      no two items have equal first keys, or equal second keys
 --     Meets      the items that have one of a new item's keys
 --     CollectsUnique      what `from_iter_unique` makes
---     ShowsFirstRepeat, ShowsDisplaced      its error, and one step of it
+--     ShowsFirstRepeat, ShowsMet      its error, and one step of it
 --     IsCollected      a new map of the default limit, over a default hasher
-use Rattle.std.specs.Prelude.{◌≡◌, Bool, List, [], Option}
-use Rattle.iddqd_store.specs.Collecting.{GivesAll}
+use Rattle.std.specs.Prelude.{◌≡◌, Bool, List, []}
 use Rattle.iddqd_store.specs.Contents.{NoTwoAkin}
 use Rattle.iddqd_store.specs.Holding.{max_items}
 use Rattle.iddqd_store.specs.Unique as unique
 use Rattle.iddqd_store.specs.declared.errors.FromIterError.{FromIterError}
+use Rattle.iddqd_store.specs.declared.gives.Gives as gives
 use Rattle.iddqd_bi_hash.specs.BiHashItems.{BiHashItems}
 use Rattle.iddqd_bi_hash.specs.BiHashMap.{SpareFits}
 use Rattle.iddqd_bi_hash.specs.TwoKeys.{items_displaced}
@@ -31,11 +31,13 @@ module _ {T K L : Type 0} (key1 : T → K) (key2 : T → L) (eq1 : K → K → B
   abbrev pub Meets : T → List T → List T → Type 0
   Meets x items met = met ≡ items_displaced key1 key2 eq1 eq2 x items
 
-  abbrev pub ShowsDisplaced : List T → T → FromIterError T → Type 0
-  ShowsDisplaced = unique.ShowsMet Meets
+  abbrev pub ShowsMet : List T → T → FromIterError T → Type 0
+  ShowsMet = unique.ShowsMet Meets
 
-  abbrev pub ShowsFirstRepeat : (gives : List T → T → Type 0) → FromIterError T → Type 0
-  ShowsFirstRepeat = unique.ShowsFirstRepeat DifferInBoth Meets
+  -- of what an iterable gives, as its `Gives` says
+  module _ {U : Type 0} (given : gives.Ghosts U T) (iter : U) where
+    abbrev pub ShowsFirstRepeat : FromIterError T → Type 0
+    ShowsFirstRepeat = unique.ShowsFirstRepeat DifferInBoth Meets (given.gives_then iter)
 
-  abbrev pub CollectsUnique : {U I S : Type 0} → (U → I → Type 0) → (I → Option T → I → Type 0) → U → BiHashItems S T → Type 0
-  CollectsUnique becomes steps iter m = unique.AddsGiven DifferInBoth (GivesAll becomes steps iter) [] m.items
+    abbrev pub CollectsUnique : {S : Type 0} → BiHashItems S T → Type 0
+    CollectsUnique m = unique.AddsGiven DifferInBoth (given.gives_all iter) [] m.items

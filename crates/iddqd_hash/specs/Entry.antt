@@ -14,7 +14,7 @@
 --     VisitsEntry      the entry's item was visited
 --     entry_follows      the entry ends with the last value written to its item
 --     EntryKeeps, EntryKeepsAkin      an item of the same key, or of an equal one, may be written
---     rests_if_refused, lent_or_kept, entered_or_kept      if an item was refused, the map keeps its items
+--     rests_if_refused, lent_or_kept, guard_or_kept, entry_or_kept      if an item was refused, the map keeps its items
 pub use Rattle.iddqd_hash.specs.declared.id_hash_map.entry.Entry.TheVariants.{Vacant, Occupied}
 use Rattle.std.specs.Prelude.{◌≡◌, ℕ, [], Bool, IfNone, IfSome, IsSome, IsTrue, List, Option, None, Some, Result, option_map}
 use Rattle.std.specs.Borrow.{Fml, GName, RattleType, MutBor, RestsIfErr, follows}
@@ -25,6 +25,7 @@ use Rattle.iddqd_store.specs.declared.errors.Refused.{Refused}
 use Rattle.iddqd_store.specs.SlotItems.{item_of_slot, still_there, without_slot}
 use Rattle.iddqd_hash.specs.declared.id_hash_map.entry.Entry.{Entry}
 use Rattle.iddqd_hash.specs.declared.id_hash_map.entry.OccupiedEntry.{OccupiedEntry}
+use Rattle.iddqd_hash.specs.declared.id_hash_map.entry.VacantEntry.{VacantEntry}
 use Rattle.iddqd_hash.specs.declared.id_hash_map.ref_mut.RefMut.{RefMut}
 use Rattle.iddqd_hash.specs.Guard.{guard_lender, lent_item, lent_map, lent_with, with_item_in}
 use Rattle.iddqd_hash_parts.specs.HashItems.{HashItems, holding_of}
@@ -173,5 +174,9 @@ module _ (S T : RattleType) where
   abbrev pub lent_or_kept : {E : Type 0} → keyed.Ghosts (HashItems S.Denot T.Denot) T.Denot → Entry T.Denot S.Denot → Result (RefMut T.Denot S.Denot) E → Fml
   lent_or_kept own e r = rests_if_refused own guard_lender e r
 
-  abbrev pub entered_or_kept : {E : Type 0} → keyed.Ghosts (HashItems S.Denot T.Denot) T.Denot → Entry T.Denot S.Denot → Result (OccupiedEntry T.Denot S.Denot) E → Fml
-  entered_or_kept own e r = rests_if_refused own (λ found. entry_lender (Occupied found)) e r
+  -- the same of a vacant entry, which returns a guard or its occupied entry
+  abbrev pub guard_or_kept : {E : Type 0} → keyed.Ghosts (HashItems S.Denot T.Denot) T.Denot → VacantEntry T.Denot S.Denot → Result (RefMut T.Denot S.Denot) E → Fml
+  guard_or_kept own e r = lent_or_kept own (Vacant e) r
+
+  abbrev pub entry_or_kept : {E : Type 0} → keyed.Ghosts (HashItems S.Denot T.Denot) T.Denot → VacantEntry T.Denot S.Denot → Result (OccupiedEntry T.Denot S.Denot) E → Fml
+  entry_or_kept own e r = rests_if_refused own (λ found. entry_lender (Occupied found)) (Vacant e) r

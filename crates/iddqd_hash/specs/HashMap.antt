@@ -14,9 +14,9 @@
 --     HashOverwrites, map_overwritten      the item replaced the one of an equal key, which is returned, or was inserted
 --     RefusesItem, HashHandsBack      a refused item is returned, beside the existing one or because there is no room
 -- Many items:
---     OverwritesGiven, StopsOverwriting, SpareFirst, KeepsIfNoItem      what `extend` leaves
+--     Extends, Stops, SpareFirst, KeepsIfNoItem      what `extend` leaves
 --     Collects, CollectsUnique, IsCollected      the map that `from_iter` and `from_iter_unique` make
---     AddsEach, HaltsEach, ShowsConflict      what `extend_unique` leaves and returns
+--     Adds, Halts, ShowsConflict      what `extend_unique` leaves and returns
 -- Copies:
 --     HaveEqualItems, FindsEqual      what `eq` of two maps says
 --     CloneHashesAlike      a hasher's clone hashes as the hasher does
@@ -29,9 +29,8 @@ use Rattle.std.specs.Hash.{HashWrites}
 use Rattle.iddqd_store.specs.Adding as adding
 use Rattle.iddqd_store.specs.Adding.{AddsGiven, OnItemRefused, StopsAdding}
 use Rattle.iddqd_store.specs.Collecting as collecting
-use Rattle.iddqd_store.specs.Collecting.{GivesAll, GivesThen}
 use Rattle.iddqd_store.specs.Contents.{AddsItem, find_item, items_overwritten}
-use Rattle.iddqd_store.specs.Holding.{FillsSlots, Shrinks, max_items}
+use Rattle.iddqd_store.specs.Holding.{FillsSlots, InsertsItem, Shrinks, max_items}
 use Rattle.iddqd_store.specs.Refusal as refusal
 use Rattle.iddqd_store.specs.Refusal.{HandsBack, OnDuplicate}
 use Rattle.iddqd_store.specs.SlotItems.{item_of_slot, without_slot, written_to_slot}
@@ -39,8 +38,10 @@ use Rattle.iddqd_store.specs.declared.errors.ExtendError.{ExtendError}
 use Rattle.iddqd_store.specs.declared.errors.ExtendUniqueError.{ExtendUniqueError}
 use Rattle.iddqd_store.specs.declared.errors.InsertError.{InsertError}
 use Rattle.iddqd_store.specs.declared.errors.Refused.{Refused}
+use Rattle.iddqd_store.specs.declared.gives.Gives as gives
 use Rattle.iddqd_store.specs.declared.halts.Halt.{Halt}
 use Rattle.iddqd_hash_parts.specs.HashItems.{HashItems, holding_of}
+use Rattle.iddqd_hash_parts.specs.declared.keyed.Keyed as keyed
 pub use Rattle.iddqd_hash_parts.specs.HashChanges.{HashInserts, HashKeeps, HashStays, KeepsSpare, LacksRoomFor, LosesPlaceOf, Reserves, SpareFits}
 use Rattle.iddqd_hash.specs.contracts.id_hash_map.IdHashMap.{the_row}
 
@@ -112,33 +113,33 @@ module _ {S T K : Type 0} (key : T → K) (eq : K → K → Bool) where
   abbrev pub RefusesItem : HashItems S T → T → InsertError T → Type 0
   RefusesItem m = refusal.RefusesItem key eq (holding_of m)
 
-  module _ {U I : Type 0} (becomes : U → I → Type 0) (steps : I → Option T → I → Type 0) (iter : U) where
-    abbrev pub OverwritesGiven : (old new : HashItems S T) → Type 0
-    OverwritesGiven old new = collecting.OverwritesGiven key eq becomes steps iter (holding_of old) (holding_of new)
+  module _ {U : Type 0} (given : gives.Ghosts U T) (iter : U) where
+    abbrev pub Extends : (old new : HashItems S T) → Type 0
+    Extends old new = collecting.Extends key eq given iter (holding_of old) (holding_of new)
 
-    abbrev pub StopsOverwriting : (old new : HashItems S T) → ExtendError T → Type 0
-    StopsOverwriting old new = collecting.StopsOverwriting key eq becomes steps iter (holding_of old) (holding_of new)
+    abbrev pub Stops : (old new : HashItems S T) → ExtendError T → Type 0
+    Stops old new = collecting.Stops key eq given iter (holding_of old) (holding_of new)
 
     abbrev pub Collects : HashItems S T → Type 0
-    Collects m = collecting.Collects key eq becomes steps iter (holding_of m)
+    Collects m = collecting.Collects key eq given iter (holding_of m)
 
     abbrev pub CollectsUnique : HashItems S T → Type 0
-    CollectsUnique m = collecting.CollectsUnique key eq becomes steps iter (holding_of m)
+    CollectsUnique m = collecting.CollectsUnique key eq given iter (holding_of m)
 
-    abbrev pub AddsEach : (old new : HashItems S T) → Type 0
-    AddsEach old new = adding.AddsEach key eq becomes steps iter (holding_of old) (holding_of new)
+    abbrev pub Adds : (old new : HashItems S T) → Type 0
+    Adds old new = adding.Adds key eq given iter (holding_of old) (holding_of new)
 
-    abbrev pub HaltsEach : (old new : HashItems S T) → Halt T → Type 0
-    HaltsEach old new = adding.HaltsEach key eq becomes steps iter (holding_of old) (holding_of new)
+    abbrev pub Halts : (old new : HashItems S T) → Halt T → Type 0
+    Halts old new = adding.Halts key eq given iter (holding_of old) (holding_of new)
 
     abbrev pub ShowsConflict : HashItems S T → ExtendUniqueError T → Type 0
-    ShowsConflict old = adding.ShowsConflict key eq becomes steps iter (holding_of old)
+    ShowsConflict old = adding.ShowsConflict key eq given iter (holding_of old)
 
 -- x replaced the item of an equal key, which is returned, or was inserted if there was none
-pub record HashOverwrites {S T K : Type 0} (key : T → K) (eq : K → K → Bool) (IsKeyed : HashItems S T → Type 0) (x : T) (old new : HashItems S T) (back : Option T) : Type 0 where
+pub record HashOverwrites {S T K : Type 0} (key : T → K) (eq : K → K → Bool) (x : T) (old new : HashItems S T) (back : Option T) : Type 0 where
   pub found : back ≡ find_item key (eq (key x)) old.items
   pub replaced : OnSome back (new ≡ map_overwritten key eq x old)
-  pub inserted : IfNone back (HashInserts IsKeyed x old new)
+  pub inserted : IfNone back (InsertsItem x (holding_of old) (holding_of new))
   pub there : find_item key (eq (key x)) new.items ≡ Some x
 
 -- x was refused room, since nothing was spare, and is returned
@@ -151,11 +152,11 @@ abbrev pub CloneHashesAlike : {S T : Type 0} → (S → S → Type 0) → (HashI
 CloneHashesAlike is_clone hash m = (copy : _) → is_clone m.hasher copy → (writes : HashWrites) → hash (record m { hasher = copy }) writes ≡ hash m writes
 
 -- once the result of an insertion is dropped: at `Ok` the map has the item; at `Err` it keeps its items, and beside a duplicate nothing has changed
-abbrev pub ends_hash_inserted : (S T : RattleType) (IsKeyed : HashItems S.Denot T.Denot → Type 0) → MutBor (HashItems S.Denot T.Denot) → Result (MutBor unit.Denot) (InsertError T.Denot) → T.Denot → Fml
-ends_hash_inserted S T IsKeyed map result x =
+abbrev pub ends_hash_inserted : (S T : RattleType) (own : keyed.Ghosts (HashItems S.Denot T.Denot) T.Denot) → MutBor (HashItems S.Denot T.Denot) → Result (MutBor unit.Denot) (InsertError T.Denot) → T.Denot → Fml
+ends_hash_inserted S T own map result x =
     LendsSoOk (the_row T S) unit map result
-    (λ new _. HashInserts IsKeyed x map.now new)
-    (λ new. HashKeeps IsKeyed map.now new × IfErr result (OnDuplicate (new ≡ map.now)))
+    (λ new _. HashInserts own.keyed x map.now new)
+    (λ new. HashKeeps own.keyed map.now new × IfErr result (OnDuplicate (new ≡ map.now)))
 
 -- nothing of the map is lent
 abbrev pub lends_nothing : (S T : RattleType) → MutBor (HashItems S.Denot T.Denot) → MutBor unit.Denot → Fml
@@ -163,8 +164,8 @@ lends_nothing S T map result = Lends (the_row T S) unit map result (λ _. map.no
 
 -- Once the result of `extend_unique` is dropped: at `Ok` the map has all items, and at `Err` those before the one that was not inserted.
 -- As many new keys as were spare are inserted before one finds no room.
-abbrev pub ends_hash_extended : (S T : RattleType) {K U I : Type 0} (key : T.Denot → K) (eq : K → K → Bool) (IsKeyed : HashItems S.Denot T.Denot → Type 0) (becomes : U → I → Type 0) (steps : I → Option T.Denot → I → Type 0) (iter : U) → MutBor (HashItems S.Denot T.Denot) → Result (MutBor unit.Denot) (ExtendUniqueError T.Denot) → Fml
-ends_hash_extended S T key eq IsKeyed becomes steps iter map result =
+abbrev pub ends_hash_extended : (S T : RattleType) {K U : Type 0} (key : T.Denot → K) (eq : K → K → Bool) (own : keyed.Ghosts (HashItems S.Denot T.Denot) T.Denot) (given : gives.Ghosts U T.Denot) (iter : U) → MutBor (HashItems S.Denot T.Denot) → Result (MutBor unit.Denot) (ExtendUniqueError T.Denot) → Fml
+ends_hash_extended S T key eq own given iter map result =
     LendsSoOk (the_row T S) unit map result
-    (λ new _. AddsGiven key eq (GivesAll becomes steps iter) map.now.items new.items × HashFills IsKeyed map.now new)
-    (λ new. HashFills IsKeyed map.now new × IfErr result (StopsAdding key eq (GivesThen becomes steps iter) (holding_of map.now) (holding_of new)) × IfErr result (OnItemRefused (map.now.spare + length map.now.items ≤ length new.items)))
+    (λ new _. AddsGiven key eq (given.gives_all iter) map.now.items new.items × HashFills own.keyed map.now new)
+    (λ new. HashFills own.keyed map.now new × IfErr result (StopsAdding key eq (given.gives_then iter) (holding_of map.now) (holding_of new)) × IfErr result (OnItemRefused (map.now.spare + length map.now.items ≤ length new.items)))

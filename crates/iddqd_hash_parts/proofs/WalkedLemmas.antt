@@ -3,12 +3,9 @@
 --     found_next      the item of the first occupied slot comes next
 --     taken_next      so it does where it is taken out
 --     none_before      where the slots before are vacant, the items are those from there on
---     gets_on      a step of an iterator that lends
-use Rattle.std.proofs.Common.{◌≡◌, ℕ, zero, suc, ◌+◌, ◌-◌, ◌≤◌, List, [], ◌∷◌, length, drop, Option, Some, None, refl, sym, ap, ◌∙◌, arith, ⊎_elim, Bor}
+use Rattle.std.proofs.Common.{◌≡◌, ℕ, zero, suc, ◌+◌, ◌-◌, ◌≤◌, List, [], ◌∷◌, length, drop, Option, Some, None, refl, sym, ap, ◌∙◌, arith, ⊎_elim}
 use Rattle.std.proofs.lemmas.Bool.{cases_lt}
 use Rattle.std.proofs.lemmas.List.{drop_all, get_or-drop}
-use Rattle.std.specs.Prelude.{⊤}
-use Rattle.std.specs.Iterator.{YieldsFirstRef, MakesProgress, item_count}
 use Rattle.std.specs.List.{cons_option}
 use Rattle.iddqd_store.specs.Store.{Store, item_at, AreVacant, IsFirstOccupied, Updates}
 use Rattle.iddqd_hash_parts.specs.StoreAndIndex.{items_in}
@@ -66,8 +63,3 @@ module _ {T : Type 0} where
     taken_next x here =
         none_before old next before ∙ found_next old next slot first ∙ ap (λ o. cons_option o (items_from old (slot + 1))) here
         ∙ ap (λ xs. x ∷ xs) (sym same_behind ∙ sym (none_before new (slot + 1) vacant_before))
-
-  -- what is lent comes first
-  pub gets_on : (lent : Option (Bor T)) (all rest : List T) → YieldsFirstRef (λ xs. xs) all lent rest → MakesProgress (λ xs. ⊤) (item_count (λ xs. xs)) all lent rest
-  gets_on None all rest e = record { on = λ finite. tt; keeps = tt; rests = λ finite. tt }
-  gets_on (Some x) all rest e = record { on = λ finite. (tt, tt, omega (arith, ap length e)); keeps = tt; rests = λ finite. tt }

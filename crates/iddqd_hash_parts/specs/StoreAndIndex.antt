@@ -12,11 +12,11 @@
 --     map_of, empty_map_of      what a contract sees of a map of these
 use Rattle.std.specs.Prelude.{◌≡◌, ◌↔◌, ℕ, ◌+◌, ◌-◌, ◌≤◌, ◌==◌, min, Bool, true, IsPermutation, IsSomeAnd, IsTrue, List, [], ◌∷◌, length, Option, Some, None, is_some, if◌then◌else◌}
 use Rattle.std.proofs.Common.{suc}
-use Rattle.std.specs.List.{filter_map, sum_by}
+use Rattle.std.specs.List.{sum_by}
 use Rattle.std.specs.Option.{option_and_then}
 use Rattle.iddqd_hash_index.specs.HashPairs.{HashPairs, SamePairs, of_slot}
 use Rattle.iddqd_store.specs.Contents.{find_item}
-use Rattle.iddqd_store.specs.Store.{Store, item_at, store_len, vacant}
+use Rattle.iddqd_store.specs.Store.{Store, item_at, items_present, store_len, vacant}
 use Rattle.iddqd_hash_parts.specs.HashItems.{HashItems}
 
 -- each slot is listed once, so the sum is its one hash
@@ -25,7 +25,7 @@ hash_of_slot pairs slot = sum_by (λ p. if p.1 == slot then p.0 else 0) pairs
 
 module _ {T : Type 0} where
   abbrev pub items_in : Store T → List T
-  items_in store = filter_map (λ item. item) store.slots
+  items_in store = items_present store.slots
 
   -- a number for each slot that is occupied
   abbrev pub numbers_of : (ℕ → ℕ) → List (Option T) → List ℕ

@@ -3,7 +3,7 @@ ghost use Rattle.std.specs.Prelude.{◌≡◌, length, IfSome, None};
 ghost use Rattle.std.specs.Iterator.{UpTo, YieldsFirstRef, at_most, item_count};
 ghost use Rattle.std.specs.Iterator.SizeHint.{IsWithinCount};
 
-use iddqd_store::ItemStore;
+use iddqd_store::{ItemStore, Items};
 use std::iter::FusedIterator;
 use std::marker::Model;
 
@@ -11,22 +11,19 @@ use std::marker::Model;
 /// keys.
 #[derive(Drop)]
 pub struct Iter<'a, T> {
-    store: &'a ItemStore<T>,
-    // The slot to go on from.
-    next: u32,
+    items: Items<'a, T>,
     // The number of items to come.
     left: usize,
 }
 
 impl<'a, T> Model for Iter<'a, T> {
     ghost use Rattle.std.specs.Prelude.{◌≡◌, List, length};
-    ghost use Rattle.iddqd_hash_parts.specs.Walked.{items_from};
 
     ghost Value = { List T };
 
-    ghost view = { λ it. items_from it.store.now it.next };
+    ghost view = { λ it. it.items };
 
-    ghost invariant = { λ it. it.left ≡ length (items_from it.store.now it.next) };
+    ghost invariant = { λ it. it.left ≡ length it.items };
 }
 
 impl<'a, T> Iter<'a, T> {
@@ -38,8 +35,7 @@ impl<'a, T> Iter<'a, T> {
         ensures { result ≡ items_in store.now }
     {
         Iter {
-            store,
-            next: 0,
+            items: store.items(),
             left: store.len(),
         }
     }
@@ -52,12 +48,9 @@ impl<'a, T> Iterator for Iter<'a, T> {
 
     ghost remaining = { item_count (λ rest. rest) };
 
+    #[inline]
     fn next(&mut self) -> Option<&'a T> {
-        if self.left == 0 {
-            return None;
-        }
-        let (slot, item) = self.store.next_occupied(self.next)?;
-        self.next = slot + 1;
+        let item = self.items.next()?;
         self.left -= 1;
         Some(item)
     }

@@ -1,7 +1,7 @@
 -- Leaves in cells, and a node's own slots between them.
 --     rest_leaves, next_leaf      the first leaf is taken up, with the slot before it
 --     below_branch_at      what is left of a node behind a position, by the branch that the position lies in
-use Rattle.std.proofs.Common.{◌≡◌, ℕ, suc, ◌+◌, ◌-◌, ◌<◌, ◌≤◌, List, [], ◌∷◌, ◌++◌, length, take, drop, get_or, refl, ap, sym, subst, ◌∙◌, arith, add-one, suc-le-suc, length-drop, Option, Some, None}
+use Rattle.std.proofs.Common.{◌≡◌, ℕ, zero, suc, ◌+◌, ◌-◌, ◌<◌, ◌≤◌, List, [], ◌∷◌, ◌++◌, length, take, drop, get_or, refl, ap, sym, subst, ◌∙◌, arith, add-one, suc-le-suc, length-drop, Option, Some, None}
 use Rattle.std.specs.List.{All}
 use Rattle.std.proofs.lemmas.List.{take_rest, drop-map, get_or-drop}
 use Rattle.iddqd_ord_index.specs.Cells.{items_present}
@@ -12,21 +12,33 @@ use Rattle.iddqd_ord_index.proofs.BranchAtLemmas.{branch_at_list, branch_at_fork
 use Rattle.iddqd_ord_index.proofs.BelowLemmas.{length-subtrees}
 use Rattle.iddqd_ord_index.proofs.EditLemmas.{dropped}
 
-abbrev Cell : Type 0
+abbrev pub Cell : Type 0
 Cell = Option Node
 
-few_present : (os : List Cell) → length (items_present os) ≤ length os
+pub few_present : (os : List Cell) → length (items_present os) ≤ length os
 few_present [] = omega arith
 few_present (None ∷ os) = omega (arith, few_present os)
 few_present (Some b ∷ os) = omega (arith, few_present os)
 
 -- no cell is empty where there are as many leaves as cells
-pub first_present : (os : List Cell) (o : Cell) → length (subtrees os) ≡ length os → 0 < length os → o ≡ get_or os 0 o → o ≡ None → ⊥
-first_present [] o e some at none = absurd (omega arith)
-first_present (None ∷ os) o e some at none = absurd (omega (arith, e, length-subtrees os, few_present os))
-first_present (Some b ∷ os) o e some at none = cc
+pub leaf_present : (os : List Cell) (i : ℕ) (o : Cell) → length (subtrees os) ≡ length os → i < length os → o ≡ get_or os i o → o ≡ None → ⊥
+leaf_present [] i o e lt at none = absurd (omega arith)
+leaf_present (None ∷ os) i o e lt at none = absurd (omega (arith, e, length-subtrees os, few_present os))
+leaf_present (Some b ∷ os) zero o e lt at none = cc
+leaf_present (Some b ∷ os) (suc i) o e lt at none = leaf_present os i o (omega (arith, e)) (omega (arith, lt)) at none
 
-rest_of : (os : List Cell) (n : ℕ) → AreLeaves os (n + 1) → AreLeaves (drop 1 os) n
+abbrev in_cell : Cell → Subtree
+in_cell None = unused
+in_cell (Some b) = b
+
+-- and the leaf in a cell is the one of that number
+pub leaf_is : (os : List Cell) (i : ℕ) (o : Cell) (b : Node) → length (subtrees os) ≡ length os → i < length os → o ≡ get_or os i o → o ≡ Some b → get_or (subtrees os) i unused ≡ b
+leaf_is [] i o b e lt at is = absurd (omega arith)
+leaf_is (None ∷ os) i o b e lt at is = absurd (omega (arith, e, length-subtrees os, few_present os))
+leaf_is (Some a ∷ os) zero o b e lt at is = ap in_cell (sym at ∙ is)
+leaf_is (Some a ∷ os) (suc i) o b e lt at is = leaf_is os i o b (omega (arith, e)) (omega (arith, lt)) at is
+
+pub rest_of : (os : List Cell) (n : ℕ) → AreLeaves os (n + 1) → AreLeaves (drop 1 os) n
 rest_of [] n a = absurd (omega (arith, a.cells))
 rest_of (None ∷ os) n a = absurd (omega (arith, a.cells, a.present, length-subtrees os, few_present os))
 rest_of (Some b ∷ os) n a = record {

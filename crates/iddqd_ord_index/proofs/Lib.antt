@@ -1,4 +1,5 @@
 pub mod AddLemmas
+pub mod BackLemmas
 pub mod BranchAtLemmas
 pub mod BelowLemmas
 pub mod CellLemmas

@@ -44,6 +44,13 @@ run_of a b c p q = (p.0 ++ q.0, q.1 ∙ (ap (λ l. l ++ q.0) p.1 ∙ append_asso
 pub front_of : (a b c : List ℕ) → BeginsWith (a ++ b) c → BeginsWith a c
 front_of a b c p = (b ++ p.0, p.1 ∙ append_assoc a b p.0)
 
+-- a slot, and then more of what comes behind it, put behind other slots
+pub slots_appended : (old mid new walk left all : List ℕ) (slot : ℕ) → BeginsWith walk all → walk ≡ slot ∷ left → mid ≡ old ++ slot ∷ [] → BeginsWith new (mid ++ left) → BeginsWith new (old ++ all)
+slots_appended old mid new walk left all slot w e m q =
+    let front = ap (λ l. l ++ left) m ∙ append_assoc old (slot ∷ []) left in
+    let whole = ap (λ l. old ++ l) (w.1 ∙ ap (λ l. l ++ w.0) e) ∙ (sym (append_assoc old (slot ∷ left) w.0) ∙ ap (λ l. l ++ w.0) (sym front)) in
+    run_of new (mid ++ left) (old ++ all) q (w.0, whole)
+
 -- the own slot of a node at which a position stands
 module _ (ls : List (List ℕ)) (ss : List ℕ) (at i rest : ℕ) (branch_at : IsBranchAt ls at i rest) (e : length ls ≡ length ss + 1) where
   pub run_own : rest ≡ length (get_or ls i []) → i < length ss → BeginsWith (take (i + 1 - i) (drop i ss)) (drop at (in_order ls ss))

@@ -1,8 +1,11 @@
--- A list that another one begins with. No public clause cites this module.
+-- A list that another one begins or ends with. No public clause cites this module.
 use Rattle.std.specs.Prelude.{◌≡◌, ℕ, ◌<◌, List, ◌++◌, drop, length, remove}
 
 abbrev pub BeginsWith : List ℕ → List ℕ → Type 0
 BeginsWith front all = (rest : List ℕ) × (all ≡ front ++ rest)
+
+abbrev pub EndsWith : List ℕ → List ℕ → Type 0
+EndsWith back all = (front : List ℕ) × (all ≡ front ++ back)
 
 -- slots that stand side by side in a list, and the position of the first
 pub record Run : Type 0 where

@@ -3,10 +3,10 @@
 --     ShowsFirstConflict      what it shows of the iterator's items
 --     RefusesAdding, StopsAdding      there was no room; what it shows in either case, and what is in the map then
 --     HaltsAdding, HaltsAt      the same while the existing item is known by its slot alone, and one step of it
---     AddsEach, HaltsEach, ShowsConflict      the same of what an iterable gives
+--     Adds, Halts, ShowsConflict      the same of what an iterable gives
 --     OnItemRefused, OnItemBack      what holds if an item is returned because there is no room, of the error and of a halt
-use Rattle.std.specs.Prelude.{◌≡◌, Bool, List, [], ◌∷◌, Option, Some, OnSome}
-use Rattle.iddqd_store.specs.Collecting.{GivesAll, GivesThen, Meets}
+use Rattle.std.specs.Prelude.{◌≡◌, Bool, List, [], ◌∷◌, Some, OnSome}
+use Rattle.iddqd_store.specs.Collecting.{Meets}
 use Rattle.iddqd_store.specs.Contents.{NoTwoAkin, find_item}
 use Rattle.iddqd_store.specs.Holding.{Holding}
 use Rattle.iddqd_store.specs.Refusal.{FindsNoRoom}
@@ -15,6 +15,7 @@ use Rattle.iddqd_store.specs.Unique as unique
 use Rattle.iddqd_store.specs.declared.errors.ExtendError.{ExtendError}
 use Rattle.iddqd_store.specs.declared.errors.ExtendUniqueError.{ExtendUniqueError}
 use Rattle.iddqd_store.specs.declared.errors.ExtendUniqueError.TheVariants.{Duplicate, Refused}
+use Rattle.iddqd_store.specs.declared.gives.Gives as gives
 use Rattle.iddqd_store.specs.declared.halts.Halt.{Halt}
 use Rattle.iddqd_store.specs.declared.halts.Halt.TheVariants.{Akin, NoRoom}
 
@@ -53,16 +54,16 @@ abbrev pub OnItemBack : {T : Type 0} → Type 0 → Halt T → Type 0
 OnItemBack P (Akin x slot) = Unit
 OnItemBack P (NoRoom e) = OnSome e.item P
 
--- of what an iterable gives, as `becomes` and `steps` say
-module _ {T K U I : Type 0} (key : T → K) (eq : K → K → Bool) (becomes : U → I → Type 0) (steps : I → Option T → I → Type 0) (iter : U) where
+-- of what an iterable gives, as its `Gives` says
+module _ {T K U : Type 0} (key : T → K) (eq : K → K → Bool) (given : gives.Ghosts U T) (iter : U) where
   -- all items were inserted beside the old ones
-  abbrev pub AddsEach : (old new : Holding T) → Type 0
-  AddsEach old new = AddsGiven key eq (GivesAll becomes steps iter) old.items new.items
+  abbrev pub Adds : (old new : Holding T) → Type 0
+  Adds old new = AddsGiven key eq (given.gives_all iter) old.items new.items
 
   -- the first item that was not inserted, and what the map holds then
-  abbrev pub HaltsEach : (old new : Holding T) → Halt T → Type 0
-  HaltsEach old new = HaltsAdding key eq (GivesThen becomes steps iter) old new
+  abbrev pub Halts : (old new : Holding T) → Halt T → Type 0
+  Halts old new = HaltsAdding key eq (given.gives_then iter) old new
 
   -- the first item whose key one in the map had is shown beside that one
   abbrev pub ShowsConflict : Holding T → ExtendUniqueError T → Type 0
-  ShowsConflict old = ShowsFirstConflict key eq (GivesThen becomes steps iter) old.items
+  ShowsConflict old = ShowsFirstConflict key eq (given.gives_then iter) old.items

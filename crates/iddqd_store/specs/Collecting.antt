@@ -2,7 +2,7 @@
 --     room_to_reserve      for how many items room is reserved before they are inserted
 --     GivesAll, GivesThen      what an iterator gives: these items and no more, or these and then one
 --     OverwritesAll      each item replaces the one of an equal key, or is added if there is none (`extend`)
---     OverwritesGiven, StopsOverwriting      what `extend` leaves
+--     Extends, Stops      what `extend` leaves
 --     Collects      what `from_iter` makes
 -- In a map of one key (`Unique` has the same of any keys):
 --     Meets      the item that has a new item's key, or none
@@ -19,6 +19,7 @@ use Rattle.iddqd_store.specs.Refusal.{FindsNoRoom}
 use Rattle.iddqd_store.specs.Unique as unique
 use Rattle.iddqd_store.specs.declared.errors.ExtendError.{ExtendError}
 use Rattle.iddqd_store.specs.declared.errors.FromIterError.{FromIterError}
+use Rattle.iddqd_store.specs.declared.gives.Gives as gives
 
 -- for how many items room is reserved, if so many are in the map and so many are announced: all of them in a map without items,
 -- and half of them, rounded up, in another
@@ -44,9 +45,6 @@ module _ {T K : Type 0} (key : T → K) (eq : K → K → Bool) where
   Meets x items (there ∷ []) = find_item key (eq (key x)) items ≡ Some there
   Meets x items (a ∷ b ∷ more) = ⊥
 
-  abbrev pub ShowsFirstRepeat : (gives : List T → T → Type 0) → FromIterError T → Type 0
-  ShowsFirstRepeat = unique.ShowsFirstRepeat (NoTwoAkin key eq) Meets
-
   abbrev pub AddsAll : (xs old new : List T) → Type 0
   AddsAll = unique.AddsAll (NoTwoAkin key eq)
 
@@ -58,21 +56,25 @@ module _ {T K : Type 0} (key : T → K) (eq : K → K → Bool) where
   abbrev pub ShowsAkin : List T → T → FromIterError T → Type 0
   ShowsAkin = unique.ShowsMet Meets
 
--- of what an iterable gives, as `becomes` and `steps` say
-module _ {T K U I : Type 0} (key : T → K) (eq : K → K → Bool) (becomes : U → I → Type 0) (steps : I → Option T → I → Type 0) (iter : U) where
+-- of what an iterable gives, as its `Gives` says
+module _ {T K U : Type 0} (key : T → K) (eq : K → K → Bool) (given : gives.Ghosts U T) (iter : U) where
   -- all items were inserted, each in place of the one of an equal key
-  abbrev pub OverwritesGiven : (old new : Holding T) → Type 0
-  OverwritesGiven old new = (xs : List T) × GivesAll becomes steps iter xs × OverwritesAll key eq old.limit xs old.items new.items
+  abbrev pub Extends : (old new : Holding T) → Type 0
+  Extends old new = (xs : List T) × given.gives_all iter xs × OverwritesAll key eq old.limit xs old.items new.items
 
   -- an item found no room and is returned, and those before it were inserted
-  abbrev pub StopsOverwriting : (old new : Holding T) → ExtendError T → Type 0
-  StopsOverwriting old new e =
-      IfSome e.item (λ x. (xs : List T) × GivesThen becomes steps iter xs x × OverwritesAll key eq old.limit xs old.items new.items × FindsNoRoom key eq old.limit new.items x e.error)
+  abbrev pub Stops : (old new : Holding T) → ExtendError T → Type 0
+  Stops old new e =
+      IfSome e.item (λ x. (xs : List T) × given.gives_then iter xs x × OverwritesAll key eq old.limit xs old.items new.items × FindsNoRoom key eq old.limit new.items x e.error)
 
   -- a new map has the items, of equal keys the last
   abbrev pub Collects : Holding T → Type 0
-  Collects m = (xs : List T) × GivesAll becomes steps iter xs × OverwritesAll key eq max_items xs [] m.items
+  Collects m = (xs : List T) × given.gives_all iter xs × OverwritesAll key eq max_items xs [] m.items
 
   -- a new map has the items, and no two of them have equal keys
   abbrev pub CollectsUnique : Holding T → Type 0
-  CollectsUnique m = unique.AddsGiven (NoTwoAkin key eq) (GivesAll becomes steps iter) [] m.items
+  CollectsUnique m = unique.AddsGiven (NoTwoAkin key eq) (given.gives_all iter) [] m.items
+
+  -- the first item that has the key of an earlier one is shown beside that one
+  abbrev pub ShowsFirstRepeat : FromIterError T → Type 0
+  ShowsFirstRepeat = unique.ShowsFirstRepeat (NoTwoAkin key eq) (Meets key eq) (given.gives_then iter)

@@ -7,13 +7,13 @@
 --     IsFirstRepeat, IsFirstConflict      the first item that has a key of an earlier one, or of one that is in the map by then
 --     ShowsMet, ShowsFirstRepeat      the error of `from_iter_unique`, and one step of it
 --     StopsBeside      an item meets some, and those before it are in the map
---     RefusesAdding      an item finds no room
+--     FindsNoRoom, RefusesAdding      an item that meets none finds no room, and is returned
 --     ShowsFirstConflict, StopsAdding      the error of `extend_unique`, and what is in the map then
 -- gives says what the iterator gave: all of its items, or some and then one more. An error shows at least one existing item (`Few`).
-use Rattle.std.specs.Prelude.{◌≡◌, List, [], ◌++◌, IfSome, IfNone, IsPermutation}
+use Rattle.std.specs.Prelude.{◌≡◌, ℕ, List, [], ◌++◌, IfSome, IfNone, IsPermutation}
 use Rattle.iddqd_store.specs.Errors.{new_item_of, duplicates_of, lent_duplicates_of}
 use Rattle.iddqd_store.specs.Holding.{Holding, KeepsItems}
-use Rattle.iddqd_store.specs.Refusal.{refusal_kind}
+use Rattle.iddqd_store.specs.Refusal.{RefusalKind, refusal_kind}
 use Rattle.iddqd_store.specs.declared.errors.ExtendError.{ExtendError}
 use Rattle.iddqd_store.specs.declared.errors.ExtendUniqueError.{ExtendUniqueError}
 use Rattle.iddqd_store.specs.declared.errors.ExtendUniqueError.TheVariants as extending
@@ -55,11 +55,15 @@ module _ {T : Type 0} (Differ : List T → Type 0) where
     abbrev pub StopsBeside : (gives : List T → T → Type 0) (old new : List T) (x : T) (met : List T) → Type 0
     StopsBeside gives old new x met = (before : List T) × gives before x × IsFirstConflict old before x met × AddsAll before old new
 
-    -- an item that meets none finds no room and is returned, and those before it are in the map; without an item, the iterator was
+    -- x finds no room: it meets none, and the kind is the limit's if the map is full
+    abbrev pub FindsNoRoom : (limit : ℕ) → List T → T → RefusalKind → Type 0
+    FindsNoRoom limit items x kind = Meets x items [] × (kind ≡ refusal_kind limit items)
+
+    -- an item that finds no room is returned, and those before it are in the map; without an item, the iterator was
     -- not asked, and nothing has changed but the room
     abbrev pub RefusesAdding : (gives : List T → T → Type 0) (old new : Holding T) → ExtendError T → Type 0
     RefusesAdding gives old new e =
-        IfSome e.item (λ x. (before : List T) × gives before x × AddsAll before old.items new.items × (Meets x new.items [] × (e.error ≡ refusal_kind old.limit new.items)))
+        IfSome e.item (λ x. (before : List T) × gives before x × AddsAll before old.items new.items × FindsNoRoom old.limit new.items x e.error)
         × IfNone e.item (KeepsItems old new)
 
     -- the first conflict is shown: its item as new, and the items that it meets as its duplicates

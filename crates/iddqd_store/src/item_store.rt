@@ -3,6 +3,7 @@ mod chain;
 mod moves;
 mod next;
 mod room;
+mod walk;
 
 ghost use Rattle.std.specs.Prelude.{◌≡◌, ◌+◌, ◌-◌, ◌<◌, ◌≤◌, [], length, IfSome, IfNone, IfOk, Some, None, OnSome, option_copied, slice_set, vec_capacity, Err};
 ghost use Rattle.std.specs.Borrow.{sem};
@@ -14,6 +15,7 @@ use moves::{cut_vacant, move_last};
 use std::alloc::{AllocError, Global};
 use std::marker::Model;
 use std::mem;
+pub use walk::Items;
 
 /// The most items that a map can hold: one for each slot number, but for the last, which stands for no slot.
 pub const MAX_ITEMS: u32 = u32::MAX;
@@ -195,8 +197,12 @@ impl<T> ItemStore<T> {
     pub fn replace(&mut self, slot: u32, item: T) -> T
         requires { IsOccupied self.old slot }
         ensures item { item_at self.old slot ≡ Some result }
+
+        // the slots
         ensures store { self.new ≡ with_item self.old slot item }
         ensures updates { Updates self.old self.new slot (Some item) }
+
+        // the numbers
         ensures len { store_len self.new ≡ store_len self.old }
         ensures vacant { vacant self.new ≡ vacant self.old }
     {
@@ -212,8 +218,12 @@ impl<T> ItemStore<T> {
     pub fn remove(&mut self, slot: u32) -> T
         requires { IsOccupied self.old slot }
         ensures item { item_at self.old slot ≡ Some result }
+
+        // the slots
         ensures store { self.new ≡ record self.old { slots = slice_set self.old.slots slot None } }
         ensures updates { Updates self.old self.new slot None }
+
+        // the numbers
         ensures len { store_len self.new + 1 ≡ store_len self.old }
         ensures vacant { vacant self.new ≡ vacant self.old + 1 }
     {

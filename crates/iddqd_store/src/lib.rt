@@ -2,6 +2,7 @@
 #![tactic(auto)]
 
 mod errors;
+mod gives;
 mod halts;
 mod hints;
 mod item_store;
@@ -17,9 +18,10 @@ pub use errors::{
     DuplicateItem, ExtendError, ExtendUniqueError, Few, FromIterError, InsertError, Refused,
     TryReserveError,
 };
+pub use gives::Gives;
 pub use halts::Halt;
 pub use hints::room_to_reserve;
-pub use item_store::{ItemStore, MAX_ITEMS};
+pub use item_store::{ItemStore, Items, MAX_ITEMS};
 pub use items::{IdHashItem, IdOrdItem, KeyOf};
 pub use queries::{Comparable, Equivalent};
 pub use steps::Steps;

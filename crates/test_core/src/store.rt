@@ -50,6 +50,18 @@ fn assert_holds(rt: &impl Abort, store: &ItemStore<u32>, list: &[Option<u32>]) {
     }
     check(rt, store.get(store.slots()).copied() == None);
     check(rt, next_of(store, store.slots()) == None);
+    assert_walk(rt, store, list);
+}
+
+// Compares a walk over the items with the list.
+fn assert_walk(rt: &impl Abort, store: &ItemStore<u32>, list: &[Option<u32>]) {
+    let mut items = store.items();
+    for slot in list {
+        if let Some(item) = slot {
+            check(rt, items.next().copied() == Some(*item));
+        }
+    }
+    check(rt, items.next().copied() == None);
 }
 
 // Four items go in, and the slot of one that leaves is used again.

@@ -1,12 +1,11 @@
 //! Many items at once, from an iterator.
 ghost use Rattle.std.specs.Prelude.{IfOk, IfErr, OnOk};
 ghost use Rattle.std.specs.Iterator.{IsFiniteIterable as IsFinite};
-ghost use Rattle.iddqd_store.specs.Collecting.{GivesThen};
-ghost use Rattle.iddqd_bi_hash.specs.Collecting.{CollectsUnique, IsCollected, ShowsDisplaced, ShowsFirstRepeat};
+ghost use Rattle.iddqd_bi_hash.specs.Collecting.{CollectsUnique, IsCollected, ShowsFirstRepeat, ShowsMet};
 
 use super::{BiHashMap, Keyed};
 use crate::items::BiHashItem;
-use iddqd_store::{DuplicateItem, FromIterError};
+use iddqd_store::{DuplicateItem, FromIterError, Gives};
 use std::alloc::Global;
 use std::hash::BuildHasher;
 
@@ -26,8 +25,8 @@ impl<T: BiHashItem, S: BuildHasher> BiHashMap<T, S> {
         T: Drop,
         S: Default + Drop,
         requires ends { IsFinite U.into_iter_gives U.IntoIter.can_next U.IntoIter.remaining iter }
-        ensures items { IfOk result (CollectsUnique T.key1 T.key2 T.K1.eq T.K2.eq U.into_iter_gives U.IntoIter.next_gives iter) }
-        ensures repeat { IfErr result (ShowsFirstRepeat T.key1 T.key2 T.K1.eq T.K2.eq (GivesThen U.into_iter_gives U.IntoIter.next_gives iter)) }
+        ensures items { IfOk result (CollectsUnique T.key1 T.key2 T.K1.eq T.K2.eq ⟦<U as Gives>⟧ iter) }
+        ensures repeat { IfErr result (ShowsFirstRepeat T.key1 T.key2 T.K1.eq T.K2.eq ⟦<U as Gives>⟧ iter) }
         ensures collected { IfOk result (IsCollected ⟦<Self as Keyed>⟧.keyed S.is_default) }
     {
         let items = iter.into_iter();
@@ -48,7 +47,7 @@ impl<T: BiHashItem, S: BuildHasher> BiHashMap<T, S> {
         T: Drop,
         requires keyed { ⟦<Self as Keyed>⟧.keyed self.old }
         ensures inserts { OnOk result (BiInserts ⟦<Self as Keyed>⟧.keyed item self.old self.new) }
-        ensures displaced { IfErr result (ShowsDisplaced T.key1 T.key2 T.K1.eq T.K2.eq self.old.items item) }
+        ensures met { IfErr result (ShowsMet T.key1 T.key2 T.K1.eq T.K2.eq self.old.items item) }
     {
         let hash1 = self.hasher.hash_one(item.key1());
         let hash2 = self.hasher.hash_one(item.key2());

@@ -13,7 +13,7 @@ use iddqd_store::{DuplicateItem, InsertError, Refused};
 use std::hash::BuildHasher;
 
 impl<T: BiHashItem, S: BuildHasher> BiHashMap<T, S> {
-    ghost use Rattle.iddqd_bi_hash.specs.BiHashMap.{BiHandsBack, BiInserts, BiKeeps, RefusesItem, ends_bi_inserted};
+    ghost use Rattle.iddqd_bi_hash.specs.BiHashMap.{BiHandsBack, BiInserts, BiKeeps, RefusesItem, ends_bi_inserted as ends_insert};
 
     /// Inserts the item, if no item has one of its keys. Duplicates need no memory: the error has references to the one
     /// or two items that have a key of it, in the order of their slots, and the map is unchanged. If the limit or memory
@@ -25,7 +25,7 @@ impl<T: BiHashItem, S: BuildHasher> BiHashMap<T, S> {
         requires keyed { ⟦<Self as Keyed>⟧.keyed self.old }
 
         // once the result is dropped
-        ensures* after { sem 𝓛 (ends_bi_inserted S.row T.row ⟦<Self as Keyed>⟧.keyed self.entry result item) }
+        ensures* after { sem 𝓛 (ends_insert S.row T.row ⟦<Self as Keyed>⟧ self.entry result item) }
 
         // on success
         ensures absent1 { OnOk result (IsAbsent T.key1 (T.K1.eq (T.key1 item)) self.old.items) }

@@ -32,7 +32,7 @@ impl<T: BiHashItem, S: BuildHasher> BiHashMap<T, S> {
         requires keyed { ⟦<Self as Keyed>⟧.keyed self.old }
 
         // on success
-        ensures put { IfOk result (BiOverwrites T.key1 T.key2 T.K1.eq T.K2.eq ⟦<Self as Keyed>⟧.keyed item self.old self.new) }
+        ensures put { IfOk result (BiOverwrites T.key1 T.key2 T.K1.eq T.K2.eq item self.old self.new) }
 
         // on refusal
         ensures refused { IfErr result (BiHandsBack T.key1 T.key2 T.K1.eq T.K2.eq self.old item) }

@@ -1,20 +1,21 @@
 //! Many items at once, from an iterator.
 ghost use Rattle.std.specs.Prelude.{IfOk, IfErr, OnOk};
 ghost use Rattle.std.specs.Iterator.{IsFiniteIterable as IsFinite};
-ghost use Rattle.iddqd_store.specs.Collecting.{GivesThen, ShowsAkin, ShowsFirstRepeat};
+ghost use Rattle.iddqd_store.specs.Collecting.{ShowsAkin, ShowsFirstRepeat};
 ghost use Rattle.iddqd_store.specs.Contents.{IsAbsent};
 
 use super::{IdHashMap, Keyed};
 use iddqd_hash_index::OwnKey;
 use iddqd_hash_parts::{find_slot, take_out};
 use iddqd_store::{
-    DuplicateItem, ExtendError, Few, FromIterError, IdHashItem, TryReserveError, room_to_reserve,
+    DuplicateItem, ExtendError, Few, FromIterError, Gives, IdHashItem, TryReserveError,
+    room_to_reserve,
 };
 use std::alloc::Global;
 use std::hash::BuildHasher;
 
 impl<T: IdHashItem, S: BuildHasher> IdHashMap<T, S> {
-    ghost use Rattle.iddqd_hash.specs.HashMap.{Collects, HashFills, HashInserts, CollectsUnique, IsCollected, KeepsIfNoItem, OverwritesGiven, SpareFirst, StopsOverwriting};
+    ghost use Rattle.iddqd_hash.specs.HashMap.{Collects, CollectsUnique, Extends, HashFills, HashInserts, IsCollected, KeepsIfNoItem, SpareFirst, Stops};
 
     /// Inserts the items one after the other, each in the place of the item of equal key, if there is one. It is a
     /// function, since the trait `Extend` cannot refuse. Before it asks for an item, it makes room for as many as the
@@ -30,10 +31,10 @@ impl<T: IdHashItem, S: BuildHasher> IdHashMap<T, S> {
         requires ends { IsFinite U.into_iter_gives U.IntoIter.can_next U.IntoIter.remaining iter }
 
         // on success
-        ensures taken { OnOk result (OverwritesGiven T.key T.Key.eq U.into_iter_gives U.IntoIter.next_gives iter self.old self.new) }
+        ensures taken { OnOk result (Extends T.key T.Key.eq ⟦<U as Gives>⟧ iter self.old self.new) }
 
         // on refusal
-        ensures stopped { IfErr result (StopsOverwriting T.key T.Key.eq U.into_iter_gives U.IntoIter.next_gives iter self.old self.new) }
+        ensures stops { IfErr result (Stops T.key T.Key.eq ⟦<U as Gives>⟧ iter self.old self.new) }
         ensures spare_first { IfErr result (SpareFirst self.old self.new) }
         ensures not_begun { IfErr result (KeepsIfNoItem ⟦<Self as Keyed>⟧.keyed self.old self.new) }
 
@@ -70,7 +71,7 @@ impl<T: IdHashItem, S: BuildHasher> IdHashMap<T, S> {
         T: Drop,
         S: Default + Drop,
         requires ends { IsFinite U.into_iter_gives U.IntoIter.can_next U.IntoIter.remaining iter }
-        ensures items { IfOk result (Collects T.key T.Key.eq U.into_iter_gives U.IntoIter.next_gives iter) }
+        ensures items { IfOk result (Collects T.key T.Key.eq ⟦<U as Gives>⟧ iter) }
         ensures collected { IfOk result (IsCollected ⟦<Self as Keyed>⟧.keyed S.is_default) }
     {
         let mut map = IdHashMap::with_hasher(alloc, S::default());
@@ -92,8 +93,8 @@ impl<T: IdHashItem, S: BuildHasher> IdHashMap<T, S> {
         T: Drop,
         S: Default + Drop,
         requires ends { IsFinite U.into_iter_gives U.IntoIter.can_next U.IntoIter.remaining iter }
-        ensures items { IfOk result (CollectsUnique T.key T.Key.eq U.into_iter_gives U.IntoIter.next_gives iter) }
-        ensures repeat { IfErr result (ShowsFirstRepeat T.key T.Key.eq (GivesThen U.into_iter_gives U.IntoIter.next_gives iter)) }
+        ensures items { IfOk result (CollectsUnique T.key T.Key.eq ⟦<U as Gives>⟧ iter) }
+        ensures repeat { IfErr result (ShowsFirstRepeat T.key T.Key.eq ⟦<U as Gives>⟧ iter) }
         ensures collected { IfOk result (IsCollected ⟦<Self as Keyed>⟧.keyed S.is_default) }
     {
         let items = iter.into_iter();

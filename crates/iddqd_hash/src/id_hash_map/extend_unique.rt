@@ -9,13 +9,13 @@ use super::{IdHashMap, Keyed};
 use iddqd_hash_index::OwnKey;
 use iddqd_hash_parts::find_slot;
 use iddqd_store::{
-    DuplicateItem, ExtendError, ExtendUniqueError, Few, Halt, IdHashItem, room_to_reserve,
+    DuplicateItem, ExtendError, ExtendUniqueError, Few, Gives, Halt, IdHashItem, room_to_reserve,
 };
 use std::hash::BuildHasher;
 
 impl<T: IdHashItem, S: BuildHasher> IdHashMap<T, S> {
     ghost use Rattle.iddqd_hash_parts.specs.HashItems.{holding_of};
-    ghost use Rattle.iddqd_hash.specs.HashMap.{AddsEach, HaltsEach, HasSpareFirst, HashFills, HashInserts, HashKeeps, ShowsConflict, ends_hash_extended};
+    ghost use Rattle.iddqd_hash.specs.HashMap.{Adds, Halts, HasSpareFirst, HashFills, HashInserts, HashKeeps, ShowsConflict, ends_hash_extended as ends_extended};
 
     /// Inserts the items one after the other, up to the first whose key an item has, from before or from the iterator
     /// (ours). The error has that item, and a reference to the existing one. A duplicate needs no memory, and is
@@ -33,8 +33,8 @@ impl<T: IdHashItem, S: BuildHasher> IdHashMap<T, S> {
         T: Drop,
         requires keyed { ⟦<Self as Keyed>⟧.keyed self.old }
         requires ends { IsFinite U.into_iter_gives U.IntoIter.can_next U.IntoIter.remaining iter }
-        ensures* after { sem 𝓛 (ends_hash_extended S.row T.row T.key T.Key.eq ⟦<Self as Keyed>⟧.keyed U.into_iter_gives U.IntoIter.next_gives iter self.entry result) }
-        ensures conflict { IfErr result (ShowsConflict T.key T.Key.eq U.into_iter_gives U.IntoIter.next_gives iter self.old) }
+        ensures* after { sem 𝓛 (ends_extended S.row T.row T.key T.Key.eq ⟦<Self as Keyed>⟧ ⟦<U as Gives>⟧ iter self.entry result) }
+        ensures shown { IfErr result (ShowsConflict T.key T.Key.eq ⟦<U as Gives>⟧ iter self.old) }
     {
         match self.add_each(iter) {
             Ok(()) => Ok(&mut self.done),
@@ -54,10 +54,10 @@ impl<T: IdHashItem, S: BuildHasher> IdHashMap<T, S> {
         requires ends { IsFinite U.into_iter_gives U.IntoIter.can_next U.IntoIter.remaining iter }
 
         // on success
-        ensures added { OnOk result (AddsEach T.key T.Key.eq U.into_iter_gives U.IntoIter.next_gives iter self.old self.new) }
+        ensures added { OnOk result (Adds T.key T.Key.eq ⟦<U as Gives>⟧ iter self.old self.new) }
 
         // on a halt
-        ensures halted { IfErr result (HaltsEach T.key T.Key.eq U.into_iter_gives U.IntoIter.next_gives iter self.old self.new) }
+        ensures halted { IfErr result (Halts T.key T.Key.eq ⟦<U as Gives>⟧ iter self.old self.new) }
         ensures spare_first { IfErr result (OnItemBack (HasSpareFirst self.old self.new)) }
 
         // either way

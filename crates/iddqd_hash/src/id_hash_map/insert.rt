@@ -12,7 +12,7 @@ use iddqd_store::{DuplicateItem, Few, IdHashItem, InsertError, Refused};
 use std::hash::BuildHasher;
 
 impl<T: IdHashItem, S: BuildHasher> IdHashMap<T, S> {
-    ghost use Rattle.iddqd_hash.specs.HashMap.{HashHandsBack, HashInserts, HashKeeps, HashOverwrites, HashStays, RefusesItem, TakesSlot, ends_hash_inserted, lends_nothing};
+    ghost use Rattle.iddqd_hash.specs.HashMap.{HashHandsBack, HashInserts, HashKeeps, HashOverwrites, HashStays, RefusesItem, TakesSlot, ends_hash_inserted as ends_insert, lends_nothing};
 
     /// Inserts the item, if no item has an equal key. A duplicate needs no memory: the error has a reference to the
     /// existing item, and the map is unchanged. If the limit or memory refuses the item, it is returned, and no item
@@ -22,7 +22,7 @@ impl<T: IdHashItem, S: BuildHasher> IdHashMap<T, S> {
     /// leaves nothing known of the map, if the items own memory.
     pub fn insert_unique(&mut self, item: T) -> Result<&mut (), InsertError<'_, T>>
         requires keyed { ⟦<Self as Keyed>⟧.keyed self.old }
-        ensures* after { sem 𝓛 (ends_hash_inserted S.row T.row ⟦<Self as Keyed>⟧.keyed self.entry result item) }
+        ensures* after { sem 𝓛 (ends_insert S.row T.row ⟦<Self as Keyed>⟧ self.entry result item) }
         ensures absent { OnOk result (IsAbsent T.key (T.Key.eq (T.key item)) self.old.items) }
         ensures refused { IfErr result (RefusesItem T.key T.Key.eq self.old item) }
         ensures no_spare { IfErr result (OnRefused (self.old.spare ≡ 0)) }
@@ -51,7 +51,7 @@ impl<T: IdHashItem, S: BuildHasher> IdHashMap<T, S> {
         requires keyed { ⟦<Self as Keyed>⟧.keyed self.old }
 
         // on success
-        ensures put { IfOk result (HashOverwrites T.key T.Key.eq ⟦<Self as Keyed>⟧.keyed item self.old self.new) }
+        ensures put { IfOk result (HashOverwrites T.key T.Key.eq item self.old self.new) }
 
         // on refusal
         ensures refused { IfErr result (HashHandsBack T.key T.Key.eq self.old item) }

@@ -1,20 +1,20 @@
 //! Many items at once, from an iterator.
 ghost use Rattle.std.specs.Prelude.{◌≡◌, IfOk, IfErr, OnOk};
 ghost use Rattle.std.specs.Iterator.{IsFiniteIterable as IsFinite};
-ghost use Rattle.iddqd_store.specs.Collecting.{Collects, CollectsUnique, GivesThen, OverwritesGiven, ShowsAkin, ShowsFirstRepeat};
+ghost use Rattle.iddqd_store.specs.Collecting.{Collects, CollectsUnique, Extends, ShowsAkin, ShowsFirstRepeat};
 ghost use Rattle.iddqd_store.specs.Contents.{Ascends, IsAbsent};
 ghost use Rattle.iddqd_store.specs.Holding.{FillsSlots};
 
 use super::IdOrdMap;
 use super::store_and_index::take_out;
 use iddqd_store::{
-    DuplicateItem, ExtendError, Few, FromIterError, IdOrdItem, MAX_ITEMS, Steps, TryReserveError,
-    room_to_reserve,
+    DuplicateItem, ExtendError, Few, FromIterError, Gives, IdOrdItem, MAX_ITEMS, Steps,
+    TryReserveError, room_to_reserve,
 };
 use std::alloc::Global;
 
 impl<T: IdOrdItem> IdOrdMap<T> {
-    ghost use Rattle.iddqd_ord.specs.OrdMap.{OrdInserts, StopsInserting};
+    ghost use Rattle.iddqd_ord.specs.OrdMap.{OrdInserts, StopsInserting as Stops};
 
     /// Inserts the items one after the other. Each replaces the one of an equal key. This is no `Extend`, which cannot
     /// refuse. Room in the store is reserved before an item is asked for. An empty map reserves for the lower bound of
@@ -29,10 +29,10 @@ impl<T: IdOrdItem> IdOrdMap<T> {
         requires ends { IsFinite U.into_iter_gives U.IntoIter.can_next U.IntoIter.remaining iter }
 
         // on success
-        ensures taken { OnOk result (OverwritesGiven T.key T.Key.eq U.into_iter_gives U.IntoIter.next_gives iter self.old self.new) }
+        ensures taken { OnOk result (Extends T.key T.Key.eq ⟦<U as Gives>⟧ iter self.old self.new) }
 
         // on refusal
-        ensures stopped { IfErr result (StopsInserting T.key T.Key.eq U.into_iter_gives U.IntoIter.next_gives iter self.old self.new) }
+        ensures stops { IfErr result (Stops T.key T.Key.eq ⟦<U as Gives>⟧ iter self.old self.new) }
 
         // in either case
         ensures fills { FillsSlots self.old self.new }
@@ -66,7 +66,7 @@ impl<T: IdOrdItem> IdOrdMap<T> {
     where
         T: Drop,
         requires ends { IsFinite U.into_iter_gives U.IntoIter.can_next U.IntoIter.remaining iter }
-        ensures items { IfOk result (Collects T.key T.Key.eq U.into_iter_gives U.IntoIter.next_gives iter) }
+        ensures items { IfOk result (Collects T.key T.Key.eq ⟦<U as Gives>⟧ iter) }
         ensures vacant { IfOk result (λ m. m.vacant ≡ 0) }
         ensures limit { IfOk result (λ m. m.limit ≡ MAX_ITEMS) }
         ensures keyed { IfOk result (λ m. Ascends T.key T.Key.cmp m.items) }
@@ -91,13 +91,13 @@ impl<T: IdOrdItem> IdOrdMap<T> {
         requires ends { IsFinite U.into_iter_gives U.IntoIter.can_next U.IntoIter.remaining iter }
 
         // on success
-        ensures items { IfOk result (CollectsUnique T.key T.Key.eq U.into_iter_gives U.IntoIter.next_gives iter) }
+        ensures items { IfOk result (CollectsUnique T.key T.Key.eq ⟦<U as Gives>⟧ iter) }
         ensures vacant { IfOk result (λ m. m.vacant ≡ 0) }
         ensures limit { IfOk result (λ m. m.limit ≡ MAX_ITEMS) }
         ensures keyed { IfOk result (λ m. Ascends T.key T.Key.cmp m.items) }
 
         // on refusal
-        ensures repeat { IfErr result (ShowsFirstRepeat T.key T.Key.eq (GivesThen U.into_iter_gives U.IntoIter.next_gives iter)) }
+        ensures repeat { IfErr result (ShowsFirstRepeat T.key T.Key.eq ⟦<U as Gives>⟧ iter) }
     {
         let items = iter.into_iter();
         let mut map = match IdOrdMap::with_capacity(alloc, items.size_hint().0) {

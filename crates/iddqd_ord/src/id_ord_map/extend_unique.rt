@@ -2,17 +2,18 @@
 ghost use Rattle.std.specs.Prelude.{IfErr, OnErr, OnOk};
 ghost use Rattle.std.specs.Borrow.{sem};
 ghost use Rattle.std.specs.Iterator.{IsFiniteIterable as IsFinite};
-ghost use Rattle.iddqd_store.specs.Adding.{AddsEach, HaltsAt, HaltsEach, ShowsConflict};
+ghost use Rattle.iddqd_store.specs.Adding.{Adds, Halts, HaltsAt, ShowsConflict};
 ghost use Rattle.iddqd_store.specs.Contents.{Ascends, IsAbsent};
 
 use super::IdOrdMap;
 use super::insert_new::Missed;
 use iddqd_store::{
-    DuplicateItem, ExtendError, ExtendUniqueError, Few, Halt, IdOrdItem, Steps, room_to_reserve,
+    DuplicateItem, ExtendError, ExtendUniqueError, Few, Gives, Halt, IdOrdItem, Steps,
+    room_to_reserve,
 };
 
 impl<T: IdOrdItem> IdOrdMap<T> {
-    ghost use Rattle.iddqd_ord.specs.OrdMap.{OrdFills, OrdInserts, OrdKeeps, ends_added};
+    ghost use Rattle.iddqd_ord.specs.OrdMap.{OrdFills, OrdInserts, OrdKeeps, ends_ord_extended as ends_extended};
 
     /// Inserts the items one after the other, up to the first whose key is there, from before or from the iterator.
     /// That one is returned as the new item beside a reference to the existing one. A duplicate allocates nothing, and
@@ -30,8 +31,8 @@ impl<T: IdOrdItem> IdOrdMap<T> {
         T: Drop,
         requires keyed { Ascends T.key T.Key.cmp self.old.items }
         requires ends { IsFinite U.into_iter_gives U.IntoIter.can_next U.IntoIter.remaining iter }
-        ensures* after { sem 𝓛 (ends_added T.row T.key T.Key.eq T.Key.cmp U.into_iter_gives U.IntoIter.next_gives iter self.entry result) }
-        ensures conflict { IfErr result (ShowsConflict T.key T.Key.eq U.into_iter_gives U.IntoIter.next_gives iter self.old) }
+        ensures* after { sem 𝓛 (ends_extended T.row T.key T.Key.eq T.Key.cmp ⟦<U as Gives>⟧ iter self.entry result) }
+        ensures shown { IfErr result (ShowsConflict T.key T.Key.eq ⟦<U as Gives>⟧ iter self.old) }
     {
         match self.add_each(iter) {
             Ok(()) => Ok(&mut self.done),
@@ -49,8 +50,8 @@ impl<T: IdOrdItem> IdOrdMap<T> {
         T: Drop,
         requires keyed { Ascends T.key T.Key.cmp self.old.items }
         requires ends { IsFinite U.into_iter_gives U.IntoIter.can_next U.IntoIter.remaining iter }
-        ensures added { OnOk result (AddsEach T.key T.Key.eq U.into_iter_gives U.IntoIter.next_gives iter self.old self.new) }
-        ensures halted { IfErr result (HaltsEach T.key T.Key.eq U.into_iter_gives U.IntoIter.next_gives iter self.old self.new) }
+        ensures added { OnOk result (Adds T.key T.Key.eq ⟦<U as Gives>⟧ iter self.old self.new) }
+        ensures halted { IfErr result (Halts T.key T.Key.eq ⟦<U as Gives>⟧ iter self.old self.new) }
         ensures fills { OrdFills T.key T.Key.cmp self.old self.new }
     {
         let items = iter.into_iter();

@@ -1,5 +1,5 @@
 //! The slots that an index has read last. Reading its slots in turn descends once for several of them.
-ghost use Rattle.std.specs.Prelude.{◌≡◌, ◌<◌, [], ◌++◌, length, slice_index};
+ghost use Rattle.std.specs.Prelude.{◌≡◌, ◌+◌, ◌<◌, ◌≤◌, [], ◌++◌, drop, length, slice_index};
 ghost use Rattle.iddqd_ord_index.specs.Runs.{BeginsWith, FollowsRemoval, IsRunOf};
 
 use crate::tree::node::{LeafWalk, Node};
@@ -77,7 +77,7 @@ impl RunCache {
         ensures cached { IsRunOf self.new root.now.slots }
     {
         if at < self.start || (at - self.start) as usize >= self.slots.len() {
-            self.read(root, at.saturating_sub(15));
+            self.read_before(root, at);
         }
         self.slot_at(root, at)
     }
@@ -89,19 +89,60 @@ impl RunCache {
         ensures slot { result ≡ slice_index root.now.slots at }
         ensures cached { IsRunOf self.new root.now.slots }
     {
-        let mut walk = root.leaves_at(at);
-        let slot = walk.next().unwrap();
         self.start = at;
         self.slots.clear();
-        self.slots.push(slot);
-        fill(&mut self.slots, walk);
-        slot
+        append(&mut self.slots, root, at)
     }
+
+    // Reads the slots that end at the position, as far as there is room.
+    #[inline(never)]
+    fn read_before(&mut self, root: &Node, at: u32)
+        requires in_list { at < length root.now.slots }
+        ensures cached { IsRunOf self.new root.now.slots }
+        ensures there { at < self.new.start + length self.new.slots }
+    {
+        self.start = at.saturating_sub(15);
+        self.slots.clear();
+        append_through(&mut self.slots, root, self.start, at);
+    }
+}
+
+// Appends the slots of the tree from one position through another.
+fn append_through(slots: &mut ArrayVec<u32, 16>, root: &Node, start: u32, at: u32)
+    requires in_list { at < length root.now.slots }
+    requires forward { start ≤ at }
+    requires room { at < start + 16 }
+    requires none { slots.old.items ≡ [] }
+
+    // afterwards
+    ensures read { BeginsWith slots.new.items (drop start root.now.slots) }
+    ensures there { at < start + length slots.new.items }
+{
+    'read: while slots.len() <= (at - start) as usize {
+        let next = start + slots.len() as u32;
+        append(slots, root, next);
+    }
+}
+
+// Goes down the tree once, and appends the slots from the position on that there is room for. Returns the first of them.
+fn append(slots: &mut ArrayVec<u32, 16>, root: &Node, at: u32) -> u32
+    requires in_list { at < length root.now.slots }
+    requires room { length slots.old.items < 16 }
+    ensures slot { result ≡ slice_index root.now.slots at }
+    ensures appended { BeginsWith slots.new.items (slots.old.items ++ drop at root.now.slots) }
+    ensures more { length slots.old.items < length slots.new.items }
+{
+    let mut walk = root.leaves_at(at);
+    let slot = walk.next().unwrap();
+    slots.push(slot);
+    fill(slots, walk);
+    slot
 }
 
 // Appends the slots of the walk, as far as there is room.
 fn fill(slots: &mut ArrayVec<u32, 16>, mut walk: LeafWalk<'_>)
-    ensures { BeginsWith slots.new.items (slots.old.items ++ walk.entry) }
+    ensures appended { BeginsWith slots.new.items (slots.old.items ++ walk.entry) }
+    ensures more { length slots.old.items ≤ length slots.new.items }
 {
     'fill: while slots.len() < 16 {
         match walk.next() {

@@ -1,11 +1,10 @@
 //! A walk over the slots of an ordered index, from either end. Contracts see the slots that are still to come.
 ghost use Rattle.std.specs.Prelude.{◌≡◌, ◌+◌, ◌<◌, ◌≤◌, drop, length, slice_index, take, ⊤, IfSome};
-ghost use Rattle.iddqd_ord_index.specs.Runs.{BeginsWith};
+ghost use Rattle.iddqd_ord_index.specs.Runs.{BeginsWith, EndsWith};
 ghost use Rattle.std.specs.Iterator.{UpTo, YieldsFirst, YieldsLast, at_most, item_count};
 ghost use Rattle.std.specs.Iterator.SizeHint.{IsWithinCount};
 
-use super::run_cache::RunCache;
-use crate::tree::node::{LeafWalk, Node};
+use crate::tree::node::{LeafWalk, LeafWalkBack, Node};
 use std::alloc::AllocError;
 use std::iter::FusedIterator;
 use std::marker::Model;
@@ -17,21 +16,21 @@ pub struct Walk<'a> {
     root: &'a Node,
     // The slots from the next one on that lie below one node. They may go on past the end.
     leaves: LeafWalk<'a>,
-    // The slots that `next_back` has read last.
-    back: RunCache,
+    // The slots up to the last one that lie below one node. They may begin before the next one.
+    back: LeafWalkBack<'a>,
     next: u32,
     end: u32,
 }
 
 impl<'a> Model for Walk<'a> {
     ghost use Rattle.std.specs.Prelude.{◌≤◌, List, ℕ, drop, length, take};
-    ghost use Rattle.iddqd_ord_index.specs.Runs.{BeginsWith, IsRunOf};
+    ghost use Rattle.iddqd_ord_index.specs.Runs.{BeginsWith, EndsWith};
 
     ghost Value = { List ℕ };
 
     ghost view = { λ w. drop w.next (take w.end w.root.now.slots) };
 
-    ghost invariant = { λ w. (w.next ≤ w.end) × (w.end ≤ length w.root.now.slots) × BeginsWith w.leaves (drop w.next w.root.now.slots) × IsRunOf w.back w.root.now.slots };
+    ghost invariant = { λ w. (w.next ≤ w.end) × (w.end ≤ length w.root.now.slots) × BeginsWith w.leaves (drop w.next w.root.now.slots) × EndsWith w.back (take w.end w.root.now.slots) };
 }
 
 impl<'a> Walk<'a> {
@@ -44,7 +43,7 @@ impl<'a> Walk<'a> {
         Walk {
             root,
             leaves: LeafWalk::along(&[]),
-            back: RunCache::new(),
+            back: LeafWalkBack::along(&[]),
             next: from,
             end: to,
         }
@@ -71,19 +70,54 @@ fn step<'a>(root: &'a Node, leaves: &mut LeafWalk<'a>, at: u32) -> u32
 {
     match leaves.next() {
         Some(slot) => slot,
-        None => descend(root, leaves, at),
+        None => {
+            let (slot, behind) = descend(root, at);
+            *leaves = behind;
+            slot
+        }
     }
 }
 
-// Returns the slot at the position, and leaves a walk that goes on behind it.
+// Returns the slot at the position, and a walk that goes on behind it. By value, so that the caller's walk can stay in registers.
 #[inline(never)]
-fn descend<'a>(root: &'a Node, leaves: &mut LeafWalk<'a>, at: u32) -> u32
+fn descend(root: &Node, at: u32) -> (u32, LeafWalk<'_>)
     requires in_list { at < length root.now.slots }
-    ensures slot { result ≡ slice_index root.now.slots at }
-    ensures there { BeginsWith leaves.new (drop (at + 1) root.now.slots) }
+    ensures slot { result.0 ≡ slice_index root.now.slots at }
+    ensures there { BeginsWith result.1 (drop (at + 1) root.now.slots) }
 {
-    *leaves = root.leaves_at(at);
-    leaves.next().unwrap()
+    let mut leaves = root.leaves_at(at);
+    let slot = leaves.next().unwrap();
+    (slot, leaves)
+}
+
+// Returns the slot at the position, at which the leaves end. It goes down from the root if they are at their front.
+#[inline]
+fn step_back<'a>(root: &'a Node, leaves: &mut LeafWalkBack<'a>, at: u32) -> u32
+    requires in_list { at < length root.now.slots }
+    requires here { EndsWith leaves.old (take (at + 1) root.now.slots) }
+    ensures slot { result ≡ slice_index root.now.slots at }
+    ensures there { EndsWith leaves.new (take at root.now.slots) }
+{
+    match leaves.next() {
+        Some(slot) => slot,
+        None => {
+            let (slot, before) = descend_back(root, at);
+            *leaves = before;
+            slot
+        }
+    }
+}
+
+// Returns the slot at the position, and a walk that goes on before it.
+#[inline(never)]
+fn descend_back(root: &Node, at: u32) -> (u32, LeafWalkBack<'_>)
+    requires in_list { at < length root.now.slots }
+    ensures slot { result.0 ≡ slice_index root.now.slots at }
+    ensures there { EndsWith result.1 (take at root.now.slots) }
+{
+    let mut leaves = root.leaves_before(at);
+    let slot = leaves.next().unwrap();
+    (slot, leaves)
 }
 
 impl Iterator for Walk<'_> {
@@ -116,12 +150,13 @@ impl Iterator for Walk<'_> {
 impl DoubleEndedIterator for Walk<'_> {
     ghost next_back_gives = { YieldsLast (λ w. w) };
 
+    #[inline]
     fn next_back(&mut self) -> Option<u32> {
         if self.end == self.next {
             return None;
         }
         let last = self.end - 1;
-        let slot = self.back.slot_before(self.root, last);
+        let slot = step_back(self.root, &mut self.back, last);
         self.end = last;
         Some(slot)
     }

@@ -14,12 +14,14 @@ mod places;
 mod remove;
 mod remove_by;
 mod walk;
+mod walk_back;
 
 use crate::tree::slots::Slots;
 use arrayvec::ArrayVec;
 pub(crate) use insert_by::Outcome;
 use std::marker::Model;
 pub(crate) use walk::LeafWalk;
+pub(crate) use walk_back::LeafWalkBack;
 
 /// A node: its own slots, and the branches between which they stand. A leaf has no branches.
 #[cycle(tree)]

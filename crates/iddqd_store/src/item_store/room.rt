@@ -1,7 +1,7 @@
 //! Making room for items, and giving it back.
 ghost use Rattle.std.specs.Prelude.{◌≡◌, ◌+◌, ◌<◌, ◌≤◌, ◌↔◌, [], IfOk, IfErr, OnOk, OnErr, Err, min, max};
 ghost use Rattle.iddqd_store.specs.Refusal.{limit_refused, memory_refused, reservation_kind};
-ghost use Rattle.iddqd_store.specs.Store.{store_len, vacant, ExceedsCapacity, ExceedsLimit, HasRoomFor, IsEmptyStore};
+ghost use Rattle.iddqd_store.specs.Store.{store_len, vacant, ExceedsCapacity, ExceedsLimit, FreesUnneeded, HasRoomFor, IsEmptyStore};
 
 use super::ItemStore;
 use crate::errors::TryReserveError;
@@ -85,7 +85,7 @@ impl<T> ItemStore<T> {
         ensures needed { OnErr result (max min_capacity (store_len self.old) < self.old.capacity) }
 
         // on success
-        ensures frees { store_len self.old ≡ 0 → min_capacity ≡ 0 → OnOk result (self.new.capacity ≡ 0) }
+        ensures frees { OnOk result (FreesUnneeded self.old self.new min_capacity) }
 
         // either way
         ensures rest { self.new ≡ record self.old { capacity = self.new.capacity } }

@@ -1,7 +1,7 @@
 //! Insertions by a vacant entry. Each looks at the limit first, then asks for memory, and only then changes anything.
 ghost use Rattle.std.specs.Prelude.{◌≡◌, IfErr, IfOk};
 ghost use Rattle.std.specs.Borrow.{sem};
-ghost use Rattle.iddqd_hash.specs.Entry.{EntersInserted as Enters, EntryHandsBack, LacksKeyOf, LendsInserted as Lends, Vacant, entry_map, entry_lender, entered_or_kept, lent_or_kept};
+ghost use Rattle.iddqd_hash.specs.Entry.{EntersInserted as Enters, EntryHandsBack, LacksKeyOf, LendsInserted as Lends, Vacant, entry_map, entry_lender, entry_or_kept, guard_or_kept};
 ghost use Rattle.iddqd_hash.specs.Guard.{GuardKeeps, GuardKeepsAkin, guard_lender};
 
 use super::{OccupiedEntry, VacantEntry};
@@ -27,7 +27,7 @@ impl<'a, T: IdHashItem, S: BuildHasher> VacantEntry<'a, T, S> {
         ensures keyed_akin { IfOk result (GuardKeepsAkin ⟦<Map<T, S> as Keyed>⟧) }
 
         // on refusal
-        ensures* kept { sem 𝓛 (lent_or_kept S.row T.row ⟦<Map<T, S> as Keyed>⟧ (Vacant self.entry) result) }
+        ensures* kept { sem 𝓛 (guard_or_kept S.row T.row ⟦<Map<T, S> as Keyed>⟧ self.entry result) }
         ensures refused { IfErr result (EntryHandsBack T.key T.Key.eq (Vacant self.entry) item) }
     {
         let VacantEntry { map } = self;
@@ -46,7 +46,7 @@ impl<'a, T: IdHashItem, S: BuildHasher> VacantEntry<'a, T, S> {
         requires keyed { ⟦<Map<T, S> as Keyed>⟧.keyed (entry_map (Vacant self)) }
         requires absent { LacksKeyOf T.key T.Key.eq item (Vacant self) }
         ensures inserted { IfOk result (Enters ⟦<Map<T, S> as Keyed>⟧ item (Vacant self.entry)) }
-        ensures* kept { sem 𝓛 (entered_or_kept S.row T.row ⟦<Map<T, S> as Keyed>⟧ (Vacant self.entry) result) }
+        ensures* kept { sem 𝓛 (entry_or_kept S.row T.row ⟦<Map<T, S> as Keyed>⟧ self.entry result) }
         ensures refused { IfErr result (EntryHandsBack T.key T.Key.eq (Vacant self.entry) item) }
     {
         let VacantEntry { map } = self;

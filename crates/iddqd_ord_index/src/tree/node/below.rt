@@ -234,6 +234,20 @@ impl Branches {
         &nodes[i + 1..block.counts.len()]
     }
 
+    // The branches before the i-th one.
+    pub(super) fn ahead(&self, i: usize) -> &[Option<Node>]
+        requires branches { AreBranches self.now }
+        requires in_bounds { i < length (below self.now) }
+        ensures branches { subtrees result.now ≡ take i (below self.now) }
+        ensures present { length (subtrees result.now) ≡ length result.now }
+    {
+        let Some(block) = &self.block else {
+            unreachable!()
+        };
+        let nodes: &[Option<Node>] = &block.nodes[..];
+        &nodes[..i]
+    }
+
     // The branch that position `at` lies in or right behind, and the position in it.
     pub(super) fn branch_at(&self, at: u32) -> (usize, u32)
         requires branches { AreBranches self.now }

@@ -54,7 +54,7 @@ impl<'a> LeafWalk<'a> {
             }
             None => {
                 let (slot, slots) = self.slots.split_first()?;
-                self.run = first_leaf(self.leaves);
+                self.run = leaf_at(self.leaves, 0);
                 self.slots = slots;
                 self.leaves = &self.leaves[1..];
                 Some(*slot)
@@ -63,13 +63,13 @@ impl<'a> LeafWalk<'a> {
     }
 }
 
-// The slots of the first of these leaves.
-fn first_leaf(leaves: &[Option<Node>]) -> &[u32]
+// The slots of the i-th of these leaves.
+pub(super) fn leaf_at(leaves: &[Option<Node>], i: usize) -> &[u32]
     requires leaves { AreLeaves leaves.now (length leaves.now) }
-    requires some { 0 < length leaves.now }
-    ensures { result.now ≡ (slice_index_or (subtrees leaves.now) 0 unused).slots }
+    requires in_bounds { i < length leaves.now }
+    ensures { result.now ≡ (slice_index_or (subtrees leaves.now) i unused).slots }
 {
-    match &leaves[0] {
+    match &leaves[i] {
         Some(leaf) => leaf.leaf_slots(),
         None => unreachable!(),
     }

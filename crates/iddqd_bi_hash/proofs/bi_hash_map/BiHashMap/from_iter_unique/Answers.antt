@@ -46,7 +46,7 @@ returns-in_err-insert_first g c =
     rw back.1 (record {
       items = tt;
       repeat = shows_first (laws g) c.loop-item.yielded map.items inv.2 differ gives c.in-Some.item _
-          (gives_then g.U.IntoIterator.into_iter_gives g.U.IntoIter.Iterator.next_gives c.args.iter c.loop-item.yielded c.in-Some.item (search rules)) (rw back.2 c.in_err-insert_first.ensures.displaced);
+          (gives_then g.U.IntoIterator.into_iter_gives g.U.IntoIter.Iterator.next_gives c.args.iter c.loop-item.yielded c.in-Some.item (search rules)) (rw back.2 c.in_err-insert_first.ensures.met);
       collected = tt;
     })
 

@@ -20,7 +20,7 @@ loop-item-preserved g c =
     let told = c.in-Ok.ensures in
     let inv = c.loop-item.invariant in
     let goes = on x c.in-Some.is c.next.ensures.goes inv.1 in
-    let put = overwritten key eq x (holding_of between) (holding_of new) inv.3.fills.slots (λ h. ap holding_of h) (λ h. h.takes) back told.put.found told.put.replaced told.put.inserted in (
+    let put = overwritten key eq x (holding_of between) (holding_of new) inv.3.fills.slots (λ h. ap holding_of h) (λ h. h) back told.put.found told.put.replaced told.put.inserted in (
       goes.0,
       goes.1,
       overwrites_last key eq old.limit x c.loop-item.yielded old.items between.items back new.items inv.2
@@ -40,7 +40,7 @@ returns-in-Err g c =
     let kept = c.in-Err.ensures.kept in
     record {
       taken = tt;
-      stopped = tt;
+      stops = tt;
       spare_first = tt;
       not_begun = kept;
       fills = record { fills = fills_kept (holding_of c.args.self.now) (holding_of c.reserve.new.self) c.len.ensures.slots kept.keeps; stays = kept.stays };
@@ -57,7 +57,7 @@ returns-in-Err-insert_overwrite g c =
     let new = c.insert_overwrite.new.self in
     record {
       taken = tt;
-      stopped = (let gave = gives_then g.U.IntoIterator.into_iter_gives g.U.IntoIter.Iterator.next_gives c.args.iter c.loop-item.yielded c.in-Some.item (search rules) in search rules);
+      stops = (let gave = gives_then g.U.IntoIterator.into_iter_gives g.U.IntoIter.Iterator.next_gives c.args.iter c.loop-item.yielded c.in-Some.item (search rules) in search rules);
       spare_first = omega (arith, inv.3.stays.spare.never_less, told.refused.no_spare, ap length kept.keeps.items);
       not_begun = tt;
       fills = record {
@@ -72,7 +72,7 @@ returns g c =
     let inv = c.loop-item.invariant in
     record {
       taken = (c.loop-item.yielded, gives_all g.U.IntoIterator.into_iter_gives g.U.IntoIter.Iterator.next_gives c.args.iter c.loop-item.yielded (search rules), inv.2);
-      stopped = tt;
+      stops = tt;
       spare_first = tt;
       not_begun = tt;
       fills = inv.3;

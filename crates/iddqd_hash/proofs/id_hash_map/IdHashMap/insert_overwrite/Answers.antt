@@ -96,7 +96,7 @@ returns-in_ok-insert_new-in-None g c =
       put = record {
         found = sym absent;
         replaced = tt;
-        inserted = put;
+        inserted = put.takes;
         there = find_inserted (λ z. eq (key c.args.item) (key z)) _ _ c.args.item put.takes.added absent (g.met.T.Key.Eq.laws.refl (key c.args.item));
       };
       refused = tt;

@@ -1,6 +1,6 @@
-use Rattle.std.proofs.Common.{◌∙◌, sym}
+use Rattle.std.proofs.Common.{◌∙◌, ap, length, sym}
 use Rattle.iddqd_hash_parts.proofs.SlotItemLemmas.{length-items}
 use Rattle.iddqd_hash_parts.proofs.iter.Iter.over.Goals as goal
 
 pub invariant_of-result : goal.invariant_of-result
-invariant_of-result g c = c.len.ensures.items ∙ sym (length-items c.args.store.now.slots)
+invariant_of-result g c = c.len.ensures.items ∙ sym (length-items c.args.store.now.slots) ∙ sym (ap length c.items.ensures)

@@ -37,7 +37,7 @@ returns-in-Err g c =
     let kept : KeepsItems old new = record { items = ap (λ m. m.items) rest; slots = ap (λ m. m.slots) rest; vacant = ap (λ m. m.vacant) rest; capacity = c.reserve.ensures.capacity; limit = ap (λ m. m.limit) rest } in
     record {
       taken = tt;
-      stopped = (tt, kept);
+      stops = (tt, kept);
       fills = fills_kept old new c.len.ensures.slots kept;
       keyed = c.reserve.ensures.keyed;
     }
@@ -50,7 +50,7 @@ returns-in-Err-insert_overwrite g c =
     let told = c.in-Err-insert_overwrite.ensures in
     record {
       taken = tt;
-      stopped = (let gave = gives_then g.U.IntoIterator.into_iter_gives g.U.IntoIter.Iterator.next_gives c.args.iter c.loop-item.yielded c.in-Some.item (search rules) in search rules);
+      stops = (let gave = gives_then g.U.IntoIterator.into_iter_gives g.U.IntoIter.Iterator.next_gives c.args.iter c.loop-item.yielded c.in-Some.item (search rules) in search rules);
       fills = fills_on c.args.self.now between new inv.3 (fills_kept between new inv.3.slots told.kept.keeps);
       keyed = told.keyed;
     }
@@ -60,7 +60,7 @@ returns g c =
     let inv = c.loop-item.invariant in
     record {
       taken = (c.loop-item.yielded, gives_all g.U.IntoIterator.into_iter_gives g.U.IntoIter.Iterator.next_gives c.args.iter c.loop-item.yielded (search rules), inv.2);
-      stopped = tt;
+      stops = tt;
       fills = inv.3;
       keyed = inv.4;
     }

@@ -1,5 +1,5 @@
-use Rattle.std.proofs.Common.{◌++◌, drop, ap, sym}
-use Rattle.iddqd_ord_index.proofs.IndexLemmas.{empty_run}
+use Rattle.std.proofs.Common.{◌++◌, drop, take, ap, sym}
+use Rattle.iddqd_ord_index.proofs.BackLemmas.{none_ends}
 use Rattle.iddqd_ord_index.proofs.ord_index.walk.Walk.new.Goals as goal
 
 pub invariant_of-result : goal.invariant_of-result
@@ -9,5 +9,5 @@ invariant_of-result c =
       c.requires.forward,
       c.requires.in_list,
       (rest, sym (ap (λ l. l ++ rest) c.along.ensures)),
-      empty_run c.new.result slots c.new.ensures,
+      none_ends c.along-2.result (take c.args.to slots) c.along-2.ensures,
     )

@@ -19,4 +19,4 @@ returns-in_ok-slot-in-None-clause-some c =
     sym c.self.view_is
     ∙ (ap (λ l. l ++ behind (lists (subtrees w.leaves.now)) w.slots.now) e
     ∙ (next_leaf w.leaves.now slot w.slots.now slots c.self.invariant c.in_ok-slot-in-None.ensures.cases.0
-    ∙ ap (λ l. slot ∷ (l ++ behind (lists (subtrees leaves)) slots)) (sym c.first_leaf-self-inside.ensures)))
+    ∙ ap (λ l. slot ∷ (l ++ behind (lists (subtrees leaves)) slots)) (sym c.leaf_at-self-inside.ensures)))
