@@ -163,8 +163,12 @@ impl Branches {
     pub(super) fn take_block(&mut self) -> Option<Box<Block>>
         requires branches { AreBranches self.old }
         requires none { below self.old ≡ [] }
+
+        // the branches
         ensures branches { AreBranches self.new }
         ensures none { below self.new ≡ [] }
+
+        // the block
         ensures bare { IfSome result (λ block. IsBare block.value) }
         ensures some { HasBlock self.old → IsSome result }
     {
