@@ -23,14 +23,14 @@ pub struct Walk<'a> {
 }
 
 impl<'a> Model for Walk<'a> {
-    ghost use Rattle.std.specs.Prelude.{◌≤◌, List, ℕ, drop, length, take};
-    ghost use Rattle.iddqd_ord_index.specs.Runs.{BeginsWith, EndsWith};
+    ghost use Rattle.std.specs.Prelude.{List, ℕ, drop, take};
+    ghost use Rattle.iddqd_ord_index.specs.Runs.{IsWalkOver};
 
     ghost Value = { List ℕ };
 
     ghost view = { λ w. drop w.next (take w.end w.root.now.slots) };
 
-    ghost invariant = { λ w. (w.next ≤ w.end) × (w.end ≤ length w.root.now.slots) × BeginsWith w.leaves (drop w.next w.root.now.slots) × EndsWith w.back (take w.end w.root.now.slots) };
+    ghost invariant = { λ w. IsWalkOver w.root.now.slots w.next w.end w.leaves w.back };
 }
 
 impl<'a> Walk<'a> {
