@@ -1,7 +1,7 @@
 -- What a write to the item of a slot leaves, of the store and the index, and of the keys.
 --     item_in_slot      the item of a listed slot is what the store has there
 --     lent_paired, lent_items, lent_vacant      the pair of store and index after the write
---     slot_is_at      the slot at a place has the item there
+--     slot_is_at, found_is_at      the slot at a place has the item there
 use Rattle.std.proofs.Common.{◌≡◌, ℕ, zero, suc, ◌∙◌, ⊎_elim, Bool, true, false, cond, List, [], ◌∷◌, ◌<◌, length, get_or, slice_get, subst, Some, IsSome, is_some, refl, sym, ap, arith, true≢false, nat_eq, le_of_suc-le-suc, not-suc-le-zero, suc-le-suc}
 use Rattle.std.proofs.lemmas.Bool.{cases_eq, eqb-true}
 use Rattle.iddqd_ord_index.specs.Listed.{listed_items, AreOccupied}
@@ -71,3 +71,7 @@ module _ {T : Type 0} where
         others = read.others;
         placed = e;
       }
+
+  -- the same of a slot that a search of the index found, for what contracts see of the map
+  pub found_is_at : (seen m : Holding T) (place slot : ℕ) → HaveSlots seen.slots seen.items → seen ≡ m → place < length seen.slots → slice_get seen.slots place ≡ Some slot → IsSlotAt m place slot
+  found_is_at seen m place slot own view lt e = subst (λ m. IsSlotAt m place slot) view (slot_is_at seen place slot own (omega (arith, own.as_many, lt)) e)

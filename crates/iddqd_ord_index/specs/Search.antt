@@ -1,7 +1,7 @@
 -- Where a query stands among keys that ascend (the crate's `Comparable`, and std's `binary_search`).
 use Rattle.std.specs.declared.cmp.Ordering.{Ordering}
 use Rattle.std.specs.declared.cmp.Ordering.TheVariants.{Less, Equal, Greater}
-use Rattle.std.specs.Prelude.{◌≡◌, ℕ, Bool, ◌<◌, ◌≤◌, List, length, Option, Result, MatchResult}
+use Rattle.std.specs.Prelude.{◌≡◌, ℕ, Bool, ◌<◌, ◌≤◌, List, length, slice_get, Option, Some, Result, Ok, Err, MatchResult}
 use Rattle.std.specs.Option.{option_and_then}
 use Rattle.std.specs.List.{AllWithin, HoldsAt}
 use Rattle.std.specs.Ordering.{is_lt}
@@ -18,6 +18,15 @@ IsPlaceAmong compare ks place = MatchResult place
 -- a place of the list, or the one behind it where nothing was found
 abbrev pub IsPlaceIn : List ℕ → Result ℕ ℕ → Type 0
 IsPlaceIn slots place = MatchResult place (λ i. i < length slots) (λ i. i ≤ length slots)
+
+-- the same, of a search that returns the slot as well
+abbrev pub place_of : Result (ℕ × ℕ) ℕ → Result ℕ ℕ
+place_of (Ok found) = Ok found.0
+place_of (Err place) = Err place
+
+-- a place of the list and the slot there
+abbrev pub HasSlotAt : List ℕ → ℕ × ℕ → Type 0
+HasSlotAt slots found = slice_get slots found.0 ≡ Some found.1
 
 -- the place of the slot whose item has the query's key, or the one where it belongs
 abbrev pub FindsPlace : {T K : Type 0} → (T → K) → (K → Ordering) → Store T → List ℕ → Result ℕ ℕ → Type 0

@@ -48,15 +48,12 @@ impl<T: IdOrdItem> IdOrdMap<T> {
         ensures entry { IsEntryFor T.key (Q.equivalent query.now) self.entry result }
         ensures akin { IfSome (entry_item result) (λ x. IsTrue (Q.equivalent query.now (T.key x))) }
     {
-        match self.index.find(&self.store, query, &mut Steps::new()) {
-            Ok(place) => {
-                let slot = self.slot_at(place);
-                Entry::Occupied(OccupiedEntry {
-                    map: self,
-                    slot,
-                    place,
-                })
-            }
+        match self.index.find_slot(&self.store, query, &mut Steps::new()) {
+            Ok((place, slot)) => Entry::Occupied(OccupiedEntry {
+                map: self,
+                slot,
+                place,
+            }),
             Err(_) => Entry::Vacant(VacantEntry { map: self }),
         }
     }

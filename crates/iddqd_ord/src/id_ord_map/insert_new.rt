@@ -72,11 +72,8 @@ impl<T: IdOrdItem> IdOrdMap<T> {
         ensures steps { steps.new ≤ steps.old + 4 + 2 * digits (length self.old.items) }
         ensures never_resets { steps.old ≤ steps.new }
     {
-        match self.index.find(&self.store, item.key(), steps) {
-            Ok(place) => {
-                let slot = self.slot_at(place);
-                Err(Missed::Akin(item, slot))
-            }
+        match self.index.find_slot(&self.store, item.key(), steps) {
+            Ok((_, slot)) => Err(Missed::Akin(item, slot)),
             Err(place) => match self.insert_at(place, item) {
                 Ok(slot) => Ok(slot),
                 Err(refused) => Err(Missed::NoRoom(refused)),

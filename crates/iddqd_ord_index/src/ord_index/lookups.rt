@@ -1,9 +1,9 @@
 //! Lookups: what looks at the keys of items.
-ghost use Rattle.std.specs.Prelude.{◌≡◌, ◌+◌, ◌*◌, ◌<◌, ◌≤◌, length, IfSome, Contains};
+ghost use Rattle.std.specs.Prelude.{◌≡◌, ◌+◌, ◌*◌, ◌<◌, ◌≤◌, length, IfSome, IfOk, Contains};
 ghost use Rattle.iddqd_store.specs.Contents.{Ascends};
 ghost use Rattle.iddqd_ord_index.specs.Digits.{digits};
 ghost use Rattle.iddqd_ord_index.specs.Listed.{listed_items, AreOccupied};
-ghost use Rattle.iddqd_ord_index.specs.Search.{FindsNext, FindsPlace, FindsSlot, IsPlaceIn};
+ghost use Rattle.iddqd_ord_index.specs.Search.{FindsNext, FindsPlace, FindsSlot, HasSlotAt, IsPlaceIn, place_of};
 
 use super::{OrdIndex, Place};
 use iddqd_store::{Comparable, IdOrdItem, ItemStore, Steps};
@@ -28,8 +28,33 @@ impl OrdIndex {
         ensures steps { steps.new ≤ steps.old + 4 + 2 * digits (length self.now.slots) }
         ensures never_resets { steps.old ≤ steps.new }
     {
+        match self.find_slot(store, query, steps) {
+            Ok((place, _)) => Ok(place),
+            Err(place) => Err(place),
+        }
+    }
+
+    /// Returns what `find` returns, and by as many comparisons; with the place of a slot the slot itself.
+    pub fn find_slot<T: IdOrdItem, Q: Comparable<T::Key>>(
+        &self,
+        store: &ItemStore<T>,
+        query: &Q,
+        steps: &mut Steps,
+    ) -> Result<(Place, u32), Place>
+        requires occupied { AreOccupied store.now self.now.slots }
+        requires ascending { Ascends T.key T.Key.cmp (listed_items store.now self.now.slots) }
+
+        // what it finds
+        ensures place { FindsPlace T.key (Q.compare query.now) store.now self.now.slots (place_of result) }
+        ensures in_list { IsPlaceIn self.now.slots (place_of result) }
+        ensures slot { IfOk result (HasSlotAt self.now.slots) }
+
+        // what it costs
+        ensures steps { steps.new ≤ steps.old + 4 + 2 * digits (length self.now.slots) }
+        ensures never_resets { steps.old ≤ steps.new }
+    {
         match self.root.find(store, query, steps) {
-            Ok(position) => Ok(Place { position }),
+            Ok((position, slot)) => Ok((Place { position }, slot)),
             Err(position) => Err(Place { position }),
         }
     }

@@ -1,6 +1,7 @@
 //! Search: by halves in each node on the way down.
-ghost use Rattle.std.specs.Prelude.{◌≡◌, ◌+◌, ◌*◌, ◌^◌, ◌<◌, ◌≤◌, length};
+ghost use Rattle.std.specs.Prelude.{◌≡◌, ◌+◌, ◌*◌, ◌^◌, ◌<◌, ◌≤◌, length, IfOk};
 ghost use Rattle.iddqd_ord_index.specs.Listed.{AreOccupied};
+ghost use Rattle.iddqd_ord_index.specs.Search.{HasSlotAt, place_of};
 ghost use Rattle.iddqd_ord_index.specs.Standing.{StandsAmong, StandsAt, StandsMonotone};
 
 use super::Node;
@@ -8,19 +9,20 @@ use crate::tree::search::search;
 use iddqd_store::{Comparable, IdOrdItem, ItemStore, Steps};
 
 impl Node {
-    // Where the query belongs, by at most four comparisons a level.
+    // Where the query belongs, and the slot there if it equals one, by at most four comparisons a level.
     pub(crate) fn find<T: IdOrdItem, Q: Comparable<T::Key>>(
         &self,
         store: &ItemStore<T>,
         query: &Q,
         steps: &mut Steps,
-    ) -> Result<u32, u32>
+    ) -> Result<(u32, u32), u32>
         requires occupied { AreOccupied store.now self.now.slots }
         requires monotone { StandsMonotone T.key (Q.compare query.now) store.now self.now.slots }
         requires room { length self.now.slots < 2 ^ 32 }
 
         // what it finds
-        ensures place { StandsAt T.key (Q.compare query.now) store.now self.now.slots result }
+        ensures place { StandsAt T.key (Q.compare query.now) store.now self.now.slots (place_of result) }
+        ensures slot { IfOk result (HasSlotAt self.now.slots) }
 
         // what it costs
         ensures steps { steps.new ≤ steps.old + 4 * self.now.height }
@@ -30,7 +32,10 @@ impl Node {
         let mut base = 0;
         'down: while !node.branches.is_empty() {
             match search(node.slots.as_slice(), store, query, steps) {
-                Ok(i) => return Ok(base + node.branches.start(i + 1) - 1),
+                Ok(i) => {
+                    let position = base + node.branches.start(i + 1) - 1;
+                    return Ok((position, node.slots.as_slice()[i]));
+                }
                 Err(i) => {
                     base += node.branches.start(i);
                     node = node.branches.get(i);
@@ -38,7 +43,7 @@ impl Node {
             }
         }
         match search(node.slots.as_slice(), store, query, steps) {
-            Ok(i) => Ok(base + i as u32),
+            Ok(i) => Ok((base + i as u32, node.slots.as_slice()[i])),
             Err(i) => Err(base + i as u32),
         }
     }

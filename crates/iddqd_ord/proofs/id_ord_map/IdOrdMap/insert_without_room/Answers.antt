@@ -3,7 +3,8 @@ use Rattle.std.proofs.lemmas.List.{length-map}
 use Rattle.std.proofs.lemmas.Option.{slice_get-get_or}
 use Rattle.iddqd_store.proofs.QueryLemmas.{OrderedQuery, own_query, place_there, find_nowhere}
 use Rattle.iddqd_ord.proofs.EntryLemmas.{put_item, put_others, put_written}
-use Rattle.iddqd_ord.proofs.StoreAndIndexLemmas.{bound_of}
+use Rattle.iddqd_ord.proofs.GetMutLemmas.{found_is_at}
+use Rattle.iddqd_ord.proofs.StoreAndIndexLemmas.{bound_of, have_slots}
 use Rattle.iddqd_ord.proofs.id_ord_map.IdOrdMap.insert_without_room.Given.{Over}
 use Rattle.iddqd_ord.proofs.id_ord_map.IdOrdMap.insert_without_room.Goals as goal
 
@@ -16,14 +17,14 @@ returns-in-Ok-clause-missed g c =
     let item = c.args.item in
     let items = c.args.self.now.items in
     let m = c.self.inside in
-    let place = c.in-Ok.place in
     let p = rw (ap (λ m. m.items) c.self.view_is, c.key.ensures) at c.in-Ok.ensures.place in
-    let there = slice_get-get_or items place item (omega (arith, p.0, length-map items key)) in (
+    let slot = found_is_at _ c.args.self.now _ _ (have_slots m.store m.index.slots c.self.invariant) c.self.view_is c.in-Ok.ensures.in_list c.in-Ok.ensures.slot in
+    let there = slice_get-get_or items _ item (omega (arith, p.0, length-map items key)) in (
       refl,
       refl,
       _,
-      place_there key (query g (key item)) items c.requires.keyed place p.0 p.1 ∙ there,
-      c.slot_at-slot.ensures.item ∙ there,
+      place_there key (query g (key item)) items c.requires.keyed _ p.0 p.1 ∙ there,
+      slot.item ∙ there,
     )
 
 pub returns-in-Ok-clause-steps : goal.returns-in-Ok-clause-steps
@@ -33,7 +34,7 @@ returns-in-Ok-clause-steps g c =
     let items = c.args.self.now.items in
     let m = c.self.inside in
     let bound = bound_of m.store m.index.slots c.self.invariant items (ap (λ v. v.items) c.self.view_is) in
-    omega (arith, c.find.ensures.steps, bound)
+    omega (arith, c.find_slot.ensures.steps, bound)
 
 pub returns-in-Ok-insert_at-clause-absent : goal.returns-in-Ok-insert_at-clause-absent
 returns-in-Ok-insert_at-clause-absent g c =
@@ -73,7 +74,7 @@ returns-in-Ok-insert_at-clause-steps g c =
     let items = c.args.self.now.items in
     let m = c.self.inside in
     let bound = bound_of m.store m.index.slots c.self.invariant items (ap (λ v. v.items) c.self.view_is) in
-    omega (arith, c.find.ensures.steps, bound)
+    omega (arith, c.find_slot.ensures.steps, bound)
 
 pub returns-in-Err-insert_at-clause-missed : goal.returns-in-Err-insert_at-clause-missed
 returns-in-Err-insert_at-clause-missed g c =
@@ -93,4 +94,4 @@ returns-in-Err-insert_at-clause-steps g c =
     let items = c.args.self.now.items in
     let m = c.self.inside in
     let bound = bound_of m.store m.index.slots c.self.invariant items (ap (λ v. v.items) c.self.view_is) in
-    omega (arith, c.find.ensures.steps, bound)
+    omega (arith, c.find_slot.ensures.steps, bound)

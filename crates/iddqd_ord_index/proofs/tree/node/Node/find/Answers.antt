@@ -1,4 +1,5 @@
-use Rattle.std.proofs.Common.{◌+◌, ◌-◌, Ok, Err, length, take, subst, ap, sym, arith}
+use Rattle.std.proofs.Common.{◌+◌, ◌-◌, ◌∙◌, Some, Ok, Err, length, take, get_or, subst, ap, sym, arith}
+use Rattle.std.proofs.lemmas.Option.{slice_get-get_or}
 use Rattle.std.specs.List.{All}
 use Rattle.iddqd_store.specs.Store.{IsOccupied}
 use Rattle.iddqd_ord_index.specs.Nodes.{below}
@@ -23,8 +24,8 @@ start-requires-clause-room g c =
     let n = inner (slot_standing g.T.IdOrdItem.key (g.Q.Comparable.compare c.args.query.now) c.args.store.now) (IsOccupied c.args.store.now) c.args.self.now.slots (below c.node.inside.branches) c.node.inside.slots.items c.down.base c.down.node.now c.requires.monotone c.requires.occupied c.node.invariant.forked (c.is_empty.ensures.some c.down-test.true) c.node.view_is c.down.invariant.part in
     omega (arith, n.room, c.requires.room)
 
-pub overflow_add-result : goal.overflow_add-result
-overflow_add-result g c =
+pub overflow_add-position : goal.overflow_add-position
+overflow_add-position g c =
     let n = inner (slot_standing g.T.IdOrdItem.key (g.Q.Comparable.compare c.args.query.now) c.args.store.now) (IsOccupied c.args.store.now) c.args.self.now.slots (below c.node.inside.branches) c.node.inside.slots.items c.down.base c.down.node.now c.requires.monotone c.requires.occupied c.node.invariant.forked (c.is_empty.ensures.some c.down-test.true) c.node.view_is c.down.invariant.part in
     let s : IsPlace (slot_standing g.T.IdOrdItem.key (g.Q.Comparable.compare c.args.query.now) c.args.store.now) c.node.inside.slots.items (Ok c.in-Ok.i) = subst (λ l. IsPlace (slot_standing g.T.IdOrdItem.key (g.Q.Comparable.compare c.args.query.now) c.args.store.now) l (Ok c.in-Ok.i)) c.as_slice.ensures.value c.in-Ok.ensures.place in
     omega (arith, n.own_room c.in-Ok.i s.0, c.start.ensures, c.requires.room)
@@ -35,6 +36,13 @@ returns-in-Ok-clause-place g c =
     let s : IsPlace (slot_standing g.T.IdOrdItem.key (g.Q.Comparable.compare c.args.query.now) c.args.store.now) c.node.inside.slots.items (Ok c.in-Ok.i) = subst (λ l. IsPlace (slot_standing g.T.IdOrdItem.key (g.Q.Comparable.compare c.args.query.now) c.args.store.now) l (Ok c.in-Ok.i)) c.as_slice.ensures.value c.in-Ok.ensures.place in
     let o = n.own c.in-Ok.i (c.down.base + c.start.result - 1) s.0 s.1 (omega (arith, n.own_some c.in-Ok.i s.0, c.start.ensures)) in
     (o.0, o.1)
+
+pub returns-in-Ok-clause-slot : goal.returns-in-Ok-clause-slot
+returns-in-Ok-clause-slot g c =
+    let n = inner (slot_standing g.T.IdOrdItem.key (g.Q.Comparable.compare c.args.query.now) c.args.store.now) (IsOccupied c.args.store.now) c.args.self.now.slots (below c.node.inside.branches) c.node.inside.slots.items c.down.base c.down.node.now c.requires.monotone c.requires.occupied c.node.invariant.forked (c.is_empty.ensures.some c.down-test.true) c.node.view_is c.down.invariant.part in
+    let s : IsPlace (slot_standing g.T.IdOrdItem.key (g.Q.Comparable.compare c.args.query.now) c.args.store.now) c.node.inside.slots.items (Ok c.in-Ok.i) = subst (λ l. IsPlace (slot_standing g.T.IdOrdItem.key (g.Q.Comparable.compare c.args.query.now) c.args.store.now) l (Ok c.in-Ok.i)) c.as_slice.ensures.value c.in-Ok.ensures.place in
+    let o = n.own c.in-Ok.i (c.down.base + c.start.result - 1) s.0 s.1 (omega (arith, n.own_some c.in-Ok.i s.0, c.start.ensures)) in
+    slice_get-get_or c.args.self.now.slots (c.down.base + c.start.result - 1) 0 o.0 ∙ ap Some (o.2 ∙ ap (λ l. get_or l c.in-Ok.i 0) (sym c.as_slice-in-Ok.ensures.value))
 
 pub returns-in-Ok-clause-steps : goal.returns-in-Ok-clause-steps
 returns-in-Ok-clause-steps g c =
@@ -73,8 +81,8 @@ search-requires-2-clause-monotone g c =
     let n = leaf (slot_standing g.T.IdOrdItem.key (g.Q.Comparable.compare c.args.query.now) c.args.store.now) (IsOccupied c.args.store.now) c.args.self.now.slots (below c.node.inside.branches) c.node.inside.slots.items c.down.base c.down.node.now c.requires.monotone c.requires.occupied (c.is_empty.ensures.none c.down-test.false) c.node.view_is c.down.invariant.part in
     subst (λ l. IsMonotone (slot_standing g.T.IdOrdItem.key (g.Q.Comparable.compare c.args.query.now) c.args.store.now) l) (sym c.as_slice-2.ensures.value) n.monotone
 
-pub overflow_add-result-in-Ok-search : goal.overflow_add-result-in-Ok-search
-overflow_add-result-in-Ok-search g c =
+pub overflow_add-result : goal.overflow_add-result
+overflow_add-result g c =
     let n = leaf (slot_standing g.T.IdOrdItem.key (g.Q.Comparable.compare c.args.query.now) c.args.store.now) (IsOccupied c.args.store.now) c.args.self.now.slots (below c.node.inside.branches) c.node.inside.slots.items c.down.base c.down.node.now c.requires.monotone c.requires.occupied (c.is_empty.ensures.none c.down-test.false) c.node.view_is c.down.invariant.part in
     let s : IsPlace (slot_standing g.T.IdOrdItem.key (g.Q.Comparable.compare c.args.query.now) c.args.store.now) c.node.inside.slots.items (Ok c.in-Ok-search.i) = subst (λ l. IsPlace (slot_standing g.T.IdOrdItem.key (g.Q.Comparable.compare c.args.query.now) c.args.store.now) l (Ok c.in-Ok-search.i)) c.as_slice-2.ensures.value c.in-Ok-search.ensures.place in
     omega (arith, n.fits, s.0, c.requires.room)
@@ -84,6 +92,12 @@ returns-in-Ok-search-clause-place g c =
     let n = leaf (slot_standing g.T.IdOrdItem.key (g.Q.Comparable.compare c.args.query.now) c.args.store.now) (IsOccupied c.args.store.now) c.args.self.now.slots (below c.node.inside.branches) c.node.inside.slots.items c.down.base c.down.node.now c.requires.monotone c.requires.occupied (c.is_empty.ensures.none c.down-test.false) c.node.view_is c.down.invariant.part in
     let s : IsPlace (slot_standing g.T.IdOrdItem.key (g.Q.Comparable.compare c.args.query.now) c.args.store.now) c.node.inside.slots.items (Ok c.in-Ok-search.i) = subst (λ l. IsPlace (slot_standing g.T.IdOrdItem.key (g.Q.Comparable.compare c.args.query.now) c.args.store.now) l (Ok c.in-Ok-search.i)) c.as_slice-2.ensures.value c.in-Ok-search.ensures.place in
     n.found c.in-Ok-search.i s
+
+pub returns-in-Ok-search-clause-slot : goal.returns-in-Ok-search-clause-slot
+returns-in-Ok-search-clause-slot g c =
+    let n = leaf (slot_standing g.T.IdOrdItem.key (g.Q.Comparable.compare c.args.query.now) c.args.store.now) (IsOccupied c.args.store.now) c.args.self.now.slots (below c.node.inside.branches) c.node.inside.slots.items c.down.base c.down.node.now c.requires.monotone c.requires.occupied (c.is_empty.ensures.none c.down-test.false) c.node.view_is c.down.invariant.part in
+    let s : IsPlace (slot_standing g.T.IdOrdItem.key (g.Q.Comparable.compare c.args.query.now) c.args.store.now) c.node.inside.slots.items (Ok c.in-Ok-search.i) = subst (λ l. IsPlace (slot_standing g.T.IdOrdItem.key (g.Q.Comparable.compare c.args.query.now) c.args.store.now) l (Ok c.in-Ok-search.i)) c.as_slice-2.ensures.value c.in-Ok-search.ensures.place in
+    slice_get-get_or c.args.self.now.slots (c.down.base + c.in-Ok-search.i) 0 (omega (arith, n.fits, s.0)) ∙ ap Some (n.same c.in-Ok-search.i s.0 ∙ ap (λ l. get_or l c.in-Ok-search.i 0) (sym c.as_slice-in-Ok-search.ensures.value))
 
 pub returns-in-Ok-search-clause-steps : goal.returns-in-Ok-search-clause-steps
 returns-in-Ok-search-clause-steps g c =

@@ -3,7 +3,7 @@ use Rattle.iddqd_ord_index.specs.Digits.{digits}
 use Rattle.iddqd_ord_index.specs.Standing.{slot_standing, IsMonotone, IsPlace}
 use Rattle.iddqd_ord_index.proofs.HeightLemmas.{height_bound}
 use Rattle.iddqd_ord_index.proofs.StandingLemmas.{monotone, placed}
-use Rattle.iddqd_ord_index.proofs.ord_index.OrdIndex.find.Goals as goal
+use Rattle.iddqd_ord_index.proofs.ord_index.OrdIndex.find_slot.Goals as goal
 
 pub find-requires-clause-monotone : goal.find-requires-clause-monotone
 find-requires-clause-monotone g c = subst (λ i. IsMonotone (slot_standing g.T.IdOrdItem.key (g.Q.Comparable.compare c.args.query.now) c.args.store.now) i.slots) (sym c.self.view_is) (monotone g.T.IdOrdItem.key (g.Q.Comparable.compare c.args.query.now) c.args.store.now c.args.self.now.slots c.requires.occupied g.met.T.Key.Ord.total (g.met.Q.Comparable.less_above c.args.query.now) (g.met.Q.Comparable.greater_below c.args.query.now) c.requires.ascending)
