@@ -2,7 +2,6 @@
 mod cells;
 pub(crate) mod node;
 pub(crate) mod pool;
-pub(crate) mod rise;
 pub(crate) mod root;
 mod search;
 mod slots;

@@ -7,7 +7,7 @@ ghost use Rattle.iddqd_ord_index.specs.Listed.{listed_items, AreOccupied};
 
 use super::{OrdIndex, Place};
 use crate::tree::node::Outcome;
-use crate::tree::rise::rise;
+use crate::tree::root::rise;
 use iddqd_store::{Comparable, IdOrdItem, ItemStore, Steps};
 
 /// How an insertion by a key ended.

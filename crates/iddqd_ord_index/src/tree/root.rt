@@ -1,9 +1,9 @@
 //! The root of a tree: it rises a level if it is split, and falls one if it has no slot of its own.
-ghost use Rattle.std.specs.Prelude.{◌≡◌, ◌+◌, ◌*◌, ◌^◌, ◌<◌, ◌≤◌, length, insert, remove, slice_index};
+ghost use Rattle.std.specs.Prelude.{◌≡◌, ◌+◌, ◌*◌, ◌^◌, ◌<◌, ◌≤◌, ◌∷◌, ◌++◌, length, insert, remove, slice_index};
 ghost use Rattle.iddqd_ord_index.specs.Changes.{WantsFor};
 ghost use Rattle.iddqd_ord_index.specs.Listed.{AreOccupied};
 ghost use Rattle.iddqd_ord_index.specs.NodeRemoval.{LosesEqual};
-ghost use Rattle.iddqd_ord_index.specs.Shape.{IsDense, most_levels};
+ghost use Rattle.iddqd_ord_index.specs.Shape.{IsBranch, IsDense, most_levels};
 ghost use Rattle.iddqd_ord_index.specs.Standing.{StandsMonotone};
 
 use super::node::Node;
@@ -41,10 +41,29 @@ pub(crate) fn add(
     let Some((middle, upper)) = root.add(at, slot, pool) else {
         return levels;
     };
+    rise(root, len, middle, upper, pool);
+    levels + 1
+}
+
+// Makes a root above the halves of the one that was split. `total` is how many slots both have, without `middle`.
+pub(crate) fn rise(root: &mut Node, total: u32, middle: u32, upper: Node, pool: &mut BlockPool)
+    requires lower { IsBranch (root.old.height + 1) root.old }
+    requires upper { IsBranch (root.old.height + 1) upper }
+    requires total { total ≡ length root.old.slots + length upper.slots }
+    requires enough { 0 < pool.old.count }
+
+    // the tree
+    ensures slots { root.new.slots ≡ root.old.slots ++ middle ∷ upper.slots }
+    ensures height { root.new.height ≡ root.old.height + 1 }
+    ensures width { root.new.width ≡ 1 }
+
+    // the blocks
+    ensures dense { IsDense root.new }
+    ensures pool { (pool.new.wanted ≡ pool.old.wanted) × (pool.new.room ≡ pool.old.room) }
+{
     let above = upper.len();
     let lower = mem::replace(root, Node::new());
-    root.make_root(pool.take(), lower, len - above, middle, upper, above);
-    levels + 1
+    root.make_root(pool.take(), lower, total - above, middle, upper, above);
 }
 
 // Removes the slot at the position, and returns it with the number of levels. If the root falls, there are as many
