@@ -10,8 +10,8 @@ use iddqd_store::IdHashItem;
 use std::hash::BuildHasher;
 
 impl<T: IdHashItem, S: BuildHasher> IdHashMap<T, S> {
-    /// Returns a walk that lends each item once. The map stays keyed unless you change an item's key. Hashes nothing
-    /// and compares no keys. Does not allocate.
+    /// Returns a walk over the items, in no particular order, that lends each once. The map stays keyed unless you
+    /// change an item's key. Hashes nothing and compares no keys. Does not allocate.
     #[inline]
     pub fn iter_mut(&mut self) -> IterMut<'_, T, S>
         requires keyed { ⟦<Self as Keyed>⟧.keyed self.old }
@@ -28,7 +28,7 @@ impl<T: IdHashItem, S: BuildHasher> IdHashMap<T, S> {
 }
 
 impl<T, S> IterMut<'_, T, S> {
-    /// The number of items to come.
+    /// Returns the number of items to come.
     #[inline]
     pub fn len(&self) -> usize
         ensures { result ≡ length (walk_map self.now).items - walk_done self.now }
