@@ -3,7 +3,7 @@
 use Rattle.std.specs.Prelude.{ℕ, ◌/◌, ◌<◌, ◌≤◌, ◌^◌, ◌↔◌}
 use Rattle.std.proofs.Common.{zero, suc}
 
--- the same, at most so many
+-- the same, at most this many
 abbrev pub digits_within : ℕ → ℕ → ℕ
 digits_within zero n = zero
 digits_within (suc most) zero = zero
