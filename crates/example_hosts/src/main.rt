@@ -1,6 +1,6 @@
 //! Hosts by name and by address, read from lines of standard input, a name and an address each. It relies on this
-//! promise: a line is refused exactly if a host has its name or its address, and the hosts that it meets are shown, one
-//! or two, while nothing has changed. A lookup by either finds the host of the line.
+//! promise: a line is refused exactly if a host has its name or its address. Then nothing has changed, and the hosts
+//! that it meets are shown, one or two. A lookup by either finds the host of the line.
 #![tactic(auto)]
 
 ghost use Rattle.std.specs.Prelude.{◌≡◌, List, option_copied};

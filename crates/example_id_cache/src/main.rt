@@ -1,6 +1,6 @@
-//! A cache of three entries, found by id over a hasher that strangers cannot foresee; a new entry replaces the
-//! oldest. It relies on this promise: an insertion that is refused leaves the map as it was, so an entry is in both
-//! maps or in neither.
+//! A cache of three entries, found by id over a hasher that strangers cannot foresee; a new entry replaces the oldest.
+//! It relies on this promise: an insertion that is refused leaves the map as it was. So an entry is in both maps or in
+//! neither.
 #![tactic(auto)]
 
 ghost use Rattle.std.specs.Prelude.{List, ◌≡◌, IfSome, IsTrue, slice_get, drop, false};

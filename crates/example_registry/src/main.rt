@@ -28,8 +28,8 @@ impl IdHashItem for Guest {
     }
 }
 
-/// Counts a visit: one more if the sign is known, which is spelled as this one from now on, and else the first. It returns
-/// the count, or `None` if there was no room. Its contract took no line of proof.
+/// Counts a visit: one more if the sign is known, which is spelled as this one from now on, and else the first. It
+/// returns the count, or `None` if there was no room. Its contract took no line of proof.
 fn visit(guests: &mut IdHashMap<Guest>, sign: Sign) -> Option<u32>
     requires keyed { ⟦<IdHashMap<Guest> as Keyed>⟧.keyed guests.old }
     ensures again { VisitsAgain sign guests.old.items guests.new.items result }

@@ -43,7 +43,7 @@ impl Model for Settings {
     ghost invariant = { λ all. IsKeyedByText (λ s. s.name) all.0 };
 }
 
-/// Adds the setting. Where its name is there, returns the setting and the value that is there. Its contract took no line of proof.
+/// Adds the setting. If its name exists, returns it and the existing value. Its contract took no line of proof.
 fn add(all: &mut Settings, setting: Setting) -> Result<Option<(Setting, u32)>, TryReserveError>
     ensures added { IfOk result (λ known. IfNone known (AddsItem setting all.old all.new)) }
     ensures new { IfOk result (λ known. IfSome known (λ both. both.0 ≡ setting)) }

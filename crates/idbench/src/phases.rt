@@ -20,7 +20,7 @@ pub(crate) const CALLS: [&str; 8] = [
 /// The phases of walks, of `retain`, and of ascending insertions and `pop_first`, which ordered maps alone have.
 pub(crate) const WALKS: [&str; 5] = ["iter_mut", "into_iter", "ascending", "pop_first", "retain"];
 
-/// The numbers of one size: those that go in, those that come later, and the order in which both are asked for.
+/// The numbers of one size: those that are inserted, those that come later, and the order in which both are asked for.
 #[derive(Drop)]
 pub(crate) struct Plan {
     size: u64,
@@ -100,7 +100,7 @@ impl Plan {
         Ok(keys)
     }
 
-    // What goes in for these numbers, each this much above, in another order.
+    // What is inserted for these numbers, each this much above, in another order.
     fn loads<S: Subject>(&self, alloc: Global, above: u64) -> Result<Vec<S::Load>, AllocError> {
         let mut loads = Vec::with_capacity(alloc, self.shuffled.len())?;
         for number in self.shuffled.as_slice().iter().rev() {
@@ -120,7 +120,7 @@ pub(crate) fn nanos_since(clock: &impl Clock, start: Instant) -> io::Result<u64>
     )
 }
 
-// How many of them went in.
+// How many of them were inserted.
 fn put_all<S: Subject>(map: &mut S, loads: Vec<S::Load>) -> u64 {
     let mut count = 0u64;
     for load in loads {
@@ -149,7 +149,7 @@ fn take_all<S: Subject>(map: &mut S, keys: &[S::Key]) -> u64 {
     found
 }
 
-// Takes one item out and puts another in, again and again: the sum of the values that are taken out.
+// Removes one item and inserts another, again and again: the sum of the values that are removed.
 fn churn<S: Subject>(map: &mut S, keys: &[S::Key], loads: Vec<S::Load>) -> u64 {
     let mut found = 0u64;
     for (key, load) in keys.iter().zip(loads) {
@@ -161,7 +161,7 @@ fn churn<S: Subject>(map: &mut S, keys: &[S::Key], loads: Vec<S::Load>) -> u64 {
     found
 }
 
-// The nanoseconds of the same insertions into a map that has room for all, and how many went in.
+// The nanoseconds of the same insertions into a map that has room for all, and how many were inserted.
 fn put_reserved<S: Subject>(
     clock: &impl Clock,
     alloc: Global,
@@ -193,7 +193,7 @@ fn walked<S: Subject>(clock: &impl Clock, map: &S) -> io::Result<(u64, u64, u64)
     Ok((walk, clone, sum.wrapping_add(copied as u64)))
 }
 
-// The nanoseconds of the insertions, and how many went in.
+// The nanoseconds of the insertions, and how many were inserted.
 fn put_in<S: Subject>(
     clock: &impl Clock,
     map: &mut S,
@@ -298,7 +298,7 @@ fn moved_out<S: Subject>(
     Ok((nanos_since(clock, start)?, loads))
 }
 
-// The sum of the values of so many items, each removed from the front.
+// The sum of the values of this many items, each removed from the front.
 fn pop_all<S: Subject>(map: &mut S, size: usize) -> u64 {
     let mut found = 0u64;
     for _ in 0..size {

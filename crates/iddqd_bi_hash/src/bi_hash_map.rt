@@ -87,7 +87,7 @@ impl<T: BiHashItem, S: BuildHasher> Keyed for BiHashMap<T, S> {
 impl<T, S> BiHashMap<T, S> {
     ghost use Rattle.iddqd_bi_hash.specs.BiHashMap.{SpareFits};
 
-    /// The number of items, in constant time.
+    /// Returns the number of items, in constant time.
     #[inline]
     pub fn len(&self) -> usize
         ensures len { result ≡ length self.now.items }
@@ -98,7 +98,7 @@ impl<T, S> BiHashMap<T, S> {
         self.store.len()
     }
 
-    /// Whether the map has no items.
+    /// Returns true if the map has no items.
     #[inline]
     pub fn is_empty(&self) -> bool
         ensures { IsTrue result ↔ (self.now.items ≡ []) }
@@ -106,7 +106,7 @@ impl<T, S> BiHashMap<T, S> {
         self.len() == 0
     }
 
-    /// The number of items that the store holds before it allocates.
+    /// Returns the number of items that fit before the store allocates.
     #[inline]
     pub fn capacity(&self) -> usize
         ensures number { result ≡ self.now.capacity }
@@ -115,7 +115,7 @@ impl<T, S> BiHashMap<T, S> {
         self.store.capacity()
     }
 
-    /// The number of items with new keys that the map accepts without a refusal, in constant time.
+    /// Returns the number of items with new keys that the map accepts without a refusal, in constant time.
     #[inline]
     pub fn spare(&self) -> usize
         ensures number { result ≡ self.now.spare }
@@ -126,7 +126,7 @@ impl<T, S> BiHashMap<T, S> {
         self.index1.spare().min(self.index2.spare()).min(in_store)
     }
 
-    /// The number of slots that removed items have left vacant, in constant time.
+    /// Returns the number of vacant slots, which removed items left, in constant time.
     #[inline]
     pub fn vacant(&self) -> u32
         ensures { result ≡ self.now.vacant }
@@ -134,7 +134,7 @@ impl<T, S> BiHashMap<T, S> {
         self.store.vacant()
     }
 
-    /// The most items that the map ever holds.
+    /// Returns the greatest number of items that the map can hold.
     #[inline]
     pub fn limit(&self) -> u32
         ensures { result ≡ self.now.limit }
@@ -146,7 +146,7 @@ impl<T, S> BiHashMap<T, S> {
 impl<T: BiHashItem> BiHashMap<T> {
     ghost use Rattle.iddqd_bi_hash.specs.BiHashMap.{IsEmptyMap};
 
-    /// Makes a map without items, over the default hasher. Does not allocate.
+    /// Returns a map without items, over the default hasher. Does not allocate.
     pub fn new(alloc: Global) -> Self
         ensures empty { IsEmptyMap MAX_ITEMS result }
         ensures keyed { ⟦<Self as Keyed>⟧.keyed result }
@@ -159,7 +159,7 @@ impl<T: BiHashItem, S: BuildHasher> BiHashMap<T, S> {
     ghost use Rattle.iddqd_bi_hash.specs.BiHashMap.{BiStays, IsEmptyMap};
     ghost use Rattle.iddqd_bi_hash.specs.StoreAndIndexes.{empty_bi_map_of};
 
-    /// Makes a map without items, over this hasher. Does not allocate.
+    /// Returns a map without items, over this hasher. Does not allocate.
     pub fn with_hasher(alloc: Global, hasher: S) -> Self
         ensures empty { IsEmptyMap MAX_ITEMS result }
         ensures hasher { result.hasher ≡ hasher }
@@ -168,7 +168,7 @@ impl<T: BiHashItem, S: BuildHasher> BiHashMap<T, S> {
         BiHashMap::with_limit(alloc, MAX_ITEMS, hasher)
     }
 
-    /// Makes a map without items that never holds more than `limit`. Does not allocate.
+    /// Returns a map without items that never holds more than `limit`. Does not allocate.
     pub fn with_limit(alloc: Global, limit: u32, hasher: S) -> Self
         ensures empty { IsEmptyMap limit result }
         ensures hasher { result.hasher ≡ hasher }
@@ -199,7 +199,7 @@ impl<T: BiHashItem, S: BuildHasher> BiHashMap<T, S> {
         }
     }
 
-    /// Drops every item, and leaves no slot. The capacity stays, and the room of the items is spare again. Does not
+    /// Drops every item and every slot, and keeps the capacity. The room of the items is spare again. Does not
     /// allocate.
     pub fn clear(&mut self)
     where

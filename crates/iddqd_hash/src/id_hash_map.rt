@@ -93,7 +93,7 @@ impl<T: IdHashItem, S: BuildHasher> Keyed for IdHashMap<T, S> {
 impl<T, S> IdHashMap<T, S> {
     ghost use Rattle.iddqd_hash.specs.HashMap.{SpareFits};
 
-    /// The number of items, in constant time.
+    /// Returns the number of items, in constant time.
     #[inline]
     pub fn len(&self) -> usize
         ensures len { result ≡ length self.now.items }
@@ -104,7 +104,7 @@ impl<T, S> IdHashMap<T, S> {
         self.store.len()
     }
 
-    /// Whether the map has no items.
+    /// Returns true if the map has no items.
     #[inline]
     pub fn is_empty(&self) -> bool
         ensures { IsTrue result ↔ (self.now.items ≡ []) }
@@ -112,7 +112,7 @@ impl<T, S> IdHashMap<T, S> {
         self.len() == 0
     }
 
-    /// The number of items that the store holds before it allocates.
+    /// Returns the number of items that fit before the store allocates.
     #[inline]
     pub fn capacity(&self) -> usize
         ensures number { result ≡ self.now.capacity }
@@ -121,7 +121,7 @@ impl<T, S> IdHashMap<T, S> {
         self.store.capacity()
     }
 
-    /// The number of new keys that the map accepts without a refusal, in constant time (ours).
+    /// Returns the number of new keys that the map accepts without a refusal, in constant time.
     #[inline]
     pub fn spare(&self) -> usize
         ensures number { result ≡ self.now.spare }
@@ -132,7 +132,7 @@ impl<T, S> IdHashMap<T, S> {
         self.index.spare().min(in_store)
     }
 
-    /// The number of slots that removed items have left vacant, in constant time (ours).
+    /// Returns the number of vacant slots, which removed items left, in constant time.
     #[inline]
     pub fn vacant(&self) -> u32
         ensures { result ≡ self.now.vacant }
@@ -140,7 +140,7 @@ impl<T, S> IdHashMap<T, S> {
         self.store.vacant()
     }
 
-    /// The most items that the map ever holds (ours).
+    /// Returns the greatest number of items that the map can hold.
     #[inline]
     pub fn limit(&self) -> u32
         ensures { result ≡ self.now.limit }
@@ -152,7 +152,7 @@ impl<T, S> IdHashMap<T, S> {
 impl<T: IdHashItem> IdHashMap<T> {
     ghost use Rattle.iddqd_hash.specs.HashMap.{IsEmptyMap};
 
-    /// Makes a map without items, over the default hasher. Does not allocate.
+    /// Returns a map without items, over the default hasher. Does not allocate.
     pub fn new(alloc: Global) -> Self
         ensures empty { IsEmptyMap MAX_ITEMS result }
         ensures keyed { ⟦<Self as Keyed>⟧.keyed result }
@@ -165,7 +165,7 @@ impl<T: IdHashItem, S: BuildHasher> IdHashMap<T, S> {
     ghost use Rattle.iddqd_hash.specs.HashMap.{HashStays, IsEmptyMap};
     ghost use Rattle.iddqd_hash_parts.specs.StoreAndIndex.{empty_map_of};
 
-    /// Makes a map without items, over this hasher. Does not allocate.
+    /// Returns a map without items, over this hasher. Does not allocate.
     pub fn with_hasher(alloc: Global, hasher: S) -> Self
         ensures empty { IsEmptyMap MAX_ITEMS result }
         ensures hasher { result.hasher ≡ hasher }
@@ -174,7 +174,7 @@ impl<T: IdHashItem, S: BuildHasher> IdHashMap<T, S> {
         IdHashMap::with_limit(alloc, MAX_ITEMS, hasher)
     }
 
-    /// Makes a map without items that never holds more than `limit` (ours). Does not allocate.
+    /// Returns a map without items that never holds more than `limit`. Does not allocate.
     pub fn with_limit(alloc: Global, limit: u32, hasher: S) -> Self
         ensures empty { IsEmptyMap limit result }
         ensures hasher { result.hasher ≡ hasher }
@@ -198,7 +198,7 @@ impl<T: IdHashItem, S: BuildHasher> IdHashMap<T, S> {
         }
     }
 
-    /// Drops every item, and leaves no slot. The capacity stays, and the room of the items is spare again. Does not
+    /// Drops every item and every slot, and keeps the capacity. The room of the items is spare again. Does not
     /// allocate.
     pub fn clear(&mut self)
     where

@@ -23,12 +23,12 @@ use regroup::{MOST_ROOM, groups_for, regrouped, room_of};
 use std::alloc::{AllocError, Global};
 use std::marker::Model;
 
-/// Pairs of a hash and a slot, each slot once. It computes no hash, and only `find` and `find_by` look at items. Contracts see
-/// the pairs, in no order, and how many more can be added.
-/// The pairs are in groups of twelve lanes, with room for nine pairs in each group on average, so a pair takes 18
-/// bytes. A group has the tags of its lanes, and the pairs lie apart. The hash chooses the group where a search
-/// begins, its home. A pair that finds a group full goes to the next. A removal leaves nothing behind, and a growth
-/// reads the stored hashes.
+/// Pairs of a hash and a slot, each slot once. It computes no hash, and only `find` and `find_by` look at items.
+/// Contracts see the pairs, in no order, and how many more can be added.
+/// The pairs are in groups of twelve lanes, with room for nine pairs in each group on average. So a pair takes 18 bytes
+/// if all room is used. A group has the tags of its lanes, and the pairs lie apart. The hash chooses the group where a
+/// search begins, its home. A pair that finds a group full goes to the next. A removal leaves nothing behind, and a
+/// growth reads the stored hashes.
 #[derive(Drop)]
 pub struct HashIndex {
     groups: Vec<Group>,

@@ -1,5 +1,5 @@
 -- The slots of a hash map rise: where one stands among them, and what is left without it.
---     below_behind      so many slots lie below the number behind the n-th
+--     below_behind      n slots lie below the number behind the n-th
 --     first_from, none_from      the first slot from a number on
 --     slot_removed      the numbers and the items without a slot
 --     below_removed      how many lie below, when one of them has gone

@@ -1,5 +1,5 @@
 //! What a lookup requires of a map.
-/// What a lookup requires of a map, for contracts to cite (ours). It has no code.
+/// What a lookup requires of a map, for contracts to cite. It has no code.
 pub trait Keyed {
     ghost use Rattle.std.specs.Prelude.{ℕ};
     ghost use Rattle.std.specs.Hash.{HashWrites};

@@ -34,7 +34,7 @@ digits_least (suc k) n h = ⊎_elim (λ e. rw e (omega (arith, digits-zero))) (�
 doubled : (n k : ℕ) → n / 2 < 2 ^ k → n < 2 ^ suc k
 doubled n k h = omega arith
 
--- and so many do
+-- the digits of n suffice
 pub below_digits_within : (f n : ℕ) → n ≤ f → n < 2 ^ digits n
 below_digits_within zero n h = let e : n ≡ 0 = omega arith in rw e (rw digits-zero (omega arith))
 below_digits_within (suc f) n h = ⊎_elim

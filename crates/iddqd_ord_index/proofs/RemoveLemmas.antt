@@ -182,7 +182,7 @@ given_or_kept h old new n m le kept given =
       | inr ge ↦ (let e = kept (omega arith) in (omega (arith, ap (λ s. s.count) e), ap (λ s. s.wanted) e, ap (λ s. s.room) e))
     ]
 
--- where one more is given back, after so many that are kept as long as they are wanted, one more is kept
+-- if one more is given back, after this many that are kept as long as they are wanted, one more is kept
 one_more_back : (old new : Stock) (many : ℕ) → IsGivenBack old new → min many old.wanted ≤ old.count → min (many + 1) old.wanted ≤ new.count
 one_more_back old new many e enough =
     subst (λ n. min (many + 1) old.wanted ≤ n) (sym e.count) (by (ltb old.count old.wanted) refl)

@@ -55,7 +55,7 @@ pub record Stock : Type 0 where
   pub wanted : ℕ
   pub room : ℕ
 
--- a tree of so many levels wants as many blocks: one for each split of an inner node, and one for a new root
+-- a tree of this many levels wants as many blocks: one for each split of an inner node, and one for a new root
 abbrev pub WantsFor : ℕ → Stock → Type 0
 WantsFor levels s = (s.wanted ≡ levels) × (levels ≤ s.room)
 
@@ -65,7 +65,7 @@ pub record IsTaken (old new : Stock) : Type 0 where
   pub wanted : new.wanted ≡ old.wanted
   pub room : new.room ≡ old.room
 
--- so many are there and wanted, and there is room for one more
+-- this many blocks are there and wanted, and there is room for one more
 abbrev pub IsFilled : ℕ → Stock → Type 0
 IsFilled wanted s = (wanted ≤ s.count) × (wanted < s.room) × (s.wanted ≡ wanted)
 

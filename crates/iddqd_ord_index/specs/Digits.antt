@@ -1,9 +1,9 @@
--- How many binary digits a number has; ours, for the bound on a lookup's comparisons.
+-- How many binary digits a number has, for the bound on a lookup's comparisons.
 --     digits n      the least k with n < 2 ^ k, so none for 0 (`laws::digits_are_least`)
 use Rattle.std.specs.Prelude.{ℕ, ◌/◌, ◌<◌, ◌≤◌, ◌^◌, ◌↔◌}
 use Rattle.std.proofs.Common.{zero, suc}
 
--- the same, at most so many
+-- the same, at most this many
 abbrev pub digits_within : ℕ → ℕ → ℕ
 digits_within zero n = zero
 digits_within (suc most) zero = zero

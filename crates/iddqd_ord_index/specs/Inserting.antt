@@ -1,5 +1,5 @@
 -- How an insertion by a key ends.
---     IfFound, OnInserted, IfUnprepared      what holds if an item has the key, if the slot was inserted, if a node is needed
+--     IfFound, OnInserted, IfUnprepared      what holds if an item has the key, if the slot was inserted, if a full leaf may not be split
 --     BelongsIn      the place where a query belongs
 --     FindsIn, InsertsIn, ReturnsPlace      what each end of an insertion says: the slot of the key's item, an insertion, the place
 --     KeepsUnlessInserted old new result      nothing has changed but by an insertion
@@ -29,7 +29,7 @@ OnInserted (Found slot) P = Unit
 OnInserted Inserted P = P
 OnInserted (Unprepared place) P = Unit
 
--- what holds of the place if a node is needed
+-- what holds of the place if a full leaf may not be split
 abbrev pub IfUnprepared : Insertion → (ℕ → Type 0) → Type 0
 IfUnprepared (Found slot) P = Unit
 IfUnprepared Inserted P = Unit
@@ -49,7 +49,7 @@ module _ {T K : Type 0} (key : T → K) where
   InsertsIn compare store slot old new result =
       OnInserted result ((place : ℕ) × BelongsIn compare store old.slots place × (new ≡ unprepared (insert old.slots place slot)))
 
-  -- if a node is needed, it returns the place where the query belongs
+  -- if a full leaf may not be split, it returns the place where the query belongs
   abbrev pub ReturnsPlace : (K → Ordering) → Store T → List ℕ → Insertion → Type 0
   ReturnsPlace compare store slots result = IfUnprepared result (BelongsIn compare store slots)
 
@@ -59,7 +59,7 @@ KeepsUnlessInserted old new (Found slot) = new ≡ old
 KeepsUnlessInserted old new Inserted = Unit
 KeepsUnlessInserted old new (Unprepared place) = new ≡ old
 
--- so many unused blocks are there, and room for one more
+-- this many unused blocks are there, and room for one more
 abbrev pub HasFor : ℕ → Stock → Type 0
 HasFor wanted s = (wanted ≤ s.count) × (wanted < s.room)
 

@@ -70,7 +70,7 @@ pub record IsNode (n : Inside) : Type 0 where
   pub branches : AreBranches n.branches
   pub forked : IsForked (below n.branches) n.slots.items
 
--- so many leaves, one in each cell
+-- this many leaves, one in each cell
 pub record AreLeaves (os : List (Option Node)) (n : ℕ) : Type 0 where
   pub cells : length os ≡ n
   pub present : length (subtrees os) ≡ n

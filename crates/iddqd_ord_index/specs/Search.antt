@@ -1,4 +1,4 @@
--- Where a query stands among keys that ascend (the crate's `Comparable`, and std's `binary_search`).
+-- Where a query stands among keys that ascend (`Comparable` of the Rust crate, and std's `binary_search`).
 use Rattle.std.specs.declared.cmp.Ordering.{Ordering}
 use Rattle.std.specs.declared.cmp.Ordering.TheVariants.{Less, Equal, Greater}
 use Rattle.std.specs.Prelude.{◌≡◌, ℕ, Bool, ◌<◌, ◌≤◌, List, length, slice_get, Option, Some, Result, Ok, Err, MatchResult}

@@ -58,7 +58,7 @@ pub struct OrdIndex {
     len: u32,
     levels: usize,
     pool: BlockPool,
-    // Whether an insertion needs no memory.
+    // Whether an insertion does not allocate.
     prepared: bool,
     // The slots that `slot_in_turn` has read last.
     cache: RunCache,
@@ -101,7 +101,7 @@ impl OrdIndex {
         self.len
     }
 
-    /// Returns the place of this position: of the slot with so many before it, or the one behind the last slot. A
+    /// Returns the place of this position: of the slot with this many before it, or the one behind the last slot. A
     /// place is only a number. One from before a change means that position in the list as it is now.
     pub fn place(&self, at: usize) -> Place
         requires { at ≤ length self.now.slots }

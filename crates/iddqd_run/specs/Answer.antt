@@ -49,7 +49,7 @@ how_many_fit (pair ∷ pairs) entries = option_map_or (λ _. 0) (entry_named (na
 abbrev pub lacks_room : List Entry → List Entry → Bool
 lacks_room pairs entries = nat_lt max_items (length entries + room_to_reserve (length entries) (length pairs))
 
--- how many of the pairs `addall` puts in
+-- how many of the pairs `addall` inserts
 abbrev pub how_many_added : List Entry → List Entry → ℕ
 how_many_added pairs entries = if lacks_room pairs entries then 0 else how_many_fit pairs entries
 

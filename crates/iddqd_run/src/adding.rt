@@ -13,7 +13,7 @@ use idtable_lines::{Pair, first_pair};
 use std::alloc::{AllocError, Global};
 
 impl<M: ByName<Item = Entry, Key = String>> Table<M> {
-    /// `addall`: makes all entries, and then puts them in one after the other.
+    /// `addall`: makes all entries, and then inserts them one after the other.
     pub(crate) fn add_all(
         &mut self,
         alloc: Global,
@@ -29,7 +29,7 @@ impl<M: ByName<Item = Entry, Key = String>> Table<M> {
         }
     }
 
-    // Puts the entries in, one after the other, up to one whose name is there by then, or a full map.
+    // Inserts the entries, one after the other, up to one whose name is there by then, or a full map.
     fn add_entries(&mut self, entries: Vec<Entry>, text: &mut String) -> Result<u64, AllocError>
         ensures { IfOk result (AddsEach M.kind entries.items self.old self.new text.old text.new) }
     {

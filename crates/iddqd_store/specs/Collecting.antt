@@ -21,8 +21,8 @@ use Rattle.iddqd_store.specs.declared.errors.ExtendError.{ExtendError}
 use Rattle.iddqd_store.specs.declared.errors.FromIterError.{FromIterError}
 use Rattle.iddqd_store.specs.declared.gives.Gives as gives
 
--- for how many items room is reserved, if so many are in the map and so many are announced: all of them in a map without items,
--- and half of them, rounded up, in another
+-- for how many items room is reserved, by how many are in the map and how many are announced: all of these in a map
+-- without items, and half of them, rounded up, in another
 abbrev pub room_to_reserve : (there coming : ℕ) → ℕ
 room_to_reserve there coming = if there == 0 then coming else (coming + 1) / 2
 

@@ -29,11 +29,12 @@ memory_refused = record { kind = AllocError }
 abbrev pub refusal_kind : {T : Type 0} → ℕ → List T → RefusalKind
 refusal_kind limit items = if length items == limit then limit_refused else memory_refused
 
--- the kind of a refused reservation of room for so many items in all: the limit if it is below them, and else memory (`reserve`)
+-- the kind of a refused reservation of room for this many items in all: the limit if it is below them, and else memory
+-- (`reserve`)
 abbrev pub reservation_kind : ℕ → ℕ → RefusalKind
 reservation_kind limit wanted = if nat_lt limit wanted then limit_refused else memory_refused
 
--- why room for so many items in all was refused
+-- why room for this many items in all was refused
 abbrev pub IsKindOf : ℕ → ℕ → RefusalKind → Type 0
 IsKindOf limit wanted kind = kind ≡ reservation_kind limit wanted
 

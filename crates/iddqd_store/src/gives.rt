@@ -1,7 +1,7 @@
 //! What an iterable gives.
 ghost use Rattle.std.specs.Prelude.{List};
 
-/// What an iterable gives, for contracts to cite (ours). It has no code.
+/// What an iterable gives, for contracts to cite. It has no code.
 pub trait Gives {
     /// What it gives.
     type Given;

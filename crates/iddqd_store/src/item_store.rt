@@ -20,9 +20,9 @@ pub use walk::Items;
 /// The most items that a map can hold: one for each slot number, but for the last, which stands for no slot.
 pub const MAX_ITEMS: u32 = u32::MAX;
 
-/// Items in numbered slots. An item stays in its slot until it is removed or moved to a lower one, and the slot of
-/// a removed item is used again. Contracts see the list of the slots, each with its item or vacant, the capacity
-/// and the limit.
+/// Items in numbered slots. An item stays in its slot until it is removed or moved to a lower one. The slot of a
+/// removed item is used again. Contracts see the list of the slots, each with its item or vacant, the capacity and the
+/// limit.
 #[derive(Drop)]
 pub struct ItemStore<T> {
     slots: Vec<Slot<T>>,

@@ -1,7 +1,7 @@
 -- Many items are put in, one after the other, up to the first that is not.
 --     stays_on      what two calls after one another leave
 --     absent_before      of items that differ in their keys, none before x has its key
---     as_many      so many were put in as there are more
+--     as_many      as many were put in as there are more
 --     takes_none, takes_last, stops_here      none, one more, and the one that is not
 --     spare_first      before one finds no room, at least as many were put in as were spare
 --     Ends, extended_same      the items alone, in any order, say what an unrefused extension returns and leaves

@@ -66,8 +66,8 @@ pub enum Reply<T> {
     },
     /// All of the items are in: their number.
     Extended(usize),
-    /// The first items are in, this many, and an item of an equal key exists for the next one: a clone of the
-    /// existing one, or `None` if memory for the clone was refused.
+    /// The first items are in, this many, and an item of an equal key exists for the next one. A clone of it is
+    /// returned, or `None` if memory for the clone was refused.
     Conflict {
         /// The next item, which comes back.
         new: T,

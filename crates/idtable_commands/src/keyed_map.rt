@@ -40,8 +40,8 @@ pub trait KeyedMap {
     // The items lie as the map's lookups expect them.
     ghost keyed: { Self → Type 0 };
 
-    /// Inserts the item if none of an equal key exists. It reports a duplicate without memory, and lends the
-    /// existing item. A full map and refused memory return the item; that never happens if the spare is above 0.
+    /// Inserts the item if none of an equal key exists. A duplicate does not allocate, and the existing item is lent. A
+    /// full map and refused memory return the item; that never happens if the spare is above 0.
     /// Then the items are as they were.
     fn insert_unique(&mut self, item: Self::Item) -> Result<&mut (), InsertError<'_, Self::Item>>
         requires keyed { keyed self.old }
@@ -49,9 +49,9 @@ pub trait KeyedMap {
         ensures refused { IfErr result (RefusesIn state limit key Self.Key.eq self.old item) }
         ensures no_spare { IfErr result (OnRefused ((state self.old).spare ≡ 0)) };
 
-    /// Replaces the item of an equal key, and returns it: the whole item, its key's spelling too. That needs no
-    /// memory and is never refused. If there is none, it inserts the item as `insert_unique` does and returns
-    /// `None`. A full map and refused memory return the item, and then the items are as they were.
+    /// Replaces the item of an equal key, and returns it: the whole item, its key's spelling too. That does not
+    /// allocate and is never refused. If there is none, it inserts the item as `insert_unique` does and returns `None`.
+    /// A full map and refused memory return the item, and then the items are as they were.
     fn insert_overwrite(
         &mut self,
         item: Self::Item,
@@ -121,8 +121,8 @@ pub trait KeyedMap {
         ensures unchanged { (state self.new).items ≡ (state self.old).items }
         ensures stays { StaysKeyed state limit rule keyed self.old self.new };
 
-    /// Gives back what memory the items do not need (`shrink_to_fit`). Refused or not, the items stay; the order in which a
-    /// hash map has them may change, and its spare may go.
+    /// Gives back what memory the items do not need (`shrink_to_fit`). Refused or not, the items stay; the order in
+    /// which a hash map has them may change, and its spare may go.
     fn shrink(&mut self) -> Result<(), TryReserveError>
         requires keyed { keyed self.old }
         ensures shrinks { ShrinksMap state limit rule keyed self.old self.new }
@@ -142,12 +142,12 @@ pub trait KeyedMap {
     fn lend_nothing(&mut self) -> &mut ()
         ensures* lends { sem 𝓛 (Lends Self.row unit self.entry result (λ _. self.old)) };
 
-    /// Inserts the items one after another, each if none of an equal key exists. It first makes room: in an empty
-    /// map for as many as there are items, and else for half of them, rounded up. If that is refused, the error has
-    /// no item and the items are as they were. Else it stops at the first item of whose key one exists by then, and
-    /// lends that one; or at the first that finds no room, after at least as many as were spare. It returns that
-    /// item, keeps those before it, and drops the others. A duplicate needs no memory, and is searched for once
-    /// more than `insert_unique` does.
+    /// Inserts the items one after another, each if none of an equal key exists. It first makes room: in an empty map
+    /// for as many as there are items, and else for half of them, rounded up. If that is refused, the error has no item
+    /// and the items are as they were. Else it stops at the first item of whose key one exists by then, and lends that
+    /// one. Or it stops at the first that finds no room, after at least as many as were spare. It returns that item,
+    /// keeps those before it, and drops the others. A duplicate does not allocate, and is searched for once more than
+    /// `insert_unique` does.
     final fn extend_unique(
         &mut self,
         items: Vec<Self::Item>,

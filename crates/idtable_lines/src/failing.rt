@@ -1,5 +1,5 @@
-//! A reader and a writer in memory that fail at a call of a given number, for tests of what `serve` and its like do
-//! then.
+//! A reader and a writer in memory that fail at a call of a given number. They are for tests of what `serve` and its
+//! like do then.
 ghost use Rattle.std.specs.Prelude.{◌≡◌, ◌≢◌, ◌-◌, ◌==◌, Some, IfOk, IsOk, length};
 ghost use Rattle.std.specs.Io.{ReadsAtMost, WritesAtMost};
 ghost use Rattle.std.specs.Io.KnownBytes.{Keeps, ReadConsumes, WriteAppends};

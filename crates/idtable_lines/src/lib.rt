@@ -1,5 +1,5 @@
-//! What the program reads: the lines of a text and the words that it is called by, read as what they ask for. Beside them a
-//! reader and a writer in memory that fail at one call. It names no map.
+//! What the program reads: the lines of a text and the words that it is called by, read as what they ask for. Beside
+//! them a reader and a writer in memory that fail at one call. It names no map.
 #![tactic(auto)]
 
 mod arguments;

@@ -80,7 +80,8 @@ pub struct Pair<'a> {
     pub rest: Option<&'a [u8]>,
 }
 
-/// Returns the first line of a text that is not empty, and the text after it. It looks at each byte up to the line's end once.
+/// Returns the first line of a text that is not empty, and the text after it. It looks at each byte up to the line's
+/// end once.
 pub fn first_line(text: &[u8]) -> (&[u8], &[u8])
     requires { 0 < length text.now }
     ensures lines { lines_of text.now ≡ result.0.now ∷ lines_of result.1.now }

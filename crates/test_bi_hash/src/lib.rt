@@ -1,5 +1,5 @@
-//! What callers of a map of two keys learn, and what no clause of it says: that each call succeeds with memory at hand,
-//! and long runs of calls.
+//! What callers of a map of two keys learn, and what no clause of it says. That is that each call succeeds with memory
+//! at hand, and long runs of calls.
 #![tactic(auto)]
 
 mod callers;

@@ -68,7 +68,7 @@ fn insert_unique(rt: HostRuntime) -> Result<(), Fail> {
     Ok(())
 }
 
-// After a reservation as many hosts go in without a request.
+// After a reservation as many hosts are inserted without a request.
 #[test]
 fn reservation_holds(rt: HostRuntime) {
     let mut all = Hosts::new(rt.alloc());
@@ -78,7 +78,7 @@ fn reservation_holds(rt: HostRuntime) {
     check(&rt, !is_met(rt.alloc()) && refused == 0);
 }
 
-// Duplicates, replacements of one and of two, and removals need no memory.
+// Duplicates, replacements of one and of two, and removals do not allocate.
 #[test]
 fn replaced_without_memory(rt: HostRuntime) {
     let mut all = Hosts::new(rt.alloc());

@@ -70,7 +70,7 @@ fn add_all(all: &mut IdHashMap<Named>, items: Vec<Named>) -> bool
     }
 }
 
-/// Puts all items in, each in the place of one of its name, and tells whether all are in.
+/// Inserts all items, each in the place of one of its name, and tells whether all are in.
 fn put_all(all: &mut IdHashMap<Named>, items: Vec<Named>) -> bool
     requires keyed { IsKeyedByText (λ x. x.name) all.old }
     ensures put { IsTrue result → PutsAll all.old.limit items.items all.old.items all.new.items }

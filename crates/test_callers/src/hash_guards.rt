@@ -154,7 +154,8 @@ fn put_and_ask<T: IdHashItem + Drop, S: BuildHasher, Q: Hash + Equivalent<T::Key
     map.contains_key(query)
 }
 
-/// Removes the item of the name, and inserts it under another one, if no item has that. An item that is refused comes back.
+/// Removes the item of the name, and inserts it under another one, if no item has that. An item that is refused comes
+/// back.
 fn rename(all: &mut IdHashMap<Named>, name: &str, to: String) -> Result<bool, Named>
     requires keyed { IsKeyedByText (λ x. x.name) all.old }
     ensures keyed { IsKeyedByText (λ x. x.name) all.new }

@@ -1,4 +1,5 @@
-//! What callers of the maps learn of what they did: each function here proves its contract from the maps' alone. Nobody calls them.
+//! What callers of the maps learn of what they did: each function here proves its contract from the maps' alone. Nobody
+//! calls them.
 #![tactic(auto)]
 
 mod errors;

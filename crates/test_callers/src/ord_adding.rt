@@ -66,7 +66,7 @@ fn add_all(all: &mut IdOrdMap<Named>, items: Vec<Named>) -> bool
     }
 }
 
-/// Puts all items in, each in the place of one of its name, and tells whether all are in.
+/// Inserts all items, each in the place of one of its name, and tells whether all are in.
 fn put_all(all: &mut IdOrdMap<Named>, items: Vec<Named>) -> bool
     requires keyed { Ascends (λ x. x.name) string_cmp all.old.items }
     ensures put { IsTrue result → PutsAll all.old.limit items.items all.old.items all.new.items }

@@ -76,7 +76,7 @@ fn rank_of(all: &IdOrdMap<Pair>, key: u32) -> usize
     }
 }
 
-/// The sum of the values on a page of a listing: of so many pairs from a position on.
+/// The sum of the values on a page of a listing: of this many pairs from a position on.
 fn sum_of_page(all: &IdOrdMap<Pair>, first: usize, count: usize) -> u64
     requires fits { sum_by (λ p. p.value) all.now.items ≤ u64.MAX }
     ensures { result ≡ sum_by (λ p. p.value) (take count (drop first all.now.items)) }

@@ -1,5 +1,5 @@
-//! Items of tests that have laws to keep: one whose keys are equal in any case, written whole over an existing one,
-//! and one whose clone can be refused.
+//! Items of tests that have laws to keep. The keys of one are equal in any case, and it is written whole over an
+//! existing one. The clone of the other can be refused.
 #![tactic(auto)]
 
 pub mod caseless;

@@ -1,4 +1,5 @@
-//! What no clause of the store and of the two indexes says: that each call succeeds with memory at hand, and long runs of calls.
+//! What no clause of the store and of the two indexes says: that each call succeeds with memory at hand, and long runs
+//! of calls.
 #![tactic(auto)]
 
 #[cfg(test)]

@@ -50,7 +50,7 @@ impl Coins {
         }
     }
 
-    // Whether a new coin of the year goes in, where none is listed.
+    // Whether a new coin of the year is inserted, if none is listed.
     fn put(&mut self, year: u32) -> bool {
         let Err(place) = self.index.find(&self.store, &year, &mut Steps::new()) else {
             return false;
@@ -66,7 +66,7 @@ impl Coins {
         true
     }
 
-    // The same by the year, down the tree once if no node is needed.
+    // The same by the year, down the tree once if no block is needed.
     fn put_by(&mut self, year: u32) -> bool {
         let Some(slot) = self.store.next_slot() else {
             return self.put(year);
@@ -277,7 +277,7 @@ fn same_of(rt: &impl Abort, coins: &Coins, years: &[u32], year: u32) {
     check(rt, coins.is_found_at(year, at, is_there));
 }
 
-// Each year, in steps, goes in where it is not listed and comes out where it is.
+// Each year, in steps, is inserted if it is not listed, and removed if it is.
 fn exchange(
     rt: &impl Abort,
     coins: &mut Coins,

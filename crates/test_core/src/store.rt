@@ -64,7 +64,7 @@ fn assert_walk(rt: &impl Abort, store: &ItemStore<u32>, list: &[Option<u32>]) {
     check(rt, items.next().copied() == None);
 }
 
-// Four items go in, and the slot of one that leaves is used again.
+// Four items are inserted, and the slot of one that is removed is used again.
 fn fills_and_uses_again(rt: &impl Abort, store: &mut ItemStore<u32>) {
     assert_holds(rt, store, &[]);
     for slot in 0..4 {

@@ -70,7 +70,7 @@ fn twenty(alloc: Global, compared: &Cell<u32>) -> Result<Vec<Told<'_>>, AllocErr
     Ok(items)
 }
 
-// Whether the items go in; the keys have counted nothing then.
+// Whether the items are inserted; the keys have counted nothing then.
 fn go_in<T: Copy + Drop, M: AskedByKey<Item = T>>(
     map: &mut M,
     items: &[T],

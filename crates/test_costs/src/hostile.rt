@@ -171,7 +171,7 @@ fn guard_spent_unwritten(rt: HostRuntime) {
 
 type OfEqualHashes = Hashed<Numbered, BuildHasherDefault<ZeroHasher>>;
 
-// Fifty numbers go in, each two above the one before.
+// Fifty numbers are inserted, each two above the one before.
 fn put_fifty(rt: &impl Abort, map: &mut OfEqualHashes, first: u32) {
     for half in 0..50 {
         check(rt, map.is_put(numbered(first.wrapping_add(2 * half), half)));

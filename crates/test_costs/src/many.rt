@@ -32,7 +32,7 @@ fn parted(items: &[Numbered], place: usize) -> (&[Numbered], &[Numbered]) {
     items.split_at(place.min(items.len()))
 }
 
-/// Whether each of the items goes in.
+/// Whether each of the items is inserted.
 fn all_go_in<M: AskedToInsert<Numbered>>(map: &mut M, items: &[Numbered]) -> bool {
     for item in items {
         if map.insert(*item) != Inserted::Done {
@@ -65,7 +65,7 @@ fn all_come_out<M: AskedByKey<Item = Numbered, Key = u32>>(
     true
 }
 
-// The numbers from 1 to 100 go in, 50 cannot go in twice, and it comes out.
+// The numbers from 1 to 100 are inserted, 50 cannot be inserted twice, and it is removed.
 fn hundred<M: AskedByKey<Item = Numbered, Key = u32> + AskedToInsert<Numbered> + Drop>(
     rt: &impl Abort,
     items: &[Numbered],
@@ -110,7 +110,7 @@ fn constant_hasher(rt: HostRuntime) -> Result<(), Fail> {
     Ok(())
 }
 
-// The items go in, and all are found.
+// The items are inserted, and all are found.
 fn go_in<M: AskedByKey<Item = Numbered, Key = u32> + AskedToInsert<Numbered> + Drop>(
     rt: &impl Abort,
     items: &[Numbered],
@@ -133,7 +133,7 @@ fn hashers_of_few_bits(rt: HostRuntime) -> Result<(), Fail> {
     Ok(())
 }
 
-// Ten thousand keys go in, in one order, and come out in another.
+// Ten thousand keys are inserted in one order, and removed in another.
 fn ten_thousand<M: AskedByKey<Item = Numbered, Key = u32> + AskedToInsert<Numbered> + Drop>(
     rt: &impl Abort,
     coming: &[Numbered],
@@ -161,7 +161,7 @@ fn ten_thousand_keys(rt: HostRuntime) -> Result<(), Fail> {
     Ok(())
 }
 
-// The items go in, 7 cannot go in twice, and all come out.
+// The items are inserted, 7 cannot be inserted twice, and all are removed.
 fn come_and_go<M: AskedByKey<Item = Numbered, Key = u32> + AskedToInsert<Numbered> + Drop>(
     rt: &impl Abort,
     items: &[Numbered],
@@ -224,7 +224,7 @@ fn numbers_after_a_removal(rt: HostRuntime) {
     check(&rt, hashed.spare() >= 1);
 }
 
-// Six hundred thousand items go in, more than 65,536 groups of nine hold.
+// Six hundred thousand items are inserted, more than 65,536 groups of nine hold.
 fn go_in_by_number<M: AskedByKey<Item = Numbered, Key = u32> + Drop>(rt: &impl Abort, mut map: M) {
     for number in 0..600_000 {
         check(rt, map.is_put(numbered(number)));

@@ -257,7 +257,7 @@ fn ends_compare_none(rt: HostRuntime) -> Result<(), Fail> {
     Ok(())
 }
 
-// How often the items are compared as they go in one by one.
+// How often the items are compared as they are inserted one by one.
 fn one_by_one<'a, M: Plain<Item = Tallied<'a>> + Drop>(
     mut map: M,
     items: &[Tallied<'a>],

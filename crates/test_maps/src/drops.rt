@@ -24,7 +24,7 @@ fn tickets(
     Ok(items)
 }
 
-// Whether those numbers go in, and none is dropped.
+// Whether those numbers are inserted, and none is dropped.
 fn go_in<'a, M: AskedByKey<Item = Ticket<'a>>>(
     map: &mut M,
     end: u32,

@@ -1,4 +1,5 @@
-//! What no clause of the maps and of `run` says: the worked rows, printed texts, and that each call succeeds with memory at hand.
+//! What no clause of the maps and of `run` says: the worked rows, printed texts, and that each call succeeds with
+//! memory at hand.
 #![tactic(auto)]
 
 #[cfg(test)]

@@ -42,7 +42,7 @@ fn for_over_ordered_map(rt: HostRuntime) -> Result<(), Fail> {
     Ok(())
 }
 
-// Where nothing was taken out, the items come as they went in.
+// If nothing was removed, the items come as they were inserted.
 #[test]
 fn for_over_hash_map(rt: HostRuntime) -> Result<(), Fail> {
     let map = with_three(&rt, by_hash(rt.alloc()));

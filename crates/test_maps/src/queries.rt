@@ -88,7 +88,7 @@ impl Holder for &Titled {
     }
 }
 
-// Whether the item goes in, and what is found by its name shows 42.
+// Whether the item is inserted, and what is found by its name shows 42.
 fn is_found<T: Holder + Drop, M: AskedByKey<Item = T> + AskedByText<Item = T> + Drop>(
     item: T,
     mut map: M,

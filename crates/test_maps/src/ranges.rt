@@ -22,7 +22,7 @@ fn even(half: u32) -> Numbered {
     numbered(half.wrapping_mul(2))
 }
 
-// The even numbers below twice the count, put in at one end or the other in turn.
+// The even numbers below twice the count, inserted at one end or the other in turn.
 fn evens(alloc: Global, count: u32) -> Option<Ordered<Numbered>> {
     let mut map = in_order(alloc);
     for number in 0..count {
@@ -79,7 +79,7 @@ fn bound(number: &u32, kind: u32) -> Bound<&u32> {
     }
 }
 
-// The greatest count of comparisons of a search among so many items.
+// The greatest count of comparisons of a search among this many items.
 fn most(count: u32) -> u32 {
     32_u32
         .wrapping_sub(count.leading_zeros())
@@ -135,7 +135,7 @@ fn are_ranges_at(
     Ok(true)
 }
 
-// Whether that holds of each pair of so many numbers, a step apart: of pairs that run backwards too.
+// Whether that holds of each pair of this many numbers, a step apart: of pairs that run backwards too.
 fn are_ranges(alloc: Global, count: u32, points: u32, step: u32) -> Result<bool, Fail> {
     let Some(map) = evens(alloc, count) else {
         return Ok(false);
@@ -279,7 +279,7 @@ fn are_removed_at(alloc: Global, count: u32, low: u32, high: u32) -> Result<bool
     Ok(true)
 }
 
-// Whether that holds of each pair of so many numbers, a step apart.
+// Whether that holds of each pair of this many numbers, a step apart.
 fn are_removed(alloc: Global, count: u32, points: u32, step: u32) -> Result<bool, AllocError> {
     for one in 0..points {
         for other in 0..points {

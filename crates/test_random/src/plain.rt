@@ -87,7 +87,7 @@ impl Plain {
         Some(found)
     }
 
-    /// Puts in an item whose name no other has.
+    /// Inserts an item whose name no other has.
     pub(crate) fn put(&mut self, item: Coarse) -> Result<(), AllocError> {
         self.items.push(item)?;
         self.vacant = self.vacant.saturating_sub(1);

@@ -13,7 +13,7 @@ fn rank(plain: &Plain, name: &Caseless) -> usize {
     plain.items.iter().filter(|item| item.name < *name).count()
 }
 
-// The item of the list that has so many less.
+// The item of the list that has this many less.
 fn nth(plain: &Plain, index: usize) -> Option<Coarse> {
     plain
         .items

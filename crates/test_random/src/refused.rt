@@ -1,4 +1,5 @@
-//! Random lists of calls with one request for memory refused (`tools/sweep` runs them): a call that is refused leaves the items.
+//! Random lists of calls with one request for memory refused (`tools/sweep` runs them): a call that is refused leaves
+//! the items.
 use crate::draws::Draws;
 use crate::plain::{Plain, is_same};
 use iddqd::errors::TryReserveError;

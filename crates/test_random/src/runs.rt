@@ -1,4 +1,5 @@
-//! The runs: lists of calls from fixed seeds. After each call the whole contents and the numbers are compared too, and `validate`.
+//! The runs: lists of calls from fixed seeds. After each call the whole contents and the numbers are compared too, and
+//! `validate`.
 use crate::adding::{TakesNew, extend_unique};
 use crate::draws::Draws;
 use crate::lengths::{CALLS, MANY_CALLS, MAPS};

@@ -67,7 +67,7 @@ fn shown(kept: &Kept) -> (u32, u32) {
     (kept.name, *kept.value)
 }
 
-// Puts in four items, each of whose clones asks for memory.
+// Inserts four items, each of whose clones asks for memory.
 fn fill_with_kept<M: AskedByKey<Item = Kept, Key = u32>>(
     alloc: Global,
     map: &mut M,

@@ -71,7 +71,7 @@ fn holds<M: AskedByKey<Item = Coarse, Key = Caseless> + AskedForRoom>(
     map.len() == names.len() && map.is_sound()
 }
 
-// Puts in an item of each name.
+// Inserts an item of each name.
 fn fill<M: AskedByKey<Item = Coarse, Key = Caseless>>(
     map: &mut M,
     names: &[[u8; 3]],

@@ -48,7 +48,7 @@ fn hash_insertions(alloc: Global, limit: u32) -> Result<(bool, bool), Fail> {
     insertions(alloc, &mut Hashed::new(map), limit)
 }
 
-// With 8 items the store is full; with 78 the tree has no unused node; with 9 the hash index is full.
+// With 8 items the store is full; with 78 the tree has no unused block; with 9 the hash index is full.
 #[test]
 fn full_store(rt: HostRuntime) -> Result<(), Fail> {
     check(&rt, ordered_insertions(rt.alloc(), 8)? == (true, false));

@@ -17,8 +17,8 @@ fn walks(map: &Ordered<Numbered>, end: u32) -> bool {
     next == end
 }
 
-// Inserts the number after the existing ones, and returns whether it was refused. Then it is returned, the walk
-// still has those before it, and no slot is vacant. Now it goes in.
+// Inserts the number after the existing ones, and returns whether it was refused. Then it is returned, the walk still
+// has those before it, and no slot is vacant. Now it is inserted.
 fn grow(map: &mut Ordered<Numbered>, number: u32) -> Result<bool, Fail> {
     let new = Numbered { number, value: 5 };
     match map.insert(new) {

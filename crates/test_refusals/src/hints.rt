@@ -17,7 +17,7 @@ const BAR: Named = Named {
     value: 20,
 };
 
-// Puts in the item, again where it is refused: whether it was refused, or `None` where it is not in.
+// Inserts the item, again if it is refused: whether it was refused, or `None` if it is not in.
 fn put_at_last<M: AskedToInsert<Named>>(map: &mut M, item: Named) -> Option<bool> {
     match map.insert(item) {
         Inserted::Done => Some(false),

@@ -9,7 +9,7 @@ use test_support::maps::{
     AskedByKey, AskedForRoom, AskedToInsert, Hashed, Ordered, by_hash, in_order,
 };
 
-// Puts in the numbers from the one up to the other, but for those that are refused.
+// Inserts the numbers from the one up to the other, but for those that are refused.
 fn put_in<M: AskedToInsert<Numbered>>(map: &mut M, from: u32, to: u32) {
     for number in from..to {
         let _ = map.insert(numbered(number, 5));

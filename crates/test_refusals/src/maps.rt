@@ -1,4 +1,4 @@
-//! Insertions that are refused, and lookups that need no memory, on both maps.
+//! Insertions that are refused, and lookups that do not allocate, on both maps.
 use crate::checks::check;
 use crate::words::tell;
 use std::alloc::{AllocError, Global};
@@ -14,7 +14,7 @@ pub(crate) fn numbered(number: u32, value: u32) -> Numbered {
     Numbered { number, value }
 }
 
-// Puts in the numbers below the count, each with the value 5.
+// Inserts the numbers below the count, each with the value 5.
 pub(crate) fn fill<M: AskedToInsert<Numbered>>(map: &mut M, count: u32) -> Result<(), Fail> {
     for number in 0..count {
         if map.insert(numbered(number, 5)) != Inserted::Done {
@@ -84,7 +84,7 @@ pub(crate) fn overwrite<M: AskedByKey<Item = Numbered, Key = u32>>(
     }
 }
 
-// Whether nothing has changed, the walk and the vacant slots neither, and an item that was refused goes in now.
+// Whether nothing has changed, the walk and the vacant slots neither, and an item that was refused is inserted now.
 fn goes_in_again<M: AskedByKey<Item = Numbered, Key = u32> + AskedForRoom + Listed<Numbered>>(
     map: &mut M,
     call: impl Call<M>,
@@ -146,7 +146,8 @@ fn insert_unique_counted(rt: HostRuntime) -> Result<(), Fail> {
     tell(&rt, insertion(rt.alloc(), &mut map, ByCounted, 4))
 }
 
-// The 78th of ascending numbers gives the tree its third level. With 83 the last leaf is full, and no unused node is left.
+// The 78th of ascending numbers gives the tree its third level. With 83 the last leaf is full, and no unused block is
+// left.
 #[test]
 fn prepare_of_three_levels(rt: HostRuntime) -> Result<(), Fail> {
     tell(&rt, ordered_insertion(rt.alloc(), 83))
@@ -211,7 +212,8 @@ fn hash_akin_insertions_without_memory(rt: HostRuntime) -> Result<(), Fail> {
     Ok(())
 }
 
-// The last leaf is full and the tree has no unused node, as in `prepare_of_three_levels`: a greater key would ask for some.
+// The last leaf is full and the tree has no unused block, as in `prepare_of_three_levels`: a greater key would ask for
+// some.
 #[test]
 fn akin_insertions_without_nodes(rt: HostRuntime) -> Result<(), Fail> {
     let map = in_order(rt.alloc());
@@ -234,7 +236,7 @@ fn names(alloc: Global) -> Result<Vec<String>, AllocError> {
     Ok(names)
 }
 
-// Puts in an item of each name, its value the place of the name.
+// Inserts an item of each name, its value the place of the name.
 fn fill_with_names<M: AskedByKey<Item = Titled>>(
     map: &mut M,
     names: &[String],

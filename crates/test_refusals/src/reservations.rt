@@ -13,7 +13,8 @@ fn numbered(number: u32) -> Numbered {
     Numbered { number, value: 5 }
 }
 
-// Whether four items of new keys go in beside a removal and a write, and then a hundred times another takes the place of one.
+// Whether four items of new keys are inserted beside a removal and a write, and then a hundred times another takes the
+// place of one.
 fn keeps_its_room(map: &mut Hashed<Numbered, DefaultHashBuilder>) -> bool {
     let [a, b, c, d] = [1, 2, 3, 4].map(|number| numbered(number));
     let mut is_kept = map.insert(a) == Inserted::Done
@@ -30,7 +31,7 @@ fn keeps_its_room(map: &mut Hashed<Numbered, DefaultHashBuilder>) -> bool {
     is_kept
 }
 
-// The spare at which a new key was refused; `None` where a hundred went in.
+// The spare at which a new key was refused; `None` if a hundred were inserted.
 fn spare_at_refusal(map: &mut Hashed<Numbered, DefaultHashBuilder>) -> Option<usize> {
     for number in 200..300 {
         let spare = map.room();

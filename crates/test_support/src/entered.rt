@@ -42,8 +42,8 @@ impl Put {
     }
 }
 
-/// A map of either kind, by its entries. A call that returns no `Put` returns `None` or false if the entry is not
-/// of the kind that it needs, or if memory was refused.
+/// A map of either kind, by its entries. If the entry is not of the kind needed, or if memory was refused, a call that
+/// returns no `Put` returns `None` or false.
 pub trait Entered {
     /// `insert` of a vacant entry, of an item whose key no other has.
     fn put_vacant(&mut self, asked: [u8; 3], item: Coarse) -> Put;

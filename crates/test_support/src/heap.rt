@@ -12,13 +12,14 @@ pub fn is_met(alloc: Global) -> bool {
     Vec::<u8>::with_capacity(alloc, (1 << 49) + 1).is_ok()
 }
 
-/// Whether more or fewer blocks of memory are held than when the count began. Only the heap that counts ever grants this block.
+/// Whether more or fewer blocks of memory are held than when the count began. Only the heap that counts ever grants
+/// this block.
 pub fn has_leaked(alloc: Global) -> bool {
     Vec::<u8>::with_capacity(alloc, (1 << 49) + 2).is_ok()
 }
 
-/// Lets the heap that counts tell how many bytes are held beyond those when the count began, and how many of them are
-/// in the largest block. No heap grants a block of this size.
+/// Lets the heap that counts tell how many bytes are held beyond those when the count began. It tells too how many of
+/// them are in the largest block. No heap grants a block of this size.
 pub fn tell_bytes(alloc: Global) {
     let _ = Vec::<u8>::with_capacity(alloc, (1 << 49) + 3);
 }

@@ -131,7 +131,7 @@ pub trait AskedByKey {
     /// What tells an item from others.
     type Key;
 
-    /// Whether the item goes in where no item of its key is there.
+    /// Whether the item is inserted, if no item of its key exists.
     fn is_put(&mut self, item: Self::Item) -> bool
     where
         Self::Item: Drop;
@@ -291,7 +291,7 @@ where
     }
 }
 
-/// Whether the item goes in where no item of its key is there, and the map is keyed as before.
+/// Whether the item is inserted, if no item of its key exists, and the map is keyed as before.
 pub fn is_put<M: KeyedMap>(map: &mut M, item: M::Item) -> bool
 where
     M::Item: Drop,

@@ -17,7 +17,7 @@ fn of_id(id: u32) -> Numbered {
     }
 }
 
-/// Puts in the twenty-five, and retains the odd ones that three does not divide: whether each went in.
+/// Inserts the twenty-five, and retains the odd ones that three does not divide: whether each was inserted.
 pub fn retain_nine<M: AskedByKey<Item = Numbered, Key = u32> + Walked<Numbered>>(
     map: &mut M,
 ) -> bool {

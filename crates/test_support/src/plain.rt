@@ -28,8 +28,8 @@ pub trait Plain: AskedByKey {
     /// `entry`. Whether it is occupied. The map is dropped then.
     fn enter(self, key: &Self::Key) -> bool;
 
-    /// `entry` of the item's key, and `insert` where it is vacant, `insert` and `remove` where it is occupied. Whether nothing
-    /// was refused. The map is dropped then.
+    /// `entry` of the item's key, and `insert` where it is vacant, `insert` and `remove` where it is occupied. Whether
+    /// nothing was refused. The map is dropped then.
     fn use_entry(self, item: Self::Item) -> bool;
 }
 

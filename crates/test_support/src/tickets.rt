@@ -83,8 +83,8 @@ impl<'a> Iterator for Announced<'a> {
     }
 }
 
-/// A map of either kind, by its calls that drop items beside those that rows ask by keys. Whether an entry was of the kind
-/// that the call needs.
+/// A map of either kind, by its calls that drop items beside those that rows ask by keys. Whether an entry was of the
+/// kind that the call needs.
 pub trait Dropping<'a> {
     /// `retain_mut`, which keeps the items of even numbers.
     fn keep_even(&mut self);

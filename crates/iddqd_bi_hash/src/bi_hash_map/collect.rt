@@ -12,11 +12,11 @@ use std::hash::BuildHasher;
 impl<T: BiHashItem, S: BuildHasher> BiHashMap<T, S> {
     ghost use Rattle.iddqd_bi_hash.specs.BiHashMap.{BiInserts};
 
-    /// Makes a map of the iterator's items, if no two have equal first keys or equal second keys, over the hasher of
-    /// `S::default`. It stops at the first item that has a key of an earlier one. Its error has that item and the one or
-    /// two earlier ones, that of the first key first. Before it asks for an item, it makes room for as many as the
-    /// iterator announces at least. On an error all other items are dropped, and so is the rest of the iterator. Hashes
-    /// each key twice, and searches once by each.
+    /// Returns a map of the iterator's items, if no two have equal first keys or equal second keys, over the hasher of
+    /// `S::default`. It stops at the first item that has a key of an earlier one. Its error has that item and the one
+    /// or two earlier ones, that of the first key first. Room for the lower bound of the iterator's `size_hint` is
+    /// reserved before an item is asked for. After an error all else that was collected is dropped, and so is the rest
+    /// of the iterator. Hashes each key twice, and searches once by each.
     pub fn from_iter_unique<U: IntoIterator<Item = T>>(
         alloc: Global,
         iter: U,
@@ -41,7 +41,7 @@ impl<T: BiHashItem, S: BuildHasher> BiHashMap<T, S> {
         Ok(map)
     }
 
-    // Inserts the item, if no item has one of its keys. Otherwise removes those and returns all.
+    // Inserts the item if no item has one of its keys. Else it removes those and returns all.
     fn insert_first(&mut self, item: T) -> Result<(), FromIterError<T>>
     where
         T: Drop,

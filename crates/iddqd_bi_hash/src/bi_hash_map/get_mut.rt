@@ -14,7 +14,7 @@ impl<T, S> BiHashMap<T, S> {
     ghost use Rattle.iddqd_bi_hash.specs.BiHashMap.{IsOccupied};
     ghost use Rattle.iddqd_bi_hash.specs.Guard.{lends_item};
 
-    // The item of the slot, for writing.
+    // Returns the item of the slot, for writing.
     #[inline]
     pub(super) fn item_in_slot_mut(&mut self, slot: u32) -> &mut T
         requires { IsOccupied self.old slot }
@@ -30,8 +30,8 @@ impl<T: BiHashItem, S: BuildHasher> BiHashMap<T, S> {
     ghost use Rattle.iddqd_bi_hash.specs.BiHashMap.{SpareFits};
     ghost use Rattle.iddqd_bi_hash.specs.Guard.{GuardFinds, GuardFindsByBoth, GuardKeeps, GuardKeepsAkin, GuardOverwrites as Overwrites, guard_lender, lent_map, rests_at_none};
 
-    /// Returns a guard of the item that the query finds by the first key. If it finds none, nothing has changed. The guard
-    /// has to be spent. Hashes the query once, and makes as many comparisons as `get1`. Does not allocate.
+    /// Returns a guard for the item that the query finds by the first key, or `None`, and then nothing has changed. The
+    /// guard has to be spent. Hashes the query once, and makes as many comparisons as `get1`. Does not allocate.
     pub fn get1_mut<Q: Hash + Equivalent<T::K1>>(&mut self, query: &Q) -> Option<RefMut<'_, T, S>>
         requires keyed { ⟦<Self as Keyed>⟧.keyed self.old }
         requires hashes { HashesAsKeys Q.equivalent Q.hash_input T.K1.hash_input query.now }
@@ -60,8 +60,8 @@ impl<T: BiHashItem, S: BuildHasher> BiHashMap<T, S> {
         })
     }
 
-    /// Returns a guard of the item that the query finds by the second key. If it finds none, nothing has changed. The guard
-    /// has to be spent. Hashes the query once, and makes as many comparisons as `get2`. Does not allocate.
+    /// Returns a guard for the item that the query finds by the second key, or `None`, and then nothing has changed.
+    /// The guard has to be spent. Hashes the query once, and makes as many comparisons as `get2`. Does not allocate.
     pub fn get2_mut<Q: Hash + Equivalent<T::K2>>(&mut self, query: &Q) -> Option<RefMut<'_, T, S>>
         requires keyed { ⟦<Self as Keyed>⟧.keyed self.old }
         requires hashes { HashesAsKeys Q.equivalent Q.hash_input T.K2.hash_input query.now }
@@ -90,8 +90,8 @@ impl<T: BiHashItem, S: BuildHasher> BiHashMap<T, S> {
         })
     }
 
-    /// Returns a guard of the item that both queries find. If there is none, nothing has changed. The guard has to be
-    /// spent. Hashes the first query once, and makes as many comparisons as `get_unique`. Does not allocate.
+    /// Returns a guard for the item that both queries find, or `None`, and then nothing has changed. The guard has to
+    /// be spent. Hashes the first query once, and makes as many comparisons as `get_unique`. Does not allocate.
     pub fn get_mut_unique<Q: Hash + Equivalent<T::K1>, R: Equivalent<T::K2>>(
         &mut self,
         query1: &Q,

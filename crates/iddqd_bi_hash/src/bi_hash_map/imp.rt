@@ -43,7 +43,8 @@ impl<T: BiHashItem, S: BuildHasher> BiHashMap<T, S> {
         Some(self.item_in_slot(found))
     }
 
-    /// Whether the query finds an item by the first key, with as many comparisons as `get1`.
+    /// Returns true if the query finds an item by the first key, by as many comparisons as `get1`. Hashes the query
+    /// once. Does not allocate.
     #[inline]
     pub fn contains_key1<Q: Hash + Equivalent<T::K1>>(&self, query: &Q) -> bool
         requires keyed { ⟦<Self as Keyed>⟧.keyed self.now }
@@ -53,7 +54,8 @@ impl<T: BiHashItem, S: BuildHasher> BiHashMap<T, S> {
         self.get1(query).is_some()
     }
 
-    /// Whether the query finds an item by the second key, with as many comparisons as `get2`.
+    /// Returns true if the query finds an item by the second key, by as many comparisons as `get2`. Hashes the query
+    /// once. Does not allocate.
     #[inline]
     pub fn contains_key2<Q: Hash + Equivalent<T::K2>>(&self, query: &Q) -> bool
         requires keyed { ⟦<Self as Keyed>⟧.keyed self.now }
@@ -63,9 +65,9 @@ impl<T: BiHashItem, S: BuildHasher> BiHashMap<T, S> {
         self.get2(query).is_some()
     }
 
-    /// Removes and returns the item that the query finds by the first key. If it finds none, nothing changes. The item's
-    /// slot is vacant then, and its room is spare. Hashes the query once, and the item's other key once. Does not
-    /// allocate.
+    /// Removes and returns the item that the query finds by the first key. Its slot becomes vacant, and its room is
+    /// spare. If there is none, it returns `None` and changes nothing. Hashes the query once, and the item's other key
+    /// once. Does not allocate.
     pub fn remove1<Q: Hash + Equivalent<T::K1>>(&mut self, query: &Q) -> Option<T>
         requires keyed { ⟦<Self as Keyed>⟧.keyed self.old }
         requires hashes { HashesAsKeys Q.equivalent Q.hash_input T.K1.hash_input query.now }
@@ -85,9 +87,9 @@ impl<T: BiHashItem, S: BuildHasher> BiHashMap<T, S> {
         Some(self.take_hashed(hash, other, slot))
     }
 
-    /// Removes and returns the item that the query finds by the second key. If it finds none, nothing changes. The item's
-    /// slot is vacant then, and its room is spare. Hashes the query once, and the item's other key once. Does not
-    /// allocate.
+    /// Removes and returns the item that the query finds by the second key. Its slot becomes vacant, and its room is
+    /// spare. If there is none, it returns `None` and changes nothing. Hashes the query once, and the item's other key
+    /// once. Does not allocate.
     pub fn remove2<Q: Hash + Equivalent<T::K2>>(&mut self, query: &Q) -> Option<T>
         requires keyed { ⟦<Self as Keyed>⟧.keyed self.old }
         requires hashes { HashesAsKeys Q.equivalent Q.hash_input T.K2.hash_input query.now }

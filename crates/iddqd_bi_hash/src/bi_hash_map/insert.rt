@@ -15,10 +15,11 @@ use std::hash::BuildHasher;
 impl<T: BiHashItem, S: BuildHasher> BiHashMap<T, S> {
     ghost use Rattle.iddqd_bi_hash.specs.BiHashMap.{BiHandsBack, BiInserts, BiKeeps, RefusesItem, ends_bi_inserted as ends_insert};
 
-    /// Inserts the item, if no item has one of its keys. Duplicates need no memory: the error has references to the one
-    /// or two items that have a key of it, in the order of their slots, and the map is unchanged. If the limit or memory
-    /// refuses the item, it is returned, and no item has changed. If `spare` is above 0, an item with new keys is never
-    /// refused. Hashes each key once and searches once by each. If an index grows, it reads each of its pairs.
+    /// Inserts the item if no item has one of its keys. Duplicates do not allocate, and the map is as it was. The error
+    /// has references to the one or two items with a key of it, in the order of their slots. If the map is full or
+    /// memory is refused, the item is returned, and the items are as they were. If `spare` is above 0, an item with new
+    /// keys is never refused. Allocates only if `spare` is 0. Hashes each key once and searches once by each. If an
+    /// index grows, it reads each of its pairs.
     /// In a caller's proof, match the error by a name, as in `Err(_error)`. `Err(_)` in the last `match` of a function
     /// leaves nothing known of the map, if the items own memory.
     pub fn insert_unique(&mut self, item: T) -> Result<&mut (), InsertError<'_, T>>
@@ -68,7 +69,7 @@ impl<T: BiHashItem, S: BuildHasher> BiHashMap<T, S> {
         Ok(())
     }
 
-    // The same where there is room. Does not allocate.
+    // As `insert_new`, if there is room. Does not allocate.
     pub(super) fn insert_reserved(&mut self, hash1: u64, hash2: u64, item: T)
         requires keyed { ⟦<Self as Keyed>⟧.keyed self.old }
         requires absent { items_met T.key1 T.key2 T.K1.eq T.K2.eq item self.old.items ≡ [] }

@@ -25,9 +25,9 @@ impl<T: BiHashItem, S: BuildHasher> BiHashMap<T, S> {
     ghost use Rattle.iddqd_bi_hash.specs.BiHashMap.{BiHandsBack, BiKeeps, BiOverwrites, BiStays, Displaces, KeepsUnmet, LeavesVacant};
 
     /// Inserts the item, and removes and returns the one or two items that have one of its keys, that of the first key
-    /// first. If there is one, this needs no memory and is never refused. If there is none, inserts the item as
-    /// `insert_unique` does, and returns `None`. If the limit or memory refuses the item, it is returned, and no item has
-    /// changed. Hashes each key twice, and once the other key of each item that is removed.
+    /// first. If there is one, this does not allocate and is never refused. If there is none, it inserts the item as
+    /// `insert_unique` does and returns `None`. If the map is full or memory is refused, the item is returned, and the
+    /// items are as they were. Hashes each key twice, and once the other key of each item that is removed.
     pub fn insert_overwrite(&mut self, item: T) -> Result<Option<Few<T>>, Refused<T>>
         requires keyed { ⟦<Self as Keyed>⟧.keyed self.old }
 

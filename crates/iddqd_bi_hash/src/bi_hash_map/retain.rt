@@ -13,8 +13,9 @@ impl<T: BiHashItem, S: BuildHasher> BiHashMap<T, S> {
     ghost use Rattle.iddqd_bi_hash.specs.BiHashItems.{holding_of};
     ghost use Rattle.iddqd_bi_hash.specs.BiHashMap.{BiStays, LosesPlaceOf};
 
-    /// Calls `keep` once with each item, in no particular order, and removes each for which it returns false. Looks at
-    /// every slot. Hashes both keys of each removed item once, and compares none. Does not allocate.
+    /// Calls the closure once for each item, in no particular order, and drops each item for which it returns false.
+    /// The closure only reads. Looks at every slot. Hashes both keys of each removed item once, and compares none. Does
+    /// not allocate.
     pub fn retain<F: FnMut(&T) -> bool>(&mut self, mut keep: F)
     where
         T: Drop,

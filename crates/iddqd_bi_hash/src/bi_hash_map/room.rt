@@ -31,7 +31,7 @@ impl<T: BiHashItem> BiHashMap<T> {
 }
 
 impl<T: BiHashItem, S: BuildHasher> BiHashMap<T, S> {
-    /// Makes a map without items that accepts the next `capacity` items with new keys. The limit refuses it if
+    /// Returns a map without items that accepts the next `capacity` items with new keys. The limit refuses it if
     /// `capacity` is above `MAX_ITEMS`. Memory can refuse it only if `capacity` is above 0.
     pub fn with_capacity_and_hasher(
         alloc: Global,
@@ -62,8 +62,8 @@ impl<T: BiHashItem, S: BuildHasher> BiHashMap<T, S> {
         Ok(BiHashMap::over(store, index1, index2, hasher))
     }
 
-    /// Makes room for `additional` more items, in the store and in both indexes: the next `additional` items with new
-    /// keys are accepted. If the limit lacks room for them, it is refused before any memory is asked for. Memory can
+    /// Reserves room for `additional` more items, in the store and in both indexes: the next `additional` items with
+    /// new keys are accepted. If the limit has no room for them, it is refused before memory is asked for. Memory can
     /// refuse it only if `spare` is below `additional`. The items stay, and `spare` is no less. Hashes no key.
     pub fn reserve(&mut self, additional: usize) -> Result<(), TryReserveError>
         requires keyed { ⟦<Self as Keyed>⟧.keyed self.old }

@@ -15,7 +15,7 @@ use std::hash::BuildHasher;
 impl<T, S> BiHashMap<T, S> {
     ghost use Rattle.iddqd_bi_hash.specs.BiHashMap.{AreItemsOf, AreOccupied, IsOccupied};
 
-    // The item of the slot.
+    // Returns the item of the slot.
     #[inline]
     pub(super) fn item_in_slot(&self, slot: u32) -> &T
         requires { IsOccupied self.now slot }
@@ -24,7 +24,7 @@ impl<T, S> BiHashMap<T, S> {
         self.store.get(slot).unwrap()
     }
 
-    // The items of the slots.
+    // Returns the items of the slots.
     pub(super) fn items_in_slots(&self, slots: Few<u32>) -> Few<&T>
         requires { AreOccupied self.now (values_of slots) }
         ensures { AreItemsOf self.now (values_of slots) (values_of result) }

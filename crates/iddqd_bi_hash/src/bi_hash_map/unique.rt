@@ -13,7 +13,7 @@ impl<T: BiHashItem, S: BuildHasher> BiHashMap<T, S> {
     ghost use Rattle.iddqd_bi_hash.specs.BiHashItems.{holding_of};
     ghost use Rattle.iddqd_bi_hash.specs.BiHashMap.{BiStays, SpareFits};
 
-    /// Returns the item that both queries find, or `None`. Searches by the first key, with as many comparisons as `get1`,
+    /// Returns the item that both queries find, or `None`. Searches by the first key, by as many comparisons as `get1`,
     /// and compares the second key once. Hashes the first query once. Does not allocate.
     pub fn get_unique<Q: Hash + Equivalent<T::K1>, R: Equivalent<T::K2>>(
         &self,
@@ -33,7 +33,8 @@ impl<T: BiHashItem, S: BuildHasher> BiHashMap<T, S> {
         }
     }
 
-    /// Whether both queries find one item, with as many comparisons as `get_unique`.
+    /// Returns true if both queries find one item, by as many comparisons as `get_unique`. Hashes the first query once.
+    /// Does not allocate.
     pub fn contains_key_unique<Q: Hash + Equivalent<T::K1>, R: Equivalent<T::K2>>(
         &self,
         query1: &Q,
@@ -47,8 +48,9 @@ impl<T: BiHashItem, S: BuildHasher> BiHashMap<T, S> {
         self.get_unique(query1, query2).is_some()
     }
 
-    /// Removes and returns the item that both queries find. If there is none, nothing changes. Hashes the first query
-    /// twice, and the second key of the item once. Does not allocate.
+    /// Removes and returns the item that both queries find. Its slot becomes vacant, and its room is spare. If there is
+    /// none, it returns `None` and changes nothing. Hashes the first query twice, and the second key of the item once.
+    /// Does not allocate.
     pub fn remove_unique<Q: Hash + Equivalent<T::K1>, R: Equivalent<T::K2>>(
         &mut self,
         query1: &Q,

@@ -17,13 +17,12 @@ use std::hash::BuildHasher;
 impl<T: IdHashItem, S: BuildHasher> IdHashMap<T, S> {
     ghost use Rattle.iddqd_hash.specs.HashMap.{Collects, CollectsUnique, Extends, HashFills, HashInserts, IsCollected, KeepsIfNoItem, SpareFirst, Stops};
 
-    /// Inserts the items one after the other, each in the place of the item of equal key, if there is one. It is a
-    /// function, since the trait `Extend` cannot refuse. Before it asks for an item, it makes room for as many as the
-    /// iterator announces at least, if the map is empty. A map with items makes room for half as many, rounded up. If
-    /// that is refused, the error has no item, and no item has changed. If an item is refused later, it is
-    /// returned, the items before it stay, and the rest of the iterator is dropped. As many new keys as were spare are
-    /// accepted before that. What an iterator announces costs at most a refusal or memory. Hashes each item's key once
-    /// and searches once for it.
+    /// Inserts the items one after the other. Each replaces the one of an equal key. This is no `Extend`, which cannot
+    /// refuse. Room is reserved before an item is asked for. An empty map reserves for the lower bound of the
+    /// iterator's `size_hint`, and a map with items for half of that, rounded up. If that is refused, the error has no
+    /// item, and the items are as they were. Else the first item that is refused is returned, those before it stay, and
+    /// the rest of the iterator is dropped. As many new keys as were spare are accepted before that. A wrong
+    /// `size_hint` costs at most a refusal or memory. Hashes each item's key once and searches once for it.
     pub fn extend<U: IntoIterator<Item = T>>(&mut self, iter: U) -> Result<(), ExtendError<T>>
     where
         T: Drop,
@@ -60,9 +59,9 @@ impl<T: IdHashItem, S: BuildHasher> IdHashMap<T, S> {
         Ok(())
     }
 
-    /// Makes a map of the iterator's items as `extend` does, over the hasher of `S::default`. Of equal keys the last
-    /// item stays. It is a function, since the trait `FromIterator` cannot refuse. If room is refused, what was
-    /// collected is dropped.
+    /// Returns a map of the iterator's items over the hasher of `S::default`, as `extend` inserts them into an empty
+    /// one. Of equal keys the last item stays. If room is refused, what was collected is dropped. This is no
+    /// `FromIterator`, which cannot refuse.
     pub fn from_iter<U: IntoIterator<Item = T>>(
         alloc: Global,
         iter: U,
@@ -81,10 +80,11 @@ impl<T: IdHashItem, S: BuildHasher> IdHashMap<T, S> {
         }
     }
 
-    /// Makes a map of the iterator's items, if no two have equal keys, over the hasher of `S::default`. It stops at the
-    /// first item whose key an earlier one has, and returns both in its error. Before it asks for an item, it makes
-    /// room for as many as the iterator announces at least. On an error all other items are dropped, and so is the rest
-    /// of the iterator. Hashes each item's key once and searches once for it.
+    /// Returns a map of the iterator's items, if no two have equal keys, over the hasher of `S::default`. It stops at
+    /// the first item whose key came before, and returns it as the new one beside the earlier one, which is removed.
+    /// Room for the lower bound of the iterator's `size_hint` is reserved before an item is asked for. After an error
+    /// all else that was collected is dropped, and so is the rest of the iterator. Hashes each item's key once and
+    /// searches once for it.
     pub fn from_iter_unique<U: IntoIterator<Item = T>>(
         alloc: Global,
         iter: U,
@@ -109,7 +109,7 @@ impl<T: IdHashItem, S: BuildHasher> IdHashMap<T, S> {
         Ok(map)
     }
 
-    // Inserts the item, if no item has an equal key. Otherwise removes that one and returns both.
+    // Inserts the item if no item has an equal key. Else it removes that one and returns both.
     fn insert_first(&mut self, item: T) -> Result<(), FromIterError<T>>
     where
         T: Drop,

@@ -13,7 +13,7 @@ use iddqd_hash_parts::find_slot;
 use iddqd_store::{Equivalent, IdHashItem};
 use std::hash::{BuildHasher, Hash};
 
-/// What `entry` returns. An entry that is dropped changes nothing more.
+/// What `entry` finds. Dropping it changes nothing.
 #[derive(Drop)]
 pub enum Entry<'a, T, S = DefaultHashBuilder> {
     /// No item has a key that the query stands for.
@@ -42,13 +42,13 @@ impl<T: IdHashItem, S: BuildHasher> IdHashMap<T, S> {
     ghost use Rattle.iddqd_hash.specs.Entry.{IsEntryFor, PassesTest, entry_item};
     ghost use Rattle.iddqd_hash_parts.specs.HashItems.{HashesAsKeys};
 
-    /// Returns the entry of the query, which is occupied if the query finds an item. Changes nothing. Hashes the query
-    /// once, and makes as many comparisons as `get`. Does not allocate.
+    /// Returns the entry of the query, which is occupied if the query finds an item. Hashes the query once, and makes
+    /// as many comparisons as `get`. Does not allocate, and changes nothing.
     pub fn entry<Q: Hash + Equivalent<T::Key>>(&mut self, query: &Q) -> Entry<'_, T, S>
         requires keyed { ⟦<Self as Keyed>⟧.keyed self.old }
         requires hashes { HashesAsKeys Q.equivalent Q.hash_input T.Key.hash_input query.now }
         ensures entry { IsEntryFor T.key (Q.equivalent query.now) self.entry result }
-        ensures equal { IfSome (entry_item result) (PassesTest T.key (Q.equivalent query.now)) }
+        ensures akin { IfSome (entry_item result) (PassesTest T.key (Q.equivalent query.now)) }
     {
         let hash = self.hasher.hash_one(query);
         match find_slot::<T, OwnKey, Q>(&self.store, &self.index, hash, query) {

@@ -8,9 +8,9 @@ use std::hash::BuildHasher;
 impl<T: IdHashItem, S: BuildHasher> IdHashMap<T, S> {
     ghost use Rattle.iddqd_hash.specs.HashMap.{FindsEqual, HaveEqualItems};
 
-    /// Whether both maps have as many items, and each item's key finds an equal item in the other, by the items' own
-    /// `==`. No order and no hasher plays a part. It is a function, since the trait `PartialEq` cannot require a keyed
-    /// map. Hashes each item's key once, and searches once for it. Does not allocate.
+    /// Returns true if both maps have as many items, and each item's key finds an equal item in the other, by the
+    /// items' own `==`. No order and no hasher plays a part. It is a function, since the trait `PartialEq` cannot
+    /// require a keyed map. Hashes each item's key once, and searches once for it. Does not allocate.
     pub fn eq(&self, other: &Self) -> bool
     where
         T: PartialEq,
@@ -28,7 +28,7 @@ impl<T: IdHashItem, S: BuildHasher> IdHashMap<T, S> {
         true
     }
 
-    // Whether the item's key finds an equal one.
+    // Returns true if the item's key finds an equal one.
     fn has_equal(&self, item: &T) -> bool
     where
         T: PartialEq,

@@ -17,12 +17,12 @@ impl<T: IdHashItem, S: BuildHasher> IdHashMap<T, S> {
     ghost use Rattle.iddqd_hash_parts.specs.HashItems.{holding_of};
     ghost use Rattle.iddqd_hash.specs.HashMap.{Adds, Halts, HasSpareFirst, HashFills, HashInserts, HashKeeps, ShowsConflict, ends_hash_extended as ends_extended};
 
-    /// Inserts the items one after the other, up to the first whose key an item has, from before or from the iterator
-    /// (ours). The error has that item, and a reference to the existing one. A duplicate needs no memory, and is
-    /// reported even if the map is full. Before it asks for an item, it makes room as `extend` does. If that is
-    /// refused, the error has no item, and no item has changed. If an item is refused later, it is returned. As many
-    /// new keys as were spare are accepted before that. On an error the items before it stay, and the rest of the
-    /// iterator is dropped. Hashes each item's key once and searches once for it.
+    /// Inserts the items one after the other, up to the first whose key an item has, from before or from the iterator.
+    /// That one is returned as the new item beside a reference to the existing one. A duplicate does not allocate, and
+    /// is reported before a full map. Room is reserved before an item is asked for, as `extend` does. If that is
+    /// refused, the error has no item, and the items are as they were. Else the first item that is refused is returned.
+    /// As many new keys as were spare are accepted before that. After an error the items before it stay, and the rest
+    /// of the iterator is dropped. Hashes each item's key once and searches once for it.
     /// In a caller's proof, match the error by a name, as in `Err(_error)`. `Err(_)` in the last `match` of a function
     /// leaves nothing known of the map, if the items own memory.
     pub fn extend_unique<U: IntoIterator<Item = T>>(
@@ -74,7 +74,7 @@ impl<T: IdHashItem, S: BuildHasher> IdHashMap<T, S> {
         Ok(())
     }
 
-    // Inserts the item, if no item has an equal key. Otherwise returns that one's slot.
+    // Inserts the item if no item has an equal key, and else returns that one's slot.
     fn add(&mut self, item: T) -> Result<(), Halt<T>>
         requires keyed { ⟦<Self as Keyed>⟧.keyed self.old }
 

@@ -13,7 +13,7 @@ use std::hash::{BuildHasher, Hash};
 impl<T, S> IdHashMap<T, S> {
     ghost use Rattle.iddqd_hash.specs.Guard.{lends_item};
 
-    // The item of the slot.
+    // Returns the item of the slot.
     #[inline]
     pub(super) fn item_in_slot(&self, slot: u32) -> &T
         requires { IsSome (item_of_slot self.now.slots self.now.items slot) }
@@ -22,7 +22,7 @@ impl<T, S> IdHashMap<T, S> {
         self.store.get(slot).unwrap()
     }
 
-    // The item of the slot, for writing.
+    // Returns the item of the slot, for writing.
     #[inline]
     pub(super) fn item_in_slot_mut(&mut self, slot: u32) -> &mut T
         requires { IsSome (item_of_slot self.old.slots self.old.items slot) }
@@ -38,8 +38,8 @@ impl<T: IdHashItem, S: BuildHasher> IdHashMap<T, S> {
     ghost use Rattle.iddqd_hash_parts.specs.HashItems.{HashesAsKeys};
     ghost use Rattle.iddqd_hash.specs.HashMap.{SpareFits};
 
-    /// Returns a guard of the item that the query finds. If it finds none, nothing has changed. The guard has to be
-    /// spent. Hashes the query once, and makes as many comparisons as `get`.
+    /// Returns a guard for the item that the query finds, or `None`, and then nothing has changed. The guard has to be
+    /// spent. Hashes the query once, and makes as many comparisons as `get`. Does not allocate.
     pub fn get_mut<Q: Hash + Equivalent<T::Key>>(&mut self, query: &Q) -> Option<RefMut<'_, T, S>>
         requires keyed { ⟦<Self as Keyed>⟧.keyed self.old }
         requires hashes { HashesAsKeys Q.equivalent Q.hash_input T.Key.hash_input query.now }

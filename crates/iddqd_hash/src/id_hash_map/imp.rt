@@ -13,8 +13,8 @@ impl<T: IdHashItem, S: BuildHasher> IdHashMap<T, S> {
     ghost use Rattle.iddqd_hash_parts.specs.HashItems.{HashesAsKeys, holding_of, of_same_hash};
     ghost use Rattle.iddqd_hash.specs.HashMap.{HashStays, SpareFits};
 
-    /// Returns the item that the query finds, with as many comparisons as `get_counted`. Hashes the query once. Fetches
-    /// the item once more than it compares. `String` keys are asked for by a `Text`, as in `get(&Text("web"))`.
+    /// Returns the item that the query finds, or `None`, by as many comparisons as `get_counted`. Hashes the query
+    /// once. Does not allocate. `String` keys are asked for by a `Text`, as in `get(&Text("web"))`.
     #[inline]
     pub fn get<Q: Hash + Equivalent<T::Key>>(&self, query: &Q) -> Option<&T>
         requires keyed { ⟦<Self as Keyed>⟧.keyed self.now }
@@ -25,7 +25,8 @@ impl<T: IdHashItem, S: BuildHasher> IdHashMap<T, S> {
         self.get_counted(query, &mut Steps::new())
     }
 
-    /// As `get`, with the comparisons counted: at most as many as the items whose keys have the query's hash (ours).
+    /// As `get`, with the comparisons counted: at most as many as the items whose keys have the query's hash. Does not
+    /// allocate.
     #[inline]
     pub fn get_counted<Q: Hash + Equivalent<T::Key>>(
         &self,
@@ -39,7 +40,7 @@ impl<T: IdHashItem, S: BuildHasher> IdHashMap<T, S> {
         ensures found { Finds T.key (Q.equivalent query.now) self.now.items result }
         ensures spare { SpareFits self.now }
 
-        // comparisons
+        // what it costs
         ensures steps { steps.new ≤ steps.old + of_same_hash ⟦<Self as Keyed>⟧.hash self.now (Q.hash_input query.now) }
         ensures never_resets { steps.old ≤ steps.new }
     {
@@ -48,7 +49,8 @@ impl<T: IdHashItem, S: BuildHasher> IdHashMap<T, S> {
         self.store.get(slot)
     }
 
-    /// Whether the query finds an item, with as many comparisons as `get`.
+    /// Returns true if the query finds an item, by as many comparisons as `get`. Hashes the query once. Does not
+    /// allocate.
     #[inline]
     pub fn contains_key<Q: Hash + Equivalent<T::Key>>(&self, query: &Q) -> bool
         requires keyed { ⟦<Self as Keyed>⟧.keyed self.now }
@@ -58,8 +60,9 @@ impl<T: IdHashItem, S: BuildHasher> IdHashMap<T, S> {
         self.get(query).is_some()
     }
 
-    /// Removes and returns the item that the query finds. If it finds none, nothing changes. The item's slot is vacant
-    /// then, and its room is spare. Hashes the query once. Does not allocate.
+    /// Removes and returns the item that the query finds. Its slot becomes vacant, and its room is spare. If there is
+    /// none, it returns `None` and changes nothing. Hashes the query once, and makes as many comparisons as `get`. Does
+    /// not allocate.
     pub fn remove<Q: Hash + Equivalent<T::Key>>(&mut self, query: &Q) -> Option<T>
         requires keyed { ⟦<Self as Keyed>⟧.keyed self.old }
         requires hashes { HashesAsKeys Q.equivalent Q.hash_input T.Key.hash_input query.now }

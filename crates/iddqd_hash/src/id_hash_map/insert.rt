@@ -14,10 +14,10 @@ use std::hash::BuildHasher;
 impl<T: IdHashItem, S: BuildHasher> IdHashMap<T, S> {
     ghost use Rattle.iddqd_hash.specs.HashMap.{HashHandsBack, HashInserts, HashKeeps, HashOverwrites, HashStays, RefusesItem, TakesSlot, ends_hash_inserted as ends_insert, lends_nothing};
 
-    /// Inserts the item, if no item has an equal key. A duplicate needs no memory: the error has a reference to the
-    /// existing item, and the map is unchanged. If the limit or memory refuses the item, it is returned, and no item
-    /// has changed. If `spare` is above 0, a new key is never refused. Hashes the key once and searches once. If the
-    /// index grows, it reads each of its pairs.
+    /// Inserts the item if no item has an equal key. A duplicate is returned beside a reference to the existing item.
+    /// That does not allocate, and the map is as it was. If the map is full or memory is refused, the item is returned,
+    /// and the items are as they were. If `spare` is above 0, a new key is never refused. Allocates only if `spare` is
+    /// 0. Hashes the key once and searches once. If the index grows, it reads each of its pairs.
     /// In a caller's proof, match the error by a name, as in `Err(_error)`. `Err(_)` in the last `match` of a function
     /// leaves nothing known of the map, if the items own memory.
     pub fn insert_unique(&mut self, item: T) -> Result<&mut (), InsertError<'_, T>>
@@ -43,10 +43,10 @@ impl<T: IdHashItem, S: BuildHasher> IdHashMap<T, S> {
         }
     }
 
-    /// Inserts the item, or replaces the item of equal key, which it returns. The whole item is replaced, its key's
-    /// spelling too. A replacement needs no memory and is never refused. If no item has an equal key, inserts the item as `insert_unique` does, and returns
-    /// `None`. If the limit or memory refuses the item, it is returned, and no item has changed. Hashes the key once
-    /// and searches once.
+    /// Inserts the item, or replaces the item of an equal key, which it returns. The whole item is replaced, its key's
+    /// spelling too. That does not allocate and is never refused. If no item has an equal key, it inserts the item as
+    /// `insert_unique` does and returns `None`. If the map is full or memory is refused, the item is returned, and the
+    /// items are as they were. Hashes the key once and searches once.
     pub fn insert_overwrite(&mut self, item: T) -> Result<Option<T>, Refused<T>>
         requires keyed { ⟦<Self as Keyed>⟧.keyed self.old }
 

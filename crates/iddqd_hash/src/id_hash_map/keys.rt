@@ -54,7 +54,7 @@ impl<'a, K: Eq + Hash + 'a, T: IdHashItem<Key = K>> ExactSizeIterator for Keys<'
 impl<'a, K: Eq + Hash + 'a, T: IdHashItem<Key = K>> FusedIterator for Keys<'a, K, T> {}
 
 impl<T: IdHashItem, S> IdHashMap<T, S> {
-    /// Returns a walk over the items' keys, in the order of `iter`. Does not allocate, and compares no keys.
+    /// Returns a walk over the items' keys, in the order of `iter`. Compares no keys. Does not allocate.
     pub fn keys(&self) -> Keys<'_, T::Key, T>
         ensures { result ≡ map T.key self.now.items }
     {

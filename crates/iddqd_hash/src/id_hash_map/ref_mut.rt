@@ -8,8 +8,7 @@ mod reading;
 use super::{DefaultHashBuilder, IdHashMap};
 
 /// One item, lent for writing. Each read and each write of it is one access to the store. Spend it by `finish`,
-/// `into_ref` or `into_mut`: a program that drops a guard is not accepted (the crate's guard panics if the key has
-/// changed).
+/// `into_ref` or `into_mut`: the prover refuses a program that drops one unspent.
 pub struct RefMut<'a, T, S = DefaultHashBuilder> {
     pub(super) map: &'a mut IdHashMap<T, S>,
     pub(super) slot: u32,
@@ -30,7 +29,7 @@ impl<'a, T, S> Drop for RefMut<'a, T, S> {
     }
 }
 
-/// The item of a spent guard, for reading. The map stays as it is while this value exists.
+/// The item of a guard that was spent, for reading. The map stays as it is until this is dropped.
 #[derive(Drop)]
 pub struct Shown<'a, T, S = DefaultHashBuilder> {
     pub(super) map: &'a mut IdHashMap<T, S>,

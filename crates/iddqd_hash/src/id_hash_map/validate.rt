@@ -19,7 +19,7 @@ impl<T: IdHashItem, S: BuildHasher> IdHashMap<T, S> {
 }
 
 impl<T, S> IdHashMap<T, S> {
-    /// The same for a map that need not be keyed.
+    /// As `validate`, of a map that need not be keyed.
     #[doc(hidden)]
     pub fn validate_structural(&self, compact: ValidateCompact) -> Result<(), ValidationError>
         ensures { IsErr result ↔ IsNotCompact compact self.now.vacant }

@@ -18,9 +18,9 @@ impl<T: IdOrdItem> IdOrdMap<T> {
 
     /// Inserts the items one after the other. Each replaces the one of an equal key. This is no `Extend`, which cannot
     /// refuse. Room in the store is reserved before an item is asked for. An empty map reserves for the lower bound of
-    /// the iterator's `size_hint`, and a map with items for half of that, rounded up. If that is refused, the error has no item,
-    /// and the items are as they were. Else the first item that is refused is returned, those before it stay, and the
-    /// rest of the iterator is dropped. A wrong `size_hint` costs at most a refusal or memory. It makes as many
+    /// the iterator's `size_hint`, and a map with items for half of that, rounded up. If that is refused, the error has
+    /// no item, and the items are as they were. Else the first item that is refused is returned, those before it stay,
+    /// and the rest of the iterator is dropped. A wrong `size_hint` costs at most a refusal or memory. It makes as many
     /// comparisons as that many calls of `insert_overwrite`.
     pub fn extend<U: IntoIterator<Item = T>>(&mut self, iter: U) -> Result<(), ExtendError<T>>
     where
@@ -34,7 +34,7 @@ impl<T: IdOrdItem> IdOrdMap<T> {
         // on refusal
         ensures stops { IfErr result (Stops T.key T.Key.eq ⟦<U as Gives>⟧ iter self.old self.new) }
 
-        // in either case
+        // either way
         ensures fills { FillsSlots self.old self.new }
         ensures keyed { Ascends T.key T.Key.cmp self.new.items }
     {

@@ -15,7 +15,7 @@ pub(super) fn compact<T: IdOrdItem>(store: &mut ItemStore<T>, index: &mut OrdInd
     // no slot is vacant
     ensures vacant { vacant store.new ≡ 0 }
 
-    // the rest stays
+    // what stays
     ensures paired { ListsOccupied store.new index.new.slots }
     ensures items { items_in store.new index.new ≡ items_in store.old index.old }
     ensures bounds { KeepsBounds store.old store.new }
@@ -38,7 +38,7 @@ fn move_last<T: IdOrdItem>(store: &mut ItemStore<T>, index: &mut OrdIndex)
     ensures cut { EndsOccupied store.new.slots }
     ensures fewer { vacant store.new < vacant store.old }
 
-    // the rest stays
+    // what stays
     ensures paired { ListsOccupied store.new index.new.slots }
     ensures items { items_in store.new index.new ≡ items_in store.old index.old }
     ensures bounds { KeepsBounds store.old store.new }

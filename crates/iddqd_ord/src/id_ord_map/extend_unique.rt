@@ -15,8 +15,8 @@ use iddqd_store::{
 impl<T: IdOrdItem> IdOrdMap<T> {
     ghost use Rattle.iddqd_ord.specs.OrdMap.{OrdFills, OrdInserts, OrdKeeps, ends_ord_extended as ends_extended};
 
-    /// Inserts the items one after the other, up to the first whose key is there, from before or from the iterator.
-    /// That one is returned as the new item beside a reference to the existing one. A duplicate allocates nothing, and
+    /// Inserts the items one after the other, up to the first whose key an item has, from before or from the iterator.
+    /// That one is returned as the new item beside a reference to the existing one. A duplicate does not allocate, and
     /// is reported before a full map. Room in the store is reserved before an item is asked for, as `extend` does. If
     /// that is refused, the error has no item, and the items are as they were. Else the first item that is refused is
     /// returned. After an error the items before it stay, and the rest of the iterator is dropped. It makes as many

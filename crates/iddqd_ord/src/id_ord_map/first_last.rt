@@ -7,14 +7,14 @@ use super::IdOrdMap;
 use iddqd_store::IdOrdItem;
 
 impl<T> IdOrdMap<T> {
-    /// Returns the item of the least key, or `None` if the map has no items. Compares no keys.
+    /// Returns the item of the least key, or `None` if the map has no items. Compares no keys. Does not allocate.
     pub fn first(&self) -> Option<&T>
         ensures { option_copied result ≡ slice_get self.now.items 0 }
     {
         self.store.get(self.index.first()?)
     }
 
-    /// Returns the item of the greatest key, or `None` if the map has no items. Compares no keys.
+    /// Returns the item of the greatest key, or `None` if the map has no items. Compares no keys. Does not allocate.
     pub fn last(&self) -> Option<&T>
         ensures { option_copied result ≡ slice_get self.now.items (length self.now.items - 1) }
     {
@@ -24,7 +24,7 @@ impl<T> IdOrdMap<T> {
 
 impl<T: IdOrdItem> IdOrdMap<T> {
     /// Removes and returns the item of the least key. Its slot becomes vacant. Without items it returns `None` and
-    /// changes nothing. Does not allocate, and compares no keys.
+    /// changes nothing. Compares no keys. Does not allocate.
     pub fn pop_first(&mut self) -> Option<T>
         requires keyed { Ascends T.key T.Key.cmp self.old.items }
         ensures value { result ≡ slice_get self.old.items 0 }
@@ -39,7 +39,7 @@ impl<T: IdOrdItem> IdOrdMap<T> {
     }
 
     /// Removes and returns the item of the greatest key. Its slot becomes vacant. Without items it returns `None` and
-    /// changes nothing. Does not allocate, and compares no keys.
+    /// changes nothing. Compares no keys. Does not allocate.
     pub fn pop_last(&mut self) -> Option<T>
         requires keyed { Ascends T.key T.Key.cmp self.old.items }
         ensures value { result ≡ slice_get self.old.items (length self.old.items - 1) }

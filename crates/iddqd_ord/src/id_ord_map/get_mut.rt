@@ -55,7 +55,7 @@ impl<T: IdOrdItem> IdOrdMap<T> {
     ghost use Rattle.iddqd_ord.specs.Guard.{GuardFinds, GuardKeeps, GuardKeepsAkin, GuardOverwrites, GuardReadsAt, GuardWritesAt, rests_at_none, guard_lender, lent_map};
 
     /// Returns a guard for the item that the query finds, or `None`, and then nothing has changed. The guard has to be
-    /// spent. It makes as many comparisons as `get`.
+    /// spent. It makes as many comparisons as `get`. Does not allocate.
     pub fn get_mut<Q: Comparable<T::Key>>(&mut self, query: &Q) -> Option<RefMut<'_, T>>
         requires keyed { Ascends T.key T.Key.cmp self.old.items }
         ensures* unchanged_at_none { sem 𝓛 (rests_at_none T.row self.entry result) }
@@ -79,8 +79,8 @@ impl<T: IdOrdItem> IdOrdMap<T> {
         })
     }
 
-    /// Returns a guard for the item at the position in the order of the keys, or `None` if the map has no item there, and
-    /// then nothing has changed. The guard has to be spent. Compares no keys.
+    /// Returns a guard for the item at the position in the order of the keys. If the map has no item there, it returns
+    /// `None`, and nothing has changed. The guard has to be spent. Compares no keys. Does not allocate.
     pub fn get_index_mut(&mut self, index: usize) -> Option<RefMut<'_, T>>
         requires keyed { Ascends T.key T.Key.cmp self.old.items }
         ensures* unchanged_at_none { sem 𝓛 (rests_at_none T.row self.entry result) }

@@ -9,7 +9,7 @@ use iddqd_store::{Comparable, IdOrdItem, Steps};
 
 impl<T: IdOrdItem> IdOrdMap<T> {
     /// Returns the item that the query finds, or `None`, by as many comparisons as `get_counted`. It goes down the
-    /// index once, and fetches the item once more to lend it.
+    /// index once, and fetches the item once more to lend it. Does not allocate.
     /// `String` keys are asked for by a `Text`, as in `get(&Text("web"))`.
     #[inline]
     pub fn get<Q: Comparable<T::Key>>(&self, query: &Q) -> Option<&T>
@@ -19,7 +19,8 @@ impl<T: IdOrdItem> IdOrdMap<T> {
         self.get_counted(query, &mut Steps::new())
     }
 
-    /// As `get`, with the comparisons counted: at most 4 + 2 d, d the number of binary digits of `len`.
+    /// As `get`, with the comparisons counted: at most 4 + 2 d, d the number of binary digits of `len`. Does not
+    /// allocate.
     #[inline]
     pub fn get_counted<Q: Comparable<T::Key>>(&self, query: &Q, steps: &mut Steps) -> Option<&T>
         requires keyed { Ascends T.key T.Key.cmp self.now.items }
@@ -31,7 +32,7 @@ impl<T: IdOrdItem> IdOrdMap<T> {
         self.store.get(slot)
     }
 
-    /// Returns true if the query finds an item, by as many comparisons as `get`.
+    /// Returns true if the query finds an item, by as many comparisons as `get`. Does not allocate.
     #[inline]
     pub fn contains_key<Q: Comparable<T::Key>>(&self, query: &Q) -> bool
         requires keyed { Ascends T.key T.Key.cmp self.now.items }
@@ -41,7 +42,7 @@ impl<T: IdOrdItem> IdOrdMap<T> {
     }
 
     /// Removes and returns the item that the query finds. Its slot becomes vacant. If there is none, it returns `None`
-    /// and changes nothing. Does not allocate, and makes as many comparisons as `remove_counted`.
+    /// and changes nothing. It makes as many comparisons as `remove_counted`. Does not allocate.
     #[inline]
     pub fn remove<Q: Comparable<T::Key>>(&mut self, query: &Q) -> Option<T>
         requires keyed { Ascends T.key T.Key.cmp self.old.items }
@@ -66,7 +67,7 @@ impl<T: IdOrdItem> IdOrdMap<T> {
         ensures removed { Removes result self.old self.new }
         ensures keyed { Ascends T.key T.Key.cmp self.new.items }
 
-        // comparisons
+        // what it costs
         ensures steps { steps.new ≤ steps.old + 4 + 2 * digits (length self.old.items) }
         ensures never_resets { steps.old ≤ steps.new }
     {

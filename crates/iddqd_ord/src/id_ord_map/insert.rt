@@ -17,9 +17,9 @@ impl<T: IdOrdItem> IdOrdMap<T> {
     ghost use Rattle.iddqd_ord.specs.OrdMap.{BelongsAt, OrdInserts, OrdKeeps, OrdOverwrites, ends_ord_inserted, lends_nothing};
 
     /// Inserts the item if no item has an equal key, by as many comparisons as `insert_unique_counted`. A duplicate is
-    /// returned beside a reference to the existing item; nothing is allocated, and the map is as it was. If the map is
-    /// full or memory is refused, the item is returned, and the items are as they were. The crate panics or aborts
-    /// there.
+    /// returned beside a reference to the existing item. That does not allocate, and the map is as it was. If the map
+    /// is full or memory is refused, the item is returned, and the items are as they were. Allocates only if the store
+    /// has no room, or if a full leaf has to be split.
     /// In a caller's proof, match the error by a name, as in `Err(_error)`. `Err(_)` in the last `match` of a function
     /// leaves nothing known of the map, if the items own memory.
     #[inline]
@@ -48,7 +48,7 @@ impl<T: IdOrdItem> IdOrdMap<T> {
         // on refusal
         ensures refused { IfErr result (RefusesItem T.key T.Key.eq self.old item) }
 
-        // comparisons
+        // what it costs
         ensures steps { steps.new ≤ steps.old + 4 + 2 * digits (length self.old.items) }
         ensures never_resets { steps.old ≤ steps.new }
     {
@@ -64,8 +64,8 @@ impl<T: IdOrdItem> IdOrdMap<T> {
 
     /// Inserts the item, or replaces the item of an equal key, which it returns. The whole item is replaced, its key's
     /// spelling too. That does not allocate and is never refused. If no item has an equal key, it inserts the item as
-    /// `insert_unique` does and returns `None`. If the map is full or memory is refused, the item is returned, and the items are as
-    /// they were. It compares as often as `insert_unique`.
+    /// `insert_unique` does and returns `None`. If the map is full or memory is refused, the item is returned, and the
+    /// items are as they were. It compares as often as `insert_unique`.
     pub fn insert_overwrite(&mut self, item: T) -> Result<Option<T>, Refused<T>>
         requires keyed { Ascends T.key T.Key.cmp self.old.items }
 
@@ -76,7 +76,7 @@ impl<T: IdOrdItem> IdOrdMap<T> {
         ensures refused { IfErr result (HandsBack T.key T.Key.eq self.old item) }
         ensures kept { OnErr result (OrdKeeps T.key T.Key.cmp self.old self.new) }
 
-        // in either case
+        // either way
         ensures keyed { Ascends T.key T.Key.cmp self.new.items }
     {
         match self.insert_new(item, &mut Steps::new()) {

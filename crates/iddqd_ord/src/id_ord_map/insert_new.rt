@@ -1,4 +1,5 @@
-//! Insertion by an item's own key, which goes down the index once if the store has room and no node is needed.
+//! Insertion by an item's own key, which goes down the index once if the store has room and no block has to be
+//! allocated.
 ghost use Rattle.std.specs.Prelude.{◌≡◌, ◌+◌, ◌*◌, ◌≤◌, length, IfErr, IfOk, OnErr, OnOk};
 ghost use Rattle.iddqd_store.specs.Contents.{Ascends, IsAbsent};
 ghost use Rattle.iddqd_ord_index.specs.Digits.{digits};
@@ -20,8 +21,8 @@ impl<T: IdOrdItem> IdOrdMap<T> {
     ghost use Rattle.iddqd_ord.specs.Inserting.{IsInsertedIn, MissesItem};
     ghost use Rattle.iddqd_ord.specs.OrdMap.{OrdInserts, OrdKeeps};
 
-    // Inserts the item if no item has an equal key, and returns its slot. It allocates only if the store has no room
-    // or a full leaf needs a node, and goes down the index twice then.
+    // Inserts the item if no item has an equal key, and returns its slot. Allocates only if the store has no room, or
+    // if a full leaf has to be split and too few unused blocks are kept. It goes down the index twice then.
     pub(super) fn insert_new(&mut self, item: T, steps: &mut Steps) -> Result<u32, Missed<T>>
         requires keyed { Ascends T.key T.Key.cmp self.old.items }
 
@@ -34,7 +35,7 @@ impl<T: IdOrdItem> IdOrdMap<T> {
         ensures missed { IfErr result (MissesItem T.key T.Key.eq item self.old self.new) }
         ensures kept { OnErr result (OrdKeeps T.key T.Key.cmp self.old self.new) }
 
-        // comparisons
+        // what it costs
         ensures steps { steps.new ≤ steps.old + 4 + 2 * digits (length self.old.items) }
         ensures never_resets { steps.old ≤ steps.new }
     {
@@ -68,7 +69,7 @@ impl<T: IdOrdItem> IdOrdMap<T> {
         ensures missed { IfErr result (MissesItem T.key T.Key.eq item self.old self.new) }
         ensures kept { OnErr result (OrdKeeps T.key T.Key.cmp self.old self.new) }
 
-        // comparisons
+        // what it costs
         ensures steps { steps.new ≤ steps.old + 4 + 2 * digits (length self.old.items) }
         ensures never_resets { steps.old ≤ steps.new }
     {

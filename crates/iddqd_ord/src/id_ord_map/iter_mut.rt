@@ -18,7 +18,7 @@ pub struct IterMut<'a, T> {
 }
 
 impl<T: IdOrdItem> IdOrdMap<T> {
-    /// Returns a walk over the items, ascending, that lends each once. Does not allocate, and compares no keys. The map
+    /// Returns a walk over the items, ascending, that lends each once. Compares no keys. Does not allocate. The map
     /// stays keyed unless you change an item's key.
     #[inline]
     pub fn iter_mut(&mut self) -> IterMut<'_, T>

@@ -10,8 +10,8 @@ use super::IdOrdMap;
 use iddqd_store::{Comparable, IdOrdItem, Steps};
 
 impl<T> IdOrdMap<T> {
-    /// Returns the item at the position in the order of the keys, which has so many items before it, or `None` if the
-    /// map has no more. Compares no keys, and goes down the index once.
+    /// Returns the item with this many items before it in the order of the keys, or `None` if the map has no more. It
+    /// goes down the index once. Compares no keys. Does not allocate.
     #[inline]
     pub fn get_index(&self, index: usize) -> Option<&T>
         ensures { option_copied result ≡ slice_get self.now.items index }
@@ -27,6 +27,7 @@ impl<T> IdOrdMap<T> {
 impl<T: IdOrdItem> IdOrdMap<T> {
     /// Returns `Ok` of the position of the item that the query finds, or `Err` of the position where such an item
     /// belongs. Either is the number of items whose keys are less. It makes as many comparisons as `index_of_counted`.
+    /// Does not allocate.
     #[inline]
     pub fn index_of<Q: Comparable<T::Key>>(&self, query: &Q) -> Result<usize, usize>
         requires keyed { Ascends T.key T.Key.cmp self.now.items }
@@ -48,7 +49,7 @@ impl<T: IdOrdItem> IdOrdMap<T> {
         ensures rank { position_of result ≡ number_less T.key (Q.compare query.now) self.now.items }
         ensures found { IsIndexOf T.key (Q.equivalent query.now) self.now.items result }
 
-        // comparisons
+        // what it costs
         ensures steps { steps.new ≤ steps.old + 4 + 2 * digits (length self.now.items) }
         ensures never_resets { steps.old ≤ steps.new }
     {
@@ -58,8 +59,8 @@ impl<T: IdOrdItem> IdOrdMap<T> {
         }
     }
 
-    /// Removes and returns the item at the position in the order of the keys. Its slot becomes vacant. If the map has no
-    /// item there, it returns `None` and changes nothing. Does not allocate, and compares no keys.
+    /// Removes and returns the item at the position in the order of the keys. Its slot becomes vacant. If the map has
+    /// no item there, it returns `None` and changes nothing. Compares no keys. Does not allocate.
     pub fn remove_index(&mut self, index: usize) -> Option<T>
         requires keyed { Ascends T.key T.Key.cmp self.old.items }
         ensures value { result ≡ slice_get self.old.items index }

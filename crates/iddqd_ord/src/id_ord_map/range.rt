@@ -9,9 +9,9 @@ use iddqd_store::{Comparable, IdOrdItem, Steps};
 use std::ops::{Bound, RangeBounds};
 
 impl<T: IdOrdItem> IdOrdMap<T> {
-    /// Returns the items whose keys lie in the range, in ascending order. Its bounds are queries of one type. A range that
-    /// runs backwards has no items. It makes as many comparisons as `range_counted`, and a step of the walk makes none.
-    /// Does not allocate.
+    /// Returns the items whose keys lie in the range, in ascending order. Its bounds are queries of one type. A range
+    /// that runs backwards has no items. It makes as many comparisons as `range_counted`, and a step of the walk makes
+    /// none. Does not allocate.
     pub fn range<Q: Comparable<T::Key>, R: RangeBounds<Q>>(&self, range: R) -> Iter<'_, T>
         requires keyed { Ascends T.key T.Key.cmp self.now.items }
         ensures items { FindsRange R.RangeBounds Q.compare T.key range self.now.items result }
@@ -22,8 +22,8 @@ impl<T: IdOrdItem> IdOrdMap<T> {
         self.range_counted(range, &mut Steps::new())
     }
 
-    /// As `range`, with the comparisons counted: at most 4 + 2 d for each bound, d the number of binary digits of `len`,
-    /// and none for an unbounded end.
+    /// As `range`, with the comparisons counted: at most 4 + 2 d for each bound, and none for an unbounded end. Here d
+    /// is the number of binary digits of `len`.
     pub fn range_counted<Q: Comparable<T::Key>, R: RangeBounds<Q>>(
         &self,
         range: R,
@@ -35,7 +35,7 @@ impl<T: IdOrdItem> IdOrdMap<T> {
         ensures sums { (number : T → ℕ) → sum_by number result ≤ sum_by number self.now.items }
         ensures fits { length result ≤ u32.MAX }
 
-        // comparisons
+        // what it costs
         ensures steps { steps.new ≤ steps.old + 8 + 4 * digits (length self.now.items) }
         ensures never_resets { steps.old ≤ steps.new }
     {
@@ -45,7 +45,7 @@ impl<T: IdOrdItem> IdOrdMap<T> {
     }
 
     /// Returns the item of the least key that is not before the bound, or `None` if there is none. It makes as many
-    /// comparisons as `get`, and none if it is unbounded.
+    /// comparisons as `get`, and none if it is unbounded. Does not allocate.
     pub fn lower_bound<Q: Comparable<T::Key>>(&self, from: Bound<&Q>) -> Option<&T>
         requires keyed { Ascends T.key T.Key.cmp self.now.items }
         ensures { Finds T.key (is_from Q.compare (bound_now from.entry)) self.now.items result }
@@ -55,7 +55,7 @@ impl<T: IdOrdItem> IdOrdMap<T> {
     }
 
     /// Returns the item of the greatest key that is not behind the bound, or `None` if there is none. It makes as many
-    /// comparisons as `get`, and none if it is unbounded.
+    /// comparisons as `get`, and none if it is unbounded. Does not allocate.
     pub fn upper_bound<Q: Comparable<T::Key>>(&self, to: Bound<&Q>) -> Option<&T>
         requires keyed { Ascends T.key T.Key.cmp self.now.items }
         ensures { FindsLast T.key (is_up_to Q.compare (bound_now to.entry)) self.now.items result }

@@ -8,8 +8,7 @@ mod reading;
 use super::IdOrdMap;
 
 /// One item, lent for writing. Each read and each write of it is one access to the store. Spend it by `finish`,
-/// `into_ref` or `into_mut`: the prover refuses a program that drops one unspent. The crate looks at the key when the
-/// guard is dropped, and panics if it changed.
+/// `into_ref` or `into_mut`: the prover refuses a program that drops one unspent.
 pub struct RefMut<'a, T> {
     pub(super) map: &'a mut IdOrdMap<T>,
     pub(super) slot: u32,
@@ -30,8 +29,7 @@ impl<'a, T> Drop for RefMut<'a, T> {
     }
 }
 
-/// The item of a guard that was spent, for reading. The map stays as it is until this is dropped. The crate's
-/// `into_ref` returns a plain reference.
+/// The item of a guard that was spent, for reading. The map stays as it is until this is dropped.
 #[derive(Drop)]
 pub struct Shown<'a, T> {
     pub(super) map: &'a mut IdOrdMap<T>,

@@ -14,7 +14,7 @@ impl<T: IdOrdItem> IdOrdMap<T> {
     ghost use Rattle.iddqd_ord.specs.OrdMap.{IsShortOf, empty_map, reservation_refusal};
 
     /// Returns a map without items, with room for at least `capacity` in the store. The limit refuses a `capacity`
-    /// above `MAX_ITEMS`. Else it is refused only if memory is, and allocates nothing for 0.
+    /// above `MAX_ITEMS`. Else it is refused only if memory is, and does not allocate for 0.
     pub fn with_capacity(alloc: Global, capacity: usize) -> Result<Self, TryReserveError>
         // on success
         ensures empty { IfOk result (λ m. m ≡ empty_map m.capacity MAX_ITEMS) }
@@ -45,7 +45,7 @@ impl<T: IdOrdItem> IdOrdMap<T> {
         ensures needed { result ≡ Err memory_refused → IsShortOf self.old additional }
         ensures asked { OnErr result (0 < additional) }
 
-        // in either case
+        // either way
         ensures rest { self.new ≡ record self.old { capacity = self.new.capacity } }
         ensures capacity { self.old.capacity ≤ self.new.capacity }
         ensures keyed { Ascends T.key T.Key.cmp self.new.items }
@@ -64,7 +64,7 @@ impl<T: IdOrdItem> IdOrdMap<T> {
         ensures only_memory { IfErr result (λ e. e ≡ memory_refused) }
         ensures needed { OnErr result (length self.old.items < self.old.capacity) }
 
-        // in either case
+        // either way
         ensures items { self.new.items ≡ self.old.items }
         ensures shrinks { Shrinks 0 self.old self.new }
         ensures keyed { Ascends T.key T.Key.cmp self.new.items }
@@ -86,7 +86,7 @@ impl<T: IdOrdItem> IdOrdMap<T> {
         ensures only_memory { IfErr result (λ e. e ≡ memory_refused) }
         ensures needed { OnErr result (max min (length self.old.items) < self.old.capacity) }
 
-        // in either case
+        // either way
         ensures items { self.new.items ≡ self.old.items }
         ensures shrinks { Shrinks min self.old self.new }
         ensures keyed { Ascends T.key T.Key.cmp self.new.items }

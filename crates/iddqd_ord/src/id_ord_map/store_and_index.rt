@@ -23,7 +23,7 @@ pub(super) fn reserve_one<T>(
     // on refusal
     ensures kind { IfErr result (λ e. e ≡ refusal_kind store.old.limit index.old.slots) }
 
-    // in either case
+    // either way
     ensures store { store.new ≡ record store.old { capacity = store.new.capacity } }
     ensures capacity { store.old.capacity ≤ store.new.capacity }
     ensures slots { index.new.slots ≡ index.old.slots }
@@ -52,7 +52,7 @@ pub(super) fn reserve_slots<T>(
     ensures needed { NeedsMemory store.old.capacity (length index.now.slots + additional) result }
     ensures asked { OnErr result (0 < additional) }
 
-    // in either case
+    // either way
     ensures store { store.new ≡ record store.old { capacity = store.new.capacity } }
     ensures capacity { store.old.capacity ≤ store.new.capacity }
 {
@@ -79,7 +79,7 @@ pub(super) fn put_in<T>(
     ensures slots { index.new.slots ≡ insert index.old.slots place result }
     ensures vacant { vacant store.new ≡ vacant store.old - 1 }
 
-    // the rest stays
+    // what stays
     ensures bounds { KeepsBounds store.old store.new }
 {
     let slot = store.insert_reserved(item);

@@ -17,7 +17,7 @@ pub enum Insertion {
     Found(u32),
     /// The slot was inserted.
     Inserted,
-    /// It needs a node, and the index is not prepared. Nothing has changed, and the slot belongs at this place.
+    /// The leaf is full, and too few unused blocks are kept. Nothing has changed, and the slot belongs at this place.
     Unprepared(Place),
 }
 
@@ -45,7 +45,7 @@ impl OrdIndex {
         // if the slot was inserted
         ensures inserted { InsertsIn T.key (Q.compare query.now) store.now slot self.old self.new result }
 
-        // if it needs a node
+        // if a full leaf may not be split
         ensures place { ReturnsPlace T.key (Q.compare query.now) store.now self.old.slots result }
         ensures in_list { IfUnprepared result (λ place. place ≤ length self.old.slots) }
         ensures unprepared { IfUnprepared result (λ _. self.old.prepared ≡ false) }

@@ -1,4 +1,5 @@
-//! A walk over the slots of an ordered index that is gone, from either end. Contracts see the slots that are still to come.
+//! A walk over the slots of an ordered index that is gone, from either end. Contracts see the slots that are still to
+//! come.
 ghost use Rattle.std.specs.Prelude.{◌≡◌, length, IfSome};
 ghost use Rattle.std.specs.Iterator.{UpTo, YieldsFirst, YieldsLast, at_most, item_count};
 ghost use Rattle.std.specs.Iterator.SizeHint.{IsWithinCount};
@@ -8,7 +9,8 @@ use crate::tree::node::Node;
 use std::iter::FusedIterator;
 use std::marker::Model;
 
-/// The slots of an index that is gone, each once. `next` returns the first of those that are left, `next_back` the last.
+/// The slots of an index that is gone, each once. `next` returns the first of those that are left, `next_back` the
+/// last.
 #[derive(Drop)]
 pub struct IntoWalk {
     root: Node,

@@ -1,4 +1,5 @@
-//! A node of the tree. Contracts see it as its slots in order with those below it, its height, and its own number of slots.
+//! A node of the tree. Contracts see it as its slots in order with those below it, its height, and its own number of
+//! slots.
 ghost use Rattle.std.specs.Prelude.{◌≡◌, ◌+◌, ◌^◌, ◌<◌, ◌≤◌, [], length};
 ghost use Rattle.iddqd_ord_index.specs.Nodes.{below};
 ghost use Rattle.iddqd_ord_index.specs.Shape.{unused};

@@ -28,7 +28,7 @@ impl Model for BlockPool {
 }
 
 impl BlockPool {
-    // No unused blocks, and none wanted. Does not allocate.
+    // Returns a pool without blocks, of which none is wanted. Does not allocate.
     pub(crate) fn new(alloc: Global) -> Self
         ensures { (result.count ≡ 0) × (result.wanted ≡ 0) }
     {
@@ -38,7 +38,7 @@ impl BlockPool {
         }
     }
 
-    // No unused blocks, and room for so many that are wanted.
+    // Returns a pool without blocks, with room for `wanted`.
     pub(crate) fn wanting(wanted: usize, alloc: Global) -> Result<Self, AllocError>
         ensures { IfOk result (λ pool. (pool.wanted ≡ wanted) × (wanted ≤ pool.room)) }
     {
@@ -68,7 +68,7 @@ impl BlockPool {
         self.blocks.len() >= wanted && self.blocks.capacity() > wanted
     }
 
-    // Sees to room for so many.
+    // Makes room for this many blocks.
     pub(crate) fn make_room(&mut self, room: usize) -> Result<(), AllocError>
         ensures same { (self.new.count ≡ self.old.count) × (self.new.wanted ≡ self.old.wanted) }
         ensures kept { self.old.room ≤ self.new.room }
@@ -77,7 +77,7 @@ impl BlockPool {
         self.blocks.reserve(room.saturating_sub(self.blocks.len()))
     }
 
-    // From now on so many are wanted.
+    // Sets how many blocks are wanted.
     pub(crate) fn want(&mut self, wanted: usize)
         requires { wanted ≤ self.old.room }
         ensures { self.new ≡ record self.old { wanted = wanted } }

@@ -7,7 +7,7 @@ use super::RefMut;
 use std::ops::{Deref, DerefMut};
 
 impl<'a, T, S> RefMut<'a, T, S> {
-    /// Spends the guard. The map has the item as it was written.
+    /// Spends the guard. The item stays in the map as it was written.
     #[inline]
     pub fn finish(self)
         ensures { self.exit.0.now ≡ lent_map self.entry }
@@ -19,7 +19,7 @@ impl<'a, T, S> RefMut<'a, T, S> {
         } = self;
     }
 
-    /// Returns the guard itself, borrowed. After that borrow this guard still has to be spent.
+    /// Lends the guard itself. When that loan is over, this guard has still to be spent.
     #[inline]
     pub fn reborrow(&mut self) -> &mut RefMut<'a, T, S>
         ensures same { result.ghost_name ≡ self.entry.ghost_name }
@@ -28,7 +28,7 @@ impl<'a, T, S> RefMut<'a, T, S> {
         self
     }
 
-    /// Spends the guard, and returns the item, for writing while the map is borrowed.
+    /// Spends the guard, and returns the item for writing.
     #[inline]
     pub fn into_mut(self) -> &'a mut T
         ensures* writes_back { sem 𝓛 (item_follows S.row T.row self.entry result) }

@@ -10,7 +10,7 @@ use iddqd_store::{IdHashItem, Refused, Visit};
 use std::hash::BuildHasher;
 
 impl<'a, T: IdHashItem, S: BuildHasher> Entry<'a, T, S> {
-    /// Inserts the item if the entry is vacant, or else drops it, and returns a guard of the entry's item. It inserts
+    /// Inserts the item if the entry is vacant, or else drops it, and returns a guard for the entry's item. It inserts
     /// as `VacantEntry::insert` does. The guard has to be spent.
     /// Match the refusal by a name, as in `Err(_refused)`. Beside a guard that is moved out of `Ok`, `Err(_)` gets no
     /// proof, if the items are not `Copy`.
@@ -45,7 +45,7 @@ impl<'a, T: IdHashItem, S: BuildHasher> Entry<'a, T, S> {
         }
     }
 
-    /// As `or_insert`, with the item that the closure makes. Calls it only if the entry is vacant.
+    /// As `or_insert`, with the item that the closure returns. It is called only if the entry is vacant.
     pub fn or_insert_with<F: FnOnce() -> T>(self, make: F) -> Result<RefMut<'a, T, S>, Refused<T>>
         requires keyed { ⟦<Map<T, S> as Keyed>⟧.keyed (entry_map self) }
         requires callable { entry_item self ≡ None → F.pre make }
@@ -77,13 +77,13 @@ impl<'a, T: IdHashItem, S: BuildHasher> Entry<'a, T, S> {
         }
     }
 
-    /// Visits the entry's item once, and ignores the result. If the entry is vacant, it does nothing (the crate passes
-    /// a guard to a closure). The visit may not change the key. Hashes and compares no keys.
+    /// Visits the entry's item, once, and ignores what the visit returns. If the entry is vacant, nothing happens. The
+    /// visit may not change the key. Hashes and compares no keys.
     pub fn and_modify<V: Visit<T>>(self, visitor: &mut V) -> Entry<'a, T, S>
         requires keyed { ⟦<Map<T, S> as Keyed>⟧.keyed (entry_map self) }
         requires keeps_key { VisitKeepsKey T.key T.Key.eq V.visits visitor.old self }
         ensures same_map { entry_lender result ≡ entry_lender self.entry }
-        ensures modified { VisitsEntry V.visits visitor.old self.entry visitor.new result }
+        ensures visited { VisitsEntry V.visits visitor.old self.entry visitor.new result }
         ensures keyed { ⟦<Map<T, S> as Keyed>⟧.keyed (entry_map result) }
     {
         match self {

@@ -11,7 +11,7 @@ use std::hash::BuildHasher;
 use std::mem;
 
 impl<'a, T, S> OccupiedEntry<'a, T, S> {
-    /// The item.
+    /// Returns the item.
     #[inline]
     pub fn get(&self) -> &T
         ensures { entry_item (Occupied self.now) ≡ Some result.now }
@@ -19,7 +19,7 @@ impl<'a, T, S> OccupiedEntry<'a, T, S> {
         self.map.item_in_slot(self.slot)
     }
 
-    /// Returns the item, for reading while the map is borrowed (the crate returns a plain reference).
+    /// Returns the item, for reading as long as the map is borrowed.
     #[inline]
     pub fn into_ref(self) -> Shown<'a, T, S>
         ensures same_map { shown_lender result ≡ entry_lender (Occupied self.entry) }
@@ -32,8 +32,8 @@ impl<'a, T, S> OccupiedEntry<'a, T, S> {
 }
 
 impl<'a, T: IdHashItem, S: BuildHasher> OccupiedEntry<'a, T, S> {
-    /// Returns the item, for writing while the entry is borrowed (the crate returns a guard). A keyed map stays keyed if the
-    /// key written is equal to the entry's.
+    /// Returns the item, for writing while the entry is borrowed. A keyed map stays keyed if the key written is equal
+    /// to the entry's.
     #[inline]
     pub fn get_mut(&mut self) -> &mut T
         ensures* writes_back { sem 𝓛 (entry_follows S.row T.row self.entry result) }
@@ -45,7 +45,7 @@ impl<'a, T: IdHashItem, S: BuildHasher> OccupiedEntry<'a, T, S> {
         self.map.item_in_slot_mut(slot)
     }
 
-    /// Returns a guard of the item, for writing while the map is borrowed. The guard has to be spent.
+    /// Returns a guard for the item, as long as the map is borrowed. The guard has to be spent.
     #[inline]
     pub fn into_mut(self) -> RefMut<'a, T, S>
         requires keyed { ⟦<Map<T, S> as Keyed>⟧.keyed (entry_map (Occupied self)) }
@@ -67,8 +67,8 @@ impl<'a, T: IdHashItem, S: BuildHasher> OccupiedEntry<'a, T, S> {
         }
     }
 
-    /// Replaces the entry's item by one of equal key, and returns the old one: the whole item, its key's spelling too.
-    /// Hashes and compares no keys.
+    /// Replaces the entry's item by this one, whose key is equal, and returns the old one. The whole item is replaced,
+    /// its key's spelling too. Hashes and compares no keys.
     pub fn insert(&mut self, item: T) -> T
         requires keyed { ⟦<Map<T, S> as Keyed>⟧.keyed (entry_map (Occupied self.old)) }
         requires akin { IfSome (entry_item (Occupied self.old)) (HasKeyOf T.key T.Key.eq item) }
@@ -87,7 +87,7 @@ impl<'a, T: IdHashItem, S: BuildHasher> OccupiedEntry<'a, T, S> {
         mem::replace(self.get_mut(), item)
     }
 
-    /// Removes and returns the item. Its slot is vacant then, and its room is spare. Hashes and compares no keys.
+    /// Removes and returns the item. Its slot becomes vacant, and its room is spare. Hashes and compares no keys.
     pub fn remove(self) -> T
         requires keyed { ⟦<Map<T, S> as Keyed>⟧.keyed (entry_map (Occupied self)) }
         ensures { RemovesAt ⟦<Map<T, S> as Keyed>⟧ result self.entry self.exit.0.now }

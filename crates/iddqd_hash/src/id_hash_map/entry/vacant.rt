@@ -10,10 +10,10 @@ use iddqd_store::{IdHashItem, Refused};
 use std::hash::BuildHasher;
 
 impl<'a, T: IdHashItem, S: BuildHasher> VacantEntry<'a, T, S> {
-    /// Inserts the item and returns a guard of it, which has to be spent. No item may have the item's key, which need
-    /// not be the key that was asked for. If the limit or memory refuses the item, it is returned, and no item has
-    /// changed. If `spare` is above 0, it is never refused. Hashes the key once, and compares none. If the index grows,
-    /// it reads each of its pairs.
+    /// Inserts the item, and returns a guard for it. No item has its key, which need not be the one that was asked for.
+    /// If the map is full or memory is refused, the item is returned, and the items are as they were. If `spare` is
+    /// above 0, it is never refused. Allocates only if `spare` is 0. Hashes the key once, and compares none. If the
+    /// index grows, it reads each of its pairs. The guard has to be spent.
     /// Match the refusal by a name, as in `Err(_refused)`. Beside a guard that is moved out of `Ok`, `Err(_)` gets no
     /// proof, if the items are not `Copy`.
     pub fn insert(self, item: T) -> Result<RefMut<'a, T, S>, Refused<T>>

@@ -10,8 +10,8 @@ use iddqd_store::IdHashItem;
 use std::hash::BuildHasher;
 
 impl<T: IdHashItem, S: BuildHasher> IdHashMap<T, S> {
-    /// Returns a walk that lends each item once. The map stays keyed unless you change an item's key. Hashes nothing
-    /// and compares no keys. Does not allocate.
+    /// Returns a walk over the items, in no particular order, that lends each once. The map stays keyed unless you
+    /// change an item's key. Hashes nothing and compares no keys. Does not allocate.
     #[inline]
     pub fn iter_mut(&mut self) -> IterMut<'_, T, S>
         requires keyed { ⟦<Self as Keyed>⟧.keyed self.old }
@@ -28,7 +28,7 @@ impl<T: IdHashItem, S: BuildHasher> IdHashMap<T, S> {
 }
 
 impl<T, S> IterMut<'_, T, S> {
-    /// The number of items to come.
+    /// Returns the number of items to come.
     #[inline]
     pub fn len(&self) -> usize
         ensures { result ≡ length (walk_map self.now).items - walk_done self.now }
@@ -38,8 +38,8 @@ impl<T, S> IterMut<'_, T, S> {
 }
 
 impl<T: IdHashItem, S: BuildHasher> IterMut<'_, T, S> {
-    /// Returns the next item, for writing, or `None` for good after the last one. It looks at each slot on its way. A keyed
-    /// map stays keyed if the key written is equal to the item's.
+    /// Returns the next item, for writing, or `None` for good after the last one. It looks at each slot on its way. A
+    /// keyed map stays keyed if the key written is equal to the item's.
     pub fn next(&mut self) -> Option<&mut T>
         ensures* writes_back { sem 𝓛 (walk_lends S.row T.row self.entry result) }
         ensures value { option_copied_mut result ≡ walk_item self.old }

@@ -1,4 +1,4 @@
-//! Reading the item of a spent guard.
+//! Reading the item of a guard that was spent.
 ghost use Rattle.std.specs.Prelude.{◌≡◌, Some};
 ghost use Rattle.iddqd_hash.specs.Guard.{lent_map, lent_item, guard_lender, shown_map, shown_item, shown_lender};
 
@@ -6,7 +6,7 @@ use super::{RefMut, Shown};
 use std::ops::Deref;
 
 impl<'a, T, S> RefMut<'a, T, S> {
-    /// Spends the guard, and returns the item, for reading while the map is borrowed.
+    /// Spends the guard, and returns the item for reading.
     #[inline]
     pub fn into_ref(self) -> Shown<'a, T, S>
         ensures same_map { shown_lender result ≡ guard_lender self.entry }

@@ -11,7 +11,7 @@ impl<T: IdOrdItem> IdOrdMap<T> {
     ghost use Rattle.iddqd_ord.specs.Entry.{IsEntryAt, IsFirstEntry, IsLastEntry, rests_without_entry};
 
     /// Returns the entry of the item at the position in the order of the keys, or `None` if the map has no item there.
-    /// Compares no keys.
+    /// Compares no keys. Does not allocate.
     pub fn get_index_entry(&mut self, index: usize) -> Option<OccupiedEntry<'_, T>>
         requires keyed { Ascends T.key T.Key.cmp self.old.items }
         ensures* unchanged_at_none { sem 𝓛 (rests_without_entry T.row self.entry result) }
@@ -30,7 +30,8 @@ impl<T: IdOrdItem> IdOrdMap<T> {
         })
     }
 
-    /// Returns the entry of the item of the least key, or `None` if the map has no items. Compares no keys.
+    /// Returns the entry of the item of the least key, or `None` if the map has no items. Compares no keys. Does not
+    /// allocate.
     pub fn first_entry(&mut self) -> Option<OccupiedEntry<'_, T>>
         requires keyed { Ascends T.key T.Key.cmp self.old.items }
         ensures* unchanged_at_none { sem 𝓛 (rests_without_entry T.row self.entry result) }
@@ -40,7 +41,8 @@ impl<T: IdOrdItem> IdOrdMap<T> {
         self.get_index_entry(0)
     }
 
-    /// Returns the entry of the item of the greatest key, or `None` if the map has no items. Compares no keys.
+    /// Returns the entry of the item of the greatest key, or `None` if the map has no items. Compares no keys. Does not
+    /// allocate.
     pub fn last_entry(&mut self) -> Option<OccupiedEntry<'_, T>>
         requires keyed { Ascends T.key T.Key.cmp self.old.items }
         ensures* unchanged_at_none { sem 𝓛 (rests_without_entry T.row self.entry result) }

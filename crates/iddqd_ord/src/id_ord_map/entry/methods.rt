@@ -12,7 +12,7 @@ use iddqd_store::{IdOrdItem, Refused, Visit};
 impl<'a, T: IdOrdItem> Entry<'a, T> {
     /// Inserts the item if the entry is vacant, or else drops it, and returns a guard for the entry's item. It inserts
     /// as `VacantEntry::insert` does. The guard has to be spent.
-    /// Match the refusal by a name, as in `Err(_refused)`: beside a guard that is moved out of `Ok`, `Err(_)` gets no
+    /// Match the refusal by a name, as in `Err(_refused)`. Beside a guard that is moved out of `Ok`, `Err(_)` gets no
     /// proof, if the items are not `Copy`.
     pub fn or_insert(self, item: T) -> Result<RefMut<'a, T>, Refused<T>>
     where

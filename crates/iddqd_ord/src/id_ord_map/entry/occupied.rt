@@ -20,7 +20,7 @@ impl<'a, T> OccupiedEntry<'a, T> {
         self.map.item_in_slot(self.slot)
     }
 
-    /// Returns the item, for reading as long as the map is borrowed. The crate returns a plain reference.
+    /// Returns the item, for reading as long as the map is borrowed.
     #[inline]
     pub fn into_ref(self) -> Shown<'a, T>
         ensures same_map { shown_lender result ≡ entry_lender (Occupied self.entry) }
@@ -37,8 +37,8 @@ impl<'a, T> OccupiedEntry<'a, T> {
 }
 
 impl<'a, T: IdOrdItem> OccupiedEntry<'a, T> {
-    /// Returns the item, for writing while the entry is borrowed (the crate returns a guard). A keyed map stays keyed
-    /// if the key written is equal to the entry's.
+    /// Returns the item, for writing while the entry is borrowed. A keyed map stays keyed if the key written is equal
+    /// to the entry's.
     #[inline]
     pub fn get_mut(&mut self) -> &mut T
         ensures* writes_back { sem 𝓛 (entry_follows T.row self.entry result) }
@@ -83,7 +83,7 @@ impl<'a, T: IdOrdItem> OccupiedEntry<'a, T> {
         ensures new { entry_item (Occupied self.new) ≡ Some item }
         ensures map { entry_map (Occupied self.new) ≡ entry_with (Occupied self.old) item }
 
-        // the rest stays
+        // what stays
         ensures same_map { entry_lender (Occupied self.new) ≡ entry_lender (Occupied self.old) }
         ensures slot { entry_slot self.new ≡ entry_slot self.old }
         ensures others { entry_others (Occupied self.new) ≡ entry_others (Occupied self.old) }

@@ -12,8 +12,9 @@ use iddqd_store::{IdOrdItem, Refused};
 impl<'a, T: IdOrdItem> VacantEntry<'a, T> {
     /// Inserts the item at the place of its own key, and returns a guard for it. No item has that key, which need not
     /// be the one that was asked for. If the map is full or memory is refused, the item is returned, and the items are
-    /// as they were. It makes as many comparisons as `get`. The guard has to be spent.
-    /// Match the refusal by a name, as in `Err(_refused)`: beside a guard that is moved out of `Ok`, `Err(_)` gets no
+    /// as they were. It makes as many comparisons as `get`. Allocates as `insert_unique` does. The guard has to be
+    /// spent.
+    /// Match the refusal by a name, as in `Err(_refused)`. Beside a guard that is moved out of `Ok`, `Err(_)` gets no
     /// proof, if the items are not `Copy`.
     pub fn insert(self, item: T) -> Result<RefMut<'a, T>, Refused<T>>
         requires keyed { Ascends T.key T.Key.cmp (entry_map (Vacant self)).items }
@@ -60,7 +61,7 @@ impl<'a, T: IdOrdItem> VacantEntry<'a, T> {
         }
     }
 
-    /// Inserts the item as `insert` does, and returns its entry.
+    /// Inserts the item as `insert` does, and returns its entry. It may allocate for the index even if no leaf is full.
     pub fn insert_entry(self, item: T) -> Result<OccupiedEntry<'a, T>, Refused<T>>
         requires keyed { Ascends T.key T.Key.cmp (entry_map (Vacant self)).items }
         requires absent { LacksKeyOf T.key T.Key.eq item (Vacant self) }

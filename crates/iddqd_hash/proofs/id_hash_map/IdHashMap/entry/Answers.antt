@@ -53,8 +53,8 @@ returns-in-Some-clause-entry g c =
       others = others_found key laws test one_key now.slots now.items differ slot there (sym found);
     }
 
-pub returns-in-Some-clause-equal : goal.returns-in-Some-clause-equal
-returns-in-Some-clause-equal g c =
+pub returns-in-Some-clause-akin : goal.returns-in-Some-clause-akin
+returns-in-Some-clause-akin g c =
     let m = c.self.inside in
     let key = g.T.IdHashItem.key in
     let test = g.Q.Equivalent.equivalent c.args.query.now in

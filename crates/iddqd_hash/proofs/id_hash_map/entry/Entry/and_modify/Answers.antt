@@ -7,8 +7,8 @@ use Rattle.iddqd_hash_parts.proofs.GetMutLemmas.{keyed_akin_written}
 use Rattle.iddqd_hash.specs.Entry.{entry_item, entry_map, entry_others, entry_with}
 use Rattle.iddqd_hash.proofs.id_hash_map.entry.Entry.and_modify.Goals as goal
 
-pub returns-in-Occupied-clause-modified : goal.returns-in-Occupied-clause-modified
-returns-in-Occupied-clause-modified g c =
+pub returns-in-Occupied-clause-visited : goal.returns-in-Occupied-clause-visited
+returns-in-Occupied-clause-visited g c =
     let e = c.in-Occupied.entry in
     let is = c.in-Occupied.is in
     let visits = λ (x : g.row.T.Denot). (g.V.Visit.visits c.args.visitor.now x).1 in
