@@ -122,7 +122,7 @@ module _ (os : List (Option Node)) (i : ℕ) (b : Node) (p : IsPacked os) (lt : 
       ∙ (rw (← map-set Some (items_present os) i b, n))))
 
   pub put_packed : IsPacked (set (set os i None) i (Some b))
-  put_packed = packed_is _ (set (items_present os) i b) put_back (omega (arith, length-set (items_present os) i b, p.at_most_12))
+  put_packed = packed_is _ (set (items_present os) i b) put_back (omega (arith, length-set (items_present os) i b, p.fits))
 
   pub put_held : items_present (set (set os i None) i (Some b)) ≡ set (items_present os) i b
   put_held = held_is _ (set (items_present os) i b) put_back

@@ -23,7 +23,7 @@ module _ {T : Type 0} where
 
   -- cells that are a filled list hold that list
   pub packed_is : (os : List (Option T)) (xs : List T) → os ≡ filled xs → length xs ≤ 12 → IsPacked os
-  packed_is os xs e le = rw e (record { cells = ap filled (sym (held_filled xs)); at_most_12 = rw held_filled le })
+  packed_is os xs e le = rw e (record { cells = ap filled (sym (held_filled xs)); fits = rw held_filled le })
 
   pub held_is : (os : List (Option T)) (xs : List T) → os ≡ filled xs → items_present os ≡ xs
   held_is os xs e = rw e (held_filled xs)
@@ -133,19 +133,19 @@ module _ {T : Type 0} where
   pub moved_lower : (os us mid : List (Option T)) (at : ℕ) → IsPacked os → IsPacked us → items_present us ≡ [] → at ≤ length (items_present os)
       → mid ≡ take (12 - at) us → put_mid at (length os - at) os mid ≡ filled (take at (items_present os))
   moved_lower os us mid at p q z le m =
-      let n : length os ≡ 12 = ap length p.cells ∙ length_filled (items_present os) p.at_most_12 in
-      let d : drop (length os - at) (drop at os) ≡ [] = drop-drop (length os - at) at os ∙ drop_all _ os (omega (arith, p.at_most_12)) in
+      let n : length os ≡ 12 = ap length p.cells ∙ length_filled (items_present os) p.fits in
+      let d : drop (length os - at) (drop at os) ≡ [] = drop-drop (length os - at) at os ∙ drop_all _ os (omega (arith, p.fits)) in
       let r = take-replicate (12 - at) 12 none (omega arith) in
       let k : mid ≡ replicate (12 - at) none = m ∙ (ap (λ l. take (12 - at) l) (empty_cells us q z) ∙ r) in
-      ap (λ l. take at os ++ (mid ++ l)) d ∙ (ap (λ l. take at os ++ l) (append-nil mid ∙ k) ∙ cut_lower os (items_present os) at p.cells le p.at_most_12)
+      ap (λ l. take at os ++ (mid ++ l)) d ∙ (ap (λ l. take at os ++ l) (append-nil mid ∙ k) ∙ cut_lower os (items_present os) at p.cells le p.fits)
 
   pub moved_upper : (os us mid : List (Option T)) (at : ℕ) → IsPacked os → IsPacked us → items_present us ≡ [] → at ≤ length (items_present os)
       → mid ≡ take (length os - at) (drop at os) → mid ++ drop (12 - at) us ≡ filled (drop at (items_present os))
   moved_upper os us mid at p q z le m =
       let t : mid ≡ drop at os = m ∙ take_rest os at in
-      let k : 12 - (12 - at) ≡ at = omega (arith, p.at_most_12) in
+      let k : 12 - (12 - at) ≡ at = omega (arith, p.fits) in
       let r : drop (12 - at) us ≡ replicate at none = ap (λ l. drop (12 - at) l) (empty_cells us q z) ∙ (drop-replicate (12 - at) 12 none ∙ ap (λ j. replicate j none) k) in
-      ap (λ l. l ++ drop (12 - at) us) t ∙ (ap (λ l. drop at os ++ l) r ∙ cut_upper os (items_present os) at p.cells le p.at_most_12)
+      ap (λ l. l ++ drop (12 - at) us) t ∙ (ap (λ l. drop at os ++ l) r ∙ cut_upper os (items_present os) at p.cells le p.fits)
 
   -- what `append` leaves
   pub joined_lower : (os us mid : List (Option T)) (len more : ℕ) → IsPacked os → IsPacked us → len ≡ length (items_present os) → more ≡ length (items_present us) → len + more ≤ 12
@@ -165,11 +165,11 @@ module _ {T : Type 0} where
       → ((d : Option T) → new ≡ remove (set os i o) i ++ get_or (set os i o) i d ∷ [])
       → new ≡ filled (remove (items_present os) i)
   removed os new o i p lt z h =
-      let n : length os ≡ 12 = ap length p.cells ∙ length_filled (items_present os) p.at_most_12 in
-      let g = get_or-set_same os i o none (omega (arith, p.at_most_12)) in
+      let n : length os ≡ 12 = ap length p.cells ∙ length_filled (items_present os) p.fits in
+      let g = get_or-set_same os i o none (omega (arith, p.fits)) in
       let t = take-set os i o in
       let d = drop-set-lt (suc i) os i o (omega arith) in
-      take_out os new (items_present os) i p.cells lt p.at_most_12
+      take_out os new (items_present os) i p.cells lt p.fits
       (h none ∙ (ap (λ l. (l ++ drop (suc i) (set os i o)) ++ get_or (set os i o) i none ∷ []) t ∙ (ap (λ l. (take i os ++ l) ++ get_or (set os i o) i none ∷ []) d ∙ ap (λ x. remove os i ++ x ∷ []) (g ∙ z))))
 
   -- a cell in front holds the item there

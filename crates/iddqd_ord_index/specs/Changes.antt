@@ -5,7 +5,7 @@ use Rattle.std.specs.Prelude.{◌≡◌, ℕ, ◌+◌, ◌-◌, ◌<◌, ◌≤�
 use Rattle.std.proofs.Common.{Box, Global}
 use Rattle.arrayvec.specs.ArrayVec.{ArrayVec}
 use Rattle.iddqd_ord_index.specs.Nodes.{below, slots_with, IsBare}
-use Rattle.iddqd_ord_index.specs.Shape.{Subtree, IsDense, tree}
+use Rattle.iddqd_ord_index.specs.Shape.{Subtree, IsDense, least_slots, tree}
 use Rattle.iddqd_ord_index.specs.declared.tree.node.Block.{Block}
 use Rattle.iddqd_ord_index.specs.declared.tree.node.Branches.{Branches}
 use Rattle.iddqd_ord_index.specs.declared.tree.node.Node.{Node}
@@ -18,8 +18,8 @@ pub record IsGrown (all : List ℕ) (width : ℕ) (new : Subtree) : Type 0 where
 -- all stands in two nodes with a slot between them
 pub record IsSplit (all : List ℕ) (lower : Subtree) (middle : ℕ) (upper : Subtree) : Type 0 where
   pub slots : all ≡ lower.slots ++ middle ∷ upper.slots
-  pub wide : 5 ≤ lower.width
-  pub upper_wide : 5 ≤ upper.width
+  pub wide : least_slots ≤ lower.width
+  pub upper_wide : least_slots ≤ upper.width
   pub upper_height : upper.height ≡ lower.height
   pub upper_dense : IsDense upper
 

@@ -5,15 +5,16 @@ use Rattle.iddqd_ord_index.specs.Changes.{WantsFor}
 use Rattle.iddqd_ord_index.specs.Runs.{IsRunOf}
 use Rattle.iddqd_ord_index.specs.Shape.{IsDense}
 use Rattle.iddqd_ord_index.specs.declared.ord_index.OrdIndex.TheInside.{Inside}
+use Rattle.iddqd_store.specs.Holding.{max_items}
 
 -- one slot more has a number and the blocks that it may need, and there is room for those that are wanted then
 abbrev pub IsReady : Inside → Type 0
-IsReady i = (length i.root.slots < 4294967295) × (i.levels ≤ i.pool.count) × (i.levels < i.pool.room)
+IsReady i = (length i.root.slots < max_items) × (i.levels ≤ i.pool.count) × (i.levels < i.pool.room)
 
 -- each slot stands once, their places have numbers of 32 bits, and the numbers of slots and levels are those of the tree
 pub record IsIndex (i : Inside) : Type 0 where
   pub each_once : IsDistinct nat_eq i.root.slots
-  pub numbered : length i.root.slots ≤ 4294967295
+  pub numbered : length i.root.slots ≤ max_items
   pub len : i.len ≡ length i.root.slots
   pub levels : i.levels ≡ i.root.height
   pub dense : IsDense i.root

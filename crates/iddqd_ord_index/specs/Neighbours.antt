@@ -1,8 +1,8 @@
 -- Two neighbours of which one is a slot short, and what they are when they are rebalanced. No public clause cites this module.
-use Rattle.std.specs.Prelude.{◌≡◌, ℕ, ◌+◌, ◌<◌, ◌≤◌, min, nat_lt, if◌then◌else◌, List, ◌∷◌, ◌++◌, length, slice_index_or}
+use Rattle.std.specs.Prelude.{◌≡◌, ℕ, ◌+◌, ◌-◌, ◌*◌, ◌<◌, ◌≤◌, min, nat_lt, if◌then◌else◌, List, ◌∷◌, ◌++◌, length, slice_index_or}
 use Rattle.std.proofs.Common.{◌≢◌}
 use Rattle.iddqd_ord_index.specs.Changes.{Stock}
-use Rattle.iddqd_ord_index.specs.Shape.{Subtree, IsDense, IsBranch, levels, unused}
+use Rattle.iddqd_ord_index.specs.Shape.{Subtree, IsDense, IsBranch, least_slots, levels, unused}
 
 -- the slots of both, with one between them
 abbrev pub joined : Subtree → ℕ → Subtree → List ℕ
@@ -21,8 +21,8 @@ IsNarrower old new = new.width + 1 ≡ old.width
 -- of one height, and one of them has a slot too few
 pub record IsPair (a b : Subtree) : Type 0 where
   pub height : a.height ≡ b.height
-  pub short : min a.width b.width ≡ 4
-  pub other : 9 ≤ a.width + b.width
+  pub short : min a.width b.width ≡ least_slots - 1
+  pub other : 2 * least_slots - 1 ≤ a.width + b.width
 
 -- the slots of both stand in the lower one
 pub record IsMerged (a : Subtree) (middle : ℕ) (b lower : Subtree) : Type 0 where
@@ -38,7 +38,7 @@ pub record IsShifted (a : Subtree) (middle : ℕ) (b lower : Subtree) (top : ℕ
 -- a branch of a node of height h that may be a slot short
 pub record IsShort (h : ℕ) (t : Subtree) : Type 0 where
   pub height : t.height + 1 ≡ h
-  pub wide : 4 ≤ t.width
+  pub wide : least_slots - 1 ≤ t.width
   pub dense : IsDense t
 
 -- the branches and slots of a node, but that the i-th branch may be a slot short

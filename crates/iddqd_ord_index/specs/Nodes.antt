@@ -43,6 +43,10 @@ AreBranches bs = AreCounted (nodes_of bs) (counts_of bs)
 abbrev pub IsBlock : Block → Type 0
 IsBlock b = AreCounted b.nodes b.counts.items
 
+-- how many branches a block has
+abbrev pub branch_count : Block → ℕ
+branch_count b = length (subtrees b.nodes)
+
 -- there is a block
 abbrev pub IsThere : Option (Box Block Global) → Type 0
 IsThere None = ⊥

@@ -1,9 +1,23 @@
--- A B-tree of slots. A node has at most 11 slots of its own; a leaf has no branches, an inner node one branch more than
--- slots. No public clause cites this module.
+-- A B-tree of slots. A node has at most `most_slots` slots of its own; a leaf has no branches, an inner node one branch
+-- more than slots. No public clause cites this module.
 --     Subtree      a node as others see it: its slots in order, its height, and how many slots the node itself has
 --     in_order, behind      a node's slots in order, from those of its branches and its own between them
 --     IsForked      the shape that a node's branches keep
 use Rattle.std.specs.Prelude.{◌≡◌, ℕ, ◌+◌, ◌-◌, ◌*◌, ◌^◌, ◌<◌, ◌≤◌, List, [], ◌∷◌, ◌++◌, length, map, take, All, slice_index_or}
+
+-- how many slots a node has of its own at most, and all but the root at least
+abbrev pub most_slots : ℕ
+most_slots = 11
+
+abbrev pub least_slots : ℕ
+least_slots = 5
+
+-- the same of the branches of an inner node
+abbrev pub most_branches : ℕ
+most_branches = 12
+
+abbrev pub least_branches : ℕ
+least_branches = 6
 
 -- what a node holds with all that lies below it: the slots in order, the number of levels, and the node's own number of slots
 pub record Subtree : Type 0 where
@@ -43,16 +57,16 @@ tree ts ss = record { slots = in_order (lists ts) ss; height = levels ts; width 
 -- as many slots at least as the height calls for, where the node itself has this many
 pub record IsDense (t : Subtree) : Type 0 where
   pub low : 1 ≤ t.height
-  pub many : (t.width + 1) * 6 ^ (t.height - 1) ≤ length t.slots + 1
+  pub many : (t.width + 1) * least_branches ^ (t.height - 1) ≤ length t.slots + 1
 
 -- a tree has at most so many levels: one of 13 holds more slots than there are numbers of 32 bits (HeightLemmas)
 abbrev pub most_levels : ℕ
 most_levels = 12
 
--- a branch of a node of height h: one level less, and at least 5 slots in its node
+-- a branch of a node of height h: one level less, and at least `least_slots` slots in its node
 pub record IsBranch (h : ℕ) (t : Subtree) : Type 0 where
   pub height : t.height + 1 ≡ h
-  pub wide : 5 ≤ t.width
+  pub wide : least_slots ≤ t.width
   pub dense : IsDense t
 
 -- no branches, or one more than slots, all of one height and each wide enough

@@ -1,6 +1,6 @@
 //! The item store.
 use crate::checks::check;
-use iddqd_store::{ItemStore, TryReserveError};
+use iddqd_store::{ItemStore, MAX_ITEMS, TryReserveError};
 use std::mem;
 use std::process::Abort;
 use std::test::Fail;
@@ -167,15 +167,15 @@ fn clones_and_clears(rt: HostRuntime) -> Result<(), Fail> {
     Ok(())
 }
 
-// So large that `u32::MAX` of them are more than memory has addresses for.
+// So large that `MAX_ITEMS` of them are more than memory has addresses for.
 type Huge = [[u64; 256]; 512];
 
 #[test]
 fn store_growth_refused(rt: HostRuntime) {
-    let mut store: ItemStore<Huge> = ItemStore::new(rt.alloc(), u32::MAX);
+    let mut store: ItemStore<Huge> = ItemStore::new(rt.alloc(), MAX_ITEMS);
     check(
         &rt,
-        store.try_reserve(4294967295) == Err(TryReserveError::alloc_error()),
+        store.try_reserve(MAX_ITEMS as usize) == Err(TryReserveError::alloc_error()),
     );
     check(
         &rt,

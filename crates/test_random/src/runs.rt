@@ -6,7 +6,7 @@ use crate::lengths::{CALLS, MANY_CALLS, MAPS};
 use crate::plain::Plain;
 use crate::writing::{Written, write_first};
 use crate::{calls, many, ordered, ranged};
-use iddqd::{IdHashMap, IdOrdMap};
+use iddqd::{IdHashMap, IdOrdMap, MAX_ITEMS};
 use std::alloc::{AllocError, Global};
 use std::collections::hash_map::RandomState;
 use std::hash::BuildHasherDefault;
@@ -19,8 +19,6 @@ use test_support::hashers::ZeroHasher;
 use test_support::maps::{AskedByKey, AskedForRoom, AskedToInsert, Hashed, Ordered, by_hash};
 use test_support::respelled::Respelled;
 use test_support::walks::Walked;
-
-const MAX_ITEMS: u32 = 4_294_967_295;
 
 /// What is called.
 #[derive(Clone, Copy, Debug)]

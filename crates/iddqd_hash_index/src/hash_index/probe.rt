@@ -20,7 +20,7 @@ fn find_at<T, K: KeyOf<T>, Q: Equivalent<K::Key>>(
     steps: &mut Steps,
 ) -> Option<u32>
     requires within { at < length groups.now }
-    requires long { length cells.now ≡ 12 * length groups.now }
+    requires long { length cells.now ≡ LANES * length groups.now }
     requires occupied { AreOccupied store.now (pairs_of groups.now cells.now) hash }
 
     // what it finds
@@ -56,7 +56,7 @@ pub(super) fn find_among<T, K: KeyOf<T>, Q: Equivalent<K::Key>>(
     query: &Q,
     steps: &mut Steps,
 ) -> Option<u32>
-    requires long { length cells.now ≡ 12 * length groups.now }
+    requires long { length cells.now ≡ LANES * length groups.now }
     requires placed { IsPlaced groups.now cells.now }
     requires occupied { AreOccupied store.now (pairs_of groups.now cells.now) hash }
 

@@ -6,10 +6,13 @@ use crate::tree::node::{LeafWalk, Node};
 use arrayvec::ArrayVec;
 use std::marker::Model;
 
+// How many slots a cache has room for.
+const RUN: usize = 16;
+
 /// Some slots that stand side by side in a list, and the position of the first.
 #[derive(Drop)]
 pub(crate) struct RunCache {
-    slots: ArrayVec<u32, 16>,
+    slots: ArrayVec<u32, RUN>,
     start: u32,
 }
 
@@ -101,17 +104,17 @@ impl RunCache {
         ensures cached { IsRunOf self.new root.now.slots }
         ensures there { at < self.new.start + length self.new.slots }
     {
-        self.start = at.saturating_sub(15);
+        self.start = at.saturating_sub(RUN as u32 - 1);
         self.slots.clear();
         append_through(&mut self.slots, root, self.start, at);
     }
 }
 
 // Appends the slots of the tree from one position through another.
-fn append_through(slots: &mut ArrayVec<u32, 16>, root: &Node, start: u32, at: u32)
+fn append_through(slots: &mut ArrayVec<u32, RUN>, root: &Node, start: u32, at: u32)
     requires in_list { at < length root.now.slots }
     requires forward { start ≤ at }
-    requires room { at < start + 16 }
+    requires room { at < start + RUN }
     requires none { slots.old.items ≡ [] }
 
     // afterwards
@@ -125,9 +128,9 @@ fn append_through(slots: &mut ArrayVec<u32, 16>, root: &Node, start: u32, at: u3
 }
 
 // Goes down the tree once, and appends the slots from the position on that there is room for. Returns the first of them.
-fn append(slots: &mut ArrayVec<u32, 16>, root: &Node, at: u32) -> u32
+fn append(slots: &mut ArrayVec<u32, RUN>, root: &Node, at: u32) -> u32
     requires in_list { at < length root.now.slots }
-    requires room { length slots.old.items < 16 }
+    requires room { length slots.old.items < RUN }
     ensures slot { result ≡ slice_index root.now.slots at }
     ensures appended { BeginsWith slots.new.items (slots.old.items ++ drop at root.now.slots) }
     ensures more { length slots.old.items < length slots.new.items }
@@ -140,11 +143,11 @@ fn append(slots: &mut ArrayVec<u32, 16>, root: &Node, at: u32) -> u32
 }
 
 // Appends the slots of the walk, as far as there is room.
-fn fill(slots: &mut ArrayVec<u32, 16>, mut walk: LeafWalk<'_>)
+fn fill(slots: &mut ArrayVec<u32, RUN>, mut walk: LeafWalk<'_>)
     ensures appended { BeginsWith slots.new.items (slots.old.items ++ walk.entry) }
     ensures more { length slots.old.items ≤ length slots.new.items }
 {
-    'fill: while slots.len() < 16 {
+    'fill: while slots.len() < RUN {
         match walk.next() {
             Some(slot) => slots.push(slot),
             None => return,

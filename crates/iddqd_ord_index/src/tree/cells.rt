@@ -1,16 +1,18 @@
-//! A fixed array of twelve cells that holds a list: the items stand in front, the cells behind them are empty.
+//! A fixed array of cells that holds a list: the items stand in front, the cells behind them are empty.
 ghost use Rattle.std.specs.Prelude.{◌≡◌, ◌+◌, ◌-◌, ◌<◌, ◌≤◌, List, [], ◌∷◌, ◌++◌, length, take, drop, insert, remove, slice_index_or, slice_set, nat_le, if◌then◌else◌};
 ghost use Rattle.iddqd_ord_index.specs.Cells.{items_present, InsertsLast, IsPacked};
+
+use super::node::MOST_BRANCHES;
 
 // Puts `item` at place `i`, and moves the later items up.
 pub(crate) fn insert<T: Drop>(cells: &mut [Option<T>], i: usize, item: T)
     requires packed { IsPacked cells.old }
     requires in_bounds { i ≤ length (items_present cells.old) }
-    requires room { length (items_present cells.old) < 12 }
+    requires room { length (items_present cells.old) < MOST_BRANCHES }
     ensures packed { IsPacked cells.new }
     ensures items { items_present cells.new ≡ insert (items_present cells.old) i item }
 {
-    cells[11] = Some(item);
+    cells[MOST_BRANCHES - 1] = Some(item);
     last_to(cells, i);
 }
 
@@ -77,7 +79,7 @@ pub(crate) fn move_tail<T>(cells: &mut [Option<T>], at: usize, upper: &mut [Opti
     ensures items { items_present cells.new ≡ take at (items_present cells.old) }
     ensures upper_items { items_present upper.new ≡ drop at (items_present cells.old) }
 {
-    cells[at..].swap_with_slice(&mut upper[..12 - at]);
+    cells[at..].swap_with_slice(&mut upper[..MOST_BRANCHES - at]);
 }
 
 // Moves the `more` items of `upper` behind the `len` items of `cells`.
@@ -86,7 +88,7 @@ pub(crate) fn append<T>(cells: &mut [Option<T>], len: usize, upper: &mut [Option
     requires upper_packed { IsPacked upper.old }
     requires len { len ≡ length (items_present cells.old) }
     requires more { more ≡ length (items_present upper.old) }
-    requires fits { len + more ≤ 12 }
+    requires fits { len + more ≤ MOST_BRANCHES }
 
     // afterwards
     ensures packed { IsPacked cells.new }

@@ -17,12 +17,21 @@ mod remove_by;
 mod walk;
 mod walk_back;
 
-use crate::tree::slots::Slots;
+use crate::tree::slots::{MOST_SLOTS, Slots};
 use arrayvec::ArrayVec;
 pub(crate) use insert_by::Outcome;
 use std::marker::Model;
 pub(crate) use walk::LeafWalk;
 pub(crate) use walk_back::LeafWalkBack;
+
+/// How many branches a node has room for: one before each slot of its own, and one behind the last.
+pub(crate) const MOST_BRANCHES: usize = MOST_SLOTS + 1;
+
+// How many slots of its own each node but the root has at least.
+const LEAST_SLOTS: usize = 5;
+
+// How many of its branches and slots a full node keeps in a split. The last of these slots goes up.
+const KEPT: usize = 6;
 
 /// A node: its own slots, and the branches between which they stand. A leaf has no branches.
 #[cycle(tree)]
@@ -43,8 +52,8 @@ pub(crate) struct Branches {
 #[cycle(tree)]
 #[derive(Drop)]
 pub(crate) struct Block {
-    counts: ArrayVec<u32, 12>,
-    nodes: [Option<Node>; 12],
+    counts: ArrayVec<u32, MOST_BRANCHES>,
+    nodes: [Option<Node>; MOST_BRANCHES],
 }
 
 impl Model for Node {
@@ -79,7 +88,7 @@ impl Node {
     // How many slots the node itself has.
     pub(crate) fn width(&self) -> usize
         ensures width { result ≡ self.now.width }
-        ensures most { result ≤ 11 }
+        ensures most { result ≤ MOST_SLOTS }
     {
         self.slots.len()
     }

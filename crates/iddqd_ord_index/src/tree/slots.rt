@@ -6,22 +6,26 @@ use super::cells;
 use std::marker::Model;
 use std::mem;
 
-/// At most eleven slots. Contracts see them as those of an `ArrayVec`.
+/// How many slots of its own a node has room for.
+pub(crate) const MOST_SLOTS: usize = 11;
+
+/// At most `MOST_SLOTS` slots. Contracts see them as those of an `ArrayVec`.
 #[derive(Drop)]
 pub(crate) struct Slots {
-    cells: [u32; 11],
+    cells: [u32; MOST_SLOTS],
     len: u32,
 }
 
 impl Model for Slots {
     ghost use Rattle.std.specs.Prelude.{◌≤◌, ℕ, take};
     ghost use Rattle.arrayvec.specs.ArrayVec.{ArrayVec};
+    ghost use Rattle.iddqd_ord_index.specs.Shape.{most_slots};
 
     ghost Value = { ArrayVec ℕ };
 
     ghost view = { λ s. record { items = take s.len s.cells } };
 
-    ghost invariant = { λ s. s.len ≤ 11 };
+    ghost invariant = { λ s. s.len ≤ most_slots };
 }
 
 impl Slots {
@@ -29,7 +33,7 @@ impl Slots {
         ensures { result.items ≡ [] }
     {
         Slots {
-            cells: [0; 11],
+            cells: [0; MOST_SLOTS],
             len: 0,
         }
     }
@@ -37,7 +41,7 @@ impl Slots {
     #[inline]
     pub(crate) fn len(&self) -> usize
         ensures value { result ≡ array_vec_len self.now }
-        ensures fits { result ≤ 11 }
+        ensures fits { result ≤ MOST_SLOTS }
     {
         self.len as usize
     }
@@ -45,7 +49,7 @@ impl Slots {
     #[inline]
     pub(crate) fn as_slice(&self) -> &[u32]
         ensures value { result.now ≡ self.now.items }
-        ensures fits { length result.now ≤ 11 }
+        ensures fits { length result.now ≤ MOST_SLOTS }
     {
         &self.cells[..self.len as usize]
     }
@@ -53,7 +57,7 @@ impl Slots {
     // Inserts a slot at place `i`, and moves the later ones up.
     pub(crate) fn insert(&mut self, i: usize, slot: u32)
         requires in_bounds { i ≤ array_vec_len self.old }
-        requires room { array_vec_len self.old < 11 }
+        requires room { array_vec_len self.old < MOST_SLOTS }
         ensures items { self.new.items ≡ insert self.old.items i slot }
         ensures len { array_vec_len self.new ≡ array_vec_len self.old + 1 }
     {
@@ -78,7 +82,7 @@ impl Slots {
     }
 
     pub(crate) fn push(&mut self, slot: u32)
-        requires { array_vec_len self.old < 11 }
+        requires { array_vec_len self.old < MOST_SLOTS }
         ensures items { self.new.items ≡ self.old.items ++ slot ∷ [] }
         ensures len { array_vec_len self.new ≡ array_vec_len self.old + 1 }
     {
@@ -114,7 +118,7 @@ impl Slots {
     }
 
     pub(crate) fn extend_from_slice(&mut self, more: &[u32])
-        requires { array_vec_len self.old + length more.now ≤ 11 }
+        requires { array_vec_len self.old + length more.now ≤ MOST_SLOTS }
         ensures items { self.new.items ≡ self.old.items ++ more.now }
         ensures len { array_vec_len self.new ≡ array_vec_len self.old + length more.now }
     {

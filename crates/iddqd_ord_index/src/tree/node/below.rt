@@ -1,9 +1,9 @@
 //! The branches of a node and the number of slots below each, changed together.
-ghost use Rattle.std.specs.Prelude.{true, false, ◌≡◌, ◌+◌, ◌^◌, ◌<◌, ◌≤◌, ◌==◌, [], ◌++◌, length, take, drop, insert, remove, slice_index, slice_index_or, slice_set, nat_le, if◌then◌else◌, IfOk, IfSome, IsSome};
-ghost use Rattle.iddqd_ord_index.specs.Nodes.{below, below_with, counts_of, nodes_of, subtrees, AreBranches, HasBlock, IsBare, IsBlock, JoinsBlocks, SplitsWith};
+ghost use Rattle.std.specs.Prelude.{true, false, ◌≡◌, ◌+◌, ◌^◌, ◌<◌, ◌≤◌, ◌==◌, [], ◌++◌, length, take, drop, insert, remove, slice_index, slice_index_or, slice_set, nat_lt, if◌then◌else◌, IfOk, IfSome, IsSome};
+ghost use Rattle.iddqd_ord_index.specs.Nodes.{below, below_with, branch_count, counts_of, nodes_of, subtrees, AreBranches, HasBlock, IsBare, IsBlock, JoinsBlocks, SplitsWith};
 ghost use Rattle.iddqd_ord_index.specs.Shape.{lists, starts, unused, IsBranchAt};
 
-use super::{Block, Branches, Node};
+use super::{Block, Branches, KEPT, MOST_BRANCHES, Node};
 use crate::tree::cells;
 use arrayvec::ArrayVec;
 use std::alloc::{AllocError, Global};
@@ -24,8 +24,8 @@ impl Block {
 
     fn insert(&mut self, i: usize, node: Node, count: u32)
         requires block { IsBlock self.old }
-        requires in_bounds { i ≤ length (subtrees self.old.nodes) }
-        requires room { length (subtrees self.old.nodes) < 12 }
+        requires in_bounds { i ≤ branch_count self.old }
+        requires room { branch_count self.old < MOST_BRANCHES }
         requires count { count ≡ length node.slots }
 
         // afterwards
@@ -38,7 +38,7 @@ impl Block {
 
     fn remove(&mut self, i: usize) -> (Node, u32)
         requires block { IsBlock self.old }
-        requires in_bounds { i < length (subtrees self.old.nodes) }
+        requires in_bounds { i < branch_count self.old }
 
         // afterwards
         ensures block { IsBlock self.new }
@@ -63,7 +63,7 @@ impl Block {
     fn append(&mut self, upper: &mut Block)
         requires block { IsBlock self.old }
         requires upper_block { IsBlock upper.old }
-        requires fits { length (subtrees self.old.nodes) + length (subtrees upper.old.nodes) ≤ 12 }
+        requires fits { branch_count self.old + branch_count upper.old ≤ MOST_BRANCHES }
 
         // afterwards
         ensures block { IsBlock self.new }
@@ -84,7 +84,7 @@ impl Block {
     fn move_tail(&mut self, i: usize, upper: &mut Block)
         requires block { IsBlock self.old }
         requires upper_block { IsBlock upper.old }
-        requires in_bounds { i ≤ length (subtrees self.old.nodes) }
+        requires in_bounds { i ≤ branch_count self.old }
         requires upper_empty { subtrees upper.old.nodes ≡ [] }
 
         // afterwards
@@ -103,11 +103,11 @@ impl Block {
         self.counts.truncate(i);
     }
 
-    // Puts a branch in behind the i-th of twelve, and moves the upper half into `upper`, which has none.
+    // Puts a branch in behind the i-th of a full node, and moves the upper half into `upper`, which has none.
     fn split(&mut self, i: usize, node: Node, count: u32, upper: &mut Block)
         requires block { IsBlock self.old }
-        requires full { length (subtrees self.old.nodes) ≡ 12 }
-        requires in_bounds { i < 12 }
+        requires full { branch_count self.old ≡ MOST_BRANCHES }
+        requires in_bounds { i < MOST_BRANCHES }
         requires count { count ≡ length node.slots }
         requires upper_block { IsBlock upper.old }
         requires upper_empty { subtrees upper.old.nodes ≡ [] }
@@ -116,14 +116,14 @@ impl Block {
         ensures block { IsBlock self.new }
         ensures upper_block { IsBlock upper.new }
         ensures below { SplitsWith i node self.old self.new upper.new }
-        ensures lower { length (subtrees self.new.nodes) ≡ (if nat_le i 5 then 7 else 6) }
-        ensures upper { length (subtrees upper.new.nodes) ≡ (if nat_le i 5 then 6 else 7) }
+        ensures lower { branch_count self.new ≡ (if nat_lt i KEPT then KEPT + 1 else KEPT) }
+        ensures upper { branch_count upper.new ≡ (if nat_lt i KEPT then KEPT else KEPT + 1) }
     {
-        self.move_tail(6, upper);
-        if i <= 5 {
+        self.move_tail(KEPT, upper);
+        if i < KEPT {
             self.insert(i + 1, node, count);
         } else {
-            upper.insert(i - 5, node, count);
+            upper.insert(i + 1 - KEPT, node, count);
         }
     }
 }
@@ -287,7 +287,7 @@ impl Branches {
     pub(super) fn insert(&mut self, i: usize, node: Node, count: u32)
         requires branches { AreBranches self.old }
         requires in_bounds { i ≤ length (below self.old) }
-        requires room { length (below self.old) < 12 }
+        requires room { length (below self.old) < MOST_BRANCHES }
         requires count { count ≡ length node.slots }
         requires block { HasBlock self.old }
 
@@ -365,7 +365,7 @@ impl Branches {
     pub(super) fn append(&mut self, upper: &mut Branches)
         requires branches { AreBranches self.old }
         requires upper_branches { AreBranches upper.old }
-        requires fits { length (below self.old) + length (below upper.old) ≤ 12 }
+        requires fits { length (below self.old) + length (below upper.old) ≤ MOST_BRANCHES }
         requires block { 0 < length (below upper.old) → HasBlock self.old }
 
         // afterwards
@@ -384,7 +384,7 @@ impl Branches {
         block.append(upper);
     }
 
-    // Puts a branch in behind the i-th of twelve, and returns the upper half, in this block.
+    // Puts a branch in behind the i-th of a full node, and returns the upper half, in this block.
     pub(super) fn split(
         &mut self,
         i: usize,
@@ -393,8 +393,8 @@ impl Branches {
         mut block: Box<Block>,
     ) -> Branches
         requires branches { AreBranches self.old }
-        requires full { length (below self.old) ≡ 12 }
-        requires in_bounds { i < 12 }
+        requires full { length (below self.old) ≡ MOST_BRANCHES }
+        requires in_bounds { i < MOST_BRANCHES }
         requires count { count ≡ length node.slots }
         requires bare { IsBare block.value }
 
@@ -402,8 +402,8 @@ impl Branches {
         ensures branches { AreBranches self.new }
         ensures upper_branches { AreBranches result }
         ensures below { below_with self.old i node ≡ below self.new ++ below result }
-        ensures lower { length (below self.new) ≡ (if nat_le i 5 then 7 else 6) }
-        ensures upper { length (below result) ≡ (if nat_le i 5 then 6 else 7) }
+        ensures lower { length (below self.new) ≡ (if nat_lt i KEPT then KEPT + 1 else KEPT) }
+        ensures upper { length (below result) ≡ (if nat_lt i KEPT then KEPT else KEPT + 1) }
     {
         let Some(own) = &mut self.block else {
             unreachable!()
@@ -414,7 +414,7 @@ impl Branches {
 }
 
 // Replaces the i-th number by another, and returns the old one.
-fn replace(items: &mut ArrayVec<u32, 12>, i: usize, new: u32) -> u32
+fn replace(items: &mut ArrayVec<u32, MOST_BRANCHES>, i: usize, new: u32) -> u32
     requires { i < length items.old.items }
     ensures value { result ≡ slice_index items.old.items i }
     ensures items { items.new.items ≡ slice_set items.old.items i new }

@@ -1,36 +1,36 @@
 //! Insertion: a node without room gives its upper half away.
-ghost use Rattle.std.specs.Prelude.{◌≡◌, ◌+◌, ◌^◌, ◌<◌, ◌≤◌, [], ◌∷◌, ◌++◌, length, insert, nat_le, OnSome, if◌then◌else◌};
+ghost use Rattle.std.specs.Prelude.{◌≡◌, ◌+◌, ◌^◌, ◌<◌, ◌≤◌, [], ◌∷◌, ◌++◌, length, insert, nat_lt, OnSome, if◌then◌else◌};
 ghost use Rattle.arrayvec.specs.ArrayVec.{array_vec_len};
 ghost use Rattle.iddqd_ord_index.specs.Changes.{AddsIn as Adds, AddsTo, SplitsIn};
 ghost use Rattle.iddqd_ord_index.specs.Nodes.{below, AreBranches, IsBare};
 ghost use Rattle.iddqd_ord_index.specs.Shape.{lists, levels, tree, unused, in_order, IsBranch, IsDense, IsForked};
 
-use super::{Block, Branches, Node};
+use super::{Block, Branches, KEPT, LEAST_SLOTS, Node};
 use crate::tree::pool::BlockPool;
-use crate::tree::slots::Slots;
+use crate::tree::slots::{MOST_SLOTS, Slots};
 
-// Inserts `slot` at place `i` of eleven, moves the upper half into `upper`, which is empty, and returns the slot
+// Inserts `slot` at place `i` of a full node, moves the upper half into `upper`, which is empty, and returns the slot
 // between the halves.
 fn split_slots(slots: &mut Slots, i: usize, slot: u32, upper: &mut Slots) -> u32
-    requires full { array_vec_len slots.old ≡ 11 }
-    requires in_bounds { i ≤ 11 }
+    requires full { array_vec_len slots.old ≡ MOST_SLOTS }
+    requires in_bounds { i ≤ MOST_SLOTS }
     requires upper_empty { upper.old.items ≡ [] }
 
     // afterwards
     ensures items { insert slots.old.items i slot ≡ slots.new.items ++ result ∷ upper.new.items }
-    ensures lower { length slots.new.items ≡ (if nat_le i 5 then 6 else 5) }
-    ensures upper { length upper.new.items ≡ (if nat_le i 5 then 5 else 6) }
-    ensures wide { (5 ≤ length slots.new.items) × (5 ≤ length upper.new.items) }
+    ensures lower { length slots.new.items ≡ (if nat_lt i KEPT then KEPT else LEAST_SLOTS) }
+    ensures upper { length upper.new.items ≡ (if nat_lt i KEPT then LEAST_SLOTS else KEPT) }
+    ensures wide { (LEAST_SLOTS ≤ length slots.new.items) × (LEAST_SLOTS ≤ length upper.new.items) }
 {
-    upper.extend_from_slice(&slots.as_slice()[6..]);
-    slots.truncate(6);
+    upper.extend_from_slice(&slots.as_slice()[KEPT..]);
+    slots.truncate(KEPT);
     let Some(middle) = slots.pop() else {
         unreachable!()
     };
-    if i <= 5 {
+    if i < KEPT {
         slots.insert(i, slot);
     } else {
-        upper.insert(i - 6, slot);
+        upper.insert(i - KEPT, slot);
     }
     middle
 }
@@ -49,9 +49,9 @@ fn split_inner(
 ) -> u32
     requires branches { AreBranches branches.old }
     requires forked { IsForked (below branches.old) slots.old.items }
-    requires full { array_vec_len slots.old ≡ 11 }
+    requires full { array_vec_len slots.old ≡ MOST_SLOTS }
     requires inner { 0 < length (below branches.old) }
-    requires in_bounds { i ≤ 11 }
+    requires in_bounds { i ≤ MOST_SLOTS }
     requires upper { IsBranch (levels (below branches.old)) upper }
     requires count { count ≡ length upper.slots }
     requires half { half.old ≡ unused }
@@ -98,7 +98,7 @@ pub(super) fn add_branch(
     ensures left { pool.old.count ≤ pool.new.count + 1 }
     ensures pool { (pool.new.wanted ≡ pool.old.wanted) × (pool.new.room ≡ pool.old.room) }
 {
-    if slots.len() < 11 {
+    if slots.len() < MOST_SLOTS {
         slots.insert(i, middle);
         branches.insert(i + 1, upper, count);
         return None;
@@ -154,11 +154,11 @@ impl Node {
 
         // afterwards
         ensures adds { AddsTo (insert self.old.slots at slot) self.old.width self.new result }
-        ensures full { OnSome result (self.old.width ≡ 11) }
+        ensures full { OnSome result (self.old.width ≡ MOST_SLOTS) }
         ensures height { self.new.height ≡ self.old.height }
         ensures dense { IsDense self.new }
     {
-        if self.slots.len() < 11 {
+        if self.slots.len() < MOST_SLOTS {
             self.slots.insert(at as usize, slot);
             return None;
         }

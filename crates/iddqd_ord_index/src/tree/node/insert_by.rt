@@ -9,6 +9,7 @@ use super::Node;
 use super::insert::add_branch;
 use crate::tree::pool::BlockPool;
 use crate::tree::search::search;
+use crate::tree::slots::MOST_SLOTS;
 use iddqd_store::{Comparable, IdOrdItem, ItemStore, Steps};
 
 /// How an insertion by a key ended in a node.
@@ -58,7 +59,7 @@ impl Node {
             Err(i) => i,
         };
         if self.branches.is_empty() {
-            if self.slots.len() == 11 && !ready {
+            if self.slots.len() == MOST_SLOTS && !ready {
                 return Outcome::Full(i as u32);
             }
             return Outcome::Inserted(self.add_to_leaf(i as u32, slot));

@@ -4,13 +4,14 @@ ghost use Rattle.iddqd_ord_index.specs.Neighbours.{joined, IsAsHigh, IsMerged, I
 ghost use Rattle.iddqd_ord_index.specs.Nodes.{below, AreBranches, HasBlock, IsBare};
 ghost use Rattle.iddqd_ord_index.specs.Shape.{IsDense};
 
-use super::{Block, Branches, Node};
+use super::{Block, Branches, MOST_BRANCHES, Node};
+use crate::tree::slots::MOST_SLOTS;
 
 // Moves the first branch of `upper`, if it has any, behind those of `lower`.
 fn move_first(lower: &mut Branches, upper: &mut Branches)
     requires branches { AreBranches lower.old }
     requires upper_branches { AreBranches upper.old }
-    requires fits { length (below lower.old) < 12 }
+    requires fits { length (below lower.old) < MOST_BRANCHES }
     requires block { 0 < length (below upper.old) → HasBlock lower.old }
 
     // afterwards
@@ -32,7 +33,7 @@ fn move_last(lower: &mut Branches, len: usize, upper: &mut Branches)
     requires branches { AreBranches lower.old }
     requires upper_branches { AreBranches upper.old }
     requires len { 0 < length (below lower.old) → len + 1 ≡ length (below lower.old) }
-    requires fits { length (below upper.old) < 12 }
+    requires fits { length (below upper.old) < MOST_BRANCHES }
     requires block { 0 < length (below lower.old) → HasBlock upper.old }
 
     // afterwards
@@ -52,7 +53,7 @@ impl Node {
     // Moves all of `upper` behind `middle` into the node, and returns the block of `upper`, which only a leaf lacks.
     pub(super) fn merge(&mut self, middle: u32, mut upper: Node) -> Option<Box<Block>>
         requires pair { IsPair self.old upper }
-        requires fits { self.old.width + upper.width < 11 }
+        requires fits { self.old.width + upper.width < MOST_SLOTS }
 
         // the node
         ensures merged { IsMerged self.old middle upper self.new }
@@ -71,7 +72,7 @@ impl Node {
     // `upper`.
     fn borrow_first(&mut self, middle: u32, upper: &mut Node) -> u32
         requires height { self.old.height ≡ upper.old.height }
-        requires fits { self.old.width < 11 }
+        requires fits { self.old.width < MOST_SLOTS }
         requires more { 0 < upper.old.width }
 
         // afterwards
@@ -89,7 +90,7 @@ impl Node {
     // slot.
     fn lend_last(&mut self, middle: u32, upper: &mut Node) -> u32
         requires height { self.old.height ≡ upper.old.height }
-        requires fits { upper.old.width < 11 }
+        requires fits { upper.old.width < MOST_SLOTS }
         requires more { 0 < self.old.width }
 
         // afterwards
@@ -109,7 +110,7 @@ impl Node {
     // Moves a slot from the wider of two neighbours to the narrower one. Returns the slot between them.
     pub(super) fn shift(&mut self, middle: u32, upper: &mut Node) -> u32
         requires pair { IsPair self.old upper.old }
-        requires many { 11 ≤ self.old.width + upper.old.width }
+        requires many { MOST_SLOTS ≤ self.old.width + upper.old.width }
         ensures { IsShifted self.old middle upper.old self.new result upper.new }
     {
         if self.width() < upper.width() {

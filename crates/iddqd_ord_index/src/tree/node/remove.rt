@@ -5,9 +5,9 @@ ghost use Rattle.iddqd_ord_index.specs.Neighbours.{IsPair, IsNear, MayGiveBack};
 ghost use Rattle.iddqd_ord_index.specs.Nodes.{below, slots_of, AreBranches, HasBlock, InsertsPair, IsBare};
 ghost use Rattle.iddqd_ord_index.specs.Shape.{levels, lists, starts, unused, in_order, IsBranch, IsDense, IsForked};
 
-use super::{Block, Branches, Node};
+use super::{Block, Branches, LEAST_SLOTS, Node};
 use crate::tree::pool::BlockPool;
-use crate::tree::slots::Slots;
+use crate::tree::slots::{MOST_SLOTS, Slots};
 
 // Rebalances the neighbours `lower` and `upper`, which have `total` slots. It puts them, or the one that they are now,
 // in as the j-th branch and the next.
@@ -43,7 +43,7 @@ fn rebalance_at(
     ensures gives_back { IsShorter slots.new slots.old → MayGiveBack (lower.height + 1) pool.old pool.new }
 {
     let middle = slots.as_slice()[j];
-    if lower.width() + upper.width() < 11 {
+    if lower.width() + upper.width() < MOST_SLOTS {
         slots.remove(j);
         let block = lower.merge(middle, upper);
         branches.insert(j, lower, total + 1);
@@ -82,9 +82,9 @@ pub(super) fn rebalance(
     // the unused blocks
     ensures kept { length slots.new.items ≡ length slots.old.items → pool.new ≡ pool.old }
     ensures gives_back { IsShorter slots.new slots.old → MayGiveBack (levels (below branches.old)) pool.old pool.new }
-    ensures short { IsShorter slots.new slots.old → width < 5 }
+    ensures short { IsShorter slots.new slots.old → width < LEAST_SLOTS }
 {
-    if width >= 5 {
+    if width >= LEAST_SLOTS {
         return;
     }
     let j = i.min(slots.len() - 1);
@@ -165,7 +165,7 @@ impl Node {
         // afterwards
         ensures slots { self.new.slots ≡ self.old.slots }
         ensures height { self.new.height + 1 ≡ self.old.height }
-        ensures width { 5 ≤ self.new.width }
+        ensures width { LEAST_SLOTS ≤ self.new.width }
         ensures dense { IsDense self.new }
         ensures bare { IfSome result (λ block. IsBare block.value) }
         ensures some { IsSome result }

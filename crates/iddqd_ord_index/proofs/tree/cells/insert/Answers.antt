@@ -18,8 +18,8 @@ returns-clause-items g c =
 pub last_to-requires : goal.last_to-requires
 last_to-requires g c = grind (arith, common_steps)
 
-pub offset_bounds-11 : goal.offset_bounds-11
-offset_bounds-11 g c = grind (arith, common_steps)
+pub offset_bounds-cells : goal.offset_bounds-cells
+offset_bounds-cells g c = grind (arith, common_steps)
 
-pub bounds-cells-11 : goal.bounds-cells-11
-bounds-cells-11 g c = grind (arith, common_steps)
+pub bounds-cells : goal.bounds-cells
+bounds-cells g c = grind (arith, common_steps)

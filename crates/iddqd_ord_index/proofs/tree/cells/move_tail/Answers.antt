@@ -8,7 +8,7 @@ pub returns-clause-packed : goal.returns-clause-packed
 returns-clause-packed g c =
     let e = moved_lower c.args.cells.now c.args.upper.now _ c.args.at c.requires.packed c.requires.upper_packed c.requires.upper_empty c.requires.in_bounds c.swap_with_slice.ensures.after in
     let n = length-take c.args.at (items_present c.args.cells.now) in
-    packed_is _ (take c.args.at (items_present c.args.cells.now)) e (omega (arith, c.requires.packed.at_most_12))
+    packed_is _ (take c.args.at (items_present c.args.cells.now)) e (omega (arith, c.requires.packed.fits))
 
 pub returns-clause-items : goal.returns-clause-items
 returns-clause-items g c =
@@ -18,7 +18,7 @@ pub returns-clause-upper_packed : goal.returns-clause-upper_packed
 returns-clause-upper_packed g c =
     let e = moved_upper c.args.cells.now c.args.upper.now _ c.args.at c.requires.packed c.requires.upper_packed c.requires.upper_empty c.requires.in_bounds c.swap_with_slice.ensures.other_after in
     let n = length-drop c.args.at (items_present c.args.cells.now) in
-    packed_is _ (drop c.args.at (items_present c.args.cells.now)) e (omega (arith, c.requires.packed.at_most_12))
+    packed_is _ (drop c.args.at (items_present c.args.cells.now)) e (omega (arith, c.requires.packed.fits))
 
 pub returns-clause-upper_items : goal.returns-clause-upper_items
 returns-clause-upper_items g c =

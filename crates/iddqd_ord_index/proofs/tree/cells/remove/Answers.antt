@@ -13,7 +13,7 @@ pub returns-clause-packed : goal.returns-clause-packed
 returns-clause-packed g c =
     let e = removed c.args.cells.now _ _ c.args.i c.requires.packed c.requires.in_bounds c.take-item.ensures.after c.to_last.ensures in
     let n = length-remove (items_present c.args.cells.now) c.args.i c.requires.in_bounds in
-    packed_is _ (remove (items_present c.args.cells.now) c.args.i) e (omega (arith, c.requires.packed.at_most_12))
+    packed_is _ (remove (items_present c.args.cells.now) c.args.i) e (omega (arith, c.requires.packed.fits))
 
 pub returns-clause-items : goal.returns-clause-items
 returns-clause-items g c =

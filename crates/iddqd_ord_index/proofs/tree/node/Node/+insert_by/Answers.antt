@@ -17,7 +17,7 @@ use Rattle.iddqd_ord_index.proofs.DescentLemmas.{digits_four}
 use Rattle.iddqd_ord_index.proofs.InsertByLemmas.{own, own_found, leaf_place, child_in, child_is, child_starts, child_part, child_monotone, child_all, child_among, child_place, child_at}
 use Rattle.iddqd_ord_index.proofs.tree.node.Node.+insert_by.Given.{Over}
 use Rattle.iddqd_ord_index.proofs.tree.node.Node.+insert_by.Goals as goal
-use Rattle.iddqd_ord_index.proofs.tree.node.Node.+insert_by.Goals.{else-len-eq11-via-then-len-eq11+else-not-ready, else-len-eq11-via-else-len-eq11}
+use Rattle.iddqd_ord_index.proofs.tree.node.Node.+insert_by.Goals.{else-len-eq-MOST_SLOTS-via-then-len-eq-MOST_SLOTS+else-not-ready, else-len-eq-MOST_SLOTS-via-else-len-eq-MOST_SLOTS}
 
 abbrev order : (g : Over) → g.row.Q.Denot → Store g.row.T.Denot → ℕ → Ordering
 order g q store = slot_standing g.T.IdOrdItem.key (g.Q.Comparable.compare q) store
@@ -120,9 +120,9 @@ returns-then-is_empty-clause-ends g t c =
       i,
       leaf_place x occupied ts ss c.args.self.now c.requires.monotone c.requires.occupied f s (c.is_empty.ensures.none c.if-is_empty.true) i p,
       c.add_to_leaf.ensures.adds,
-      elim c.else-len-eq11.branch [
-        | else-len-eq11-via-then-len-eq11+else-not-ready w ↦ split_if c.add_to_leaf.result w.if-not-ready.false
-        | else-len-eq11-via-else-len-eq11 w ↦ not_split (IsTrue c.args.ready) c.add_to_leaf.result c.add_to_leaf.ensures.full (λ full. w.if-len-eq11.false (omega (arith, ap (λ t. t.width) s, c.len.ensures.value)))
+      elim c.else-len-eq-MOST_SLOTS.branch [
+        | else-len-eq-MOST_SLOTS-via-then-len-eq-MOST_SLOTS+else-not-ready w ↦ split_if c.add_to_leaf.result w.if-not-ready.false
+        | else-len-eq-MOST_SLOTS-via-else-len-eq-MOST_SLOTS w ↦ not_split (IsTrue c.args.ready) c.add_to_leaf.result c.add_to_leaf.ensures.full (λ full. w.if-len-eq-MOST_SLOTS.false (omega (arith, ap (λ t. t.width) s, c.len.ensures.value)))
       ],
     )
 

@@ -15,7 +15,7 @@ pub insert-requires-clause-room : goal.insert-requires-clause-room
 insert-requires-clause-room t c =
     let n = length-take-le c.loop-i.i (below c.self.inside.branches) (omega (arith, c.len-i-end.ensures)) in
     let m = length-nodes c.self.inside.branches c.self.invariant.branches in
-    omega (arith, ap length c.loop-i.invariant.copied, c.self.invariant.branches.packed.at_most_12, c.len-i-end.ensures)
+    omega (arith, ap length c.loop-i.invariant.copied, c.self.invariant.branches.packed.fits, c.len-i-end.ensures)
 
 pub insert-requires-clause-block : goal.insert-requires-clause-block
 insert-requires-clause-block t c = c.loop-i.invariant.block (omega (arith, c.len-i-end.ensures))

@@ -1,4 +1,4 @@
-use Rattle.std.proofs.Common.{◌≡◌, ◌+◌, length, ap, sym, ◌∙◌, arith, leb}
+use Rattle.std.proofs.Common.{◌≡◌, ◌+◌, length, ap, sym, ◌∙◌, arith, ltb}
 use Rattle.iddqd_ord_index.specs.Nodes.{below}
 use Rattle.iddqd_ord_index.specs.Shape.{levels, IsForked}
 use Rattle.iddqd_ord_index.proofs.DenseLemmas.{dense_of}
@@ -22,8 +22,8 @@ halves c =
     let up = below c.split.result in
     let a = lower_all ts lo up c.args.upper (c.args.i + 1) h c.split.ensures.below c.requires.forked.branches c.requires.upper in
     let b = upper_all ts lo up c.args.upper (c.args.i + 1) h c.split.ensures.below c.requires.forked.branches c.requires.upper in
-    let n = c.split.ensures.lower ∙ (one_more_lower (leb c.args.i 5) ∙ ap (λ n. n + 1) (sym c.split_slots-top.ensures.lower)) in
-    let m = c.split.ensures.upper ∙ (one_more_upper (leb c.args.i 5) ∙ ap (λ n. n + 1) (sym c.split_slots-top.ensures.upper)) in
+    let n = c.split.ensures.lower ∙ (one_more_lower (ltb c.args.i 6) ∙ ap (λ n. n + 1) (sym c.split_slots-top.ensures.lower)) in
+    let m = c.split.ensures.upper ∙ (one_more_upper (ltb c.args.i 6) ∙ ap (λ n. n + 1) (sym c.split_slots-top.ensures.upper)) in
     record {
       lower = n;
       upper = m;

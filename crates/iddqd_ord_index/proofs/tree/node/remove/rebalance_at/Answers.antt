@@ -53,14 +53,14 @@ insert-requires-2-clause-count c =
     let s = same_sum c.args.lower c.args.upper c.shift-top.new.self c.shift-top.new.upper (get_or c.as_slice.result.now c.args.j 0) c.shift-top.result c.shift-top.ensures in
     omega (arith, c.requires.total, c.len-count.ensures)
 
-pub returns-then-width-lt11-clause-forked : goal.returns-then-width-lt11-clause-forked
-returns-then-width-lt11-clause-forked c = (one c).forked
+pub returns-then-width-lt-MOST_SLOTS-clause-forked : goal.returns-then-width-lt-MOST_SLOTS-clause-forked
+returns-then-width-lt-MOST_SLOTS-clause-forked c = (one c).forked
 
-pub returns-then-width-lt11-clause-levels : goal.returns-then-width-lt11-clause-levels
-returns-then-width-lt11-clause-levels c = (one c).height
+pub returns-then-width-lt-MOST_SLOTS-clause-levels : goal.returns-then-width-lt-MOST_SLOTS-clause-levels
+returns-then-width-lt-MOST_SLOTS-clause-levels c = (one c).height
 
-pub returns-then-width-lt11-clause-slots : goal.returns-then-width-lt11-clause-slots
-returns-then-width-lt11-clause-slots c = (one c).list
+pub returns-then-width-lt-MOST_SLOTS-clause-slots : goal.returns-then-width-lt-MOST_SLOTS-clause-slots
+returns-then-width-lt-MOST_SLOTS-clause-slots c = (one c).list
 
 pub returns-clause-forked : goal.returns-clause-forked
 returns-clause-forked c = (two c).forked
