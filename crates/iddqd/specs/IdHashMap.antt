@@ -18,7 +18,7 @@
 --     lent_map, lent_slot, lent_item, guard_lender, lent_with      what a guard lends
 --     GuardFinds, GuardOverwrites, GuardKeeps, GuardKeepsAkin      what it lends, and what may be written through it
 --     shown_map, shown_item, shown_lender      what `into_ref` shows
---     lends_item, item_follows, guard_follows, rests_at_none, with_item_in      what a guard leaves
+--     lends_item, item_follows, guard_follows, rests_at_none, with_item_in_slot      what a guard leaves
 --     Occupied, Vacant, entry_map, entry_lender, entry_item, entry_slot, entry_with, entry_others      what an entry holds
 --     IsEntryOf, IsEntryFor, PassesTest      what `entry` finds
 --     LacksKeyOf, LacksKeysOf, HasKeyOf, VisitKeepsKey      what the calls of an entry ask of the item
@@ -30,7 +30,7 @@
 unfoldable pub use Rattle.iddqd_hash.specs.HashItems.{IsKeyed}
 pub use Rattle.iddqd_hash.specs.HashItems.{HashItems, HashesAsKeys, IsKeyedByText, default_hash, differ_from_keyed, holding_of, of_same_hash, of_stored_hash, text_writes}
 pub use Rattle.iddqd_hash.specs.HashMap.{CloneHashesAlike, Collects, CollectsUnique, Extends, FindsEqual, HasNoItems, HashFills, HashHandsBack, HashInserts, HashKeeps, HashOverwrites, HashShrinks, HashStays, HaveEqualItems, IsCollected, IsEmptyMap, KeepsIfNoItem, KeepsSpare, LacksRoomFor, RefusesItem, Reserves, ShowsConflict, SpareFirst, SpareFits, Stops, ends_hash_extended, ends_hash_inserted, lends_nothing, map_overwritten}
-pub use Rattle.iddqd_hash.specs.Guard.{GuardFinds, GuardKeeps, GuardKeepsAkin, GuardOverwrites, guard_follows, item_follows, lends_item, lent_item, lent_map, guard_lender, lent_slot, lent_with, rests_at_none, shown_item, shown_map, shown_lender, with_item_in}
+pub use Rattle.iddqd_hash.specs.Guard.{GuardFinds, GuardKeeps, GuardKeepsAkin, GuardOverwrites, guard_follows, item_follows, lends_item, lent_item, lent_map, guard_lender, lent_slot, lent_with, rests_at_none, shown_item, shown_map, shown_lender, with_item_in_slot}
 pub use Rattle.iddqd_hash.specs.declared.id_hash_map.entry.Entry.TheVariants.{Occupied, Vacant}
 pub use Rattle.iddqd_hash.specs.Entry.{EntersInserted, EntryKeeps, EntryKeepsAkin, EntryHandsBack, HasKeyOf, IsEntryFor, IsEntryOf, LacksKeyOf, LacksKeysOf, LendsFound, LendsIfOccupied, LendsIfVacant, LendsInserted, LendsMade, VisitsEntry, PassesTest, RemovesAt, VisitKeepsKey, entry_follows, entry_item, entry_map, entry_lender, entry_others, entry_slot, entry_or_kept, entry_with, guard_or_kept, lent_or_kept, rests_if_refused}
 pub use Rattle.iddqd_hash.specs.WritingWalk.{WalkKeeps, WalkKeepsAkin, walk_done, walk_item, walk_lends, walk_map, walk_lender, walk_with}

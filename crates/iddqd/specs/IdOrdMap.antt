@@ -10,7 +10,7 @@
 --     GuardFinds, GuardOverwrites, GuardKeeps, GuardKeepsAkin      the item that a guard lends, and what a write leaves
 --     GuardReadsAt, GuardWritesAt      the same of the item at a position
 --     shown_map, shown_item, shown_lender      what `into_ref` shows
---     lends_item, item_follows, guard_follows, rests_at_none, with_item_in      what a guard leaves
+--     lends_item, item_follows, guard_follows, rests_at_none, with_item_in_slot      what a guard leaves
 --     Occupied, Vacant, entry_map, entry_lender, entry_item, entry_slot, entry_with, entry_others      what an entry holds
 --     IsEntryOf, IsEntryFor, IsEntryAt, IsFirstEntry, IsLastEntry      whose entry it is
 --     LendsFound, LendsInserted, ShowsFound, ShowsInserted, EntersInserted      what an entry lends, shows or returns of its item
@@ -22,7 +22,7 @@
 --     walk_map, walk_lender, walk_done, walk_with      what a walk that lends items for writing holds
 --     WalkKeeps, WalkKeepsAkin, walk_lends      what a step of such a walk leaves
 pub use Rattle.iddqd_ord.specs.OrdMap.{OrdFills, OrdInserts, OrdKeeps, OrdOverwrites, empty_map, ends_ord_extended, ends_ord_inserted, have_equal_items, lends_nothing, map_overwritten}
-pub use Rattle.iddqd_ord.specs.Guard.{GuardFinds, GuardKeeps, GuardKeepsAkin, GuardOverwrites, GuardReadsAt, GuardWritesAt, guard_follows, item_follows, lends_item, lent_item, lent_map, guard_lender, lent_slot, lent_with, rests_at_none, shown_item, shown_map, shown_lender, with_item_in}
+pub use Rattle.iddqd_ord.specs.Guard.{GuardFinds, GuardKeeps, GuardKeepsAkin, GuardOverwrites, GuardReadsAt, GuardWritesAt, guard_follows, item_follows, lends_item, lent_item, lent_map, guard_lender, lent_slot, lent_with, rests_at_none, shown_item, shown_map, shown_lender, with_item_in_slot}
 pub use Rattle.iddqd_ord.specs.declared.id_ord_map.entry.Entry.TheVariants.{Occupied, Vacant}
 pub use Rattle.iddqd_ord.specs.Entry.{EntersInserted, EntryKeeps, EntryKeepsAkin, HasKeyOf, IsEntryAt, IsEntryFor, IsEntryOf, IsFirstEntry, IsLastEntry, LacksKeyOf, LendsFound, LendsInserted, ShowsFound, ShowsInserted, VisitsEntry, entry_follows, entry_item, entry_map, entry_lender, entry_others, entry_slot, entry_with, rests_if_refused, rests_without_entry}
 pub use Rattle.iddqd_ord.specs.WritingWalk.{WalkKeeps, WalkKeepsAkin, walk_done, walk_lends, walk_map, walk_lender, walk_with}

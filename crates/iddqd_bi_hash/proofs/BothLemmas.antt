@@ -143,7 +143,7 @@ module _ {S T K L : Type 0} (key1 : T → K) (key2 : T → L) (eq1 : K → K →
         let one = map_inserted key1 eq1 input1 hash hasher old new (beside i.pairs i j) (beside i'.pairs i' j') was.one now.one equivalence1 keyed.one x slot absent1 room more1 none updates (omega (arith, spare1, spare2)) len gone bounds.capacity bounds.limit in
         let other = map_inserted key2 eq2 input2 hash hasher old new (beside j.pairs i j) (beside j'.pairs i' j') was.other now.other equivalence2 keyed.other x slot absent2 room more2 none updates (omega (arith, spare1, spare2)) len gone bounds.capacity bounds.limit in
         record {
-          takes = one.takes;
+          inserts = one.inserts;
           stays = record { keyed = record { one = one.stays.keyed; other = other.stays.keyed }; spare = one.stays.spare; hasher = refl };
         }
 
@@ -183,7 +183,7 @@ module _ {S T K L : Type 0} (key1 : T → K) (key2 : T → L) (eq1 : K → K →
 pub stays_on : {S T : Type 0} (IsKeyed : BiHashItems S T → Type 0) (old between new : BiHashItems S T) → BiStays IsKeyed old between → BiStays IsKeyed between new → BiStays IsKeyed old new
 stays_on IsKeyed old between new first then = record {
   keyed = then.keyed;
-  spare = record { never_less = omega (arith, then.spare.never_less, first.spare.never_less); in_limit = then.spare.in_limit };
+  spare = record { never_less = omega (arith, then.spare.never_less, first.spare.never_less); spare_fits = then.spare.spare_fits };
   hasher = then.hasher ∙ first.hasher;
 }
 
@@ -192,13 +192,13 @@ pub inserted_after : {S T : Type 0} (IsKeyed : BiHashItems S T → Type 0) (x : 
 inserted_after IsKeyed x old room new kept inserted =
     let same = kept.keeps.items in
     record {
-      takes = record {
-        room = omega (arith, inserted.takes.room, ap length same, kept.keeps.limit);
-        added = subst (λ items. AddsItem x items new.items) same inserted.takes.added;
-        slots = inserted.takes.slots;
-        vacant = inserted.takes.vacant ∙ ap (λ n. n - 1) kept.keeps.vacant;
-        capacity = omega (arith, inserted.takes.capacity, kept.keeps.capacity);
-        limit = inserted.takes.limit ∙ kept.keeps.limit;
+      inserts = record {
+        room = omega (arith, inserted.inserts.room, ap length same, kept.keeps.limit);
+        added = subst (λ items. AddsItem x items new.items) same inserted.inserts.added;
+        slots = inserted.inserts.slots;
+        vacant = inserted.inserts.vacant ∙ ap (λ n. n - 1) kept.keeps.vacant;
+        capacity = omega (arith, inserted.inserts.capacity, kept.keeps.capacity);
+        limit = inserted.inserts.limit ∙ kept.keeps.limit;
       };
       stays = stays_on IsKeyed old room new kept.stays inserted.stays;
     }

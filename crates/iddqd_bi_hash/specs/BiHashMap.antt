@@ -94,7 +94,7 @@ module _ {S T : Type 0} where
       pub hasher : new.hasher ≡ old.hasher
 
     pub record BiInserts (x : T) (old new : BiHashItems S T) : Type 0 where
-      pub takes : InsertsItem x (holding_of old) (holding_of new)
+      pub inserts : InsertsItem x (holding_of old) (holding_of new)
       pub stays : BiStays old new
 
     pub record BiKeeps (old new : BiHashItems S T) : Type 0 where

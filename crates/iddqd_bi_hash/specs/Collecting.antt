@@ -17,7 +17,7 @@ use Rattle.iddqd_bi_hash.specs.TwoKeys.{items_displaced}
 pub record IsCollected {S T : Type 0} (IsKeyed : BiHashItems S T → Type 0) (is_default : S → Type 0) (m : BiHashItems S T) : Type 0 where
   pub vacant : m.vacant ≡ 0
   pub limit : m.limit ≡ max_items
-  pub spare : SpareFits m
+  pub spare_fits : SpareFits m
   pub hasher : is_default m.hasher
   pub keyed : IsKeyed m
 

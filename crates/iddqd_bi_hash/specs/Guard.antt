@@ -1,5 +1,5 @@
 -- What a contract sees of a guard of a hash map of two keys.
---     with_item_in m slot w      the map, once w is written to the slot
+--     with_item_in_slot m slot w      the map, once w is written to the slot
 --     lent_map, lent_slot, lent_item      the map as the guard holds it, the slot, its item
 --     guard_lender      the name of the guard's reference to the map
 --     lent_with r w      the map once w is written through the guard
@@ -23,8 +23,8 @@ use Rattle.iddqd_bi_hash.specs.contracts.bi_hash_map.BiHashMap as map
 use Rattle.iddqd_bi_hash.specs.contracts.bi_hash_map.ref_mut.RefMut as guard
 
 module _ {S T : Type 0} where
-  abbrev pub with_item_in : BiHashItems S T → ℕ → T → BiHashItems S T
-  with_item_in m slot w = record m { items = written_to_slot m.slots m.items slot w }
+  abbrev pub with_item_in_slot : BiHashItems S T → ℕ → T → BiHashItems S T
+  with_item_in_slot m slot w = record m { items = written_to_slot m.slots m.items slot w }
 
   abbrev pub lent_map : RefMut T S → BiHashItems S T
   lent_map r = r.map.now
@@ -39,12 +39,12 @@ module _ {S T : Type 0} where
   guard_lender r = r.map.ghost_name
 
   abbrev pub lent_with : RefMut T S → T → BiHashItems S T
-  lent_with r w = with_item_in r.map.now r.slot w
+  lent_with r w = with_item_in_slot r.map.now r.slot w
 
   -- the guard, once w is written through it
   abbrev pub with_item : RefMut T S → T → RefMut T S
   with_item r w = record {
-    map = record r.map { now = with_item_in r.map.now r.slot w };
+    map = record r.map { now = with_item_in_slot r.map.now r.slot w };
     slot = r.slot;
     spent = r.spent;
     there = still_there r.map.now.slots r.map.now.items r.slot w r.there;
@@ -64,7 +64,7 @@ module _ {S T K : Type 0} (key : T → K) where
   GuardFinds test r = find_item key test (lent_map r).items ≡ lent_item r
 
   abbrev pub GuardOverwrites : (K → Bool) → BiHashItems S T → RefMut T S → Type 0
-  GuardOverwrites test m r = (w : T) → (with_item_in m (lent_slot r) w).items ≡ items_overwritten key test w m.items
+  GuardOverwrites test m r = (w : T) → (with_item_in_slot m (lent_slot r) w).items ≡ items_overwritten key test w m.items
 
 module _ {S T K L : Type 0} (key1 : T → K) (key2 : T → L) where
   abbrev pub GuardFindsByBoth : (K → Bool) → (L → Bool) → RefMut T S → Type 0
@@ -80,13 +80,13 @@ GuardKeepsAkin {S} {T} map r = (x w : T) → lent_item r ≡ Some x → map.akin
 
 module _ (S T : RattleType) where
   abbrev pub lends_item : MutBor (BiHashItems S.Denot T.Denot) → ℕ → MutBor T.Denot → Fml
-  lends_item m slot r = Lends (map.the_row T S) T m r (with_item_in m.now slot)
+  lends_item m slot r = Lends (map.the_row T S) T m r (with_item_in_slot m.now slot)
 
   abbrev pub rests_at_none : MutBor (BiHashItems S.Denot T.Denot) → Option (RefMut T.Denot S.Denot) → Fml
   rests_at_none m r = RestsIfNone (map.the_row T S) m guard_lender r (λ n. n ≡ m.now)
 
   abbrev pub item_follows : RefMut T.Denot S.Denot → MutBor T.Denot → Fml
-  item_follows r x = follows (map.the_row T S) T r.map.ghost_name x.ghost_name (with_item_in r.map.now r.slot)
+  item_follows r x = follows (map.the_row T S) T r.map.ghost_name x.ghost_name (with_item_in_slot r.map.now r.slot)
 
   -- the guard's lifetime is the second of the signature
   abbrev pub guard_follows : MutBor (RefMut T.Denot S.Denot) → MutBor T.Denot → Fml

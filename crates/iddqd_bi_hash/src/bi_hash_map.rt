@@ -92,7 +92,7 @@ impl<T, S> BiHashMap<T, S> {
     pub fn len(&self) -> usize
         ensures len { result ≡ length self.now.items }
         ensures within_limit { result ≤ self.now.limit }
-        ensures spare { SpareFits self.now }
+        ensures spare_fits { SpareFits self.now }
         ensures slots { HaveSlots self.now.slots self.now.items }
     {
         self.store.len()
@@ -119,7 +119,7 @@ impl<T, S> BiHashMap<T, S> {
     #[inline]
     pub fn spare(&self) -> usize
         ensures number { result ≡ self.now.spare }
-        ensures within_limit { SpareFits self.now }
+        ensures spare_fits { SpareFits self.now }
     {
         let len = self.store.len();
         let in_store = self.store.capacity().min(self.store.limit() as usize) - len;

@@ -27,7 +27,7 @@ use Rattle.iddqd_hash.specs.declared.id_hash_map.entry.Entry.{Entry}
 use Rattle.iddqd_hash.specs.declared.id_hash_map.entry.OccupiedEntry.{OccupiedEntry}
 use Rattle.iddqd_hash.specs.declared.id_hash_map.entry.VacantEntry.{VacantEntry}
 use Rattle.iddqd_hash.specs.declared.id_hash_map.ref_mut.RefMut.{RefMut}
-use Rattle.iddqd_hash.specs.Guard.{guard_lender, lent_item, lent_map, lent_with, with_item_in}
+use Rattle.iddqd_hash.specs.Guard.{guard_lender, lent_item, lent_map, lent_with, with_item_in_slot}
 use Rattle.iddqd_hash_parts.specs.HashItems.{HashItems, holding_of}
 use Rattle.iddqd_hash_parts.specs.declared.keyed.Keyed as keyed
 use Rattle.iddqd_hash.specs.HashMap.{HashHandsBack, HashInserts, HashKeeps, HashStays}
@@ -53,7 +53,7 @@ module _ {S T : Type 0} where
   entry_slot e = e.slot
 
   abbrev pub entry_with : Entry T S → T → HashItems S T
-  entry_with (Occupied e) w = with_item_in e.map.now e.slot w
+  entry_with (Occupied e) w = with_item_in_slot e.map.now e.slot w
   entry_with (Vacant e) w = e.map.now
 
   abbrev pub entry_others : Entry T S → List T
@@ -63,7 +63,7 @@ module _ {S T : Type 0} where
   -- the occupied entry, once w is written to its item
   abbrev pub with_entry_item : OccupiedEntry T S → T → OccupiedEntry T S
   with_entry_item e w = record {
-    map = record e.map { now = with_item_in e.map.now e.slot w };
+    map = record e.map { now = with_item_in_slot e.map.now e.slot w };
     slot = e.slot;
     hash = e.hash;
     there = still_there e.map.now.slots e.map.now.items e.slot w e.there;

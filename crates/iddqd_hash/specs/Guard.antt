@@ -1,5 +1,5 @@
 -- What a contract sees of a guard of a hash map.
---     with_item_in m slot w      the map, once w is written to the slot
+--     with_item_in_slot m slot w      the map, once w is written to the slot
 --     VisitsSlot      the slot's item was visited
 --     lent_map, lent_slot, lent_item      the map as the guard holds it, the slot, its item
 --     guard_lender      the name of the guard's reference to the map
@@ -22,15 +22,15 @@ use Rattle.iddqd_hash.specs.contracts.id_hash_map.IdHashMap as map
 use Rattle.iddqd_hash.specs.contracts.id_hash_map.ref_mut.RefMut as guard
 
 module _ {S T : Type 0} where
-  abbrev pub with_item_in : HashItems S T → ℕ → T → HashItems S T
-  with_item_in m slot w = record m { items = written_to_slot m.slots m.items slot w }
+  abbrev pub with_item_in_slot : HashItems S T → ℕ → T → HashItems S T
+  with_item_in_slot m slot w = record m { items = written_to_slot m.slots m.items slot w }
 
   -- the slot's item was visited, and now is as the visit left it; so is the visitor
   abbrev pub VisitsSlot : {V : Type 0} → (V → T → V × T × Bool) → V → V → ℕ → HashItems S T → HashItems S T → Bool → Type 0
   VisitsSlot visits before after slot old new kept = (x y : T)
       × (item_of_slot old.slots old.items slot ≡ Some x)
       × (visits before x ≡ (after, y, kept))
-      × (new ≡ with_item_in old slot y)
+      × (new ≡ with_item_in_slot old slot y)
 
   abbrev pub lent_map : RefMut T S → HashItems S T
   lent_map r = r.map.now
@@ -45,12 +45,12 @@ module _ {S T : Type 0} where
   guard_lender r = r.map.ghost_name
 
   abbrev pub lent_with : RefMut T S → T → HashItems S T
-  lent_with r w = with_item_in r.map.now r.slot w
+  lent_with r w = with_item_in_slot r.map.now r.slot w
 
   -- the guard, once w is written through it
   abbrev pub with_item : RefMut T S → T → RefMut T S
   with_item r w = record {
-    map = record r.map { now = with_item_in r.map.now r.slot w };
+    map = record r.map { now = with_item_in_slot r.map.now r.slot w };
     slot = r.slot;
     spent = r.spent;
     there = still_there r.map.now.slots r.map.now.items r.slot w r.there;
@@ -70,7 +70,7 @@ module _ {S T K : Type 0} (key : T → K) where
   GuardFinds test r = find_item key test (lent_map r).items ≡ lent_item r
 
   abbrev pub GuardOverwrites : (K → Bool) → HashItems S T → RefMut T S → Type 0
-  GuardOverwrites test m r = (w : T) → (with_item_in m (lent_slot r) w).items ≡ items_overwritten key test w m.items
+  GuardOverwrites test m r = (w : T) → (with_item_in_slot m (lent_slot r) w).items ≡ items_overwritten key test w m.items
 
   -- the map is keyed after a write of an item of the same key
   abbrev pub GuardKeeps : (HashItems S T → Type 0) → RefMut T S → Type 0
@@ -82,13 +82,13 @@ GuardKeepsAkin {S} {T} map r = (x w : T) → lent_item r ≡ Some x → map.akin
 
 module _ (S T : RattleType) where
   abbrev pub lends_item : MutBor (HashItems S.Denot T.Denot) → ℕ → MutBor T.Denot → Fml
-  lends_item m slot r = Lends (map.the_row T S) T m r (with_item_in m.now slot)
+  lends_item m slot r = Lends (map.the_row T S) T m r (with_item_in_slot m.now slot)
 
   abbrev pub rests_at_none : MutBor (HashItems S.Denot T.Denot) → Option (RefMut T.Denot S.Denot) → Fml
   rests_at_none m r = RestsIfNone (map.the_row T S) m guard_lender r (λ n. n ≡ m.now)
 
   abbrev pub item_follows : RefMut T.Denot S.Denot → MutBor T.Denot → Fml
-  item_follows r x = follows (map.the_row T S) T r.map.ghost_name x.ghost_name (with_item_in r.map.now r.slot)
+  item_follows r x = follows (map.the_row T S) T r.map.ghost_name x.ghost_name (with_item_in_slot r.map.now r.slot)
 
   -- the guard's lifetime is the second of the signature
   abbrev pub guard_follows : MutBor (RefMut T.Denot S.Denot) → MutBor T.Denot → Fml

@@ -9,7 +9,7 @@
 --     HashInserts, HashFills      an item was inserted, or several
 --     HashKeeps      nothing has changed but the room, which may have grown
 --     HashShrinks      the slots were closed up, and memory was given back
---     TakesSlot, LosesPlaceOf      an inserted item has this slot; a slot is gone
+--     IsInsertedAt, LosesPlaceOf      an inserted item has this slot; a slot is gone
 -- Searches, insertions and refusals:
 --     HashOverwrites, map_overwritten      the item replaced the one of an equal key, which is returned, or was inserted
 --     RefusesItem, HashHandsBack      a refused item is returned, beside the existing one or because there is no room
@@ -62,7 +62,7 @@ module _ {S T : Type 0} where
   SpareFirst old new e = OnSome e.item (HasSpareFirst old new)
 
   -- the inserted x has this slot and this stored hash; a write to the slot is as if that item had been inserted
-  pub record TakesSlot (x : T) (hash : ℕ) (old new : HashItems S T) (slot : ℕ) : Type 0 where
+  pub record IsInsertedAt (x : T) (hash : ℕ) (old new : HashItems S T) (slot : ℕ) : Type 0 where
     pub there : item_of_slot new.slots new.items slot ≡ Some x
     pub listed : item_of_slot new.slots new.hashes slot ≡ Some hash
     pub written : (w : T) → AddsItem w old.items (written_to_slot new.slots new.items slot w)
@@ -81,7 +81,7 @@ module _ {S T : Type 0} where
     pub record IsCollected (is_default : S → Type 0) (m : HashItems S T) : Type 0 where
       pub vacant : m.vacant ≡ 0
       pub limit : m.limit ≡ max_items
-      pub spare : SpareFits m
+      pub spare_fits : SpareFits m
       pub hasher : is_default m.hasher
       pub keyed : IsKeyed m
 
@@ -90,7 +90,7 @@ module _ {S T : Type 0} where
       pub items : IsPermutation old.items new.items
       pub shrinks : Shrinks min (holding_of old) (holding_of new)
       pub spare : least min (old.spare + length old.items) ≤ new.spare + length new.items
-      pub within_limit : SpareFits new
+      pub spare_fits : SpareFits new
       pub hasher : new.hasher ≡ old.hasher
       pub keyed : IsKeyed new
 

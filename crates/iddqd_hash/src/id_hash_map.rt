@@ -98,7 +98,7 @@ impl<T, S> IdHashMap<T, S> {
     pub fn len(&self) -> usize
         ensures len { result ≡ length self.now.items }
         ensures within_limit { result ≤ self.now.limit }
-        ensures spare { SpareFits self.now }
+        ensures spare_fits { SpareFits self.now }
         ensures slots { HaveSlots self.now.slots self.now.items }
     {
         self.store.len()
@@ -125,7 +125,7 @@ impl<T, S> IdHashMap<T, S> {
     #[inline]
     pub fn spare(&self) -> usize
         ensures number { result ≡ self.now.spare }
-        ensures within_limit { SpareFits self.now }
+        ensures spare_fits { SpareFits self.now }
     {
         let len = self.store.len();
         let in_store = self.store.capacity().min(self.store.limit() as usize) - len;

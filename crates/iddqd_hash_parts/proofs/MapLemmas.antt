@@ -57,11 +57,11 @@ module _ {S T : Type 0} (hasher : S) where
   pub same_spare : (store : Store T) (index : HashPairs) → PairsOccupied store index.pairs → KeepsSpare (map_of store index hasher) (map_of store index hasher)
   same_spare store index paired =
       let room = keeps_least index.spare store.capacity store.limit (store_len store) index.spare store.capacity store.limit (store_len store) paired.in_memory paired.in_limit paired.in_memory paired.in_limit (omega arith) (omega arith) refl in
-      record { never_less = omega arith; in_limit = omega (arith, room.1, length-items store.slots) }
+      record { never_less = omega arith; spare_fits = omega (arith, room.1, length-items store.slots) }
 
   -- what is there and what is spare fit the limit
   pub spare_fits : (store : Store T) (index : HashPairs) → PairsOccupied store index.pairs → SpareFits (map_of store index hasher)
-  spare_fits store index paired = (same_spare store index paired).in_limit
+  spare_fits store index paired = (same_spare store index paired).spare_fits
 
   -- there is memory for what is there and what is spare
   pub spare_held : (store : Store T) (index : HashPairs) → PairsOccupied store index.pairs → spare_in store index + length (items_in store) ≤ store.capacity
@@ -104,7 +104,7 @@ module _ {S T K : Type 0} (key : T → K) (eq : K → K → Bool) (input : K →
         let room = keeps_least p.spare old.capacity old.limit (store_len old) q.spare new.capacity new.limit (store_len new) was.in_memory was.in_limit is.in_memory is.in_limit listed capacity limit in
         let before = length-items old.slots in
         let after = length-items new.slots in
-        record { never_less = omega (arith, room.0, before, after); in_limit = omega (arith, room.1, after) }
+        record { never_less = omega (arith, room.0, before, after); spare_fits = omega (arith, room.1, after) }
 
     -- nothing has changed but the room
     pub map_kept : KeyedItems key eq input hash (map_of old p hasher) → new ≡ record old { capacity = new.capacity } → old.capacity ≤ new.capacity → SamePairs p.pairs q.pairs → p.spare ≤ q.spare → HashKeeps (KeyedItems key eq input hash) (map_of old p hasher) (map_of new q hasher)
@@ -130,7 +130,7 @@ module _ {S T K : Type 0} (key : T → K) (eq : K → K → Bool) (input : K →
     map_inserted equivalence keyed x slot absent room more none updates spare len gone capacity limit =
         let adds = item_added old.slots new.slots slot x none updates.changed updates.others in
         record {
-          takes = record { room = room; added = adds; slots = slots_apart new.slots; vacant = gone; capacity = omega (arith, capacity); limit = limit };
+          inserts = record { room = room; added = adds; slots = slots_apart new.slots; vacant = gone; capacity = omega (arith, capacity); limit = limit };
           stays = record {
             keyed = make_keyed new q (differ_added key equivalence x (items_in old) (items_in new) adds absent keyed.differ) (under_added tell old new p.pairs q.pairs (keyed_under old p keyed) (tell x) slot x was more none updates refl);
             spare = keeps_spare (omega (arith, spare, len)) (omega (arith, capacity)) limit;
@@ -175,7 +175,7 @@ module _ {S T K : Type 0} (key : T → K) (eq : K → K → Bool) (input : K →
 pub stays_on : {S T : Type 0} (IsKeyed : HashItems S T → Type 0) (old between new : HashItems S T) → HashStays IsKeyed old between → HashStays IsKeyed between new → HashStays IsKeyed old new
 stays_on IsKeyed old between new first then = record {
   keyed = then.keyed;
-  spare = record { never_less = omega (arith, then.spare.never_less, first.spare.never_less); in_limit = then.spare.in_limit };
+  spare = record { never_less = omega (arith, then.spare.never_less, first.spare.never_less); spare_fits = then.spare.spare_fits };
   hasher = then.hasher ∙ first.hasher;
 }
 
@@ -184,13 +184,13 @@ pub inserted_after : {S T K : Type 0} (key : T → K) (eq : K → K → Bool) (i
 inserted_after key eq input hash x old room new kept inserted =
     let same = kept.keeps.items in
     record {
-      takes = record {
-        room = omega (arith, inserted.takes.room, ap length same, kept.keeps.limit);
-        added = subst (λ items. AddsItem x items new.items) same inserted.takes.added;
-        slots = inserted.takes.slots;
-        vacant = inserted.takes.vacant ∙ ap (λ n. n - 1) kept.keeps.vacant;
-        capacity = omega (arith, inserted.takes.capacity, kept.keeps.capacity);
-        limit = inserted.takes.limit ∙ kept.keeps.limit;
+      inserts = record {
+        room = omega (arith, inserted.inserts.room, ap length same, kept.keeps.limit);
+        added = subst (λ items. AddsItem x items new.items) same inserted.inserts.added;
+        slots = inserted.inserts.slots;
+        vacant = inserted.inserts.vacant ∙ ap (λ n. n - 1) kept.keeps.vacant;
+        capacity = omega (arith, inserted.inserts.capacity, kept.keeps.capacity);
+        limit = inserted.inserts.limit ∙ kept.keeps.limit;
       };
       stays = stays_on (KeyedItems key eq input hash) old room new kept.stays inserted.stays;
     }

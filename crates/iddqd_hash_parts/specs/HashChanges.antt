@@ -8,7 +8,7 @@
 --     LosesPlaceOf      a slot is gone
 use Rattle.std.specs.Prelude.{◌≡◌, ℕ, ◌+◌, ◌<◌, ◌≤◌, length, Some, remove, slice_get}
 use Rattle.iddqd_store.specs.Holding.{InsertsItem, KeepsItems}
-use Rattle.iddqd_store.specs.Refusal.{RefusalKind, reservation_kind}
+use Rattle.iddqd_store.specs.Refusal.{IsKindOf, RefusalKind}
 use Rattle.iddqd_hash_parts.specs.HashItems.{HashItems, holding_of}
 
 module _ {S T : Type 0} where
@@ -17,7 +17,7 @@ module _ {S T : Type 0} where
 
   pub record KeepsSpare (old new : HashItems S T) : Type 0 where
     pub never_less : old.spare + length old.items ≤ new.spare + length new.items
-    pub in_limit : SpareFits new
+    pub spare_fits : SpareFits new
 
   -- there is room for n more items
   pub record Reserves (n : ℕ) (old new : HashItems S T) : Type 0 where
@@ -27,7 +27,7 @@ module _ {S T : Type 0} where
 
   -- room for n more items was refused, and fewer were spare
   pub record LacksRoomFor (n : ℕ) (m : HashItems S T) (refused : RefusalKind) : Type 0 where
-    pub kind : refused ≡ reservation_kind m.limit (length m.items + n)
+    pub kind : IsKindOf m.limit (length m.items + n) refused
     pub needed : m.spare < n
 
   -- the slot and its item are gone from their place
@@ -42,7 +42,7 @@ module _ {S T : Type 0} where
       pub hasher : new.hasher ≡ old.hasher
 
     pub record HashInserts (x : T) (old new : HashItems S T) : Type 0 where
-      pub takes : InsertsItem x (holding_of old) (holding_of new)
+      pub inserts : InsertsItem x (holding_of old) (holding_of new)
       pub stays : HashStays old new
 
     pub record HashKeeps (old new : HashItems S T) : Type 0 where

@@ -15,5 +15,5 @@ pub use keyed::Keyed;
 pub use next_slot::slot_from;
 pub use slots_found::with_found;
 pub use store_and_index::{
-    exchange, find_slot, put_in, reserve_one, reserve_room, shrink_room, take_out,
+    exchange, find_slot, insert_in_both, remove_from_both, reserve_one, reserve_room, shrink_room,
 };

@@ -119,7 +119,7 @@ pub fn shrink_room<T>(
 
 /// Inserts the item into a slot, lists the slot under the hash, and returns it. Does not allocate.
 #[inline]
-pub fn put_in<T>(store: &mut ItemStore<T>, index: &mut HashIndex, hash: u64, item: T) -> u32
+pub fn insert_in_both<T>(store: &mut ItemStore<T>, index: &mut HashIndex, hash: u64, item: T) -> u32
     requires paired { PairsOccupied store.old index.old.pairs }
     requires room { HasRoomFor store.old 1 }
     requires listable { 0 < index.old.spare }
@@ -143,7 +143,7 @@ pub fn put_in<T>(store: &mut ItemStore<T>, index: &mut HashIndex, hash: u64, ite
 
 /// Removes the slot from the index, and returns its item, removed from the store. Does not allocate.
 #[inline]
-pub fn take_out<T>(store: &mut ItemStore<T>, index: &mut HashIndex, hash: u64, slot: u32) -> T
+pub fn remove_from_both<T>(store: &mut ItemStore<T>, index: &mut HashIndex, hash: u64, slot: u32) -> T
     requires paired { PairsOccupied store.old index.old.pairs }
     requires listed { Contains index.old.pairs (hash, slot) }
 

@@ -3,7 +3,7 @@ mod CompactLemmas
 mod EndLemmas
 mod EntryLemmas
 pub mod GetMutLemmas
-pub mod InsertNewLemmas
+pub mod InsertOrFindLemmas
 mod RangeLemmas
 pub mod StoreAndIndexLemmas
 mod TakenOutLemmas

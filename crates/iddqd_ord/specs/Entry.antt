@@ -32,7 +32,7 @@ use Rattle.iddqd_ord.specs.declared.id_ord_map.entry.Entry.{Entry}
 use Rattle.iddqd_ord.specs.declared.id_ord_map.entry.OccupiedEntry.{OccupiedEntry}
 use Rattle.iddqd_ord.specs.declared.id_ord_map.ref_mut.RefMut.{RefMut}
 use Rattle.iddqd_ord.specs.declared.id_ord_map.ref_mut.Shown.{Shown}
-use Rattle.iddqd_ord.specs.Guard.{guard_lender, lent_item, lent_map, lent_with, shown_item, shown_lender, shown_map, with_item_in}
+use Rattle.iddqd_ord.specs.Guard.{guard_lender, lent_item, lent_map, lent_with, shown_item, shown_lender, shown_map, with_item_in_slot}
 use Rattle.iddqd_ord.specs.OrdMap.{OrdInserts, OrdKeeps}
 use Rattle.iddqd_ord.specs.contracts.id_ord_map.IdOrdMap as map
 use Rattle.iddqd_ord.specs.contracts.id_ord_map.entry.OccupiedEntry as occupied
@@ -56,7 +56,7 @@ module _ {T : Type 0} where
   entry_slot e = e.slot
 
   abbrev pub entry_with : Entry T → T → Holding T
-  entry_with (Occupied e) w = with_item_in e.map.now e.slot w
+  entry_with (Occupied e) w = with_item_in_slot e.map.now e.slot w
   entry_with (Vacant e) w = e.map.now
 
   abbrev pub entry_others : Entry T → List T
@@ -66,7 +66,7 @@ module _ {T : Type 0} where
   -- the occupied entry, once w is written to its item
   abbrev pub with_entry_item : OccupiedEntry T → T → OccupiedEntry T
   with_entry_item e w = record {
-    map = record e.map { now = with_item_in e.map.now e.slot w };
+    map = record e.map { now = with_item_in_slot e.map.now e.slot w };
     slot = e.slot;
     place = e.place;
     there = still_there e.map.now.slots e.map.now.items e.slot w e.there;

@@ -1,5 +1,5 @@
 -- What a contract sees of a guard of an ordered map.
---     item_in m slot, with_item_in m slot w      the item of the slot, and the map once w is written to it
+--     item_in_slot m slot, with_item_in_slot m slot w      the item of the slot, and the map once w is written to it
 --     IsSlotAt m place slot      the slot of the item at the place: what it shows, what a write and a removal leave
 --     IsInsertedAt x old new at      x was inserted: its slot and its place
 --     lent_map, lent_slot, lent_item, guard_lender      the map as the guard holds it, the slot, its item, the name of the reference to the map
@@ -23,23 +23,23 @@ use Rattle.iddqd_ord.specs.contracts.id_ord_map.IdOrdMap as map
 use Rattle.iddqd_ord.specs.contracts.id_ord_map.ref_mut.RefMut as guard
 
 module _ {T : Type 0} where
-  abbrev pub with_item_in : Holding T → ℕ → T → Holding T
-  with_item_in m slot w = record m { items = written_to_slot m.slots m.items slot w }
+  abbrev pub with_item_in_slot : Holding T → ℕ → T → Holding T
+  with_item_in_slot m slot w = record m { items = written_to_slot m.slots m.items slot w }
 
-  abbrev pub item_in : Holding T → ℕ → Option T
-  item_in m slot = item_of_slot m.slots m.items slot
+  abbrev pub item_in_slot : Holding T → ℕ → Option T
+  item_in_slot m slot = item_of_slot m.slots m.items slot
 
   pub record IsSlotAt (m : Holding T) (place slot : ℕ) : Type 0 where
-    pub item : item_in m slot ≡ slice_get m.items place
-    pub there : IsSome (item_in m slot)
+    pub item : item_in_slot m slot ≡ slice_get m.items place
+    pub there : IsSome (item_in_slot m slot)
     pub written : (w : T) → written_to_slot m.slots m.items slot w ≡ slice_set m.items place w
     pub others : without_slot m.slots m.items slot ≡ remove m.items place
     pub placed : slice_get m.slots place ≡ Some slot
 
   pub record IsInsertedAt (x : T) (old new : Holding T) (at : ℕ × ℕ) : Type 0 where
-    pub there : item_in new at.0 ≡ Some x
+    pub there : item_in_slot new at.0 ≡ Some x
     pub placed : slice_get new.slots at.1 ≡ Some at.0
-    pub written : (w : T) → AddsItem w old.items (with_item_in new at.0 w).items
+    pub written : (w : T) → AddsItem w old.items (with_item_in_slot new at.0 w).items
     pub others : without_slot new.slots new.items at.0 ≡ old.items
 
   abbrev pub lent_map : RefMut T → Holding T
@@ -55,12 +55,12 @@ module _ {T : Type 0} where
   guard_lender r = r.map.ghost_name
 
   abbrev pub lent_with : RefMut T → T → Holding T
-  lent_with r w = with_item_in r.map.now r.slot w
+  lent_with r w = with_item_in_slot r.map.now r.slot w
 
   -- the guard, once w is written through it
   abbrev pub with_item : RefMut T → T → RefMut T
   with_item r w = record {
-    map = record r.map { now = with_item_in r.map.now r.slot w };
+    map = record r.map { now = with_item_in_slot r.map.now r.slot w };
     slot = r.slot;
     spent = r.spent;
     there = still_there r.map.now.slots r.map.now.items r.slot w r.there;
@@ -100,13 +100,13 @@ module _ {T K : Type 0} (key : T → K) where
 
 module _ (T : RattleType) where
   abbrev pub lends_item : MutBor (Holding T.Denot) → ℕ → MutBor T.Denot → Fml
-  lends_item m slot r = Lends (map.the_row T) T m r (with_item_in m.now slot)
+  lends_item m slot r = Lends (map.the_row T) T m r (with_item_in_slot m.now slot)
 
   abbrev pub rests_at_none : MutBor (Holding T.Denot) → Option (RefMut T.Denot) → Fml
   rests_at_none m r = RestsIfNone (map.the_row T) m guard_lender r (λ n. n ≡ m.now)
 
   abbrev pub item_follows : RefMut T.Denot → MutBor T.Denot → Fml
-  item_follows r x = follows (map.the_row T) T r.map.ghost_name x.ghost_name (with_item_in r.map.now r.slot)
+  item_follows r x = follows (map.the_row T) T r.map.ghost_name x.ghost_name (with_item_in_slot r.map.now r.slot)
 
   -- the guard's lifetime is the second of the signature
   abbrev pub guard_follows : MutBor (RefMut T.Denot) → MutBor T.Denot → Fml

@@ -7,8 +7,8 @@ use Rattle.iddqd_store.specs.Holding.{Holding}
 use Rattle.iddqd_store.specs.Refusal.{HandsBack}
 use Rattle.iddqd_store.specs.SlotItems.{item_of_slot}
 use Rattle.iddqd_ord.specs.Guard.{IsInsertedAt}
-use Rattle.iddqd_ord.specs.declared.id_ord_map.insert_new.Missed.{Missed}
-use Rattle.iddqd_ord.specs.declared.id_ord_map.insert_new.Missed.TheVariants.{Akin, NoRoom}
+use Rattle.iddqd_ord.specs.declared.id_ord_map.insert_or_find.Missed.{Missed}
+use Rattle.iddqd_ord.specs.declared.id_ord_map.insert_or_find.Missed.TheVariants.{Akin, NoRoom}
 
 abbrev pub IsInsertedIn : {T : Type 0} → T → Holding T → Holding T → ℕ → Type 0
 IsInsertedIn x old new slot = (place : ℕ) × IsInsertedAt x old new (slot, place)

@@ -14,7 +14,7 @@ mod fmt;
 mod get_mut;
 mod imp;
 mod insert;
-mod insert_new;
+mod insert_or_find;
 mod into_iter;
 mod iter;
 pub mod iter_mut;

@@ -4,7 +4,7 @@
 mod adding;
 mod answering;
 mod by_name;
-mod ends;
+mod first_last;
 mod entries;
 mod requests;
 mod serving;

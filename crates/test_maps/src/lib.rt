@@ -15,7 +15,7 @@ mod commands;
 #[cfg(test)]
 mod drops;
 #[cfg(test)]
-mod ends;
+mod first_last;
 #[cfg(test)]
 mod entries;
 #[cfg(test)]

@@ -5,7 +5,7 @@ pub mod bulk;
 pub mod copied;
 pub mod counted;
 pub mod counting;
-pub mod ends;
+pub mod first_last;
 pub mod entered;
 pub mod guards;
 pub mod hashers;

@@ -36,17 +36,17 @@ impl<T: BiHashItem, S: BuildHasher> BiHashMap<T, S> {
             Err(error) => return Err(FromIterError::Refused(error)),
         };
         for item in items {
-            map.insert_first(item)?;
+            map.insert_or_take(item)?;
         }
         Ok(map)
     }
 
     // Inserts the item if no item has one of its keys. Else it removes those and returns all.
-    fn insert_first(&mut self, item: T) -> Result<(), FromIterError<T>>
+    fn insert_or_take(&mut self, item: T) -> Result<(), FromIterError<T>>
     where
         T: Drop,
         requires keyed { ⟦<Self as Keyed>⟧.keyed self.old }
-        ensures inserts { OnOk result (BiInserts ⟦<Self as Keyed>⟧.keyed item self.old self.new) }
+        ensures inserted { OnOk result (BiInserts ⟦<Self as Keyed>⟧.keyed item self.old self.new) }
         ensures met { IfErr result (ShowsMet T.key1 T.key2 T.K1.eq T.K2.eq self.old.items item) }
     {
         let hash1 = self.hasher.hash_one(item.key1());
@@ -55,7 +55,7 @@ impl<T: BiHashItem, S: BuildHasher> BiHashMap<T, S> {
             Some(earlier) => Err(FromIterError::Duplicate(DuplicateItem::internal_new(
                 item, earlier,
             ))),
-            None => match self.insert_new(hash1, hash2, item) {
+            None => match self.insert_hashed(hash1, hash2, item) {
                 Ok(()) => Ok(()),
                 Err(refused) => Err(FromIterError::Refused(refused.error)),
             },

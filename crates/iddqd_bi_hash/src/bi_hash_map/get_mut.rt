@@ -49,7 +49,7 @@ impl<T: BiHashItem, S: BuildHasher> BiHashMap<T, S> {
         ensures absent { IfNone result (IsAbsent T.key1 (Q.equivalent query.now) self.old.items) }
 
         // room
-        ensures spare { SpareFits self.old }
+        ensures spare_fits { SpareFits self.old }
     {
         let hash = self.hasher.hash_one(query);
         let slot = self.slot_by_key1(hash, query)?;
@@ -79,7 +79,7 @@ impl<T: BiHashItem, S: BuildHasher> BiHashMap<T, S> {
         ensures absent { IfNone result (IsAbsent T.key2 (Q.equivalent query.now) self.old.items) }
 
         // room
-        ensures spare { SpareFits self.old }
+        ensures spare_fits { SpareFits self.old }
     {
         let hash = self.hasher.hash_one(query);
         let slot = self.slot_by_key2(hash, query)?;
@@ -113,7 +113,7 @@ impl<T: BiHashItem, S: BuildHasher> BiHashMap<T, S> {
         ensures absent { IfNone result (LacksByBoth T.key1 T.key2 (Q.equivalent query1.now) (R.equivalent query2.now) self.old.items) }
 
         // room
-        ensures spare { SpareFits self.old }
+        ensures spare_fits { SpareFits self.old }
     {
         if !self.contains_key_unique(query1, query2) {
             return None;

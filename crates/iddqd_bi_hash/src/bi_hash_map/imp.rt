@@ -4,7 +4,7 @@ ghost use Rattle.iddqd_store.specs.Contents.{Finds, RemovesFound, find_item};
 ghost use Rattle.iddqd_store.specs.Holding.{Removes};
 ghost use Rattle.iddqd_store.specs.SlotItems.{item_of_slot};
 
-use super::store_and_indexes::take_out;
+use super::store_and_indexes::remove_from_all;
 use super::{BiHashMap, Keyed};
 use crate::items::BiHashItem;
 use iddqd_store::Equivalent;
@@ -22,7 +22,7 @@ impl<T: BiHashItem, S: BuildHasher> BiHashMap<T, S> {
         requires keyed { ⟦<Self as Keyed>⟧.keyed self.now }
         requires hashes { HashesAsKeys Q.equivalent Q.hash_input T.K1.hash_input query.now }
         ensures found { Finds T.key1 (Q.equivalent query.now) self.now.items result }
-        ensures spare { SpareFits self.now }
+        ensures spare_fits { SpareFits self.now }
     {
         let hash = self.hasher.hash_one(query);
         let found = self.slot_by_key1(hash, query)?;
@@ -36,7 +36,7 @@ impl<T: BiHashItem, S: BuildHasher> BiHashMap<T, S> {
         requires keyed { ⟦<Self as Keyed>⟧.keyed self.now }
         requires hashes { HashesAsKeys Q.equivalent Q.hash_input T.K2.hash_input query.now }
         ensures found { Finds T.key2 (Q.equivalent query.now) self.now.items result }
-        ensures spare { SpareFits self.now }
+        ensures spare_fits { SpareFits self.now }
     {
         let hash = self.hasher.hash_one(query);
         let found = self.slot_by_key2(hash, query)?;
@@ -124,7 +124,7 @@ impl<T: BiHashItem, S: BuildHasher> BiHashMap<T, S> {
         // what stays
         ensures stays { BiStays ⟦<Self as Keyed>⟧.keyed self.old self.new }
     {
-        take_out(
+        remove_from_all(
             &mut self.store,
             &mut self.index1,
             &mut self.index2,

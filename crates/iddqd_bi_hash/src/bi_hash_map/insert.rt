@@ -6,7 +6,7 @@ ghost use Rattle.iddqd_store.specs.Contents.{IsAbsent};
 ghost use Rattle.iddqd_store.specs.Refusal.{OnRefused};
 ghost use Rattle.iddqd_bi_hash.specs.TwoKeys.{items_met};
 
-use super::store_and_indexes::{put_in, reserve_one};
+use super::store_and_indexes::{insert_in_all, reserve_one};
 use super::{BiHashMap, Keyed};
 use crate::items::BiHashItem;
 use iddqd_store::{DuplicateItem, InsertError, Refused};
@@ -42,21 +42,21 @@ impl<T: BiHashItem, S: BuildHasher> BiHashMap<T, S> {
             let existing = self.items_in_slots(slots);
             return Err(InsertError::Duplicate(DuplicateItem::internal_new(item, existing)));
         }
-        match self.insert_new(hash1, hash2, item) {
+        match self.insert_hashed(hash1, hash2, item) {
             Ok(()) => Ok(&mut self.done),
             Err(refused) => Err(InsertError::Refused(refused)),
         }
     }
 
     // Inserts an item whose keys no other has.
-    pub(super) fn insert_new(&mut self, hash1: u64, hash2: u64, item: T) -> Result<(), Refused<T>>
+    pub(super) fn insert_hashed(&mut self, hash1: u64, hash2: u64, item: T) -> Result<(), Refused<T>>
         requires keyed { ⟦<Self as Keyed>⟧.keyed self.old }
         requires absent { items_met T.key1 T.key2 T.K1.eq T.K2.eq item self.old.items ≡ [] }
         requires hash1 { hash1 ≡ ⟦<Self as Keyed>⟧.hash self.old (T.K1.hash_input (T.key1 item)) }
         requires hash2 { hash2 ≡ ⟦<Self as Keyed>⟧.hash self.old (T.K2.hash_input (T.key2 item)) }
 
         // on success
-        ensures inserts { OnOk result (BiInserts ⟦<Self as Keyed>⟧.keyed item self.old self.new) }
+        ensures inserted { OnOk result (BiInserts ⟦<Self as Keyed>⟧.keyed item self.old self.new) }
 
         // on refusal
         ensures refused { IfErr result (BiHandsBack T.key1 T.key2 T.K1.eq T.K2.eq self.old item) }
@@ -69,7 +69,7 @@ impl<T: BiHashItem, S: BuildHasher> BiHashMap<T, S> {
         Ok(())
     }
 
-    // As `insert_new`, if there is room. Does not allocate.
+    // As `insert_hashed`, if there is room. Does not allocate.
     pub(super) fn insert_reserved(&mut self, hash1: u64, hash2: u64, item: T)
         requires keyed { ⟦<Self as Keyed>⟧.keyed self.old }
         requires absent { items_met T.key1 T.key2 T.K1.eq T.K2.eq item self.old.items ≡ [] }
@@ -78,10 +78,10 @@ impl<T: BiHashItem, S: BuildHasher> BiHashMap<T, S> {
         requires room { 0 < self.old.spare }
 
         // afterwards
-        ensures inserts { BiInserts ⟦<Self as Keyed>⟧.keyed item self.old self.new }
+        ensures inserted { BiInserts ⟦<Self as Keyed>⟧.keyed item self.old self.new }
         ensures capacity { self.new.capacity ≡ self.old.capacity }
     {
-        put_in(
+        insert_in_all(
             &mut self.store,
             &mut self.index1,
             &mut self.index2,

@@ -45,7 +45,7 @@ impl<T: BiHashItem, S: BuildHasher> BiHashMap<T, S> {
         let hash2 = self.hasher.hash_one(item.key2());
         match self.displace(&item) {
             None => {
-                self.insert_new(hash1, hash2, item)?;
+                self.insert_hashed(hash1, hash2, item)?;
                 Ok(None)
             }
             Some(back) => {

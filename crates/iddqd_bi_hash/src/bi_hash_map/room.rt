@@ -1,6 +1,6 @@
 //! Room for items.
 ghost use Rattle.std.specs.Prelude.{◌≡◌, ◌<◌, ◌≤◌, IfOk, IfErr, OnOk, OnErr};
-ghost use Rattle.iddqd_store.specs.Refusal.{reservation_kind};
+ghost use Rattle.iddqd_store.specs.Refusal.{IsKindOf};
 ghost use Rattle.iddqd_bi_hash.specs.BiHashMap.{BiKeeps, HasNoItems, LacksRoomFor, Reserves, SpareFits};
 
 use super::store_and_indexes::reserve_room;
@@ -17,13 +17,13 @@ impl<T: BiHashItem> BiHashMap<T> {
         // on success
         ensures empty { IfOk result (HasNoItems MAX_ITEMS) }
         ensures spare { IfOk result (λ m. capacity ≤ m.spare) }
-        ensures within_limit { IfOk result SpareFits }
+        ensures spare_fits { IfOk result SpareFits }
         ensures capacity { IfOk result (λ m. capacity ≤ m.capacity) }
         ensures in_limit { OnOk result (capacity ≤ MAX_ITEMS) }
         ensures keyed { IfOk result ⟦<Self as Keyed>⟧.keyed }
 
         // on refusal
-        ensures refused { IfErr result (λ e. e ≡ reservation_kind MAX_ITEMS capacity) }
+        ensures refused { IfErr result (IsKindOf MAX_ITEMS capacity) }
         ensures asked { OnErr result (0 < capacity) }
     {
         BiHashMap::with_capacity_and_hasher(alloc, capacity, DefaultHashBuilder::new())
@@ -43,14 +43,14 @@ impl<T: BiHashItem, S: BuildHasher> BiHashMap<T, S> {
         // on success
         ensures empty { IfOk result (HasNoItems MAX_ITEMS) }
         ensures spare { IfOk result (λ m. capacity ≤ m.spare) }
-        ensures within_limit { IfOk result SpareFits }
+        ensures spare_fits { IfOk result SpareFits }
         ensures capacity { IfOk result (λ m. capacity ≤ m.capacity) }
         ensures hasher { IfOk result (λ m. m.hasher ≡ hasher) }
         ensures in_limit { OnOk result (capacity ≤ MAX_ITEMS) }
         ensures keyed { IfOk result ⟦<Self as Keyed>⟧.keyed }
 
         // on refusal
-        ensures refused { IfErr result (λ e. e ≡ reservation_kind MAX_ITEMS capacity) }
+        ensures refused { IfErr result (IsKindOf MAX_ITEMS capacity) }
         ensures asked { OnErr result (0 < capacity) }
     {
         if capacity > MAX_ITEMS as usize {

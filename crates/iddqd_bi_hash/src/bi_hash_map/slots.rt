@@ -55,7 +55,7 @@ impl<T, S> BiHashMap<T, S> {
 
         // either way
         ensures rises { AreRising self.now.slots }
-        ensures spare { SpareFits self.now }
+        ensures spare_fits { SpareFits self.now }
         ensures own { HaveSlots self.now.slots self.now.items }
     {
         slot_from(&self.store, from)
@@ -73,7 +73,7 @@ impl<T: BiHashItem, S: BuildHasher> BiHashMap<T, S> {
         requires keyed { ⟦<Self as Keyed>⟧.keyed self.now }
         requires hash { HasHash ⟦<Self as Keyed>⟧.hash self.now (Q.equivalent query.now) T.K1.hash_input hash }
         ensures slot { FindsSlot T.key1 (Q.equivalent query.now) (by_key1 self.now) hash result }
-        ensures spare { SpareFits self.now }
+        ensures spare_fits { SpareFits self.now }
     {
         find_slot::<T, First, Q>(&self.store, &self.index1, hash, query)
     }
@@ -84,7 +84,7 @@ impl<T: BiHashItem, S: BuildHasher> BiHashMap<T, S> {
         requires keyed { ⟦<Self as Keyed>⟧.keyed self.now }
         requires hash { HasHash ⟦<Self as Keyed>⟧.hash self.now (Q.equivalent query.now) T.K2.hash_input hash }
         ensures slot { FindsSlot T.key2 (Q.equivalent query.now) (by_key2 self.now) hash result }
-        ensures spare { SpareFits self.now }
+        ensures spare_fits { SpareFits self.now }
     {
         find_slot::<T, Second, Q>(&self.store, &self.index2, hash, query)
     }

@@ -67,7 +67,7 @@ pub(super) fn reserve_room<T>(
 
 // Inserts the item into a slot, lists the slot under the hashes, and returns it. Does not allocate.
 #[inline]
-pub(super) fn put_in<T>(
+pub(super) fn insert_in_all<T>(
     store: &mut ItemStore<T>,
     index1: &mut HashIndex,
     index2: &mut HashIndex,
@@ -94,14 +94,14 @@ pub(super) fn put_in<T>(
     ensures spare2 { index2.old.spare ≤ index2.new.spare + 1 }
     ensures bounds { KeepsBounds store.old store.new }
 {
-    let slot = parts::put_in(store, index1, hash1, item);
+    let slot = parts::insert_in_both(store, index1, hash1, item);
     index2.add_reserved(hash2, slot);
     slot
 }
 
 // Removes the slot from both indexes, and returns its item, removed from the store.
 #[inline]
-pub(super) fn take_out<T>(
+pub(super) fn remove_from_all<T>(
     store: &mut ItemStore<T>,
     index1: &mut HashIndex,
     index2: &mut HashIndex,
@@ -128,5 +128,5 @@ pub(super) fn take_out<T>(
     ensures bounds { KeepsBounds store.old store.new }
 {
     index2.remove(hash2, slot);
-    parts::take_out(store, index1, hash1, slot)
+    parts::remove_from_both(store, index1, hash1, slot)
 }

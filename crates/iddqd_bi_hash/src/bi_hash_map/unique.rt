@@ -23,7 +23,7 @@ impl<T: BiHashItem, S: BuildHasher> BiHashMap<T, S> {
         requires keyed { ⟦<Self as Keyed>⟧.keyed self.now }
         requires hashes { HashesAsKeys Q.equivalent Q.hash_input T.K1.hash_input query1.now }
         ensures found { FindsByBoth T.key1 T.key2 (Q.equivalent query1.now) (R.equivalent query2.now) self.now.items result }
-        ensures spare { SpareFits self.now }
+        ensures spare_fits { SpareFits self.now }
     {
         let found = self.get1(query1)?;
         if query2.equivalent(found.key2()) {
@@ -43,7 +43,7 @@ impl<T: BiHashItem, S: BuildHasher> BiHashMap<T, S> {
         requires keyed { ⟦<Self as Keyed>⟧.keyed self.now }
         requires hashes { HashesAsKeys Q.equivalent Q.hash_input T.K1.hash_input query1.now }
         ensures found { result ≡ is_some (find_by_both T.key1 T.key2 (Q.equivalent query1.now) (R.equivalent query2.now) self.now.items) }
-        ensures spare { SpareFits self.now }
+        ensures spare_fits { SpareFits self.now }
     {
         self.get_unique(query1, query2).is_some()
     }

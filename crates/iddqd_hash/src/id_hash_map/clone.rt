@@ -28,7 +28,7 @@ impl<T: IdHashItem, S: BuildHasher> IdHashMap<T, S> {
         ensures vacant { IfOk result (λ copy. copy.vacant ≡ self.now.vacant) }
         ensures limit { IfOk result (λ copy. copy.limit ≡ self.now.limit) }
         ensures hasher { IfOk result (λ copy. S.is_clone self.now.hasher copy.hasher) }
-        ensures spare { IfOk result SpareFits }
+        ensures spare_fits { IfOk result SpareFits }
         ensures keyed { IfOk result ⟦<Self as Keyed>⟧.keyed }
 
         // on refusal

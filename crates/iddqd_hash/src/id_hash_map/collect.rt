@@ -6,7 +6,7 @@ ghost use Rattle.iddqd_store.specs.Contents.{IsAbsent};
 
 use super::{IdHashMap, Keyed};
 use iddqd_hash_index::OwnKey;
-use iddqd_hash_parts::{find_slot, take_out};
+use iddqd_hash_parts::{find_slot, remove_from_both};
 use iddqd_store::{
     DuplicateItem, ExtendError, Few, FromIterError, Gives, IdHashItem, TryReserveError,
     room_to_reserve,
@@ -104,27 +104,27 @@ impl<T: IdHashItem, S: BuildHasher> IdHashMap<T, S> {
             Err(error) => return Err(FromIterError::Refused(error)),
         };
         for item in items {
-            map.insert_first(item)?;
+            map.insert_or_take(item)?;
         }
         Ok(map)
     }
 
     // Inserts the item if no item has an equal key. Else it removes that one and returns both.
-    fn insert_first(&mut self, item: T) -> Result<(), FromIterError<T>>
+    fn insert_or_take(&mut self, item: T) -> Result<(), FromIterError<T>>
     where
         T: Drop,
         requires keyed { ⟦<Self as Keyed>⟧.keyed self.old }
-        ensures inserts { OnOk result (HashInserts ⟦<Self as Keyed>⟧.keyed item self.old self.new) }
+        ensures inserted { OnOk result (HashInserts ⟦<Self as Keyed>⟧.keyed item self.old self.new) }
         ensures absent { OnOk result (IsAbsent T.key (T.Key.eq (T.key item)) self.old.items) }
         ensures akin { IfErr result (ShowsAkin T.key T.Key.eq self.old.items item) }
     {
         let hash = self.hasher.hash_one(item.key());
         match find_slot::<T, OwnKey, T::Key>(&self.store, &self.index, hash, item.key()) {
             Some(slot) => {
-                let earlier = Few::One(take_out(&mut self.store, &mut self.index, hash, slot));
+                let earlier = Few::One(remove_from_both(&mut self.store, &mut self.index, hash, slot));
                 Err(FromIterError::Duplicate(DuplicateItem::internal_new(item, earlier)))
             }
-            None => match self.insert_new(hash, item) {
+            None => match self.insert_hashed(hash, item) {
                 Ok(_) => Ok(()),
                 Err(refused) => Err(FromIterError::Refused(refused.error)),
             },

@@ -36,7 +36,7 @@ impl<T: IdHashItem, S: BuildHasher> IdHashMap<T, S> {
         ensures* after { sem 𝓛 (ends_extended S.row T.row T.key T.Key.eq ⟦<Self as Keyed>⟧ ⟦<U as Gives>⟧ iter self.entry result) }
         ensures shown { IfErr result (ShowsConflict T.key T.Key.eq ⟦<U as Gives>⟧ iter self.old) }
     {
-        match self.add_each(iter) {
+        match self.insert_each(iter) {
             Ok(()) => Ok(&mut self.done),
             Err(Halt::Akin(item, slot)) => {
                 let there = Few::One(self.item_in_slot(slot));
@@ -47,7 +47,7 @@ impl<T: IdHashItem, S: BuildHasher> IdHashMap<T, S> {
     }
 
     // The same, with the slot of the existing item in place of a reference: a loan cannot leave a loop.
-    fn add_each<U: IntoIterator<Item = T>>(&mut self, iter: U) -> Result<(), Halt<T>>
+    fn insert_each<U: IntoIterator<Item = T>>(&mut self, iter: U) -> Result<(), Halt<T>>
     where
         T: Drop,
         requires keyed { ⟦<Self as Keyed>⟧.keyed self.old }
@@ -69,17 +69,17 @@ impl<T: IdHashItem, S: BuildHasher> IdHashMap<T, S> {
             return Err(Halt::NoRoom(ExtendError { item: None, error }));
         }
         for item in items {
-            self.add(item)?;
+            self.insert_or_halt(item)?;
         }
         Ok(())
     }
 
     // Inserts the item if no item has an equal key, and else returns that one's slot.
-    fn add(&mut self, item: T) -> Result<(), Halt<T>>
+    fn insert_or_halt(&mut self, item: T) -> Result<(), Halt<T>>
         requires keyed { ⟦<Self as Keyed>⟧.keyed self.old }
 
         // on success
-        ensures inserts { OnOk result (HashInserts ⟦<Self as Keyed>⟧.keyed item self.old self.new) }
+        ensures inserted { OnOk result (HashInserts ⟦<Self as Keyed>⟧.keyed item self.old self.new) }
         ensures absent { OnOk result (IsAbsent T.key (T.Key.eq (T.key item)) self.old.items) }
 
         // on refusal
@@ -90,7 +90,7 @@ impl<T: IdHashItem, S: BuildHasher> IdHashMap<T, S> {
         let hash = self.hasher.hash_one(item.key());
         match find_slot::<T, OwnKey, T::Key>(&self.store, &self.index, hash, item.key()) {
             Some(slot) => Err(Halt::Akin(item, slot)),
-            None => match self.insert_new(hash, item) {
+            None => match self.insert_hashed(hash, item) {
                 Ok(_) => Ok(()),
                 Err(refused) => Err(Halt::NoRoom(ExtendError {
                     item: Some(refused.item),

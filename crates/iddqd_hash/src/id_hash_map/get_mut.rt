@@ -57,7 +57,7 @@ impl<T: IdHashItem, S: BuildHasher> IdHashMap<T, S> {
         ensures absent { IfNone result (IsAbsent T.key (Q.equivalent query.now) self.old.items) }
 
         // room
-        ensures spare { SpareFits self.old }
+        ensures spare_fits { SpareFits self.old }
     {
         let hash = self.hasher.hash_one(query);
         let slot = find_slot::<T, OwnKey, Q>(&self.store, &self.index, hash, query)?;

@@ -5,7 +5,7 @@ ghost use Rattle.iddqd_store.specs.Holding.{Removes};
 
 use super::{IdHashMap, Keyed};
 use iddqd_hash_index::OwnKey;
-use iddqd_hash_parts::{find_slot, take_out};
+use iddqd_hash_parts::{find_slot, remove_from_both};
 use iddqd_store::{Equivalent, IdHashItem, Steps};
 use std::hash::{BuildHasher, Hash};
 
@@ -20,7 +20,7 @@ impl<T: IdHashItem, S: BuildHasher> IdHashMap<T, S> {
         requires keyed { ⟦<Self as Keyed>⟧.keyed self.now }
         requires hashes { HashesAsKeys Q.equivalent Q.hash_input T.Key.hash_input query.now }
         ensures found { Finds T.key (Q.equivalent query.now) self.now.items result }
-        ensures spare { SpareFits self.now }
+        ensures spare_fits { SpareFits self.now }
     {
         self.get_counted(query, &mut Steps::new())
     }
@@ -38,7 +38,7 @@ impl<T: IdHashItem, S: BuildHasher> IdHashMap<T, S> {
 
         // what is found
         ensures found { Finds T.key (Q.equivalent query.now) self.now.items result }
-        ensures spare { SpareFits self.now }
+        ensures spare_fits { SpareFits self.now }
 
         // what it costs
         ensures steps { steps.new ≤ steps.old + of_same_hash ⟦<Self as Keyed>⟧.hash self.now (Q.hash_input query.now) }
@@ -78,6 +78,6 @@ impl<T: IdHashItem, S: BuildHasher> IdHashMap<T, S> {
     {
         let hash = self.hasher.hash_one(query);
         let slot = find_slot::<T, OwnKey, Q>(&self.store, &self.index, hash, query)?;
-        Some(take_out(&mut self.store, &mut self.index, hash, slot))
+        Some(remove_from_both(&mut self.store, &mut self.index, hash, slot))
     }
 }

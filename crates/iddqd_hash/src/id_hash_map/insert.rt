@@ -7,12 +7,12 @@ ghost use Rattle.iddqd_store.specs.Refusal.{OnRefused};
 
 use super::{IdHashMap, Keyed};
 use iddqd_hash_index::OwnKey;
-use iddqd_hash_parts::{exchange, find_slot, put_in, reserve_one};
+use iddqd_hash_parts::{exchange, find_slot, insert_in_both, reserve_one};
 use iddqd_store::{DuplicateItem, Few, IdHashItem, InsertError, Refused};
 use std::hash::BuildHasher;
 
 impl<T: IdHashItem, S: BuildHasher> IdHashMap<T, S> {
-    ghost use Rattle.iddqd_hash.specs.HashMap.{HashHandsBack, HashInserts, HashKeeps, HashOverwrites, HashStays, RefusesItem, TakesSlot, ends_hash_inserted as ends_insert, lends_nothing};
+    ghost use Rattle.iddqd_hash.specs.HashMap.{HashHandsBack, HashInserts, HashKeeps, HashOverwrites, HashStays, IsInsertedAt, RefusesItem, ends_hash_inserted as ends_insert, lends_nothing};
 
     /// Inserts the item if no item has an equal key. A duplicate is returned beside a reference to the existing item.
     /// That does not allocate, and the map is as it was. If the map is full or memory is refused, the item is returned,
@@ -37,7 +37,7 @@ impl<T: IdHashItem, S: BuildHasher> IdHashMap<T, S> {
             let existing = Few::One(self.item_in_slot(slot));
             return Err(InsertError::Duplicate(DuplicateItem::internal_new(item, existing)));
         }
-        match self.insert_new(hash, item) {
+        match self.insert_hashed(hash, item) {
             Ok(_) => Ok(&mut self.done),
             Err(refused) => Err(InsertError::Refused(refused)),
         }
@@ -64,7 +64,7 @@ impl<T: IdHashItem, S: BuildHasher> IdHashMap<T, S> {
         match find_slot::<T, OwnKey, T::Key>(&self.store, &self.index, hash, item.key()) {
             Some(slot) => Ok(Some(exchange(&mut self.store, &self.index, hash, slot, item))),
             None => {
-                self.insert_new(hash, item)?;
+                self.insert_hashed(hash, item)?;
                 Ok(None)
             }
         }
@@ -80,14 +80,14 @@ impl<T: IdHashItem, S: BuildHasher> IdHashMap<T, S> {
     }
 
     // Inserts an item whose key no other has, and returns its slot.
-    pub(super) fn insert_new(&mut self, hash: u64, item: T) -> Result<u32, Refused<T>>
+    pub(super) fn insert_hashed(&mut self, hash: u64, item: T) -> Result<u32, Refused<T>>
         requires keyed { ⟦<Self as Keyed>⟧.keyed self.old }
         requires absent { IsAbsent T.key (T.Key.eq (T.key item)) self.old.items }
         requires hash { hash ≡ ⟦<Self as Keyed>⟧.hash self.old (T.Key.hash_input (T.key item)) }
 
         // on success
-        ensures inserts { OnOk result (HashInserts ⟦<Self as Keyed>⟧.keyed item self.old self.new) }
-        ensures placed { IfOk result (TakesSlot item hash self.old self.new) }
+        ensures inserted { OnOk result (HashInserts ⟦<Self as Keyed>⟧.keyed item self.old self.new) }
+        ensures there { IfOk result (IsInsertedAt item hash self.old self.new) }
 
         // on refusal
         ensures refused { IfErr result (HashHandsBack T.key T.Key.eq self.old item) }
@@ -96,6 +96,6 @@ impl<T: IdHashItem, S: BuildHasher> IdHashMap<T, S> {
         if let Err(error) = reserve_one(&mut self.store, &mut self.index) {
             return Err(Refused { item, error });
         }
-        Ok(put_in(&mut self.store, &mut self.index, hash, item))
+        Ok(insert_in_both(&mut self.store, &mut self.index, hash, item))
     }
 }

@@ -7,7 +7,7 @@ ghost use Rattle.iddqd_store.specs.SlotItems.{item_of_slot};
 ghost use Rattle.iddqd_store.specs.Visiting.{VisitsKeepKeys, kept_by, visitor_after};
 
 use super::{IdHashMap, Keyed};
-use iddqd_hash_parts::take_out;
+use iddqd_hash_parts::remove_from_both;
 use iddqd_store::{IdHashItem, Visit};
 use std::hash::BuildHasher;
 
@@ -99,6 +99,6 @@ impl<T: IdHashItem, S: BuildHasher> IdHashMap<T, S> {
         // what stays
         ensures stays { HashStays ⟦<Self as Keyed>⟧.keyed self.old self.new }
     {
-        take_out(&mut self.store, &mut self.index, hash, slot)
+        remove_from_both(&mut self.store, &mut self.index, hash, slot)
     }
 }

@@ -20,7 +20,7 @@ impl<T, S> IdHashMap<T, S> {
 
         // either way
         ensures rises { AreRising self.now.slots }
-        ensures spare { SpareFits self.now }
+        ensures spare_fits { SpareFits self.now }
         ensures own { HaveSlots self.now.slots self.now.items }
     {
         slot_from(&self.store, from)

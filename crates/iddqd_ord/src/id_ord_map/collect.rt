@@ -6,7 +6,7 @@ ghost use Rattle.iddqd_store.specs.Contents.{Ascends, IsAbsent};
 ghost use Rattle.iddqd_store.specs.Holding.{FillsSlots};
 
 use super::IdOrdMap;
-use super::store_and_index::take_out;
+use super::store_and_index::remove_from_both;
 use iddqd_store::{
     DuplicateItem, ExtendError, Few, FromIterError, Gives, IdOrdItem, MAX_ITEMS, Steps,
     TryReserveError, room_to_reserve,
@@ -105,13 +105,13 @@ impl<T: IdOrdItem> IdOrdMap<T> {
             Err(error) => return Err(FromIterError::Refused(error)),
         };
         for item in items {
-            map.insert_first(item)?;
+            map.insert_or_take(item)?;
         }
         Ok(map)
     }
 
     // Inserts the item if no item has an equal key. Else it removes that one and returns both.
-    fn insert_first(&mut self, item: T) -> Result<(), FromIterError<T>>
+    fn insert_or_take(&mut self, item: T) -> Result<(), FromIterError<T>>
     where
         T: Drop,
         requires keyed { Ascends T.key T.Key.cmp self.old.items }
@@ -121,10 +121,10 @@ impl<T: IdOrdItem> IdOrdMap<T> {
     {
         match self.index.find(&self.store, item.key(), &mut Steps::new()) {
             Ok(place) => {
-                let earlier = Few::One(take_out(&mut self.store, &mut self.index, place));
+                let earlier = Few::One(remove_from_both(&mut self.store, &mut self.index, place));
                 Err(FromIterError::Duplicate(DuplicateItem::internal_new(item, earlier)))
             }
-            Err(place) => match self.insert_at(place, item) {
+            Err(place) => match self.insert_at_place(place, item) {
                 Ok(_) => Ok(()),
                 Err(refused) => Err(FromIterError::Refused(refused.error)),
             },

@@ -6,7 +6,7 @@ ghost use Rattle.iddqd_store.specs.Adding.{Adds, Halts, HaltsAt, ShowsConflict};
 ghost use Rattle.iddqd_store.specs.Contents.{Ascends, IsAbsent};
 
 use super::IdOrdMap;
-use super::insert_new::Missed;
+use super::insert_or_find::Missed;
 use iddqd_store::{
     DuplicateItem, ExtendError, ExtendUniqueError, Few, Gives, Halt, IdOrdItem, Steps,
     room_to_reserve,
@@ -34,7 +34,7 @@ impl<T: IdOrdItem> IdOrdMap<T> {
         ensures* after { sem 𝓛 (ends_extended T.row T.key T.Key.eq T.Key.cmp ⟦<U as Gives>⟧ iter self.entry result) }
         ensures shown { IfErr result (ShowsConflict T.key T.Key.eq ⟦<U as Gives>⟧ iter self.old) }
     {
-        match self.add_each(iter) {
+        match self.insert_each(iter) {
             Ok(()) => Ok(&mut self.done),
             Err(Halt::Akin(item, slot)) => {
                 let there = Few::One(self.item_in_slot(slot));
@@ -45,7 +45,7 @@ impl<T: IdOrdItem> IdOrdMap<T> {
     }
 
     // As `extend_unique`, but returns the slot of the existing item in place of the item: a loan cannot leave a loop.
-    fn add_each<U: IntoIterator<Item = T>>(&mut self, iter: U) -> Result<(), Halt<T>>
+    fn insert_each<U: IntoIterator<Item = T>>(&mut self, iter: U) -> Result<(), Halt<T>>
     where
         T: Drop,
         requires keyed { Ascends T.key T.Key.cmp self.old.items }
@@ -60,20 +60,20 @@ impl<T: IdOrdItem> IdOrdMap<T> {
             return Err(Halt::NoRoom(ExtendError { item: None, error }));
         }
         for item in items {
-            self.add(item)?;
+            self.insert_or_halt(item)?;
         }
         Ok(())
     }
 
     // Inserts the item if no item has an equal key, and else returns that one's slot.
-    fn add(&mut self, item: T) -> Result<(), Halt<T>>
+    fn insert_or_halt(&mut self, item: T) -> Result<(), Halt<T>>
         requires keyed { Ascends T.key T.Key.cmp self.old.items }
         ensures inserted { OnOk result (OrdInserts T.key T.Key.cmp item self.old self.new) }
         ensures absent { OnOk result (IsAbsent T.key (T.Key.eq (T.key item)) self.old.items) }
         ensures halted { IfErr result (HaltsAt T.key T.Key.eq item self.old) }
         ensures kept { OnErr result (OrdKeeps T.key T.Key.cmp self.old self.new) }
     {
-        match self.insert_new(item, &mut Steps::new()) {
+        match self.insert_or_find(item, &mut Steps::new()) {
             Ok(_) => Ok(()),
             Err(Missed::Akin(item, slot)) => Err(Halt::Akin(item, slot)),
             Err(Missed::NoRoom(refused)) => Err(Halt::NoRoom(ExtendError {

@@ -8,13 +8,13 @@ use iddqd_ord_index::Place;
 use iddqd_store::{Comparable, IdOrdItem, Steps};
 
 impl<T> IdOrdMap<T> {
-    ghost use Rattle.iddqd_ord.specs.Guard.{IsSlotAt, item_in, lends_item};
+    ghost use Rattle.iddqd_ord.specs.Guard.{IsSlotAt, item_in_slot, lends_item};
 
     // Returns the item of the slot.
     #[inline]
     pub(super) fn item_in_slot(&self, slot: u32) -> &T
-        requires { IsSome (item_in self.now slot) }
-        ensures { item_in self.now slot ≡ Some result.now }
+        requires { IsSome (item_in_slot self.now slot) }
+        ensures { item_in_slot self.now slot ≡ Some result.now }
     {
         self.store.get(slot).unwrap()
     }
@@ -22,9 +22,9 @@ impl<T> IdOrdMap<T> {
     // Returns the item of the slot, for writing.
     #[inline]
     pub(super) fn item_in_slot_mut(&mut self, slot: u32) -> &mut T
-        requires { IsSome (item_in self.old slot) }
+        requires { IsSome (item_in_slot self.old slot) }
         ensures* writes_back { sem 𝓛 (lends_item T.row self.entry slot result) }
-        ensures value { item_in self.old slot ≡ Some result.now }
+        ensures value { item_in_slot self.old slot ≡ Some result.now }
     {
         self.store.get_mut(slot)
     }

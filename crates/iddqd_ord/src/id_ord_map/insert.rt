@@ -7,8 +7,8 @@ ghost use Rattle.iddqd_ord_index.specs.Digits.{digits};
 ghost use Rattle.iddqd_store.specs.Refusal.{HandsBack, RefusesItem, refusal_kind};
 
 use super::IdOrdMap;
-use super::insert_new::Missed;
-use super::store_and_index::{put_in, reserve_one};
+use super::insert_or_find::Missed;
+use super::store_and_index::{insert_in_both, reserve_one};
 use iddqd_ord_index::Place;
 use iddqd_store::{DuplicateItem, Few, IdOrdItem, InsertError, Refused, Steps};
 use std::mem;
@@ -52,7 +52,7 @@ impl<T: IdOrdItem> IdOrdMap<T> {
         ensures steps { steps.new ≤ steps.old + 4 + 2 * digits (length self.old.items) }
         ensures never_resets { steps.old ≤ steps.new }
     {
-        match self.insert_new(item, steps) {
+        match self.insert_or_find(item, steps) {
             Ok(_) => Ok(&mut self.done),
             Err(Missed::Akin(item, slot)) => {
                 let existing = Few::One(self.item_in_slot(slot));
@@ -79,7 +79,7 @@ impl<T: IdOrdItem> IdOrdMap<T> {
         // either way
         ensures keyed { Ascends T.key T.Key.cmp self.new.items }
     {
-        match self.insert_new(item, &mut Steps::new()) {
+        match self.insert_or_find(item, &mut Steps::new()) {
             Ok(_) => Ok(None),
             Err(Missed::Akin(item, slot)) => {
                 Ok(Some(mem::replace(self.item_in_slot_mut(slot), item)))
@@ -97,7 +97,7 @@ impl<T: IdOrdItem> IdOrdMap<T> {
     }
 
     // Inserts the item at the place where its key belongs, and returns its slot.
-    pub(super) fn insert_at(&mut self, place: Place, item: T) -> Result<u32, Refused<T>>
+    pub(super) fn insert_at_place(&mut self, place: Place, item: T) -> Result<u32, Refused<T>>
         requires keyed { Ascends T.key T.Key.cmp self.old.items }
         requires place { BelongsAt T.key T.Key.cmp item self.old place }
 
@@ -114,6 +114,6 @@ impl<T: IdOrdItem> IdOrdMap<T> {
         if let Err(error) = reserve_one(&mut self.store, &mut self.index) {
             return Err(Refused { item, error });
         }
-        Ok(put_in(&mut self.store, &mut self.index, place, item))
+        Ok(insert_in_both(&mut self.store, &mut self.index, place, item))
     }
 }

@@ -75,6 +75,6 @@ impl<T: IdOrdItem> IdOrdMap<T> {
             return None;
         }
         let at = self.index.place(index);
-        Some(self.take_placed(at))
+        Some(self.take_at_place(at))
     }
 }

@@ -28,7 +28,7 @@ impl<T: IdOrdItem> IdOrdMap<T> {
         let mut end = high;
         while low < end {
             end -= 1;
-            self.take_at(end);
+            self.take_at_position(end);
         }
         before - self.len()
     }

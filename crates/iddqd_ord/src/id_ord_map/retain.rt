@@ -8,7 +8,7 @@ ghost use Rattle.iddqd_store.specs.SlotItems.{HaveSlots};
 ghost use Rattle.iddqd_store.specs.Visiting.{VisitsKeepKeys, kept_by, visitor_after};
 
 use super::IdOrdMap;
-use super::store_and_index::take_out;
+use super::store_and_index::remove_from_both;
 use iddqd_ord_index::Place;
 use iddqd_store::{IdOrdItem, Visit};
 
@@ -33,7 +33,7 @@ impl<T: IdOrdItem> IdOrdMap<T> {
             if keep(self.item_in_slot(slot)) {
                 at += 1;
             } else {
-                self.take_at(at);
+                self.take_at_position(at);
             }
         }
     }
@@ -57,7 +57,7 @@ impl<T: IdOrdItem> IdOrdMap<T> {
             if self.visit_at(at, visitor) {
                 at += 1;
             } else {
-                self.take_at(at);
+                self.take_at_position(at);
             }
         }
     }
@@ -75,7 +75,7 @@ impl<T: IdOrdItem> IdOrdMap<T> {
     }
 
     // Removes and returns the item at this position.
-    pub(super) fn take_at(&mut self, at: usize) -> T
+    pub(super) fn take_at_position(&mut self, at: usize) -> T
         requires keyed { Ascends T.key T.Key.cmp self.old.items }
         requires in_list { at < length self.old.items }
         ensures items { self.new.items ≡ remove self.old.items at }
@@ -83,11 +83,11 @@ impl<T: IdOrdItem> IdOrdMap<T> {
         ensures keyed { Ascends T.key T.Key.cmp self.new.items }
     {
         let place = self.index.place(at);
-        self.take_placed(place)
+        self.take_at_place(place)
     }
 
     // Removes and returns the item at the place.
-    pub(super) fn take_placed(&mut self, place: Place) -> T
+    pub(super) fn take_at_place(&mut self, place: Place) -> T
         requires keyed { Ascends T.key T.Key.cmp self.old.items }
         requires in_list { place < length self.old.slots }
         ensures item { slice_get self.old.items place ≡ Some result }
@@ -99,6 +99,6 @@ impl<T: IdOrdItem> IdOrdMap<T> {
         ensures removed { Removes (Some result) self.old self.new }
         ensures keyed { Ascends T.key T.Key.cmp self.new.items }
     {
-        take_out(&mut self.store, &mut self.index, place)
+        remove_from_both(&mut self.store, &mut self.index, place)
     }
 }

@@ -2,7 +2,7 @@
 ghost use Rattle.std.specs.Prelude.{◌≡◌, ◌+◌, ◌<◌, ◌≤◌, length, max, Err, IfOk, IfErr, OnOk, OnErr};
 ghost use Rattle.iddqd_store.specs.Contents.{Ascends};
 ghost use Rattle.iddqd_store.specs.Holding.{Shrinks};
-ghost use Rattle.iddqd_store.specs.Refusal.{memory_refused, reservation_kind};
+ghost use Rattle.iddqd_store.specs.Refusal.{IsKindOf, memory_refused};
 
 use super::IdOrdMap;
 use super::compact::compact;
@@ -11,7 +11,7 @@ use iddqd_store::{IdOrdItem, ItemStore, MAX_ITEMS, TryReserveError};
 use std::alloc::Global;
 
 impl<T: IdOrdItem> IdOrdMap<T> {
-    ghost use Rattle.iddqd_ord.specs.OrdMap.{IsShortOf, empty_map, reservation_refusal};
+    ghost use Rattle.iddqd_ord.specs.OrdMap.{IsShortOf, empty_map};
 
     /// Returns a map without items, with room for at least `capacity` in the store. The limit refuses a `capacity`
     /// above `MAX_ITEMS`. Else it is refused only if memory is, and does not allocate for 0.
@@ -23,7 +23,7 @@ impl<T: IdOrdItem> IdOrdMap<T> {
         ensures keyed { IfOk result (λ m. Ascends T.key T.Key.cmp m.items) }
 
         // on refusal
-        ensures refused { IfErr result (λ e. e ≡ reservation_kind MAX_ITEMS capacity) }
+        ensures refused { IfErr result (IsKindOf MAX_ITEMS capacity) }
         ensures asked { OnErr result (0 < capacity) }
     {
         let store = ItemStore::with_capacity(alloc, MAX_ITEMS, capacity)?;
@@ -41,7 +41,7 @@ impl<T: IdOrdItem> IdOrdMap<T> {
         ensures in_limit { OnOk result (length self.old.items + additional ≤ self.old.limit) }
 
         // on refusal
-        ensures refused { IfErr result (λ e. e ≡ reservation_refusal self.old additional) }
+        ensures refused { IfErr result (IsKindOf self.old.limit (length self.old.items + additional)) }
         ensures needed { result ≡ Err memory_refused → IsShortOf self.old additional }
         ensures asked { OnErr result (0 < additional) }
 

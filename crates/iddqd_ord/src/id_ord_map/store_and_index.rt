@@ -62,7 +62,7 @@ pub(super) fn reserve_slots<T>(
 
 // Inserts the item into a slot, which is returned, and the slot into the index at the place. Does not allocate.
 #[inline]
-pub(super) fn put_in<T>(
+pub(super) fn insert_in_both<T>(
     store: &mut ItemStore<T>,
     index: &mut OrdIndex,
     place: Place,
@@ -89,7 +89,7 @@ pub(super) fn put_in<T>(
 
 // Removes the slot at the place from the index, and its item from the store.
 #[inline]
-pub(super) fn take_out<T>(store: &mut ItemStore<T>, index: &mut OrdIndex, place: Place) -> T
+pub(super) fn remove_from_both<T>(store: &mut ItemStore<T>, index: &mut OrdIndex, place: Place) -> T
     requires paired { ListsOccupied store.old index.old.slots }
     requires in_list { place < length index.old.slots }
     ensures item { slice_get (items_in store.old index.old) place ≡ Some result }

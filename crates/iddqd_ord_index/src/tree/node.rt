@@ -6,7 +6,7 @@ ghost use Rattle.iddqd_ord_index.specs.Shape.{unused};
 
 mod below;
 mod clone;
-mod ends;
+mod first_last;
 mod find;
 mod insert;
 mod insert_by;

@@ -1,6 +1,6 @@
 //! Making room for items, and giving it back.
 ghost use Rattle.std.specs.Prelude.{◌≡◌, ◌+◌, ◌<◌, ◌≤◌, ◌↔◌, [], IfOk, IfErr, OnOk, OnErr, Err, min, max};
-ghost use Rattle.iddqd_store.specs.Refusal.{limit_refused, memory_refused, reservation_kind};
+ghost use Rattle.iddqd_store.specs.Refusal.{IsKindOf, limit_refused, memory_refused};
 ghost use Rattle.iddqd_store.specs.Store.{store_len, vacant, ExceedsCapacity, ExceedsLimit, FreesUnneeded, HasRoomFor, IsEmptyStore};
 
 use super::ItemStore;
@@ -19,7 +19,7 @@ impl<T> ItemStore<T> {
         ensures empty { IfOk result (IsEmptyStore limit) }
         ensures room { IfOk result (λ s. capacity ≤ s.capacity) }
         ensures in_limit { OnOk result (capacity ≤ limit) }
-        ensures refused { IfErr result (λ e. e ≡ reservation_kind limit capacity) }
+        ensures refused { IfErr result (IsKindOf limit capacity) }
         ensures asked { OnErr result (0 < capacity) }
     {
         if capacity > limit as usize {

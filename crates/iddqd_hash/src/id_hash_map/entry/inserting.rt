@@ -7,7 +7,7 @@ use iddqd_store::{IdHashItem, Refused};
 use std::hash::BuildHasher;
 
 impl<T: IdHashItem, S: BuildHasher> IdHashMap<T, S> {
-    ghost use Rattle.iddqd_hash.specs.HashMap.{HashHandsBack, HashInserts, HashKeeps, TakesSlot};
+    ghost use Rattle.iddqd_hash.specs.HashMap.{HashHandsBack, HashInserts, HashKeeps, IsInsertedAt};
 
     // Inserts an item whose key no other has, and returns its slot and its hash.
     pub(super) fn insert_absent(&mut self, item: T) -> Result<(u32, u64), Refused<T>>
@@ -15,15 +15,15 @@ impl<T: IdHashItem, S: BuildHasher> IdHashMap<T, S> {
         requires absent { IsAbsent T.key (T.Key.eq (T.key item)) self.old.items }
 
         // on success
-        ensures inserts { OnOk result (HashInserts ⟦<Self as Keyed>⟧.keyed item self.old self.new) }
-        ensures placed { IfOk result (λ at. TakesSlot item at.1 self.old self.new at.0) }
+        ensures inserted { OnOk result (HashInserts ⟦<Self as Keyed>⟧.keyed item self.old self.new) }
+        ensures there { IfOk result (λ at. IsInsertedAt item at.1 self.old self.new at.0) }
 
         // on refusal
         ensures kept { OnErr result (HashKeeps ⟦<Self as Keyed>⟧.keyed self.old self.new) }
         ensures refused { IfErr result (HashHandsBack T.key T.Key.eq self.old item) }
     {
         let hash = self.hasher.hash_one(item.key());
-        let slot = self.insert_new(hash, item)?;
+        let slot = self.insert_hashed(hash, item)?;
         Ok((slot, hash))
     }
 }

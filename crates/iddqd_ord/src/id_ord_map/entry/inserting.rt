@@ -4,7 +4,7 @@ ghost use Rattle.iddqd_store.specs.Refusal.{HandsBack};
 ghost use Rattle.iddqd_store.specs.Contents.{Ascends, IsAbsent};
 
 use crate::id_ord_map::IdOrdMap;
-use crate::id_ord_map::insert_new::Missed;
+use crate::id_ord_map::insert_or_find::Missed;
 use iddqd_ord_index::Place;
 use iddqd_store::{IdOrdItem, Refused, Steps};
 
@@ -26,7 +26,7 @@ impl<T: IdOrdItem> IdOrdMap<T> {
         ensures kept { OnErr result (OrdKeeps T.key T.Key.cmp self.old self.new) }
         ensures refused { IfErr result (HandsBack T.key T.Key.eq self.old item) }
     {
-        match self.insert_new(item, &mut Steps::new()) {
+        match self.insert_or_find(item, &mut Steps::new()) {
             Ok(slot) => Ok(slot),
             Err(Missed::Akin(_, _)) => unreachable!(),
             Err(Missed::NoRoom(refused)) => Err(refused),
@@ -34,7 +34,7 @@ impl<T: IdOrdItem> IdOrdMap<T> {
     }
 
     // Inserts an item whose key no other has, and returns its slot and its place.
-    pub(super) fn insert_placed(&mut self, item: T) -> Result<(u32, Place), Refused<T>>
+    pub(super) fn insert_absent_with_place(&mut self, item: T) -> Result<(u32, Place), Refused<T>>
         requires keyed { Ascends T.key T.Key.cmp self.old.items }
         requires absent { IsAbsent T.key (T.Key.eq (T.key item)) self.old.items }
 
@@ -49,7 +49,7 @@ impl<T: IdOrdItem> IdOrdMap<T> {
         match self.index.find(&self.store, item.key(), &mut Steps::new()) {
             Ok(_) => unreachable!(),
             Err(place) => {
-                let slot = self.insert_at(place, item)?;
+                let slot = self.insert_at_place(place, item)?;
                 Ok((slot, place))
             }
         }

@@ -101,6 +101,6 @@ impl<'a, T: IdOrdItem> OccupiedEntry<'a, T> {
         ensures keyed { Ascends T.key T.Key.cmp self.exit.0.now.items }
     {
         let place = self.place;
-        self.map.take_placed(place)
+        self.map.take_at_place(place)
     }
 }

@@ -74,7 +74,7 @@ impl<'a, T: IdOrdItem> VacantEntry<'a, T> {
         ensures refused { IfErr result (EntryHandsBack T.key T.Key.eq item (Vacant self.entry)) }
     {
         let VacantEntry { map } = self;
-        match map.insert_placed(item) {
+        match map.insert_absent_with_place(item) {
             Ok((slot, place)) => Ok(OccupiedEntry { map, slot, place }),
             Err(refused) => Err(refused),
         }

@@ -30,6 +30,6 @@ returns g c =
         written = λ w. written_found g.T.BiHashItem.key2 g.met.T.K2.Eq.laws (g.Q.Equivalent.equivalent c.args.query.now) (g.met.Q.Equivalent.one_key c.args.query.now) now.slots now.items (differ_by_key2 _ _ _ _ _ _ _ now c.requires.keyed) slot w found.there (sym found.item);
         keyed = λ x w at same1 same2. written_same _ _ _ _ _ _ _ now c.requires.keyed slot x at w g.met.T.K1.Eq.laws g.met.T.K2.Eq.laws respects1 respects2 same1 same2;
         keyed_akin = λ x w at akin. written_akin _ _ _ _ _ _ _ now c.requires.keyed slot x at w g.met.T.K1.Eq.laws g.met.T.K2.Eq.laws respects1 respects2 akin.0 akin.1;
-        spare = c.in_ok-slot.ensures.spare;
+        spare_fits = c.in_ok-slot.ensures.spare_fits;
       },
     )

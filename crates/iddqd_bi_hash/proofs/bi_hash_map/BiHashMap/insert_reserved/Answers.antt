@@ -3,19 +3,19 @@ use Rattle.iddqd_bi_hash.proofs.BothLemmas.{inserted}
 use Rattle.iddqd_bi_hash.proofs.MetLemmas.{neither_found}
 use Rattle.iddqd_bi_hash.proofs.bi_hash_map.BiHashMap.insert_reserved.Goals as goal
 
-pub put_in-requires-clause-room : goal.put_in-requires-clause-room
-put_in-requires-clause-room g c = let spare = ap (λ v. v.spare) c.self.view_is in (omega (arith, c.requires.room, spare), omega (arith, c.requires.room, spare))
+pub insert_in_all-requires-clause-room : goal.insert_in_all-requires-clause-room
+insert_in_all-requires-clause-room g c = let spare = ap (λ v. v.spare) c.self.view_is in (omega (arith, c.requires.room, spare), omega (arith, c.requires.room, spare))
 
-pub put_in-requires-clause-listable1 : goal.put_in-requires-clause-listable1
-put_in-requires-clause-listable1 g c = omega (arith, c.requires.room, ap (λ v. v.spare) c.self.view_is)
+pub insert_in_all-requires-clause-listable1 : goal.insert_in_all-requires-clause-listable1
+insert_in_all-requires-clause-listable1 g c = omega (arith, c.requires.room, ap (λ v. v.spare) c.self.view_is)
 
-pub put_in-requires-clause-listable2 : goal.put_in-requires-clause-listable2
-put_in-requires-clause-listable2 g c = omega (arith, c.requires.room, ap (λ v. v.spare) c.self.view_is)
+pub insert_in_all-requires-clause-listable2 : goal.insert_in_all-requires-clause-listable2
+insert_in_all-requires-clause-listable2 g c = omega (arith, c.requires.room, ap (λ v. v.spare) c.self.view_is)
 
-pub returns-clause-inserts : goal.returns-clause-inserts
-returns-clause-inserts g c =
+pub returns-clause-inserted : goal.returns-clause-inserted
+returns-clause-inserted g c =
     let m = c.self.inside in
-    let put = c.put_in in
+    let put = c.insert_in_all in
     let new = put.new in
     let done = put.ensures in
     let x = c.args.item in
@@ -24,4 +24,4 @@ returns-clause-inserts g c =
     c.requires.room c.requires.hash1 c.requires.hash2 done.pairs1 done.pairs2 done.was_vacant done.updates done.spare1 done.spare2 done.len done.vacant done.bounds
 
 pub returns-clause-capacity : goal.returns-clause-capacity
-returns-clause-capacity g c = c.put_in.ensures.bounds.capacity ∙ ap (λ v. v.capacity) c.self.view_is
+returns-clause-capacity g c = c.insert_in_all.ensures.bounds.capacity ∙ ap (λ v. v.capacity) c.self.view_is

@@ -20,8 +20,8 @@ slots_met-requires-clause-hash2 g c =
     ∙ ap (λ k. hash c.self.inside.hasher (g.T.K2.Hash.hash_input k)) c.key2.ensures
     ∙ ap (λ v. hash v.hasher (g.T.K2.Hash.hash_input (g.T.BiHashItem.key2 c.args.item))) c.self.view_is
 
-pub insert_new-requires-clause-absent : goal.insert_new-requires-clause-absent
-insert_new-requires-clause-absent g c = sym c.in_default.ensures.met
+pub insert_hashed-requires-clause-absent : goal.insert_hashed-requires-clause-absent
+insert_hashed-requires-clause-absent g c = sym c.in_default.ensures.met
 
 pub returns-in-Some : goal.returns-in-Some
 returns-in-Some g c =

@@ -7,8 +7,8 @@ use Rattle.iddqd_bi_hash.proofs.bi_hash_map.BiHashMap.len.Goals as goal
 pub returns-clause-len : goal.returns-clause-len
 returns-clause-len g c = omega (arith, c.len.ensures.items, length-items c.self.inside.store.slots, ap (λ v. length v.items) c.self.view_is)
 
-pub returns-clause-spare : goal.returns-clause-spare
-returns-clause-spare g c =
+pub returns-clause-spare_fits : goal.returns-clause-spare_fits
+returns-clause-spare_fits g c =
     let m = c.self.inside in
     fits m.hasher m.store m.index1 m.index2 c.self.invariant _ c.self.view_is
 

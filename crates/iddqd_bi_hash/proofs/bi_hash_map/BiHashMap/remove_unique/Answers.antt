@@ -22,4 +22,4 @@ returns-else-contains_key_unique-clause-items g c =
 
 pub returns-else-contains_key_unique-clause-stays : goal.returns-else-contains_key_unique-clause-stays
 returns-else-contains_key_unique-clause-stays g c =
-    record { keyed = c.requires.keyed; spare = record { never_less = omega arith; in_limit = c.contains_key_unique.ensures.spare }; hasher = refl }
+    record { keyed = c.requires.keyed; spare = record { never_less = omega arith; spare_fits = c.contains_key_unique.ensures.spare_fits }; hasher = refl }

@@ -23,7 +23,7 @@ returns-clause-slot g c =
     subst (λ v. FindsSlot key test (by_key1 v) c.args.hash c.find_slot.result) c.self.view_is
     (finds_slot key test m.hasher m.store (beside m.index1.pairs m.index1 m.index2) c.self.invariant.one c.args.hash c.find_slot.result c.find_slot.ensures.item c.find_slot.ensures.listed)
 
-pub returns-clause-spare : goal.returns-clause-spare
-returns-clause-spare g c =
+pub returns-clause-spare_fits : goal.returns-clause-spare_fits
+returns-clause-spare_fits g c =
     let m = c.self.inside in
     fits m.hasher m.store m.index1 m.index2 c.self.invariant _ c.self.view_is

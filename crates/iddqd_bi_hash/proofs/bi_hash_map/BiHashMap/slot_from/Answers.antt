@@ -14,8 +14,8 @@ returns-clause-none g c = subst (λ v. IfNone c.slot_from.result (slots_below c.
 pub returns-clause-rises : goal.returns-clause-rises
 returns-clause-rises g c = subst (λ v. (n : ℕ) → n ≤ length v.slots → slots_below (behind v.slots n) v.slots ≡ n) c.self.view_is c.slot_from.ensures.rises
 
-pub returns-clause-spare : goal.returns-clause-spare
-returns-clause-spare g c =
+pub returns-clause-spare_fits : goal.returns-clause-spare_fits
+returns-clause-spare_fits g c =
     let m = c.self.inside in
     fits m.hasher m.store m.index1 m.index2 c.self.invariant _ c.self.view_is
 

@@ -7,15 +7,15 @@ use Rattle.iddqd_hash_parts.proofs.SlotItemLemmas.{slot_left}
 use Rattle.iddqd_bi_hash.proofs.BothLemmas.{taken_stays}
 use Rattle.iddqd_bi_hash.proofs.bi_hash_map.BiHashMap.take_hashed.Goals as goal
 
-pub take_out-requires-clause-listed1 : goal.take_out-requires-clause-listed1
-take_out-requires-clause-listed1 g c =
+pub remove_from_all-requires-clause-listed1 : goal.remove_from_all-requires-clause-listed1
+remove_from_all-requires-clause-listed1 g c =
     let m = c.self.inside in
     let slot = c.args.slot in
     let some = ap is_some (sym (item_in_slot m.store.slots slot)) ∙ ap (λ v. is_some (item_of_slot v.slots v.items slot)) c.self.view_is ∙ c.requires.there in
     listed_told m.store m.index1.pairs c.self.invariant.one c.args.hash1 slot some (ap (λ v. item_of_slot v.slots v.hashes1 slot) c.self.view_is ∙ c.requires.listed1)
 
-pub take_out-requires-clause-listed2 : goal.take_out-requires-clause-listed2
-take_out-requires-clause-listed2 g c =
+pub remove_from_all-requires-clause-listed2 : goal.remove_from_all-requires-clause-listed2
+remove_from_all-requires-clause-listed2 g c =
     let m = c.self.inside in
     let slot = c.args.slot in
     let some = ap is_some (sym (item_in_slot m.store.slots slot)) ∙ ap (λ v. is_some (item_of_slot v.slots v.items slot)) c.self.view_is ∙ c.requires.there in
@@ -24,25 +24,25 @@ take_out-requires-clause-listed2 g c =
 pub returns-clause-value : goal.returns-clause-value
 returns-clause-value g c =
     let m = c.self.inside in
-    ap (λ v. item_of_slot v.slots v.items c.args.slot) (sym c.self.view_is) ∙ item_in_slot m.store.slots c.args.slot ∙ c.take_out.ensures.item
+    ap (λ v. item_of_slot v.slots v.items c.args.slot) (sym c.self.view_is) ∙ item_in_slot m.store.slots c.args.slot ∙ c.remove_from_all.ensures.item
 
 pub returns-clause-gone : goal.returns-clause-gone
 returns-clause-gone g c at there =
     let m = c.self.inside in
-    let lost = place_lost m.store c.take_out.new.store c.args.slot c.take_out.result c.take_out.ensures.item c.take_out.ensures.updates at (ap (λ v. slice_get v.slots at) c.self.view_is ∙ there) in
+    let lost = place_lost m.store c.remove_from_all.new.store c.args.slot c.remove_from_all.result c.remove_from_all.ensures.item c.remove_from_all.ensures.updates at (ap (λ v. slice_get v.slots at) c.self.view_is ∙ there) in
     (lost.0 ∙ ap (λ v. remove v.items at) c.self.view_is, lost.1 ∙ ap (λ v. remove v.slots at) c.self.view_is)
 
 pub returns-clause-stays : goal.returns-clause-stays
 returns-clause-stays g c =
     let m = c.self.inside in
-    let out = c.take_out in
+    let out = c.remove_from_all in
     taken_stays _ _ _ _ _ _ _ m.hasher m.store out.new.store m.index1 m.index2 out.new.index1 out.new.index2 c.self.invariant out.ensures.paired _ c.self.view_is g.met.T.K1.Eq.laws g.met.T.K2.Eq.laws c.requires.keyed c.args.slot out.result out.ensures.item out.ensures.updates
     c.args.hash1 c.args.hash2 out.ensures.pairs1 out.ensures.pairs2 out.ensures.spare1 out.ensures.spare2 out.ensures.len out.ensures.bounds
 
 pub returns-clause-removed : goal.returns-clause-removed
 returns-clause-removed g c =
-    let out = c.take_out.ensures in
-    let left = slot_left c.self.inside.store.slots c.take_out.new.store.slots c.args.slot c.take_out.result out.item out.updates.changed out.updates.others in
+    let out = c.remove_from_all.ensures in
+    let left = slot_left c.self.inside.store.slots c.remove_from_all.new.store.slots c.args.slot c.remove_from_all.result out.item out.updates.changed out.updates.others in
     record {
       slots = record {
         place = left.place;

@@ -30,8 +30,8 @@ returns-clause-slots g c =
     same_numbers g.T.IdHashItem.key (λ slot. slot) copy.slots store.slots (same_slots g.T.Clone.is_clone store copy c.in-Ok-try_clone.ensures.clones)
     ∙ ap (λ v. v.slots) c.self.view_is
 
-pub returns-clause-spare : goal.returns-clause-spare
-returns-clause-spare g c = spare_fits c.in-Ok.hasher c.in-Ok-try_clone.store c.in_ok-index.index (invariant_of-result g c)
+pub returns-clause-spare_fits : goal.returns-clause-spare_fits
+returns-clause-spare_fits g c = spare_fits c.in-Ok.hasher c.in-Ok-try_clone.store c.in_ok-index.index (invariant_of-result g c)
 
 pub returns-clause-keyed : goal.returns-clause-keyed
 unfolding IsKeyed
@@ -58,7 +58,7 @@ returns-in_err-index g c =
       vacant = tt;
       limit = tt;
       hasher = tt;
-      spare = tt;
+      spare_fits = tt;
       keyed = tt;
       only_memory = search rules;
     })
@@ -70,7 +70,7 @@ returns-in_default g c = record {
   vacant = tt;
   limit = tt;
   hasher = tt;
-  spare = tt;
+  spare_fits = tt;
   keyed = tt;
   only_memory = search rules;
 }
@@ -82,7 +82,7 @@ returns-in_default-try_clone g c = record {
   vacant = tt;
   limit = tt;
   hasher = tt;
-  spare = tt;
+  spare_fits = tt;
   keyed = tt;
   only_memory = search rules;
 }

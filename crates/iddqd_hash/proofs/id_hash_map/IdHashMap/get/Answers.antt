@@ -5,5 +5,5 @@ use Rattle.iddqd_hash.proofs.id_hash_map.IdHashMap.get.Goals as goal
 pub returns-clause-found : goal.returns-clause-found
 returns-clause-found g c = search rules
 
-pub returns-clause-spare : goal.returns-clause-spare
-returns-clause-spare g c = search rules
+pub returns-clause-spare_fits : goal.returns-clause-spare_fits
+returns-clause-spare_fits g c = search rules

@@ -53,12 +53,12 @@ returns-in_err-slot-clause-steps g c =
     subst (λ h. c.find.new.steps ≤ c.args.steps.now + of_stored_hash c.args.self.now h) told
     (omega (arith, c.find.ensures.steps, bound_of c.hash_one-hash.result m.hasher m.store m.index c.self.invariant c.args.self.now c.self.view_is))
 
-pub returns-clause-spare : goal.returns-clause-spare
-returns-clause-spare g c =
+pub returns-clause-spare_fits : goal.returns-clause-spare_fits
+returns-clause-spare_fits g c =
     let m = c.self.inside in
     subst SpareFits c.self.view_is (spare_fits m.hasher m.store m.index c.self.invariant)
 
-pub returns-in_err-slot-clause-spare : goal.returns-in_err-slot-clause-spare
-returns-in_err-slot-clause-spare g c =
+pub returns-in_err-slot-clause-spare_fits : goal.returns-in_err-slot-clause-spare_fits
+returns-in_err-slot-clause-spare_fits g c =
     let m = c.self.inside in
     subst SpareFits c.self.view_is (spare_fits m.hasher m.store m.index c.self.invariant)

@@ -52,7 +52,7 @@ returns g c =
         written = λ w. written_found key equivalence test (g.met.Q.Equivalent.one_key c.args.query.now) now.slots now.items c.requires.keyed.differ slot w there found;
         keyed = λ x w at same. keyed_written key input hash now c.requires.keyed slot x w at equivalence g.met.T.Key.Hash.respects_eq same;
         keyed_akin = λ x w at akin. keyed_akin_written key input hash now c.requires.keyed slot x w at equivalence g.met.T.Key.Hash.respects_eq akin;
-        spare = subst SpareFits c.self.view_is (spare_fits m.hasher m.store m.index c.self.invariant);
+        spare_fits = subst SpareFits c.self.view_is (spare_fits m.hasher m.store m.index c.self.invariant);
       },
     )
 

@@ -75,10 +75,10 @@ returns-in-Some-clause-put g c =
       there = find_replaced (λ z. eq (key y) (key z)) (λ z. cond (eq (key y) (key z)) y z) c.args.self.now.items (items_in c.exchange.new.store) y x items refl found_before (g.met.T.Key.Eq.laws.refl (key y));
     }
 
-pub returns-in_err-insert_new-in-None : goal.returns-in_err-insert_new-in-None
-returns-in_err-insert_new-in-None g c =
+pub returns-in_err-insert_hashed-in-None : goal.returns-in_err-insert_hashed-in-None
+returns-in_err-insert_hashed-in-None g c =
     let back = err_from_is_err_and c.from_residual.result c.from_residual.ensures.1 in
-    let told = c.in_err-insert_new-in-None.ensures in
+    let told = c.in_err-insert_hashed-in-None.ensures in
     rw back.1 (record {
       put = tt;
       refused = rw back.2 told.refused;
@@ -86,18 +86,18 @@ returns-in_err-insert_new-in-None g c =
       stays = told.kept.stays;
     })
 
-pub returns-in_ok-insert_new-in-None : goal.returns-in_ok-insert_new-in-None
-returns-in_ok-insert_new-in-None g c =
+pub returns-in_ok-insert_hashed-in-None : goal.returns-in_ok-insert_hashed-in-None
+returns-in_ok-insert_hashed-in-None g c =
     let key = g.T.IdHashItem.key in
     let eq = g.T.Key.PartialEq.eq in
     let absent : find_item key (eq (key c.args.item)) c.args.self.now.items ≡ None = ap (λ v. find_item key (eq (key c.args.item)) v.items) (sym c.self.view_is) ∙ ap (λ k. find_item key (eq k) (items_in c.self.inside.store)) (sym c.key-2.ensures) ∙ sym c.in-None.ensures.item in
-    let put = c.in_ok-insert_new-in-None.ensures.inserts in
+    let put = c.in_ok-insert_hashed-in-None.ensures.inserted in
     record {
       put = record {
         found = sym absent;
         replaced = tt;
-        inserted = put.takes;
-        there = find_inserted (λ z. eq (key c.args.item) (key z)) _ _ c.args.item put.takes.added absent (g.met.T.Key.Eq.laws.refl (key c.args.item));
+        inserted = put.inserts;
+        there = find_inserted (λ z. eq (key c.args.item) (key z)) _ _ c.args.item put.inserts.added absent (g.met.T.Key.Eq.laws.refl (key c.args.item));
       };
       refused = tt;
       kept = tt;

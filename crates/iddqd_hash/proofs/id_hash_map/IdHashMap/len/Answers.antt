@@ -8,8 +8,8 @@ use Rattle.iddqd_hash.proofs.id_hash_map.IdHashMap.len.Goals as goal
 pub returns-clause-len : goal.returns-clause-len
 returns-clause-len g c = omega (arith, c.len.ensures.items, length-items c.self.inside.store.slots, ap (λ v. length v.items) c.self.view_is)
 
-pub returns-clause-spare : goal.returns-clause-spare
-returns-clause-spare g c =
+pub returns-clause-spare_fits : goal.returns-clause-spare_fits
+returns-clause-spare_fits g c =
     let m = c.self.inside in
     subst SpareFits c.self.view_is (spare_fits m.hasher m.store m.index c.self.invariant)
 

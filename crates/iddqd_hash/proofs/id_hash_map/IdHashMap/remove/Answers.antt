@@ -43,11 +43,11 @@ returns-clause-items g c =
     let hash = hash_under g.S.BuildHasher g.S.Hasher.Hasher in
     let test = g.Q.Equivalent.equivalent c.args.query.now in
     let m = c.self.inside in
-    let new = c.take_out.new in
-    let x = c.take_out.result in
+    let new = c.remove_from_both.new in
+    let x = c.remove_from_both.result in
     let keyed = subst (KeyedItems key eq input hash) (sym c.self.view_is) c.requires.keyed in
-    let passes = found_passes key test (items_in m.store) x (sym c.in_ok-slot.ensures.item ∙ c.take_out.ensures.item) in
-    taken_items key eq input hash m.hasher m.store new.store m.index new.index c.self.invariant c.take_out.ensures.paired g.met.T.Key.Eq.laws test (g.met.Q.Equivalent.one_key c.args.query.now) keyed c.in_ok-slot.slot x c.take_out.ensures.item passes c.take_out.ensures.updates
+    let passes = found_passes key test (items_in m.store) x (sym c.in_ok-slot.ensures.item ∙ c.remove_from_both.ensures.item) in
+    taken_items key eq input hash m.hasher m.store new.store m.index new.index c.self.invariant c.remove_from_both.ensures.paired g.met.T.Key.Eq.laws test (g.met.Q.Equivalent.one_key c.args.query.now) keyed c.in_ok-slot.slot x c.remove_from_both.ensures.item passes c.remove_from_both.ensures.updates
     ∙ ap (λ v. items_without key test v.items) c.self.view_is
 
 pub returns-clause-stays : goal.returns-clause-stays
@@ -59,7 +59,7 @@ returns-clause-stays g c =
     let hash = hash_under g.S.BuildHasher g.S.Hasher.Hasher in
     let test = g.Q.Equivalent.equivalent c.args.query.now in
     let m = c.self.inside in
-    let out = c.take_out in
+    let out = c.remove_from_both in
     let new = out.new in
     let x = out.result in
     let keyed = subst (KeyedItems key eq input hash) (sym c.self.view_is) c.requires.keyed in
@@ -74,8 +74,8 @@ returns-clause-stays g c =
 
 pub returns-clause-removed : goal.returns-clause-removed
 returns-clause-removed g c =
-    let out = c.take_out.ensures in
-    let left = slot_left c.self.inside.store.slots c.take_out.new.store.slots c.in_ok-slot.slot c.take_out.result out.item out.updates.changed out.updates.others in
+    let out = c.remove_from_both.ensures in
+    let left = slot_left c.self.inside.store.slots c.remove_from_both.new.store.slots c.in_ok-slot.slot c.remove_from_both.result out.item out.updates.changed out.updates.others in
     record {
       slots = record {
         place = left.place;

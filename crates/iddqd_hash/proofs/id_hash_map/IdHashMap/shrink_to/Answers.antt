@@ -39,7 +39,7 @@ returns-clause-shrinks g c =
         limit = ap (λ s. s.limit) room.store ∙ moves.bounds.limit ∙ ap (λ v. v.limit) view;
       };
       spare = omega (arith, room.spare, moves.spare, moves.bounds.capacity, moves.len, moves.bounds.limit, length-items m.store.slots, length-items new.store.slots, ap (λ v. v.spare) view, ap (λ v. length v.items) view);
-      within_limit = spare_fits m.hasher new.store new.index room.paired;
+      spare_fits = spare_fits m.hasher new.store new.index room.paired;
       hasher = ap (λ v. v.hasher) view;
       keyed = make_keyed key eq input hash m.hasher new.store new.index
           (subst (λ s. NoTwoAkin key eq (items_in s)) (sym room.store) closed.keyed.differ)

@@ -11,8 +11,8 @@ use Rattle.iddqd_hash_parts.proofs.GetMutLemmas.{item_in_slot}
 use Rattle.iddqd_hash_parts.proofs.MapLemmas.{taken_keyed, taken_spare}
 use Rattle.iddqd_hash.proofs.id_hash_map.IdHashMap.take_hashed.Goals as goal
 
-pub take_out-requires-clause-listed : goal.take_out-requires-clause-listed
-take_out-requires-clause-listed g c =
+pub remove_from_both-requires-clause-listed : goal.remove_from_both-requires-clause-listed
+remove_from_both-requires-clause-listed g c =
     let m = c.self.inside in
     let slot = c.args.slot in
     let some = ap is_some (sym (item_in_slot m.store.slots slot)) ∙ ap (λ v. is_some (item_of_slot v.slots v.items slot)) c.self.view_is ∙ c.requires.there in
@@ -21,12 +21,12 @@ take_out-requires-clause-listed g c =
 pub returns-clause-value : goal.returns-clause-value
 returns-clause-value g c =
     let m = c.self.inside in
-    ap (λ v. item_of_slot v.slots v.items c.args.slot) (sym c.self.view_is) ∙ item_in_slot m.store.slots c.args.slot ∙ c.take_out.ensures.item
+    ap (λ v. item_of_slot v.slots v.items c.args.slot) (sym c.self.view_is) ∙ item_in_slot m.store.slots c.args.slot ∙ c.remove_from_both.ensures.item
 
 pub returns-clause-gone : goal.returns-clause-gone
 returns-clause-gone g c at there =
     let m = c.self.inside in
-    let lost = place_lost m.store c.take_out.new.store c.args.slot c.take_out.result c.take_out.ensures.item c.take_out.ensures.updates at (ap (λ v. slice_get v.slots at) c.self.view_is ∙ there) in
+    let lost = place_lost m.store c.remove_from_both.new.store c.args.slot c.remove_from_both.result c.remove_from_both.ensures.item c.remove_from_both.ensures.updates at (ap (λ v. slice_get v.slots at) c.self.view_is ∙ there) in
     (lost.0 ∙ ap (λ v. remove v.items at) c.self.view_is, lost.1 ∙ ap (λ v. remove v.slots at) c.self.view_is)
 
 pub returns-clause-stays : goal.returns-clause-stays
@@ -38,7 +38,7 @@ returns-clause-stays g c =
     let hash = hash_under g.S.BuildHasher g.S.Hasher.Hasher in
     let equivalence = g.met.T.Key.Eq.laws in
     let m = c.self.inside in
-    let out = c.take_out in
+    let out = c.remove_from_both in
     let x = out.result in
     let keyed = subst (KeyedItems key eq input hash) (sym c.self.view_is) c.requires.keyed in
     record {
@@ -50,8 +50,8 @@ returns-clause-stays g c =
 
 pub returns-clause-removed : goal.returns-clause-removed
 returns-clause-removed g c =
-    let out = c.take_out.ensures in
-    let left = slot_left c.self.inside.store.slots c.take_out.new.store.slots c.args.slot c.take_out.result out.item out.updates.changed out.updates.others in
+    let out = c.remove_from_both.ensures in
+    let left = slot_left c.self.inside.store.slots c.remove_from_both.new.store.slots c.args.slot c.remove_from_both.result out.item out.updates.changed out.updates.others in
     record {
       slots = record {
         place = left.place;

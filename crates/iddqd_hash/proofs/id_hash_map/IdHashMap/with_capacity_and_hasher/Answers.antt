@@ -12,7 +12,7 @@ pub returns-then-capacity : goal.returns-then-capacity
 returns-then-capacity g c = record {
   empty = tt;
   spare = tt;
-  within_limit = tt;
+  spare_fits = tt;
   capacity = tt;
   hasher = tt;
   in_limit = tt;
@@ -27,7 +27,7 @@ returns-in_err-index g c =
     rw back.1 (record {
       empty = tt;
       spare = tt;
-      within_limit = tt;
+      spare_fits = tt;
       capacity = tt;
       hasher = tt;
       in_limit = tt;
@@ -42,7 +42,7 @@ returns-in_err-store g c =
     rw back.1 (record {
       empty = tt;
       spare = tt;
-      within_limit = tt;
+      spare_fits = tt;
       capacity = tt;
       hasher = tt;
       in_limit = tt;

@@ -17,7 +17,7 @@ loop-item-preserved g c =
     let told = c.in-Ok.ensures.put in
     let inv = c.loop-item.invariant in
     let goes = on x c.in-Some.is c.next.ensures.goes inv.1 in
-    let put = overwritten key eq x between new inv.3.slots (λ h. h) (λ h. h.takes) back told.found told.replaced told.inserted in (
+    let put = overwritten key eq x between new inv.3.slots (λ h. h) (λ h. h.inserts) back told.found told.replaced told.inserted in (
       goes.0,
       goes.1,
       overwrites_last key eq old.limit x c.loop-item.yielded old.items between.items back new.items inv.2

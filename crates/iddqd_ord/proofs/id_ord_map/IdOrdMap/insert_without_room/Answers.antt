@@ -36,8 +36,8 @@ returns-in-Ok-clause-steps g c =
     let bound = bound_of m.store m.index.slots c.self.invariant items (ap (λ v. v.items) c.self.view_is) in
     omega (arith, c.find_slot.ensures.steps, bound)
 
-pub returns-in-Ok-insert_at-clause-absent : goal.returns-in-Ok-insert_at-clause-absent
-returns-in-Ok-insert_at-clause-absent g c =
+pub returns-in-Ok-insert_at_place-clause-absent : goal.returns-in-Ok-insert_at_place-clause-absent
+returns-in-Ok-insert_at_place-clause-absent g c =
     let key = g.T.IdOrdItem.key in
     let item = c.args.item in
     let items = c.args.self.now.items in
@@ -45,19 +45,19 @@ returns-in-Ok-insert_at-clause-absent g c =
     let p = rw (ap (λ m. m.items) c.self.view_is, c.key.ensures) at c.in-Err.ensures.place in
     sym (find_nowhere key (query g (key item)) items c.requires.keyed c.in-Err.place p.1 p.2)
 
-pub returns-in-Ok-insert_at-clause-there : goal.returns-in-Ok-insert_at-clause-there
-returns-in-Ok-insert_at-clause-there g c =
+pub returns-in-Ok-insert_at_place-clause-there : goal.returns-in-Ok-insert_at_place-clause-there
+returns-in-Ok-insert_at_place-clause-there g c =
     let key = g.T.IdOrdItem.key in
     let item = c.args.item in
     let items = c.args.self.now.items in
     let m = c.self.inside in
     let place = c.in-Err.place in
-    let slot = c.in-Ok-insert_at.slot in
+    let slot = c.in-Ok-insert_at_place.slot in
     let p = rw (ap (λ m. m.items) c.self.view_is) at c.in-Err.ensures.place in
     let within : place ≤ length items = omega (arith, p.0, length-map items key) in
-    let new = c.insert_at.new.self in
-    let e = c.in-Ok-insert_at.ensures in
-    let own = e.inserted.takes.slots in (
+    let new = c.insert_at_place.new.self in
+    let e = c.in-Ok-insert_at_place.ensures in
+    let own = e.inserted.inserts.slots in (
       place,
       record {
         there = put_item new.slots items new.items place slot item own e.slot within e.put;
@@ -67,8 +67,8 @@ returns-in-Ok-insert_at-clause-there g c =
       },
     )
 
-pub returns-in-Ok-insert_at-clause-steps : goal.returns-in-Ok-insert_at-clause-steps
-returns-in-Ok-insert_at-clause-steps g c =
+pub returns-in-Ok-insert_at_place-clause-steps : goal.returns-in-Ok-insert_at_place-clause-steps
+returns-in-Ok-insert_at_place-clause-steps g c =
     let key = g.T.IdOrdItem.key in
     let item = c.args.item in
     let items = c.args.self.now.items in
@@ -76,19 +76,19 @@ returns-in-Ok-insert_at-clause-steps g c =
     let bound = bound_of m.store m.index.slots c.self.invariant items (ap (λ v. v.items) c.self.view_is) in
     omega (arith, c.find_slot.ensures.steps, bound)
 
-pub returns-in-Err-insert_at-clause-missed : goal.returns-in-Err-insert_at-clause-missed
-returns-in-Err-insert_at-clause-missed g c =
+pub returns-in-Err-insert_at_place-clause-missed : goal.returns-in-Err-insert_at_place-clause-missed
+returns-in-Err-insert_at_place-clause-missed g c =
     let key = g.T.IdOrdItem.key in
     let item = c.args.item in
     let items = c.args.self.now.items in
     let m = c.self.inside in
     let p = rw (ap (λ m. m.items) c.self.view_is, c.key.ensures) at c.in-Err.ensures.place in
     let absent = sym (find_nowhere key (query g (key item)) items c.requires.keyed c.in-Err.place p.1 p.2) in
-    let told = c.in-Err-insert_at.ensures in
+    let told = c.in-Err-insert_at_place.ensures in
     (told.item, (absent, told.kind))
 
-pub returns-in-Err-insert_at-clause-steps : goal.returns-in-Err-insert_at-clause-steps
-returns-in-Err-insert_at-clause-steps g c =
+pub returns-in-Err-insert_at_place-clause-steps : goal.returns-in-Err-insert_at_place-clause-steps
+returns-in-Err-insert_at_place-clause-steps g c =
     let key = g.T.IdOrdItem.key in
     let item = c.args.item in
     let items = c.args.self.now.items in

@@ -17,16 +17,16 @@ loop-end-preserved g c =
     let long = ap length l.invariant.items ∙ length-append (take l.end old) (drop high old) in
     let front = length-take-le l.end old fits in
     let fewer = length-remove l.self.items (l.end - 1) (omega (arith, long, front, c.loop-end-test.true)) in
-    let items = ap length c.take_at.ensures.items in
+    let items = ap length c.take_at_position.ensures.items in
     record {
-      items = c.take_at.ensures.items ∙ (ap (λ xs. remove xs (l.end - 1)) l.invariant.items ∙ front_less old l.end high (omega (arith, c.loop-end-test.true)) fits);
+      items = c.take_at_position.ensures.items ∙ (ap (λ xs. remove xs (l.end - 1)) l.invariant.items ∙ front_less old l.end high (omega (arith, c.loop-end-test.true)) fits);
       place = inr (omega (arith, c.loop-end-test.true));
       within = omega (arith, l.invariant.within);
-      vacant = omega (arith, l.invariant.vacant, c.take_at.ensures.removed.vacant, fewer, items);
+      vacant = omega (arith, l.invariant.vacant, c.take_at_position.ensures.removed.vacant, fewer, items);
       fewer = omega (arith, l.invariant.fewer, fewer, items);
-      capacity = c.take_at.ensures.removed.capacity ∙ l.invariant.capacity;
-      limit = c.take_at.ensures.removed.limit ∙ l.invariant.limit;
-      keyed = c.take_at.ensures.keyed;
+      capacity = c.take_at_position.ensures.removed.capacity ∙ l.invariant.capacity;
+      limit = c.take_at_position.ensures.removed.limit ∙ l.invariant.limit;
+      keyed = c.take_at_position.ensures.keyed;
     }
 
 pub returns-clause-items : goal.returns-clause-items

@@ -34,17 +34,17 @@ loop-at-preserved g c =
     let y = c.visit_at.ensures.visited.1 in
     let there = c.visit_at.ensures.visited.2 in
     let told : visits at.visitor x ≡ (c.visit_at.new.visitor, y, false) = c.visit_at.ensures.visited.3 ∙ ap (λ b. (c.visit_at.new.visitor, y, b)) c.if-visit_at.false in
-    let items : c.take_at.new.self.items ≡ remove at.self.items at.at = c.take_at.ensures.items ∙ ap (λ m. remove m.items at.at) c.visit_at.ensures.visited.4 ∙ written_then_removed at.self.items at.at y in
+    let items : c.take_at_position.new.self.items ≡ remove at.self.items at.at = c.take_at_position.ensures.items ∙ ap (λ m. remove m.items at.at) c.visit_at.ensures.visited.4 ∙ written_then_removed at.self.items at.at y in
     let fewer = length-remove at.self.items at.at (omega (arith, c.loop-at-test.true, c.len.ensures.len)) in
     let many = ap length items in
     record {
       items = at.invariant.items ∙ visited_dropped visits at.visitor c.visit_at.new.visitor x y at.self.items at.at there told ∙ ap (λ xs. take at.at xs ++ kept_by visits c.visit_at.new.visitor (drop at.at xs)) (sym items);
       visitor = at.invariant.visitor ∙ visitor_dropped visits at.visitor c.visit_at.new.visitor x y at.self.items at.at false there told ∙ ap (λ xs. visitor_after visits c.visit_at.new.visitor (drop at.at xs)) (sym items);
       within = omega (arith, c.loop-at-test.true, c.len.ensures.len, fewer, many);
-      vacant = omega (arith, at.invariant.vacant, c.take_at.ensures.removed.vacant, ap (λ m. m.vacant) c.visit_at.ensures.visited.4, fewer, many);
-      capacity = c.take_at.ensures.removed.capacity ∙ ap (λ m. m.capacity) c.visit_at.ensures.visited.4 ∙ at.invariant.capacity;
-      limit = c.take_at.ensures.removed.limit ∙ ap (λ m. m.limit) c.visit_at.ensures.visited.4 ∙ at.invariant.limit;
-      keyed = c.take_at.ensures.keyed;
+      vacant = omega (arith, at.invariant.vacant, c.take_at_position.ensures.removed.vacant, ap (λ m. m.vacant) c.visit_at.ensures.visited.4, fewer, many);
+      capacity = c.take_at_position.ensures.removed.capacity ∙ ap (λ m. m.capacity) c.visit_at.ensures.visited.4 ∙ at.invariant.capacity;
+      limit = c.take_at_position.ensures.removed.limit ∙ ap (λ m. m.limit) c.visit_at.ensures.visited.4 ∙ at.invariant.limit;
+      keyed = c.take_at_position.ensures.keyed;
     }
 
 pub loop-at-smaller-then-visit_at : goal.loop-at-smaller-then-visit_at

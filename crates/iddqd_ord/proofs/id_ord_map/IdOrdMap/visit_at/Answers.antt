@@ -1,7 +1,7 @@
 use Rattle.std.proofs.Common.{◌≡◌, ◌∙◌, Some, sym, subst, ap, true}
 use Rattle.iddqd_store.specs.Contents.{Ascends}
 use Rattle.iddqd_store.proofs.WrittenLemmas.{akin_key_kept}
-use Rattle.iddqd_ord.specs.Guard.{item_in, with_item_in}
+use Rattle.iddqd_ord.specs.Guard.{item_in_slot, with_item_in_slot}
 use Rattle.iddqd_ord.proofs.id_ord_map.IdOrdMap.visit_at.Goals as goal
 
 pub returns-clause-visited : goal.returns-clause-visited
@@ -11,8 +11,8 @@ returns-clause-visited g c =
     let slot = c.slot_at_position-slot.result in
     let place = c.slot_at_position-slot.ensures.slot in
     let y = c.visit.new.item in
-    let lent : item_in now slot ≡ Some c.item_in_slot_mut.result.now = ap (λ m. item_in m slot) (sym same) ∙ c.item_in_slot_mut.ensures.value in
-    (c.item_in_slot_mut.result.now, y, sym place.item ∙ lent, c.visit.ensures, ap (λ m. with_item_in m slot y) same ∙ ap (λ xs. record now { items = xs }) (place.written y))
+    let lent : item_in_slot now slot ≡ Some c.item_in_slot_mut.result.now = ap (λ m. item_in_slot m slot) (sym same) ∙ c.item_in_slot_mut.ensures.value in
+    (c.item_in_slot_mut.result.now, y, sym place.item ∙ lent, c.visit.ensures, ap (λ m. with_item_in_slot m slot y) same ∙ ap (λ xs. record now { items = xs }) (place.written y))
 
 pub returns-clause-keyed : goal.returns-clause-keyed
 returns-clause-keyed g c =

@@ -13,9 +13,9 @@ returns-in-Ok g c =
       record {
         kept = tt;
         same_map = refl;
-        inserted = record { inserts = done.inserts; item = done.placed.there; written = done.placed.written };
-        keyed = λ x w at same. keyed_written g.T.IdHashItem.key g.T.Key.Hash.hash_input (hash_under g.S.BuildHasher g.S.Hasher.Hasher) new done.inserts.stays.keyed c.in-Ok.slot x w at g.met.T.Key.Eq.laws g.met.T.Key.Hash.respects_eq same;
-        keyed_akin = λ x w at akin. keyed_akin_written g.T.IdHashItem.key g.T.Key.Hash.hash_input (hash_under g.S.BuildHasher g.S.Hasher.Hasher) new done.inserts.stays.keyed c.in-Ok.slot x w at g.met.T.Key.Eq.laws g.met.T.Key.Hash.respects_eq akin;
+        inserted = record { inserts = done.inserted; item = done.there.there; written = done.there.written };
+        keyed = λ x w at same. keyed_written g.T.IdHashItem.key g.T.Key.Hash.hash_input (hash_under g.S.BuildHasher g.S.Hasher.Hasher) new done.inserted.stays.keyed c.in-Ok.slot x w at g.met.T.Key.Eq.laws g.met.T.Key.Hash.respects_eq same;
+        keyed_akin = λ x w at akin. keyed_akin_written g.T.IdHashItem.key g.T.Key.Hash.hash_input (hash_under g.S.BuildHasher g.S.Hasher.Hasher) new done.inserted.stays.keyed c.in-Ok.slot x w at g.met.T.Key.Eq.laws g.met.T.Key.Hash.respects_eq akin;
         refused = tt;
       },
     )

@@ -3,7 +3,7 @@ use Rattle.std.specs.Option.{IfNone, IfSome, option_map}
 use Rattle.iddqd_store.specs.Contents.{Ascends}
 use Rattle.iddqd_store.proofs.WrittenLemmas.{akin_key_kept, others_written, read_back, written_twice}
 use Rattle.iddqd_ord.specs.Entry.{entry_item, entry_map, entry_others, entry_with}
-use Rattle.iddqd_ord.specs.Guard.{with_item_in}
+use Rattle.iddqd_ord.specs.Guard.{with_item_in_slot}
 use Rattle.iddqd_ord.proofs.id_ord_map.entry.Entry.and_modify.Goals as goal
 
 pub returns-in-Occupied-clause-visited : goal.returns-in-Occupied-clause-visited
@@ -16,10 +16,10 @@ returns-in-Occupied-clause-visited g c =
       item = read_back e.map.now.slots e.map.now.items e.slot item e.there
           ∙ ap (λ p. Some p.1) (sym c.visit.ensures)
           ∙ ap (option_map (λ x. (visits x).1)) (sym there);
-      map = subst (λ o. IfSome o (λ x. with_item_in e.map.now e.slot item ≡ entry_with c.args.self (visits x).1)) (sym there)
-          (ap (with_item_in e.map.now e.slot) (ap (λ p. p.1) (sym c.visit.ensures)) ∙ ap (λ s. entry_with s (visits c.get_mut.result.now).1) (sym c.in-Occupied.is));
+      map = subst (λ o. IfSome o (λ x. with_item_in_slot e.map.now e.slot item ≡ entry_with c.args.self (visits x).1)) (sym there)
+          (ap (with_item_in_slot e.map.now e.slot) (ap (λ p. p.1) (sym c.visit.ensures)) ∙ ap (λ s. entry_with s (visits c.get_mut.result.now).1) (sym c.in-Occupied.is));
       visitor = subst (λ o. IfSome o (λ x. c.visit.new.self ≡ (visits x).0)) (sym there) (ap (λ p. p.0) (sym c.visit.ensures));
-      unchanged = subst (λ o. IfNone o (with_item_in e.map.now e.slot item ≡ entry_map c.args.self)) (sym there) tt;
+      unchanged = subst (λ o. IfNone o (with_item_in_slot e.map.now e.slot item ≡ entry_map c.args.self)) (sym there) tt;
       unvisited = subst (λ o. IfNone o (c.visit.new.self ≡ c.args.visitor.now)) (sym there) tt;
       written = λ w. ap (λ xs. record e.map.now { items = xs }) (written_twice e.map.now.slots e.map.now.items e.slot item w)
           ∙ ap (λ s. entry_with s w) (sym c.in-Occupied.is);

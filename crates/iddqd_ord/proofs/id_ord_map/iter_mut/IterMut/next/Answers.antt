@@ -2,7 +2,7 @@ use Rattle.std.proofs.Common.{◌≡◌, ◌+◌, ◌∙◌, Some, ap, arith, in
 use Rattle.std.proofs.lemmas.Option.{slice_get_past}
 use Rattle.iddqd_store.specs.Contents.{Ascends}
 use Rattle.iddqd_store.proofs.WrittenLemmas.{akin_key_kept, same_key_kept}
-use Rattle.iddqd_ord.specs.Guard.{item_in, with_item_in}
+use Rattle.iddqd_ord.specs.Guard.{item_in_slot, with_item_in_slot}
 use Rattle.iddqd_ord.proofs.id_ord_map.iter_mut.IterMut.next.Goals as goal
 
 pub returns-then-at-len : goal.returns-then-at-len
@@ -14,10 +14,10 @@ returns-then-at-len g c =
     let slot = c.slot_at_position-slot.result in
     let place = c.slot_at_position-slot.ensures.slot in
     let lent = c.item_in_slot_mut.result in
-    let at : item_in m slot ≡ Some lent.now = ap (λ v. item_in v slot) (sym same) ∙ c.item_in_slot_mut.ensures.value in
+    let at : item_in_slot m slot ≡ Some lent.now = ap (λ v. item_in_slot v slot) (sym same) ∙ c.item_in_slot_mut.ensures.value in
     let key = g.T.IdOrdItem.key in
     let cmp = g.T.Key.Ord.cmp in (
-      λ j. inl (lent.ghost_name, λ w. record { map = record walk.map { now = (ap (λ v. with_item_in v slot w) same ∙ ap (λ xs. record m { items = xs }) (place.written w)) j }; done = walk.done + 1 }),
+      λ j. inl (lent.ghost_name, λ w. record { map = record walk.map { now = (ap (λ v. with_item_in_slot v slot w) same ∙ ap (λ xs. record m { items = xs }) (place.written w)) j }; done = walk.done + 1 }),
       record {
         writes_back = tt;
         value = sym at ∙ place.item;

@@ -7,13 +7,13 @@ returns g c = (
   (
     refl,
     (λ w is.
-        let inserts = c.insert_unique.follows.holds w is in
+        let done = c.insert_unique.follows.holds w is in
         record {
-          inserted = (search rules, inserts.takes.room, inserts.takes.added);
+          inserted = (search rules, done.inserts.room, done.inserts.added);
           stays = record {
-            keyed = inserts.stays.keyed;
-            limit = inserts.takes.limit;
-            room = record { at_least = inserts.stays.spare.never_less; in_limit = omega (arith, inserts.stays.spare.in_limit, inserts.takes.limit) };
+            keyed = done.stays.keyed;
+            limit = done.inserts.limit;
+            room = record { at_least = done.stays.spare.never_less; in_limit = omega (arith, done.stays.spare.spare_fits, done.inserts.limit) };
           };
         }),
     on_err_weaker c.insert_unique.result
@@ -23,7 +23,7 @@ returns g c = (
             stays = record {
               keyed = kept.0.stays.keyed;
               limit = kept.0.keeps.limit;
-              room = record { at_least = kept.0.stays.spare.never_less; in_limit = omega (arith, kept.0.stays.spare.in_limit, kept.0.keeps.limit) };
+              room = record { at_least = kept.0.stays.spare.never_less; in_limit = omega (arith, kept.0.stays.spare.spare_fits, kept.0.keeps.limit) };
             };
           },
           kept.1,

@@ -7,10 +7,10 @@ returns g c = (
   (
     refl,
     (λ w is.
-        let inserts = c.insert_unique.follows.holds w is in
+        let done = c.insert_unique.follows.holds w is in
         record {
-          inserted = (search rules, inserts.takes.room, inserts.takes.added);
-          stays = record { keyed = inserts.keyed; limit = inserts.takes.limit; room = (refl, refl) };
+          inserted = (search rules, done.inserts.room, done.inserts.added);
+          stays = record { keyed = done.keyed; limit = done.inserts.limit; room = (refl, refl) };
         }),
     on_err_weaker c.insert_unique.result
         (λ kept. (record { items = kept.0.keeps.items; stays = record { keyed = kept.0.keyed; limit = kept.0.keeps.limit; room = (refl, refl) } }, kept.1))
