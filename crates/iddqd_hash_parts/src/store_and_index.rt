@@ -143,7 +143,12 @@ pub fn insert_in_both<T>(store: &mut ItemStore<T>, index: &mut HashIndex, hash: 
 
 /// Removes the slot from the index, and returns its item, removed from the store. Does not allocate.
 #[inline]
-pub fn remove_from_both<T>(store: &mut ItemStore<T>, index: &mut HashIndex, hash: u64, slot: u32) -> T
+pub fn remove_from_both<T>(
+    store: &mut ItemStore<T>,
+    index: &mut HashIndex,
+    hash: u64,
+    slot: u32,
+) -> T
     requires paired { PairsOccupied store.old index.old.pairs }
     requires listed { Contains index.old.pairs (hash, slot) }
 

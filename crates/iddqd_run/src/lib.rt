@@ -4,8 +4,8 @@
 mod adding;
 mod answering;
 mod by_name;
-mod first_last;
 mod entries;
+mod first_last;
 mod requests;
 mod serving;
 mod statuses;

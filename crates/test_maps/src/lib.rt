@@ -15,11 +15,11 @@ mod commands;
 #[cfg(test)]
 mod drops;
 #[cfg(test)]
-mod first_last;
-#[cfg(test)]
 mod entries;
 #[cfg(test)]
 mod errors;
+#[cfg(test)]
+mod first_last;
 #[cfg(test)]
 mod insertions;
 #[cfg(test)]

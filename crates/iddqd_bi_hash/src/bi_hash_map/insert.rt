@@ -49,7 +49,12 @@ impl<T: BiHashItem, S: BuildHasher> BiHashMap<T, S> {
     }
 
     // Inserts an item whose keys no other has.
-    pub(super) fn insert_hashed(&mut self, hash1: u64, hash2: u64, item: T) -> Result<(), Refused<T>>
+    pub(super) fn insert_hashed(
+        &mut self,
+        hash1: u64,
+        hash2: u64,
+        item: T,
+    ) -> Result<(), Refused<T>>
         requires keyed { ⟦<Self as Keyed>⟧.keyed self.old }
         requires absent { items_met T.key1 T.key2 T.K1.eq T.K2.eq item self.old.items ≡ [] }
         requires hash1 { hash1 ≡ ⟦<Self as Keyed>⟧.hash self.old (T.K1.hash_input (T.key1 item)) }

@@ -121,7 +121,12 @@ impl<T: IdHashItem, S: BuildHasher> IdHashMap<T, S> {
         let hash = self.hasher.hash_one(item.key());
         match find_slot::<T, OwnKey, T::Key>(&self.store, &self.index, hash, item.key()) {
             Some(slot) => {
-                let earlier = Few::One(remove_from_both(&mut self.store, &mut self.index, hash, slot));
+                let earlier = Few::One(remove_from_both(
+                    &mut self.store,
+                    &mut self.index,
+                    hash,
+                    slot,
+                ));
                 Err(FromIterError::Duplicate(DuplicateItem::internal_new(item, earlier)))
             }
             None => match self.insert_hashed(hash, item) {

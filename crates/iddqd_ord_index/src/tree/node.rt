@@ -6,8 +6,8 @@ ghost use Rattle.iddqd_ord_index.specs.Shape.{unused};
 
 mod below;
 mod clone;
-mod first_last;
 mod find;
+mod first_last;
 mod insert;
 mod insert_by;
 mod pair;
