@@ -19,7 +19,7 @@ IsPlaceAmong compare ks place = MatchResult place
 abbrev pub IsPlaceIn : List ℕ → Result ℕ ℕ → Type 0
 IsPlaceIn slots place = MatchResult place (λ i. i < length slots) (λ i. i ≤ length slots)
 
--- the same, of a search that returns the slot as well
+-- the place alone, of a search that returns the slot as well
 abbrev pub place_of : Result (ℕ × ℕ) ℕ → Result ℕ ℕ
 place_of (Ok found) = Ok found.0
 place_of (Err place) = Err place
@@ -31,6 +31,10 @@ HasSlotAt slots found = slice_get slots found.0 ≡ Some found.1
 -- the place of the slot whose item has the query's key, or the one where it belongs
 abbrev pub FindsPlace : {T K : Type 0} → (T → K) → (K → Ordering) → Store T → List ℕ → Result ℕ ℕ → Type 0
 FindsPlace key compare store slots place = IsPlaceAmong compare (listed_keys key store slots) place
+
+-- the same, of a search that returns the slot as well
+abbrev pub FindsPlaced : {T K : Type 0} → (T → K) → (K → Ordering) → Store T → List ℕ → Result (ℕ × ℕ) ℕ → Type 0
+FindsPlaced key compare store slots found = FindsPlace key compare store slots (place_of found)
 
 -- the slot of the item whose key passes the test, of those at the slots
 abbrev pub FindsSlot : {T K : Type 0} → (T → K) → (K → Bool) → Store T → List ℕ → Option ℕ → Type 0

@@ -3,6 +3,7 @@ use Rattle.std.specs.Prelude.{◌≡◌, ℕ, ◌+◌, ◌<◌, ◌≤◌, List,
 use Rattle.std.specs.declared.cmp.Ordering.{Ordering}
 use Rattle.std.specs.declared.cmp.Ordering.TheVariants.{Less, Equal, Greater}
 use Rattle.iddqd_store.specs.Store.{Store, item_at}
+use Rattle.iddqd_ord_index.specs.Search.{place_of}
 
 -- how the query stands to an item's key; it is asked of slots that have one
 abbrev pub standing : {T K : Type 0} → (T → K) → (K → Ordering) → Option T → Ordering
@@ -48,6 +49,9 @@ module _ {T K : Type 0} (key : T → K) (compare : K → Ordering) (store : Stor
 
   abbrev pub StandsAt : List ℕ → Result ℕ ℕ → Type 0
   StandsAt slots place = IsPlace (slot_standing key compare store) slots place
+
+  abbrev pub StandsPlaced : List ℕ → Result (ℕ × ℕ) ℕ → Type 0
+  StandsPlaced slots found = StandsAt slots (place_of found)
 
   abbrev pub StandsAmong : List ℕ → Option ℕ → Type 0
   StandsAmong slots slot = IsAmong (slot_standing key compare store) slots slot

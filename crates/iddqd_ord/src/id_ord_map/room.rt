@@ -11,7 +11,7 @@ use iddqd_store::{IdOrdItem, ItemStore, MAX_ITEMS, TryReserveError};
 use std::alloc::Global;
 
 impl<T: IdOrdItem> IdOrdMap<T> {
-    ghost use Rattle.iddqd_ord.specs.OrdMap.{IsShortOf, empty_map};
+    ghost use Rattle.iddqd_ord.specs.OrdMap.{IsShortOf, RefusesRoomFor, empty_map};
 
     /// Returns a map without items, with room for at least `capacity` in the store. The limit refuses a `capacity`
     /// above `MAX_ITEMS`. Else it is refused only if memory is, and does not allocate for 0.
@@ -41,7 +41,7 @@ impl<T: IdOrdItem> IdOrdMap<T> {
         ensures in_limit { OnOk result (length self.old.items + additional ≤ self.old.limit) }
 
         // on refusal
-        ensures refused { IfErr result (IsKindOf self.old.limit (length self.old.items + additional)) }
+        ensures refused { IfErr result (RefusesRoomFor self.old additional) }
         ensures needed { result ≡ Err memory_refused → IsShortOf self.old additional }
         ensures asked { OnErr result (0 < additional) }
 

@@ -3,7 +3,7 @@ ghost use Rattle.std.specs.Prelude.{◌≡◌, ◌+◌, ◌*◌, ◌<◌, ◌≤
 ghost use Rattle.iddqd_store.specs.Contents.{Ascends};
 ghost use Rattle.iddqd_ord_index.specs.Digits.{digits};
 ghost use Rattle.iddqd_ord_index.specs.Listed.{listed_items, AreOccupied};
-ghost use Rattle.iddqd_ord_index.specs.Search.{FindsNext, FindsPlace, FindsSlot, HasSlotAt, IsPlaceIn, place_of};
+ghost use Rattle.iddqd_ord_index.specs.Search.{FindsNext, FindsPlace, FindsPlaced, FindsSlot, HasSlotAt, IsPlaceIn, place_of};
 
 use super::{OrdIndex, Place};
 use iddqd_store::{Comparable, IdOrdItem, ItemStore, Steps};
@@ -45,7 +45,7 @@ impl OrdIndex {
         requires ascending { Ascends T.key T.Key.cmp (listed_items store.now self.now.slots) }
 
         // what it finds
-        ensures place { FindsPlace T.key (Q.compare query.now) store.now self.now.slots (place_of result) }
+        ensures place { FindsPlaced T.key (Q.compare query.now) store.now self.now.slots result }
         ensures in_list { IsPlaceIn self.now.slots (place_of result) }
         ensures slot { IfOk result (HasSlotAt self.now.slots) }
 

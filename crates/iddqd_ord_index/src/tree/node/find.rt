@@ -1,8 +1,8 @@
 //! Search: by halves in each node on the way down.
 ghost use Rattle.std.specs.Prelude.{◌≡◌, ◌+◌, ◌*◌, ◌^◌, ◌<◌, ◌≤◌, length, IfOk};
 ghost use Rattle.iddqd_ord_index.specs.Listed.{AreOccupied};
-ghost use Rattle.iddqd_ord_index.specs.Search.{HasSlotAt, place_of};
-ghost use Rattle.iddqd_ord_index.specs.Standing.{StandsAmong, StandsAt, StandsMonotone};
+ghost use Rattle.iddqd_ord_index.specs.Search.{HasSlotAt};
+ghost use Rattle.iddqd_ord_index.specs.Standing.{StandsAmong, StandsMonotone, StandsPlaced};
 
 use super::Node;
 use crate::tree::search::search;
@@ -21,7 +21,7 @@ impl Node {
         requires room { length self.now.slots < 2 ^ 32 }
 
         // what it finds
-        ensures place { StandsAt T.key (Q.compare query.now) store.now self.now.slots (place_of result) }
+        ensures place { StandsPlaced T.key (Q.compare query.now) store.now self.now.slots result }
         ensures slot { IfOk result (HasSlotAt self.now.slots) }
 
         // what it costs
