@@ -2,7 +2,7 @@
 use Rattle.std.proofs.Common.{◌≡◌, ℕ, ◌+◌, ◌<◌, List, [], length, map, take, drop, set, get_or, ap, sym, ◌∙◌, subst, refl, arith, Option, Some, None, Box, Global}
 use Rattle.std.specs.List.{insert, remove}
 use Rattle.std.proofs.lemmas.List.{get_or-map, get_or_default, length-map, map-set, nil_from_length}
-use Rattle.iddqd_ord_index.specs.Cells.{items_present, filled, IsPacked}
+use Rattle.iddqd_ord_index.specs.Cells.{items_present, cells_of, IsPacked}
 use Rattle.iddqd_ord_index.specs.Nodes.{below, subtrees, AreBranches, AreCounted, IsBlock, cells_in, counts_in, counts_of, nodes_of, HasBlock, IsBare, IsThere}
 use Rattle.iddqd_ord_index.specs.Shape.{Subtree, lists, starts, unused}
 use Rattle.iddqd_ord_index.specs.declared.tree.node.Block.{Block}
@@ -76,7 +76,7 @@ none_below bs none some = no_block bs none (has_block bs some)
 bare_in : (o : Option (Box Block Global)) (b : Box Block Global) → o ≡ Some b → IsPacked (cells_in o) → length (subtrees (cells_in o)) ≡ 0 → length (counts_in o) ≡ 0 → IsBare b.value
 bare_in o b e p n m =
     let none : length (items_present (cells_in o)) ≡ 0 = omega (arith, n, length-subtrees (cells_in o)) in
-    let cells = p.cells ∙ ap filled (nil_from_length (items_present (cells_in o)) none) in
+    let cells = p.cells ∙ ap cells_of (nil_from_length (items_present (cells_in o)) none) in
     (sym (ap cells_in e) ∙ cells, sym (ap counts_in e) ∙ nil_from_length (counts_in o) m)
 
 pub bare_block : (bs : Branches) (b : Box Block Global) → bs.block ≡ Some b → AreBranches bs → below bs ≡ [] → IsBare b.value

@@ -5,7 +5,7 @@ use Rattle.std.proofs.lemmas.List.{length-map, length-take-le, map-set, set-set,
 use Rattle.std.proofs.Math.Seq.{drop-append-add}
 use Rattle.std.proofs.lemmas.List.Elements.{All-set}
 use Rattle.std.proofs.lemmas.List.Edits.{insert-append_left, insert-append_right}
-use Rattle.iddqd_ord_index.specs.Cells.{items_present, filled, IsPacked}
+use Rattle.iddqd_ord_index.specs.Cells.{items_present, cells_of, IsPacked}
 use Rattle.iddqd_ord_index.specs.Shape.{Subtree, behind, in_order, starts, lists, levels, IsBranchAt, IsForked, IsBranch}
 use Rattle.iddqd_ord_index.specs.Nodes.{subtrees}
 use Rattle.iddqd_ord_index.specs.declared.tree.node.Node.{Node}
@@ -112,7 +112,7 @@ module _ (ls : List (List ℕ)) (ss : List ℕ) (at i rest : ℕ) (branch_at : I
 
 -- a branch that was taken out and put back
 module _ (os : List (Option Node)) (i : ℕ) (b : Node) (p : IsPacked os) (lt : i < length (items_present os)) where
-  put_back : set (set os i None) i (Some b) ≡ filled (set (items_present os) i b)
+  put_back : set (set os i None) i (Some b) ≡ cells_of (set (items_present os) i b)
   put_back =
       let n = length-set (items_present os) i b in
       let m = length-map (items_present os) Some in

@@ -4,7 +4,7 @@ use Rattle.std.specs.List.{insert, remove}
 use Rattle.std.proofs.lemmas.List.{append-nil, length-map, length-replicate, length-take-le, map-append, take-map, drop-map, take-append-le, drop-append-le, replicate-append-replicate, set_at, replicate_more, take_at, drop_at, get_or-map, get_or_append_left, get_or-set_same, take-set, drop-set-lt, drop-drop, take_rest, take-replicate, drop-replicate, drop_all}
 use Rattle.std.proofs.lemmas.List.Edits.{insert-append_left, remove-append_left, length-insert, length-remove}
 use borrow.Rule.Slice.PartMut.{put_mid}
-use Rattle.iddqd_ord_index.specs.Cells.{items_present, filled, IsPacked}
+use Rattle.iddqd_ord_index.specs.Cells.{items_present, cells_of, IsPacked}
 
 module _ {T : Type 0} where
   abbrev none : Option T
@@ -18,15 +18,15 @@ module _ {T : Type 0} where
   held_none zero = refl
   held_none (suc n) = held_none n
 
-  pub held_filled : (xs : List T) → items_present (filled xs) ≡ xs
-  held_filled xs = held_some xs _ ∙ (ap (λ ys. xs ++ ys) (held_none (12 - length xs)) ∙ append-nil xs)
+  pub items_present-cells_of : (xs : List T) → items_present (cells_of xs) ≡ xs
+  items_present-cells_of xs = held_some xs _ ∙ (ap (λ ys. xs ++ ys) (held_none (12 - length xs)) ∙ append-nil xs)
 
-  -- cells that are a filled list hold that list
-  pub packed_is : (os : List (Option T)) (xs : List T) → os ≡ filled xs → length xs ≤ 12 → IsPacked os
-  packed_is os xs e le = rw e (record { cells = ap filled (sym (held_filled xs)); fits = rw held_filled le })
+  -- cells that are the cells of a list hold that list
+  pub packed_is : (os : List (Option T)) (xs : List T) → os ≡ cells_of xs → length xs ≤ 12 → IsPacked os
+  packed_is os xs e le = rw e (record { cells = ap cells_of (sym (items_present-cells_of xs)); fits = rw items_present-cells_of le })
 
-  pub held_is : (os : List (Option T)) (xs : List T) → os ≡ filled xs → items_present os ≡ xs
-  held_is os xs e = rw e (held_filled xs)
+  pub held_is : (os : List (Option T)) (xs : List T) → os ≡ cells_of xs → items_present os ≡ xs
+  held_is os xs e = rw e (items_present-cells_of xs)
 
   pub map-insert : {B : Type 0} (f : T → B) (xs : List T) (i : ℕ) (x : T) → map f (insert xs i x) ≡ insert (map f xs) i (f x)
   map-insert f xs i x = map-append f (take i xs) _ ∙ (rw (take-map, drop-map) refl)
@@ -41,26 +41,26 @@ module _ {T : Type 0} where
   length_fronts : (xs : List T) → length xs < 12 → length (fronts xs) ≡ 11
   length_fronts xs lt = length-append (map Some xs) _ ∙ (rw (length-map xs Some, length-replicate (11 - length xs) none) (omega arith))
 
-  filled_fronts : (xs : List T) → length xs < 12 → filled xs ≡ fronts xs ++ none ∷ []
-  filled_fronts xs lt =
+  cells_of-fronts : (xs : List T) → length xs < 12 → cells_of xs ≡ fronts xs ++ none ∷ []
+  cells_of-fronts xs lt =
       let e : 12 - length xs ≡ (11 - length xs) + 1 = omega arith in
       rw (e, ← replicate_more (11 - length xs) none) (sym (append_assoc (map Some xs) _ _))
 
-  pub put_in : (os new : List (Option T)) (xs : List T) (i : ℕ) (x : T) → os ≡ filled xs → length xs < 12 → i ≤ length xs
+  pub put_in : (os new : List (Option T)) (xs : List T) (i : ℕ) (x : T) → os ≡ cells_of xs → length xs < 12 → i ≤ length xs
       → ((front : List (Option T)) (last : Option T) → set os 11 (Some x) ≡ front ++ last ∷ [] → new ≡ insert front i last)
-      → new ≡ filled (insert xs i x)
+      → new ≡ cells_of (insert xs i x)
   put_in os new xs i x e lt le h =
       let n : length (map Some xs) ≡ length xs = length-map xs Some in
       let w = set_at (fronts xs) none [] (Some x) 11 (length_fronts xs lt) in
-      let a = h (fronts xs) (Some x) (rw (e, filled_fronts xs lt) w) in
+      let a = h (fronts xs) (Some x) (rw (e, cells_of-fronts xs lt) w) in
       let b = insert-append_left (map Some xs) (replicate (11 - length xs) none) i (Some x) (omega arith) in
       let m = length-insert xs i x le in
       let k : 12 - length (insert xs i x) ≡ 11 - length xs = omega arith in
       a ∙ (b ∙ rw (k, map-insert Some xs i x) refl)
 
-  pub take_out : (os new : List (Option T)) (xs : List T) (i : ℕ) → os ≡ filled xs → i < length xs → length xs ≤ 12
+  pub take_out : (os new : List (Option T)) (xs : List T) (i : ℕ) → os ≡ cells_of xs → i < length xs → length xs ≤ 12
       → new ≡ remove os i ++ none ∷ []
-      → new ≡ filled (remove xs i)
+      → new ≡ cells_of (remove xs i)
   take_out os new xs i e lt le h =
       let n : length (map Some xs) ≡ length xs = length-map xs Some in
       let b = remove-append_left (map Some xs) (replicate (12 - length xs) none) i (omega arith) in
@@ -73,23 +73,23 @@ module _ {T : Type 0} where
       ∙ (ap (λ l. l ++ replicate ((12 - length xs) + 1) none) (sym (map-remove Some xs i))
       ∙ ap (λ j. map Some (remove xs i) ++ replicate j none) (sym k))))))
 
-  pub cut_lower : (os : List (Option T)) (xs : List T) (at : ℕ) → os ≡ filled xs → at ≤ length xs → length xs ≤ 12
-      → take at os ++ replicate (12 - at) none ≡ filled (take at xs)
+  pub cut_lower : (os : List (Option T)) (xs : List T) (at : ℕ) → os ≡ cells_of xs → at ≤ length xs → length xs ≤ 12
+      → take at os ++ replicate (12 - at) none ≡ cells_of (take at xs)
   cut_lower os xs at e le lt =
       let n : length (map Some xs) ≡ length xs = length-map xs Some in
       let m = length-take-le at xs le in
       rw (e, take-append-le at (map Some xs) (replicate (12 - length xs) none) (omega arith), take-map Some at xs, m) refl
 
-  pub cut_upper : (os : List (Option T)) (xs : List T) (at : ℕ) → os ≡ filled xs → at ≤ length xs → length xs ≤ 12
-      → drop at os ++ replicate at none ≡ filled (drop at xs)
+  pub cut_upper : (os : List (Option T)) (xs : List T) (at : ℕ) → os ≡ cells_of xs → at ≤ length xs → length xs ≤ 12
+      → drop at os ++ replicate at none ≡ cells_of (drop at xs)
   cut_upper os xs at e le lt =
       let n : length (map Some xs) ≡ length xs = length-map xs Some in
       let m = length-drop at xs in
       let k : (12 - length xs) + at ≡ 12 - length (drop at xs) = omega arith in
       rw (e, drop-append-le at (map Some xs) (replicate (12 - length xs) none) (omega arith), drop-map Some at xs, append_assoc, replicate-append-replicate, k) refl
 
-  pub join_lower : (os us : List (Option T)) (xs ys : List T) → os ≡ filled xs → us ≡ filled ys → length xs + length ys ≤ 12
-      → take (length xs) os ++ (take (length ys) us ++ drop (length ys) (drop (length xs) os)) ≡ filled (xs ++ ys)
+  pub join_lower : (os us : List (Option T)) (xs ys : List T) → os ≡ cells_of xs → us ≡ cells_of ys → length xs + length ys ≤ 12
+      → take (length xs) os ++ (take (length ys) us ++ drop (length ys) (drop (length xs) os)) ≡ cells_of (xs ++ ys)
   join_lower os us xs ys e f lt =
       let n : length (map Some xs) ≡ length xs = length-map xs Some in
       let m : length (map Some ys) ≡ length ys = length-map ys Some in
@@ -101,8 +101,8 @@ module _ {T : Type 0} where
       let k : (12 - length xs) - length ys ≡ 12 - length (xs ++ ys) = omega arith in
       rw (e, f, a, b, d, r, k, ← append_assoc, ← map-append Some xs ys) refl
 
-  pub join_upper : (os us : List (Option T)) (xs ys : List T) → os ≡ filled xs → us ≡ filled ys → length xs + length ys ≤ 12
-      → take (length ys) (drop (length xs) os) ++ drop (length ys) us ≡ filled []
+  pub join_upper : (os us : List (Option T)) (xs ys : List T) → os ≡ cells_of xs → us ≡ cells_of ys → length xs + length ys ≤ 12
+      → take (length ys) (drop (length xs) os) ++ drop (length ys) us ≡ cells_of []
   join_upper os us xs ys e f lt =
       let n : length (map Some xs) ≡ length xs = length-map xs Some in
       let m : length (map Some ys) ≡ length ys = length-map ys Some in
@@ -112,11 +112,11 @@ module _ {T : Type 0} where
       let k : length ys + (12 - length ys) ≡ 12 = omega arith in
       rw (e, f, b, d, r, replicate-append-replicate, k) refl
 
-  pub length_filled : (xs : List T) → length xs ≤ 12 → length (filled xs) ≡ 12
-  length_filled xs le = length-append (map Some xs) _ ∙ (rw (length-map xs Some, length-replicate (12 - length xs) none) (omega arith))
+  pub length-cells_of : (xs : List T) → length xs ≤ 12 → length (cells_of xs) ≡ 12
+  length-cells_of xs le = length-append (map Some xs) _ ∙ (rw (length-map xs Some, length-replicate (12 - length xs) none) (omega arith))
 
   empty_cells : (us : List (Option T)) → IsPacked us → items_present us ≡ [] → us ≡ replicate 12 none
-  empty_cells us p z = p.cells ∙ ap filled z
+  empty_cells us p z = p.cells ∙ ap cells_of z
 
   -- the cells behind a place, without the empty ones
   pub tail_cells : (os : List (Option T)) (i n : ℕ) → IsPacked os → n ≡ length (items_present os) → i ≤ n → take (n - i) (drop i os) ≡ map Some (drop i (items_present os))
@@ -131,16 +131,16 @@ module _ {T : Type 0} where
 
   -- what `move_tail` leaves
   pub moved_lower : (os us mid : List (Option T)) (at : ℕ) → IsPacked os → IsPacked us → items_present us ≡ [] → at ≤ length (items_present os)
-      → mid ≡ take (12 - at) us → put_mid at (length os - at) os mid ≡ filled (take at (items_present os))
+      → mid ≡ take (12 - at) us → put_mid at (length os - at) os mid ≡ cells_of (take at (items_present os))
   moved_lower os us mid at p q z le m =
-      let n : length os ≡ 12 = ap length p.cells ∙ length_filled (items_present os) p.fits in
+      let n : length os ≡ 12 = ap length p.cells ∙ length-cells_of (items_present os) p.fits in
       let d : drop (length os - at) (drop at os) ≡ [] = drop-drop (length os - at) at os ∙ drop_all _ os (omega (arith, p.fits)) in
       let r = take-replicate (12 - at) 12 none (omega arith) in
       let k : mid ≡ replicate (12 - at) none = m ∙ (ap (λ l. take (12 - at) l) (empty_cells us q z) ∙ r) in
       ap (λ l. take at os ++ (mid ++ l)) d ∙ (ap (λ l. take at os ++ l) (append-nil mid ∙ k) ∙ cut_lower os (items_present os) at p.cells le p.fits)
 
   pub moved_upper : (os us mid : List (Option T)) (at : ℕ) → IsPacked os → IsPacked us → items_present us ≡ [] → at ≤ length (items_present os)
-      → mid ≡ take (length os - at) (drop at os) → mid ++ drop (12 - at) us ≡ filled (drop at (items_present os))
+      → mid ≡ take (length os - at) (drop at os) → mid ++ drop (12 - at) us ≡ cells_of (drop at (items_present os))
   moved_upper os us mid at p q z le m =
       let t : mid ≡ drop at os = m ∙ take_rest os at in
       let k : 12 - (12 - at) ≡ at = omega (arith, p.fits) in
@@ -149,13 +149,13 @@ module _ {T : Type 0} where
 
   -- what `append` leaves
   pub joined_lower : (os us mid : List (Option T)) (len more : ℕ) → IsPacked os → IsPacked us → len ≡ length (items_present os) → more ≡ length (items_present us) → len + more ≤ 12
-      → mid ≡ take more us → put_mid len ((len + more) - len) os mid ≡ filled (items_present os ++ items_present us)
+      → mid ≡ take more us → put_mid len ((len + more) - len) os mid ≡ cells_of (items_present os ++ items_present us)
   joined_lower os us mid len more p q a b le m =
       let k : (len + more) - len ≡ more = omega arith in
       rw (k, m, a, b) (join_lower os us (items_present os) (items_present us) p.cells q.cells (omega arith))
 
   pub joined_upper : (os us mid : List (Option T)) (len more : ℕ) → IsPacked os → IsPacked us → len ≡ length (items_present os) → more ≡ length (items_present us) → len + more ≤ 12
-      → mid ≡ take ((len + more) - len) (drop len os) → mid ++ drop more us ≡ filled []
+      → mid ≡ take ((len + more) - len) (drop len os) → mid ++ drop more us ≡ cells_of []
   joined_upper os us mid len more p q a b le m =
       let k : (len + more) - len ≡ more = omega arith in
       rw (m, k, a, b) (join_upper os us (items_present os) (items_present us) p.cells q.cells (omega arith))
@@ -163,9 +163,9 @@ module _ {T : Type 0} where
   -- what `remove` leaves
   pub removed : (os new : List (Option T)) (o : Option T) (i : ℕ) → IsPacked os → i < length (items_present os) → o ≡ none
       → ((d : Option T) → new ≡ remove (set os i o) i ++ get_or (set os i o) i d ∷ [])
-      → new ≡ filled (remove (items_present os) i)
+      → new ≡ cells_of (remove (items_present os) i)
   removed os new o i p lt z h =
-      let n : length os ≡ 12 = ap length p.cells ∙ length_filled (items_present os) p.fits in
+      let n : length os ≡ 12 = ap length p.cells ∙ length-cells_of (items_present os) p.fits in
       let g = get_or-set_same os i o none (omega (arith, p.fits)) in
       let t = take-set os i o in
       let d = drop-set-lt (suc i) os i o (omega arith) in

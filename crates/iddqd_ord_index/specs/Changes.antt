@@ -40,10 +40,10 @@ IsReplaced ss i slot old ts = (old ≡ slice_index ss i) × (ts ≡ slice_set ss
 
 -- as many, or one less
 abbrev pub IsSameOrOneLess : ℕ → ℕ → Type 0
-IsSameOrOneLess new old = (new ≤ old) × (old ≤ new + 1)
+IsSameOrOneLess old new = (new ≤ old) × (old ≤ new + 1)
 
 abbrev pub IsShorter : ArrayVec ℕ → ArrayVec ℕ → Type 0
-IsShorter new old = length new.items < length old.items
+IsShorter old new = length new.items < length old.items
 
 -- blocks without branches
 abbrev pub AreBare : List (Box Block Global) → Type 0

@@ -1,7 +1,7 @@
 -- What the fields of a node show. No public clause cites this module.
 use Rattle.std.specs.Prelude.{◌≡◌, ℕ, ◌+◌, List, [], ◌++◌, All, insert, length, map, Option, Some, None}
 use Rattle.std.proofs.Common.{Box, Global}
-use Rattle.iddqd_ord_index.specs.Cells.{filled, items_present, IsPacked}
+use Rattle.iddqd_ord_index.specs.Cells.{cells_of, items_present, IsPacked}
 use Rattle.arrayvec.specs.ArrayVec.{ArrayVec}
 use Rattle.iddqd_ord_index.specs.Shape.{Subtree, lists, tree, in_order, IsForked}
 use Rattle.iddqd_ord_index.specs.declared.tree.node.Block.{Block}
@@ -15,7 +15,7 @@ subtrees os = items_present os
 
 -- the cells in a block, all empty where there is none; and the numbers of slots below the branches
 abbrev pub cells_in : Option (Box Block Global) → List (Option Node)
-cells_in None = filled []
+cells_in None = cells_of []
 cells_in (Some b) = b.value.nodes
 
 abbrev pub counts_in : Option (Box Block Global) → List ℕ
@@ -65,10 +65,10 @@ SplitsWith i more old lower upper = insert (subtrees old.nodes) (i + 1) more ≡
 
 -- a block without branches
 abbrev pub IsBare : Block → Type 0
-IsBare b = (b.nodes ≡ filled []) × (b.counts.items ≡ [])
+IsBare b = (b.nodes ≡ cells_of []) × (b.counts.items ≡ [])
 
-abbrev pub seen : Inside → Subtree
-seen n = tree (below n.branches) n.slots.items
+abbrev pub subtree_of : Inside → Subtree
+subtree_of n = tree (below n.branches) n.slots.items
 
 pub record IsNode (n : Inside) : Type 0 where
   pub branches : AreBranches n.branches

@@ -23,7 +23,7 @@ use Rattle.iddqd.specs.Holding.{max_items}
 use Rattle.iddqd.specs.Refusal.{FindsNoRoom, IsOnly, RefusalKind, refusal_kind, reservation_kind}
 use Rattle.iddqd.proofs.OrderLemmas.{differ_moved, find_moved}
 use Rattle.iddqd_run.specs.Answer as answer
-use Rattle.iddqd_run.specs.Answer.{added_text, all_placed, entry_named, how_many_added, how_many_fit, is_full, lacks_room, name_cmp, name_of}
+use Rattle.iddqd_run.specs.Answer.{added_text, entries_with_all, entry_named, how_many_added, how_many_fit, is_full, lacks_room, name_cmp, name_of}
 use Rattle.iddqd.specs.declared.errors.ExtendUniqueError.TheVariants.{Duplicate, Refused}
 use Rattle.idtable_commands.specs.KeyedMap.{StopsExtension}
 use Rattle.idtable_lines.specs.Lines.{AddAll, is_name, onto_pairs, paired_request, pairs_of, value_of, words_of}
@@ -55,8 +55,8 @@ next_taken x xs items new takes =
 
 -- the entries once items were inserted, and how many of them and of others fit
 record IsThrough (xs items new : List Entry) (entries : List answer.Entry) : Type 0 where
-  shows : ShowsEntries new (all_placed (entries_of xs) entries)
-  fits : (more : List answer.Entry) → how_many_fit (entries_of xs ++ more) entries ≡ length xs + how_many_fit more (all_placed (entries_of xs) entries)
+  shows : ShowsEntries new (entries_with_all (entries_of xs) entries)
+  fits : (more : List answer.Entry) → how_many_fit (entries_of xs ++ more) entries ≡ length xs + how_many_fit more (entries_with_all (entries_of xs) entries)
 
 module _ (kind : Kind) where
   through : (xs items new : List Entry) → InsertsAll by_name string_eq max_items xs items new → (entries : List answer.Entry) → ShowsEntries items entries → IsThrough xs items new entries
@@ -91,11 +91,11 @@ module _ (kind : Kind) where
       let room = likely_room xs items entries shows fits in
       let long : length ps ≡ length xs = length-map xs entry_of in
       let fit : how_many_fit ps entries ≡ length ps = (let all = thr.fits [] in let whole = ap (λ es. how_many_fit es entries) (append-nil ps) in omega (arith, all, whole, long)) in
-      let told : (n : ℕ) → List ℕ = λ n. added_text n (drop n ps) (all_placed (take n ps) entries) in
+      let told : (n : ℕ) → List ℕ = λ n. added_text n (drop n ps) (entries_with_all (take n ps) entries) in
       let left : drop (length ps) ps ≡ [] = drop_all (length ps) ps (omega arith) in
       record {
-        text = ap (λ n. codes "added " ++ decimal n) (e ∙ sym long) ∙ sym (ap (λ b. cond b (codes "refused capacity") (told (how_many_fit ps entries))) room ∙ ap told fit ∙ ap (λ ds. added_text (length ps) ds (all_placed (take (length ps) ps) entries)) left);
-        after = subst (λ es. ShowsEntries new (all_placed es entries)) (sym (ap (λ b. take (cond b 0 (how_many_fit ps entries)) ps) room ∙ ap (λ n. take n ps) fit ∙ take-length ps)) thr.shows;
+        text = ap (λ n. codes "added " ++ decimal n) (e ∙ sym long) ∙ sym (ap (λ b. cond b (codes "refused capacity") (told (how_many_fit ps entries))) room ∙ ap told fit ∙ ap (λ ds. added_text (length ps) ds (entries_with_all (take (length ps) ps) entries)) left);
+        after = subst (λ es. ShowsEntries new (entries_with_all es entries)) (sym (ap (λ b. take (cond b 0 (how_many_fit ps entries)) ps) room ∙ ap (λ n. take n ps) fit ∙ take-length ps)) thr.shows;
       }
 
   -- the first ones are in, and x comes next
@@ -104,7 +104,7 @@ module _ (kind : Kind) where
     given = entries_of (front ++ x ∷ rest)
 
     abbrev end : List answer.Entry
-    end = all_placed (entries_of front) entries
+    end = entries_with_all (entries_of front) entries
 
     thr : IsThrough front items new entries
     thr = through front items new takes entries shows
@@ -130,10 +130,10 @@ module _ (kind : Kind) where
     stuck_plainly : (reply : List ℕ) → how_many_fit (entry_of x ∷ entries_of rest) end ≡ 0 → reply ≡ added_text (length front) (entry_of x ∷ entries_of rest) end → AnswersPlainly kind (AddAll given) entries reply new
     stuck_plainly reply stuck is =
         let count : how_many_fit given entries ≡ length front = omega (arith, fit, stuck) in
-        let told : (n : ℕ) → List ℕ = λ n. added_text n (drop n given) (all_placed (take n given) entries) in
+        let told : (n : ℕ) → List ℕ = λ n. added_text n (drop n given) (entries_with_all (take n given) entries) in
         record {
-          text = is ∙ sym (ap (λ b. cond b (codes "refused capacity") (told (how_many_fit given entries))) room ∙ ap told count ∙ ap₂ (λ ds ts. added_text (length front) ds (all_placed ts entries)) dropped taken);
-          after = subst (λ es. ShowsEntries new (all_placed es entries)) (sym (ap (λ b. take (cond b 0 (how_many_fit given entries)) given) room ∙ ap (λ n. take n given) count ∙ taken)) thr.shows;
+          text = is ∙ sym (ap (λ b. cond b (codes "refused capacity") (told (how_many_fit given entries))) room ∙ ap told count ∙ ap₂ (λ ds ts. added_text (length front) ds (entries_with_all ts entries)) dropped taken);
+          after = subst (λ es. ShowsEntries new (entries_with_all es entries)) (sym (ap (λ b. take (cond b 0 (how_many_fit given entries)) given) room ∙ ap (λ n. take n given) count ∙ taken)) thr.shows;
         }
 
     refused_here : LeavesRefused kind (AddAll given) entries new
@@ -143,7 +143,7 @@ module _ (kind : Kind) where
         length front,
         (let all = ap length split ∙ length-append (entries_of front) (entry_of x ∷ entries_of rest) in omega (arith, all, long)),
         (let added : how_many_added given entries ≡ how_many_fit given entries = ap (λ b. cond b 0 (how_many_fit given entries)) room in omega (arith, added, fit)),
-        sym (ap (λ es. all_placed es entries) taken),
+        sym (ap (λ es. entries_with_all es entries) taken),
       );
       after = thr.shows;
     }

@@ -36,9 +36,9 @@ abbrev pub greater : ℕ → List Entry → List Entry
 greater value entries = filter (λ entry. nat_lt value entry.1) entries
 
 -- the entries with each pair at its place, one after the other
-abbrev pub all_placed : List Entry → List Entry → List Entry
-all_placed [] entries = entries
-all_placed (pair ∷ pairs) entries = all_placed pairs (items_with name_of name_cmp pair entries)
+abbrev pub entries_with_all : List Entry → List Entry → List Entry
+entries_with_all [] entries = entries
+entries_with_all (pair ∷ pairs) entries = entries_with_all pairs (items_with name_of name_cmp pair entries)
 
 -- how many of the pairs are inserted, one after another, up to one whose name exists by then, or a full map
 abbrev pub how_many_fit : List Entry → List Entry → ℕ
@@ -95,7 +95,7 @@ module _ (kind : Kind) where
   line_reply (Keep value) entries = let kept = length (greater value entries) in codes "kept " ++ decimal kept ++ codes " dropped " ++ decimal (length entries - kept)
   line_reply (Reserve value) entries = if nat_lt max_items (length entries + value) then codes "refused capacity" else codes "ok"
   line_reply Shrink entries = codes "ok"
-  line_reply (AddAll pairs) entries = if lacks_room pairs entries then codes "refused capacity" else (let count = how_many_fit pairs entries in added_text count (drop count pairs) (all_placed (take count pairs) entries))
+  line_reply (AddAll pairs) entries = if lacks_room pairs entries then codes "refused capacity" else (let count = how_many_fit pairs entries in added_text count (drop count pairs) (entries_with_all (take count pairs) entries))
   line_reply Len entries = decimal (length entries)
   line_reply ListAll entries = whole_list entries
   line_reply First entries = by_ends kind (codes "unsupported") (end_text (slice_get entries 0))
@@ -115,7 +115,7 @@ module _ (kind : Kind) where
   entries_after (Keep value) entries = greater value entries
   entries_after (Reserve value) entries = entries
   entries_after Shrink entries = entries
-  entries_after (AddAll pairs) entries = all_placed (take (how_many_added pairs entries) pairs) entries
+  entries_after (AddAll pairs) entries = entries_with_all (take (how_many_added pairs entries) pairs) entries
   entries_after Len entries = entries
   entries_after ListAll entries = entries
   entries_after First entries = entries
@@ -140,7 +140,7 @@ module _ (kind : Kind) where
   RefusedLeaves (Put name value) old new = new ≡ old
   RefusedLeaves (Reserve value) old new = (length old + value ≤ max_items) × (new ≡ old)
   RefusedLeaves Shrink old new = new ≡ old
-  RefusedLeaves (AddAll pairs) old new = (count : ℕ) × (count < length pairs) × (count ≤ how_many_added pairs old) × (new ≡ all_placed (take count pairs) old)
+  RefusedLeaves (AddAll pairs) old new = (count : ℕ) × (count < length pairs) × (count ≤ how_many_added pairs old) × (new ≡ entries_with_all (take count pairs) old)
   RefusedLeaves ListAll old new = (kind ≡ Hash) × (new ≡ old)
   RefusedLeaves _ old new = ⊥
 

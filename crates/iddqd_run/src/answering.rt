@@ -1,6 +1,6 @@
 //! The replies to a text, line by line, over a map of either kind.
 ghost use Rattle.std.specs.Prelude.{◌≡◌, [], IfOk};
-ghost use Rattle.idtable_lines.specs.Asked.{request_asked};
+ghost use Rattle.idtable_lines.specs.Parsed.{request_asked};
 ghost use Rattle.iddqd_run.specs.Shown.{AnswersAsText, AnswersRequest, RepliesTo};
 
 use crate::by_name::ByName;

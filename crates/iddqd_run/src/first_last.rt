@@ -1,7 +1,7 @@
 //! What a line asks of the whole table or of its ends, and its reply.
 ghost use Rattle.std.specs.Prelude.{◌≡◌, IfOk, option_copied, option_map};
 ghost use Rattle.iddqd_run.specs.Answer.{end_text};
-ghost use Rattle.idtable_lines.specs.Asked.{end_asked};
+ghost use Rattle.idtable_lines.specs.Parsed.{end_asked};
 ghost use Rattle.idtable_lines.specs.Lines.{ListAll, First, Last, PopFirst, PopLast};
 ghost use Rattle.iddqd_run.specs.Shown.{AnswersRequest, Replies, entry_of, refusals_of, reply_text};
 

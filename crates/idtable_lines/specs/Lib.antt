@@ -1,4 +1,4 @@
 pub mod Arguments
-pub mod Asked
+pub mod Parsed
 pub mod Failing
 pub mod Lines

@@ -6,22 +6,39 @@ use Rattle.std.specs.List.{list_all, onto_first, slice_split}
 use Rattle.std.specs.Option.{option_map_or}
 use Rattle.std.specs.Str.Parse.{digits_value}
 
--- a line ends with the byte 10; a last line without it counts; an empty text has none
+-- the bytes of a text that have a meaning of their own
+abbrev pub line_feed : ℕ
+line_feed = 10
+
+abbrev pub space : ℕ
+space = 32
+
+abbrev pub plus_sign : ℕ
+plus_sign = 43
+
+abbrev pub zero_digit : ℕ
+zero_digit = 48
+
+-- how many bytes a name has at most
+abbrev pub longest_name : ℕ
+longest_name = 32
+
+-- a line ends with a line feed; a last line without it counts; an empty text has none
 abbrev pub lines_of : List ℕ → List (List ℕ)
 lines_of [] = []
-lines_of (byte ∷ text) = if byte == 10 then [] ∷ lines_of text else onto_first byte (lines_of text)
+lines_of (byte ∷ text) = if byte == line_feed then [] ∷ lines_of text else onto_first byte (lines_of text)
 
 -- the words of a line, parted by one space each
 abbrev pub words_of : List ℕ → List (List ℕ)
-words_of line = slice_split (λ byte. byte == 32) line
+words_of line = slice_split (λ byte. byte == space) line
 
--- `a` to `z` and `0` to `9`
+-- the bytes `a` to `z`, 97 to 122, and `0` to `9`, 48 to 57
 abbrev pub is_name_byte : ℕ → Bool
 is_name_byte byte = (nat_le 97 byte && nat_le byte 122) || (nat_le 48 byte && nat_le byte 57)
 
--- 1 to 32 such bytes
+-- one such byte or more
 abbrev pub is_name : List ℕ → Bool
-is_name word = nat_lt 0 (length word) && nat_le (length word) 32 && list_all is_name_byte word
+is_name word = nat_lt 0 (length word) && nat_le (length word) longest_name && list_all is_name_byte word
 
 -- the number of 64 bits whose decimal text the word is, which has no leading zero
 abbrev pub value_of : List ℕ → Option ℕ
@@ -29,7 +46,7 @@ value_of word = let n = digits_value 10 word in if bytes_eq word (decimal n) && 
 
 -- the word has no sign in front, and a zero in front only if it is all that there is
 abbrev pub HasOneForm : List ℕ → Type 0
-HasOneForm word = (0 < length word) × (slice_index word 0 ≢ 43) × (slice_index word 0 ≡ 48 → length word ≡ 1)
+HasOneForm word = (0 < length word) × (slice_index word 0 ≢ plus_sign) × (slice_index word 0 ≡ zero_digit → length word ≡ 1)
 
 pub data Request : Type 0 where
   Add : List ℕ → ℕ → Request

@@ -61,9 +61,9 @@ impl Model for Node {
 
     ghost Value = { Subtree };
 
-    ghost use Rattle.iddqd_ord_index.specs.Nodes.{seen, IsNode};
+    ghost use Rattle.iddqd_ord_index.specs.Nodes.{subtree_of, IsNode};
 
-    ghost view = { λ n. seen n };
+    ghost view = { λ n. subtree_of n };
 
     ghost invariant = { λ n. IsNode n };
 

@@ -36,11 +36,11 @@ fn rebalance_at(
 
     // the slots
     ensures slots { InsertsPair j lower upper branches.old slots.old branches.new slots.new }
-    ensures width { IsSameOrOneLess (length slots.new.items) (length slots.old.items) }
+    ensures width { IsSameOrOneLess (length slots.old.items) (length slots.new.items) }
 
     // the unused blocks
     ensures kept { length slots.new.items ≡ length slots.old.items → pool.new ≡ pool.old }
-    ensures gives_back { IsShorter slots.new slots.old → MayGiveBack (lower.height + 1) pool.old pool.new }
+    ensures gives_back { IsShorter slots.old slots.new → MayGiveBack (lower.height + 1) pool.old pool.new }
 {
     let middle = slots.as_slice()[j];
     if lower.width() + upper.width() < MOST_SLOTS {
@@ -77,12 +77,12 @@ pub(super) fn rebalance(
 
     // the slots
     ensures slots { slots_of branches.new slots.new ≡ slots_of branches.old slots.old }
-    ensures width { IsSameOrOneLess (length slots.new.items) (length slots.old.items) }
+    ensures width { IsSameOrOneLess (length slots.old.items) (length slots.new.items) }
 
     // the unused blocks
     ensures kept { length slots.new.items ≡ length slots.old.items → pool.new ≡ pool.old }
-    ensures gives_back { IsShorter slots.new slots.old → MayGiveBack (levels (below branches.old)) pool.old pool.new }
-    ensures short { IsShorter slots.new slots.old → width < LEAST_SLOTS }
+    ensures gives_back { IsShorter slots.old slots.new → MayGiveBack (levels (below branches.old)) pool.old pool.new }
+    ensures short { IsShorter slots.old slots.new → width < LEAST_SLOTS }
 {
     if width >= LEAST_SLOTS {
         return;

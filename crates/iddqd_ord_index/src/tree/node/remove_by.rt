@@ -30,7 +30,7 @@ fn remove_own(slots: &mut Slots, branches: &mut Branches, i: usize, pool: &mut B
     // the slots
     ensures value { result ≡ slice_index slots.old.items i }
     ensures slots { LosesOwn i branches.old slots.old branches.new slots.new }
-    ensures width { IsSameOrOneLess (length slots.new.items) (length slots.old.items) }
+    ensures width { IsSameOrOneLess (length slots.old.items) (length slots.new.items) }
 
     // the unused blocks
     ensures kept { pool.old.count ≤ pool.new.count }

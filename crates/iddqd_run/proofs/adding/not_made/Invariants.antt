@@ -1,5 +1,5 @@
 use Rattle.std.proofs.Common.{◌≡◌, is_some}
-use Rattle.idtable_lines.specs.Asked.{length_behind, pairs_behind}
+use Rattle.idtable_lines.specs.Parsed.{length_behind, pairs_behind}
 use Rattle.idtable_lines.specs.Lines.{pairs_of, words_of}
 use Rattle.iddqd_run.proofs.adding.not_made.Given as goal
 

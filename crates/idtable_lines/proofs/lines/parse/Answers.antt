@@ -1,5 +1,5 @@
 use Rattle.std.proofs.Common.{◌∙◌, sym, ap}
-use Rattle.idtable_lines.specs.Asked.{words_behind}
+use Rattle.idtable_lines.specs.Parsed.{words_behind}
 use Rattle.idtable_lines.specs.Lines.{request_of_words}
 use Rattle.idtable_lines.proofs.FormLemmas.{unknown_word}
 use Rattle.idtable_lines.proofs.lines.parse.Goals as goal

@@ -1,6 +1,6 @@
 use Rattle.std.proofs.Common.{refl}
 use Rattle.idtable_lines.specs.Lines as request
-use Rattle.idtable_lines.specs.Asked.{request_asked}
+use Rattle.idtable_lines.specs.Parsed.{request_asked}
 use Rattle.iddqd_run.specs.declared.entries.LineReply.TheVariants as reply
 use Rattle.iddqd_run.proofs.ReplyLemmas.{written}
 use Rattle.iddqd_run.proofs.table.Table.answer_line.Goals as goal
