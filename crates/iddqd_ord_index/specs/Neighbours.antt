@@ -5,8 +5,8 @@ use Rattle.iddqd_ord_index.specs.Changes.{Stock}
 use Rattle.iddqd_ord_index.specs.Shape.{Subtree, IsDense, IsBranch, least_slots, levels, unused}
 
 -- the slots of both, with one between them
-abbrev pub slots_of_both : Subtree → ℕ → Subtree → List ℕ
-slots_of_both a middle b = a.slots ++ middle ∷ b.slots
+abbrev pub all_slots : Subtree → ℕ → Subtree → List ℕ
+all_slots a middle b = a.slots ++ middle ∷ b.slots
 
 abbrev pub IsAsHigh : Subtree → Subtree → Type 0
 IsAsHigh a b = a.height ≡ b.height

@@ -7,7 +7,7 @@ use Rattle.iddqd_run.specs.Answer as answer
 use Rattle.iddqd.specs.Contents.{Ascends}
 use Rattle.iddqd.specs.Holding.{max_items}
 use Rattle.iddqd.specs.Refusal.{RefusalKind, refusal_kind}
-use Rattle.idtable_lines.specs.Parsed.{parsed_request}
+use Rattle.idtable_lines.specs.Parsed.{request_in}
 use Rattle.idtable_lines.specs.Lines.{Request, AddAll, paired_request, pairs_of, words_of}
 use Rattle.idtable_commands.specs.Step.{MapState}
 use Rattle.idtable_lines.specs.declared.arguments.Kind.{Kind}
@@ -140,7 +140,7 @@ module _ (kind : Kind) (request : Request) where
 
 -- the same, to a line
 abbrev pub RepliesTo : Kind → Line → (old new : List Entry) → (before after : String Global) → ℕ → Type 0
-RepliesTo kind line = Replies kind (parsed_request line)
+RepliesTo kind line = Replies kind (request_in line)
 
 -- the same, to a line that adds the entries of items
 abbrev pub AddsEach : Kind → List Entry → (old new : List Entry) → (before after : String Global) → ℕ → Type 0

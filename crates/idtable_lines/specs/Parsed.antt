@@ -30,16 +30,16 @@ end_asked end.Last = spec.Last
 end_asked end.PopFirst = spec.PopFirst
 end_asked end.PopLast = spec.PopLast
 
-abbrev pub parsed_request : Line → spec.Request
-parsed_request (line.Request r) = request_asked r
-parsed_request (line.AddAll fields) = spec.paired_request (spec.pairs_of (spec.words_of fields.now))
-parsed_request line.List = spec.ListAll
-parsed_request (line.End e) = end_asked e
-parsed_request line.Bad = spec.Bad
+abbrev pub request_in : Line → spec.Request
+request_in (line.Request r) = request_asked r
+request_in (line.AddAll fields) = spec.paired_request (spec.pairs_of (spec.words_of fields.now))
+request_in line.List = spec.ListAll
+request_in (line.End e) = end_asked e
+request_in line.Bad = spec.Bad
 
 -- what a line asks for; nothing if there is none, since the fields follow no form
-abbrev pub parsed_request_if_any : Option Line → spec.Request
-parsed_request_if_any line = option_map_or parsed_request line spec.Bad
+abbrev pub request_if_any : Option Line → spec.Request
+request_if_any line = option_map_or request_in line spec.Bad
 
 -- the words after a word, if anything follows it
 abbrev pub words_behind : Option (Bor (List ℕ)) → List (List ℕ)

@@ -2,7 +2,7 @@
 ghost use Rattle.std.specs.Prelude.{◌≡◌, ◌∷◌, ◌<◌, ◌≤◌, ◌↔◌, length, IfSome, IsTrue};
 ghost use Rattle.std.specs.List.{list_all};
 ghost use Rattle.idtable_lines.specs.Lines.{HasOneForm, alone, forms, is_name, is_name_byte, lines_of, request_by, request_of, value_of, words_of};
-ghost use Rattle.idtable_lines.specs.Parsed.{BeginsWithPair, IsNameIn, ReadsName, ReadsNameAndValue, ReadsValue, parsed_request, parsed_request_if_any, length_behind, words_behind};
+ghost use Rattle.idtable_lines.specs.Parsed.{BeginsWithPair, IsNameIn, ReadsName, ReadsNameAndValue, ReadsValue, request_in, request_if_any, length_behind, words_behind};
 
 /// What a line asks for.
 #[derive(Clone, Copy)]
@@ -97,7 +97,7 @@ pub fn first_line(text: &[u8]) -> (&[u8], &[u8])
 
 /// Returns what the line asks for. Does not allocate.
 pub fn parse(line: &[u8]) -> Line<'_>
-    ensures { parsed_request result ≡ request_of line.now }
+    ensures { request_in result ≡ request_of line.now }
 {
     let (word, fields) = first_word(line);
     let Some(word) = name_in(word) else {
@@ -111,7 +111,7 @@ pub fn parse(line: &[u8]) -> Line<'_>
 
 // What a word and the fields after it ask for, or `None` if they follow no form.
 fn by_word<'a>(word: &str, fields: Option<&'a [u8]>) -> Option<Line<'a>>
-    ensures { parsed_request_if_any result ≡ request_by forms word.now (words_behind fields.entry) }
+    ensures { request_if_any result ≡ request_by forms word.now (words_behind fields.entry) }
 {
     match word {
         "add" => Some(Line::Request(Request::Add(name_and_value(fields)?))),
@@ -136,7 +136,7 @@ fn by_word<'a>(word: &str, fields: Option<&'a [u8]>) -> Option<Line<'a>>
 
 // What a word alone asks for.
 fn alone<'a>(line: Line<'a>, fields: Option<&[u8]>) -> Option<Line<'a>>
-    ensures { parsed_request_if_any result ≡ alone (parsed_request line.entry) (words_behind fields.entry) }
+    ensures { request_if_any result ≡ alone (request_in line.entry) (words_behind fields.entry) }
 {
     match fields {
         None => Some(line),

@@ -1,6 +1,6 @@
 //! Two neighbours of which one is a slot short: both are merged, or one borrows from the other.
 ghost use Rattle.std.specs.Prelude.{◌≡◌, ◌+◌, ◌<◌, ◌≤◌, ◌++◌, length, take, drop, IfSome, IsSome};
-ghost use Rattle.iddqd_ord_index.specs.Neighbours.{slots_of_both, IsAsHigh, IsMerged, IsNarrower, IsPair, IsShifted, IsWider};
+ghost use Rattle.iddqd_ord_index.specs.Neighbours.{all_slots, IsAsHigh, IsMerged, IsNarrower, IsPair, IsShifted, IsWider};
 ghost use Rattle.iddqd_ord_index.specs.Nodes.{below, AreBranches, HasBlock, IsBare};
 ghost use Rattle.iddqd_ord_index.specs.Shape.{IsDense};
 
@@ -76,7 +76,7 @@ impl Node {
         requires more { 0 < upper.old.width }
 
         // afterwards
-        ensures slots { slots_of_both self.old middle upper.old ≡ slots_of_both self.new result upper.new }
+        ensures slots { all_slots self.old middle upper.old ≡ all_slots self.new result upper.new }
         ensures height { IsAsHigh self.new self.old × IsAsHigh upper.new upper.old }
         ensures width { IsWider self.old self.new × IsNarrower upper.old upper.new }
         ensures dense { IsDense self.new × IsDense upper.new }
@@ -94,7 +94,7 @@ impl Node {
         requires more { 0 < self.old.width }
 
         // afterwards
-        ensures slots { slots_of_both self.old middle upper.old ≡ slots_of_both self.new result upper.new }
+        ensures slots { all_slots self.old middle upper.old ≡ all_slots self.new result upper.new }
         ensures height { IsAsHigh self.new self.old × IsAsHigh upper.new upper.old }
         ensures width { IsNarrower self.old self.new × IsWider upper.old upper.new }
         ensures dense { IsDense self.new × IsDense upper.new }
