@@ -6,3 +6,6 @@ pub returns-in_ok-fields-in-addall : goal.returns-in_ok-fields-in-addall
 returns-in_ok-fields-in-addall c =
     let whole = by_pairs_whole c.in_ok-fields-in-addall.field-0.now in
     search (rules, whole)
+
+pub returns-in_ok-name_and_value-in-set : goal.returns-in_ok-name_and_value-in-set
+returns-in_ok-name_and_value-in-set c = search rules
