@@ -1,4 +1,5 @@
 use Rattle.std.proofs.Common.{ℕ, ◌≡◌, ◌+◌, ◌-◌, ◌<◌, Ok, Err, length, take, get_or, refl, subst, ap, sym, ◌∙◌, arith}
+use Rattle.std.proofs.lemmas.Grind.{common_steps}
 use Rattle.std.proofs.lemmas.List.Edits.{length-remove}
 use Rattle.std.specs.List.{All, remove}
 use Rattle.std.specs.declared.cmp.Ordering.TheVariants.{Equal}
@@ -248,3 +249,6 @@ set_count-requires g t c =
     let s : IsPlace (slot_standing g.T.IdOrdItem.key (g.Q.Comparable.compare c.args.query.now) c.args.store.now) c.self.inside.slots.items (Err c.in-Err-place.i) = subst (λ l. IsPlace (slot_standing g.T.IdOrdItem.key (g.Q.Comparable.compare c.args.query.now) c.args.store.now) l (Err c.in-Err-place.i)) c.as_slice.ensures.value c.in-Err-place.ensures.place in
     let b = n.branch c.in-Err-place.i s.0 in
     counted c.self.inside.branches c.in-Some.block c.deref_mut.result.now c.in-Some.is c.deref_mut.ensures.value c.self.invariant.branches c.in-Err-place.i b.0
+
+pub returns-in-Ok-clause-slots : goal.returns-in-Ok-clause-slots
+returns-in-Ok-clause-slots g t c = grind (arith, common_steps)

@@ -1,4 +1,5 @@
-use Rattle.std.proofs.Common.{◌∷◌, ◌++◌, ap, sym, ◌∙◌}
+use Rattle.std.proofs.Common.{◌∷◌, ◌++◌, ap, sym, ◌∙◌, arith}
+use Rattle.std.proofs.lemmas.Grind.{common_steps}
 use Rattle.std.specs.List.{insert}
 use Rattle.iddqd_ord_index.specs.Nodes.{below}
 use Rattle.iddqd_ord_index.specs.Shape.{lists, in_order}
@@ -21,3 +22,9 @@ returns-clause-adds c =
       upper_height = leaf_levels (below c.half.inside.branches) y ∙ sym (leaf_levels (below c.self.inside.branches) z);
       upper_dense = dense_of (below c.half.inside.branches) c.split_slots-middle.new.upper.items (leaf_forked (below c.half.inside.branches) c.split_slots-middle.new.upper.items y);
     }
+
+pub returns-then-len-lt-MOST_SLOTS-clause-dense : goal.returns-then-len-lt-MOST_SLOTS-clause-dense
+returns-then-len-lt-MOST_SLOTS-clause-dense c = grind (arith, common_steps)
+
+pub returns-clause-dense : goal.returns-clause-dense
+returns-clause-dense c = grind (arith, common_steps)

@@ -80,3 +80,27 @@ down-smaller c =
     let ts = below c.node.inside.branches in
     let b = branch_is ts c.node.inside.slots.items c.node.invariant.forked c.branch_at-i.result.0 (branch_at_in ts c.node.inside.slots.items c.down.place c.branch_at-i.result.0 c.branch_at-i.result.1 c.node.invariant.forked c.branch_at-i.ensures) in
     omega (arith, b.height, ap (λ t. t.height) c.get-node.ensures, ap (λ t. t.height) c.node.view_is)
+
+pub count-requires-clause-in_bounds : goal.count-requires-clause-in_bounds
+count-requires-clause-in_bounds c = grind (arith, common_steps)
+
+pub overflow_add-i : goal.overflow_add-i
+overflow_add-i c = grind (arith, common_steps)
+
+pub offset_bounds-as_slice-i : goal.offset_bounds-as_slice-i
+offset_bounds-as_slice-i c = grind (arith, common_steps)
+
+pub offset_bounds-as_slice-i-in-down : goal.offset_bounds-as_slice-i-in-down
+offset_bounds-as_slice-i-in-down c = grind (arith, common_steps)
+
+pub slice_bounds-slots-count : goal.slice_bounds-slots-count
+slice_bounds-slots-count c = grind (arith, common_steps)
+
+pub slice_bounds-slots-start : goal.slice_bounds-slots-start
+slice_bounds-slots-start c = grind (arith, common_steps)
+
+pub behind-leaves-requires-clause-in_bounds : goal.behind-leaves-requires-clause-in_bounds
+behind-leaves-requires-clause-in_bounds c = grind (arith, common_steps)
+
+pub get-node-requires-clause-in_bounds : goal.get-node-requires-clause-in_bounds
+get-node-requires-clause-in_bounds c = grind (arith, common_steps)

@@ -1,4 +1,5 @@
 use Rattle.std.proofs.Common.{◌≡◌, ◌+◌, ◌-◌, ◌<◌, ◌≤◌, length, take, drop, subst, ap, sym, ◌∙◌, arith}
+use Rattle.std.proofs.lemmas.Grind.{common_steps}
 use Rattle.std.proofs.lemmas.List.{length-take-le}
 use Rattle.std.specs.List.{All}
 use Rattle.iddqd_ord_index.specs.Nodes.{below, subtrees}
@@ -89,3 +90,21 @@ down-smaller c =
     let ts = below c.node.inside.branches in
     let b = branch_is ts c.node.inside.slots.items c.node.invariant.forked c.branch_at-i.result.0 (branch_at_in ts c.node.inside.slots.items c.down.place c.branch_at-i.result.0 c.branch_at-i.result.1 c.node.invariant.forked c.branch_at-i.ensures) in
     omega (arith, b.height, ap (λ t. t.height) c.get-node.ensures, ap (λ t. t.height) c.node.view_is)
+
+pub count-requires-clause-in_bounds : goal.count-requires-clause-in_bounds
+count-requires-clause-in_bounds c = grind (arith, common_steps)
+
+pub overflow_add-i : goal.overflow_add-i
+overflow_add-i c = grind (arith, common_steps)
+
+pub offset_bounds-as_slice-i : goal.offset_bounds-as_slice-i
+offset_bounds-as_slice-i c = grind (arith, common_steps)
+
+pub slice_bounds-slots-end-in-down : goal.slice_bounds-slots-end-in-down
+slice_bounds-slots-end-in-down c = grind (arith, common_steps)
+
+pub ahead-leaves-requires-clause-in_bounds : goal.ahead-leaves-requires-clause-in_bounds
+ahead-leaves-requires-clause-in_bounds c = grind (arith, common_steps)
+
+pub get-node-requires-clause-in_bounds : goal.get-node-requires-clause-in_bounds
+get-node-requires-clause-in_bounds c = grind (arith, common_steps)

@@ -70,3 +70,12 @@ returns-clause-levels c = (two c).height
 
 pub returns-clause-slots : goal.returns-clause-slots
 returns-clause-slots c = (two c).list
+
+pub insert-requires-clause-count : goal.insert-requires-clause-count
+insert-requires-clause-count c = grind (arith, common_steps)
+
+pub insert-requires-3-clause-in_bounds : goal.insert-requires-3-clause-in_bounds
+insert-requires-3-clause-in_bounds c = grind (arith, common_steps)
+
+pub insert-requires-3-clause-room : goal.insert-requires-3-clause-room
+insert-requires-3-clause-room c = grind (arith, common_steps)
