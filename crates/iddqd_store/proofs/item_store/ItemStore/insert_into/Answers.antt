@@ -1,4 +1,5 @@
 use Rattle.std.proofs.Common.{◌≡◌, length, set, Some, sym, ap, ◌∙◌, arith}
+use Rattle.std.proofs.lemmas.Grind.{common_steps}
 use Rattle.std.proofs.lemmas.List.{with_items_is, length-map, length-set}
 use Rattle.iddqd_store.specs.Slots.{item_of, items_of}
 use Rattle.iddqd_store.proofs.SlotLemmas.{full_is, next_at_end, next_is_vacant, next_within, IsSound-push, Updates-set}
@@ -33,3 +34,21 @@ returns-clause-updates g c =
     let items = c.fill-self-inside.ensures.items ∙ ap (λ xs. set (items_of xs) slot (Some item)) c.as_mut_slice.ensures.value in
     let same : length ws ≡ c.self.inside.slots.len = omega (arith, sym (length-map ws item_of) ∙ ap length items ∙ length-set (items_of es) slot (Some item) ∙ length-map es item_of) in
     rw (← c.self.view_is, with_items_is c.self.inside.slots ws same) (Updates-set _ _ slot (Some item) (omega (arith, within, length-map es item_of)) items)
+
+pub returns-then-slot-len-clause-updates : goal.returns-then-slot-len-clause-updates
+returns-then-slot-len-clause-updates g c = grind (arith, common_steps)
+
+pub returns-then-slot-len-clause-len : goal.returns-then-slot-len-clause-len
+returns-then-slot-len-clause-len g c = grind (arith, common_steps)
+
+pub returns-then-slot-len-clause-vacant : goal.returns-then-slot-len-clause-vacant
+returns-then-slot-len-clause-vacant g c = grind (arith, common_steps)
+
+pub invariant_of-self-2 : goal.invariant_of-self-2
+invariant_of-self-2 g c = grind (arith, common_steps)
+
+pub returns-clause-len : goal.returns-clause-len
+returns-clause-len g c = grind (arith, common_steps)
+
+pub returns-clause-vacant : goal.returns-clause-vacant
+returns-clause-vacant g c = grind (arith, common_steps)
