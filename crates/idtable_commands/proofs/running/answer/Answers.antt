@@ -7,9 +7,3 @@ returns-in-Some-clause-does g c = search rules
 
 pub returns-in-Remove-clause-does : goal.returns-in-Remove-clause-does
 returns-in-Remove-clause-does g c = search rules
-
-pub returns-in-Visit-clause-does : goal.returns-in-Visit-clause-does
-returns-in-Visit-clause-does g c = search rules
-
-pub returns-in-Clear-clause-does : goal.returns-in-Clear-clause-does
-returns-in-Clear-clause-does g c = search rules

@@ -1,6 +1,0 @@
--- For speed alone: the prover finds these proofs by itself, but later.
-use Rattle.std.proofs.Common.{rules}
-use Rattle.iddqd_run.proofs.entries.AboveKeepsEntry.keeps.Goals as goal
-
-pub returns : goal.returns
-returns c = search rules

@@ -1,6 +1,0 @@
--- For speed alone: the prover finds these proofs by itself, but later.
-use Rattle.std.proofs.Common.{rules}
-use Rattle.test_coarse.proofs.kept.make_kept.Goals as goal
-
-pub returns : goal.returns
-returns g = search rules
