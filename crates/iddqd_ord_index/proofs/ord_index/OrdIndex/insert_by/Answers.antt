@@ -1,4 +1,4 @@
-use Rattle.std.proofs.Common.{◌∙◌, ℕ, Ok, Err, Some, IsTrue, length, refl, sym, ap, subst, arith, option_and_then}
+use Rattle.std.proofs.Common.{◌∙◌, ℕ, Ok, Err, Some, IsTrue, length, refl, sym, ap, subst, arith, rules, option_and_then}
 use Rattle.std.proofs.lemmas.Option.{slice_get-get_or}
 use Rattle.std.specs.List.{Contains, insert}
 use Rattle.std.specs.Option.{option_and_then, OnSome}
@@ -49,6 +49,9 @@ returns-in-Found-clause-found g c =
     let there = place_there key (query g c.args.query.now) (listed_items store slots) c.requires.ascending a.0 p.0 p.1 in
     let read = slice_get-get_or slots a.0 0 a.2.0 ∙ ap Some (sym a.1) in
     sym (there ∙ (get-listed store slots c.requires.occupied a.0 ∙ ap (option_and_then (item_at store)) read))
+
+pub returns-in-Found-clause-listed : goal.returns-in-Found-clause-listed
+returns-in-Found-clause-listed g c = search rules
 
 pub returns-in-Found-clause-steps : goal.returns-in-Found-clause-steps
 returns-in-Found-clause-steps g c = omega (arith, height_bound c.self.inside.root c.self.invariant.dense c.self.invariant.top, ap (λ i. digits (length i.slots)) c.self.view_is, c.in-Found.ensures.steps)
