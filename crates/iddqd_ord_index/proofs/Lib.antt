@@ -3,6 +3,7 @@ pub mod BackLemmas
 pub mod BranchAtLemmas
 pub mod BelowLemmas
 pub mod CellLemmas
+pub mod ChildLemmas
 pub mod CutLemmas
 pub mod DenseLemmas
 pub mod DescentLemmas
@@ -13,7 +14,6 @@ pub mod FoundLemmas
 pub mod HalfLemmas
 pub mod HeightLemmas
 pub mod IndexLemmas
-pub mod InsertByLemmas
 pub mod LeafLemmas
 pub mod ListedLemmas
 pub mod RebalanceLemmas
@@ -23,6 +23,7 @@ pub mod PackedLemmas
 pub mod PairLemmas
 pub mod RemoveLemmas
 pub mod RunLemmas
+pub mod SearchedLemmas
 pub mod SlotLemmas
 pub mod StandingLemmas
 pub mod TierLemmas

@@ -1,21 +1,21 @@
 -- A node of which a branch lost a slot.
-use Rattle.std.proofs.Common.{◌≡◌, ℕ, suc, ◌+◌, ◌-◌, ◌<◌, ◌≤◌, Bool, true, false, List, [], ◌∷◌, ◌++◌, length, take, drop, set, get_or, refl, ap, sym, ◌∙◌, inl, inr, subst, arith, append_assoc, length-set, min, ltb, Some, None}
+use Rattle.std.proofs.Common.{◌≡◌, ℕ, suc, ◌+◌, ◌^◌, ◌-◌, ◌<◌, ◌≤◌, Bool, true, false, List, [], ◌∷◌, ◌++◌, length, take, drop, set, get_or, refl, ap, sym, ◌∙◌, inl, inr, subst, arith, append_assoc, length-set, min, ltb, Some, None}
 use Rattle.std.specs.Bool.{if◌then◌else◌}
 use Rattle.std.specs.List.{remove}
 use Rattle.std.proofs.lemmas.Bool.{cases_lt, ltb-false}
 use Rattle.std.proofs.lemmas.List.{append-nil, take-append-drop, drop_all, drop_more, take-set, drop-set-lt, get_or-set_same, get_or-set_other, length-take-le, map-set}
 use Rattle.std.proofs.lemmas.List.Edits.{length-remove, remove-append_left, remove-append_right}
-use Rattle.iddqd_ord_index.specs.Changes.{Stock}
+use Rattle.iddqd_ord_index.specs.Changes.{GivesBack, Stock}
 use Rattle.iddqd_ord_index.specs.Neighbours.{IsGivenBack, IsNear, IsShort, MayGiveBack}
 use Rattle.iddqd_ord_index.specs.Nodes.{below, AreBranches, counts_of, nodes_of}
 use Rattle.iddqd_ord_index.specs.Shape.{Subtree, behind, in_order, starts, lists, levels, tree, unused, IsBranchAt, IsForked, IsBranch, IsDense}
 use Rattle.iddqd_ord_index.specs.declared.tree.node.Branches.{Branches}
 use Rattle.iddqd_ord_index.specs.declared.tree.node.Node.{Node}
-use Rattle.iddqd_ord_index.proofs.BelowLemmas.{branches_put}
+use Rattle.iddqd_ord_index.proofs.BelowLemmas.{branches_put, length-lists}
 use Rattle.iddqd_ord_index.proofs.BranchAtLemmas.{branch_at_in, branch_at_list, branch_at_fork, branch_is}
 use Rattle.iddqd_ord_index.proofs.DenseLemmas.{branch_some}
 use Rattle.iddqd_ord_index.proofs.EditLemmas.{levels_set}
-use Rattle.iddqd_ord_index.proofs.InOrderLemmas.{pairs, length-pairs, in_order_cut, read_branch, read_own, own_within}
+use Rattle.iddqd_ord_index.proofs.InOrderLemmas.{pairs, length-pairs, in_order_cut, read_branch, read_own, own_within, starts_in_order}
 
 -- a list and its last element
 last_cut : (k : List ℕ) (m : ℕ) → m + 1 ≡ length k → k ≡ remove k m ++ get_or k m 0 ∷ []
@@ -182,6 +182,13 @@ given_or_kept h old new n m le kept given =
       | inr ge ↦ (let e = kept (omega arith) in (omega (arith, ap (λ s. s.count) e), ap (λ s. s.wanted) e, ap (λ s. s.room) e))
     ]
 
+-- the same after a removal below
+pub kept_below : (h : ℕ) (first old new : Stock) (n m : ℕ) → first.count ≤ old.count → (old.wanted ≡ first.wanted) × (old.room ≡ first.room) → m ≤ n → (m ≡ n → new ≡ old) → (m < n → MayGiveBack h old new)
+    → (first.count ≤ new.count) × ((new.wanted ≡ first.wanted) × (new.room ≡ first.room))
+kept_below h first old new n m more same le kept given =
+    let g = given_or_kept h old new n m le kept given in
+    (omega arith, (g.1 ∙ same.0, g.2 ∙ same.1))
+
 -- if one more is given back, after this many that are kept as long as they are wanted, one more is kept
 one_more_back : (old new : Stock) (many : ℕ) → IsGivenBack old new → min many old.wanted ≤ old.count → min (many + 1) old.wanted ≤ new.count
 one_more_back old new many e enough =
@@ -198,3 +205,16 @@ gives_more h first old new low kept wanted owed given =
       | inl lt ↦ omega (arith, one_more_back old new (first.count + (h - 1) - 2) (given.inner lt) (omega arith))
       | inr ge ↦ omega (arith, given.kept)
     ]
+
+-- a node one of whose branches lost a slot, and two branches of which may have been merged, gives back what it owes
+pub gives_back : (self before b : Subtree) (first old new : Stock) (h n m width : ℕ) → before.height + 1 ≡ self.height → 1 ≤ before.height → 5 ≤ before.width → n ≡ self.width → h ≡ self.height → width ≡ b.width
+    → first.count ≤ old.count → old.wanted ≡ first.wanted → GivesBack before b first old → (m < n → width < 5) → (m < n → MayGiveBack h old new) → GivesBack self (record self { width = m }) first new
+gives_back self before b first old new h n m width e low wide same high w kept wanted owed short given falls =
+    let merged : m < n = omega arith in
+    let narrow = short merged in
+    let there = owed (omega arith) in
+    gives_more self.height first old new (omega arith) kept wanted (omega arith) (subst (λ k. MayGiveBack k old new) high (given merged))
+
+-- where the branches of a node that lost a slot start
+pub room_left : (us : List Subtree) (ss xs : List ℕ) (at : ℕ) → length us ≡ length ss + 1 → in_order (lists us) ss ≡ remove xs at → at < length xs → length xs < 2 ^ 32 → starts (lists us) ≤ 2 ^ 32
+room_left us ss xs at fork list lt room = omega (arith, starts_in_order (lists us) ss (length-lists us ∙ fork), ap length list, length-remove xs at lt)

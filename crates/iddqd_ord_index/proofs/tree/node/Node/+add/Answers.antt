@@ -1,13 +1,11 @@
-use Rattle.std.proofs.Common.{◌≡◌, ◌+◌, ◌-◌, Some, ℕ, length, set, get_or, refl, subst, ap, sym, ◌∙◌, arith}
+use Rattle.std.proofs.Common.{◌≡◌, ◌+◌, ◌-◌, Some, ℕ, List, length, set, get_or, refl, subst, ap, ◌∙◌, arith}
 use Rattle.std.proofs.lemmas.Grind.{common_steps}
 use Rattle.std.specs.List.{insert}
-use Rattle.std.proofs.lemmas.List.Edits.{length-insert}
-use Rattle.iddqd_ord_index.specs.Changes.{AddsTo, IsGrown}
+use Rattle.iddqd_ord_index.specs.Changes.{AddsTo}
 use Rattle.iddqd_ord_index.specs.Nodes.{below, AreBranches}
-use Rattle.iddqd_ord_index.specs.Shape.{lists, in_order, tree, unused}
-use Rattle.iddqd_ord_index.proofs.AddLemmas.{IsParted, above, grown, put_parted}
+use Rattle.iddqd_ord_index.specs.Shape.{tree, unused}
+use Rattle.iddqd_ord_index.proofs.AddLemmas.{IsParted, above, put_grown, put_parted}
 use Rattle.iddqd_ord_index.proofs.BranchAtLemmas.{starts_is, inner_levels, inner_of, branch_is, branch_within, rest_within, branch_at_in}
-use Rattle.iddqd_ord_index.proofs.BelowLemmas.{branches_put}
 use Rattle.iddqd_ord_index.proofs.DenseLemmas.{dense_of}
 use Rattle.iddqd_ord_index.proofs.EditLemmas.{IsMade}
 use Rattle.iddqd_ord_index.proofs.tree.node.Node.+add.Goals as goal
@@ -42,25 +40,15 @@ add-requires t c =
       (omega arith, (omega (arith, ap (λ t. length t.slots) s, c.requires.room), omega (arith, b.height, ap (λ t. t.height) s, c.requires.enough))),
     )
 
+-- the branches with the count of one slot more
 made : (t : ℕ) (c : goal.After-put t) → AreBranches c.put.new.self × IsMade (below c.self.inside.branches) (below c.put.new.self) c.self.inside.slots.items (insert c.args.self.now.slots c.args.at c.args.slot)
 made t c =
-    let old = c.self.inside.branches in
-    let ts = below old in
-    let ss = c.self.inside.slots.items in
     let i = c.branch_at-i.result.0 in
-    let rest = c.branch_at-i.result.1 in
-    let f = c.self.invariant.forked in
     let new = c.add.new.self in
-    let v : c.take-node.result ≡ get_or ts i unused = c.take-node.ensures.node in
-    let g = subst (λ t. IsGrown (insert t.slots rest c.args.slot) t.width new) v c.in_default.ensures.adds in
-    let r = grown ts ss c.args.at c.args.slot i rest new f c.branch_at-i.ensures (c.in_default.ensures.height ∙ ap (λ t. t.height) v) c.in_default.ensures.dense g in
-    let m = length-insert (get_or ts i unused).slots rest c.args.slot (rest_within ts ss c.args.at i rest f c.branch_at-i.ensures) in
-    let b = branches_put old c.put.new.self i (c.count-count.result + 1) new c.self.invariant.branches (branch_at_in ts ss c.args.at i rest f c.branch_at-i.ensures)
-    (c.put.ensures.cell ∙ ap (λ l. set l i (Some new)) c.take-node.ensures.cell)
-    (c.put.ensures.counts ∙ ap (λ l. set l i (c.count-count.result + 1)) c.take-node.ensures.counts)
-    (omega (arith, c.count-count.ensures, ap length g.slots)) in
-    let a = ap (λ t. insert t.slots c.args.at c.args.slot) c.self.view_is in
-    (b.0, subst (λ l. IsMade ts (below c.put.new.self) ss l) a (subst (λ us. IsMade ts us ss (insert (in_order (lists ts) ss) c.args.at c.args.slot)) (sym b.1) r))
+    let count : ℕ = c.count-count.result + 1 in
+    put_grown c.self.inside.branches c.put.new.self c.self.inside.slots.items c.args.at c.args.slot i c.branch_at-i.result.1 c.count-count.result new c.take-node.result c.args.self.now
+    c.self.invariant.branches c.self.invariant.forked c.branch_at-i.ensures c.take-node.ensures.node c.in_default.ensures.adds c.in_default.ensures.height c.in_default.ensures.dense
+    (c.put.ensures.cell ∙ ap (λ l. set l i (Some new)) c.take-node.ensures.cell) (c.put.ensures.counts ∙ ap (λ l. set l i count) c.take-node.ensures.counts) c.count-count.ensures c.self.view_is
 
 pub invariant_of-self : goal.invariant_of-self
 invariant_of-self t c = let m = made t c in record { branches = m.0; forked = m.1.forked }
@@ -74,25 +62,26 @@ returns-in_default-clause-height t c = let m = made t c in m.1.height ∙ ap (λ
 pub returns-in_default-clause-dense : goal.returns-in_default-clause-dense
 returns-in_default-clause-dense t c = let m = made t c in dense_of (below c.put.new.self) c.self.inside.slots.items m.1.forked
 
+-- both halves have the slots of the branch, and this one
+halves : (t : ℕ) (c : goal.After-upper-2-1 t) → c.count-count.result + 1 ≡ length c.add.new.self.slots + (length c.in-Some.upper.slots + 1)
+halves t c =
+    above (below c.self.inside.branches) c.self.inside.slots.items c.args.at c.args.slot c.branch_at-i.result.0 c.branch_at-i.result.1 c.in-Some.middle c.count-count.result c.take-node.result c.add.new.self c.in-Some.upper c.self.invariant.forked c.branch_at-i.ensures c.take-node.ensures.node c.in-Some.ensures.adds c.count-count.ensures
+
 pub len-above-requires : goal.len-above-requires
 len-above-requires t c =
     let ts = below c.self.inside.branches in
     let ss = c.self.inside.slots.items in
     let f = c.self.invariant.forked in
     let w = branch_within ts ss f c.branch_at-i.result.0 (branch_at_in ts ss c.args.at c.branch_at-i.result.0 c.branch_at-i.result.1 f c.branch_at-i.ensures) in
-    let a = above ts ss c.args.at c.args.slot c.branch_at-i.result.0 c.branch_at-i.result.1 c.in-Some.middle c.count-count.result c.take-node.result c.add.new.self c.in-Some.upper f c.branch_at-i.ensures c.take-node.ensures.node c.in-Some.ensures.adds c.count-count.ensures in
-    omega (arith, c.count-count.ensures, ap (λ t. length t.slots) c.self.view_is, c.requires.room)
+    omega (arith, halves t c, c.count-count.ensures, ap (λ t. length t.slots) c.self.view_is, c.requires.room)
 
 pub overflow_sub-count : goal.overflow_sub-count
-overflow_sub-count t c =
-    let a = above (below c.self.inside.branches) c.self.inside.slots.items c.args.at c.args.slot c.branch_at-i.result.0 c.branch_at-i.result.1 c.in-Some.middle c.count-count.result c.take-node.result c.add.new.self c.in-Some.upper c.self.invariant.forked c.branch_at-i.ensures c.take-node.ensures.node c.in-Some.ensures.adds c.count-count.ensures in
-    omega (arith, c.len-above.ensures)
+overflow_sub-count t c = omega (arith, halves t c.before.before, c.len-above.ensures)
 
 pub overflow_sub-count-2 : goal.overflow_sub-count-2
-overflow_sub-count-2 t c =
-    let a = above (below c.self.inside.branches) c.self.inside.slots.items c.args.at c.args.slot c.branch_at-i.result.0 c.branch_at-i.result.1 c.in-Some.middle c.count-count.result c.take-node.result c.add.new.self c.in-Some.upper c.self.invariant.forked c.branch_at-i.ensures c.take-node.ensures.node c.in-Some.ensures.adds c.count-count.ensures in
-    omega (arith, c.len-above.ensures)
+overflow_sub-count-2 t c = omega (arith, halves t c.before.before, c.len-above.ensures)
 
+-- the branches with the lower half and its count
 made_parted : (t : ℕ) (c : goal.After-add_branch-arg-3-1 t) → AreBranches c.put-2.new.self × IsParted (below c.self.inside.branches) (below c.put-2.new.self) c.self.inside.slots.items c.branch_at-i.result.0 c.in-Some.middle c.in-Some.upper (insert c.args.self.now.slots c.args.at c.args.slot)
 made_parted t c =
     put_parted c.self.inside.branches c.put-2.new.self c.self.inside.slots.items c.args.at c.args.slot c.branch_at-i.result.0 c.branch_at-i.result.1 c.count-count.result c.len-above.result (c.count-count.result + 1 - c.len-above.result - 1) c.in-Some.middle c.add.new.self c.take-node.result c.in-Some.upper c.args.self.now
@@ -121,23 +110,12 @@ add_branch-requires-clause-count t c = c.len-above.ensures
 
 pub returns-clause-adds : goal.returns-clause-adds
 returns-clause-adds t c =
-    let m = put_parted c.self.inside.branches c.put-2.new.self c.self.inside.slots.items c.args.at c.args.slot c.branch_at-i.result.0 c.branch_at-i.result.1 c.count-count.result c.len-above.result (c.count-count.result + 1 - c.len-above.result - 1) c.in-Some.middle c.add.new.self c.take-node.result c.in-Some.upper c.args.self.now
-    c.self.invariant.branches c.self.invariant.forked c.branch_at-i.ensures c.take-node.ensures.node c.in-Some.ensures.adds c.in-Some.ensures.height c.in-Some.ensures.dense
-    (c.put-2.ensures.cell ∙ ap (λ l. set l c.branch_at-i.result.0 (Some c.add.new.self)) c.take-node.ensures.cell)
-    (c.put-2.ensures.counts ∙ ap (λ l. set l c.branch_at-i.result.0 (c.count-count.result + 1 - c.len-above.result - 1)) c.take-node.ensures.counts)
-    refl c.count-count.ensures c.len-above.ensures c.self.view_is in
-    let w = ap (λ t. t.width) c.self.view_is in
-    subst (λ n. AddsTo (insert c.args.self.now.slots c.args.at c.args.slot) n (tree (below c.add_branch.new.branches) c.add_branch.new.slots.items) c.add_branch.result) w
-    (subst (λ l. AddsTo l (length c.self.inside.slots.items) (tree (below c.add_branch.new.branches) c.add_branch.new.slots.items) c.add_branch.result) m.1.list c.add_branch.ensures.adds)
+    let all : List ℕ = insert c.args.self.now.slots c.args.at c.args.slot in
+    let new = tree (below c.add_branch.new.branches) c.add_branch.new.slots.items in
+    subst (λ n. AddsTo all n new c.add_branch.result) (ap (λ t. t.width) c.self.view_is) (subst (λ l. AddsTo l (length c.self.inside.slots.items) new c.add_branch.result) (made_parted t c.before).1.list c.add_branch.ensures.adds)
 
 pub returns-clause-height : goal.returns-clause-height
-returns-clause-height t c =
-    let m = put_parted c.self.inside.branches c.put-2.new.self c.self.inside.slots.items c.args.at c.args.slot c.branch_at-i.result.0 c.branch_at-i.result.1 c.count-count.result c.len-above.result (c.count-count.result + 1 - c.len-above.result - 1) c.in-Some.middle c.add.new.self c.take-node.result c.in-Some.upper c.args.self.now
-    c.self.invariant.branches c.self.invariant.forked c.branch_at-i.ensures c.take-node.ensures.node c.in-Some.ensures.adds c.in-Some.ensures.height c.in-Some.ensures.dense
-    (c.put-2.ensures.cell ∙ ap (λ l. set l c.branch_at-i.result.0 (Some c.add.new.self)) c.take-node.ensures.cell)
-    (c.put-2.ensures.counts ∙ ap (λ l. set l c.branch_at-i.result.0 (c.count-count.result + 1 - c.len-above.result - 1)) c.take-node.ensures.counts)
-    refl c.count-count.ensures c.len-above.ensures c.self.view_is in
-    c.add_branch.ensures.levels ∙ (m.1.height ∙ ap (λ t. t.height) c.self.view_is)
+returns-clause-height t c = c.add_branch.ensures.levels ∙ ((made_parted t c.before).1.height ∙ ap (λ t. t.height) c.self.view_is)
 
 pub returns-clause-dense : goal.returns-clause-dense
 returns-clause-dense t c = dense_of (below c.add_branch.new.branches) c.add_branch.new.slots.items c.add_branch.ensures.forked
