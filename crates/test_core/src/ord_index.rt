@@ -1,0 +1,415 @@
+//! The ordered index over a store of coins, against a plain list of the years in order.
+ghost use Rattle.std.specs.Prelude.{◌≡◌, ◌≤◌, length};
+
+use crate::checks::check;
+use iddqd_ord_index::{Insertion, OrdIndex};
+use iddqd_store::{IdOrdItem, ItemStore, Steps, TryReserveError};
+use std::alloc::{AllocError, Global};
+use std::marker::Model;
+use std::process::Abort;
+use std::test::Fail;
+
+#[derive(Drop)]
+struct Coin {
+    year: u32,
+}
+
+impl IdOrdItem for Coin {
+    type Key = u32;
+
+    ghost key = { λ coin. coin.year };
+
+    fn key(&self) -> &u32 {
+        &self.year
+    }
+}
+
+// An index of coins in the order of their years. The store keeps those that the index lists no more.
+#[derive(Drop)]
+struct Coins {
+    store: ItemStore<Coin>,
+    index: OrdIndex,
+}
+
+impl Model for Coins {
+    ghost use Rattle.iddqd_ord_index.specs.Listed.{SlotList};
+    ghost use Rattle.test_core.specs.InOrder.{InOrder};
+
+    ghost Value = { SlotList };
+
+    ghost view = { λ coins. coins.index };
+
+    ghost invariant = { λ coins. InOrder ⟦<Coin as IdOrdItem>⟧.key ⟦<u32 as Ord>⟧.cmp coins.store coins.index.slots };
+}
+
+impl Coins {
+    fn new(alloc: Global) -> Coins {
+        Coins {
+            store: ItemStore::new(alloc, 1_000_000),
+            index: OrdIndex::new(alloc),
+        }
+    }
+
+    // Whether a new coin of the year is inserted, if none is listed.
+    fn put(&mut self, year: u32) -> bool {
+        let Err(place) = self.index.find(&self.store, &year, &mut Steps::new()) else {
+            return false;
+        };
+        if self.index.len() == u32::MAX || self.store.try_reserve(1).is_err() {
+            return false;
+        }
+        let Ok(()) = self.index.prepare() else {
+            return false;
+        };
+        let slot = self.store.insert_reserved(Coin { year });
+        self.index.add_prepared(place, slot);
+        true
+    }
+
+    // The same by the year, down the tree once if no block is needed.
+    fn put_by(&mut self, year: u32) -> bool {
+        let Some(slot) = self.store.next_slot() else {
+            return self.put(year);
+        };
+        if self.index.len() == u32::MAX {
+            return false;
+        }
+        match self
+            .index
+            .insert_by(&self.store, &year, slot, &mut Steps::new())
+        {
+            Insertion::Found(_) => false,
+            Insertion::Inserted => {
+                self.store.insert_into(slot, Coin { year });
+                true
+            }
+            Insertion::Unprepared(_) => self.put(year),
+        }
+    }
+
+    // The year of the slot.
+    fn year_of(&self, slot: Option<u32>) -> Option<u32> {
+        Some(self.store.get(slot?)?.year)
+    }
+
+    // The year that `remove` took out.
+    fn take(&mut self, year: u32) -> Option<u32> {
+        let Ok(place) = self.index.find(&self.store, &year, &mut Steps::new()) else {
+            return None;
+        };
+        let slot = self.index.remove(place);
+        self.year_of(Some(slot))
+    }
+
+    // The year that `remove_by` took out.
+    fn take_by(&mut self, year: u32) -> Option<u32> {
+        let slot = self.index.remove_by(&self.store, &year, &mut Steps::new());
+        self.year_of(slot)
+    }
+
+    // The year that `remove` took out at the place.
+    fn take_at(&mut self, at: usize) -> Option<u32> {
+        if at >= self.index.len() as usize {
+            return None;
+        }
+        let place = self.index.place(at);
+        let slot = self.index.remove(place);
+        self.year_of(Some(slot))
+    }
+
+    // The year of the place, by the call that is for one place after the other.
+    fn year_in_turn(&mut self, at: usize) -> Option<u32> {
+        if at >= self.index.len() as usize {
+            return None;
+        }
+        let place = self.index.place(at);
+        let slot = self.index.slot_in_turn(place);
+        self.year_of(Some(slot))
+    }
+
+    // The year that `remove_first` took out.
+    fn take_first(&mut self) -> Option<u32> {
+        let slot = self.index.remove_first();
+        self.year_of(slot)
+    }
+
+    // The year that `remove_last` took out.
+    fn take_last(&mut self) -> Option<u32> {
+        let slot = self.index.remove_last();
+        self.year_of(slot)
+    }
+
+    // Whether a new coin of the year is listed in the place of the one that is listed.
+    fn rename_year(&mut self, year: u32) -> bool {
+        let Ok(place) = self.index.find(&self.store, &year, &mut Steps::new()) else {
+            return false;
+        };
+        if self.store.try_reserve(1).is_err() {
+            return false;
+        }
+        let slot = self.store.insert_reserved(Coin { year });
+        self.index.rename(place, slot);
+        self.index.slot_at(place) == slot
+    }
+
+    // Puts a copy in the place of the index.
+    fn copy(&mut self) -> Result<(), TryReserveError> {
+        self.index = self.index.try_clone()?;
+        Ok(())
+    }
+
+    fn clear(&mut self) {
+        self.index.clear();
+    }
+
+    fn found(&self, year: u32) -> Option<u32> {
+        let slot = self.index.get(&self.store, &year, &mut Steps::new());
+        self.year_of(slot)
+    }
+
+    // The least year above this one.
+    fn after(&self, year: u32) -> Option<u32> {
+        let slot = self.index.after(&self.store, &year, &mut Steps::new());
+        self.year_of(slot)
+    }
+
+    // Whether `find` has this place for the year, as that of its slot or as the one where it belongs.
+    fn is_found_at(&self, year: u32, at: usize, is_there: bool) -> bool {
+        if at > self.index.len() as usize {
+            return false;
+        }
+        let place = self.index.place(at);
+        match self.index.find(&self.store, &year, &mut Steps::new()) {
+            Ok(found) => is_there && found == place,
+            Err(found) => !is_there && found == place,
+        }
+    }
+
+    fn first(&self) -> Option<u32> {
+        self.year_of(self.index.first())
+    }
+
+    fn last(&self) -> Option<u32> {
+        self.year_of(self.index.last())
+    }
+
+    // The years of the slots one by one, by their places.
+    fn has_places_of(&self, years: &[u32]) -> bool {
+        for (at, year) in years.iter().enumerate() {
+            let slot = self.slot_at(at);
+            if slot.is_none() || self.year_of(slot) != Some(*year) {
+                return false;
+            }
+        }
+        self.slot_at(years.len()).is_none()
+    }
+
+    fn slot_at(&self, at: usize) -> Option<u32> {
+        if at < self.index.len() as usize {
+            Some(self.index.slot_at(self.index.place(at)))
+        } else {
+            None
+        }
+    }
+
+    // Whether a walk has these years, and tells how many are to come.
+    fn walks(&self, years: &[u32]) -> bool {
+        let mut walk = self.index.walk();
+        for (at, year) in years.iter().enumerate() {
+            if walk.len() != years.len() - at || self.year_of(walk.next()) != Some(*year) {
+                return false;
+            }
+        }
+        walk.next().is_none()
+    }
+
+    // The same of the walk in the place of the index.
+    fn ends_in(self, years: &[u32]) -> bool {
+        let Coins { store, index } = self;
+        let mut walk = index.into_walk();
+        for (at, year) in years.iter().enumerate() {
+            if walk.len() != years.len() - at || !is_coin(&store, walk.next(), *year) {
+                return false;
+            }
+        }
+        walk.next().is_none()
+    }
+}
+
+fn is_coin(store: &ItemStore<Coin>, slot: Option<u32>, year: u32) -> bool {
+    match slot {
+        Some(slot) => store.get(slot).is_some_and(|coin| coin.year == year),
+        None => false,
+    }
+}
+
+// The place of the first year in the list that is not below this one.
+fn place_in(years: &[u32], year: u32) -> usize
+    ensures { result ≤ length years.now }
+{
+    for (at, there) in years.iter().enumerate() {
+        if *there >= year {
+            return at;
+        }
+    }
+    years.len()
+}
+
+// Each call that changes nothing returns what the list does. The years are below 1,010.
+fn same(rt: &impl Abort, coins: &Coins, years: &[u32]) {
+    check(rt, coins.index.len() as usize == years.len());
+    check(rt, coins.first() == years.first().copied());
+    check(rt, coins.last() == years.last().copied());
+    check(rt, coins.walks(years));
+    check(rt, coins.has_places_of(years));
+    for year in 0..1_010 {
+        same_of(rt, coins, years, year);
+    }
+}
+
+// Each lookup of the year returns what the list does.
+fn same_of(rt: &impl Abort, coins: &Coins, years: &[u32], year: u32) {
+    let at = place_in(years, year);
+    let is_there = years.get(at) == Some(&year);
+    let next = if is_there { at + 1 } else { at };
+    check(rt, coins.found(year) == is_there.then_some(year));
+    check(rt, coins.after(year) == years.get(next).copied());
+    check(rt, coins.is_found_at(year, at, is_there));
+}
+
+// Each year, in steps, is inserted if it is not listed, and removed if it is.
+fn exchange(
+    rt: &impl Abort,
+    coins: &mut Coins,
+    years: &mut Vec<u32>,
+    step: u32,
+) -> Result<(), AllocError> {
+    check(rt, step < 10_000);
+    for n in 1..600 {
+        let year = n * step % 1009;
+        let at = place_in(years.as_slice(), year);
+        if years.as_slice().get(at) == Some(&year) {
+            let taken = if n % 2 == 0 {
+                coins.take(year)
+            } else {
+                coins.take_by(year)
+            };
+            check(rt, taken == Some(years.remove(at)));
+        } else {
+            check(rt, coins.take_by(year).is_none());
+            check(rt, coins.put_by(year) && !coins.put_by(year));
+            years.insert(at, year)?;
+        }
+        if n % 150 == 0 {
+            same(rt, coins, years.as_slice());
+        }
+    }
+    Ok(())
+}
+
+#[test]
+fn coins_come_and_go(rt: HostRuntime) -> Result<(), Fail> {
+    let mut coins = Coins::new(rt.alloc());
+    let mut years = Vec::new(rt.alloc());
+    same(&rt, &coins, years.as_slice());
+    for step in [1, 7, 1008, 11] {
+        exchange(&rt, &mut coins, &mut years, step)?;
+    }
+    check(&rt, coins.ends_in(years.as_slice()));
+    Ok(())
+}
+
+// The even years below a thousand, in an order that mixes them.
+fn fill(rt: &impl Abort, coins: &mut Coins) {
+    for n in 0..500 {
+        check(rt, coins.put(n * 7 % 500 * 2));
+    }
+}
+
+fn even_years(alloc: Global) -> Result<Vec<u32>, AllocError> {
+    let mut years = Vec::new(alloc);
+    for n in 0..500 {
+        years.push(n * 2)?;
+    }
+    Ok(years)
+}
+
+// From either end, in turns.
+fn leave(rt: &impl Abort, coins: &mut Coins, years: &[u32]) {
+    check(rt, years.len() == 500);
+    for n in 0..250 {
+        check(rt, coins.take_first() == Some(years[n]));
+        check(rt, coins.take_last() == Some(years[499 - n]));
+        if n % 60 == 0 {
+            same(rt, coins, &years[n + 1..499 - n]);
+        }
+    }
+    check(rt, coins.take_first().is_none());
+    check(rt, coins.take_last().is_none());
+}
+
+#[test]
+fn coins_leave_at_the_ends(rt: HostRuntime) -> Result<(), Fail> {
+    let mut coins = Coins::new(rt.alloc());
+    fill(&rt, &mut coins);
+    let years = even_years(rt.alloc())?;
+    leave(&rt, &mut coins, years.as_slice());
+    same(&rt, &coins, &[]);
+    Ok(())
+}
+
+// Each coin is another of its year, and a copy lists as much. It is empty once it is cleared, and takes all again.
+#[test]
+fn coins_renamed_copied_and_cleared(rt: HostRuntime) -> Result<(), Fail> {
+    let mut coins = Coins::new(rt.alloc());
+    fill(&rt, &mut coins);
+    let years = even_years(rt.alloc())?;
+    for n in 0..500 {
+        check(
+            &rt,
+            coins.rename_year(n * 2) && !coins.rename_year(n * 2 + 1),
+        );
+    }
+    same(&rt, &coins, years.as_slice());
+    coins.copy()?;
+    same(&rt, &coins, years.as_slice());
+    coins.clear();
+    same(&rt, &coins, &[]);
+    fill(&rt, &mut coins);
+    same(&rt, &coins, years.as_slice());
+    Ok(())
+}
+
+// Every second year goes while the years are read one after the other.
+fn thin(rt: &impl Abort, coins: &mut Coins, years: &mut Vec<u32>) {
+    for at in 0..250 {
+        check(rt, at < years.len());
+        check(rt, coins.year_in_turn(at) == Some(years.as_slice()[at]));
+        check(rt, coins.take_at(at) == Some(years.remove(at)));
+    }
+}
+
+fn read_in_turn(rt: &impl Abort, coins: &mut Coins, years: &[u32]) {
+    for (at, year) in years.iter().enumerate() {
+        check(rt, coins.year_in_turn(at) == Some(*year));
+    }
+    check(rt, coins.year_in_turn(years.len()).is_none());
+}
+
+// What was read before a change is not read after it.
+#[test]
+fn coins_read_in_turn(rt: HostRuntime) -> Result<(), Fail> {
+    let mut coins = Coins::new(rt.alloc());
+    fill(&rt, &mut coins);
+    let mut years = even_years(rt.alloc())?;
+    read_in_turn(&rt, &mut coins, years.as_slice());
+    thin(&rt, &mut coins, &mut years);
+    read_in_turn(&rt, &mut coins, years.as_slice());
+    check(&rt, coins.year_in_turn(0) == Some(2) && coins.put(0));
+    check(&rt, coins.year_in_turn(0) == Some(0));
+    check(&rt, coins.take_by(0) == Some(0));
+    check(&rt, coins.year_in_turn(0) == Some(2));
+    coins.clear();
+    read_in_turn(&rt, &mut coins, &[]);
+    Ok(())
+}
