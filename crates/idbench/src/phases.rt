@@ -35,22 +35,19 @@ pub(crate) struct Times {
     pub(crate) found: u64,
 }
 
+/// Lowers each time to the other one, where that is less.
+pub(crate) fn lower(times: &mut [u64], others: &[u64]) {
+    for (time, other) in times.iter_mut().zip(others) {
+        *time = (*time).min(*other);
+    }
+}
+
 impl Times {
     /// The least times of both, and the same sum.
-    pub(crate) fn least(self, other: Times) -> Times {
-        let mut calls = self.calls;
-        for (time, again) in calls.iter_mut().zip(other.calls) {
-            *time = (*time).min(again);
-        }
-        let mut walks = self.walks;
-        for (time, again) in walks.iter_mut().zip(other.walks) {
-            *time = (*time).min(again);
-        }
-        Times {
-            calls,
-            walks,
-            found: self.found,
-        }
+    pub(crate) fn least(mut self, other: Times) -> Times {
+        lower(&mut self.calls, &other.calls);
+        lower(&mut self.walks, &other.walks);
+        self
     }
 }
 
@@ -64,6 +61,32 @@ fn shuffle(numbers: &mut [u64]) {
         let other = (seed >> 33) as usize % (last + 1);
         numbers.swap(last, other);
     }
+}
+
+// Adds the keys of these numbers, each this much above.
+fn add_keys<K: BenchKey>(
+    keys: &mut Vec<K>,
+    alloc: Global,
+    numbers: &[u64],
+    above: u64,
+) -> Result<(), AllocError> {
+    for number in numbers {
+        keys.push(K::of_number(alloc, number.wrapping_add(above))?)?;
+    }
+    Ok(())
+}
+
+// Adds what is inserted for these numbers, each this much above, from the last number to the first.
+fn add_loads<S: Subject>(
+    loads: &mut Vec<S::Load>,
+    alloc: Global,
+    numbers: &[u64],
+    above: u64,
+) -> Result<(), AllocError> {
+    for number in numbers.iter().rev() {
+        loads.push(S::load(alloc, number.wrapping_add(above))?)?;
+    }
+    Ok(())
 }
 
 impl Plan {
@@ -94,18 +117,14 @@ impl Plan {
         above: u64,
     ) -> Result<Vec<K>, AllocError> {
         let mut keys = Vec::with_capacity(alloc, self.shuffled.len())?;
-        for number in self.shuffled.as_slice() {
-            keys.push(K::of_number(alloc, number.wrapping_add(above))?)?;
-        }
+        add_keys(&mut keys, alloc, self.shuffled(), above)?;
         Ok(keys)
     }
 
     // What is inserted for these numbers, each this much above, in another order.
     fn loads<S: Subject>(&self, alloc: Global, above: u64) -> Result<Vec<S::Load>, AllocError> {
         let mut loads = Vec::with_capacity(alloc, self.shuffled.len())?;
-        for number in self.shuffled.as_slice().iter().rev() {
-            loads.push(S::load(alloc, number.wrapping_add(above))?)?;
-        }
+        add_loads::<S>(&mut loads, alloc, self.shuffled(), above)?;
         Ok(loads)
     }
 }

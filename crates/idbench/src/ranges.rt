@@ -1,6 +1,6 @@
 //! What is timed of ordered maps alone: walks from the back, ranges, and positions.
 use crate::items::{BenchKey, Item};
-use crate::phases::{Plan, filled, nanos_since};
+use crate::phases::{Plan, filled, lower, nanos_since};
 use crate::report::write_phases;
 use crate::subjects::Subject;
 use std::alloc::Global;
@@ -166,14 +166,6 @@ fn timed<S: Ranged>(clock: &impl Clock, alloc: Global, plan: &Plan) -> io::Resul
     Ok((nanos, sum.wrapping_add(near).wrapping_add(far)))
 }
 
-fn least(times: [u64; 5], others: [u64; 5]) -> [u64; 5] {
-    let mut both = times;
-    for (time, again) in both.iter_mut().zip(others) {
-        *time = (*time).min(again);
-    }
-    both
-}
-
 /// Times the ordered map and std's with keys of one type, taking turns: whether their sums agree. The times are written
 /// if they are asked for.
 pub(crate) fn compare_ranges<K: BenchKey>(
@@ -187,8 +179,14 @@ pub(crate) fn compare_ranges<K: BenchKey>(
     let mut ours = timed::<Ordered<Item<K>>>(clock, alloc, plan)?;
     let mut std = timed::<BTreeMap<K, Item<K>>>(clock, alloc, plan)?;
     for _ in 1..rounds {
-        ours.0 = least(ours.0, timed::<Ordered<Item<K>>>(clock, alloc, plan)?.0);
-        std.0 = least(std.0, timed::<BTreeMap<K, Item<K>>>(clock, alloc, plan)?.0);
+        lower(
+            &mut ours.0,
+            &timed::<Ordered<Item<K>>>(clock, alloc, plan)?.0,
+        );
+        lower(
+            &mut std.0,
+            &timed::<BTreeMap<K, Item<K>>>(clock, alloc, plan)?.0,
+        );
     }
     if is_told {
         write_phases(out, ("ord", K::name()), size, &RANGES, (&ours.0, &std.0))?;

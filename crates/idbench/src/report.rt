@@ -5,7 +5,7 @@ use std::io::Write;
 
 // Tenths of a nanosecond an operation.
 fn tenths(nanos: u64, size: u64) -> u64 {
-    nanos.saturating_mul(10) / size.max(1)
+    nanos.saturating_mul(10).checked_div(size).unwrap_or(0)
 }
 
 // A character for each tenth of the ratio, 60 at most, and the end of the line.

@@ -358,26 +358,33 @@ fn coins_leave_at_the_ends(rt: HostRuntime) -> Result<(), Fail> {
     Ok(())
 }
 
+// Each coin is another of its year.
+fn rename_all(rt: &impl Abort, coins: &mut Coins) {
+    for n in 0..500 {
+        check(rt, coins.rename_year(n * 2));
+        check(rt, !coins.rename_year(n * 2 + 1));
+    }
+}
+
 // Each coin is another of its year, and a copy lists as much. It is empty once it is cleared, and takes all again.
+fn rename_copy_and_clear(rt: &impl Abort, coins: &mut Coins, years: &[u32]) -> Result<(), Fail> {
+    rename_all(rt, coins);
+    same(rt, coins, years);
+    coins.copy()?;
+    same(rt, coins, years);
+    coins.clear();
+    same(rt, coins, &[]);
+    fill(rt, coins);
+    same(rt, coins, years);
+    Ok(())
+}
+
 #[test]
 fn coins_renamed_copied_and_cleared(rt: HostRuntime) -> Result<(), Fail> {
+    let years = even_years(rt.alloc())?;
     let mut coins = Coins::new(rt.alloc());
     fill(&rt, &mut coins);
-    let years = even_years(rt.alloc())?;
-    for n in 0..500 {
-        check(
-            &rt,
-            coins.rename_year(n * 2) && !coins.rename_year(n * 2 + 1),
-        );
-    }
-    same(&rt, &coins, years.as_slice());
-    coins.copy()?;
-    same(&rt, &coins, years.as_slice());
-    coins.clear();
-    same(&rt, &coins, &[]);
-    fill(&rt, &mut coins);
-    same(&rt, &coins, years.as_slice());
-    Ok(())
+    rename_copy_and_clear(&rt, &mut coins, years.as_slice())
 }
 
 // Every second year goes while the years are read one after the other.
@@ -389,11 +396,15 @@ fn thin(rt: &impl Abort, coins: &mut Coins, years: &mut Vec<u32>) {
     }
 }
 
+fn is_in_turn(coins: &mut Coins, at: usize, year: Option<u32>) -> bool {
+    coins.year_in_turn(at) == year
+}
+
 fn read_in_turn(rt: &impl Abort, coins: &mut Coins, years: &[u32]) {
     for (at, year) in years.iter().enumerate() {
-        check(rt, coins.year_in_turn(at) == Some(*year));
+        check(rt, is_in_turn(coins, at, Some(*year)));
     }
-    check(rt, coins.year_in_turn(years.len()).is_none());
+    check(rt, is_in_turn(coins, years.len(), None));
 }
 
 // What was read before a change is not read after it.

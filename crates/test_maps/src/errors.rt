@@ -13,6 +13,19 @@ fn error_texts(rt: HostRuntime) -> Result<(), Fail> {
     let text = "new item: 5 conflicts with existing: [5]";
     let duplicate = DuplicateItem::internal_new(5, Few::One(5));
     check(&rt, duplicate.to_string(alloc)?.as_str() == text);
+    let full = TryReserveError::capacity_overflow();
+    check(&rt, full.to_string(alloc)?.as_str() == "capacity overflow");
+    let no_memory = TryReserveError::alloc_error();
+    check(
+        &rt,
+        no_memory.to_string(alloc)?.as_str() == "memory allocation failed",
+    );
+    Ok(())
+}
+
+// A duplicate that is owned shows clones of the items that were lent.
+#[test]
+fn owned_duplicates(rt: HostRuntime) -> Result<(), Fail> {
     let there = 5;
     let Ok(owned) = DuplicateItem::internal_new(5, Few::One(&there)).into_owned() else {
         return Err(Fail::from("no memory for a number"));
@@ -20,17 +33,6 @@ fn error_texts(rt: HostRuntime) -> Result<(), Fail> {
     check(&rt, *owned.new_item() == 5);
     check(&rt, owned.duplicates().len() == 1);
     check(&rt, owned.duplicates().get(0).copied() == Some(5));
-    let full = TryReserveError::capacity_overflow();
-    let no_memory = TryReserveError::alloc_error();
-    check(&rt, full.to_string(alloc)?.as_str() == "capacity overflow");
-    check(
-        &rt,
-        no_memory.to_string(alloc)?.as_str() == "memory allocation failed",
-    );
-    check(
-        &rt,
-        full.is_capacity_overflow() && !no_memory.is_capacity_overflow(),
-    );
     Ok(())
 }
 
@@ -58,6 +60,8 @@ fn kinds_differ(rt: HostRuntime) {
     let no_memory = TryReserveError::alloc_error();
     check(&rt, full != no_memory && no_memory != full);
     check(&rt, full == full && no_memory == no_memory);
+    check(&rt, full.is_capacity_overflow());
+    check(&rt, !no_memory.is_capacity_overflow());
 }
 
 // As derived: the names of the fields, each with its value.

@@ -95,7 +95,42 @@ fn most_of(bound: Bound<&u32>, count: u32) -> u32 {
     }
 }
 
-// Whether the range between the bounds is that of the plain list, and so are its first and last item.
+// Whether these are the items between the bounds, and are counted within the greatest number of comparisons.
+fn has_between(
+    map: &Ordered<Numbered>,
+    count: u32,
+    (low, high): (Bound<&u32>, Bound<&u32>),
+    items: &[Numbered],
+) -> bool {
+    let (number, steps) = map.count_between((low, high));
+    map.has_between((low, high), items)
+        && number == items.len()
+        && steps <= most_of(low, count).wrapping_add(most_of(high, count))
+}
+
+// Whether the first item from the bound on is that of the plain list.
+fn has_lower_bound(
+    alloc: Global,
+    map: &Ordered<Numbered>,
+    count: u32,
+    low: Bound<&u32>,
+) -> Result<bool, AllocError> {
+    let from = listed(alloc, count, low, Bound::Unbounded)?;
+    Ok(map.lower_bound(low) == from.as_slice().first())
+}
+
+// Whether the last item before the bound is that of the plain list.
+fn has_upper_bound(
+    alloc: Global,
+    map: &Ordered<Numbered>,
+    count: u32,
+    high: Bound<&u32>,
+) -> Result<bool, AllocError> {
+    let to = listed(alloc, count, Bound::Unbounded, high)?;
+    Ok(map.upper_bound(high) == to.as_slice().last())
+}
+
+// Whether the range between the bounds is that of the plain list, and so are the items at either bound.
 fn is_range(
     alloc: Global,
     map: &Ordered<Numbered>,
@@ -103,17 +138,10 @@ fn is_range(
     low: Bound<&u32>,
     high: Bound<&u32>,
 ) -> Result<bool, AllocError> {
+    let has_ends = has_lower_bound(alloc, map, count, low)?
+        && has_upper_bound(alloc, map, count, high)?;
     let items = listed(alloc, count, low, high)?;
-    let from = listed(alloc, count, low, Bound::Unbounded)?;
-    let to = listed(alloc, count, Bound::Unbounded, high)?;
-    let (number, steps) = map.count_between((low, high));
-    Ok(
-        map.has_between((low, high), items.as_slice())
-            && number == items.len()
-            && steps <= most_of(low, count).wrapping_add(most_of(high, count))
-            && map.lower_bound(low) == from.as_slice().first()
-            && map.upper_bound(high) == to.as_slice().last(),
-    )
+    Ok(has_ends && has_between(map, count, (low, high), items.as_slice()))
 }
 
 // Whether that holds of both numbers with bounds of each kind.
@@ -335,47 +363,58 @@ fn count_texts(map: &Ordered<Titled>, low: Bound<&Text<'_>>, high: Bound<&Text<'
     map.count_between((low, high)).0
 }
 
+// Fills the map with four items.
+fn put_titles(rt: &impl Abort, alloc: Global, map: &mut Ordered<Titled>) -> Result<(), AllocError> {
+    for (name, value) in [("pear", 4), ("apple", 1), ("fig", 2), ("melon", 3)] {
+        check(rt, map.is_put(titled(alloc, name, value)?));
+    }
+    Ok(())
+}
+
+fn are_counted(rt: &impl Abort, map: &Ordered<Titled>, low: &Text<'_>, high: &Text<'_>) {
+    check(
+        rt,
+        count_texts(map, Bound::Included(low), Bound::Included(high)) == 2,
+    );
+    check(
+        rt,
+        count_texts(map, Bound::Included(low), Bound::Excluded(high)) == 1,
+    );
+    check(
+        rt,
+        count_texts(map, Bound::Excluded(high), Bound::Unbounded) == 1,
+    );
+    check(
+        rt,
+        count_texts(map, Bound::Included(high), Bound::Included(low)) == 0,
+    );
+}
+
+fn value_of(item: Option<&Titled>) -> Option<u32> {
+    Some(item?.value)
+}
+
+fn are_found(rt: &impl Abort, map: &Ordered<Titled>, low: &Text<'_>, high: &Text<'_>) {
+    check(
+        rt,
+        value_of(map.lower_bound(Bound::Included(low))) == Some(2),
+    );
+    check(
+        rt,
+        value_of(map.upper_bound(Bound::Excluded(high))) == Some(2),
+    );
+    check(rt, map.index_of(high).0 == Ok(2));
+    check(rt, map.index_of(&Text("n")).0 == Err(3));
+}
+
 // Texts as bounds, of which none need be a key.
 #[test]
 fn ranges_of_texts(rt: HostRuntime) -> Result<(), Fail> {
     let alloc = rt.alloc();
     let mut map = in_order(alloc);
-    for (name, value) in [("pear", 4), ("apple", 1), ("fig", 2), ("melon", 3)] {
-        check(&rt, map.is_put(titled(alloc, name, value)?));
-    }
-    let (low, high) = (Text("b"), Text("melon"));
-    check(
-        &rt,
-        count_texts(&map, Bound::Included(&low), Bound::Included(&high)) == 2,
-    );
-    check(
-        &rt,
-        count_texts(&map, Bound::Included(&low), Bound::Excluded(&high)) == 1,
-    );
-    check(
-        &rt,
-        count_texts(&map, Bound::Excluded(&high), Bound::Unbounded) == 1,
-    );
-    check(
-        &rt,
-        count_texts(&map, Bound::Included(&high), Bound::Included(&low)) == 0,
-    );
-    check(
-        &rt,
-        map.lower_bound(Bound::Included(&low))
-            .map(|item| item.value)
-            == Some(2),
-    );
-    check(
-        &rt,
-        map.upper_bound(Bound::Excluded(&high))
-            .map(|item| item.value)
-            == Some(2),
-    );
-    check(
-        &rt,
-        map.index_of(&high).0 == Ok(2) && map.index_of(&Text("n")).0 == Err(3),
-    );
+    put_titles(&rt, alloc, &mut map)?;
+    are_counted(&rt, &map, &Text("b"), &Text("melon"));
+    are_found(&rt, &map, &Text("b"), &Text("melon"));
     Ok(())
 }
 

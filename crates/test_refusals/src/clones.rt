@@ -26,8 +26,8 @@ fn row_of_clone<M: AskedByKey<Item = Numbered, Key = u32> + AskedForRoom>(
     }
 }
 
-fn clone_in_order(alloc: Global, mut map: Ordered<Numbered>) -> Result<&'static str, Fail> {
-    fill(&mut map, 4)?;
+fn clone_in_order(alloc: Global, map: &mut Ordered<Numbered>) -> Result<&'static str, Fail> {
+    fill(map, 4)?;
     arm(alloc);
     let copy = map.copied();
     let is_met = is_met(alloc);
@@ -35,11 +35,11 @@ fn clone_in_order(alloc: Global, mut map: Ordered<Numbered>) -> Result<&'static 
         Ok(copy) => Ok(copy == *map.map()),
         Err(error) => Err(error),
     };
-    row_of_clone(&map, is_equal, is_met)
+    row_of_clone(map, is_equal, is_met)
 }
 
-fn clone_by_hash(alloc: Global, mut map: Hashed<Numbered>) -> Result<&'static str, Fail> {
-    fill(&mut map, 4)?;
+fn clone_by_hash(alloc: Global, map: &mut Hashed<Numbered>) -> Result<&'static str, Fail> {
+    fill(map, 4)?;
     arm(alloc);
     let copy = map.copied();
     let is_met = is_met(alloc);
@@ -47,19 +47,19 @@ fn clone_by_hash(alloc: Global, mut map: Hashed<Numbered>) -> Result<&'static st
         Ok(copy) => Ok(map.map().eq(&copy)),
         Err(error) => Err(error),
     };
-    row_of_clone(&map, is_equal, is_met)
+    row_of_clone(map, is_equal, is_met)
 }
 
 #[test]
 fn clone(rt: HostRuntime) -> Result<(), Fail> {
-    let map = in_order(rt.alloc());
-    tell(&rt, clone_in_order(rt.alloc(), map))
+    let mut map = in_order(rt.alloc());
+    tell(&rt, clone_in_order(rt.alloc(), &mut map))
 }
 
 #[test]
 fn hash_clone(rt: HostRuntime) -> Result<(), Fail> {
-    let map = by_hash(rt.alloc());
-    tell(&rt, clone_by_hash(rt.alloc(), map))
+    let mut map = by_hash(rt.alloc());
+    tell(&rt, clone_by_hash(rt.alloc(), &mut map))
 }
 
 // What an item shows that has memory of its own.
@@ -109,7 +109,8 @@ fn row_of_kept<M: AskedByKey<Item = Kept, Key = u32> + AskedForRoom + Drop>(
     copy: Result<M, TryReserveError>,
 ) -> Result<&'static str, Fail> {
     let is_met = is_met(alloc);
-    if !is_copy(copy, is_met) || !holds_kept(map) || has_leaked(alloc) {
+    let is_right = is_copy(copy, is_met);
+    if !is_right || !holds_kept(map) || has_leaked(alloc) {
         return Err(Fail::from("the copy differs, was refused for nothing, or holds memory on"));
     }
     Ok(if is_met { "nothing_made" } else { "cloned" })

@@ -181,6 +181,19 @@ fn row_of(rows: &[Row], replies: &[Reply<Kept>]) -> Option<&'static str> {
     None
 }
 
+// Whether each command has the reply of the row without a refusal.
+fn is_answered<M: Commanded<Kept, u32>>(
+    alloc: Global,
+    map: &mut M,
+    commands: Vec<Command<Kept, u32, Untouched>>,
+    rows: &[Row],
+) -> Result<bool, Fail> {
+    let Ok(replies) = map.run(alloc, commands) else {
+        return Err(Fail::from("no memory for the replies"));
+    };
+    Ok(row_of(rows, replies.as_slice()) == Some("answered"))
+}
+
 // Runs the commands on a map with a request refused: the row that came, and whether a request was refused. Commands that come back
 // are run again. In the end the map has as many items as before.
 fn swept_run<M: AskedByKey<Item = Kept, Key = u32> + Commanded<Kept, u32>>(
@@ -200,10 +213,7 @@ fn swept_run<M: AskedByKey<Item = Kept, Key = u32> + Commanded<Kept, u32>>(
         },
         Err(stop) => {
             let none_ran = is_met && map.len() == others;
-            let again = map
-                .run(alloc, stop.commands)
-                .map_err(|_| "no memory for the replies")?;
-            if none_ran && row_of(rows, again.as_slice()) == Some("answered") {
+            if is_answered(alloc, map, stop.commands, rows)? && none_ran {
                 return Ok(("commands_back", true));
             }
             Err(Fail::from("the commands did not come back whole"))
@@ -232,10 +242,11 @@ fn bulk_run_by<M: AskedByKey<Item = Kept, Key = u32> + Commanded<Kept, u32>>(
     map: &mut M,
 ) -> Result<&'static str, Fail> {
     let rows = bulk_rows_beside(map.len());
-    match swept_run(alloc, map, bulk_commands(alloc)?, &rows)? {
-        ("answered", true) => Ok("shrunk_without"),
-        seen => word(seen),
+    let (row, is_met) = swept_run(alloc, map, bulk_commands(alloc)?, &rows)?;
+    if row == "answered" && is_met {
+        return Ok("shrunk_without");
     }
+    word((row, is_met))
 }
 
 #[test]

@@ -60,15 +60,18 @@ impl<T: IdOrdItem + Copy + Drop> Plain for Ordered<T> {
     }
 
     fn spend(self, key: &T::Key) -> bool {
-        spend_in_order(self.map, key)
+        let mut map = self.map;
+        spend_in_order(&mut map, key)
     }
 
     fn enter(self, key: &T::Key) -> bool {
-        enter_in_order(self.map, key)
+        let mut map = self.map;
+        enter_in_order(&mut map, key)
     }
 
     fn use_entry(self, item: T) -> bool {
-        use_in_order(self.map, item)
+        let mut map = self.map;
+        use_in_order(&mut map, item)
     }
 }
 
@@ -95,20 +98,23 @@ impl<T: IdHashItem + Copy + Drop, S: BuildHasher + Drop> Plain for Hashed<T, S> 
     }
 
     fn spend(self, key: &T::Key) -> bool {
-        spend_by_hash(self.map, key)
+        let mut map = self.map;
+        spend_by_hash(&mut map, key)
     }
 
     fn enter(self, key: &T::Key) -> bool {
-        enter_by_hash(self.map, key)
+        let mut map = self.map;
+        enter_by_hash(&mut map, key)
     }
 
     fn use_entry(self, item: T) -> bool {
-        use_by_hash(self.map, item)
+        let mut map = self.map;
+        use_by_hash(&mut map, item)
     }
 }
 
-fn spend_in_order<T: IdOrdItem + Drop>(mut map: IdOrdMap<T>, key: &T::Key) -> bool
-    requires keyed { Ascends T.key T.Key.cmp map.items }
+fn spend_in_order<T: IdOrdItem>(map: &mut IdOrdMap<T>, key: &T::Key) -> bool
+    requires keyed { Ascends T.key T.Key.cmp map.old.items }
 {
     match map.get_mut(key) {
         Some(lent) => {
@@ -119,8 +125,8 @@ fn spend_in_order<T: IdOrdItem + Drop>(mut map: IdOrdMap<T>, key: &T::Key) -> bo
     }
 }
 
-fn enter_in_order<T: IdOrdItem + Drop>(mut map: IdOrdMap<T>, key: &T::Key) -> bool
-    requires keyed { Ascends T.key T.Key.cmp map.items }
+fn enter_in_order<T: IdOrdItem>(map: &mut IdOrdMap<T>, key: &T::Key) -> bool
+    requires keyed { Ascends T.key T.Key.cmp map.old.items }
 {
     match map.entry(key) {
         id_ord_map::Entry::Occupied(_) => true,
@@ -128,8 +134,8 @@ fn enter_in_order<T: IdOrdItem + Drop>(mut map: IdOrdMap<T>, key: &T::Key) -> bo
     }
 }
 
-fn use_in_order<T: IdOrdItem + Copy + Drop>(mut map: IdOrdMap<T>, item: T) -> bool
-    requires keyed { Ascends T.key T.Key.cmp map.items }
+fn use_in_order<T: IdOrdItem + Copy + Drop>(map: &mut IdOrdMap<T>, item: T) -> bool
+    requires keyed { Ascends T.key T.Key.cmp map.old.items }
 {
     match map.entry(item.key()) {
         id_ord_map::Entry::Occupied(mut entry) => {
@@ -147,11 +153,8 @@ fn use_in_order<T: IdOrdItem + Copy + Drop>(mut map: IdOrdMap<T>, item: T) -> bo
     }
 }
 
-fn spend_by_hash<T: IdHashItem + Drop, S: BuildHasher + Drop>(
-    mut map: IdHashMap<T, S>,
-    key: &T::Key,
-) -> bool
-    requires keyed { ⟦<IdHashMap<T, S> as Keyed>⟧.keyed map }
+fn spend_by_hash<T: IdHashItem, S: BuildHasher>(map: &mut IdHashMap<T, S>, key: &T::Key) -> bool
+    requires keyed { ⟦<IdHashMap<T, S> as Keyed>⟧.keyed map.old }
 {
     match map.get_mut(key) {
         Some(lent) => {
@@ -162,11 +165,8 @@ fn spend_by_hash<T: IdHashItem + Drop, S: BuildHasher + Drop>(
     }
 }
 
-fn enter_by_hash<T: IdHashItem + Drop, S: BuildHasher + Drop>(
-    mut map: IdHashMap<T, S>,
-    key: &T::Key,
-) -> bool
-    requires keyed { ⟦<IdHashMap<T, S> as Keyed>⟧.keyed map }
+fn enter_by_hash<T: IdHashItem, S: BuildHasher>(map: &mut IdHashMap<T, S>, key: &T::Key) -> bool
+    requires keyed { ⟦<IdHashMap<T, S> as Keyed>⟧.keyed map.old }
 {
     match map.entry(key) {
         id_hash_map::Entry::Occupied(_) => true,
@@ -174,11 +174,11 @@ fn enter_by_hash<T: IdHashItem + Drop, S: BuildHasher + Drop>(
     }
 }
 
-fn use_by_hash<T: IdHashItem + Copy + Drop, S: BuildHasher + Drop>(
-    mut map: IdHashMap<T, S>,
+fn use_by_hash<T: IdHashItem + Copy + Drop, S: BuildHasher>(
+    map: &mut IdHashMap<T, S>,
     item: T,
 ) -> bool
-    requires keyed { ⟦<IdHashMap<T, S> as Keyed>⟧.keyed map }
+    requires keyed { ⟦<IdHashMap<T, S> as Keyed>⟧.keyed map.old }
 {
     match map.entry(item.key()) {
         id_hash_map::Entry::Occupied(mut entry) => {
