@@ -107,6 +107,21 @@ fn measure_all<K: BenchKey>(alloc: Global, out: &mut impl Write, plan: &Plan) ->
     measure::<BTreeMap<K, Item<K>>>(alloc, out, plan, "BTreeMap")
 }
 
+// Times both kinds of map with the numbers of the plan: whether all sums agree.
+fn time_size(
+    clock: &impl Clock,
+    alloc: Global,
+    out: &mut impl Write,
+    plan: (&Plan, u64, u32),
+    is_told: bool,
+) -> io::Result<bool> {
+    let by_number = compare::<u64>(clock, alloc, out, plan, is_told)?;
+    let by_text = compare::<String>(clock, alloc, out, plan, is_told)?;
+    let of_numbers = compare_ranges::<u64>(clock, alloc, out, plan, is_told)?;
+    let of_texts = compare_ranges::<String>(clock, alloc, out, plan, is_told)?;
+    Ok(by_number && by_text && of_numbers && of_texts)
+}
+
 // Times both kinds of map at each size: whether all sums agree.
 fn time_all<R: Clock>(
     rt: &R,
@@ -118,11 +133,7 @@ fn time_all<R: Clock>(
     let mut do_agree = true;
     for (size, rounds) in sizes {
         let plan = Plan::new(alloc, *size)?;
-        do_agree = compare::<u64>(rt, alloc, out, (&plan, *size, *rounds), is_told)? && do_agree;
-        do_agree = compare::<String>(rt, alloc, out, (&plan, *size, *rounds), is_told)? && do_agree;
-        let plan = (&plan, *size, *rounds);
-        do_agree = compare_ranges::<u64>(rt, alloc, out, plan, is_told)? && do_agree;
-        do_agree = compare_ranges::<String>(rt, alloc, out, plan, is_told)? && do_agree;
+        do_agree &= time_size(rt, alloc, out, (&plan, *size, *rounds), is_told)?;
     }
     Ok(do_agree)
 }

@@ -186,12 +186,10 @@ fn put_reserved<S: Subject>(
     alloc: Global,
     loads: Vec<S::Load>,
 ) -> io::Result<(u64, u64)> {
-    let Some(mut map) = S::with_room(alloc, loads.len()) else {
-        return Ok((0, 0));
-    };
-    let start = Instant::now(clock)?;
-    let count = put_all(&mut map, loads);
-    Ok((nanos_since(clock, start)?, count))
+    match S::with_room(alloc, loads.len()) {
+        Some(mut map) => put_in(clock, &mut map, loads),
+        None => Ok((0, 0)),
+    }
 }
 
 // The nanoseconds of lookups of all keys, and the sum of the values that are found.
@@ -327,25 +325,34 @@ fn pop_all<S: Subject>(map: &mut S, size: usize) -> u64 {
 }
 
 // The nanoseconds of the insertions of items that ascend, those of their removals from the front, and the sum of what
-// was removed. All are 0 for a map without an order.
-fn in_ascent<S: Subject>(
+// was removed.
+fn put_and_popped<S: Subject>(
     clock: &impl Clock,
-    alloc: Global,
+    map: &mut S,
     loads: Vec<S::Load>,
 ) -> io::Result<(u64, u64, u64)> {
-    if !S::is_ordered() {
-        return Ok((0, 0, 0));
-    }
-    let mut map = S::empty(alloc);
     let size = loads.len();
-    let (ascending, count) = put_in(clock, &mut map, loads)?;
+    let (ascending, count) = put_in(clock, map, loads)?;
     let start = Instant::now(clock)?;
-    let found = pop_all(&mut map, size);
+    let found = pop_all(map, size);
     Ok((
         ascending,
         nanos_since(clock, start)?,
         found.wrapping_add(count),
     ))
+}
+
+// The same over a new map. All are 0 for a map without an order.
+fn in_ascent<S: Subject>(
+    clock: &impl Clock,
+    alloc: Global,
+    loads: Vec<S::Load>,
+) -> io::Result<(u64, u64, u64)> {
+    if S::is_ordered() {
+        put_and_popped(clock, &mut S::empty(alloc), loads)
+    } else {
+        Ok((0, 0, 0))
+    }
 }
 
 // The nanoseconds in which half the items are dropped, and the sum of the values of the others.
@@ -369,16 +376,25 @@ fn timed_walks<S: Subject>(
     Ok((nanos, popped.wrapping_add(kept)))
 }
 
+// Times each call with a key over a new map.
+fn timed_keys<S: Subject>(
+    clock: &impl Clock,
+    alloc: Global,
+    plan: &Plan,
+) -> io::Result<([u64; 8], u64)> {
+    let present: Vec<S::Key> = plan.keys(alloc, 0)?;
+    let absent: Vec<S::Key> = plan.keys(alloc, plan.size)?;
+    let keys = (present.as_slice(), absent.as_slice());
+    timed_calls(clock, alloc, plan, &mut S::empty(alloc), keys)
+}
+
 /// Times each phase over new maps.
 pub(crate) fn timed<S: Subject>(
     clock: &impl Clock,
     alloc: Global,
     plan: &Plan,
 ) -> io::Result<Times> {
-    let present: Vec<S::Key> = plan.keys(alloc, 0)?;
-    let absent: Vec<S::Key> = plan.keys(alloc, plan.size)?;
-    let keys = (present.as_slice(), absent.as_slice());
-    let (calls, found) = timed_calls(clock, alloc, plan, &mut S::empty(alloc), keys)?;
+    let (calls, found) = timed_keys::<S>(clock, alloc, plan)?;
     let (walks, seen) = timed_walks::<S>(clock, alloc, plan)?;
     Ok(Times {
         calls,

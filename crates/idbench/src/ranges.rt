@@ -154,16 +154,26 @@ fn placed<S: Ranged>(
     Ok((get_index, if found.is_some() { index_of } else { 0 }))
 }
 
-// The nanoseconds of each phase over a map with the items of the plan, and the sum of what was found.
-fn timed<S: Ranged>(clock: &impl Clock, alloc: Global, plan: &Plan) -> io::Result<([u64; 5], u64)> {
-    let map: S = filled(alloc, plan)?;
-    let keys: Vec<S::Key> = plan.keys(alloc, 0)?;
-    let (backwards, sum) = walked_back(clock, &map)?;
-    let (range_10, near) = time_ranges(clock, &map, keys.as_slice(), (1, 10))?;
-    let (range_1000, far) = time_ranges(clock, &map, keys.as_slice(), (APART, 1_000))?;
-    let (get_index, index_of) = placed(clock, &map, plan.shuffled(), keys.as_slice())?;
+// The nanoseconds of each phase over the map, which has these keys, and the sum of what was found.
+fn times_of<S: Ranged>(
+    clock: &impl Clock,
+    map: &S,
+    positions: &[u64],
+    keys: &[S::Key],
+) -> io::Result<([u64; 5], u64)> {
+    let (backwards, sum) = walked_back(clock, map)?;
+    let (range_10, near) = time_ranges(clock, map, keys, (1, 10))?;
+    let (range_1000, far) = time_ranges(clock, map, keys, (APART, 1_000))?;
+    let (get_index, index_of) = placed(clock, map, positions, keys)?;
     let nanos = [backwards, range_10, range_1000, get_index, index_of];
     Ok((nanos, sum.wrapping_add(near).wrapping_add(far)))
+}
+
+// The same over a map with the items of the plan.
+fn timed<S: Ranged>(clock: &impl Clock, alloc: Global, plan: &Plan) -> io::Result<([u64; 5], u64)> {
+    let keys: Vec<S::Key> = plan.keys(alloc, 0)?;
+    let map: S = filled(alloc, plan)?;
+    times_of(clock, &map, plan.shuffled(), keys.as_slice())
 }
 
 /// Times the ordered map and std's with keys of one type, taking turns: whether their sums agree. The times are written

@@ -167,7 +167,11 @@ fn copied_in_order<T: IdOrdItem + Copy + Drop>(
 {
     let map: IdOrdMap<T> = IdOrdMap::from_iter(alloc, Hinted::new(items, 0))?;
     compared.set(0);
-    check(rt, map.clone()?.len() == items.len());
+    let length = match map.clone() {
+        Ok(copy) => copy.len(),
+        Err(_) => 0,
+    };
+    check(rt, length == items.len());
     check(rt, since(compared) == 0);
     Ok(())
 }
@@ -182,7 +186,11 @@ fn copied_by_hash<T: IdHashItem + Copy + Drop>(
 {
     let map = by_zero(alloc, items)?;
     compared.set(0);
-    check(rt, map.clone()?.len() == items.len());
+    let length = match map.clone() {
+        Ok(copy) => copy.len(),
+        Err(_) => 0,
+    };
+    check(rt, length == items.len());
     check(rt, since(compared) == 0);
     Ok(())
 }

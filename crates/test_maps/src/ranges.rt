@@ -164,19 +164,29 @@ fn are_ranges_at(
 }
 
 // Whether that holds of each pair of this many numbers, a step apart: of pairs that run backwards too.
-fn are_ranges(alloc: Global, count: u32, points: u32, step: u32) -> Result<bool, Fail> {
-    let Some(map) = evens(alloc, count) else {
-        return Ok(false);
-    };
+fn are_ranges_between(
+    alloc: Global,
+    map: &Ordered<Numbered>,
+    count: u32,
+    (points, step): (u32, u32),
+) -> Result<bool, AllocError> {
     for one in 0..points {
         for other in 0..points {
             let (low, high) = (one.wrapping_mul(step), other.wrapping_mul(step));
-            if !are_ranges_at(alloc, &map, count, low, high)? {
+            if !are_ranges_at(alloc, map, count, low, high)? {
                 return Ok(false);
             }
         }
     }
     Ok(true)
+}
+
+// The same over a map of this many even numbers.
+fn are_ranges(alloc: Global, count: u32, points: u32, step: u32) -> Result<bool, AllocError> {
+    match evens(alloc, count) {
+        Some(map) => are_ranges_between(alloc, &map, count, (points, step)),
+        None => Ok(false),
+    }
 }
 
 #[test]
@@ -212,10 +222,10 @@ fn are_positions(map: &Ordered<Numbered>, count: u32) -> bool {
 }
 
 fn positions_among(rt: &impl Abort, alloc: Global, count: u32) -> Result<(), Fail> {
+    let items = listed(alloc, count, Bound::Unbounded, Bound::Unbounded)?;
     let Some(map) = evens(alloc, count) else {
         return Err(Fail::from("not filled"));
     };
-    let items = listed(alloc, count, Bound::Unbounded, Bound::Unbounded)?;
     check(rt, are_positions(&map, count));
     check(rt, map.has_items(items.as_slice()));
     Ok(())
@@ -274,24 +284,30 @@ fn removals_by_position(rt: HostRuntime) -> Result<(), Fail> {
     Ok(())
 }
 
-// Whether the removal of a range leaves the others, and tells how many it removed.
+// Whether the removal of a range leaves these items, and tells how many of this count it removed.
+fn leaves(
+    map: &mut Ordered<Numbered>,
+    count: u32,
+    bounds: (Bound<&u32>, Bound<&u32>),
+    left: &[Numbered],
+) -> bool {
+    let gone = (count as usize).saturating_sub(left.len());
+    map.remove_range(bounds) == gone && map.has_items(left) && map.map().vacant() as usize == gone
+}
+
+// The same of a range of the even numbers.
 fn is_removed(
     alloc: Global,
     count: u32,
     low: Bound<&u32>,
     high: Bound<&u32>,
 ) -> Result<bool, AllocError> {
-    let Some(mut map) = evens(alloc, count) else {
-        return Ok(false);
-    };
     let mut left = listed(alloc, count, Bound::Unbounded, Bound::Unbounded)?;
     left.retain(|item| !lies(item.number, low, high));
-    let gone = (count as usize).saturating_sub(left.len());
-    Ok(
-        map.remove_range((low, high)) == gone
-            && map.has_items(left.as_slice())
-            && map.map().vacant() as usize == gone,
-    )
+    match evens(alloc, count) {
+        Some(mut map) => Ok(leaves(&mut map, count, (low, high), left.as_slice())),
+        None => Ok(false),
+    }
 }
 
 // Whether that holds of both numbers with bounds of each kind.

@@ -7,7 +7,7 @@ use crate::checks::check;
 use crate::insertions::{BAR, FOO, double};
 use iddqd::{IdHashMap, IdOrdMap};
 use idtable_commands::{Command, KeyedMap, Reply, run};
-use std::alloc::Global;
+use std::alloc::{AllocError, Global};
 use std::process::Abort;
 use std::test::Fail;
 use test_support::items::{Named, Numbered};
@@ -47,16 +47,8 @@ fn odd_of_three<M: AskedByKey<Item = Numbered, Key = u32> + Drop + Visited>(
     visitor
 }
 
-// A visit that writes 0 and returns false removes nothing.
-fn visited_by_command<M: KeyedMap<Item = Numbered, Key = u32> + Drop>(
-    rt: &impl Abort,
-    alloc: Global,
-    mut map: M,
-) -> Result<(), Fail>
-    requires keyed { M.keyed map }
-    requires keeps_keys { VisitsKeepKeys M.key nat_eq changed }
-{
-    let commands = Vec::from_array(
+fn visiting_commands(alloc: Global) -> Result<Vec<Command<Numbered, u32, Change>>, AllocError> {
+    Ok(Vec::from_array(
         alloc,
         [
             Command::InsertUnique(numbered(3, 30)),
@@ -65,10 +57,18 @@ fn visited_by_command<M: KeyedMap<Item = Numbered, Key = u32> + Drop>(
             Command::Visit(1, Change::DenyAll),
             Command::Get(1),
         ],
-    )?;
-    let Ok(replies) = run(alloc, &mut map, commands) else {
-        return Err(Fail::from("the commands came back"));
-    };
+    )?)
+}
+
+// A visit that writes 0 and returns false removes nothing.
+fn visited_by_command<M: KeyedMap<Item = Numbered, Key = u32>>(
+    alloc: Global,
+    map: &mut M,
+    commands: Vec<Command<Numbered, u32, Change>>,
+) -> bool
+    requires keyed { M.keyed map.old }
+    requires keeps_keys { VisitsKeepKeys M.key nat_eq changed }
+{
     let expected = [
         Reply::Inserted,
         Reply::Inserted,
@@ -76,8 +76,10 @@ fn visited_by_command<M: KeyedMap<Item = Numbered, Key = u32> + Drop>(
         Reply::Visited(false),
         Reply::Found(numbered(1, 0)),
     ];
-    check(rt, replies.as_slice() == expected.as_slice());
-    Ok(())
+    match run(alloc, map, commands) {
+        Ok(replies) => replies.as_slice() == expected.as_slice(),
+        Err(_) => false,
+    }
 }
 
 #[test]
@@ -88,18 +90,26 @@ fn visitor(rt: HostRuntime) -> Result<(), Fail> {
         odd_of_three(&rt, in_order(alloc)) == Change::KeepOdd(123),
     );
     let _ = odd_of_three(&rt, by_hash(alloc));
-    visited_by_command(&rt, alloc, IdOrdMap::new(alloc))?;
-    visited_by_command(&rt, alloc, IdHashMap::new(alloc))
+    let commands = visiting_commands(alloc)?;
+    check(
+        &rt,
+        visited_by_command(alloc, &mut IdOrdMap::new(alloc), commands),
+    );
+    let commands = visiting_commands(alloc)?;
+    check(
+        &rt,
+        visited_by_command(alloc, &mut IdHashMap::new(alloc), commands),
+    );
+    Ok(())
 }
 
-// The names that were asked about, once the greater values were kept.
+// The names that were asked about, in the vector that has room for them, once the greater values were kept.
 fn kept_by_value<M: AskedByKey<Item = Named, Key = [u8; 3]> + Walked<Named> + Drop>(
     rt: &impl Abort,
-    alloc: Global,
+    mut asked: Vec<[u8; 3]>,
     mut map: M,
-) -> Result<Vec<[u8; 3]>, Fail> {
+) -> Vec<[u8; 3]> {
     check(rt, map.is_put(FOO) && map.is_put(BAR) && map.is_put(BAZ));
-    let mut asked = Vec::with_capacity(alloc, 3)?;
     map.retain(|item| {
         let _ = asked.push(item.name);
         item.value > 30
@@ -108,18 +118,18 @@ fn kept_by_value<M: AskedByKey<Item = Named, Key = [u8; 3]> + Walked<Named> + Dr
     check(rt, map.get(b"foo").copied() == Some(FOO));
     check(rt, map.get(b"baz").copied() == Some(BAZ));
     check(rt, map.get(b"bar").copied() == None);
-    Ok(asked)
+    asked
 }
 
 #[test]
 fn retain_by_value(rt: HostRuntime) -> Result<(), Fail> {
     let alloc = rt.alloc();
-    let asked = kept_by_value(&rt, alloc, in_order(alloc))?;
+    let asked = kept_by_value(&rt, Vec::with_capacity(alloc, 3)?, in_order(alloc));
     check(
         &rt,
         asked.as_slice() == [*b"bar", *b"baz", *b"foo"].as_slice(),
     );
-    let asked = kept_by_value(&rt, alloc, by_hash(alloc))?;
+    let asked = kept_by_value(&rt, Vec::with_capacity(alloc, 3)?, by_hash(alloc));
     check(&rt, asked.len() == 3);
     Ok(())
 }

@@ -84,6 +84,21 @@ fn lies(name: &Caseless, low: Bound<&Caseless>, high: Bound<&Caseless>) -> bool 
     is_from && is_up_to
 }
 
+// Whether the map has these items between the bounds, and its bounds tell the first and the last of them where the
+// other side is open.
+fn has_range<'a>(
+    map: &Ordered<Coarse>,
+    low: Bound<&'a Caseless>,
+    high: Bound<&'a Caseless>,
+    items: &[Coarse],
+) -> bool {
+    map.has_between((low, high), items)
+        && (low != Bound::Unbounded
+            || is_same(map.upper_bound(high).copied(), items.last().copied()))
+        && (high != Bound::Unbounded
+            || is_same(map.lower_bound(low).copied(), items.first().copied()))
+}
+
 pub(crate) fn range(
     alloc: Global,
     map: &Ordered<Coarse>,
@@ -93,14 +108,7 @@ pub(crate) fn range(
     let (low, high) = (drawn_bound(&one, draws), drawn_bound(&other, draws));
     let mut items = map.walked(alloc)?;
     items.retain(|item| lies(&item.name, low, high));
-    let items = items.as_slice();
-    Ok(
-        map.has_between((low, high), items)
-            && (low != Bound::Unbounded
-                || is_same(map.upper_bound(high).copied(), items.last().copied()))
-            && (high != Bound::Unbounded
-                || is_same(map.lower_bound(low).copied(), items.first().copied())),
-    )
+    Ok(has_range(map, low, high, items.as_slice()))
 }
 
 pub(crate) fn remove_range(
