@@ -1,10 +1,15 @@
 //! The ordered index over a store of coins, against a plain list of the years in order.
 ghost use Rattle.std.specs.Prelude.{◌≡◌, ◌≤◌, length};
+ghost use Rattle.std.specs.Ordering.{nat_cmp};
+ghost use Rattle.std.proofs.Common.{sym};
+ghost use Rattle.iddqd_store.specs.Query.{le_then_less, ge_then_greater};
 
 use crate::checks::check;
 use iddqd_ord_index::{Insertion, OrdIndex};
-use iddqd_store::{IdOrdItem, ItemStore, Steps, TryReserveError};
+use iddqd_store::{Comparable, Equivalent, IdOrdItem, ItemStore, Steps, TryReserveError};
 use std::alloc::{AllocError, Global};
+use std::cell::Cell;
+use std::cmp::Ordering;
 use std::marker::Model;
 use std::process::Abort;
 use std::test::Fail;
@@ -21,6 +26,39 @@ impl IdOrdItem for Coin {
 
     fn key(&self) -> &u32 {
         &self.year
+    }
+}
+
+// A year that counts its comparisons.
+#[derive(Clone, Copy)]
+struct Asked<'a> {
+    year: u32,
+    compared: &'a Cell<u32>,
+}
+
+impl Equivalent<u32> for Asked<'_> {
+    ghost equivalent = { λ q k. ⟦<u32 as Eq>⟧.eq q.year k };
+
+    ghost one_key = { λ q x y. ⟦<u32 as Eq>⟧.laws.congr q.year x y };
+
+    fn equivalent(&self, key: &u32) -> bool {
+        self.compared.set(self.compared.get().saturating_add(1));
+        self.year == *key
+    }
+}
+
+impl Comparable<u32> for Asked<'_> {
+    ghost compare = { λ q k. nat_cmp q.year k };
+
+    ghost equal_where_equivalent = { λ q k. sym (⟦<u32 as Ord>⟧.matches_eq q.year k) };
+
+    ghost less_above = { λ q x y. le_then_less ⟦<u32 as Ord>⟧.total q.year x y };
+
+    ghost greater_below = { λ q x y. ge_then_greater ⟦<u32 as Ord>⟧.total q.year x y };
+
+    fn compare(&self, key: &u32) -> Ordering {
+        self.compared.set(self.compared.get().saturating_add(1));
+        self.year.cmp(key)
     }
 }
 
@@ -171,6 +209,18 @@ impl Coins {
     fn after(&self, year: u32) -> Option<u32> {
         let slot = self.index.after(&self.store, &year, &mut Steps::new());
         self.year_of(slot)
+    }
+
+    // Whether the steps of `after` are the comparisons that it makes.
+    fn counts_after(&self, year: u32) -> bool {
+        let compared = Cell::new(0);
+        let query = Asked {
+            year,
+            compared: &compared,
+        };
+        let mut steps = Steps::new();
+        let _ = self.index.after(&self.store, &query, &mut steps);
+        steps.count() > 0 && steps.count() == compared.get()
     }
 
     // Whether `find` has this place for the year, as that of its slot or as the one where it belongs.
@@ -332,6 +382,15 @@ fn even_years(alloc: Global) -> Result<Vec<u32>, AllocError> {
         years.push(n * 2)?;
     }
     Ok(years)
+}
+
+#[test]
+fn coins_after_counted(rt: HostRuntime) {
+    let mut coins = Coins::new(rt.alloc());
+    fill(&rt, &mut coins);
+    for year in [0, 7, 500, 998, 999] {
+        check(&rt, coins.counts_after(year));
+    }
 }
 
 // From either end, in turns.

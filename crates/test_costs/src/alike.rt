@@ -1,4 +1,4 @@
-//! Equality and copies of maps: how often keys are compared.
+//! Equality and copies of maps: how often keys are compared, and items.
 ghost use Rattle.std.specs.Prelude.{◌≡◌, ◌==◌, IfOk};
 ghost use Rattle.std.proofs.Common.{rules};
 ghost use Rattle.std.specs.Cmp.Rules.{comparing};
@@ -19,10 +19,11 @@ use test_support::counting::CountingKey;
 use test_support::hashers::ZeroHasher;
 use test_support::maps::{AskedByKey, Ordered, in_order};
 
-// An item whose `==` counts no comparison of its key.
+// An item that counts how often it is compared, and whose `==` counts no comparison of its key.
 #[derive(Clone, Copy)]
 struct Told<'a> {
     key: CountingKey<'a>,
+    asked: &'a Cell<u32>,
 }
 
 impl PartialEq for Told<'_> {
@@ -31,6 +32,7 @@ impl PartialEq for Told<'_> {
     ghost laws = { Prim.search (comparing, rules) };
 
     fn eq(&self, other: &Self) -> bool {
+        self.asked.set(self.asked.get().saturating_add(1));
         self.key.number == other.key.number
     }
 }
@@ -60,11 +62,16 @@ impl<'a> IdHashItem for Told<'a> {
 }
 
 // Twenty of them.
-fn twenty(alloc: Global, compared: &Cell<u32>) -> Result<Vec<Told<'_>>, AllocError> {
+fn twenty<'a>(
+    alloc: Global,
+    compared: &'a Cell<u32>,
+    asked: &'a Cell<u32>,
+) -> Result<Vec<Told<'a>>, AllocError> {
     let mut items = Vec::new(alloc);
     for number in 0..20 {
         items.push(Told {
             key: CountingKey { number, compared },
+            asked,
         })?;
     }
     Ok(items)
@@ -97,10 +104,11 @@ fn equal_in_order<T: IdOrdItem + Copy + Drop + PartialEq>(
     check(rt, since(compared) == 0);
 }
 
+// Each of the twenty items is compared once.
 #[test]
 fn equality_compares_no_keys(rt: HostRuntime) -> Result<(), Fail> {
-    let compared = Cell::new(0);
-    let items = twenty(rt.alloc(), &compared)?;
+    let (compared, asked) = (Cell::new(0), Cell::new(0));
+    let items = twenty(rt.alloc(), &compared, &asked)?;
     equal_in_order(
         &rt,
         in_order(rt.alloc()),
@@ -108,6 +116,7 @@ fn equality_compares_no_keys(rt: HostRuntime) -> Result<(), Fail> {
         items.as_slice(),
         &compared,
     );
+    check(&rt, asked.get() == 20);
     Ok(())
 }
 
@@ -149,12 +158,14 @@ fn equal_by_hash<T: IdHashItem + Copy + Drop + PartialEq>(
     Ok(())
 }
 
-// Each item of one map is looked up in the other, once.
+// Each item of one map is looked up in the other, once, and compared with what is found.
 #[test]
 fn hash_equality_looks_each_item_up(rt: HostRuntime) -> Result<(), Fail> {
-    let compared = Cell::new(0);
-    let items = twenty(rt.alloc(), &compared)?;
-    equal_by_hash(&rt, rt.alloc(), items.as_slice(), &compared)
+    let (compared, asked) = (Cell::new(0), Cell::new(0));
+    let items = twenty(rt.alloc(), &compared, &asked)?;
+    equal_by_hash(&rt, rt.alloc(), items.as_slice(), &compared)?;
+    check(&rt, asked.get() == 20);
+    Ok(())
 }
 
 fn copied_in_order<T: IdOrdItem + Copy + Drop>(

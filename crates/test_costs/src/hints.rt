@@ -4,9 +4,9 @@ use iddqd::errors::{ExtendError, FromIterError, TryReserveError};
 use iddqd::{DefaultHashBuilder, IdHashMap, IdOrdMap};
 use std::alloc::Global;
 use std::process::Abort;
-use test_support::bulk::{Bulk, Hinted};
+use test_support::bulk::{Added, Adding, Bulk, Hinted};
 use test_support::items::Numbered;
-use test_support::maps::{AskedByKey, Hashed, Ordered, by_hash, in_order};
+use test_support::maps::{AskedByKey, AskedForRoom, Hashed, Ordered, by_hash, in_order};
 
 fn numbered(number: u32, value: u32) -> Numbered {
     Numbered { number, value }
@@ -71,6 +71,26 @@ fn hints_at_the_limit(rt: HostRuntime) {
     hint_at_two(&rt, Ordered::new(IdOrdMap::with_limit(alloc, 2)));
     let hasher = DefaultHashBuilder::new();
     hint_at_two(&rt, Hashed::new(IdHashMap::with_limit(alloc, 2, hasher)));
+}
+
+// A map without items reserves for all that is announced, if it has some room too, and whatever comes.
+fn reserves_all<M: Adding<Numbered> + AskedForRoom + Bulk<Numbered>>(
+    rt: &impl Abort,
+    one: &mut M,
+    other: &mut M,
+) {
+    check(rt, one.reserve(4).is_ok());
+    check(rt, announced(one, 100) == (None, false));
+    check(rt, one.room() >= 100);
+    let added = other.add_each(Hinted::new(&[], 100));
+    check(rt, matches!(added, Added::All) && other.room() >= 100);
+}
+
+#[test]
+fn hints_to_empty_maps(rt: HostRuntime) {
+    let alloc = rt.alloc();
+    reserves_all(&rt, &mut in_order(alloc), &mut in_order(alloc));
+    reserves_all(&rt, &mut by_hash(alloc), &mut by_hash(alloc));
 }
 
 fn few_come<M: AskedByKey<Item = Numbered, Key = u32> + Bulk<Numbered> + Drop>(

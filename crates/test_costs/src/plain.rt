@@ -6,6 +6,7 @@ use iddqd::{IdHashMap, IdOrdItem};
 use std::alloc::Global;
 use std::cell::Cell;
 use std::hash::BuildHasherDefault;
+use std::ops::Bound;
 use std::process::Abort;
 use std::test::Fail;
 use test_support::bulk::{Added, Adding, Bulk, Hinted};
@@ -141,6 +142,9 @@ fn by_guard_and_entry<
     let (map, once) = built::<M>(alloc, items, &item.key, compared)?;
     check(rt, map.use_entry(item));
     check(rt, since(compared) == once.saturating_mul(searches));
+    let (map, once) = built::<M>(alloc, items, &item.key, compared)?;
+    check(rt, map.modify_or_put(item));
+    check(rt, since(compared) == once.saturating_mul(searches));
     Ok(())
 }
 
@@ -254,6 +258,74 @@ fn ends_compare_none(rt: HostRuntime) -> Result<(), Fail> {
     let compared = Cell::new(0);
     let items = tallied(rt.alloc(), 0, 50, &compared)?;
     ends(&rt, in_order(rt.alloc()), items.as_slice(), &compared);
+    Ok(())
+}
+
+type InOrder<'a> = Ordered<Tallied<'a>>;
+
+// A position is found by one search, as the steps say, and so is each bound.
+fn finds_bounds<'a>(
+    rt: &impl Abort,
+    map: &InOrder<'a>,
+    key: &CountingKey<'a>,
+    compared: &Cell<u32>,
+) {
+    let once = searched(map, key, compared);
+    let (_, steps) = map.index_of(key);
+    check(rt, steps == once && since(compared) == once);
+    let _ = map.position_of(key);
+    check(rt, since(compared) == once);
+    let _ = map.walk_from(key);
+    check(rt, since(compared) == once);
+    for bound in [Bound::Included(key), Bound::Excluded(key)] {
+        let _ = map.lower_bound(bound);
+        check(rt, since(compared) == once);
+        let _ = map.upper_bound(bound);
+        check(rt, since(compared) == once);
+    }
+}
+
+// Both bounds of a range are, and the removal of a range compares no more.
+fn finds_ranges<'a>(
+    rt: &impl Abort,
+    map: &mut InOrder<'a>,
+    low: &CountingKey<'a>,
+    high: &CountingKey<'a>,
+    compared: &Cell<u32>,
+) {
+    let both = map.steps_of(low).saturating_add(map.steps_of(high));
+    compared.set(0);
+    let between = (Bound::Included(low), Bound::Excluded(high));
+    let (_, steps) = map.count_between(between);
+    check(rt, steps == both && since(compared) == both);
+    check(rt, map.remove_range(between) == 3);
+    check(rt, since(compared) == both);
+}
+
+fn bounds<'a>(
+    rt: &impl Abort,
+    map: &mut InOrder<'a>,
+    items: &[Tallied<'a>],
+    absent: &[Tallied<'a>],
+    compared: &Cell<u32>,
+) {
+    check(rt, items.len() == 50 && absent.len() == 50);
+    check(rt, map.extend(Hinted::new(items, 0)).is_ok());
+    for at in 0..50 {
+        finds_bounds(rt, map, &items[at].key, compared);
+        finds_bounds(rt, map, &absent[at].key, compared);
+    }
+    finds_ranges(rt, map, &items[7].key, &items[10].key, compared);
+    finds_ranges(rt, map, &absent[20].key, &absent[23].key, compared);
+}
+
+#[test]
+fn bounds_search_once(rt: HostRuntime) -> Result<(), Fail> {
+    let compared = Cell::new(0);
+    let items = tallied(rt.alloc(), 0, 50, &compared)?;
+    let absent = tallied(rt.alloc(), 1, 50, &compared)?;
+    let (there, others) = (items.as_slice(), absent.as_slice());
+    bounds(&rt, &mut in_order(rt.alloc()), there, others, &compared);
     Ok(())
 }
 

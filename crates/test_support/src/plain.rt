@@ -31,6 +31,10 @@ pub trait Plain: AskedByKey {
     /// `entry` of the item's key, and `insert` where it is vacant, `insert` and `remove` where it is occupied. Whether
     /// nothing was refused. The map is dropped then.
     fn use_entry(self, item: Self::Item) -> bool;
+
+    /// `entry` of the item's key and `and_modify`, and `insert_entry` where it is vacant. Whether nothing was refused.
+    /// The map is dropped then.
+    fn modify_or_put(self, item: Self::Item) -> bool;
 }
 
 impl<T: IdOrdItem + Copy + Drop> Plain for Ordered<T> {
@@ -73,6 +77,11 @@ impl<T: IdOrdItem + Copy + Drop> Plain for Ordered<T> {
         let mut map = self.map;
         use_in_order(&mut map, item)
     }
+
+    fn modify_or_put(self, item: T) -> bool {
+        let mut map = self.map;
+        modify_in_order(&mut map, item)
+    }
 }
 
 impl<T: IdHashItem + Copy + Drop, S: BuildHasher + Drop> Plain for Hashed<T, S> {
@@ -110,6 +119,11 @@ impl<T: IdHashItem + Copy + Drop, S: BuildHasher + Drop> Plain for Hashed<T, S> 
     fn use_entry(self, item: T) -> bool {
         let mut map = self.map;
         use_by_hash(&mut map, item)
+    }
+
+    fn modify_or_put(self, item: T) -> bool {
+        let mut map = self.map;
+        modify_by_hash(&mut map, item)
     }
 }
 
@@ -150,6 +164,27 @@ fn use_in_order<T: IdOrdItem + Copy + Drop>(map: &mut IdOrdMap<T>, item: T) -> b
             }
             Err(_refused) => false,
         },
+    }
+}
+
+fn modify_in_order<T: IdOrdItem + Copy + Drop>(map: &mut IdOrdMap<T>, item: T) -> bool
+    requires keyed { Ascends T.key T.Key.cmp map.old.items }
+{
+    match map.entry(item.key()).and_modify(&mut Untouched) {
+        id_ord_map::Entry::Occupied(_) => true,
+        id_ord_map::Entry::Vacant(entry) => entry.insert_entry(item).is_ok(),
+    }
+}
+
+fn spend_index<T: IdOrdItem>(map: &mut IdOrdMap<T>, index: usize) -> bool
+    requires keyed { Ascends T.key T.Key.cmp map.old.items }
+{
+    match map.get_index_mut(index) {
+        Some(lent) => {
+            lent.finish();
+            true
+        }
+        None => false,
     }
 }
 
@@ -196,7 +231,25 @@ fn use_by_hash<T: IdHashItem + Copy + Drop, S: BuildHasher>(
     }
 }
 
+fn modify_by_hash<T: IdHashItem + Copy + Drop, S: BuildHasher>(
+    map: &mut IdHashMap<T, S>,
+    item: T,
+) -> bool
+    requires keyed { ⟦<IdHashMap<T, S> as Keyed>⟧.keyed map.old }
+{
+    match map.entry(item.key()).and_modify(&mut Untouched) {
+        id_hash_map::Entry::Occupied(_) => true,
+        id_hash_map::Entry::Vacant(entry) => entry.insert_entry(item).is_ok(),
+    }
+}
+
 impl<T: IdOrdItem + Drop> Ordered<T> {
+    /// `get_index_mut`, and the guard is spent. Whether there was one. The map is dropped then.
+    pub fn spend_index(self, index: usize) -> bool {
+        let mut map = self.map;
+        spend_index(&mut map, index)
+    }
+
     /// `first`, `last`, `pop_first` and `pop_last`: whether each found an item.
     pub fn use_ends(&mut self) -> bool {
         self.map.first().is_some()

@@ -21,6 +21,11 @@ impl<T: IdOrdItem> Ordered<T> {
         (place, steps.count())
     }
 
+    /// `index_of`.
+    pub fn position_of<Q: Comparable<T::Key>>(&self, query: &Q) -> Result<usize, usize> {
+        self.map.index_of(query)
+    }
+
     /// `lower_bound`.
     pub fn lower_bound<Q: Comparable<T::Key>>(&self, from: Bound<&Q>) -> Option<&T> {
         self.map.lower_bound(from)
