@@ -4,32 +4,35 @@ use std::process::Abort;
 use std::test::Fail;
 use test_support::caseless::{Caseless, Coarse, item_of, spelled};
 use test_support::guards::{Copied, Probed};
-use test_support::maps::{AskedByKey, by_hash, in_order};
+use test_support::maps::{AskedByKey, AskedForRoom, by_hash, in_order};
 
-fn fill<M: AskedByKey<Item = Coarse, Key = Caseless>>(rt: &impl Abort, map: &mut M) {
+// Two items and a vacant slot, and room for more.
+fn fill<M: AskedByKey<Item = Coarse, Key = Caseless> + AskedForRoom>(rt: &impl Abort, map: &mut M) {
+    check(rt, map.reserve(100).is_ok());
     check(rt, map.is_put(item_of(*b"foo", 42)));
     check(rt, map.is_put(item_of(*b"bar", 20)));
     check(rt, map.is_put(item_of(*b"baz", 1)));
     check(rt, map.remove(&Caseless(*b"baz")).is_some());
 }
 
-// A clone equals its source, and what is written into it the source does not show.
-fn is_apart<M: AskedByKey<Item = Coarse, Key = Caseless> + Probed>(
+// A clone equals its source, has room for no more than its slots, and what is written into it the source does not show.
+fn is_apart<M: AskedByKey<Item = Coarse, Key = Caseless> + AskedForRoom + Probed>(
     rt: &impl Abort,
     map: &M,
     twin: &mut M,
 ) {
     check(rt, twin.equals(map));
+    check(rt, twin.capacity() == 3);
     check(rt, twin.write_by_reborrow(&Caseless(*b"foo"), 7).is_some());
     check(rt, !twin.equals(map));
     let found = map.get(&Caseless(*b"foo")).map(spelled);
     check(rt, found == Some((*b"foo", 42)));
 }
 
-fn cloned<M: AskedByKey<Item = Coarse, Key = Caseless> + Copied + Probed + Drop>(
-    rt: &impl Abort,
-    map: &mut M,
-) -> Result<(), Fail> {
+fn cloned<M>(rt: &impl Abort, map: &mut M) -> Result<(), Fail>
+where
+    M: AskedByKey<Item = Coarse, Key = Caseless> + AskedForRoom + Copied + Probed + Drop,
+{
     fill(rt, map);
     let Ok(mut twin) = map.copied() else {
         return Err(Fail::from("no memory for a clone"));

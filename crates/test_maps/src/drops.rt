@@ -1,5 +1,6 @@
 //! Each item that a map drops is dropped once.
 use crate::checks::check;
+use iddqd::IdOrdMap;
 use iddqd::errors::{DuplicateItem, FromIterError};
 use std::alloc::{AllocError, Global};
 use std::cell::Cell;
@@ -196,6 +197,21 @@ fn found_or_put_by_an_entry(rt: HostRuntime) {
         let (ordered, hashed) = (Cell::new(0), Cell::new(0));
         finds_or_puts(&rt, in_order(rt.alloc()), number, &ordered);
         finds_or_puts(&rt, by_hash(rt.alloc()), number, &hashed);
+    }
+}
+
+// The item that an occupied entry does not take is dropped.
+#[test]
+fn shown_by_an_occupied_entry(rt: HostRuntime) {
+    let dropped = Cell::new(0);
+    let mut map = IdOrdMap::new(rt.alloc());
+    for count in 0..2 {
+        let item = Ticket {
+            number: 1,
+            dropped: &dropped,
+        };
+        check(&rt, map.entry(&1).or_insert_ref(item).is_ok());
+        check(&rt, dropped.get() == count);
     }
 }
 

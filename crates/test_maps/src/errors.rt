@@ -1,7 +1,7 @@
 //! The texts of errors.
 use crate::checks::check;
 use iddqd::IdOrdMap;
-use iddqd::errors::{DuplicateItem, Few, TryReserveError};
+use iddqd::errors::{DuplicateItem, Few, Refused, TryReserveError};
 use iddqd::internal::ValidateCompact;
 use std::test::Fail;
 use test_support::items::Numbered;
@@ -70,6 +70,22 @@ fn duplicate_for_debugging(rt: HostRuntime) -> Result<(), Fail> {
     let duplicate = DuplicateItem::internal_new(5, Few::One(7));
     let text = format!(in rt.alloc(); "{duplicate:?}")?;
     let expected = "DuplicateItem { new: 5, duplicates: One(7) }";
+    check(&rt, text.as_str() == expected);
+    Ok(())
+}
+
+#[test]
+fn refusals_for_debugging(rt: HostRuntime) -> Result<(), Fail> {
+    let full = TryReserveError::capacity_overflow();
+    let text = format!(in rt.alloc(); "{full:?}")?;
+    let expected = "TryReserveError { kind: CapacityOverflow }";
+    check(&rt, text.as_str() == expected);
+    let refused = Refused {
+        item: 5,
+        error: TryReserveError::alloc_error(),
+    };
+    let text = format!(in rt.alloc(); "{refused:?}")?;
+    let expected = "Refused { item: 5, error: TryReserveError { kind: AllocError } }";
     check(&rt, text.as_str() == expected);
     Ok(())
 }

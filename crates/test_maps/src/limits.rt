@@ -119,6 +119,9 @@ fn shrunk<M: AskedByKey<Item = Named, Key = [u8; 3]> + AskedForRoom + Drop>(
     check(rt, map.room() >= room_of_ten);
     check(rt, map.shrink_to(0) == Ok(()));
     check(rt, map.capacity() == 2 && has_both(&map));
+    check(rt, map.remove(b"bar") == Some(BAR));
+    check(rt, map.shrink_to(0) == Ok(()));
+    check(rt, map.capacity() == 1 && map.len() == 1);
 }
 
 #[test]

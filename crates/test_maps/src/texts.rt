@@ -50,6 +50,12 @@ fn is_debugged(alloc: Global, value: &impl Debug, expected: &str) -> bool {
     format!(in alloc; "{value:?}").is_ok_and(|text| text.as_str() == expected)
 }
 
+// Whether it is written so, in one line and over several.
+fn is_shown(alloc: Global, value: &impl Debug, line: &str, lines: &str) -> bool {
+    let is_over_lines = format!(in alloc; "{value:#?}").is_ok_and(|text| text.as_str() == lines);
+    is_over_lines && is_debugged(alloc, value, line)
+}
+
 fn is_displayed(alloc: Global, value: &impl Display, expected: &str) -> bool {
     format!(in alloc; "{value}").is_ok_and(|text| text.as_str() == expected)
 }
@@ -115,26 +121,26 @@ fn entries_for_debugging(rt: HostRuntime) {
 
 // Opens the door of the number, and shows its guard, before it is spent and after.
 #[tactic(auto, using(iddqd::proofs::GuardLemmas::same_key_kept))]
-fn is_guard_in_order(alloc: Global, number: u32, expected: &str) -> bool {
+fn is_guard_in_order(alloc: Global, number: u32, line: &str, lines: &str) -> bool {
     match two_in_order(alloc).get_mut(&number) {
         Some(mut door) => {
             door.open = true;
-            let is_before = is_debugged(alloc, &door, expected);
+            let is_before = is_shown(alloc, &door, line, lines);
             let door = door.into_ref();
-            is_before && is_debugged(alloc, &door, expected)
+            is_before && is_shown(alloc, &door, line, lines)
         }
         None => false,
     }
 }
 
 #[tactic(auto, using(iddqd::proofs::GuardLemmas::hash_key_kept))]
-fn is_guard_by_hash(alloc: Global, number: u32, expected: &str) -> bool {
+fn is_guard_by_hash(alloc: Global, number: u32, line: &str, lines: &str) -> bool {
     match one_by_hash(alloc).get_mut(&number) {
         Some(mut door) => {
             door.open = true;
-            let is_before = is_debugged(alloc, &door, expected);
+            let is_before = is_shown(alloc, &door, line, lines);
             let door = door.into_ref();
-            is_before && is_debugged(alloc, &door, expected)
+            is_before && is_shown(alloc, &door, line, lines)
         }
         None => false,
     }
@@ -144,9 +150,10 @@ fn is_guard_by_hash(alloc: Global, number: u32, expected: &str) -> bool {
 #[test]
 fn guards_for_debugging(rt: HostRuntime) {
     let alloc = rt.alloc();
-    let open = "Door { number: 1, open: true }";
-    check(&rt, is_guard_in_order(alloc, 1, open));
-    check(&rt, is_guard_by_hash(alloc, 1, open));
+    let line = "Door { number: 1, open: true }";
+    let lines = "Door {\n    number: 1,\n    open: true,\n}";
+    check(&rt, is_guard_in_order(alloc, 1, line, lines));
+    check(&rt, is_guard_by_hash(alloc, 1, line, lines));
 }
 
 #[test]

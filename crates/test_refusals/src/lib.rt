@@ -22,6 +22,8 @@ mod hints;
 #[cfg(test)]
 mod leaks;
 #[cfg(test)]
+mod lent;
+#[cfg(test)]
 mod lines;
 #[cfg(test)]
 mod made;
