@@ -4,6 +4,7 @@
 --     is_between compare low high k      both
 --     items_between compare key low high items      the items whose keys are between the bounds (`range`)
 --     IsPart part items      items that stand side by side in the list
+--     RemovesPart      such items were removed
 --     FindsLast      the last item whose key passes the test, lent (`upper_bound`)
 --     position_of      the position that a search returns, found or not
 --     number_less      how many items are less than the query
@@ -14,7 +15,7 @@
 --     StartsAt, StopsAt      the position of the first item from a bound on, or of the first one behind it
 use Rattle.std.specs.Borrow.{Bor}
 use Rattle.std.specs.Bound.{bound_map}
-use Rattle.std.specs.Prelude.{◌≡◌, ℕ, ◌-◌, ◌<◌, ◌≤◌, Bool, true, false, ◌&&◌, List, length, count_by, drop, filter, option_copied, slice_get, slice_index_or, take, MatchResult, Option, Result, Ok, Err}
+use Rattle.std.specs.Prelude.{◌≡◌, ℕ, ◌-◌, ◌<◌, ◌≤◌, Bool, true, false, ◌&&◌, List, ◌++◌, length, count_by, drop, filter, option_copied, slice_get, slice_index_or, take, MatchResult, Option, Result, Ok, Err}
 use Rattle.std.specs.declared.cmp.Ordering.{Ordering}
 use Rattle.std.specs.Ordering.{is_ge, is_gt, is_le, is_lt}
 use Rattle.std.specs.declared.ops.Bound.{Bound}
@@ -65,6 +66,13 @@ bound_now bound = bound_map (λ q. q.now) bound
 -- items that stand side by side in the list
 abbrev pub IsPart : {T : Type 0} → List T → List T → Type 0
 IsPart part items = (low : ℕ) × (high : ℕ) × (part ≡ drop low (take high items))
+
+-- items that stood side by side were removed
+pub record RemovesPart {T : Type 0} (old new : List T) : Type 0 where
+  pub low : ℕ
+  pub high : ℕ
+  pub in_order : low ≤ high
+  pub left : new ≡ take low old ++ drop high old
 
 -- the position that a search returns, found or not
 abbrev pub position_of : Result ℕ ℕ → ℕ

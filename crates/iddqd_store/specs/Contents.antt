@@ -23,6 +23,10 @@ pub record AddsItem {T : Type 0} (x : T) (old new : List T) : Type 0 where
 abbrev pub ClonesAreEqual : {T : Type 0} → (T → T → Type 0) → Type 0
 ClonesAreEqual is_clone = (x y : _) → is_clone x y → y ≡ x
 
+-- no clone is ever refused memory
+abbrev pub ClonesSucceed : {T : Type 0} → (T → Type 0) → Type 0
+ClonesSucceed is_infallible = (x : _) → is_infallible x
+
 -- each clone has a key equal to that of its original (a premise of each call that copies a map)
 abbrev pub ClonesKeepKeys : {T K : Type 0} → (T → K) → (K → K → Bool) → (T → T → Type 0) → Type 0
 ClonesKeepKeys key eq is_clone = (x y : _) → is_clone x y → eq (key x) (key y) ≡ true

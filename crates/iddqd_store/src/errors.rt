@@ -1,7 +1,7 @@
 //! The errors of calls that insert or make room.
-ghost use Rattle.std.specs.Prelude.{◌≡◌, ◌↔◌, IsTrue, IfOk, IfErr, Some, map, length, slice_get, option_copied};
+ghost use Rattle.std.specs.Prelude.{◌≡◌, ◌↔◌, IsTrue, IsOk, IfOk, IfErr, Some, map, length, slice_get, option_copied};
 ghost use Rattle.std.specs.Iterator.{YieldsFirstRef, item_count};
-ghost use Rattle.iddqd_store.specs.Contents.{ClonesAreEqual};
+ghost use Rattle.iddqd_store.specs.Contents.{ClonesAreEqual, ClonesSucceed};
 ghost use Rattle.iddqd_store.specs.Errors.{OwnsDuplicatesOf, new_item_of, duplicates_of, values_of};
 ghost use Rattle.iddqd_store.specs.Refusal.{limit_refused, memory_refused};
 
@@ -209,7 +209,7 @@ impl<T, D> DuplicateItem<T, D> {
 
 impl<'a, T: Clone> DuplicateItem<T, &'a T> {
     /// Returns the same error with clones of the existing items. If memory for a clone is refused, it returns the
-    /// error itself.
+    /// error itself. So it succeeds if the items' clones do not allocate.
     /// A clone has to equal its item, as contracts see it. An item that holds a `String` does, by a model that
     /// shows the text's bytes.
     pub fn into_owned(self) -> Result<DuplicateItem<T>, Self>
@@ -217,6 +217,7 @@ impl<'a, T: Clone> DuplicateItem<T, &'a T> {
         ensures new { IfOk result (λ owned. new_item_of owned ≡ new_item_of self.entry) }
         ensures duplicates { IfOk result (OwnsDuplicatesOf self.entry) }
         ensures back { IfErr result (λ back. back ≡ self.entry) }
+        ensures succeeds { ClonesSucceed T.is_infallible → IsOk result }
     {
         match self.duplicates.cloned() {
             Ok(duplicates) => Ok(DuplicateItem {
@@ -232,7 +233,8 @@ impl<T: Clone> Few<&T> {
     // Returns a clone of each value.
     fn cloned(&self) -> Result<Few<T>, alloc::AllocError>
         requires clones { ClonesAreEqual T.is_clone }
-        ensures { IfOk result (λ few. values_of few ≡ map (λ lent. lent.now) (values_of self.now)) }
+        ensures values { IfOk result (λ few. values_of few ≡ map (λ lent. lent.now) (values_of self.now)) }
+        ensures succeeds { ClonesSucceed T.is_infallible → IsOk result }
     {
         match self {
             Few::One(a) => Ok(Few::One((**a).clone()?)),
@@ -282,7 +284,7 @@ impl<T: Debug + Drop> Error for Refused<T> {}
 /// Why an item was not inserted.
 #[derive(Debug, Drop)]
 pub enum InsertError<'a, T> {
-    /// An item of an equal key exists: the new item, and that one alone.
+    /// An equal key exists: the new item, and the existing one. A map of two keys shows both items that it meets.
     Duplicate(DuplicateItem<T, &'a T>),
     /// There was no room.
     Refused(Refused<T>),
@@ -322,7 +324,8 @@ impl<T: Debug + Drop> Error for ExtendError<T> {}
 /// Why no map was made of an iterator's items.
 #[derive(Debug, Drop)]
 pub enum FromIterError<T> {
-    /// An item has a key equal to that of an earlier one: the later item as the new one, and the earlier one alone.
+    /// An item has a key of an earlier one: the later item as the new one, and the earlier one. Of a map of two keys it
+    /// has both earlier items that the later one meets.
     Duplicate(DuplicateItem<T>),
     /// There was no room.
     Refused(TryReserveError),

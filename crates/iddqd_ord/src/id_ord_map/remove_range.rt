@@ -2,7 +2,7 @@
 ghost use Rattle.std.specs.Prelude.{◌≡◌, ◌+◌, length};
 ghost use Rattle.iddqd_store.specs.Contents.{Ascends};
 ghost use Rattle.iddqd_store.specs.Holding.{LeavesSlots};
-ghost use Rattle.iddqd_ord.specs.Ranges.{RemovesRange};
+ghost use Rattle.iddqd_ord.specs.Ranges.{RemovesPart, RemovesRange};
 
 use super::IdOrdMap;
 use iddqd_store::{Comparable, IdOrdItem, Steps};
@@ -17,6 +17,7 @@ impl<T: IdOrdItem> IdOrdMap<T> {
         T: Drop,
         requires keyed { Ascends T.key T.Key.cmp self.old.items }
         ensures items { RemovesRange R.RangeBounds Q.compare T.key range self.old self.new }
+        ensures part { RemovesPart self.old.items self.new.items }
         ensures number { result + length self.new.items ≡ length self.old.items }
         ensures leaves { LeavesSlots self.old self.new }
         ensures keyed { Ascends T.key T.Key.cmp self.new.items }

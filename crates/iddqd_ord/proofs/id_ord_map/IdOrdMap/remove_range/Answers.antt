@@ -44,5 +44,8 @@ returns-clause-items g c has =
     ∙ (ap (λ b. items_without key (is_between compare b last) old) (c.start_bound.ensures has)
     ∙ ap (λ b. items_without key (is_between compare (g.R.RangeBounds.start_bound c.args.range) b) old) (c.end_bound.ensures has))
 
+pub returns-clause-part : goal.returns-clause-part
+returns-clause-part g c = record { low = c.loop-end.end; high = c.end_of-high.result; in_order = c.loop-end.invariant.within; left = c.loop-end.invariant.items }
+
 pub returns-clause-number : goal.returns-clause-number
 returns-clause-number g c = grind (arith, common_steps)
