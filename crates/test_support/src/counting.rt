@@ -131,7 +131,7 @@ impl Hash for HashedKey<'_> {
 }
 
 /// An item of such a key.
-#[derive(Clone, Copy)]
+#[derive(Clone, Copy, PartialEq)]
 pub struct Fed<'a> {
     pub key: HashedKey<'a>,
 }
