@@ -9,6 +9,8 @@ mod checks;
 #[cfg(test)]
 mod counting;
 #[cfg(test)]
+mod hashings;
+#[cfg(test)]
 mod hints;
 #[cfg(test)]
 mod hostile;

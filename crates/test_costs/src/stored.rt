@@ -36,11 +36,12 @@ fn makes_room_unhashed<T: IdHashItem + Copy, F: Fn(&T) -> bool>(
 
 #[test]
 fn stored_hashes(rt: HostRuntime) {
-    let hashed = Cell::new(0);
+    let (hashed, compared) = (Cell::new(0), Cell::new(0));
     let items = IDS.map(|number| Fed {
         key: HashedKey {
             number,
             hashed: &hashed,
+            compared: &compared,
         },
     });
     let keep = |item: &Fed<'_>| item.key.number % 2 == 1 && item.key.number % 3 != 0;

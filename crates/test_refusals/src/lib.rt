@@ -20,6 +20,8 @@ mod growth;
 #[cfg(test)]
 mod hints;
 #[cfg(test)]
+mod late;
+#[cfg(test)]
 mod leaks;
 #[cfg(test)]
 mod lent;

@@ -202,29 +202,33 @@ pub fn is_not_taken_in<M: Bulk<Named>>(map: &mut M) -> bool {
     refused && liar.asked() == 0
 }
 
-/// An iterator over a vector's items, from the last one on, that announces none.
+/// An iterator over a vector's items, from the last one on. It announces none at least, and far more than there are at most.
 #[derive(Drop)]
-pub struct Unannounced {
-    items: Vec<Named>,
+pub struct Unannounced<T> {
+    items: Vec<T>,
 }
 
-impl Unannounced {
+impl<T> Unannounced<T> {
     /// One over these items.
-    pub fn new(items: Vec<Named>) -> Unannounced {
+    pub fn new(items: Vec<T>) -> Unannounced<T> {
         Unannounced { items }
     }
 }
 
-impl Iterator for Unannounced {
-    type Item = Named;
+impl<T: Drop> Iterator for Unannounced<T> {
+    type Item = T;
 
     ghost use Rattle.std.specs.Prelude.{length};
     ghost use Rattle.std.specs.Iterator.{at_most};
 
     ghost remaining = { λ u. at_most (length u.items.items) };
 
-    fn next(&mut self) -> Option<Named> {
+    fn next(&mut self) -> Option<T> {
         self.items.pop()
+    }
+
+    fn size_hint(&self) -> (usize, Option<usize>) {
+        (0, Some(self.items.len().max(1 << 40)))
     }
 }
 

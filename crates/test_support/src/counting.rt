@@ -98,11 +98,12 @@ impl<'a> IdHashItem for Tallied<'a> {
     }
 }
 
-/// A number that counts in the cell how often it is hashed.
+/// A number that counts how often it is hashed, and how often it is compared.
 #[derive(Clone, Copy)]
 pub struct HashedKey<'a> {
     pub number: u32,
     pub hashed: &'a Cell<u32>,
+    pub compared: &'a Cell<u32>,
 }
 
 impl PartialEq for HashedKey<'_> {
@@ -111,6 +112,7 @@ impl PartialEq for HashedKey<'_> {
     ghost laws = { Prim.search (comparing, rules) };
 
     fn eq(&self, other: &Self) -> bool {
+        count_one(self.compared);
         self.number == other.number
     }
 }
@@ -131,7 +133,7 @@ impl Hash for HashedKey<'_> {
 }
 
 /// An item of such a key.
-#[derive(Clone, Copy)]
+#[derive(Clone, Copy, PartialEq)]
 pub struct Fed<'a> {
     pub key: HashedKey<'a>,
 }
