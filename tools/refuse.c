@@ -12,8 +12,9 @@
    If REFUSE_FROM_START is in the environment, the count begins when the program does, and ends with it.
 
    Without this heap all are refused, so the same test learns that it met no refusal. What happens is written to the file
-   descriptor REFUSE_TELLS (of the environment), a line each: 'armed', 'refused', 'ended', 'bytes HELD LARGEST'. Without a
-   REFUSE_AT no request is refused. The functions below are the C library's calls by which a program's heap asks for memory
+   descriptor REFUSE_TELLS (of the environment), a line each: 'armed', 'refused', 'bytes HELD LARGEST', 'asked BYTES' and
+   'ended' as the count ends, BYTES being all that was asked for since it began, and 'held BLOCKS' as the program ends, where
+   no block should be held. Without a REFUSE_AT no request is refused. The functions below are the C library's calls by which a program's heap asks for memory
    and gives it back. No header is needed. */
 
 typedef unsigned long size;
@@ -39,6 +40,7 @@ static long held_first; /* how many of them there were when the count began */
 static long bytes; /* how many bytes those blocks have */
 static long bytes_first; /* how many they had when the count began */
 static size largest; /* how many the largest block has that was given out since */
+static size asked_in_all; /* how many bytes the requests since were for */
 
 static size given(const char *name) {
     const char *number = getenv(name);
@@ -55,12 +57,21 @@ static void *arm(void) {
     held_first = held;
     bytes_first = bytes;
     largest = 0;
+    asked_in_all = 0;
     tell("armed\n", 6);
     return 0;
 }
 
-/* Whether this request is the one to refuse. */
-static int refuses(void) {
+/* Ends the count. */
+static void disarm(void) {
+    left = 0;
+    dprintf(given("REFUSE_TELLS"), "asked %lu\n", asked_in_all);
+    tell("ended\n", 6);
+}
+
+/* Whether this request, for so many bytes, is the one to refuse. */
+static int refuses(size asked) {
+    asked_in_all += asked;
     if (left == 0 || --left != 0) return 0;
     met = 1;
     tell("refused\n", 8);
@@ -101,13 +112,12 @@ void *malloc(size asked) {
     if (!next) next = (void *(*)(size))dlsym(NEXT, "malloc");
     if (asked == ARM) return arm();
     if (asked == END) {
-        left = 0;
-        tell("ended\n", 6);
+        disarm();
         return met ? counted(next(1)) : 0;
     }
     if (asked == LEAK) return held != held_first ? counted(next(1)) : 0;
     if (asked == SIZE) return tell_bytes();
-    return refuses() ? 0 : counted(next(asked));
+    return refuses(asked) ? 0 : counted(next(asked));
 }
 
 void free(void *block) {
@@ -120,7 +130,7 @@ void free(void *block) {
 void *realloc(void *block, size asked) {
     static void *(*next)(void *, size);
     if (!next) next = (void *(*)(void *, size))dlsym(NEXT, "realloc");
-    if (refuses()) return 0;
+    if (refuses(asked)) return 0;
     size room = block ? malloc_usable_size(block) : 0;
     void *moved = next(block, asked);
     if (!block) return counted(moved);
@@ -134,21 +144,21 @@ void *realloc(void *block, size asked) {
 void *calloc(size count, size bytes) {
     static void *(*next)(size, size);
     if (!next) next = (void *(*)(size, size))dlsym(NEXT, "calloc");
-    return refuses() ? 0 : counted(next(count, bytes));
+    return refuses(count * bytes) ? 0 : counted(next(count, bytes));
 }
 
 void *aligned_alloc(size alignment, size bytes) {
     static void *(*next)(size, size);
     if (!next) next = (void *(*)(size, size))dlsym(NEXT, "aligned_alloc");
-    return refuses() ? 0 : counted(next(alignment, bytes));
+    return refuses(bytes) ? 0 : counted(next(alignment, bytes));
 }
 
 int posix_memalign(void **block, size alignment, size bytes) {
     static int (*next)(void **, size, size);
     if (!next) next = (int (*)(void **, size, size))dlsym(NEXT, "posix_memalign");
-    if (refuses()) return OUT_OF_MEMORY;
+    if (refuses(bytes)) return OUT_OF_MEMORY;
     int error = next(block, alignment, bytes);
-    if (!error) held++;
+    if (!error) counted(*block);
     return error;
 }
 
@@ -157,5 +167,6 @@ __attribute__((constructor)) static void begin(void) {
 }
 
 __attribute__((destructor)) static void end(void) {
-    if (getenv("REFUSE_FROM_START")) tell("ended\n", 6);
+    if (getenv("REFUSE_FROM_START")) disarm();
+    if (getenv("REFUSE_TELLS")) dprintf(given("REFUSE_TELLS"), "held %ld\n", held);
 }
