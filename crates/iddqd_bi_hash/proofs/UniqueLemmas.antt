@@ -1,15 +1,10 @@
 -- The item that passes a test of both keys: the one that the first test finds, if it passes the second.
 --     both_found, both_absent, first_is_both      what the search by both says of the search by the first
---     none_of      what is not there is none
---     guard_by_both      a guard of that item
-use Rattle.std.proofs.Common.{◌≡◌, Bool, true, false, cond, not, List, [], ◌∷◌, map, filter, find, Option, Some, None, IfSome, is_some, refl, sym, ap, ◌∙◌, true≢false}
+use Rattle.std.proofs.Common.{◌≡◌, Bool, true, false, cond, not, List, [], ◌∷◌, map, filter, find, Some, None, is_some, refl, sym, ap, ◌∙◌, true≢false}
 use Rattle.std.specs.List.{AllByRecursion, IsDistinct}
 use Rattle.std.specs.Option.{option_and_then}
 use Rattle.iddqd_store.specs.Contents.{IsAbsent, IsKeyTest, NoTwoAkin, find_item, items_without}
-use Rattle.iddqd_bi_hash.specs.BiHashItems.{BiHashItems}
-use Rattle.iddqd_bi_hash.specs.Guard.{GuardFinds, GuardFindsByBoth, lent_map}
 use Rattle.iddqd_bi_hash.specs.TwoKeys.{find_by_both, items_without_both}
-use Rattle.iddqd_bi_hash.specs.declared.bi_hash_map.ref_mut.RefMut.{RefMut}
 use Rattle.iddqd_hash_parts.proofs.FoundLemmas.{without_absent}
 
 module _ {T K L : Type 0} (key1 : T → K) (key2 : T → L) {eq : K → K → Bool} (test1 : K → Bool) (tests : IsKeyTest eq test1) (test2 : L → Bool) where
@@ -48,28 +43,16 @@ module _ {T K L : Type 0} (key1 : T → K) (key2 : T → L) {eq : K → K → Bo
   none_passes : (ys : List T) → IsAbsent key1 test1 ys → items_without key1 test1 ys ≡ items_without_both key1 key2 test1 test2 ys
   none_passes ys none = sym (without_absent key1 test1 ys none) ∙ both_absent ys (none_both ys none)
 
-  -- where one passes both, it is the one that passes the first
-  pub first_is_both : (xs : List T) → NoTwoAkin key1 eq xs → is_some (find_by_both key1 key2 test1 test2 xs) ≡ true → (find_item key1 test1 xs ≡ find_by_both key1 key2 test1 test2 xs) × (items_without key1 test1 xs ≡ items_without_both key1 key2 test1 test2 xs)
+  -- where one passes both, it is the only one that passes the first
+  pub first_is_both : (xs : List T) → NoTwoAkin key1 eq xs → is_some (find_by_both key1 key2 test1 test2 xs) ≡ true → items_without key1 test1 xs ≡ items_without_both key1 key2 test1 test2 xs
   unfolding IsDistinct
-  first_is_both [] differ some = absurd (true≢false (sym some))
+  first_is_both [] differ some = refl
   first_is_both (y ∷ ys) differ some = by (test1 (key1 y)) (test2 (key2 y)) refl refl (first_is_both ys differ.1)
     where
       behind : r y ≡ false → is_some (find r ys) ≡ true
       behind e = sym (ap (λ b. is_some (cond b (Some y) (find r ys))) e) ∙ some
 
-      by : (a b : Bool) → test1 (key1 y) ≡ a → test2 (key2 y) ≡ b → (is_some (find r ys) ≡ true → (find_item key1 test1 ys ≡ find r ys) × (items_without key1 test1 ys ≡ filter (λ x. not (r x)) ys)) → (find_item key1 test1 (y ∷ ys) ≡ find r (y ∷ ys)) × (items_without key1 test1 (y ∷ ys) ≡ filter (λ x. not (r x)) (y ∷ ys))
-      by true true e f rest = (rw (e, f) refl, rw (e, f) (none_passes ys (rest_absent y ys e differ.0)))
+      by : (a b : Bool) → test1 (key1 y) ≡ a → test2 (key2 y) ≡ b → (is_some (find r ys) ≡ true → items_without key1 test1 ys ≡ filter (λ x. not (r x)) ys) → items_without key1 test1 (y ∷ ys) ≡ filter (λ x. not (r x)) (y ∷ ys)
+      by true true e f rest = rw (e, f) (none_passes ys (rest_absent y ys e differ.0))
       by true false e f rest = absurd (true≢false (sym (behind (rw e f)) ∙ ap is_some (none_both ys (rest_absent y ys e differ.0))))
-      by false b e f rest =
-          let others = rest (behind (rw e refl)) in
-          (rw e others.0, rw e (ap (λ zs. y ∷ zs) others.1))
-
-pub none_of : {T : Type 0} (o : Option T) → is_some o ≡ false → o ≡ None
-none_of None none = refl
-none_of (Some x) none = absurd (true≢false none)
-
--- a guard of the item that the first test finds, where one item passes both
-pub guard_by_both : {S T K L : Type 0} (key1 : T → K) (key2 : T → L) (test1 : K → Bool) (test2 : L → Bool) (m : BiHashItems S T) (guard : Option (RefMut T S)) → find_item key1 test1 m.items ≡ find_by_both key1 key2 test1 test2 m.items → IfSome guard (λ r. lent_map r ≡ m) → IfSome guard (GuardFinds key1 test1) → IfSome guard (GuardFindsByBoth key1 key2 test1 test2)
-guard_by_both key1 key2 test1 test2 m None first lent finds = tt
-guard_by_both key1 key2 test1 test2 m (Some r) first lent finds =
-    ap (λ v. find_by_both key1 key2 test1 test2 v.items) lent ∙ sym first ∙ ap (λ v. find_item key1 test1 v.items) (sym lent) ∙ finds
+      by false b e f rest = rw e (ap (λ zs. y ∷ zs) (rest (behind (rw e refl))))

@@ -1,36 +1,69 @@
-//! A map of hosts under test.
-use crate::hosts::Host;
-use iddqd_bi_hash::{BiHashMap, Keyed};
+//! A map under test.
+ghost use Rattle.iddqd_store.specs.Hashing.{hash_under};
+ghost use Rattle.iddqd_bi_hash.specs.BiHashItems.{BiHashItems, IsKeyedByBoth};
+
+use crate::hosts::{Host, host};
+use crate::plain::is_same;
+use iddqd_bi_hash::{BiHashItem, BiHashMap, DefaultHashBuilder, Keyed, ValidateCompact};
 use std::alloc::Global;
+use std::hash::BuildHasher;
 use std::marker::Model;
 
-/// A map of hosts. It is keyed.
+/// A map that is keyed.
 #[derive(Drop)]
-pub(crate) struct Hosts {
-    pub(crate) map: BiHashMap<Host>,
+pub(crate) struct Held<T: BiHashItem, S: BuildHasher = DefaultHashBuilder> {
+    pub(crate) map: BiHashMap<T, S>,
 }
 
-impl Model for Hosts {
-    ghost use Rattle.std.specs.Prelude.{List};
-    ghost use Rattle.test_bi_hash.specs.declared.hosts.Host.{Host};
+impl<T: BiHashItem, S: BuildHasher> Model for Held<T, S> {
+    ghost Value = { BiHashItems S T };
 
-    ghost Value = { List Host };
+    ghost view = { λ held. held.map };
 
-    ghost view = { λ hosts. hosts.map.items };
-
-    ghost invariant = { λ hosts. ⟦<BiHashMap<Host> as Keyed>⟧.keyed hosts.map };
+    ghost invariant = { λ held. IsKeyedByBoth T.key1 T.key2 T.K1.eq T.K2.eq T.K1.hash_input T.K2.hash_input (hash_under S.BuildHasher S.Hasher.Hasher) held.map };
 }
 
-impl Hosts {
-    pub(crate) fn new(alloc: Global) -> Hosts {
-        Hosts {
+/// A map of hosts.
+pub(crate) type Hosts = Held<Host>;
+
+impl<T: BiHashItem> Held<T> {
+    pub(crate) fn new(alloc: Global) -> Held<T> {
+        Held {
             map: BiHashMap::new(alloc),
         }
     }
+}
 
-    /// Inserts the host, and returns whether it is in.
-    pub(crate) fn is_put(&mut self, host: Host) -> bool {
-        self.map.insert_unique(host).is_ok()
+impl<T: BiHashItem, S: BuildHasher> Held<T, S> {
+    /// The map, under test.
+    pub(crate) fn over(map: BiHashMap<T, S>) -> Held<T, S>
+        requires keyed { ⟦<BiHashMap<T, S> as Keyed>⟧.keyed map }
+    {
+        Held { map }
+    }
+
+    /// Inserts the item, and returns whether it is in.
+    pub(crate) fn is_put(&mut self, item: T) -> bool
+    where
+        T: Drop,
+    {
+        self.map.insert_unique(item).is_ok()
+    }
+}
+
+impl Held<Host> {
+    /// Whether each host of a number below this one is found by both keys, and the map has no other.
+    pub(crate) fn holds_below(&self, count: u32) -> bool {
+        for number in 0..count {
+            let wanted = host(number);
+            let one = self.map.get1(&wanted.number).copied();
+            let other = self.map.get2(&wanted.address).copied();
+            if !is_same(one, Some(wanted)) || !is_same(other, Some(wanted)) {
+                return false;
+            }
+        }
+        let is_sound = self.map.validate(ValidateCompact::Compact).is_ok();
+        self.map.len() == count as usize && self.map.iter().count() == count as usize && is_sound
     }
 
     /// Writes the load of the host of the number.

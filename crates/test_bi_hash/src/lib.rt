@@ -6,8 +6,14 @@ mod callers;
 #[cfg(test)]
 mod checks;
 #[cfg(test)]
+mod counts;
+#[cfg(test)]
+mod filled;
+#[cfg(test)]
 mod held;
 pub mod hosts;
+#[cfg(test)]
+mod owned;
 #[cfg(test)]
 mod plain;
 #[cfg(test)]
@@ -18,3 +24,5 @@ mod refused;
 mod rows;
 #[cfg(test)]
 mod shapes;
+#[cfg(test)]
+mod tallies;

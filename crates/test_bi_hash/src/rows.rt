@@ -4,6 +4,7 @@ use crate::held::Hosts;
 use crate::hosts::Host;
 use iddqd_bi_hash::{BiHashMap, Few, InsertError, ValidateCompact};
 use std::alloc::Global;
+use std::cell::Cell;
 use std::process::Abort;
 use std::test::Fail;
 
@@ -130,7 +131,12 @@ fn guards_and_visits(rt: HostRuntime) {
     );
     check(&rt, all.map.get1(&5).is_some_and(|found| found.load == 50));
     check(&rt, all.map.get1(&1).is_some_and(|found| found.load == 10));
-    all.map.retain(|there| there.load < 50);
+    let asked = Cell::new(0u32);
+    all.map.retain(|there| {
+        asked.set(asked.get().saturating_add(1));
+        there.load < 50
+    });
+    check(&rt, asked.get() == 3);
     check(&rt, all.map.len() == 2 && !all.map.contains_key2(&105));
     check(&rt, all.map.validate(ValidateCompact::NonCompact).is_ok());
     let mut loads = 0;

@@ -16,7 +16,8 @@ impl<T: BiHashItem, S: BuildHasher> BiHashMap<T, S> {
     /// `S::default`. It stops at the first item that has a key of an earlier one. Its error has that item and the one
     /// or two earlier ones, that of the first key first. Room for the lower bound of the iterator's `size_hint` is
     /// reserved before an item is asked for. After an error all else that was collected is dropped, and so is the rest
-    /// of the iterator. Hashes each key twice, and searches once by each.
+    /// of the iterator. Hashes each key once, and searches once by each. At a repeat it hashes the other key of each
+    /// earlier item too.
     pub fn from_iter_unique<U: IntoIterator<Item = T>>(
         alloc: Global,
         iter: U,
@@ -51,7 +52,7 @@ impl<T: BiHashItem, S: BuildHasher> BiHashMap<T, S> {
     {
         let hash1 = self.hasher.hash_one(item.key1());
         let hash2 = self.hasher.hash_one(item.key2());
-        match self.displace(&item) {
+        match self.displace(hash1, hash2, &item) {
             Some(earlier) => Err(FromIterError::Duplicate(DuplicateItem::internal_new(
                 item, earlier,
             ))),

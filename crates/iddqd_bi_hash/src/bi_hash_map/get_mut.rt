@@ -115,9 +115,12 @@ impl<T: BiHashItem, S: BuildHasher> BiHashMap<T, S> {
         // room
         ensures spare_fits { SpareFits self.old }
     {
-        if !self.contains_key_unique(query1, query2) {
-            return None;
-        }
-        self.get1_mut(query1)
+        let hash = self.hasher.hash_one(query1);
+        let slot = self.slot_by_both(hash, query1, query2)?;
+        Some(RefMut {
+            map: self,
+            slot,
+            spent: false,
+        })
     }
 }

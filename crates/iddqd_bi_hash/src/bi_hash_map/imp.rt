@@ -13,7 +13,7 @@ use std::hash::{BuildHasher, Hash};
 impl<T: BiHashItem, S: BuildHasher> BiHashMap<T, S> {
     ghost use Rattle.iddqd_hash_parts.specs.HashItems.{HashesAsKeys};
     ghost use Rattle.iddqd_bi_hash.specs.BiHashItems.{holding_of};
-    ghost use Rattle.iddqd_bi_hash.specs.BiHashMap.{BiStays, IsOccupied, LosesPlaceOf, SpareFits};
+    ghost use Rattle.iddqd_bi_hash.specs.BiHashMap.{BiStays, HasHash, IsOccupied, LosesPlaceOf, SpareFits};
 
     /// Returns the item that the query finds by the first key, or `None`. Hashes the query once, and compares at most as
     /// many keys as have its hash. Does not allocate.
@@ -82,9 +82,7 @@ impl<T: BiHashItem, S: BuildHasher> BiHashMap<T, S> {
         ensures stays { BiStays ⟦<Self as Keyed>⟧.keyed self.old self.new }
     {
         let hash = self.hasher.hash_one(query);
-        let slot = self.slot_by_key1(hash, query)?;
-        let other = self.hasher.hash_one(self.item_in_slot(slot).key2());
-        Some(self.take_hashed(hash, other, slot))
+        self.remove_hashed1(hash, query)
     }
 
     /// Removes and returns the item that the query finds by the second key. Its slot becomes vacant, and its room is
@@ -104,6 +102,42 @@ impl<T: BiHashItem, S: BuildHasher> BiHashMap<T, S> {
         ensures stays { BiStays ⟦<Self as Keyed>⟧.keyed self.old self.new }
     {
         let hash = self.hasher.hash_one(query);
+        self.remove_hashed2(hash, query)
+    }
+
+    // As `remove1`. The hash is that of each key for which the query stands.
+    pub(super) fn remove_hashed1<Q: Equivalent<T::K1>>(&mut self, hash: u64, query: &Q) -> Option<T>
+        requires keyed { ⟦<Self as Keyed>⟧.keyed self.old }
+        requires hash { HasHash ⟦<Self as Keyed>⟧.hash self.old (Q.equivalent query.now) T.K1.hash_input hash }
+
+        // what is removed
+        ensures value { result ≡ find_item T.key1 (Q.equivalent query.now) self.old.items }
+        ensures items { RemovesFound T.key1 (Q.equivalent query.now) self.old.items self.new.items }
+        ensures removed { Removes result (holding_of self.old) (holding_of self.new) }
+        ensures unchanged { IfNone result (self.new ≡ self.old) }
+
+        // what stays
+        ensures stays { BiStays ⟦<Self as Keyed>⟧.keyed self.old self.new }
+    {
+        let slot = self.slot_by_key1(hash, query)?;
+        let other = self.hasher.hash_one(self.item_in_slot(slot).key2());
+        Some(self.take_hashed(hash, other, slot))
+    }
+
+    // As `remove2`. The hash is that of each key for which the query stands.
+    pub(super) fn remove_hashed2<Q: Equivalent<T::K2>>(&mut self, hash: u64, query: &Q) -> Option<T>
+        requires keyed { ⟦<Self as Keyed>⟧.keyed self.old }
+        requires hash { HasHash ⟦<Self as Keyed>⟧.hash self.old (Q.equivalent query.now) T.K2.hash_input hash }
+
+        // what is removed
+        ensures value { result ≡ find_item T.key2 (Q.equivalent query.now) self.old.items }
+        ensures items { RemovesFound T.key2 (Q.equivalent query.now) self.old.items self.new.items }
+        ensures removed { Removes result (holding_of self.old) (holding_of self.new) }
+        ensures unchanged { IfNone result (self.new ≡ self.old) }
+
+        // what stays
+        ensures stays { BiStays ⟦<Self as Keyed>⟧.keyed self.old self.new }
+    {
         let slot = self.slot_by_key2(hash, query)?;
         let other = self.hasher.hash_one(self.item_in_slot(slot).key1());
         Some(self.take_hashed(other, hash, slot))

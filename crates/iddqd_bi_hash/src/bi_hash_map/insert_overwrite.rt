@@ -27,7 +27,8 @@ impl<T: BiHashItem, S: BuildHasher> BiHashMap<T, S> {
     /// Inserts the item, and removes and returns the one or two items that have one of its keys, that of the first key
     /// first. If there is one, this does not allocate and is never refused. If there is none, it inserts the item as
     /// `insert_unique` does and returns `None`. If the map is full or memory is refused, the item is returned, and the
-    /// items are as they were. Hashes each key twice, and once the other key of each item that is removed.
+    /// items are as they were. Hashes each key once, and searches once by each. Hashes the other key of each removed
+    /// item once.
     pub fn insert_overwrite(&mut self, item: T) -> Result<Option<Few<T>>, Refused<T>>
         requires keyed { ⟦<Self as Keyed>⟧.keyed self.old }
 
@@ -43,7 +44,7 @@ impl<T: BiHashItem, S: BuildHasher> BiHashMap<T, S> {
     {
         let hash1 = self.hasher.hash_one(item.key1());
         let hash2 = self.hasher.hash_one(item.key2());
-        match self.displace(&item) {
+        match self.displace(hash1, hash2, &item) {
             None => {
                 self.insert_hashed(hash1, hash2, item)?;
                 Ok(None)
@@ -55,9 +56,12 @@ impl<T: BiHashItem, S: BuildHasher> BiHashMap<T, S> {
         }
     }
 
-    // Removes and returns the items that have one of the item's keys, that of the first key first.
-    pub(super) fn displace(&mut self, item: &T) -> Option<Few<T>>
+    // Removes and returns the items that have one of the item's keys, that of the first key first. The hashes are those
+    // of the item's keys.
+    pub(super) fn displace(&mut self, hash1: u64, hash2: u64, item: &T) -> Option<Few<T>>
         requires keyed { ⟦<Self as Keyed>⟧.keyed self.old }
+        requires hash1 { hash1 ≡ ⟦<Self as Keyed>⟧.hash self.old (T.K1.hash_input (T.key1 item.now)) }
+        requires hash2 { hash2 ≡ ⟦<Self as Keyed>⟧.hash self.old (T.K2.hash_input (T.key2 item.now)) }
 
         // what is removed
         ensures displaced { Displaces T.key1 T.key2 T.K1.eq T.K2.eq item.now self.old.items result }
@@ -73,8 +77,8 @@ impl<T: BiHashItem, S: BuildHasher> BiHashMap<T, S> {
         // what stays
         ensures stays { BiStays ⟦<Self as Keyed>⟧.keyed self.old self.new }
     {
-        let one = self.remove1(item.key1());
-        let other = self.remove2(item.key2());
+        let one = self.remove_hashed1(hash1, item.key1());
+        let other = self.remove_hashed2(hash2, item.key2());
         few_of(one, other)
     }
 }

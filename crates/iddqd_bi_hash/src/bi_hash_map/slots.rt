@@ -1,7 +1,9 @@
 //! The slots that searches find, and their items.
 ghost use Rattle.std.specs.Prelude.{◌≡◌, ◌<◌, IfNone, IfSome, IsSome, Some, length, map};
+ghost use Rattle.std.specs.Option.{option_and_then};
 ghost use Rattle.iddqd_store.specs.Errors.{values_of};
 ghost use Rattle.iddqd_store.specs.SlotItems.{HaveSlots, item_of_slot};
+ghost use Rattle.iddqd_bi_hash.specs.TwoKeys.{find_by_both};
 ghost use Rattle.iddqd_hash_parts.specs.SlotOrder.{AreBelow, AreRising, IsNext};
 ghost use Rattle.iddqd_hash_parts.specs.SlotsFound.{values_if_any};
 
@@ -87,6 +89,28 @@ impl<T: BiHashItem, S: BuildHasher> BiHashMap<T, S> {
         ensures spare_fits { SpareFits self.now }
     {
         find_slot::<T, Second, Q>(&self.store, &self.index2, hash, query)
+    }
+
+    // Returns the slot of the item that both queries find. Searches by the first key, under its hash, and compares the
+    // second key of the item that it finds.
+    pub(super) fn slot_by_both<Q: Equivalent<T::K1>, R: Equivalent<T::K2>>(
+        &self,
+        hash: u64,
+        query1: &Q,
+        query2: &R,
+    ) -> Option<u32>
+        requires keyed { ⟦<Self as Keyed>⟧.keyed self.now }
+        requires hash { HasHash ⟦<Self as Keyed>⟧.hash self.now (Q.equivalent query1.now) T.K1.hash_input hash }
+        ensures first { IfSome result (λ slot. FindsSlot T.key1 (Q.equivalent query1.now) (by_key1 self.now) hash (Some slot)) }
+        ensures both { option_and_then (item_of_slot self.now.slots self.now.items) result ≡ find_by_both T.key1 T.key2 (Q.equivalent query1.now) (R.equivalent query2.now) self.now.items }
+        ensures spare_fits { SpareFits self.now }
+    {
+        let slot = self.slot_by_key1(hash, query1)?;
+        if query2.equivalent(self.item_in_slot(slot).key2()) {
+            Some(slot)
+        } else {
+            None
+        }
     }
 
     // Returns the slots of the items that have one of the item's keys, the lesser first and each once.

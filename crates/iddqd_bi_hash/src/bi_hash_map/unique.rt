@@ -14,7 +14,7 @@ impl<T: BiHashItem, S: BuildHasher> BiHashMap<T, S> {
     ghost use Rattle.iddqd_bi_hash.specs.BiHashMap.{BiStays, SpareFits};
 
     /// Returns the item that both queries find, or `None`. Searches by the first key, by as many comparisons as `get1`,
-    /// and compares the second key once. Hashes the first query once. Does not allocate.
+    /// and compares the second key of the item that this finds. Hashes the first query once. Does not allocate.
     pub fn get_unique<Q: Hash + Equivalent<T::K1>, R: Equivalent<T::K2>>(
         &self,
         query1: &Q,
@@ -25,12 +25,9 @@ impl<T: BiHashItem, S: BuildHasher> BiHashMap<T, S> {
         ensures found { FindsByBoth T.key1 T.key2 (Q.equivalent query1.now) (R.equivalent query2.now) self.now.items result }
         ensures spare_fits { SpareFits self.now }
     {
-        let found = self.get1(query1)?;
-        if query2.equivalent(found.key2()) {
-            Some(found)
-        } else {
-            None
-        }
+        let hash = self.hasher.hash_one(query1);
+        let found = self.slot_by_both(hash, query1, query2)?;
+        Some(self.item_in_slot(found))
     }
 
     /// Returns true if both queries find one item, by as many comparisons as `get_unique`. Hashes the first query once.
@@ -49,8 +46,8 @@ impl<T: BiHashItem, S: BuildHasher> BiHashMap<T, S> {
     }
 
     /// Removes and returns the item that both queries find. Its slot becomes vacant, and its room is spare. If there is
-    /// none, it returns `None` and changes nothing. Hashes the first query twice, and the second key of the item once.
-    /// Does not allocate.
+    /// none, it returns `None` and changes nothing. Makes as many comparisons as `get_unique`. Hashes the first query
+    /// once, and the second key of the removed item once. Does not allocate.
     pub fn remove_unique<Q: Hash + Equivalent<T::K1>, R: Equivalent<T::K2>>(
         &mut self,
         query1: &Q,
@@ -68,10 +65,9 @@ impl<T: BiHashItem, S: BuildHasher> BiHashMap<T, S> {
         // what stays
         ensures stays { BiStays ⟦<Self as Keyed>⟧.keyed self.old self.new }
     {
-        if self.contains_key_unique(query1, query2) {
-            self.remove1(query1)
-        } else {
-            None
-        }
+        let hash = self.hasher.hash_one(query1);
+        let slot = self.slot_by_both(hash, query1, query2)?;
+        let other = self.hasher.hash_one(self.item_in_slot(slot).key2());
+        Some(self.take_hashed(hash, other, slot))
     }
 }

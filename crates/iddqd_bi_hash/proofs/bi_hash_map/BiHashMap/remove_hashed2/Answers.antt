@@ -1,0 +1,38 @@
+use Rattle.std.proofs.Common.{◌∙◌, Some, refl, sym, ap, is_some, arith}
+use Rattle.iddqd_store.specs.Hashing.{hash_under}
+use Rattle.iddqd_store.proofs.WrittenLemmas.{others_found, slot_place}
+use Rattle.iddqd_hash_parts.proofs.FoundLemmas.{without_absent}
+use Rattle.iddqd_bi_hash.specs.BiHashItems.{differ_by_key2}
+use Rattle.iddqd_bi_hash.proofs.BothLemmas.{stored1}
+use Rattle.iddqd_bi_hash.proofs.bi_hash_map.BiHashMap.remove_hashed2.Goals as goal
+
+-- the other key's hash is the one that is stored
+pub take_hashed-requires-clause-listed1 : goal.take_hashed-requires-clause-listed1
+take_hashed-requires-clause-listed1 g c =
+    let hash = hash_under g.S.BuildHasher g.S.Hasher.Hasher in
+    let input = g.T.K1.Hash.hash_input in
+    let x = c.item_in_slot.result.now in
+    stored1 _ _ _ _ _ _ _ c.args.self.now c.requires.keyed c.in_ok-slot.slot x c.item_in_slot.ensures
+    ∙ ap (λ v. Some (hash v.hasher (input (g.T.BiHashItem.key1 x)))) (sym c.self.view_is)
+    ∙ ap (λ k. Some (hash c.self.inside.hasher (input k))) (sym c.key1.ensures)
+    ∙ ap Some (sym c.hash_one-other.ensures)
+
+pub returns-in_err-slot-clause-items : goal.returns-in_err-slot-clause-items
+returns-in_err-slot-clause-items g c =
+    without_absent g.T.BiHashItem.key2 (g.Q.Equivalent.equivalent c.args.query.now) c.args.self.now.items (sym c.in_err-slot.ensures.slot.item)
+
+pub returns-in_err-slot-clause-stays : goal.returns-in_err-slot-clause-stays
+returns-in_err-slot-clause-stays g c =
+    record { keyed = c.requires.keyed; spare = record { never_less = omega arith; spare_fits = c.in_err-slot.ensures.spare_fits }; hasher = refl }
+
+pub returns-clause-value : goal.returns-clause-value
+returns-clause-value g c = sym c.take_hashed.ensures.value ∙ c.in_ok-slot.ensures.slot.item
+
+pub returns-clause-items : goal.returns-clause-items
+returns-clause-items g c =
+    let old = c.args.self.now in
+    let slot = c.in_ok-slot.slot in
+    let taken = c.take_hashed.ensures in
+    let p = slot_place old.slots old.items slot c.take_hashed.result taken.value in
+    (taken.gone p.place p.slot_there).0 ∙ sym p.others
+    ∙ others_found g.T.BiHashItem.key2 g.met.T.K2.Eq.laws (g.Q.Equivalent.equivalent c.args.query.now) (g.met.Q.Equivalent.one_key c.args.query.now) old.slots old.items (differ_by_key2 _ _ _ _ _ _ _ old c.requires.keyed) slot (ap is_some taken.value) (sym c.in_ok-slot.ensures.slot.item)
