@@ -12,12 +12,13 @@
 --     InsertsAll, StopsAt      items are inserted one after another; this many are, and the next one is not
 --     MeetsAkin, FindsFull      why it is not
 --     Answers      the reply to a command, and the items then
---     ShowsClone      a reply that lacks no clone
+--     ShowsClone, ShowsClones      a reply that lacks no clone; all of them
 --     Does, Step, Run      one command and its reply; with how the items lie; a list of commands and their replies
 use Rattle.std.specs.declared.cmp.Ordering.{Ordering}
+use Rattle.std.specs.List.{AllZip}
 use Rattle.std.specs.Prelude.{◌≡◌, ℕ, ◌+◌, ◌<◌, ◌≤◌, max, Bool, List, [], ◌∷◌, length, take, slice_get, Option, Some, None, IfSome, IsSome, IsPermutation, ⊤}
 use Rattle.iddqd.specs.Collecting.{AddsAll, IsFirstConflict, room_to_reserve}
-use Rattle.iddqd.specs.Contents.{Ascends, find_item, IsAbsent, NoTwoAkin, items_overwritten, items_without, OverwritesItem}
+use Rattle.iddqd.specs.Contents.{Ascends, ClonesSucceed, find_item, IsAbsent, NoTwoAkin, items_overwritten, items_without, OverwritesItem}
 use Rattle.iddqd.specs.Visiting.{kept_by, visitor_after}
 use Rattle.iddqd.specs.Refusal.{FindsNoRoom, RefusalKind, memory_refused, reservation_kind}
 use Rattle.idtable_commands.specs.declared.commands.Command.{Command}
@@ -139,6 +140,10 @@ ShowsClone (InsertUnique x) (Duplicate back existing) = IsSome existing
 ShowsClone (ExtendUnique xs) (Conflict back existing after) = IsSome existing
 ShowsClone (Get k) (Refused back kind) = ⊥
 ShowsClone _ _ = ⊤
+
+-- each reply does, if no clone can be refused
+pub record ShowsClones {T K V : Type 0} (is_infallible : T → Type 0) (commands : List (Command T K V)) (replies : List (Reply T)) : Type 0 where
+  pub shown : ClonesSucceed is_infallible → AllZip ShowsClone commands replies
 
 module _ {T K V : Type 0} (key : T → K) (eq : K → K → Bool) (visits : V → T → V × T × Bool) (limit : ℕ) (rule : MapRule K) where
   -- the reply to each command, and the items then; no other pair of a command and a reply occurs

@@ -1,6 +1,5 @@
 //! Lists of commands.
 ghost use Rattle.std.specs.Prelude.{◌≡◌, OnErr, IfOk, IfErr, IfSome, IsSome};
-ghost use Rattle.std.specs.List.{AllZip};
 ghost use Rattle.iddqd.specs.Contents.{ClonesAreEqual, ClonesSucceed};
 ghost use Rattle.iddqd.specs.Errors.{values_of};
 ghost use Rattle.iddqd.specs.Refusal.{IsOnly};
@@ -8,7 +7,7 @@ ghost use Rattle.iddqd.specs.Visiting.{VisitsKeepKeys};
 ghost use Rattle.idtable_commands.specs.KeyedMap.{StaysKeyed};
 ghost use Rattle.idtable_commands.specs.declared.commands.Command.TheVariants.{InsertUnique, InsertOverwrite, Get, Visit, RetainMut, Reserve, Shrink, ExtendUnique};
 ghost use Rattle.idtable_commands.specs.Running.{DoesIn, Gives, RunsIn};
-ghost use Rattle.idtable_commands.specs.Step.{FitsRoom, ShowsClone};
+ghost use Rattle.idtable_commands.specs.Step.{FitsRoom, ShowsClone, ShowsClones};
 
 use crate::commands::{Command, Reply, RunStop};
 use crate::keyed_map::KeyedMap;
@@ -36,7 +35,7 @@ where
 
     // on success
     ensures run { IfOk result (RunsIn M.KeyedMap M.Key.eq V.visits commands map.old map.new) }
-    ensures shown { ClonesSucceed M.Item.is_infallible → IfOk result (λ replies. AllZip ShowsClone commands.items replies.items) }
+    ensures shown { IfOk result (λ replies. ShowsClones M.Item.is_infallible commands.items replies.items) }
 
     // on refusal
     ensures handed_back { IfErr result (λ stop. stop.commands ≡ commands) }
@@ -105,7 +104,7 @@ where
     requires keyed { M.keyed map.old }
     requires clones { ClonesAreEqual M.Item.is_clone }
     ensures reply { Gives M.KeyedMap M.Key.eq V.visits (InsertUnique item) map.old result map.new }
-    ensures shown { ClonesSucceed M.Item.is_infallible → ShowsClone (InsertUnique item) result }
+    ensures shown { ClonesSucceed M.Item.is_infallible → ShowsClone {K = M.Key} {V = V} (InsertUnique item) result }
     ensures stays { StaysKeyed M.state M.limit M.rule M.keyed map.old map.new }
 {
     match map.insert_unique(item) {
@@ -215,7 +214,7 @@ where
     requires keyed { M.keyed map.now }
     requires clones { ClonesAreEqual M.Item.is_clone }
     ensures reply { Gives M.KeyedMap M.Key.eq V.visits (Get key.now) map.now result map.now }
-    ensures shown { ClonesSucceed M.Item.is_infallible → ShowsClone (Get key.now) result }
+    ensures shown { ClonesSucceed M.Item.is_infallible → ShowsClone {V = V} (Get key.now) result }
     ensures room { FitsRoom M.rule (M.limit map.now) (M.state map.now) }
 {
     let Some(item) = map.get(key) else {
@@ -237,7 +236,7 @@ where
     requires keyed { M.keyed map.old }
     requires clones { ClonesAreEqual M.Item.is_clone }
     ensures reply { Gives M.KeyedMap M.Key.eq V.visits (ExtendUnique items) map.old result map.new }
-    ensures shown { ClonesSucceed M.Item.is_infallible → ShowsClone (ExtendUnique items) result }
+    ensures shown { ClonesSucceed M.Item.is_infallible → ShowsClone {K = M.Key} {V = V} (ExtendUnique items) result }
     ensures stays { StaysKeyed M.state M.limit M.rule M.keyed map.old map.new }
 {
     let before = map.len();
