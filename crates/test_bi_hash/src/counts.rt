@@ -1,11 +1,11 @@
 //! How often each call compares and hashes the keys.
 use crate::checks::check;
-use crate::held::Held;
-use crate::tallies::{Counted, Tallies};
-use iddqd_bi_hash::{BiHashMap, FromIterError};
+use crate::tallies::{Counted, Counting, Tallies};
+use iddqd_bi_hash::{BiHashMap, FromIterError, Keyed};
 use std::alloc::Global;
 use std::hash::BuildHasherDefault;
 use std::process::Abort;
+use std::test::Fail;
 use test_support::bulk::Hinted;
 use test_support::hashers::ZeroHasher;
 
@@ -15,11 +15,13 @@ fn counted(rt: &impl Abort, tallies: &Tallies, wanted: (u32, u32, u32, u32)) {
 }
 
 // The items (1, 2), (2, 4) and (3, 6).
-fn three<'a>(rt: &impl Abort, alloc: Global, tallies: &'a Tallies) -> Held<Counted<'a>> {
-    let mut all = Held::new(alloc);
-    check(rt, all.is_put(tallies.item(1, 2)));
-    check(rt, all.is_put(tallies.item(2, 4)));
-    check(rt, all.is_put(tallies.item(3, 6)));
+fn three<'a>(rt: &impl Abort, alloc: Global, tallies: &'a Tallies) -> BiHashMap<Counted<'a>>
+    ensures keyed { ⟦<BiHashMap<Counted<'a>> as Keyed>⟧.keyed result }
+{
+    let mut all = BiHashMap::new(alloc);
+    check(rt, all.insert_unique(tallies.item(1, 2)).is_ok());
+    check(rt, all.insert_unique(tallies.item(2, 4)).is_ok());
+    check(rt, all.insert_unique(tallies.item(3, 6)).is_ok());
     counted(rt, tallies, (0, 3, 0, 3));
     all
 }
@@ -29,38 +31,55 @@ fn lookups(rt: HostRuntime) {
     let tallies = Tallies::new();
     let all = three(&rt, rt.alloc(), &tallies);
     let (one, other) = (tallies.one(2), tallies.other(4));
-    check(&rt, all.map.get1(&one).is_some());
+    check(&rt, all.get1(&one).is_some());
     counted(&rt, &tallies, (1, 1, 0, 0));
-    check(&rt, all.map.contains_key1(&one));
+    check(&rt, all.contains_key1(&one));
     counted(&rt, &tallies, (1, 1, 0, 0));
-    check(&rt, all.map.get2(&other).is_some());
+    check(&rt, all.get2(&other).is_some());
     counted(&rt, &tallies, (0, 0, 1, 1));
-    check(&rt, all.map.contains_key2(&other));
+    check(&rt, all.contains_key2(&other));
     counted(&rt, &tallies, (0, 0, 1, 1));
-    check(&rt, all.map.get_unique(&one, &other).is_some());
+    check(&rt, all.get_unique(&one, &other).is_some());
     counted(&rt, &tallies, (1, 1, 1, 0));
-    check(&rt, all.map.contains_key_unique(&one, &other));
+    check(&rt, all.contains_key_unique(&one, &other));
     counted(&rt, &tallies, (1, 1, 1, 0));
-    check(&rt, all.map.get_unique(&tallies.one(9), &other).is_none());
+    check(&rt, all.get_unique(&tallies.one(9), &other).is_none());
     counted(&rt, &tallies, (0, 1, 0, 0));
+}
+
+fn lend1<'a>(all: &mut BiHashMap<Counted<'a>>, one: &Counting<'a>)
+    requires keyed { ⟦<BiHashMap<Counted<'a>> as Keyed>⟧.keyed all.old }
+{
+    if let Some(guard) = all.get1_mut(one) {
+        guard.finish();
+    }
+}
+
+fn lend2<'a>(all: &mut BiHashMap<Counted<'a>>, other: &Counting<'a>)
+    requires keyed { ⟦<BiHashMap<Counted<'a>> as Keyed>⟧.keyed all.old }
+{
+    if let Some(guard) = all.get2_mut(other) {
+        guard.finish();
+    }
+}
+
+fn lend_by_both<'a>(all: &mut BiHashMap<Counted<'a>>, one: &Counting<'a>, other: &Counting<'a>)
+    requires keyed { ⟦<BiHashMap<Counted<'a>> as Keyed>⟧.keyed all.old }
+{
+    if let Some(guard) = all.get_mut_unique(one, other) {
+        guard.finish();
+    }
 }
 
 #[test]
 fn guards(rt: HostRuntime) {
     let tallies = Tallies::new();
-    let mut all = three(&rt, rt.alloc(), &tallies);
     let (one, other) = (tallies.one(2), tallies.other(4));
-    if let Some(guard) = all.map.get1_mut(&one) {
-        guard.finish();
-    }
+    lend1(&mut three(&rt, rt.alloc(), &tallies), &one);
     counted(&rt, &tallies, (1, 1, 0, 0));
-    if let Some(guard) = all.map.get2_mut(&other) {
-        guard.finish();
-    }
+    lend2(&mut three(&rt, rt.alloc(), &tallies), &other);
     counted(&rt, &tallies, (0, 0, 1, 1));
-    if let Some(guard) = all.map.get_mut_unique(&one, &other) {
-        guard.finish();
-    }
+    lend_by_both(&mut three(&rt, rt.alloc(), &tallies), &one, &other);
     counted(&rt, &tallies, (1, 1, 1, 0));
 }
 
@@ -69,19 +88,16 @@ fn guards(rt: HostRuntime) {
 fn removals(rt: HostRuntime) {
     let tallies = Tallies::new();
     let mut all = three(&rt, rt.alloc(), &tallies);
-    check(&rt, all.map.remove1(&tallies.one(1)).is_some());
+    check(&rt, all.remove1(&tallies.one(1)).is_some());
     counted(&rt, &tallies, (1, 1, 0, 1));
-    check(&rt, all.map.remove1(&tallies.one(1)).is_none());
+    check(&rt, all.remove1(&tallies.one(1)).is_none());
     counted(&rt, &tallies, (0, 1, 0, 0));
-    check(&rt, all.map.remove2(&tallies.other(4)).is_some());
+    check(&rt, all.remove2(&tallies.other(4)).is_some());
     counted(&rt, &tallies, (0, 1, 1, 1));
     let (one, wrong) = (tallies.one(3), tallies.other(4));
-    check(&rt, all.map.remove_unique(&one, &wrong).is_none());
+    check(&rt, all.remove_unique(&one, &wrong).is_none());
     counted(&rt, &tallies, (1, 1, 1, 0));
-    check(
-        &rt,
-        all.map.remove_unique(&one, &tallies.other(6)).is_some(),
-    );
+    check(&rt, all.remove_unique(&one, &tallies.other(6)).is_some());
     counted(&rt, &tallies, (1, 1, 1, 1));
 }
 
@@ -90,34 +106,47 @@ fn removals(rt: HostRuntime) {
 fn insertions(rt: HostRuntime) {
     let tallies = Tallies::new();
     let mut all = three(&rt, rt.alloc(), &tallies);
-    check(&rt, !all.is_put(tallies.item(1, 4)));
+    check(&rt, all.insert_unique(tallies.item(1, 4)).is_err());
     counted(&rt, &tallies, (1, 1, 1, 1));
-    check(&rt, all.map.insert_overwrite(tallies.item(4, 8)).is_ok());
+    check(&rt, all.insert_overwrite(tallies.item(4, 8)).is_ok());
     counted(&rt, &tallies, (0, 1, 0, 1));
-    check(&rt, all.map.insert_overwrite(tallies.item(4, 8)).is_ok());
+    check(&rt, all.insert_overwrite(tallies.item(4, 8)).is_ok());
     counted(&rt, &tallies, (1, 1, 0, 2));
-    check(&rt, all.map.insert_overwrite(tallies.item(9, 8)).is_ok());
+    check(&rt, all.insert_overwrite(tallies.item(9, 8)).is_ok());
     counted(&rt, &tallies, (0, 2, 1, 1));
-    check(&rt, all.map.insert_overwrite(tallies.item(1, 4)).is_ok());
+    check(&rt, all.insert_overwrite(tallies.item(1, 4)).is_ok());
     counted(&rt, &tallies, (1, 2, 1, 2));
 }
 
-// Growth hashes no key, nor does what looks at all items.
+// What looks at all items hashes those that it removes.
+fn look_at_all<'a>(rt: &impl Abort, all: &mut BiHashMap<Counted<'a>>, tallies: &Tallies)
+    requires keyed { ⟦<BiHashMap<Counted<'a>> as Keyed>⟧.keyed all.old }
+{
+    check(rt, all.reserve(1000).is_ok());
+    check(rt, all.iter().count() == 100);
+    counted(rt, tallies, (0, 0, 0, 0));
+    all.retain(|item| item.one.number >= 10);
+    counted(rt, tallies, (0, 10, 0, 10));
+    all.clear();
+    counted(rt, tallies, (0, 0, 0, 0));
+}
+
+// Growth hashes no key.
 #[test]
-fn many(rt: HostRuntime) {
+fn many(rt: HostRuntime) -> Result<(), Fail> {
     let tallies = Tallies::new();
-    let mut all: Held<Counted> = Held::new(rt.alloc());
+    let mut items = Vec::new(rt.alloc());
     for number in 0..100u32 {
-        check(&rt, all.is_put(tallies.item(number, number)));
+        items.push(tallies.item(number, number))?;
     }
-    counted(&rt, &tallies, (0, 100, 0, 100));
-    check(&rt, all.map.reserve(1000).is_ok());
-    check(&rt, all.map.iter().count() == 100);
-    counted(&rt, &tallies, (0, 0, 0, 0));
-    all.map.retain(|item| item.one.number >= 10);
-    counted(&rt, &tallies, (0, 10, 0, 10));
-    all.map.clear();
-    counted(&rt, &tallies, (0, 0, 0, 0));
+    match BiHashMap::<Counted>::from_iter_unique(rt.alloc(), Hinted::new(items.as_slice(), 0)) {
+        Ok(mut all) => {
+            counted(&rt, &tallies, (0, 100, 0, 100));
+            look_at_all(&rt, &mut all, &tallies);
+        }
+        Err(_error) => check(&rt, false),
+    }
+    Ok(())
 }
 
 // At the repeat, the third, both earlier items go.
@@ -144,15 +173,15 @@ fn collected(rt: HostRuntime) {
 fn equal_hashes(rt: HostRuntime) {
     let tallies = Tallies::new();
     let hasher: BuildHasherDefault<ZeroHasher> = BuildHasherDefault::new();
-    let mut all = Held::over(BiHashMap::with_hasher(rt.alloc(), hasher));
-    check(&rt, all.is_put(tallies.item(1, 2)));
-    check(&rt, all.is_put(tallies.item(2, 4)));
-    check(&rt, all.is_put(tallies.item(3, 6)));
+    let mut all = BiHashMap::with_hasher(rt.alloc(), hasher);
+    check(&rt, all.insert_unique(tallies.item(1, 2)).is_ok());
+    check(&rt, all.insert_unique(tallies.item(2, 4)).is_ok());
+    check(&rt, all.insert_unique(tallies.item(3, 6)).is_ok());
     let _ = tallies.since();
-    check(&rt, !all.map.contains_key1(&tallies.one(9)));
+    check(&rt, !all.contains_key1(&tallies.one(9)));
     counted(&rt, &tallies, (3, 1, 0, 0));
-    check(&rt, !all.map.contains_key2(&tallies.other(9)));
+    check(&rt, !all.contains_key2(&tallies.other(9)));
     counted(&rt, &tallies, (0, 0, 3, 1));
-    check(&rt, all.is_put(tallies.item(5, 10)));
+    check(&rt, all.insert_unique(tallies.item(5, 10)).is_ok());
     counted(&rt, &tallies, (3, 1, 3, 1));
 }

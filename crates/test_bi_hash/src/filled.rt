@@ -2,8 +2,8 @@
 ghost use Rattle.std.specs.Prelude.{IfOk};
 
 use crate::checks::check;
-use crate::held::{Held, Hosts};
-use crate::hosts::{Host, host};
+use crate::held::{Held, Hosts, host};
+use crate::hosts::Host;
 use iddqd_bi_hash::{BiHashMap, DefaultHashBuilder, FromIterError, Keyed, TryReserveError};
 use std::alloc::{AllocError, Global};
 use std::process::Abort;
@@ -46,11 +46,17 @@ fn overwritten(rt: HostRuntime) {
     check(&rt, all.holds_below(COUNT));
 }
 
-/// Whether no map is made of the hosts for want of memory, where so many are announced.
-pub(crate) fn is_refused(rt: &impl Abort, alloc: Global, hosts: &[Host], hint: usize) -> bool {
+/// Whether no map is made of the hosts below this number for want of memory, where so many are announced.
+pub(crate) fn is_refused(
+    rt: &impl Abort,
+    alloc: Global,
+    hosts: &[Host],
+    count: u32,
+    hint: usize,
+) -> bool {
     match BiHashMap::from_iter_unique(alloc, Hinted::new(hosts, hint)) {
         Ok(map) => {
-            check(rt, Held::over(map).holds_below(hosts.len() as u32));
+            check(rt, Held::over(map).holds_below(count));
             false
         }
         Err(FromIterError::Refused(error)) => {
@@ -67,8 +73,14 @@ pub(crate) fn is_refused(rt: &impl Abort, alloc: Global, hosts: &[Host], hint: u
 #[test]
 fn collected(rt: HostRuntime) -> Result<(), Fail> {
     let hosts = hosts_below(rt.alloc(), COUNT)?;
-    check(&rt, !is_refused(&rt, rt.alloc(), hosts.as_slice(), 0));
-    check(&rt, !is_refused(&rt, rt.alloc(), hosts.as_slice(), 300));
+    check(
+        &rt,
+        !is_refused(&rt, rt.alloc(), hosts.as_slice(), COUNT, 0),
+    );
+    check(
+        &rt,
+        !is_refused(&rt, rt.alloc(), hosts.as_slice(), COUNT, 300),
+    );
     Ok(())
 }
 

@@ -1,13 +1,22 @@
 //! A map under test.
-ghost use Rattle.iddqd_store.specs.Hashing.{hash_under};
+ghost use Rattle.iddqd_bi_hash.specs.Hashing.{hash_under};
 ghost use Rattle.iddqd_bi_hash.specs.BiHashItems.{BiHashItems, IsKeyedByBoth};
 
-use crate::hosts::{Host, host};
+use crate::hosts::Host;
 use crate::plain::is_same;
 use iddqd_bi_hash::{BiHashItem, BiHashMap, DefaultHashBuilder, Keyed, ValidateCompact};
 use std::alloc::Global;
 use std::hash::BuildHasher;
 use std::marker::Model;
+
+/// The host of this number under test.
+pub(crate) fn host(number: u32) -> Host {
+    Host {
+        number,
+        address: number as u64 + 100,
+        load: number,
+    }
+}
 
 /// A map that is keyed.
 #[derive(Drop)]

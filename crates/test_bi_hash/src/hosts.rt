@@ -12,16 +12,6 @@ pub struct Host {
     pub load: u32,
 }
 
-/// The host of this number under test.
-#[cfg(test)]
-pub(crate) fn host(number: u32) -> Host {
-    Host {
-        number,
-        address: number as u64 + 100,
-        load: number,
-    }
-}
-
 impl BiHashItem for Host {
     type K1 = u32;
 

@@ -1,8 +1,8 @@
 //! Calls with requests for memory refused: which hosts are in then.
 use crate::checks::check;
 use crate::filled::{self, hosts_below};
-use crate::held::{Held, Hosts};
-use crate::hosts::{Host, host};
+use crate::held::{Held, Hosts, host};
+use crate::hosts::Host;
 use iddqd_bi_hash::{BiHashMap, DefaultHashBuilder, FromIterError, InsertError};
 use std::process::Abort;
 use std::test::Fail;
@@ -167,8 +167,8 @@ fn made_with_room(rt: HostRuntime) -> Result<(), Fail> {
 fn from_iter_unique(rt: HostRuntime) -> Result<(), Fail> {
     let hosts = hosts_below(rt.alloc(), 20)?;
     arm(rt.alloc());
-    let one = filled::is_refused(&rt, rt.alloc(), hosts.as_slice(), 0);
-    let other = filled::is_refused(&rt, rt.alloc(), hosts.as_slice(), 20);
+    let one = filled::is_refused(&rt, rt.alloc(), hosts.as_slice(), 20, 0);
+    let other = filled::is_refused(&rt, rt.alloc(), hosts.as_slice(), 20, 20);
     println!(rt; "{}", word(&rt, is_met(rt.alloc()), one, other))?;
     Ok(())
 }
