@@ -19,6 +19,10 @@ pub record AnswersAll (kind : Kind) (old new : Option (List ℕ)) (refusals : �
 abbrev pub ReadsInto : {R : Type 0} → (R → Option (List ℕ)) → R → R → Vec ℕ → Type 0
 ReadsInto left old new input = Consumes (left old) (left new) input.items
 
+-- the first bytes of what the reader had left were read, and the rest is left
+abbrev pub ReadsBeginning : {R : Type 0} → (R → Option (List ℕ)) → R → R → Type 0
+ReadsBeginning left old new = (input : List ℕ) × Consumes (left old) (left new) input
+
 -- a beginning of the text was written, and nothing else
 abbrev pub AppendsBeginning : {W : Type 0} → (W → Option (List ℕ)) → W → W → List ℕ → Type 0
 AppendsBeginning contents old new text = (written : List ℕ) × StartsWith text written × Appends (contents old) (contents new) written

@@ -1,7 +1,7 @@
 //! From a reader to a writer.
 ghost use Rattle.std.specs.Prelude.{◌≡◌, ◌≢◌, OnOk, OnErr, IfOk, IfErr};
 ghost use Rattle.std.specs.Io.KnownBytes.{Appends, IsAtEnd};
-ghost use Rattle.iddqd_run.specs.Served.{AppendsBeginning, ReadsInto, ServesAll, ServesBeginning, WritesNothing};
+ghost use Rattle.iddqd_run.specs.Served.{AppendsBeginning, ReadsBeginning, ReadsInto, ServesAll, ServesBeginning, WritesNothing};
 ghost use Rattle.iddqd_run.specs.Words.{text_for};
 
 use crate::answering::answer;
@@ -34,8 +34,9 @@ pub fn fault_text(fault: &Fault) -> &'static str
 }
 
 /// Reads all input, replies to each line from the entries so far, writes the whole text, and flushes the writer. It
-/// returns how many lines were refused memory. After `Fault::Read` and `Fault::Memory` nothing was written, after
-/// `Fault::Write` a beginning of the text or all of it. A read or a write that is interrupted is made again. The
+/// returns how many lines were refused memory. After `Fault::Read` and `Fault::Memory` nothing was written, and what
+/// was read is a beginning of the input. After `Fault::Write` all input was read, and a beginning of the text was
+/// written or all of it. A read or a write that is interrupted is made again. The
 /// kind of map decides only whether it has ends, and whether `list` can be refused memory. Over a hash map the
 /// reply to `first`, `last`, `popfirst` and `poplast` is `unsupported`, and `list` allocates to sort the entries.
 /// The whole input and the whole text are in memory at once.
@@ -48,6 +49,7 @@ pub fn serve<R: Read, W: Write>(
     ensures answered { IfOk result (ServesAll R.remaining W.contents kind reader.old reader.new writer.old writer.new) }
     ensures begun { IfErr result (ServesBeginning R.remaining W.contents kind reader.old reader.new writer.old writer.new) }
     ensures unwritten { IfErr result (WritesNothing W.contents writer.old writer.new) }
+    ensures read { ReadsBeginning R.remaining reader.old reader.new }
 {
     let input = read_whole(alloc, reader)?;
     let answered = match kind {
@@ -74,6 +76,7 @@ pub fn serve<R: Read, W: Write>(
 fn read_whole<R: Read>(alloc: Global, reader: &mut R) -> Result<Vec<u8>, Fault>
     ensures bytes { IfOk result (ReadsInto R.remaining reader.old reader.new) }
     ensures at_end { OnOk result (IsAtEnd (R.remaining reader.new)) }
+    ensures read { ReadsBeginning R.remaining reader.old reader.new }
     ensures fault { IfErr result (λ fault. fault ≢ Fault.Write) }
 {
     let mut input = Vec::new(alloc);

@@ -12,9 +12,10 @@
 --     InsertsAll, StopsAt      items are inserted one after another; this many are, and the next one is not
 --     MeetsAkin, FindsFull      why it is not
 --     Answers      the reply to a command, and the items then
+--     ShowsClone      a reply that lacks no clone
 --     Does, Step, Run      one command and its reply; with how the items lie; a list of commands and their replies
 use Rattle.std.specs.declared.cmp.Ordering.{Ordering}
-use Rattle.std.specs.Prelude.{◌≡◌, ℕ, ◌+◌, ◌<◌, ◌≤◌, max, Bool, List, [], ◌∷◌, length, take, slice_get, Option, Some, None, IfSome, IsPermutation}
+use Rattle.std.specs.Prelude.{◌≡◌, ℕ, ◌+◌, ◌<◌, ◌≤◌, max, Bool, List, [], ◌∷◌, length, take, slice_get, Option, Some, None, IfSome, IsSome, IsPermutation, ⊤}
 use Rattle.iddqd.specs.Collecting.{AddsAll, IsFirstConflict, room_to_reserve}
 use Rattle.iddqd.specs.Contents.{Ascends, find_item, IsAbsent, NoTwoAkin, items_overwritten, items_without, OverwritesItem}
 use Rattle.iddqd.specs.Visiting.{kept_by, visitor_after}
@@ -131,6 +132,13 @@ module _ {T K V : Type 0} (key : T → K) (visits : V → T → V × T × Bool) 
 module _ {T K V : Type 0} (visits : V → T → V × T × Bool) where
   abbrev pub RetainsVisited : MapRule K → (old_visitor new_visitor : V) → (old new : List T) → Type 0
   RetainsVisited rule v w old new = (order : List T) × IsVisitOrder rule old order × (w ≡ visitor_after visits v order) × (new ≡ kept_by visits v order)
+
+-- the reply shows the clone that the command asks for: of the item that a key finds, or of the one that has a new item's key
+abbrev pub ShowsClone : {T K V : Type 0} → Command T K V → Reply T → Type 0
+ShowsClone (InsertUnique x) (Duplicate back existing) = IsSome existing
+ShowsClone (ExtendUnique xs) (Conflict back existing after) = IsSome existing
+ShowsClone (Get k) (Refused back kind) = ⊥
+ShowsClone _ _ = ⊤
 
 module _ {T K V : Type 0} (key : T → K) (eq : K → K → Bool) (visits : V → T → V × T × Bool) (limit : ℕ) (rule : MapRule K) where
   -- the reply to each command, and the items then; no other pair of a command and a reply occurs

@@ -1,13 +1,14 @@
 //! Lists of commands.
-ghost use Rattle.std.specs.Prelude.{◌≡◌, OnErr, IfOk, IfErr, IfSome};
-ghost use Rattle.iddqd.specs.Contents.{ClonesAreEqual};
+ghost use Rattle.std.specs.Prelude.{◌≡◌, OnErr, IfOk, IfErr, IfSome, IsSome};
+ghost use Rattle.std.specs.List.{AllZip};
+ghost use Rattle.iddqd.specs.Contents.{ClonesAreEqual, ClonesSucceed};
 ghost use Rattle.iddqd.specs.Errors.{values_of};
 ghost use Rattle.iddqd.specs.Refusal.{IsOnly};
 ghost use Rattle.iddqd.specs.Visiting.{VisitsKeepKeys};
 ghost use Rattle.idtable_commands.specs.KeyedMap.{StaysKeyed};
 ghost use Rattle.idtable_commands.specs.declared.commands.Command.TheVariants.{InsertUnique, InsertOverwrite, Get, Visit, RetainMut, Reserve, Shrink, ExtendUnique};
 ghost use Rattle.idtable_commands.specs.Running.{DoesIn, Gives, RunsIn};
-ghost use Rattle.idtable_commands.specs.Step.{FitsRoom};
+ghost use Rattle.idtable_commands.specs.Step.{FitsRoom, ShowsClone};
 
 use crate::commands::{Command, Reply, RunStop};
 use crate::keyed_map::KeyedMap;
@@ -35,6 +36,7 @@ where
 
     // on success
     ensures run { IfOk result (RunsIn M.KeyedMap M.Key.eq V.visits commands map.old map.new) }
+    ensures shown { ClonesSucceed M.Item.is_infallible → IfOk result (λ replies. AllZip ShowsClone commands.items replies.items) }
 
     // on refusal
     ensures handed_back { IfErr result (λ stop. stop.commands ≡ commands) }
@@ -69,6 +71,7 @@ where
 
     // the step
     ensures does { DoesIn M.KeyedMap M.Key.eq V.visits command map.old result map.new }
+    ensures shown { ClonesSucceed M.Item.is_infallible → ShowsClone command result }
 
     // the map
     ensures keyed { M.keyed map.new }
@@ -102,6 +105,7 @@ where
     requires keyed { M.keyed map.old }
     requires clones { ClonesAreEqual M.Item.is_clone }
     ensures reply { Gives M.KeyedMap M.Key.eq V.visits (InsertUnique item) map.old result map.new }
+    ensures shown { ClonesSucceed M.Item.is_infallible → ShowsClone (InsertUnique item) result }
     ensures stays { StaysKeyed M.state M.limit M.rule M.keyed map.old map.new }
 {
     match map.insert_unique(item) {
@@ -139,10 +143,10 @@ where
 // A clone of the one item that is lent; none where memory for it was refused.
 fn first_clone<T: Clone>(shown: &Few<&T>) -> Option<T>
     requires clones { ClonesAreEqual T.is_clone }
-    ensures { (x : _) → IsOnly (values_of shown.now) x → IfSome result (λ clone. clone ≡ x) }
+    ensures clone { (x : _) → IsOnly (values_of shown.now) x → IfSome result (λ clone. clone ≡ x) }
+    ensures succeeds { ClonesSucceed T.is_infallible → IsSome result }
 {
-    let first = shown.get(0)?;
-    (**first).clone().ok()
+    (**shown.first()).clone().ok()
 }
 
 // `Visit`.
@@ -211,6 +215,7 @@ where
     requires keyed { M.keyed map.now }
     requires clones { ClonesAreEqual M.Item.is_clone }
     ensures reply { Gives M.KeyedMap M.Key.eq V.visits (Get key.now) map.now result map.now }
+    ensures shown { ClonesSucceed M.Item.is_infallible → ShowsClone (Get key.now) result }
     ensures room { FitsRoom M.rule (M.limit map.now) (M.state map.now) }
 {
     let Some(item) = map.get(key) else {
@@ -232,6 +237,7 @@ where
     requires keyed { M.keyed map.old }
     requires clones { ClonesAreEqual M.Item.is_clone }
     ensures reply { Gives M.KeyedMap M.Key.eq V.visits (ExtendUnique items) map.old result map.new }
+    ensures shown { ClonesSucceed M.Item.is_infallible → ShowsClone (ExtendUnique items) result }
     ensures stays { StaysKeyed M.state M.limit M.rule M.keyed map.old map.new }
 {
     let before = map.len();

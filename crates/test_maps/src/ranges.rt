@@ -242,12 +242,11 @@ fn positions(rt: HostRuntime) -> Result<(), Fail> {
 
 // Whether a walk that ends the map gives its items from both ends in turn.
 #[test]
-fn owned_walk_from_both_ends(rt: HostRuntime) {
-    let map = match evens(rt.alloc(), 40) {
-        Some(map) => map.into_map(),
-        None => return,
+fn owned_walk_from_both_ends(rt: HostRuntime) -> Result<(), Fail> {
+    let Some(map) = evens(rt.alloc(), 40) else {
+        return Err(Fail::from("not filled"));
     };
-    let mut walk = map.into_iter();
+    let mut walk = map.into_map().into_iter();
     for half in 0..20 {
         check(&rt, walk.next() == Some(even(half)));
         check(
@@ -259,6 +258,7 @@ fn owned_walk_from_both_ends(rt: HostRuntime) {
         &rt,
         walk.len() == 0 && walk.next_back().is_none() && walk.next().is_none(),
     );
+    Ok(())
 }
 
 // Whether the removals by position leave the others in order.

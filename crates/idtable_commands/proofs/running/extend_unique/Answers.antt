@@ -21,7 +21,7 @@ returns-in-Ok-clause-reply g c =
 pub returns-in-Err-Duplicate-clause-reply : goal.returns-in-Err-Duplicate-clause-reply
 returns-in-Err-Duplicate-clause-reply g c =
     conflict_answered g.M.KeyedMap.key g.met.M.Key.Eq.laws (g.M.KeyedMap.limit c.args.map.now) c.args.items.items (g.M.KeyedMap.state c.args.map.now) _ c.len-before.result c.len.result c.len-before.ensures.len c.len.ensures.len c.in-Err-Duplicate.duplicate (search rules)
-    c.into_parts-new.result.0 c.into_parts-new.ensures.new c.first_clone-existing.result (λ y lent. c.first_clone-existing.ensures y (subst (λ ds. IsOnly ds y) (sym c.into_parts-new.ensures.duplicates) lent))
+    c.into_parts-new.result.0 c.into_parts-new.ensures.new c.first_clone-existing.result (λ y lent. c.first_clone-existing.ensures.clone y (subst (λ ds. IsOnly ds y) (sym c.into_parts-new.ensures.duplicates) lent))
 
 pub returns-in-Err-Refused-clause-reply : goal.returns-in-Err-Refused-clause-reply
 returns-in-Err-Refused-clause-reply g c =

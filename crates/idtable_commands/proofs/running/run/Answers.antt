@@ -1,5 +1,7 @@
 use Rattle.std.proofs.Common.{◌∙◌, ◌++◌, ◌∷◌, [], length-append, arith, subst, sym, rules}
-use Rattle.idtable_commands.specs.Step.{Does, Run, Step}
+use Rattle.std.specs.List.{AllZip}
+use Rattle.std.proofs.lemmas.Slice.Zip.{all_zipped_more}
+use Rattle.idtable_commands.specs.Step.{Does, Run, ShowsClone, Step}
 use Rattle.idtable_commands.proofs.StepLemmas.{run_more}
 use Rattle.idtable_commands.proofs.running.run.Goals as goal
 
@@ -19,6 +21,8 @@ loop-command-preserved g c =
     let ran = run_more key eq visits rule limit c.loop-command.yielded c.loop-command.replies.items c.in-Some.command c.answer.result first middle last kept.ran step in
     record {
       ran = subst (λ replies. Run key eq visits limit rule first (c.loop-command.yielded ++ c.in-Some.command ∷ []) replies last) (sym c.push_reserved.ensures.items) ran;
+      shown = λ sure. subst (λ replies. AllZip ShowsClone (c.loop-command.yielded ++ c.in-Some.command ∷ []) replies) (sym c.push_reserved.ensures.items)
+          (all_zipped_more ShowsClone c.loop-command.yielded c.loop-command.replies.items c.in-Some.command c.answer.result (kept.shown sure) (c.answer.ensures.shown sure));
       keyed = c.answer.ensures.keyed;
       limit = c.answer.ensures.limit ∙ kept.limit;
       counted = omega (arith, length-append c.loop-command.yielded (c.in-Some.command ∷ []));
