@@ -1,7 +1,10 @@
 //! The ordered index over a store of coins, against a plain list of the years in order.
-ghost use Rattle.std.specs.Prelude.{◌≡◌, ◌≤◌, length};
+ghost use Rattle.std.specs.Prelude.{◌≡◌, ◌≤◌, length, nat_eq};
+ghost use Rattle.std.specs.Cmp.{nat_eq_equiv};
+ghost use Rattle.std.specs.Cmp.Rules.{comparing};
 ghost use Rattle.std.specs.Ordering.{nat_cmp};
-ghost use Rattle.std.proofs.Common.{sym};
+ghost use Rattle.std.proofs.Common.{rules};
+ghost use Rattle.std.proofs.lemmas.Cmp.{nat_cmp_total};
 ghost use Rattle.iddqd_store.specs.Query.{le_then_less, ge_then_greater};
 
 use crate::checks::check;
@@ -37,9 +40,9 @@ struct Asked<'a> {
 }
 
 impl Equivalent<u32> for Asked<'_> {
-    ghost equivalent = { λ q k. ⟦<u32 as Eq>⟧.eq q.year k };
+    ghost equivalent = { λ q k. nat_eq q.year k };
 
-    ghost one_key = { λ q x y. ⟦<u32 as Eq>⟧.laws.congr q.year x y };
+    ghost one_key = { λ q x y. nat_eq_equiv.congr q.year x y };
 
     fn equivalent(&self, key: &u32) -> bool {
         self.compared.set(self.compared.get().saturating_add(1));
@@ -50,11 +53,11 @@ impl Equivalent<u32> for Asked<'_> {
 impl Comparable<u32> for Asked<'_> {
     ghost compare = { λ q k. nat_cmp q.year k };
 
-    ghost equal_where_equivalent = { λ q k. sym (⟦<u32 as Ord>⟧.matches_eq q.year k) };
+    ghost equal_where_equivalent = { Prim.search (comparing, rules) };
 
-    ghost less_above = { λ q x y. le_then_less ⟦<u32 as Ord>⟧.total q.year x y };
+    ghost less_above = { λ q x y. le_then_less nat_cmp_total q.year x y };
 
-    ghost greater_below = { λ q x y. ge_then_greater ⟦<u32 as Ord>⟧.total q.year x y };
+    ghost greater_below = { λ q x y. ge_then_greater nat_cmp_total q.year x y };
 
     fn compare(&self, key: &u32) -> Ordering {
         self.compared.set(self.compared.get().saturating_add(1));

@@ -261,13 +261,11 @@ fn ends_compare_none(rt: HostRuntime) -> Result<(), Fail> {
     Ok(())
 }
 
-type InOrder<'a> = Ordered<Tallied<'a>>;
-
 // A position is found by one search, as the steps say, and so is each bound.
-fn finds_bounds<'a>(
+fn finds_bounds<T: IdOrdItem + Copy + Drop>(
     rt: &impl Abort,
-    map: &InOrder<'a>,
-    key: &CountingKey<'a>,
+    map: &Ordered<T>,
+    key: &T::Key,
     compared: &Cell<u32>,
 ) {
     let once = searched(map, key, compared);
@@ -286,11 +284,11 @@ fn finds_bounds<'a>(
 }
 
 // Both bounds of a range are, and the removal of a range compares no more.
-fn finds_ranges<'a>(
+fn finds_ranges<T: IdOrdItem + Copy + Drop>(
     rt: &impl Abort,
-    map: &mut InOrder<'a>,
-    low: &CountingKey<'a>,
-    high: &CountingKey<'a>,
+    map: &mut Ordered<T>,
+    low: &T::Key,
+    high: &T::Key,
     compared: &Cell<u32>,
 ) {
     let both = map.steps_of(low).saturating_add(map.steps_of(high));
@@ -302,21 +300,21 @@ fn finds_ranges<'a>(
     check(rt, since(compared) == both);
 }
 
-fn bounds<'a>(
+fn bounds<T: IdOrdItem + Copy + Drop>(
     rt: &impl Abort,
-    map: &mut InOrder<'a>,
-    items: &[Tallied<'a>],
-    absent: &[Tallied<'a>],
+    mut map: Ordered<T>,
+    items: &[T],
+    absent: &[T],
     compared: &Cell<u32>,
 ) {
     check(rt, items.len() == 50 && absent.len() == 50);
     check(rt, map.extend(Hinted::new(items, 0)).is_ok());
     for at in 0..50 {
-        finds_bounds(rt, map, &items[at].key, compared);
-        finds_bounds(rt, map, &absent[at].key, compared);
+        finds_bounds(rt, &map, items[at].key(), compared);
+        finds_bounds(rt, &map, absent[at].key(), compared);
     }
-    finds_ranges(rt, map, &items[7].key, &items[10].key, compared);
-    finds_ranges(rt, map, &absent[20].key, &absent[23].key, compared);
+    finds_ranges(rt, &mut map, items[7].key(), items[10].key(), compared);
+    finds_ranges(rt, &mut map, absent[20].key(), absent[23].key(), compared);
 }
 
 #[test]
@@ -325,7 +323,7 @@ fn bounds_search_once(rt: HostRuntime) -> Result<(), Fail> {
     let items = tallied(rt.alloc(), 0, 50, &compared)?;
     let absent = tallied(rt.alloc(), 1, 50, &compared)?;
     let (there, others) = (items.as_slice(), absent.as_slice());
-    bounds(&rt, &mut in_order(rt.alloc()), there, others, &compared);
+    bounds(&rt, in_order(rt.alloc()), there, others, &compared);
     Ok(())
 }
 

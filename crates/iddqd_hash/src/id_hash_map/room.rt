@@ -18,7 +18,7 @@ impl<T: IdHashItem> IdHashMap<T> {
         ensures empty { IfOk result (HasNoItems MAX_ITEMS) }
         ensures spare { IfOk result (λ m. capacity ≤ m.spare) }
         ensures spare_fits { IfOk result SpareFits }
-        ensures capacity { IfOk result (λ m. capacity ≤ m.capacity) }
+        ensures capacity { IfOk result (λ m. m.capacity ≡ capacity) }
         ensures in_limit { OnOk result (capacity ≤ MAX_ITEMS) }
         ensures keyed { IfOk result ⟦<Self as Keyed>⟧.keyed }
 
@@ -44,7 +44,7 @@ impl<T: IdHashItem, S: BuildHasher> IdHashMap<T, S> {
         ensures empty { IfOk result (HasNoItems MAX_ITEMS) }
         ensures spare { IfOk result (λ m. capacity ≤ m.spare) }
         ensures spare_fits { IfOk result SpareFits }
-        ensures capacity { IfOk result (λ m. capacity ≤ m.capacity) }
+        ensures capacity { IfOk result (λ m. m.capacity ≡ capacity) }
         ensures hasher { IfOk result (λ m. m.hasher ≡ hasher) }
         ensures in_limit { OnOk result (capacity ≤ MAX_ITEMS) }
         ensures keyed { IfOk result ⟦<Self as Keyed>⟧.keyed }

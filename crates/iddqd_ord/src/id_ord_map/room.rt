@@ -13,12 +13,11 @@ use std::alloc::Global;
 impl<T: IdOrdItem> IdOrdMap<T> {
     ghost use Rattle.iddqd_ord.specs.OrdMap.{IsShortOf, RefusesRoomFor, empty_map};
 
-    /// Returns a map without items, with room for at least `capacity` in the store. The limit refuses a `capacity`
+    /// Returns a map without items, with room for exactly `capacity` in the store. The limit refuses a `capacity`
     /// above `MAX_ITEMS`. Else it is refused only if memory is, and does not allocate for 0.
     pub fn with_capacity(alloc: Global, capacity: usize) -> Result<Self, TryReserveError>
         // on success
-        ensures empty { IfOk result (λ m. m ≡ empty_map m.capacity MAX_ITEMS) }
-        ensures room { IfOk result (λ m. capacity ≤ m.capacity) }
+        ensures empty { IfOk result (λ m. m ≡ empty_map capacity MAX_ITEMS) }
         ensures in_limit { OnOk result (capacity ≤ MAX_ITEMS) }
         ensures keyed { IfOk result (λ m. Ascends T.key T.Key.cmp m.items) }
 

@@ -8,7 +8,7 @@ use crate::errors::TryReserveError;
 use std::alloc::Global;
 
 impl<T> ItemStore<T> {
-    /// Returns a store without items that can hold at most `limit`, with room for `capacity`. It returns
+    /// Returns a store without items that can hold at most `limit`, with room for exactly `capacity`. It returns
     /// `CapacityOverflow` if that is above the limit, else `AllocError` if memory is refused. If `capacity` is 0,
     /// it does not allocate.
     pub fn with_capacity(
@@ -17,7 +17,7 @@ impl<T> ItemStore<T> {
         capacity: usize,
     ) -> Result<Self, TryReserveError>
         ensures empty { IfOk result (IsEmptyStore limit) }
-        ensures room { IfOk result (λ s. capacity ≤ s.capacity) }
+        ensures exact { IfOk result (λ s. s.capacity ≡ capacity) }
         ensures in_limit { OnOk result (capacity ≤ limit) }
         ensures refused { IfErr result (IsKindOf limit capacity) }
         ensures asked { OnErr result (0 < capacity) }

@@ -2,5 +2,5 @@
 use Rattle.std.proofs.Common.{rules}
 use Rattle.iddqd_store.proofs.item_store.ItemStore.with_capacity.Goals as goal
 
-pub returns-clause-room : goal.returns-clause-room
-returns-clause-room g c = search rules
+pub returns-clause-exact : goal.returns-clause-exact
+returns-clause-exact g c = search rules
