@@ -87,10 +87,10 @@ fn calls_of_each<'a>(rt: &impl Abort, map: &mut ByHash<'a>, items: &[Fed<'a>], a
 #[test]
 fn calls_hash_once(rt: HostRuntime) -> Result<(), Fail> {
     let (hashed, compared) = (Cell::new(0), Cell::new(0));
-    let all = fed(rt.alloc(), 0, 40, &hashed, &compared)?;
-    let (items, absent) = all.as_slice().split_at(30);
-    let mut map = made(rt.alloc(), items)?;
-    calls_of_each(&rt, &mut map, items, absent);
+    let items = fed(rt.alloc(), 0, 30, &hashed, &compared)?;
+    let absent = fed(rt.alloc(), 30, 40, &hashed, &compared)?;
+    let mut map = made(rt.alloc(), items.as_slice())?;
+    calls_of_each(&rt, &mut map, items.as_slice(), absent.as_slice());
     Ok(())
 }
 
@@ -112,7 +112,10 @@ fn makes_by_entry<'a>(map: &mut IdHashMap<Fed<'a>>, item: Fed<'a>) -> bool
     requires keyed { ⟦<IdHashMap<Fed<'a>> as Keyed>⟧.keyed map.old }
 {
     match map.entry(&item.key).or_insert_with(|| item) {
-        Ok(lent) => lent.into_ref().key.number == item.key.number,
+        Ok(lent) => {
+            let shown = lent.into_ref();
+            shown.key.number == item.key.number
+        }
         Err(_refused) => false,
     }
 }
@@ -158,13 +161,13 @@ fn guards_and_entries<'a>(
 #[test]
 fn guards_and_entries_hash_once(rt: HostRuntime) -> Result<(), Fail> {
     let (hashed, compared) = (Cell::new(0), Cell::new(0));
-    let all = fed(rt.alloc(), 0, 20, &hashed, &compared)?;
-    let (items, absent) = all.as_slice().split_at(10);
-    for item in items {
-        guards_and_entries(&rt, rt.alloc(), items, *item, true)?;
+    let items = fed(rt.alloc(), 0, 10, &hashed, &compared)?;
+    let absent = fed(rt.alloc(), 10, 20, &hashed, &compared)?;
+    for item in items.as_slice() {
+        guards_and_entries(&rt, rt.alloc(), items.as_slice(), *item, true)?;
     }
-    for item in absent {
-        guards_and_entries(&rt, rt.alloc(), items, *item, false)?;
+    for item in absent.as_slice() {
+        guards_and_entries(&rt, rt.alloc(), items.as_slice(), *item, false)?;
     }
     Ok(())
 }
@@ -228,11 +231,22 @@ fn walks_and_room_hash_none(rt: HostRuntime) -> Result<(), Fail> {
     Ok(())
 }
 
-// Seven items leave the first slots, and the last seven of the others move there.
-fn leave_and_move(rt: &impl Abort, map: &mut ByHash<'_>, hashed: &Cell<u32>) {
+// Seven items leave the first slots, and the last seven of the others move there. Then one leaves, and one moves.
+fn leave_and_move<'a>(
+    rt: &impl Abort,
+    map: &mut ByHash<'a>,
+    items: &[Fed<'a>],
+    hashed: &Cell<u32>,
+) {
     map.retain(|item| item.key.number >= 7);
     check(rt, map.len() == 43 && since(hashed) == 7);
     check(rt, map.shrink_to(60).is_ok() && since(hashed) == 7);
+    check(rt, items.len() == 50);
+    check(
+        rt,
+        map.remove(&items[30].key).is_some() && since(hashed) == 1,
+    );
+    check(rt, map.shrink_to_fit().is_ok() && since(hashed) == 1);
 }
 
 #[test]
@@ -240,10 +254,7 @@ fn removed_and_moved_items_hash_once(rt: HostRuntime) -> Result<(), Fail> {
     let (hashed, compared) = (Cell::new(0), Cell::new(0));
     let items = fed(rt.alloc(), 0, 50, &hashed, &compared)?;
     let mut map = made(rt.alloc(), items.as_slice())?;
-    leave_and_move(&rt, &mut map, &hashed);
-    check(&rt, map.remove(&items.as_slice()[30].key).is_some());
-    hashed.set(0);
-    check(&rt, map.shrink_to_fit().is_ok() && since(&hashed) == 1);
+    leave_and_move(&rt, &mut map, items.as_slice(), &hashed);
     Ok(())
 }
 
