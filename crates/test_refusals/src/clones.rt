@@ -29,25 +29,21 @@ fn row_of_clone<M: AskedByKey<Item = Numbered, Key = u32> + AskedForRoom>(
 fn clone_in_order(alloc: Global, map: &mut Ordered<Numbered>) -> Result<&'static str, Fail> {
     fill(map, 4)?;
     arm(alloc);
-    let copy = map.copied();
-    let is_met = is_met(alloc);
-    let is_equal = match copy {
+    let is_equal = match map.copied() {
         Ok(copy) => Ok(copy == *map.map()),
         Err(error) => Err(error),
     };
-    row_of_clone(map, is_equal, is_met)
+    row_of_clone(map, is_equal, is_met(alloc))
 }
 
 fn clone_by_hash(alloc: Global, map: &mut Hashed<Numbered>) -> Result<&'static str, Fail> {
     fill(map, 4)?;
     arm(alloc);
-    let copy = map.copied();
-    let is_met = is_met(alloc);
-    let is_equal = match copy {
+    let is_equal = match map.copied() {
         Ok(copy) => Ok(map.map().eq(&copy)),
         Err(error) => Err(error),
     };
-    row_of_clone(map, is_equal, is_met)
+    row_of_clone(map, is_equal, is_met(alloc))
 }
 
 #[test]

@@ -57,8 +57,9 @@ fn extend<M: Bulk<Kept> + AskedByKey<Item = Kept>>(
     is_refused(match outcome {
         Ok(()) => Ok(map.len()),
         Err(ExtendError { item, error }) => {
-            let left = item.map(|item| item.name as usize + 1);
-            Err((left == Some(20 - map.len())).then_some(error))
+            let left = item.map(|item| item.name as usize);
+            let is_next = left.is_some() && left == 19usize.checked_sub(map.len());
+            Err(is_next.then_some(error))
         }
     })
 }

@@ -1,5 +1,6 @@
 //! Maps that are made, of either kind, with a request refused: then nothing is.
-use crate::maps::holds;
+use crate::checks::check;
+use crate::maps::{fill, holds};
 use crate::rooms::numbers;
 use crate::words::tell;
 use iddqd::errors::{FromIterError, TryReserveError};
@@ -40,6 +41,16 @@ fn with_capacity_and_hasher(rt: HostRuntime) -> Result<(), Fail> {
     arm(rt.alloc());
     let made = IdHashMap::<Numbered>::with_capacity_and_hasher(rt.alloc(), 20, hasher);
     tell(&rt, word(made, is_met(rt.alloc())))
+}
+
+// What `with_capacity` made room for goes in, and asks for nothing.
+#[test]
+fn hash_room_without_memory(rt: HostRuntime) -> Result<(), Fail> {
+    let mut map = Hashed::new(IdHashMap::with_capacity(rt.alloc(), 20)?);
+    arm(rt.alloc());
+    fill(&mut map, 20)?;
+    check(&rt, !is_met(rt.alloc()) && map.room() == 0);
+    Ok(())
 }
 
 // The word for a map of twenty numbers.
