@@ -34,8 +34,10 @@ loop-command-preserved g c =
     let ran = run_more key eq visits rule limit c.loop-command.yielded c.loop-command.replies.items c.in-Some.command c.answer.result first middle last kept.ran step in
     record {
       ran = subst (λ replies. Run key eq visits limit rule first (c.loop-command.yielded ++ c.in-Some.command ∷ []) replies last) (sym c.push_reserved.ensures.items) ran;
-      shown = record { shown = λ sure. subst (λ replies. AllZip ShowsClone (c.loop-command.yielded ++ c.in-Some.command ∷ []) replies) (sym c.push_reserved.ensures.items)
-          (all_zipped_more ShowsClone c.loop-command.yielded c.loop-command.replies.items c.in-Some.command c.answer.result (kept.shown.shown sure) (c.answer.ensures.shown sure)) };
+      shown = record {
+        shown = λ sure. subst (λ replies. AllZip ShowsClone (c.loop-command.yielded ++ c.in-Some.command ∷ []) replies) (sym c.push_reserved.ensures.items)
+            (all_zipped_more ShowsClone c.loop-command.yielded c.loop-command.replies.items c.in-Some.command c.answer.result (kept.shown.shown sure) (c.answer.ensures.shown sure));
+      };
       keyed = c.answer.ensures.keyed;
       limit = c.answer.ensures.limit ∙ kept.limit;
       counted = omega (arith, length-append c.loop-command.yielded (c.in-Some.command ∷ []));
