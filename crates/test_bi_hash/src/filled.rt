@@ -46,7 +46,7 @@ fn overwritten(rt: HostRuntime) {
     check(&rt, all.holds_below(COUNT));
 }
 
-/// Whether no map is made of the hosts below this number for want of memory, where so many are announced.
+/// Whether no map is made of the hosts below this number because memory is refused, if so many are announced.
 pub(crate) fn is_refused(
     rt: &impl Abort,
     alloc: Global,
