@@ -1,7 +1,9 @@
 //! Each item that a map drops is dropped once.
+ghost use Rattle.iddqd.specs.Contents.{Ascends};
+
 use crate::checks::check;
-use iddqd::IdOrdMap;
 use iddqd::errors::{DuplicateItem, FromIterError};
+use iddqd::{IdOrdItem, IdOrdMap};
 use std::alloc::{AllocError, Global};
 use std::cell::Cell;
 use std::process::Abort;
@@ -200,19 +202,28 @@ fn found_or_put_by_an_entry(rt: HostRuntime) {
     }
 }
 
-// The item that an occupied entry does not take is dropped.
+// Whether `or_insert_ref` refuses nothing. The map is dropped then.
+fn shows<'a>(mut map: IdOrdMap<Ticket<'a>>, item: Ticket<'a>) -> bool
+    requires keyed { Ascends ⟦<Ticket<'a> as IdOrdItem>⟧.key ⟦<u32 as Ord>⟧.cmp map.items }
+{
+    let number = item.number;
+    map.entry(&number).or_insert_ref(item).is_ok()
+}
+
+// An occupied entry drops the item that it does not take.
 #[test]
 fn shown_by_an_occupied_entry(rt: HostRuntime) {
     let dropped = Cell::new(0);
     let mut map = IdOrdMap::new(rt.alloc());
-    for count in 0..2 {
-        let item = Ticket {
-            number: 1,
-            dropped: &dropped,
-        };
-        check(&rt, map.entry(&1).or_insert_ref(item).is_ok());
-        check(&rt, dropped.get() == count);
-    }
+    let _ = map.insert_overwrite(Ticket {
+        number: 1,
+        dropped: &dropped,
+    });
+    let again = Ticket {
+        number: 1,
+        dropped: &dropped,
+    };
+    check(&rt, shows(map, again) && dropped.get() == 2);
 }
 
 fn removes<'a, M: AskedByKey<Item = Ticket<'a>> + Dropping<'a>>(
