@@ -1,6 +1,7 @@
 -- What commands do to a map of either kind, over what the map shows of itself (`KeyedMap`).
 --     Gives      the reply to a command, and the items then
 --     DoesIn, RunsIn      with the room that is left; a list of commands and their replies
+--     ShowsEach      the replies lack no clone, if none can be refused
 --     InsertsOne, RefusesOneIn      an item is inserted, or returned
 --     InsertsEach, RefusesEach      the same of many, up to the first that is returned
 --     ends_extension      what the map is once the loan of an extension's result ends
@@ -9,7 +10,7 @@ use Rattle.std.specs.Borrow.{Fml, RattleType, MutBor, unit}
 use Rattle.std.specs.Global.{Vec}
 use Rattle.iddqd.specs.declared.errors.ExtendUniqueError.{ExtendUniqueError}
 use Rattle.idtable_commands.specs.KeyedMap.{InsertsIntoMap, RefusesAmong, RefusesOne, ends_extended}
-use Rattle.idtable_commands.specs.Step.{Answers, Does, InsertsAll, Run}
+use Rattle.idtable_commands.specs.Step.{Answers, Does, InsertsAll, Run, ShowsClones}
 use Rattle.idtable_commands.specs.declared.commands.Command.{Command}
 use Rattle.idtable_commands.specs.declared.commands.Reply.{Reply}
 use Rattle.idtable_commands.specs.declared.keyed_map.KeyedMap.{Ghosts}
@@ -44,6 +45,10 @@ module _ {M T K : Type 0} (map : Ghosts M T K) (eq : K → K → Bool) where
     -- a reply for each command, in order, each from where the one before ended
     abbrev pub RunsIn : Vec (Command T K V) → (old new : M) → Vec (Reply T) → Type 0
     RunsIn commands old new replies = Run map.key eq visits (map.limit old) map.rule (map.state old) commands.items replies.items (map.state new)
+
+-- each reply shows the clone that its command asks for, if no clone can be refused
+abbrev pub ShowsEach : {T K V : Type 0} → (T → Type 0) → Vec (Command T K V) → Vec (Reply T) → Type 0
+ShowsEach is_infallible commands replies = ShowsClones is_infallible commands.items replies.items
 
 -- at `Ok` all items are in; at `Err` the error says why not all are, and which
 abbrev pub ends_extension : (M : RattleType) {T K : Type 0} (map : Ghosts M.Denot T K) (eq : K → K → Bool) → MutBor M.Denot → Result (MutBor unit.Denot) (ExtendUniqueError T) → List T → Fml

@@ -12,7 +12,7 @@
 --     InsertsAll, StopsAt      items are inserted one after another; this many are, and the next one is not
 --     MeetsAkin, FindsFull      why it is not
 --     Answers      the reply to a command, and the items then
---     ShowsClone, ShowsClones      a reply that lacks no clone; all of them
+--     ShowsClone, Shows, ShowsClones      a reply that lacks no clone; if none can be refused; all of them
 --     Does, Step, Run      one command and its reply; with how the items lie; a list of commands and their replies
 use Rattle.std.specs.declared.cmp.Ordering.{Ordering}
 use Rattle.std.specs.List.{AllZip}
@@ -140,6 +140,10 @@ ShowsClone (InsertUnique x) (Duplicate back existing) = IsSome existing
 ShowsClone (ExtendUnique xs) (Conflict back existing after) = IsSome existing
 ShowsClone (Get k) (Refused back kind) = ⊥
 ShowsClone _ _ = ⊤
+
+-- it does, if no clone can be refused
+abbrev pub Shows : {T K V : Type 0} → (T → Type 0) → Command T K V → Reply T → Type 0
+Shows is_infallible command reply = ClonesSucceed is_infallible → ShowsClone command reply
 
 -- each reply does, if no clone can be refused
 pub record ShowsClones {T K V : Type 0} (is_infallible : T → Type 0) (commands : List (Command T K V)) (replies : List (Reply T)) : Type 0 where

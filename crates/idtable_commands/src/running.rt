@@ -6,8 +6,8 @@ ghost use Rattle.iddqd.specs.Refusal.{IsOnly};
 ghost use Rattle.iddqd.specs.Visiting.{VisitsKeepKeys};
 ghost use Rattle.idtable_commands.specs.KeyedMap.{StaysKeyed};
 ghost use Rattle.idtable_commands.specs.declared.commands.Command.TheVariants.{InsertUnique, InsertOverwrite, Get, Visit, RetainMut, Reserve, Shrink, ExtendUnique};
-ghost use Rattle.idtable_commands.specs.Running.{DoesIn, Gives, RunsIn};
-ghost use Rattle.idtable_commands.specs.Step.{FitsRoom, ShowsClone, ShowsClones};
+ghost use Rattle.idtable_commands.specs.Running.{DoesIn, Gives, RunsIn, ShowsEach};
+ghost use Rattle.idtable_commands.specs.Step.{FitsRoom, Shows};
 
 use crate::commands::{Command, Reply, RunStop};
 use crate::keyed_map::KeyedMap;
@@ -35,7 +35,7 @@ where
 
     // on success
     ensures run { IfOk result (RunsIn M.KeyedMap M.Key.eq V.visits commands map.old map.new) }
-    ensures shown { IfOk result (λ replies. ShowsClones M.Item.is_infallible commands.items replies.items) }
+    ensures shown { IfOk result (ShowsEach M.Item.is_infallible commands) }
 
     // on refusal
     ensures handed_back { IfErr result (λ stop. stop.commands ≡ commands) }
@@ -70,7 +70,7 @@ where
 
     // the step
     ensures does { DoesIn M.KeyedMap M.Key.eq V.visits command map.old result map.new }
-    ensures shown { ClonesSucceed M.Item.is_infallible → ShowsClone command result }
+    ensures shown { Shows M.Item.is_infallible command result }
 
     // the map
     ensures keyed { M.keyed map.new }
@@ -104,7 +104,7 @@ where
     requires keyed { M.keyed map.old }
     requires clones { ClonesAreEqual M.Item.is_clone }
     ensures reply { Gives M.KeyedMap M.Key.eq V.visits (InsertUnique item) map.old result map.new }
-    ensures shown { ClonesSucceed M.Item.is_infallible → ShowsClone {K = M.Key} {V = V} (InsertUnique item) result }
+    ensures shown { Shows {K = M.Key} {V = V} M.Item.is_infallible (InsertUnique item) result }
     ensures stays { StaysKeyed M.state M.limit M.rule M.keyed map.old map.new }
 {
     match map.insert_unique(item) {
@@ -142,7 +142,7 @@ where
 // A clone of the one item that is lent; none where memory for it was refused.
 fn first_clone<T: Clone>(shown: &Few<&T>) -> Option<T>
     requires clones { ClonesAreEqual T.is_clone }
-    ensures clone { (x : _) → IsOnly (values_of shown.now) x → IfSome result (λ clone. clone ≡ x) }
+    ensures clone { (x : _) → IsOnly (values_of shown.now) x → IfSome result (λ y. y ≡ x) }
     ensures succeeds { ClonesSucceed T.is_infallible → IsSome result }
 {
     (**shown.first()).clone().ok()
@@ -214,7 +214,7 @@ where
     requires keyed { M.keyed map.now }
     requires clones { ClonesAreEqual M.Item.is_clone }
     ensures reply { Gives M.KeyedMap M.Key.eq V.visits (Get key.now) map.now result map.now }
-    ensures shown { ClonesSucceed M.Item.is_infallible → ShowsClone {V = V} (Get key.now) result }
+    ensures shown { Shows {V = V} M.Item.is_infallible (Get key.now) result }
     ensures room { FitsRoom M.rule (M.limit map.now) (M.state map.now) }
 {
     let Some(item) = map.get(key) else {
@@ -236,7 +236,7 @@ where
     requires keyed { M.keyed map.old }
     requires clones { ClonesAreEqual M.Item.is_clone }
     ensures reply { Gives M.KeyedMap M.Key.eq V.visits (ExtendUnique items) map.old result map.new }
-    ensures shown { ClonesSucceed M.Item.is_infallible → ShowsClone {K = M.Key} {V = V} (ExtendUnique items) result }
+    ensures shown { Shows {K = M.Key} {V = V} M.Item.is_infallible (ExtendUnique items) result }
     ensures stays { StaysKeyed M.state M.limit M.rule M.keyed map.old map.new }
 {
     let before = map.len();
