@@ -37,14 +37,22 @@ fn collect<M: Bulk<Kept> + AskedByKey<Item = Kept> + Drop>(
     })
 }
 
+// Why there was no room, if that is why.
+fn error_of(stopped: FromIterError<Kept>) -> Option<TryReserveError> {
+    match stopped {
+        FromIterError::Refused(error) => Some(error),
+        FromIterError::Duplicate(_both) => None,
+    }
+}
+
 fn collect_unique<M: Bulk<Kept> + AskedByKey<Item = Kept> + Drop>(
     alloc: Global,
     items: Unannounced<Kept>,
 ) -> Option<bool> {
-    is_refused(match M::collected_unique(alloc, items) {
+    let made = M::collected_unique(alloc, items);
+    is_refused(match made.map_err(|stopped| error_of(stopped)) {
         Ok(map) => Ok(map.len()),
-        Err(FromIterError::Refused(error)) => Err(Some(error)),
-        Err(FromIterError::Duplicate(_)) => Err(None),
+        Err(error) => Err(error),
     })
 }
 
