@@ -11,7 +11,7 @@ use std::iter::FusedIterator;
 use std::marker::Model;
 
 /// The items of a map that was consumed, in ascending order of their keys. A walk goes down the index once for several
-/// items, and from the back once for each. It compares no keys. Items that were not returned are dropped with it.
+/// items, from either end. It compares no keys. Items that were not returned are dropped with it.
 #[derive(Drop)]
 pub struct IntoIter<T> {
     store: ItemStore<T>,
