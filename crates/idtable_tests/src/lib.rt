@@ -4,6 +4,8 @@
 #[cfg(test)]
 mod checks;
 #[cfg(test)]
+mod parts;
+#[cfg(test)]
 mod streams;
 #[cfg(test)]
 mod texts;

@@ -1,11 +1,11 @@
 //! What `serve` asks of its reader and its writer, and what it does where one fails.
 use crate::checks::check;
+use crate::parts::{Failure, PartReader, PartWriter};
 use iddqd_run::{FailingReader, FailingWriter, Fault, Kind, serve};
 use std::alloc::{AllocError, Global};
 use std::io::ErrorKind;
 use std::process::Abort;
 use std::test::Fail;
-use test_support::parts::{Failure, PartReader, PartWriter};
 
 const LINES: &[u8] = b"add bob 2\nadd bob 9\nget bob\ndel bob\nlen\n";
 

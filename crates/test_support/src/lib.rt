@@ -13,7 +13,6 @@ pub mod heap;
 pub mod items;
 pub mod maps;
 pub mod nine;
-pub mod parts;
 pub mod plain;
 pub mod ranges;
 pub mod respelled;

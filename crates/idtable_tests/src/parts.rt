@@ -5,7 +5,7 @@ use std::io::{Error, ErrorKind, Read, Result, Write};
 
 /// Which calls fail, and by what error.
 #[derive(Clone, Copy)]
-pub enum Failure {
+pub(crate) enum Failure {
     Never,
     /// The call of this number, from 1 on.
     At(u32, ErrorKind),
@@ -26,7 +26,7 @@ impl Failure {
 
 /// Gives its bytes, at most this many at a read, and fails at some reads.
 #[derive(Drop)]
-pub struct PartReader<'a> {
+pub(crate) struct PartReader<'a> {
     rest: &'a [u8],
     part: usize,
     failure: Failure,
@@ -35,7 +35,7 @@ pub struct PartReader<'a> {
 
 impl<'a> PartReader<'a> {
     /// Gives at least one byte at a read, where one is left.
-    pub fn new(bytes: &'a [u8], part: usize, failure: Failure) -> PartReader<'a> {
+    pub(crate) fn new(bytes: &'a [u8], part: usize, failure: Failure) -> PartReader<'a> {
         PartReader {
             rest: bytes,
             part,
@@ -45,7 +45,7 @@ impl<'a> PartReader<'a> {
     }
 
     /// How many reads there were.
-    pub fn reads(&self) -> u32 {
+    pub(crate) fn reads(&self) -> u32 {
         self.reads
     }
 }
@@ -63,7 +63,7 @@ impl Read for PartReader<'_> {
 
 /// Takes bytes, at most this many at a write, and fails at some writes.
 #[derive(Drop)]
-pub struct PartWriter {
+pub(crate) struct PartWriter {
     taken: Vec<u8>,
     part: usize,
     failure: Failure,
@@ -75,7 +75,7 @@ pub struct PartWriter {
 
 impl PartWriter {
     /// Takes no byte at all where the part is 0.
-    pub fn new(bytes: Vec<u8>, part: usize, failure: Failure) -> PartWriter {
+    pub(crate) fn new(bytes: Vec<u8>, part: usize, failure: Failure) -> PartWriter {
         PartWriter {
             taken: bytes,
             part,
@@ -88,23 +88,23 @@ impl PartWriter {
     }
 
     /// The same, but that each flush fails.
-    pub fn with_failing_flush(mut self) -> PartWriter {
+    pub(crate) fn with_failing_flush(mut self) -> PartWriter {
         self.fails_flush = true;
         self
     }
 
     /// The bytes that it holds.
-    pub fn taken(&self) -> &[u8] {
+    pub(crate) fn taken(&self) -> &[u8] {
         self.taken.as_slice()
     }
 
     /// How many writes there were.
-    pub fn writes(&self) -> u32 {
+    pub(crate) fn writes(&self) -> u32 {
         self.writes
     }
 
     /// How many flushes there were, and how many bytes it held at the last one.
-    pub fn flushes(&self) -> (u32, usize) {
+    pub(crate) fn flushes(&self) -> (u32, usize) {
         (self.flushes, self.flushed)
     }
 }
