@@ -1,6 +1,7 @@
 -- What contracts of a hash map say, for callers who cite them.
---     IsKeyedByText, IsKeyed      lookups find its items, with text keys and the default hasher, or with any
---     differ_from_keyed, default_hash, text_writes      what that tells, and what the default hasher returns
+--     IsKeyedByText, IsKeyedByTextUnder, IsKeyed      lookups find its items, with text keys and the default hasher, any hasher, or any keys
+--     default_hash, random_hash, text_writes      what the default hasher and a `RandomState` return, and what a text writes to them
+--     differ_from_keyed      what keyed tells
 --     HashItems, holding_of, of_stored_hash, of_same_hash      what contracts see of a map
 --     HashesAsKeys      a query hashes as the keys that it stands for
 --     HashStays      what stays in each call that changes a keyed map: it is keyed, keeps the spare, and has the same hasher
@@ -28,7 +29,7 @@
 --     walk_map, walk_lender, walk_done, walk_with      what a walk that lends items for writing holds
 --     WalkKeeps, WalkKeepsAkin, walk_lends      what a step of such a walk leaves
 unfoldable pub use Rattle.iddqd_hash.specs.HashItems.{IsKeyed}
-pub use Rattle.iddqd_hash.specs.HashItems.{HashItems, HashesAsKeys, IsKeyedByText, default_hash, differ_from_keyed, holding_of, of_same_hash, of_stored_hash, text_writes}
+pub use Rattle.iddqd_hash.specs.HashItems.{HashItems, HashesAsKeys, IsKeyedByText, IsKeyedByTextUnder, default_hash, differ_from_keyed, holding_of, of_same_hash, of_stored_hash, random_hash, text_writes}
 pub use Rattle.iddqd_hash.specs.HashMap.{CloneHashesAlike, Collects, CollectsUnique, Extends, FindsEqual, HasNoItems, HashFills, HashHandsBack, HashInserts, HashKeeps, HashOverwrites, HashShrinks, HashStays, HaveEqualItems, IsCollected, IsEmptyMap, KeepsIfNoItem, KeepsSpare, LacksRoomFor, RefusesItem, Reserves, ShowsConflict, SpareFirst, SpareFits, Stops, ends_hash_extended, ends_hash_inserted, lends_nothing, map_overwritten}
 pub use Rattle.iddqd_hash.specs.Guard.{GuardFinds, GuardKeeps, GuardKeepsAkin, GuardOverwrites, guard_follows, item_follows, lends_item, lent_item, lent_map, guard_lender, lent_slot, lent_with, rests_at_none, shown_item, shown_map, shown_lender, with_item_in_slot}
 pub use Rattle.iddqd_hash.specs.declared.id_hash_map.entry.Entry.TheVariants.{Occupied, Vacant}

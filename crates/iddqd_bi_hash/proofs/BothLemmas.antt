@@ -5,6 +5,7 @@
 --     finds_slot      what it finds
 --     stored1, stored2      the hashes that are stored for a slot's item
 --     written_akin, written_same      a write under equal keys, or the same, leaves the map keyed
+--     read1, read2      ... and either key finds what was written
 --     emptied, emptied_stays      without items
 --     unchanged, kept, inserted, inserted_after      what an insertion leaves, refused or not
 --     taken_stays      what a removal leaves
@@ -13,7 +14,7 @@ use Rattle.std.proofs.Common.{◌≡◌, ℕ, ◌+◌, ◌-◌, ◌<◌, ◌≤�
 use Rattle.std.specs.Cmp.{IsEquivalence}
 use Rattle.std.specs.Hash.{HashWrites}
 use Rattle.std.specs.List.{Contains}
-use Rattle.iddqd_store.specs.Contents.{AddsItem, IsAbsent, NoTwoAkin}
+use Rattle.iddqd_store.specs.Contents.{AddsItem, IsAbsent, NoTwoAkin, find_item}
 use Rattle.iddqd_store.specs.SlotItems.{item_of_slot, written_to_slot}
 use Rattle.iddqd_store.specs.Store.{Store, item_at, store_len, vacant, Updates}
 use Rattle.iddqd_store.proofs.WrittenLemmas.{told_of_slot}
@@ -27,6 +28,7 @@ use Rattle.iddqd_hash_parts.proofs.StoreAndIndexLemmas.{listed_occupied}
 use Rattle.iddqd_bi_hash.specs.BiHashItems.{BiHashItems, IsKeyedByBoth, KeyedByBoth, by_key1, by_key2}
 use Rattle.iddqd_bi_hash.specs.BiHashMap.{BiInserts, BiKeeps, BiStays, FindsSlot, KeepsSpare, SpareFits}
 use Rattle.iddqd_bi_hash.specs.StoreAndIndexes.{ArePaired, beside, bi_map_of}
+use Rattle.iddqd_bi_hash.proofs.TakenLemmas.{written_read}
 
 module _ {S T : Type 0} (hasher : S) (store : Store T) (i j : HashPairs) (paired : ArePaired store i.pairs j.pairs) (v : BiHashItems S T) (is : bi_map_of store i j hasher ≡ v) where
   pub fits : SpareFits v
@@ -92,6 +94,15 @@ module _ {S T K L : Type 0} (key1 : T → K) (key2 : T → L) (eq1 : K → K →
     stored2 =
         let tell : T → ℕ = λ y. hash v.hasher (input2 (key2 y)) in
         ap (λ hashes. item_of_slot v.slots hashes slot) keyed.other.stored ∙ told_of_slot tell v.slots v.items slot ∙ (let here = there in cc)
+
+    -- either key of the slot's item finds what is written under an equal key
+    pub read1 : (w : T) → IsEquivalence eq1 → eq1 (key1 x) (key1 w) ≡ true → find_item key1 (eq1 (key1 x)) (written_to_slot v.slots v.items slot w) ≡ Some w
+    unfolding IsKeyedByBoth
+    read1 w equivalence akin = written_read key1 equivalence v.slots v.items keyed.one.differ slot x w there akin
+
+    pub read2 : (w : T) → IsEquivalence eq2 → eq2 (key2 x) (key2 w) ≡ true → find_item key2 (eq2 (key2 x)) (written_to_slot v.slots v.items slot w) ≡ Some w
+    unfolding IsKeyedByBoth
+    read2 w equivalence akin = written_read key2 equivalence v.slots v.items keyed.other.differ slot x w there akin
 
     -- a write of an item of equal keys, or of the same
     module _ (w : T) (equivalence1 : IsEquivalence eq1) (equivalence2 : IsEquivalence eq2) (respects1 : (a b : K) → eq1 a b ≡ true → input1 a ≡ input1 b) (respects2 : (a b : L) → eq2 a b ≡ true → input2 a ≡ input2 b) where

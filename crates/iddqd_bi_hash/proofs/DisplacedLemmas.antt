@@ -2,13 +2,21 @@
 --     unmet_twice      what is left
 --     none_left      none of it passes
 --     never_more, one_less      how many are left
+--     displaced_absent      no key of an item that was removed finds another
+--     there_by_key1, there_by_key2, gone_by_key1, gone_by_key2      what either key finds once an item is inserted beside what is left
 --     at_some, at_none, as_many, as_vacant      what was removed, as one or two values
-use Rattle.std.proofs.Common.{◌≡◌, ℕ, ◌+◌, ◌≤◌, Bool, true, false, cond, not, List, [], ◌∷◌, ◌++◌, length, filter, find, Option, Some, None, IfNone, IfSome, OnSome, is_some, refl, sym, ap, ◌∙◌, arith, length-append}
+use Rattle.std.proofs.Common.{◌≡◌, ℕ, ◌+◌, ◌≤◌, Bool, true, false, cond, not, List, [], ◌∷◌, ◌++◌, length, filter, find, Option, Some, None, IfNone, IfSome, OnSome, is_some, refl, sym, ap, ◌∙◌, arith, length-append, map, true≢false}
+use Rattle.std.specs.Cmp.{IsEquivalence}
+use Rattle.std.specs.List.{AllByRecursion, IsDistinct}
+use Rattle.iddqd_store.specs.Contents.{AddsItem, NoTwoAkin, find_item}
 use Rattle.iddqd_store.specs.Errors.{values_of}
 use Rattle.iddqd_store.specs.declared.errors.Few.{Few}
 use Rattle.iddqd_store.specs.declared.errors.Few.TheVariants.{One, Two, Three}
-use Rattle.iddqd_bi_hash.specs.TwoKeys.{as_list}
+use Rattle.iddqd_bi_hash.specs.BiHashMap.{LosesKey}
+use Rattle.iddqd_bi_hash.specs.TwoKeys.{as_list, has_one_of_keys, items_unmet}
 use Rattle.iddqd_hash_parts.specs.SlotsFound.{values_if_any}
+use Rattle.iddqd_store.proofs.ChangeLemmas.{find_beside_inserted, find_inserted, found_passes, still_absent_removed}
+use Rattle.iddqd_bi_hash.proofs.MetLemmas.{neither_found}
 
 module _ {T : Type 0} (p q : T → Bool) where
   abbrev either : T → Bool
@@ -51,6 +59,73 @@ module _ {T : Type 0} (p : T → Bool) where
       by : (b : Bool) → p x ≡ b → (is_some (find p xs) ≡ true → length (filter (λ x. not (p x)) xs) + 1 ≤ length xs) → length (filter (λ x. not (p x)) (x ∷ xs)) + 1 ≤ length (x ∷ xs)
       by true e rest = rw e (omega (arith, never_more xs))
       by false e rest = let less = rest (behind e) in rw e (omega (arith, less))
+
+module _ {T K : Type 0} (key : T → K) {eq : K → K → Bool} (laws : IsEquivalence eq) where
+  abbrev Apart : T → List T → Type 0
+  Apart z zs = AllByRecursion (λ k. eq (key z) k ≡ false) (map key zs)
+
+  none_equal : (z : T) (zs : List T) → Apart z zs → find (λ u. eq (key z) (key u)) zs ≡ None
+  none_equal z [] apart = refl
+  none_equal z (u ∷ zs) apart = rw apart.0 (none_equal z zs apart.1)
+
+  module _ (p keeps : T → Bool) (y : T) (goes : keeps y ≡ false) where
+    apart_found : (z : T) (zs : List T) → Apart z zs → find p zs ≡ Some y → eq (key z) (key y) ≡ false
+    apart_found z [] apart found = absurd (true≢false (sym (ap is_some found)))
+    apart_found z (u ∷ zs) apart found = by (p u) found (apart_found z zs apart.1)
+      where
+        by : (b : Bool) → cond b (Some u) (find p zs) ≡ Some y → (find p zs ≡ Some y → eq (key z) (key y) ≡ false) → eq (key z) (key y) ≡ false
+        by true found rest = let same : u ≡ y = cc in ap (λ v. eq (key z) (key v)) (sym same) ∙ apart.0
+        by false found rest = rest found
+
+    abbrev q : T → Bool
+    q z = eq (key y) (key z)
+
+    -- y is found and does not stay
+    pub displaced_absent : (items : List T) → NoTwoAkin key eq items → find p items ≡ Some y → find q (filter keeps items) ≡ None
+    unfolding IsDistinct
+    displaced_absent [] differ found = absurd (true≢false (sym (ap is_some found)))
+    displaced_absent (z ∷ zs) differ found = by (p z) (keeps z) refl found (displaced_absent zs differ.1)
+      where
+        by : (b c : Bool) → keeps z ≡ c → cond b (Some z) (find p zs) ≡ Some y → (find p zs ≡ Some y → find q (filter keeps zs) ≡ None) → find q (cond c (z ∷ filter keeps zs) (filter keeps zs)) ≡ None
+        by true true e found rest = let same : z ≡ y = cc in absurd (true≢false (sym e ∙ ap keeps same ∙ goes))
+        by true false e found rest =
+            let same : z ≡ y = cc in
+            still_absent_removed q keeps zs (filter keeps zs) refl (ap (λ v. find (λ u. eq (key v) (key u)) zs) (sym same) ∙ none_equal z zs differ.0)
+        by false true e found rest = rw (laws.symm (key y) (key z) ∙ apart_found z zs differ.0 found) (rest found)
+        by false false e found rest = rest found
+
+other_goes : (a b : Bool) → b ≡ true → not (cond a true b) ≡ false
+other_goes true b e = refl
+other_goes false b e = ap not e
+
+module _ {T K L : Type 0} (key1 : T → K) (key2 : T → L) {eq1 : K → K → Bool} {eq2 : L → L → Bool} (laws1 : IsEquivalence eq1) (laws2 : IsEquivalence eq2) (x : T) (old new : List T) (put : AddsItem x (items_unmet key1 key2 eq1 eq2 x old) new) where
+  abbrev has1 : T → Bool
+  has1 y = eq1 (key1 x) (key1 y)
+
+  abbrev has2 : T → Bool
+  has2 y = eq2 (key2 x) (key2 y)
+
+  abbrev meets : T → Bool
+  meets = has_one_of_keys key1 key2 eq1 eq2 x
+
+  abbrev unmet : List T
+  unmet = items_unmet key1 key2 eq1 eq2 x old
+
+  pub there_by_key1 : find_item key1 (eq1 (key1 x)) new ≡ Some x
+  there_by_key1 = find_inserted has1 unmet new x put (neither_found has1 has2 unmet (none_left meets old)).0 (laws1.refl (key1 x))
+
+  pub there_by_key2 : find_item key2 (eq2 (key2 x)) new ≡ Some x
+  there_by_key2 = find_inserted has2 unmet new x put (neither_found has1 has2 unmet (none_left meets old)).1 (laws2.refl (key2 x))
+
+  pub gone_by_key1 : NoTwoAkin key1 eq1 old → LosesKey key1 eq1 x (find_item key2 (eq2 (key2 x)) old) new
+  gone_by_key1 differ y found apart =
+      find_beside_inserted (λ z. eq1 (key1 y) (key1 z)) unmet new x put apart
+      ∙ displaced_absent key1 laws1 has2 (λ z. not (meets z)) y (other_goes (has1 y) (has2 y) (found_passes has2 old y found)) old differ found
+
+  pub gone_by_key2 : NoTwoAkin key2 eq2 old → LosesKey key2 eq2 x (find_item key1 (eq1 (key1 x)) old) new
+  gone_by_key2 differ y found apart =
+      find_beside_inserted (λ z. eq2 (key2 y) (key2 z)) unmet new x put apart
+      ∙ displaced_absent key2 laws2 has1 (λ z. not (meets z)) y (ap (λ b. not (cond b true (has2 y))) (found_passes has1 old y found)) old differ found
 
 module _ {T : Type 0} where
   pub at_some : {P : Type 0} (r : Option (Few T)) (one other : Option T) → values_if_any r ≡ as_list one ++ as_list other → (is_some one ≡ true → P) → (is_some other ≡ true → P) → OnSome r P

@@ -4,4 +4,5 @@ pub mod CollectedLemmas
 pub mod DisplacedLemmas
 pub mod GuardLemmas
 pub mod MetLemmas
+pub mod TakenLemmas
 pub mod UniqueLemmas

@@ -4,9 +4,10 @@
 --     by_key1, by_key2      the same map, seen as one of one key
 --     KeyedByBoth      by either key, no two items have equal keys, and each stored hash is that of its item's key
 --     IsKeyedByBoth      the same, as contracts say it: a caller's proof passes it on as one fact, and does not look inside
---     IsKeyedByTexts      the same of two text keys, with the default hasher
+--     IsKeyedByTexts, IsKeyedByTextAndNumber, IsKeyedByNumberAndText      the same of such keys, with the default hasher
+--     IsKeyedByTextsUnder, IsKeyedByTextAndNumberUnder, IsKeyedByNumberAndTextUnder      ... with the hasher of this hash
 --     differ_by_key1, differ_by_key2      in a keyed map no two items have equal first keys, or equal second keys
-use Rattle.std.specs.Prelude.{ℕ, Bool, List, String, refl}
+use Rattle.std.specs.Prelude.{ℕ, Bool, List, String, nat_eq, refl}
 use Rattle.std.specs.Coded.{Coded, code_by, coded×, coded_ℕ, coded_list}
 use Rattle.std.specs.Hash.{HashWrites}
 use Rattle.std.specs.String.{string_eq}
@@ -15,7 +16,8 @@ use Rattle.std.specs.declared.hash.BuildHasherDefault.{BuildHasherDefault}
 use Rattle.std.specs.declared.hash.FoldHasher.{FoldHasher}
 use Rattle.iddqd_store.specs.Contents.{NoTwoAkin}
 use Rattle.iddqd_store.specs.Holding.{Holding}
-use Rattle.iddqd_hash_parts.specs.HashItems.{HashItems, KeyedItems, default_hash, text_writes}
+use Rattle.iddqd_hash_parts.specs.HashItems.{HashItems, KeyedItems, text_writes}
+pub use Rattle.iddqd_hash_parts.specs.HashItems.{default_hash, random_hash}
 
 -- The items, in the order of their slots, which a caller cannot rely on. In the same order, the slots, and the hashes that are stored
 -- for the first and for the second keys. The hasher, how many new items are accepted without a refusal, how many slots are vacant,
@@ -78,6 +80,25 @@ module _ {S T : Type 0} where
     unfolding IsKeyedByBoth
     differ_by_key2 m keyed = keyed.other.differ
 
--- the map is keyed by both, its keys are texts, and its hasher is the default one: for any other key cite *IsKeyedByBoth*, or `Keyed`
-abbrev pub IsKeyedByTexts : {T : Type 0} → (key1 key2 : T → String Global) → BiHashItems (BuildHasherDefault FoldHasher) T → Type 0
-IsKeyedByTexts key1 key2 m = IsKeyedByBoth key1 key2 string_eq string_eq text_writes text_writes default_hash m
+-- keyed by both keys, which are texts or numbers, with the hasher of this hash: *random_hash* for a `RandomState`. The writes are what the
+-- type of the number writes to a hasher, as `u64` of std's `Hash`. For any other key cite *IsKeyedByBoth*, or `Keyed`
+module _ {S T : Type 0} (hash : S → HashWrites → ℕ) where
+  abbrev pub IsKeyedByTextsUnder : (key1 key2 : T → String Global) → BiHashItems S T → Type 0
+  IsKeyedByTextsUnder key1 key2 m = IsKeyedByBoth key1 key2 string_eq string_eq text_writes text_writes hash m
+
+  abbrev pub IsKeyedByTextAndNumberUnder : (ℕ → HashWrites) → (T → String Global) → (T → ℕ) → BiHashItems S T → Type 0
+  IsKeyedByTextAndNumberUnder writes key1 key2 m = IsKeyedByBoth key1 key2 string_eq nat_eq text_writes writes hash m
+
+  abbrev pub IsKeyedByNumberAndTextUnder : (ℕ → HashWrites) → (T → ℕ) → (T → String Global) → BiHashItems S T → Type 0
+  IsKeyedByNumberAndTextUnder writes key1 key2 m = IsKeyedByBoth key1 key2 nat_eq string_eq writes text_writes hash m
+
+-- the same with the default hasher
+module _ {T : Type 0} where
+  abbrev pub IsKeyedByTexts : (key1 key2 : T → String Global) → BiHashItems (BuildHasherDefault FoldHasher) T → Type 0
+  IsKeyedByTexts key1 key2 m = IsKeyedByTextsUnder default_hash key1 key2 m
+
+  abbrev pub IsKeyedByTextAndNumber : (ℕ → HashWrites) → (T → String Global) → (T → ℕ) → BiHashItems (BuildHasherDefault FoldHasher) T → Type 0
+  IsKeyedByTextAndNumber writes key1 key2 m = IsKeyedByTextAndNumberUnder default_hash writes key1 key2 m
+
+  abbrev pub IsKeyedByNumberAndText : (ℕ → HashWrites) → (T → ℕ) → (T → String Global) → BiHashItems (BuildHasherDefault FoldHasher) T → Type 0
+  IsKeyedByNumberAndText writes key1 key2 m = IsKeyedByNumberAndTextUnder default_hash writes key1 key2 m

@@ -7,6 +7,7 @@
 --     BiInserts      an item was inserted
 --     BiKeeps      nothing has changed but the room, which may have grown
 --     LosesPlaceOf      a slot is gone
+--     BiTakes      one item was removed, and neither of its keys finds it
 --     LeavesVacant      these items' slots are vacant
 -- Searches, insertions and refusals:
 --     HasHash      each key that a query stands for has this hash
@@ -15,15 +16,16 @@
 --     AreItemsOf      the items of several slots are lent
 --     AreSlotsMet, Displaces, KeepsUnmet      of an item: the slots of those that have one of its keys; those are returned; the others stay
 --     BiOverwrites      the item was inserted, and those that had one of its keys are returned
+--     LosesKey      an item is found by this key no more, unless another item has it
 --     RefusesItem, BiHandsBack      a refused item is returned, beside the existing ones or because there is no room
 -- After a loan:
 --     ends_bi_inserted      what the map is once the result of an insertion is dropped
-use Rattle.std.specs.Prelude.{◌≡◌, ℕ, ◌+◌, [], Bool, true, List, length, map, IfErr, IfNone, IfSome, IsSome, OnSome, Option, Result, Some}
+use Rattle.std.specs.Prelude.{◌≡◌, ℕ, ◌+◌, [], Bool, true, false, List, length, map, IfErr, IfNone, IfSome, IsSome, OnSome, Option, Result, Some}
 use Rattle.std.specs.Borrow.{Bor, Fml, RattleType, MutBor, LendsSoOk, unit}
 use Rattle.std.specs.Hash.{HashWrites}
 use Rattle.std.specs.List.{AllByRecursion, filter_map}
 use Rattle.std.specs.Option.{option_and_then}
-use Rattle.iddqd_store.specs.Contents.{AddsItem, find_item}
+use Rattle.iddqd_store.specs.Contents.{AddsItem, IsAbsent, find_item}
 use Rattle.iddqd_store.specs.Errors.{new_item_of, lent_duplicates_of, values_of}
 use Rattle.iddqd_store.specs.Holding.{InsertsItem, KeepsItems}
 use Rattle.iddqd_store.specs.Refusal.{OnDuplicate, RefusalKind, refusal_kind}
@@ -105,7 +107,17 @@ module _ {S T : Type 0} where
 abbrev pub Displaces : {T K L : Type 0} (key1 : T → K) (key2 : T → L) (eq1 : K → K → Bool) (eq2 : L → L → Bool) → T → List T → Option (Few T) → Type 0
 Displaces key1 key2 eq1 eq2 x items back = values_if_any back ≡ items_displaced key1 key2 eq1 eq2 x items
 
+-- the item y, if this is one, is found by its key no more, unless x has the key
+abbrev pub LosesKey : {T K : Type 0} → (T → K) → (K → K → Bool) → T → Option T → List T → Type 0
+LosesKey {T} key eq x found items = (y : T) → found ≡ Some y → eq (key y) (key x) ≡ false → IsAbsent key (eq (key y)) items
+
 module _ {S T K L : Type 0} (key1 : T → K) (key2 : T → L) (eq1 : K → K → Bool) (eq2 : L → L → Bool) where
+  -- y was removed, and no other: with y inserted, the items are those from before
+  pub record BiTakes (old new : BiHashItems S T) (y : T) : Type 0 where
+    pub alone : AddsItem y new.items old.items
+    pub gone1 : IsAbsent key1 (eq1 (key1 y)) new.items
+    pub gone2 : IsAbsent key2 (eq2 (key2 y)) new.items
+
   -- x is returned: beside the items that have one of its keys, in the order of their slots, or because there was no room
   abbrev pub RefusesItem : BiHashItems S T → T → InsertError T → Type 0
   RefusesItem m x (Duplicate d) =
@@ -127,7 +139,8 @@ module _ {S T K L : Type 0} (key1 : T → K) (key2 : T → L) (eq1 : K → K →
     pub kind : r.error ≡ refusal_kind m.limit m.items
     pub no_spare : m.spare ≡ 0
 
-  -- x was inserted, and the items that had one of its keys are returned; if there were some, no memory was needed
+  -- x was inserted, and the items that had one of its keys are returned; if there were some, no memory was needed. Both keys find x. An
+  -- item that had one of its keys is found by the other no more
   pub record BiOverwrites (x : T) (old new : BiHashItems S T) (back : Option (Few T)) : Type 0 where
     pub displaced : Displaces key1 key2 eq1 eq2 x old.items back
     pub put : AddsItem x (items_unmet key1 key2 eq1 eq2 x old.items) new.items
@@ -136,6 +149,10 @@ module _ {S T K L : Type 0} (key1 : T → K) (key2 : T → L) (eq1 : K → K →
     pub capacity : OnSome back (new.capacity ≡ old.capacity)
     pub inserted : IfNone back (InsertsItem x (holding_of old) (holding_of new))
     pub limit : new.limit ≡ old.limit
+    pub there1 : find_item key1 (eq1 (key1 x)) new.items ≡ Some x
+    pub there2 : find_item key2 (eq2 (key2 x)) new.items ≡ Some x
+    pub gone1 : LosesKey key1 eq1 x (find_item key2 (eq2 (key2 x)) old.items) new.items
+    pub gone2 : LosesKey key2 eq2 x (find_item key1 (eq1 (key1 x)) old.items) new.items
 
 -- once the result of an insertion is dropped: at `Ok` the map has the item; at `Err` it keeps its items, and beside duplicates nothing
 -- has changed

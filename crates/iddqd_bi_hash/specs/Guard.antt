@@ -5,11 +5,12 @@
 --     lent_with r w      the map once w is written through the guard
 --     GuardFinds, GuardFindsByBoth      it lends the item that a query finds, or two queries
 --     GuardOverwrites      a write overwrites that item
+--     GuardReads      an item that is written under an equal key is what this key finds
 --     GuardKeeps, GuardKeepsAkin      an item of the same keys, or of equal ones, may be written
 --     shown_map, shown_item, shown_lender      the same of what `into_ref` returns
 --     lends_item, item_follows, guard_follows      the map, or the guard, ends with the last value written
 --     rests_at_none      with no guard the map stays as it is
-use Rattle.std.specs.Prelude.{◌≡◌, ℕ, [], Bool, Option, Some}
+use Rattle.std.specs.Prelude.{◌≡◌, ℕ, [], Bool, true, Option, Some}
 use Rattle.std.specs.Borrow.{Fml, GName, RattleType, MutBor, Lends, RestsIfNone, follows}
 use mir.Syntax.{named}
 use Rattle.iddqd_store.specs.Contents.{find_item, items_overwritten}
@@ -65,6 +66,10 @@ module _ {S T K : Type 0} (key : T → K) where
 
   abbrev pub GuardOverwrites : (K → Bool) → BiHashItems S T → RefMut T S → Type 0
   GuardOverwrites test m r = (w : T) → (with_item_in_slot m (lent_slot r) w).items ≡ items_overwritten key test w m.items
+
+  -- the lent item's key finds what is written in its place, if that has an equal key
+  abbrev pub GuardReads : (K → K → Bool) → RefMut T S → Type 0
+  GuardReads eq r = (x w : T) → lent_item r ≡ Some x → eq (key x) (key w) ≡ true → find_item key (eq (key x)) (lent_with r w).items ≡ Some w
 
 module _ {S T K L : Type 0} (key1 : T → K) (key2 : T → L) where
   abbrev pub GuardFindsByBoth : (K → Bool) → (L → Bool) → RefMut T S → Type 0

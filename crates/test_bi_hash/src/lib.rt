@@ -2,6 +2,7 @@
 //! at hand, and long runs of calls.
 #![tactic(auto)]
 
+pub mod accounts;
 mod callers;
 #[cfg(test)]
 mod checks;
@@ -12,6 +13,7 @@ mod filled;
 #[cfg(test)]
 mod held;
 pub mod hosts;
+pub mod keys;
 #[cfg(test)]
 mod owned;
 #[cfg(test)]

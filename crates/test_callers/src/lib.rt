@@ -7,6 +7,7 @@ mod hash_adding;
 mod hash_entries;
 mod hash_guards;
 mod hash_insertions;
+mod hash_seeds;
 mod hash_walks;
 mod items;
 mod lookups;

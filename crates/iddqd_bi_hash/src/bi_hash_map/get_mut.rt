@@ -28,7 +28,7 @@ impl<T, S> BiHashMap<T, S> {
 impl<T: BiHashItem, S: BuildHasher> BiHashMap<T, S> {
     ghost use Rattle.iddqd_hash_parts.specs.HashItems.{HashesAsKeys};
     ghost use Rattle.iddqd_bi_hash.specs.BiHashMap.{SpareFits};
-    ghost use Rattle.iddqd_bi_hash.specs.Guard.{GuardFinds, GuardFindsByBoth, GuardKeeps, GuardKeepsAkin, GuardOverwrites as Overwrites, guard_lender, lent_map, rests_at_none};
+    ghost use Rattle.iddqd_bi_hash.specs.Guard.{GuardFinds, GuardFindsByBoth, GuardKeeps, GuardKeepsAkin, GuardOverwrites as Overwrites, GuardReads, guard_lender, lent_map, rests_at_none};
 
     /// Returns a guard for the item that the query finds by the first key, or `None`, and then nothing has changed. The
     /// guard has to be spent. Hashes the query once, and makes as many comparisons as `get1`. Does not allocate.
@@ -41,6 +41,8 @@ impl<T: BiHashItem, S: BuildHasher> BiHashMap<T, S> {
         ensures lent { IfSome result (λ r. lent_map r ≡ self.old) }
         ensures found { IfSome result (GuardFinds T.key1 (Q.equivalent query.now)) }
         ensures written { IfSome result (Overwrites T.key1 (Q.equivalent query.now) self.old) }
+        ensures read1 { IfSome result (GuardReads T.key1 T.K1.eq) }
+        ensures read2 { IfSome result (GuardReads T.key2 T.K2.eq) }
         ensures keyed { IfSome result (GuardKeeps T.key1 T.key2 ⟦<Self as Keyed>⟧.keyed) }
         ensures keyed_akin { IfSome result (GuardKeepsAkin ⟦<Self as Keyed>⟧) }
 
@@ -71,6 +73,8 @@ impl<T: BiHashItem, S: BuildHasher> BiHashMap<T, S> {
         ensures lent { IfSome result (λ r. lent_map r ≡ self.old) }
         ensures found { IfSome result (GuardFinds T.key2 (Q.equivalent query.now)) }
         ensures written { IfSome result (Overwrites T.key2 (Q.equivalent query.now) self.old) }
+        ensures read1 { IfSome result (GuardReads T.key1 T.K1.eq) }
+        ensures read2 { IfSome result (GuardReads T.key2 T.K2.eq) }
         ensures keyed { IfSome result (GuardKeeps T.key1 T.key2 ⟦<Self as Keyed>⟧.keyed) }
         ensures keyed_akin { IfSome result (GuardKeepsAkin ⟦<Self as Keyed>⟧) }
 
@@ -105,6 +109,8 @@ impl<T: BiHashItem, S: BuildHasher> BiHashMap<T, S> {
         ensures lent { IfSome result (λ r. lent_map r ≡ self.old) }
         ensures found { IfSome result (GuardFindsByBoth T.key1 T.key2 (Q.equivalent query1.now) (R.equivalent query2.now)) }
         ensures written { IfSome result (Overwrites T.key1 (Q.equivalent query1.now) self.old) }
+        ensures read1 { IfSome result (GuardReads T.key1 T.K1.eq) }
+        ensures read2 { IfSome result (GuardReads T.key2 T.K2.eq) }
         ensures keyed { IfSome result (GuardKeeps T.key1 T.key2 ⟦<Self as Keyed>⟧.keyed) }
         ensures keyed_akin { IfSome result (GuardKeepsAkin ⟦<Self as Keyed>⟧) }
 

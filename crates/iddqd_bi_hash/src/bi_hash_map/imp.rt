@@ -1,5 +1,5 @@
 //! Lookups and removals by one of the keys.
-ghost use Rattle.std.specs.Prelude.{◌≡◌, IfNone, IsSome, Some, is_some};
+ghost use Rattle.std.specs.Prelude.{◌≡◌, IfNone, IfSome, IsSome, Some, is_some};
 ghost use Rattle.iddqd_store.specs.Contents.{Finds, RemovesFound, find_item};
 ghost use Rattle.iddqd_store.specs.Holding.{Removes};
 ghost use Rattle.iddqd_store.specs.SlotItems.{item_of_slot};
@@ -13,7 +13,7 @@ use std::hash::{BuildHasher, Hash};
 impl<T: BiHashItem, S: BuildHasher> BiHashMap<T, S> {
     ghost use Rattle.iddqd_hash_parts.specs.HashItems.{HashesAsKeys};
     ghost use Rattle.iddqd_bi_hash.specs.BiHashItems.{holding_of};
-    ghost use Rattle.iddqd_bi_hash.specs.BiHashMap.{BiStays, HasHash, IsOccupied, LosesPlaceOf, SpareFits};
+    ghost use Rattle.iddqd_bi_hash.specs.BiHashMap.{BiStays, BiTakes, HasHash, IsOccupied, LosesPlaceOf, SpareFits};
 
     /// Returns the item that the query finds by the first key, or `None`. Hashes the query once, and compares at most as
     /// many keys as have its hash. Does not allocate.
@@ -76,6 +76,7 @@ impl<T: BiHashItem, S: BuildHasher> BiHashMap<T, S> {
         ensures value { result ≡ find_item T.key1 (Q.equivalent query.now) self.old.items }
         ensures items { RemovesFound T.key1 (Q.equivalent query.now) self.old.items self.new.items }
         ensures removed { Removes result (holding_of self.old) (holding_of self.new) }
+        ensures taken { IfSome result (BiTakes T.key1 T.key2 T.K1.eq T.K2.eq self.old self.new) }
         ensures unchanged { IfNone result (self.new ≡ self.old) }
 
         // what stays
@@ -96,6 +97,7 @@ impl<T: BiHashItem, S: BuildHasher> BiHashMap<T, S> {
         ensures value { result ≡ find_item T.key2 (Q.equivalent query.now) self.old.items }
         ensures items { RemovesFound T.key2 (Q.equivalent query.now) self.old.items self.new.items }
         ensures removed { Removes result (holding_of self.old) (holding_of self.new) }
+        ensures taken { IfSome result (BiTakes T.key1 T.key2 T.K1.eq T.K2.eq self.old self.new) }
         ensures unchanged { IfNone result (self.new ≡ self.old) }
 
         // what stays
@@ -114,6 +116,7 @@ impl<T: BiHashItem, S: BuildHasher> BiHashMap<T, S> {
         ensures value { result ≡ find_item T.key1 (Q.equivalent query.now) self.old.items }
         ensures items { RemovesFound T.key1 (Q.equivalent query.now) self.old.items self.new.items }
         ensures removed { Removes result (holding_of self.old) (holding_of self.new) }
+        ensures taken { IfSome result (BiTakes T.key1 T.key2 T.K1.eq T.K2.eq self.old self.new) }
         ensures unchanged { IfNone result (self.new ≡ self.old) }
 
         // what stays
@@ -133,6 +136,7 @@ impl<T: BiHashItem, S: BuildHasher> BiHashMap<T, S> {
         ensures value { result ≡ find_item T.key2 (Q.equivalent query.now) self.old.items }
         ensures items { RemovesFound T.key2 (Q.equivalent query.now) self.old.items self.new.items }
         ensures removed { Removes result (holding_of self.old) (holding_of self.new) }
+        ensures taken { IfSome result (BiTakes T.key1 T.key2 T.K1.eq T.K2.eq self.old self.new) }
         ensures unchanged { IfNone result (self.new ≡ self.old) }
 
         // what stays
@@ -154,6 +158,7 @@ impl<T: BiHashItem, S: BuildHasher> BiHashMap<T, S> {
         ensures value { item_of_slot self.old.slots self.old.items slot ≡ Some result }
         ensures gone { LosesPlaceOf slot self.old self.new }
         ensures removed { Removes (Some result) (holding_of self.old) (holding_of self.new) }
+        ensures taken { BiTakes T.key1 T.key2 T.K1.eq T.K2.eq self.old self.new result }
 
         // what stays
         ensures stays { BiStays ⟦<Self as Keyed>⟧.keyed self.old self.new }

@@ -2,7 +2,7 @@ use Rattle.std.proofs.Common.{◌∙◌, sym, ap, refl}
 use Rattle.iddqd_store.specs.Hashing.{hash_under}
 use Rattle.iddqd_store.proofs.WrittenLemmas.{written_found}
 use Rattle.iddqd_bi_hash.specs.BiHashItems.{differ_by_key1}
-use Rattle.iddqd_bi_hash.proofs.BothLemmas.{written_akin, written_same}
+use Rattle.iddqd_bi_hash.proofs.BothLemmas.{read1, read2, written_akin, written_same}
 use Rattle.iddqd_bi_hash.proofs.bi_hash_map.BiHashMap.get1_mut.Goals as goal
 
 pub slot_by_key1-requires-clause-hash : goal.slot_by_key1-requires-clause-hash
@@ -28,6 +28,8 @@ returns g c =
         lent = refl;
         found = sym found.item;
         written = λ w. written_found g.T.BiHashItem.key1 g.met.T.K1.Eq.laws (g.Q.Equivalent.equivalent c.args.query.now) (g.met.Q.Equivalent.one_key c.args.query.now) now.slots now.items (differ_by_key1 _ _ _ _ _ _ _ now c.requires.keyed) slot w found.there (sym found.item);
+        read1 = λ x w at akin. read1 _ _ _ _ _ _ _ now c.requires.keyed slot x at w g.met.T.K1.Eq.laws akin;
+        read2 = λ x w at akin. read2 _ _ _ _ _ _ _ now c.requires.keyed slot x at w g.met.T.K2.Eq.laws akin;
         keyed = λ x w at same1 same2. written_same _ _ _ _ _ _ _ now c.requires.keyed slot x at w g.met.T.K1.Eq.laws g.met.T.K2.Eq.laws respects1 respects2 same1 same2;
         keyed_akin = λ x w at akin. written_akin _ _ _ _ _ _ _ now c.requires.keyed slot x at w g.met.T.K1.Eq.laws g.met.T.K2.Eq.laws respects1 respects2 akin.0 akin.1;
         spare_fits = c.in_ok-slot.ensures.spare_fits;

@@ -4,7 +4,9 @@ use Rattle.iddqd_store.specs.SlotItems.{item_of_slot}
 use Rattle.iddqd_hash_parts.proofs.GetMutLemmas.{item_in_slot}
 use Rattle.iddqd_hash_parts.proofs.InSlotLemmas.{listed_told, place_lost}
 use Rattle.iddqd_hash_parts.proofs.SlotItemLemmas.{slot_left}
+use Rattle.iddqd_bi_hash.specs.BiHashItems.{differ_by_key1, differ_by_key2}
 use Rattle.iddqd_bi_hash.proofs.BothLemmas.{taken_stays}
+use Rattle.iddqd_bi_hash.proofs.TakenLemmas.{taken}
 use Rattle.iddqd_bi_hash.proofs.bi_hash_map.BiHashMap.take_hashed.Goals as goal
 
 pub remove_from_all-requires-clause-listed1 : goal.remove_from_all-requires-clause-listed1
@@ -54,3 +56,9 @@ returns-clause-removed g c =
       capacity = out.bounds.capacity ∙ ap (λ v. v.capacity) c.self.view_is;
       limit = out.bounds.limit ∙ ap (λ v. v.limit) c.self.view_is;
     }
+
+pub returns-clause-taken : goal.returns-clause-taken
+returns-clause-taken g c =
+    let old = c.args.self.now in
+    taken g.T.BiHashItem.key1 g.T.BiHashItem.key2 g.met.T.K1.Eq.laws g.met.T.K2.Eq.laws old _ c.args.slot c.remove_from_all.result (returns-clause-value g c) (returns-clause-gone g c)
+    (differ_by_key1 _ _ _ _ _ _ _ old c.requires.keyed) (differ_by_key2 _ _ _ _ _ _ _ old c.requires.keyed)

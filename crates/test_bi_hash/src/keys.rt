@@ -1,0 +1,115 @@
+//! Callers of maps of two keys that are texts or numbers, with the default hasher and with one whose seed is random. They
+//! have no proof file, and nobody calls them.
+ghost use Rattle.std.specs.Prelude.{◌≡◌, IsTrue, Some};
+ghost use Rattle.std.specs.Hash.{u32, u64};
+ghost use Rattle.iddqd_bi_hash.specs.BiHashItems.{IsKeyedByNumberAndTextUnder, IsKeyedByTextAndNumber, IsKeyedByTextAndNumberUnder, IsKeyedByTexts, IsKeyedByTextsUnder, random_hash};
+ghost use Rattle.test_bi_hash.specs.Accounts.{of_number};
+
+use crate::accounts::Account;
+use crate::hosts::Host;
+use iddqd_bi_hash::{BiHashItem, BiHashMap, Keyed, Text};
+use std::collections::hash_map::RandomState;
+
+/// A badge, by its owner and by its number.
+#[derive(Drop)]
+pub struct Badge {
+    /// The first key.
+    pub owner: String,
+    /// The second key.
+    pub number: u32,
+}
+
+impl BiHashItem for Badge {
+    type K1 = String;
+
+    type K2 = u32;
+
+    ghost key1 = { λ b. b.owner };
+
+    ghost key2 = { λ b. b.number };
+
+    fn key1(&self) -> &String {
+        &self.owner
+    }
+
+    fn key2(&self) -> &u32 {
+        &self.number
+    }
+}
+
+/// Two names of one thing.
+#[derive(Drop)]
+pub struct Alias {
+    /// The first key.
+    pub long: String,
+    /// The second key.
+    pub short: String,
+}
+
+impl BiHashItem for Alias {
+    type K1 = String;
+
+    type K2 = String;
+
+    ghost key1 = { λ a. a.long };
+
+    ghost key2 = { λ a. a.short };
+
+    fn key1(&self) -> &String {
+        &self.long
+    }
+
+    fn key2(&self) -> &String {
+        &self.short
+    }
+}
+
+/// A text and a number.
+fn add_badge(all: &mut BiHashMap<Badge>, badge: Badge) -> bool
+    requires keyed { IsKeyedByTextAndNumber u32 (λ b. b.owner) (λ b. b.number) all.old }
+    ensures keyed { IsKeyedByTextAndNumber u32 (λ b. b.owner) (λ b. b.number) all.new }
+{
+    !all.contains_key1(&Text("nobody")) && all.insert_unique(badge).is_ok()
+}
+
+/// The same with a random seed.
+fn remove_badge(all: &mut BiHashMap<Badge, RandomState>, number: u32) -> Option<Badge>
+    requires keyed { IsKeyedByTextAndNumberUnder random_hash u32 (λ b. b.owner) (λ b. b.number) all.old }
+    ensures keyed { IsKeyedByTextAndNumberUnder random_hash u32 (λ b. b.owner) (λ b. b.number) all.new }
+{
+    all.remove2(&number)
+}
+
+/// Two texts.
+fn add_alias(all: &mut BiHashMap<Alias>, alias: Alias) -> bool
+    requires keyed { IsKeyedByTexts (λ a. a.long) (λ a. a.short) all.old }
+    ensures keyed { IsKeyedByTexts (λ a. a.long) (λ a. a.short) all.new }
+{
+    all.insert_overwrite(alias).is_ok()
+}
+
+/// The same with a random seed.
+fn remove_alias(all: &mut BiHashMap<Alias, RandomState>, short: &str) -> Option<Alias>
+    requires keyed { IsKeyedByTextsUnder random_hash (λ a. a.long) (λ a. a.short) all.old }
+    ensures keyed { IsKeyedByTextsUnder random_hash (λ a. a.long) (λ a. a.short) all.new }
+{
+    all.remove2(&Text(short))
+}
+
+/// A number and a text, with a random seed.
+#[tactic(auto, using(iddqd_bi_hash::proofs::ChangeLemmas::after_changes))]
+fn add_account(all: &mut BiHashMap<Account, RandomState>, account: Account) -> bool
+    requires keyed { IsKeyedByNumberAndTextUnder random_hash u64 (λ a. a.number) (λ a. a.email) all.old }
+    ensures by_number { IsTrue result → of_number account.number all.new.items ≡ Some account }
+    ensures keyed { IsKeyedByNumberAndTextUnder random_hash u64 (λ a. a.number) (λ a. a.email) all.new }
+{
+    all.insert_unique(account).is_ok()
+}
+
+/// Two numbers, with a random seed.
+fn remove_host(all: &mut BiHashMap<Host, RandomState>, number: u32) -> Option<Host>
+    requires keyed { ⟦<BiHashMap<Host, RandomState> as Keyed>⟧.keyed all.old }
+    ensures keyed { ⟦<BiHashMap<Host, RandomState> as Keyed>⟧.keyed all.new }
+{
+    all.remove1(&number)
+}
