@@ -19,6 +19,7 @@
 --     IsPlaceAmong, IsIndexOf, number_less, position_of      where a query stands among the items
 --     is_from, is_up_to, is_between, items_between, bound_now, FindsLast, IsPart      what lies between two bounds
 --     FindsRange, RemovesRange      the same of a range's bounds, found or removed
+--     FindsPositions, items_at, WalksPart      the items at the positions of a range, and what a walk over a part of the map gives
 --     walk_map, walk_lender, walk_done, walk_with      what a walk that lends items for writing holds
 --     WalkKeeps, WalkKeepsAkin, walk_lends      what a step of such a walk leaves
 pub use Rattle.iddqd_ord.specs.OrdMap.{OrdFills, OrdInserts, OrdKeeps, OrdOverwrites, empty_map, ends_ord_extended, ends_ord_inserted, have_equal_items, lends_nothing, map_overwritten}
@@ -26,5 +27,5 @@ pub use Rattle.iddqd_ord.specs.Guard.{GuardFinds, GuardKeeps, GuardKeepsAkin, Gu
 pub use Rattle.iddqd_ord.specs.declared.id_ord_map.entry.Entry.TheVariants.{Occupied, Vacant}
 pub use Rattle.iddqd_ord.specs.Entry.{EntersInserted, EntryKeeps, EntryKeepsAkin, HasKeyOf, IsEntryAt, IsEntryFor, IsEntryOf, IsFirstEntry, IsLastEntry, LacksKeyOf, LendsFound, LendsInserted, ShowsFound, ShowsInserted, VisitsEntry, entry_follows, entry_item, entry_map, entry_lender, entry_others, entry_slot, entry_with, rests_if_refused, rests_without_entry}
 pub use Rattle.iddqd_ord.specs.WritingWalk.{WalkKeeps, WalkKeepsAkin, walk_done, walk_lends, walk_map, walk_lender, walk_with}
-pub use Rattle.iddqd_ord.specs.Ranges.{FindsLast, FindsRange, IsIndexOf, IsPart, RemovesRange, bound_now, is_between, is_from, is_up_to, items_between, number_less, position_of}
+pub use Rattle.iddqd_ord.specs.Ranges.{FindsLast, FindsPositions, FindsRange, IsIndexOf, IsPart, RemovesRange, WalksPart, bound_now, is_between, is_from, is_up_to, items_at, items_between, number_less, position_of}
 pub use Rattle.iddqd_ord_index.specs.Search.{IsPlaceAmong}

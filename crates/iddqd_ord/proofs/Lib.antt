@@ -3,6 +3,7 @@ mod CompactLemmas
 mod EndLemmas
 mod EntryLemmas
 pub mod GetMutLemmas
+pub mod GroupLemmas
 pub mod InsertOrFindLemmas
 mod RangeLemmas
 pub mod StoreAndIndexLemmas

@@ -6,11 +6,11 @@
 --     places_out, front_less      what is left if the items between two positions are taken out from the back
 --     first_passing, last_before, last_none      the first item that passes, and the last
 --     rank_is      how many items are less than a query
---     part_up_to, length-part, sum-part      what stands between two positions, its length and its sum
-use Rattle.std.proofs.Common.{◌≡◌, ℕ, zero, suc, ◌+◌, ◌-◌, ◌<◌, ◌≤◌, ⊎_elim, Bool, true, false, not, ◌&&◌, List, [], ◌∷◌, ◌++◌, length, map, take, drop, get_or, filter, sum_by, count_by, max, Some, None, refl, sym, ap, ◌∙◌, subst, arith, Ordering, Less, Equal, Greater, below_more, suc-le-suc, length-drop, length-take, take-append-drop, ◌⊎◌, inl, inr}
+--     part_up_to, part_within, length-part, sum-part      what stands between two positions, its length and its sum
+use Rattle.std.proofs.Common.{◌≡◌, ℕ, zero, suc, ◌+◌, ◌-◌, ◌<◌, ◌≤◌, ⊎_elim, Bool, true, false, not, ◌&&◌, List, [], ◌∷◌, ◌++◌, length, map, take, drop, get_or, filter, sum_by, count_by, max, min, Some, None, refl, sym, ap, ◌∙◌, subst, arith, Ordering, Less, Equal, Greater, below_more, suc-le-suc, length-drop, length-take, take-append-drop, ◌⊎◌, inl, inr}
 use Rattle.std.proofs.Math.Nat.{eq-or-lt_of_le}
 use Rattle.std.proofs.lemmas.Bool.{cases_lt}
-use Rattle.std.proofs.lemmas.List.{get_or-map, length-map, drop_all, take_more, get_or-take, length-take-le}
+use Rattle.std.proofs.lemmas.List.{get_or-map, length-map, drop_all, drop_min, take_more, take_min, get_or-take, length-take-le}
 use Rattle.std.proofs.lemmas.List.Sums.{sum_by-take-drop, sum_by-take-le, length-filter}
 use Rattle.std.proofs.lemmas.List.Edits.{remove-append_left}
 use Rattle.std.proofs.lemmas.Option.{slice_get-get_or}
@@ -163,6 +163,13 @@ module _ {X : Type 0} where
       (λ lt. let is : end ≡ low = omega arith in ap (λ n. drop low (take n xs)) is ∙ part_backward xs low high (omega arith))
       (λ le. let is : end ≡ high = omega arith in ap (λ n. drop low (take n xs)) is)
       (cases_lt high low)
+
+  -- positions behind the end of the list say no more than the end
+  pub part_within : (xs : List X) (start end low high : ℕ) → low ≡ min start high → high ≡ min end (length xs) → drop low (take high xs) ≡ drop start (take end xs)
+  part_within xs start end low high l h =
+      let long = length-take-le high xs (omega (arith, h)) in
+      ap (λ n. drop n (take high xs)) (l ∙ ap (λ n. min start n) (sym long))
+      ∙ (drop_min start (take high xs) ∙ ap (λ ys. drop start ys) (ap (λ n. take n xs) h ∙ take_min end xs))
 
   pub length-part : (xs : List X) (next end : ℕ) → end ≤ length xs → length (drop next (take end xs)) ≡ end - next
   length-part xs next end fits = length-drop next (take end xs) ∙ ap (λ n. n - next) (length-take-le end xs fits)

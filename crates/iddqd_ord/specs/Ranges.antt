@@ -4,6 +4,8 @@
 --     is_between compare low high k      both
 --     items_between compare key low high items      the items whose keys are between the bounds (`range`)
 --     IsPart part items      items that stand side by side in the list
+--     WalksPart walk items      a walk over such a part: sums over it are no greater, and a `u32` counts it
+--     items_at low high items      the items at the positions between two bounds (`range_index`)
 --     RemovesPart      such items were removed
 --     FindsLast      the last item whose key passes the test, lent (`upper_bound`)
 --     position_of      the position that a search returns, found or not
@@ -11,18 +13,19 @@
 --     IsIndexOf      the item at the position found is the one that the query finds; without one, there is none
 --     bound_now      a bound by the value of its query
 --     FindsRange, RemovesRange      the items whose keys lie in a range are found, or were removed
+--     FindsPositions      the items at the positions of a range are found
 --     SplitsAt, EndsAt      the elements that pass are those from a position on, or those before it
 --     StartsAt, StopsAt      the position of the first item from a bound on, or of the first one behind it
 use Rattle.std.specs.Borrow.{Bor}
-use Rattle.std.specs.Bound.{bound_map}
-use Rattle.std.specs.Prelude.{◌≡◌, ℕ, ◌-◌, ◌<◌, ◌≤◌, Bool, true, false, ◌&&◌, List, ◌++◌, length, count_by, drop, filter, option_copied, slice_get, slice_index_or, take, MatchResult, Option, Result, Ok, Err}
+use Rattle.std.specs.Bound.{bound_map, end_index, start_index}
+use Rattle.std.specs.Prelude.{◌≡◌, ℕ, ◌-◌, ◌<◌, ◌≤◌, Bool, true, false, ◌&&◌, List, ◌++◌, length, count_by, drop, filter, option_copied, slice_get, slice_index_or, sum_by, take, MatchResult, Option, Result, Ok, Err}
 use Rattle.std.specs.declared.cmp.Ordering.{Ordering}
 use Rattle.std.specs.Ordering.{is_ge, is_gt, is_le, is_lt}
 use Rattle.std.specs.declared.ops.Bound.{Bound}
 use Rattle.std.specs.declared.ops.RangeBounds as range_bounds
 use Rattle.std.specs.declared.ops.Bound.TheVariants.{Included, Excluded, Unbounded}
 use Rattle.iddqd_store.specs.Contents.{IsAbsent, find_item, items_without}
-use Rattle.iddqd_store.specs.Holding.{Holding}
+use Rattle.iddqd_store.specs.Holding.{Holding, max_items}
 
 module _ {Q K : Type 0} (compare : Q → K → Ordering) where
   -- the key is not before the bound
@@ -46,7 +49,17 @@ module _ {Q K : Type 0} (compare : Q → K → Ordering) where
     abbrev pub items_between : Bound Q → Bound Q → List T → List T
     items_between low high items = filter (λ x. is_between low high (key x)) items
 
+-- the items at the positions that are not before the first bound, and not behind the second one
+abbrev pub items_at : {T : Type 0} → Bound ℕ → Bound ℕ → List T → List T
+items_at low high items = drop (start_index low) (take (end_index high (length items)) items)
+
 -- of a range whose bounds are what its trait says (std's `has_bounds`)
+module _ {R T : Type 0} (bounds : range_bounds.Ghosts R ℕ) where
+  -- the items at the positions in the range
+  abbrev pub FindsPositions : R → List T → List T → Type 0
+  FindsPositions range items found =
+      bounds.has_bounds range → found ≡ items_at (bounds.start_bound range) (bounds.end_bound range) items
+
 module _ {R Q K T : Type 0} (bounds : range_bounds.Ghosts R Q) (compare : Q → K → Ordering) (key : T → K) where
   -- the items whose keys lie in the range
   abbrev pub FindsRange : R → List T → List T → Type 0
@@ -66,6 +79,13 @@ bound_now bound = bound_map (λ q. q.now) bound
 -- items that stand side by side in the list
 abbrev pub IsPart : {T : Type 0} → List T → List T → Type 0
 IsPart part items = (low : ℕ) × (high : ℕ) × (part ≡ drop low (take high items))
+
+-- a walk over such a part of a map. A method that returns such a walk ensures this too, and its callers can count and sum
+pub record WalksPart {T : Type 0} (walk items : List T) : Type 0 where
+  pub part : IsPart walk items
+  -- a sum over it fits if that over the map does
+  pub sums : (number : T → ℕ) → sum_by number walk ≤ sum_by number items
+  pub fits : length walk ≤ max_items
 
 -- items that stood side by side were removed
 pub record RemovesPart {T : Type 0} (old new : List T) : Type 0 where

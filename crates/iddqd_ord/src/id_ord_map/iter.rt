@@ -2,6 +2,7 @@
 ghost use Rattle.std.specs.Prelude.{◌≡◌, ◌≤◌, drop, length, take, ⊤, IfSome};
 ghost use Rattle.std.specs.Iterator.{UpTo, YieldsFirstRef, YieldsLastRef, at_most, item_count};
 ghost use Rattle.std.specs.Iterator.SizeHint.{IsWithinCount};
+ghost use Rattle.iddqd_ord.specs.Ranges.{WalksPart};
 
 use super::IdOrdMap;
 use iddqd_ord_index::Walk;
@@ -100,7 +101,7 @@ impl<T> IdOrdMap<T> {
         requires low_in_list { low ≤ length self.now.items }
         requires high_in_list { high ≤ length self.now.items }
         ensures items { result ≡ drop low (take high self.now.items) }
-        ensures fits { length result ≤ u32.MAX }
+        ensures part { WalksPart result self.now.items }
     {
         let from = self.index.place(low);
         let to = self.index.place(high.max(low));

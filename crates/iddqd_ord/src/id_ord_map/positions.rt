@@ -1,13 +1,16 @@
 //! Items by their positions in the order of the keys.
 ghost use Rattle.std.specs.Prelude.{◌≡◌, ◌+◌, ◌*◌, ◌≤◌, length, remove, option_copied, slice_get};
+ghost use Rattle.std.specs.Prelude.{min as least};
+ghost use Rattle.std.specs.Bound.{end_index, start_index};
 ghost use Rattle.iddqd_store.specs.Contents.{Ascends, keys};
 ghost use Rattle.iddqd_store.specs.Holding.{Removes};
 ghost use Rattle.iddqd_ord_index.specs.Digits.{digits};
 ghost use Rattle.iddqd_ord_index.specs.Search.{IsPlaceAmong};
-ghost use Rattle.iddqd_ord.specs.Ranges.{IsIndexOf, number_less, position_of};
+ghost use Rattle.iddqd_ord.specs.Ranges.{FindsPositions, IsIndexOf, WalksPart, bound_now, number_less, position_of};
 
-use super::IdOrdMap;
+use super::{IdOrdMap, Iter};
 use iddqd_store::{Comparable, IdOrdItem, Steps};
+use std::ops::{Bound, RangeBounds};
 
 impl<T> IdOrdMap<T> {
     /// Returns the item with this many items before it in the order of the keys, or `None` if the map has no more. It
@@ -21,6 +24,39 @@ impl<T> IdOrdMap<T> {
         }
         let place = self.index.place(index);
         self.store.get(self.index.slot_at(place))
+    }
+
+    /// Returns the items at the positions in the range, in the order of the keys. Positions that the map does not have
+    /// give no items, and neither does a range that runs backwards. Compares no keys. Does not allocate.
+    pub fn range_index<R: RangeBounds<usize>>(&self, range: R) -> Iter<'_, T>
+        ensures items { FindsPositions R.RangeBounds range self.now.items result }
+        ensures part { WalksPart result self.now.items }
+    {
+        let high = end_position(range.end_bound(), self.len());
+        let low = start_position(range.start_bound(), high);
+        self.part(low, high)
+    }
+}
+
+// Returns the first position of a range that starts there, at most `len`.
+fn start_position(start: Bound<&usize>, len: usize) -> usize
+    ensures { result ≡ least (start_index (bound_now start.entry)) len }
+{
+    match start {
+        Bound::Included(&index) => index.min(len),
+        Bound::Excluded(&index) => index.saturating_add(1).min(len),
+        Bound::Unbounded => 0,
+    }
+}
+
+// Returns the position behind the last of a range that ends there, at most `len`.
+fn end_position(end: Bound<&usize>, len: usize) -> usize
+    ensures { result ≡ least (end_index (bound_now end.entry) len) len }
+{
+    match end {
+        Bound::Included(&index) => index.saturating_add(1).min(len),
+        Bound::Excluded(&index) => index.min(len),
+        Bound::Unbounded => len,
     }
 }
 

@@ -1,8 +1,8 @@
 //! The items between two bounds, which are queries.
-ghost use Rattle.std.specs.Prelude.{◌≡◌, ℕ, ◌+◌, ◌*◌, ◌≤◌, length, sum_by};
+ghost use Rattle.std.specs.Prelude.{◌≡◌, ◌+◌, ◌*◌, ◌≤◌, length};
 ghost use Rattle.iddqd_store.specs.Contents.{Ascends, Finds};
 ghost use Rattle.iddqd_ord_index.specs.Digits.{digits};
-ghost use Rattle.iddqd_ord.specs.Ranges.{FindsLast, FindsRange, IsPart, StartsAt, StopsAt, bound_now, is_from, is_up_to};
+ghost use Rattle.iddqd_ord.specs.Ranges.{FindsLast, FindsRange, StartsAt, StopsAt, WalksPart, bound_now, is_from, is_up_to};
 
 use super::{IdOrdMap, Iter};
 use iddqd_store::{Comparable, IdOrdItem, Steps};
@@ -15,9 +15,7 @@ impl<T: IdOrdItem> IdOrdMap<T> {
     pub fn range<Q: Comparable<T::Key>, R: RangeBounds<Q>>(&self, range: R) -> Iter<'_, T>
         requires keyed { Ascends T.key T.Key.cmp self.now.items }
         ensures items { FindsRange R.RangeBounds Q.compare T.key range self.now.items result }
-        ensures part { IsPart result self.now.items }
-        ensures sums { (number : T → ℕ) → sum_by number result ≤ sum_by number self.now.items }
-        ensures fits { length result ≤ u32.MAX }
+        ensures part { WalksPart result self.now.items }
     {
         self.range_counted(range, &mut Steps::new())
     }
@@ -31,9 +29,7 @@ impl<T: IdOrdItem> IdOrdMap<T> {
     ) -> Iter<'_, T>
         requires keyed { Ascends T.key T.Key.cmp self.now.items }
         ensures items { FindsRange R.RangeBounds Q.compare T.key range self.now.items result }
-        ensures part { IsPart result self.now.items }
-        ensures sums { (number : T → ℕ) → sum_by number result ≤ sum_by number self.now.items }
-        ensures fits { length result ≤ u32.MAX }
+        ensures part { WalksPart result self.now.items }
 
         // what it costs
         ensures steps { steps.new ≤ steps.old + 8 + 4 * digits (length self.now.items) }

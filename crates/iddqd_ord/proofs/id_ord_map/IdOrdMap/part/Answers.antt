@@ -1,9 +1,9 @@
-use Rattle.std.proofs.Common.{◌∙◌, IsSome, length, take, drop, ap, sym, subst, arith}
+use Rattle.std.proofs.Common.{◌≤◌, ◌∙◌, IsSome, length, take, drop, sum_by, ap, sym, subst, arith}
 use Rattle.std.proofs.lemmas.List.Elements.{All-drop, All-take}
 use Rattle.iddqd_ord_index.proofs.ListedLemmas.{length-listed, listed-part}
 use Rattle.iddqd_ord_index.specs.Listed.{listed_items, AreOccupied}
 use Rattle.iddqd_store.specs.Store.{item_at}
-use Rattle.iddqd_ord.proofs.RangeLemmas.{part_up_to}
+use Rattle.iddqd_ord.proofs.RangeLemmas.{part_up_to, sum-part}
 use Rattle.iddqd_ord.proofs.StoreAndIndexLemmas.{have_slots}
 use Rattle.iddqd_ord.proofs.id_ord_map.IdOrdMap.part.Goals as goal
 
@@ -37,7 +37,12 @@ returns-clause-items g c =
     ∙ (ap (λ n. drop n (take c.place-to.result c.args.self.now.items)) c.place-from.ensures
     ∙ part_up_to c.args.self.now.items c.args.low c.args.high c.place-to.result (c.place-to.ensures ∙ c.max.ensures))))
 
-pub returns-clause-fits : goal.returns-clause-fits
-returns-clause-fits g c =
+pub returns-clause-part : goal.returns-clause-part
+returns-clause-part g c =
     let m = c.self.inside in
-    omega (arith, c.walk_between.ensures.fits, length-listed m.store c.walk_between.result (invariant_of-result g c))
+    let items = c.args.self.now.items in
+    record {
+      part = (c.args.low, c.args.high, returns-clause-items g c);
+      sums = λ h. subst (λ l. sum_by h l ≤ sum_by h items) (sym (returns-clause-items g c)) (sum-part h items c.args.low c.args.high);
+      fits = omega (arith, c.walk_between.ensures.fits, length-listed m.store c.walk_between.result (invariant_of-result g c));
+    }

@@ -1,6 +1,6 @@
-use Rattle.std.proofs.Common.{◌≤◌, ◌∙◌, ap, subst, sym, sum_by}
+use Rattle.std.proofs.Common.{◌∙◌, ap, sym}
 use Rattle.iddqd_ord.specs.Ranges.{bound_now, is_from, is_up_to, items_between}
-use Rattle.iddqd_ord.proofs.RangeLemmas.{between_places, sum-part}
+use Rattle.iddqd_ord.proofs.RangeLemmas.{between_places}
 use Rattle.iddqd_ord.proofs.id_ord_map.IdOrdMap.range_counted.Goals as goal
 
 pub returns-clause-items : goal.returns-clause-items
@@ -14,10 +14,3 @@ returns-clause-items g c has =
     ∙ sym (between_places (λ x. is_from compare low (key x)) (λ x. is_up_to compare high (key x)) items c.start_of-low.result c.end_of-high.result c.start_of-low.ensures.start c.end_of-high.ensures.end)
     ∙ ap (λ b. items_between compare key b high items) (c.start_bound.ensures has)
     ∙ ap (λ b. items_between compare key (g.R.RangeBounds.start_bound c.args.range) b items) (c.end_bound.ensures has)
-
-pub returns-clause-part : goal.returns-clause-part
-returns-clause-part g c = (c.start_of-low.result, c.end_of-high.result, c.part.ensures.items)
-
-pub returns-clause-sums : goal.returns-clause-sums
-returns-clause-sums g c h =
-    subst (λ l. sum_by h l ≤ sum_by h c.args.self.now.items) (sym c.part.ensures.items) (sum-part h c.args.self.now.items c.start_of-low.result c.end_of-high.result)
