@@ -1,10 +1,21 @@
--- What a caller may cite for its own proof after a change of either map: what a lookup finds then, and the number
--- of items.
---     after_changes      all of them; alone, of a lookup by a test p of the items:
+-- What a caller may cite for its own proof after a change of either map: what a lookup finds then, the number of items, and
+-- the sum of a weight.
+--     after_changes      all of them, and those of guards; alone, of a lookup by a test p of the items:
 --     find_inserted, find_beside_inserted      the item that was inserted, and any other
---     find_removed, still_found_removed, still_absent_removed      the item that was removed, one that was found besides, and one that was not
+--     find_removed, find_beside_removed      the item that was removed, and any other
+--     still_found_removed, still_absent_removed      where some were left out, one that was found and stays, and one that was not found
 --     find_replaced      the item that stands in the place of another
+--     still_found_put, still_absent_put      after `insert_overwrite` an item that was found besides, and one that was not
 --     found_passes      what is found passes the test
 --     same_text      a text equals itself
+--     text_apart, text_beside, text_differs      a key of one text is not another
 --     length_inserted, length_replaced, length_removed      how many items there are
-pub use Rattle.iddqd_store.proofs.ChangeLemmas.{after_changes, find_beside_inserted, find_inserted, find_removed, find_replaced, found_passes, length_inserted, length_removed, length_replaced, same_text, still_absent_removed, still_found_removed}
+--     sum_inserted, sum_removed, sum_retained      the sum of a weight
+--     hash_sum_overwritten, ord_sum_overwritten      ... after `insert_overwrite`
+use Rattle.iddqd_store.proofs.ChangeLemmas.{after_changes as of_lists}
+pub use Rattle.iddqd_store.proofs.ChangeLemmas.{find_beside_inserted, find_beside_removed, find_inserted, find_removed, find_replaced, found_passes, length_inserted, length_removed, length_replaced, same_text, still_absent_put, still_absent_removed, still_found_put, still_found_removed, sum_inserted, sum_removed, sum_retained, text_apart, text_beside, text_differs}
+pub use Rattle.iddqd_hash.proofs.ChangeLemmas.{hash_sum_overwritten}
+pub use Rattle.iddqd_ord.proofs.ChangeLemmas.{ord_sum_overwritten}
+use Rattle.iddqd.proofs.GuardLemmas.{hash_key_kept, others_at_slot, read_at_slot, same_key_kept, sum_at_slot}
+
+pub ruleset after_changes = (of_lists, hash_sum_overwritten, ord_sum_overwritten, others_at_slot, read_at_slot, sum_at_slot, hash_key_kept, same_key_kept)

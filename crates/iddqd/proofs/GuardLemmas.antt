@@ -3,5 +3,7 @@
 --     written_twice      a second write leaves what it alone would
 --     keys_written, same_key_kept      a write under the same key leaves the keys, and the items of an ordered map ascend still
 --     hash_key_kept      ... and a hash map is keyed still
-pub use Rattle.iddqd_store.proofs.WrittenLemmas.{keys_written, others_written, read_back, same_key_kept, written_twice}
+--     others_at_slot, read_at_slot      after a write a lookup finds what it found, or what was written
+--     sum_at_slot      the sum of a weight after a write
+pub use Rattle.iddqd_store.proofs.WrittenLemmas.{keys_written, others_at_slot, others_written, read_at_slot, read_back, same_key_kept, sum_at_slot, written_twice}
 pub use Rattle.iddqd_hash.proofs.GetMutLemmas.{hash_key_kept}

@@ -29,7 +29,7 @@ use Rattle.std.specs.Hash.{HashWrites}
 use Rattle.iddqd_store.specs.Adding as adding
 use Rattle.iddqd_store.specs.Adding.{AddsGiven, OnItemRefused, StopsAdding}
 use Rattle.iddqd_store.specs.Collecting as collecting
-use Rattle.iddqd_store.specs.Contents.{AddsItem, find_item, items_overwritten}
+use Rattle.iddqd_store.specs.Contents.{AddsItem, find_item, items_overwritten, items_without}
 use Rattle.iddqd_store.specs.Holding.{FillsSlots, InsertsItem, Shrinks, max_items}
 use Rattle.iddqd_store.specs.Refusal as refusal
 use Rattle.iddqd_store.specs.Refusal.{HandsBack, OnDuplicate}
@@ -135,12 +135,14 @@ module _ {S T K : Type 0} (key : T → K) (eq : K → K → Bool) where
     abbrev pub ShowsConflict : HashItems S T → ExtendUniqueError T → Type 0
     ShowsConflict old = adding.ShowsConflict key eq given iter (holding_of old)
 
--- x replaced the item of an equal key, which is returned, or was inserted if there was none
+-- x replaced the item of an equal key, which is returned, or was inserted if there was none; either way it is beside the old items of
+-- other keys
 pub record HashOverwrites {S T K : Type 0} (key : T → K) (eq : K → K → Bool) (x : T) (old new : HashItems S T) (back : Option T) : Type 0 where
   pub found : back ≡ find_item key (eq (key x)) old.items
   pub replaced : OnSome back (new ≡ map_overwritten key eq x old)
   pub inserted : IfNone back (InsertsItem x (holding_of old) (holding_of new))
   pub there : find_item key (eq (key x)) new.items ≡ Some x
+  pub others : AddsItem x (items_without key (eq (key x)) old.items) new.items
 
 -- x was refused room, since nothing was spare, and is returned
 pub record HashHandsBack {S T K : Type 0} (key : T → K) (eq : K → K → Bool) (m : HashItems S T) (x : T) (refused : Refused T) : Type 0 where

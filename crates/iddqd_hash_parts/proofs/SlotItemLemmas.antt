@@ -213,6 +213,7 @@ module _ {T : Type 0} where
   pub record SlotLeft (old new : List (Option T)) (x : T) : Type 0 where
     pub place : ℕ
     pub there : slice_get (items_of old) place ≡ Some x
+    pub items : items_of new ≡ remove (items_of old) place
     pub slots : slot_numbers new ≡ remove (slot_numbers old) place
 
   pub slot_left : (old new : List (Option T)) (slot : ℕ) (x : T) → at old slot ≡ Some x → at new slot ≡ None → ((other : ℕ) → other ≢ slot → at new other ≡ at old other) → SlotLeft old new x
@@ -221,8 +222,10 @@ module _ {T : Type 0} where
       let after = lodged (λ s. s) new in
       let pair = option_map (λ y. (slot, y)) in
       let p = place_of before after slot (slot, x) (at_lodged (λ s. s) old slot ∙ ap pair there) (λ other n. at_lodged (λ s. s) new other ∙ ap (option_map (λ y. (other, y))) (others other n) ∙ sym (at_lodged (λ s. s) old other)) in
+      let out = p.removed (at_lodged (λ s. s) new slot ∙ ap pair none) in
       record {
         place = p.place;
         there = ap (λ xs. slice_get xs p.place) (sym (lodged_items (λ s. s) old)) ∙ slice_get-map (λ q. q.1) (items_of before) p.place ∙ ap (option_map (λ q. q.1)) p.there;
-        slots = sym (lodged_numbers (λ s. s) new) ∙ ap (map (λ q. q.0)) (p.removed (at_lodged (λ s. s) new slot ∙ ap pair none)) ∙ remove-map (λ q. q.0) (items_of before) p.place ∙ ap (λ ns. remove ns p.place) (lodged_numbers (λ s. s) old);
+        items = sym (lodged_items (λ s. s) new) ∙ ap (map (λ q. q.1)) out ∙ remove-map (λ q. q.1) (items_of before) p.place ∙ ap (λ xs. remove xs p.place) (lodged_items (λ s. s) old);
+        slots = sym (lodged_numbers (λ s. s) new) ∙ ap (map (λ q. q.0)) out ∙ remove-map (λ q. q.0) (items_of before) p.place ∙ ap (λ ns. remove ns p.place) (lodged_numbers (λ s. s) old);
       }

@@ -1,3 +1,4 @@
+pub mod ChangeLemmas
 mod CloneLemmas
 mod CompactLemmas
 mod EndLemmas

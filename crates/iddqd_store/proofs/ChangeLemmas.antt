@@ -1,21 +1,42 @@
 -- What a caller finds after a change, in either map. A lookup is by a test p of the items: by a query's test of their keys.
 --     find_inserted, find_beside_inserted      the item that was inserted, and any other
---     find_removed, still_found_removed, still_absent_removed      the item that was removed, one that was found besides, and one that was not
+--     find_removed, find_beside_removed      the item that was removed, and any other
+--     still_found_removed, still_absent_removed      where some were left out, one that was found and stays, and one that was not found
 --     find_replaced      the item that stands in the place of another
+--     still_found_put, still_absent_put      the same after `insert_overwrite`, of a test that the new item fails
+--     put_beside, put_over      the item that was put in is beside the old items of other keys
 --     found_passes      what is found passes the test
---     same_text      a text equals itself
+--     same_text, text_apart, text_beside, text_differs      a text equals itself, and a key of one text is not another
 --     length_inserted, length_replaced, length_removed      how many items there are then
---     after_changes      all of them, under one name
-use Rattle.std.proofs.Common.{◌≡◌, ℕ, zero, suc, ◌+◌, Bool, true, false, cond, not, List, [], ◌∷◌, Some, None, is_some, length, map, filter, find, nat_eq, refl, sym, ap, ◌∙◌, arith, true≢false}
+--     sum_inserted, sum_removed, sum_retained, sum_put_over      the sum of a weight then
+--     after_changes      what a caller may cite of them, under one name
+use Rattle.std.proofs.Common.{◌≡◌, ◌≢◌, ℕ, zero, suc, ◌+◌, ◌<◌, ◌≤◌, Bool, true, false, cond, not, List, [], ◌∷◌, Option, Some, None, is_some, length, map, set, filter, find, nat_eq, refl, sym, ap, subst, ◌∙◌, arith, true≢false}
 use Rattle.std.proofs.lemmas.List.{length-map}
 use Rattle.std.proofs.lemmas.List.Edits.{length-insert, length-remove}
-use Rattle.std.proofs.lemmas.Option.{slice_get_within}
+use Rattle.std.proofs.lemmas.List.Sums.{sum_by-cons, sum_by-insert, sum_by-remove}
+use Rattle.std.proofs.lemmas.Option.{get_or_from_slice_get, slice_get_within}
+use Rattle.std.proofs.lemmas.Slice.Eq.{bytes_eq-Decides}
+use Rattle.std.specs.Cmp.{IsEquivalence}
 use Rattle.std.specs.Cmp.Lexicographic.{nat_list_eq_equiv, pointwise}
-use Rattle.std.specs.List.{insert, remove, slice_get}
-use Rattle.iddqd_store.specs.Contents.{AddsItem}
+use Rattle.std.specs.List.{insert, items_where_true, remove, slice_get, sum_by}
+use Rattle.std.specs.Option.{OnSome, option_map, unwrap_or}
+use Rattle.std.specs.Str.{bytes_eq}
+use Rattle.iddqd_store.specs.Contents.{AddsItem, IsKeyTest, NoTwoAkin, find_item, items_overwritten, items_without}
+use Rattle.iddqd_store.specs.Holding.{Holding, LeavesSlot, Removes}
+use Rattle.iddqd_store.proofs.ContentsLemmas.{filter_at, map_at, only_place}
 
 pub same_text : (bytes : List ℕ) → pointwise nat_eq bytes bytes ≡ true
 same_text bytes = nat_list_eq_equiv.refl bytes
+
+-- a key that is one text is not another, whichever of the two is asked for
+pub text_apart : (name other k : List ℕ) → bytes_eq other k ≡ true → other ≢ name → bytes_eq name k ≡ false
+text_apart name other k same apart = grind (arith, bytes_eq-Decides other k, bytes_eq-Decides name k)
+
+pub text_beside : (name other k : List ℕ) → bytes_eq name k ≡ true → other ≢ name → bytes_eq other k ≡ false
+text_beside name other k same apart = grind (arith, bytes_eq-Decides other k, bytes_eq-Decides name k)
+
+pub text_differs : (other k : List ℕ) → other ≢ k → bytes_eq other k ≡ false
+text_differs other k apart = grind (arith, bytes_eq-Decides other k)
 
 module _ {T : Type 0} (p : T → Bool) where
   pub found_passes : (items : List T) (x : T) → find p items ≡ Some x → p x ≡ true
@@ -83,6 +104,41 @@ module _ {T : Type 0} (p : T → Bool) where
   pub still_absent_removed : (keeps : T → Bool) (old new : List T) → new ≡ filter keeps old → find p old ≡ None → find p new ≡ None
   still_absent_removed keeps old new left none = rw left (absent_left keeps old none)
 
+  beside_gone : (items : List T) (i : ℕ) (x : T) → slice_get items i ≡ Some x → p x ≡ false → find p (remove items i) ≡ find p items
+  beside_gone [] i x there fails = cc
+  beside_gone (y ∷ ys) zero x there fails = let same : y ≡ x = cc in rw (ap p same ∙ fails) refl
+  beside_gone (y ∷ ys) (suc i) x there fails = ap (λ o. cond (p y) (Some y) o) (beside_gone ys i x there fails)
+
+  pub find_beside_removed : (x : T) (old new : Holding T) → LeavesSlot x old new → p x ≡ false → find p new.items ≡ find p old.items
+  find_beside_removed x old new leaves fails = ap (find p) leaves.items ∙ beside_gone old.items leaves.place x leaves.there fails
+
+  -- x was put beside those of the old items that a test keeps
+  pub still_found_put : (keeps : T → Bool) (old new : List T) (x y : T) → AddsItem x (filter keeps old) new → find p old ≡ Some y → keeps y ≡ true → p x ≡ false → find p new ≡ Some y
+  still_found_put keeps old new x y adds found stays fails = find_beside_inserted (filter keeps old) new x adds fails ∙ found_left keeps y stays old found
+
+  pub still_absent_put : (keeps : T → Bool) (old new : List T) (x : T) → AddsItem x (filter keeps old) new → find p old ≡ None → p x ≡ false → find p new ≡ None
+  still_absent_put keeps old new x adds none fails = find_beside_inserted (filter keeps old) new x adds fails ∙ absent_left keeps old none
+
+  -- where none is found none is left out
+  all_stay : (items : List T) → find p items ≡ None → filter (λ x. not (p x)) items ≡ items
+  all_stay [] none = refl
+  all_stay (x ∷ xs) none = by (p x) none (all_stay xs)
+    where
+      by : (b : Bool) → cond b (Some x) (find p xs) ≡ None → (find p xs ≡ None → filter (λ y. not (p y)) xs ≡ xs) → cond (not b) (x ∷ filter (λ y. not (p y)) xs) (filter (λ y. not (p y)) xs) ≡ x ∷ xs
+      by true none rest = absurd (true≢false (ap is_some none))
+      by false none rest = ap (λ ys. x ∷ ys) (rest none)
+
+  pub put_beside : (old new : List T) (x : T) → AddsItem x old new → find p old ≡ None → AddsItem x (filter (λ y. not (p y)) old) new
+  put_beside old new x adds none = subst (λ ys. AddsItem x ys new) (sym (all_stay old none)) adds
+
+  found_place : (items : List T) (x : T) → find p items ≡ Some x → (i : ℕ) × (slice_get items i ≡ Some x)
+  found_place [] x found = absurd (true≢false (sym (ap is_some found)))
+  found_place (y ∷ ys) x found = by (p y) found (found_place ys x)
+    where
+      by : (b : Bool) → cond b (Some y) (find p ys) ≡ Some x → (find p ys ≡ Some x → (i : ℕ) × (slice_get ys i ≡ Some x)) → (i : ℕ) × (slice_get (y ∷ ys) i ≡ Some x)
+      by true found rest = (zero, found)
+      by false found rest = let behind = rest found in (suc behind.0, behind.1)
+
   found_put_over : (y x : T) (items : List T) → find p items ≡ Some x → p y ≡ true → find p (map (λ z. cond (p z) y z) items) ≡ Some y
   found_put_over y x [] found passes = absurd (true≢false (sym (ap is_some found)))
   found_put_over y x (z ∷ zs) found passes = by (p z) refl found (λ later. found_put_over y x zs later passes)
@@ -101,12 +157,86 @@ module _ {T : Type 0} where
   pub length_replaced : (p : T → Bool) (y : T) (old new : List T) → new ≡ map (λ x. cond (p x) y x) old → length new ≡ length old
   length_replaced p y old new put = rw put (length-map old _)
 
-  -- by the slots: an item has left its place, and its slot that of the slots
-  pub length_removed : (items left : List T) (slots slots_left : List ℕ) (place : ℕ) (x : T) → slice_get items place ≡ Some x → slots_left ≡ remove slots place → length slots ≡ length items → length slots_left ≡ length left → length left + 1 ≡ length items
-  length_removed items left slots slots_left place x there out as_many as_many_left =
-      let within = slice_get_within items place x there in
-      let fewer = length-remove slots place (omega arith) in
-      let same = ap length out in
-      omega arith
+  pub length_removed : (x : T) (old new : Holding T) → LeavesSlot x old new → length new.items + 1 ≡ length old.items
+  length_removed x old new leaves =
+      let within = slice_get_within old.items leaves.place x leaves.there in
+      ap (λ xs. length xs + 1) leaves.items ∙ length-remove old.items leaves.place within
 
-pub ruleset after_changes = (same_text, found_passes, find_inserted, find_beside_inserted, find_removed, still_found_removed, still_absent_removed, find_replaced, length_inserted, length_replaced, length_removed)
+set_again : {T : Type 0} (xs : List T) (i : ℕ) (y : T) → i < length xs → set xs i y ≡ insert (remove xs i) i y
+set_again [] i y within = absurd (omega arith)
+set_again (x ∷ xs) zero y within = refl
+set_again (x ∷ xs) (suc i) y within = ap (λ ys. x ∷ ys) (set_again xs i y (omega arith))
+
+-- `insert_overwrite`: y is beside the items of other keys
+module _ {T K : Type 0} (key : T → K) {eq : K → K → Bool} (equivalence : IsEquivalence eq) (test : K → Bool) (tests : IsKeyTest eq test) (items : List T) (differ : NoTwoAkin key eq items) where
+  pub put_over : (x y : T) → find_item key test items ≡ Some x → AddsItem y (items_without key test items) (items_overwritten key test y items)
+  put_over x y found =
+      let at = found_place (λ z. test (key z)) items x found in
+      let within = slice_get_within items at.0 x at.1 in
+      let only = only_place key equivalence test tests items differ at.0 within (λ d. ap (λ z. test (key z)) (get_or_from_slice_get items at.0 x d at.1) ∙ found_passes (λ z. test (key z)) items x found) in
+      let left = filter_at (λ z. test (key z)) items at.0 only in
+      let fewer = length-remove items at.0 within in
+      record {
+        place = at.0;
+        within = subst (λ ys. at.0 ≤ length ys) (sym left) (omega arith);
+        put = map_at (λ z. test (key z)) y items at.0 only ∙ set_again items at.0 y within ∙ ap (λ ys. insert ys at.0 y) (sym left);
+      }
+
+-- sums of a weight
+module _ {T : Type 0} (f : T → ℕ) where
+  pub sum_inserted : (old new : List T) (x : T) → AddsItem x old new → sum_by f new ≡ sum_by f old + f x
+  sum_inserted old new x adds = rw adds.put (sum_by-insert f old adds.place x)
+
+  -- with nothing removed the sum is as before
+  pub sum_removed : (found : Option T) (old new : Holding T) → Removes found old new → sum_by f new.items + unwrap_or (option_map f found) 0 ≡ sum_by f old.items
+  sum_removed None old new removes = let same = ap (λ m. sum_by f m.items) removes.unchanged in omega arith
+  sum_removed (Some x) old new removes =
+      let leaves : LeavesSlot x old new = removes.slots in
+      let within = slice_get_within old.items leaves.place x leaves.there in
+      ap (λ xs. sum_by f xs + f x) leaves.items
+      ∙ ap (λ y. sum_by f (remove old.items leaves.place) + f y) (sym (get_or_from_slice_get old.items leaves.place x x leaves.there))
+      ∙ sum_by-remove f old.items leaves.place x within
+
+  -- some were left out, as by `retain`
+  pub sum_retained : (kept : List Bool) (old new : List T) → new ≡ items_where_true kept old → sum_by f new ≤ sum_by f old
+  sum_retained kept old new left = subst (λ xs. sum_by f xs ≤ sum_by f old) (sym left) (of_kept kept old)
+    where
+      of_kept : (bs : List Bool) (xs : List T) → sum_by f (items_where_true bs xs) ≤ sum_by f xs
+      of_kept [] xs = omega arith
+      of_kept (b ∷ bs) [] = omega arith
+      of_kept (true ∷ bs) (x ∷ xs) = omega (arith, of_kept bs xs, sum_by-cons f x xs, sum_by-cons f x (items_where_true bs xs))
+      of_kept (false ∷ bs) (x ∷ xs) = omega (arith, of_kept bs xs, sum_by-cons f x xs)
+
+-- of one item that was left out
+module _ {T : Type 0} (f : T → ℕ) (p : T → Bool) where
+  never_longer : (xs : List T) → length (filter (λ x. not (p x)) xs) ≤ length xs
+  never_longer [] = omega arith
+  never_longer (x ∷ xs) = by (p x) (never_longer xs)
+    where
+      by : (b : Bool) → length (filter (λ y. not (p y)) xs) ≤ length xs → length (cond (not b) (x ∷ filter (λ y. not (p y)) xs) (filter (λ y. not (p y)) xs)) ≤ length (x ∷ xs)
+      by true rest = omega arith
+      by false rest = omega arith
+
+  none_gone : (xs : List T) → length (filter (λ x. not (p x)) xs) ≡ length xs → filter (λ x. not (p x)) xs ≡ xs
+  none_gone [] same = refl
+  none_gone (x ∷ xs) same = by (p x) same (never_longer xs) (none_gone xs)
+    where
+      by : (b : Bool) → length (cond (not b) (x ∷ filter (λ y. not (p y)) xs) (filter (λ y. not (p y)) xs)) ≡ length (x ∷ xs) → length (filter (λ y. not (p y)) xs) ≤ length xs → (length (filter (λ y. not (p y)) xs) ≡ length xs → filter (λ y. not (p y)) xs ≡ xs) → cond (not b) (x ∷ filter (λ y. not (p y)) xs) (filter (λ y. not (p y)) xs) ≡ x ∷ xs
+      by true same short rest = absurd (omega arith)
+      by false same short rest = ap (λ ys. x ∷ ys) (rest (omega arith))
+
+  one_gone : (xs : List T) (y : T) → find p xs ≡ Some y → length (filter (λ x. not (p x)) xs) + 1 ≡ length xs → sum_by f (filter (λ x. not (p x)) xs) + f y ≡ sum_by f xs
+  one_gone [] y found fewer = absurd (true≢false (sym (ap is_some found)))
+  one_gone (x ∷ xs) y found fewer = by (p x) found fewer (none_gone xs) (one_gone xs y)
+    where
+      by : (b : Bool) → cond b (Some x) (find p xs) ≡ Some y → length (cond (not b) (x ∷ filter (λ z. not (p z)) xs) (filter (λ z. not (p z)) xs)) + 1 ≡ length (x ∷ xs) → (length (filter (λ z. not (p z)) xs) ≡ length xs → filter (λ z. not (p z)) xs ≡ xs) → (find p xs ≡ Some y → length (filter (λ z. not (p z)) xs) + 1 ≡ length xs → sum_by f (filter (λ z. not (p z)) xs) + f y ≡ sum_by f xs) → sum_by f (cond (not b) (x ∷ filter (λ z. not (p z)) xs) (filter (λ z. not (p z)) xs)) + f y ≡ sum_by f (x ∷ xs)
+      by true found fewer whole rest = let same : x ≡ y = cc in let all = whole (omega arith) in grind (arith, same, all, sum_by-cons f)
+      by false found fewer whole rest = let behind = rest found (omega arith) in grind (arith, behind, sum_by-cons f)
+
+  pub sum_put_over : (old new : List T) (x : T) (back : Option T) → back ≡ find p old → AddsItem x (filter (λ y. not (p y)) old) new → OnSome back (length new ≡ length old) → sum_by f new + unwrap_or (option_map f back) 0 ≡ sum_by f old + f x
+  sum_put_over old new x None found adds as_many = let same = ap (sum_by f) (all_stay p old (sym found)) in omega (arith, sum_inserted f (filter (λ y. not (p y)) old) new x adds)
+  sum_put_over old new x (Some y) found adds as_many =
+      let longer = length_inserted (filter (λ y. not (p y)) old) new x adds in
+      omega (arith, sum_inserted f (filter (λ y. not (p y)) old) new x adds, one_gone old y (sym found) (omega arith))
+
+pub ruleset after_changes = (same_text, text_apart, text_beside, text_differs, found_passes, find_inserted, find_beside_inserted, find_removed, find_beside_removed, still_found_removed, still_absent_removed, still_found_put, still_absent_put, find_replaced, length_inserted, length_replaced, length_removed, sum_inserted, sum_removed, sum_retained)

@@ -9,18 +9,22 @@
 --     read_back, written_twice, others_written      what was written is there, a second write leaves what it alone would, and the others stay
 --     keys_written      a write under the same key leaves the keys
 --     same_key_kept, akin_key_kept, akin_keys_differ      where an equal key was written the items still ascend, and their keys still differ
+--     others_at_slot, read_at_slot      what a test finds after a write: what it found, or what was written
+--     sum_at_slot      the sum of a weight after a write
 --     listed_slot      a slot has an item exactly where it is one of the slots
-use Rattle.std.proofs.Common.{◌≡◌, ℕ, zero, suc, ◌<◌, ◌↔◌, Bool, true, false, cond, List, [], ◌∷◌, length, set, get_or, Option, Some, None, is_some, refl, sym, ap, ◌∙◌, arith, nat_eq, true≢false, subst, map, Ordering, Equal}
+use Rattle.std.proofs.Common.{◌≡◌, ℕ, zero, suc, ◌+◌, ◌<◌, ◌↔◌, Bool, true, false, cond, List, [], ◌∷◌, length, find, set, get_or, Option, Some, None, is_some, refl, sym, ap, ◌∙◌, arith, nat_eq, true≢false, subst, map, Ordering, Equal}
 use Rattle.std.proofs.lemmas.Bool.{eqb-true, eq-eqb}
+use Rattle.std.proofs.lemmas.List.Sums.{sum_by-set}
 use Rattle.std.proofs.lemmas.Option.{get_or_from_slice_get, slice_get_within}
 use Rattle.std.proofs.Math.Seq.{map-set_same}
 use Rattle.std.specs.Cmp.{IsEquivalence, IsTotalOrder, Equal-is}
 use Rattle.std.specs.List.Sorted.{IsStrictlySortedBy}
 use Rattle.std.specs.Option.{option_map}
 use Rattle.std.specs.Ordering.{is_eq}
-use Rattle.std.specs.List.{AllByRecursion, Contains, IsDistinct, remove, slice_get}
+use Rattle.std.specs.List.{AllByRecursion, Contains, IsDistinct, remove, slice_get, sum_by}
 use Rattle.iddqd_store.specs.Contents.{Ascends, IsKeyTest, NoTwoAkin, find_item, items_overwritten, items_without}
 use Rattle.iddqd_store.specs.SlotItems.{HaveSlots, item_of_slot, without_slot, written_to_slot}
+use Rattle.iddqd_store.proofs.ChangeLemmas.{find_replaced}
 use Rattle.iddqd_store.proofs.ContentsLemmas.{filter_at, map_at, only_place}
 use Rattle.iddqd_store.proofs.KeepsLemmas.{ascends_set, differ_set}
 use Rattle.iddqd_store.proofs.OrderLemmas.{Tells, find_tells}
@@ -189,3 +193,24 @@ module _ {T K : Type 0} (key : T → K) (slots : List ℕ) (items : List T) (slo
         let p = slot_place slots items slot x there in
         let inside = slice_get_within items p.place x p.item_there in
         subst (NoTwoAkin key eq) (sym (p.written w)) (differ_set key equivalence w items p.place (at_key key (λ k. eq (key w) k ≡ true) items p.place x inside (sym (get_or_from_slice_get items p.place x x p.item_there)) (equivalence.symm (key w) (key x) ∙ akin)) differ)
+
+-- a test that neither the slot's item nor what is written passes finds what it found
+pub others_at_slot : {T : Type 0} (p : T → Bool) (slots : List ℕ) (items : List T) (slot : ℕ) (x w : T) → item_of_slot slots items slot ≡ Some x → p x ≡ false → p w ≡ false → find p (written_to_slot slots items slot w) ≡ find p items
+others_at_slot p [] items slot x w there fails w_fails = refl
+others_at_slot p (s ∷ slots) [] slot x w there fails w_fails = refl
+others_at_slot p (s ∷ slots) (y ∷ items) slot x w there fails w_fails = by (nat_eq s slot) refl there (λ later. others_at_slot p slots items slot x w later fails w_fails)
+  where
+    by : (b : Bool) → nat_eq s slot ≡ b → cond b (Some y) (item_of_slot slots items slot) ≡ Some x → (item_of_slot slots items slot ≡ Some x → find p (written_to_slot slots items slot w) ≡ find p items) → find p (cond b (w ∷ items) (y ∷ written_to_slot slots items slot w)) ≡ cond (p y) (Some y) (find p items)
+    by true e here rest = let same : y ≡ x = cc in rw w_fails (rw (ap p same ∙ fails) refl)
+    by false e later rest = ap (λ o. cond (p y) (Some y) o) (rest later)
+
+-- a test that found the slot's item, and that what is written passes, finds that
+pub read_at_slot : {T : Type 0} (p : T → Bool) (slots : List ℕ) (items : List T) (slot : ℕ) (x w : T) → written_to_slot slots items slot w ≡ map (λ z. cond (p z) w z) items → find p items ≡ Some x → p w ≡ true → find p (written_to_slot slots items slot w) ≡ Some w
+read_at_slot p slots items slot x w puts found passes = find_replaced p (λ z. cond (p z) w z) items (written_to_slot slots items slot w) w x puts refl found passes
+
+pub sum_at_slot : {T : Type 0} (f : T → ℕ) (slots : List ℕ) (items : List T) (slot : ℕ) (x w : T) → item_of_slot slots items slot ≡ Some x → sum_by f (written_to_slot slots items slot w) + f x ≡ sum_by f items + f w
+sum_at_slot f slots items slot x w there =
+    let p = slot_place slots items slot x there in
+    ap (λ xs. sum_by f xs + f x) (p.written w)
+    ∙ ap (λ y. sum_by f (set items p.place w) + f y) (sym (get_or_from_slice_get items p.place x x p.item_there))
+    ∙ sum_by-set f items p.place w x (slice_get_within items p.place x p.item_there)

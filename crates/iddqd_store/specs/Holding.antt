@@ -49,6 +49,7 @@ pub record KeepsItems {T : Type 0} (old new : Holding T) : Type 0 where
 pub record LeavesSlot {T : Type 0} (y : T) (old new : Holding T) : Type 0 where
   pub place : ℕ
   pub there : slice_get old.items place ≡ Some y
+  pub items : new.items ≡ remove old.items place
   pub slots : new.slots ≡ remove old.slots place
 
 -- what a removal leaves that found this, besides the items: its slot is vacant, or nothing was found and nothing has changed

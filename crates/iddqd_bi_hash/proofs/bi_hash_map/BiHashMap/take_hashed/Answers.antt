@@ -49,6 +49,7 @@ returns-clause-removed g c =
       slots = record {
         place = left.place;
         there = ap (λ v. slice_get v.items left.place) (sym c.self.view_is) ∙ left.there;
+        items = left.items ∙ ap (λ v. remove v.items left.place) c.self.view_is;
         slots = left.slots ∙ ap (λ v. remove v.slots left.place) c.self.view_is;
       };
       vacant = out.vacant ∙ ap (λ v. v.vacant + 1) c.self.view_is;

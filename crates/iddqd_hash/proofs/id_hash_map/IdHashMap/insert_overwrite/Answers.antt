@@ -1,7 +1,7 @@
 use Rattle.std.proofs.Common.{◌∙◌, ◌≡◌, None, Some, cond, refl, sym, ap, subst, arith}
 use Rattle.std.proofs.lemmas.Result.{err_from_is_err_and}
-use Rattle.iddqd_store.proofs.ChangeLemmas.{find_inserted, find_replaced}
-use Rattle.iddqd_store.specs.Contents.{find_item, items_overwritten}
+use Rattle.iddqd_store.proofs.ChangeLemmas.{find_inserted, find_replaced, put_beside, put_over}
+use Rattle.iddqd_store.specs.Contents.{AddsItem, find_item, items_overwritten, items_without}
 use Rattle.iddqd_store.specs.Hashing.{hash_under}
 use Rattle.iddqd_hash_parts.specs.HashItems.{IsKeyed, KeyedItems}
 use Rattle.iddqd_hash.specs.HashMap.{KeepsSpare}
@@ -73,6 +73,7 @@ returns-in-Some-clause-put g c =
       replaced = cc;
       inserted = tt;
       there = find_replaced (λ z. eq (key y) (key z)) (λ z. cond (eq (key y) (key z)) y z) c.args.self.now.items (items_in c.exchange.new.store) y x items refl found_before (g.met.T.Key.Eq.laws.refl (key y));
+      others = subst (AddsItem y (items_without key (eq (key y)) c.args.self.now.items)) (sym items) (put_over key g.met.T.Key.Eq.laws (eq (key y)) (g.met.T.Key.Eq.laws.congr (key y)) c.args.self.now.items c.requires.keyed.differ x y found_before);
     }
 
 pub returns-in_err-insert_hashed-in-None : goal.returns-in_err-insert_hashed-in-None
@@ -98,6 +99,7 @@ returns-in_ok-insert_hashed-in-None g c =
         replaced = tt;
         inserted = put.inserts;
         there = find_inserted (λ z. eq (key c.args.item) (key z)) _ _ c.args.item put.inserts.added absent (g.met.T.Key.Eq.laws.refl (key c.args.item));
+        others = put_beside (λ z. eq (key c.args.item) (key z)) _ _ c.args.item put.inserts.added absent;
       };
       refused = tt;
       kept = tt;
