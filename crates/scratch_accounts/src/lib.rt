@@ -1,0 +1,4 @@
+//! A trial.
+#![tactic(auto)]
+
+pub mod accounts;
