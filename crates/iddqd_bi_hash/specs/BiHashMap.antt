@@ -7,7 +7,6 @@
 --     BiInserts      an item was inserted
 --     BiKeeps      nothing has changed but the room, which may have grown
 --     LosesPlaceOf      a slot is gone
---     BiTakes      one item was removed, and neither of its keys finds it
 --     LeavesVacant      these items' slots are vacant
 -- Searches, insertions and refusals:
 --     HasHash      each key that a query stands for has this hash
@@ -112,12 +111,6 @@ abbrev pub LosesKey : {T K : Type 0} → (T → K) → (K → K → Bool) → T 
 LosesKey {T} key eq x found items = (y : T) → found ≡ Some y → eq (key y) (key x) ≡ false → IsAbsent key (eq (key y)) items
 
 module _ {S T K L : Type 0} (key1 : T → K) (key2 : T → L) (eq1 : K → K → Bool) (eq2 : L → L → Bool) where
-  -- y was removed, and no other: with y inserted, the items are those from before
-  pub record BiTakes (old new : BiHashItems S T) (y : T) : Type 0 where
-    pub alone : AddsItem y new.items old.items
-    pub gone1 : IsAbsent key1 (eq1 (key1 y)) new.items
-    pub gone2 : IsAbsent key2 (eq2 (key2 y)) new.items
-
   -- x is returned: beside the items that have one of its keys, in the order of their slots, or because there was no room
   abbrev pub RefusesItem : BiHashItems S T → T → InsertError T → Type 0
   RefusesItem m x (Duplicate d) =

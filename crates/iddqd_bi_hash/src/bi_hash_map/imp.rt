@@ -1,6 +1,6 @@
 //! Lookups and removals by one of the keys.
 ghost use Rattle.std.specs.Prelude.{◌≡◌, IfNone, IfSome, IsSome, Some, is_some};
-ghost use Rattle.iddqd_store.specs.Contents.{Finds, RemovesFound, find_item};
+ghost use Rattle.iddqd_store.specs.Contents.{AddsItem, Finds, IsAbsent, RemovesFound, find_item};
 ghost use Rattle.iddqd_store.specs.Holding.{Removes};
 ghost use Rattle.iddqd_store.specs.SlotItems.{item_of_slot};
 
@@ -13,7 +13,7 @@ use std::hash::{BuildHasher, Hash};
 impl<T: BiHashItem, S: BuildHasher> BiHashMap<T, S> {
     ghost use Rattle.iddqd_hash_parts.specs.HashItems.{HashesAsKeys};
     ghost use Rattle.iddqd_bi_hash.specs.BiHashItems.{holding_of};
-    ghost use Rattle.iddqd_bi_hash.specs.BiHashMap.{BiStays, BiTakes, HasHash, IsOccupied, LosesPlaceOf, SpareFits};
+    ghost use Rattle.iddqd_bi_hash.specs.BiHashMap.{BiStays, HasHash, IsOccupied, LosesPlaceOf, SpareFits};
 
     /// Returns the item that the query finds by the first key, or `None`. Hashes the query once, and compares at most as
     /// many keys as have its hash. Does not allocate.
@@ -76,7 +76,9 @@ impl<T: BiHashItem, S: BuildHasher> BiHashMap<T, S> {
         ensures value { result ≡ find_item T.key1 (Q.equivalent query.now) self.old.items }
         ensures items { RemovesFound T.key1 (Q.equivalent query.now) self.old.items self.new.items }
         ensures removed { Removes result (holding_of self.old) (holding_of self.new) }
-        ensures taken { IfSome result (BiTakes T.key1 T.key2 T.K1.eq T.K2.eq self.old self.new) }
+        ensures alone { IfSome result (λ y. AddsItem y self.new.items self.old.items) }
+        ensures gone1 { IfSome result (λ y. IsAbsent T.key1 (T.K1.eq (T.key1 y)) self.new.items) }
+        ensures gone2 { IfSome result (λ y. IsAbsent T.key2 (T.K2.eq (T.key2 y)) self.new.items) }
         ensures unchanged { IfNone result (self.new ≡ self.old) }
 
         // what stays
@@ -97,7 +99,9 @@ impl<T: BiHashItem, S: BuildHasher> BiHashMap<T, S> {
         ensures value { result ≡ find_item T.key2 (Q.equivalent query.now) self.old.items }
         ensures items { RemovesFound T.key2 (Q.equivalent query.now) self.old.items self.new.items }
         ensures removed { Removes result (holding_of self.old) (holding_of self.new) }
-        ensures taken { IfSome result (BiTakes T.key1 T.key2 T.K1.eq T.K2.eq self.old self.new) }
+        ensures alone { IfSome result (λ y. AddsItem y self.new.items self.old.items) }
+        ensures gone1 { IfSome result (λ y. IsAbsent T.key1 (T.K1.eq (T.key1 y)) self.new.items) }
+        ensures gone2 { IfSome result (λ y. IsAbsent T.key2 (T.K2.eq (T.key2 y)) self.new.items) }
         ensures unchanged { IfNone result (self.new ≡ self.old) }
 
         // what stays
@@ -116,7 +120,9 @@ impl<T: BiHashItem, S: BuildHasher> BiHashMap<T, S> {
         ensures value { result ≡ find_item T.key1 (Q.equivalent query.now) self.old.items }
         ensures items { RemovesFound T.key1 (Q.equivalent query.now) self.old.items self.new.items }
         ensures removed { Removes result (holding_of self.old) (holding_of self.new) }
-        ensures taken { IfSome result (BiTakes T.key1 T.key2 T.K1.eq T.K2.eq self.old self.new) }
+        ensures alone { IfSome result (λ y. AddsItem y self.new.items self.old.items) }
+        ensures gone1 { IfSome result (λ y. IsAbsent T.key1 (T.K1.eq (T.key1 y)) self.new.items) }
+        ensures gone2 { IfSome result (λ y. IsAbsent T.key2 (T.K2.eq (T.key2 y)) self.new.items) }
         ensures unchanged { IfNone result (self.new ≡ self.old) }
 
         // what stays
@@ -136,7 +142,9 @@ impl<T: BiHashItem, S: BuildHasher> BiHashMap<T, S> {
         ensures value { result ≡ find_item T.key2 (Q.equivalent query.now) self.old.items }
         ensures items { RemovesFound T.key2 (Q.equivalent query.now) self.old.items self.new.items }
         ensures removed { Removes result (holding_of self.old) (holding_of self.new) }
-        ensures taken { IfSome result (BiTakes T.key1 T.key2 T.K1.eq T.K2.eq self.old self.new) }
+        ensures alone { IfSome result (λ y. AddsItem y self.new.items self.old.items) }
+        ensures gone1 { IfSome result (λ y. IsAbsent T.key1 (T.K1.eq (T.key1 y)) self.new.items) }
+        ensures gone2 { IfSome result (λ y. IsAbsent T.key2 (T.K2.eq (T.key2 y)) self.new.items) }
         ensures unchanged { IfNone result (self.new ≡ self.old) }
 
         // what stays
@@ -158,7 +166,9 @@ impl<T: BiHashItem, S: BuildHasher> BiHashMap<T, S> {
         ensures value { item_of_slot self.old.slots self.old.items slot ≡ Some result }
         ensures gone { LosesPlaceOf slot self.old self.new }
         ensures removed { Removes (Some result) (holding_of self.old) (holding_of self.new) }
-        ensures taken { BiTakes T.key1 T.key2 T.K1.eq T.K2.eq self.old self.new result }
+        ensures alone { AddsItem result self.new.items self.old.items }
+        ensures gone1 { IsAbsent T.key1 (T.K1.eq (T.key1 result)) self.new.items }
+        ensures gone2 { IsAbsent T.key2 (T.K2.eq (T.key2 result)) self.new.items }
 
         // what stays
         ensures stays { BiStays ⟦<Self as Keyed>⟧.keyed self.old self.new }

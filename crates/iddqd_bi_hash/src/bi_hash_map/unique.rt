@@ -1,5 +1,6 @@
 //! Lookups and removals by both keys of one item.
 ghost use Rattle.std.specs.Prelude.{◌≡◌, IfNone, IfSome, is_some};
+ghost use Rattle.iddqd_store.specs.Contents.{AddsItem, IsAbsent};
 ghost use Rattle.iddqd_store.specs.Holding.{Removes};
 ghost use Rattle.iddqd_bi_hash.specs.TwoKeys.{FindsByBoth, RemovesByBoth, find_by_both};
 
@@ -11,7 +12,7 @@ use std::hash::{BuildHasher, Hash};
 impl<T: BiHashItem, S: BuildHasher> BiHashMap<T, S> {
     ghost use Rattle.iddqd_hash_parts.specs.HashItems.{HashesAsKeys};
     ghost use Rattle.iddqd_bi_hash.specs.BiHashItems.{holding_of};
-    ghost use Rattle.iddqd_bi_hash.specs.BiHashMap.{BiStays, BiTakes, SpareFits};
+    ghost use Rattle.iddqd_bi_hash.specs.BiHashMap.{BiStays, SpareFits};
 
     /// Returns the item that both queries find, or `None`. Searches by the first key, by as many comparisons as `get1`,
     /// and compares the second key of the item that this finds. Hashes the first query once. Does not allocate.
@@ -60,7 +61,9 @@ impl<T: BiHashItem, S: BuildHasher> BiHashMap<T, S> {
         ensures value { result ≡ find_by_both T.key1 T.key2 (Q.equivalent query1.now) (R.equivalent query2.now) self.old.items }
         ensures items { RemovesByBoth T.key1 T.key2 (Q.equivalent query1.now) (R.equivalent query2.now) self.old.items self.new.items }
         ensures removed { Removes result (holding_of self.old) (holding_of self.new) }
-        ensures taken { IfSome result (BiTakes T.key1 T.key2 T.K1.eq T.K2.eq self.old self.new) }
+        ensures alone { IfSome result (λ y. AddsItem y self.new.items self.old.items) }
+        ensures gone1 { IfSome result (λ y. IsAbsent T.key1 (T.K1.eq (T.key1 y)) self.new.items) }
+        ensures gone2 { IfSome result (λ y. IsAbsent T.key2 (T.K2.eq (T.key2 y)) self.new.items) }
         ensures unchanged { IfNone result (self.new ≡ self.old) }
 
         // what stays

@@ -5,6 +5,7 @@ use Rattle.iddqd_hash_parts.proofs.GetMutLemmas.{item_in_slot}
 use Rattle.iddqd_hash_parts.proofs.InSlotLemmas.{listed_told, place_lost}
 use Rattle.iddqd_hash_parts.proofs.SlotItemLemmas.{slot_left}
 use Rattle.iddqd_bi_hash.specs.BiHashItems.{differ_by_key1, differ_by_key2}
+use Rattle.iddqd_bi_hash.specs.StoreAndIndexes.{bi_map_of}
 use Rattle.iddqd_bi_hash.proofs.BothLemmas.{taken_stays}
 use Rattle.iddqd_bi_hash.proofs.TakenLemmas.{taken}
 use Rattle.iddqd_bi_hash.proofs.bi_hash_map.BiHashMap.take_hashed.Goals as goal
@@ -58,8 +59,23 @@ returns-clause-removed g c =
       limit = out.bounds.limit ∙ ap (λ v. v.limit) c.self.view_is;
     }
 
-pub returns-clause-taken : goal.returns-clause-taken
-returns-clause-taken g c =
+pub returns-clause-alone : goal.returns-clause-alone
+returns-clause-alone g c =
     let old = c.args.self.now in
-    taken g.T.BiHashItem.key1 g.T.BiHashItem.key2 g.met.T.K1.Eq.laws g.met.T.K2.Eq.laws old _ c.args.slot c.remove_from_all.result (returns-clause-value g c) (returns-clause-gone g c)
-    (differ_by_key1 _ _ _ _ _ _ _ old c.requires.keyed) (differ_by_key2 _ _ _ _ _ _ _ old c.requires.keyed)
+    let out = c.remove_from_all.new in
+    (taken g.T.BiHashItem.key1 g.T.BiHashItem.key2 g.met.T.K1.Eq.laws g.met.T.K2.Eq.laws old (bi_map_of out.store out.index1 out.index2 c.self.inside.hasher) c.args.slot c.remove_from_all.result (returns-clause-value g c) (returns-clause-gone g c)
+    (differ_by_key1 _ _ _ _ _ _ _ old c.requires.keyed) (differ_by_key2 _ _ _ _ _ _ _ old c.requires.keyed)).alone
+
+pub returns-clause-gone1 : goal.returns-clause-gone1
+returns-clause-gone1 g c =
+    let old = c.args.self.now in
+    let out = c.remove_from_all.new in
+    (taken g.T.BiHashItem.key1 g.T.BiHashItem.key2 g.met.T.K1.Eq.laws g.met.T.K2.Eq.laws old (bi_map_of out.store out.index1 out.index2 c.self.inside.hasher) c.args.slot c.remove_from_all.result (returns-clause-value g c) (returns-clause-gone g c)
+    (differ_by_key1 _ _ _ _ _ _ _ old c.requires.keyed) (differ_by_key2 _ _ _ _ _ _ _ old c.requires.keyed)).gone1
+
+pub returns-clause-gone2 : goal.returns-clause-gone2
+returns-clause-gone2 g c =
+    let old = c.args.self.now in
+    let out = c.remove_from_all.new in
+    (taken g.T.BiHashItem.key1 g.T.BiHashItem.key2 g.met.T.K1.Eq.laws g.met.T.K2.Eq.laws old (bi_map_of out.store out.index1 out.index2 c.self.inside.hasher) c.args.slot c.remove_from_all.result (returns-clause-value g c) (returns-clause-gone g c)
+    (differ_by_key1 _ _ _ _ _ _ _ old c.requires.keyed) (differ_by_key2 _ _ _ _ _ _ _ old c.requires.keyed)).gone2
