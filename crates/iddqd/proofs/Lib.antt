@@ -1,7 +1,6 @@
 pub mod ChangeLemmas
 pub mod GivenLemmas
 pub mod GuardLemmas
-pub mod RangeLemmas
 pub use Rattle.iddqd_store.proofs.AddingLemmas
 pub use Rattle.iddqd_store.proofs.DistinctLemmas
 pub use Rattle.iddqd_store.proofs.KeepsLemmas

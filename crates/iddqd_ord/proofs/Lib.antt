@@ -4,7 +4,6 @@ mod CompactLemmas
 mod EndLemmas
 mod EntryLemmas
 pub mod GetMutLemmas
-pub mod GroupLemmas
 pub mod InsertOrFindLemmas
 mod RangeLemmas
 pub mod StoreAndIndexLemmas

@@ -6,7 +6,7 @@ ghost use Rattle.iddqd_ord.specs.Ranges.{FindsLast, FindsRange, StartsAt, StopsA
 
 use super::{IdOrdMap, Iter};
 use iddqd_store::{Comparable, IdOrdItem, Steps};
-use std::ops::{Bound, RangeBounds};
+use std::ops::{Bound, Range, RangeBounds};
 
 impl<T: IdOrdItem> IdOrdMap<T> {
     /// Returns the items whose keys lie in the range, in ascending order. Its bounds are queries of one type. A range
@@ -75,8 +75,8 @@ impl<T: IdOrdItem> IdOrdMap<T> {
         ensures never_resets { steps.old ≤ steps.new }
     {
         match from {
-            Bound::Included(query) => self.first_from(query, steps),
-            Bound::Excluded(query) => self.first_after(query, steps),
+            Bound::Included(query) => self.equal_range(query, steps).start,
+            Bound::Excluded(query) => self.equal_range(query, steps).end,
             Bound::Unbounded => 0,
         }
     }
@@ -89,40 +89,27 @@ impl<T: IdOrdItem> IdOrdMap<T> {
         ensures never_resets { steps.old ≤ steps.new }
     {
         match to {
-            Bound::Included(query) => self.first_after(query, steps),
-            Bound::Excluded(query) => self.first_from(query, steps),
+            Bound::Included(query) => self.equal_range(query, steps).end,
+            Bound::Excluded(query) => self.equal_range(query, steps).start,
             Bound::Unbounded => self.len(),
         }
     }
 
-    // Returns the position of the first item whose key is not less than the query.
-    fn first_from<Q: Comparable<T::Key>>(&self, query: &Q, steps: &mut Steps) -> usize
+    // Returns the positions of the items whose keys the query is equal to: of one or of none, behind those that are
+    // less, before those that are greater.
+    fn equal_range<Q: Comparable<T::Key>>(&self, query: &Q, steps: &mut Steps) -> Range<usize>
         requires keyed { Ascends T.key T.Key.cmp self.now.items }
-        ensures start { StartsAt T.key Q.compare (Bound.Included query.now) self.now.items result }
-        ensures end { StopsAt T.key Q.compare (Bound.Excluded query.now) self.now.items result }
-        ensures steps { steps.new ≤ steps.old + 4 + 2 * digits (length self.now.items) }
-        ensures never_resets { steps.old ≤ steps.new }
-    {
-        match self.index_of_counted(query, steps) {
-            Ok(place) => place,
-            Err(place) => place,
-        }
-    }
-
-    // Returns the position of the first item whose key is greater than the query.
-    fn first_after<Q: Comparable<T::Key>>(&self, query: &Q, steps: &mut Steps) -> usize
-        requires keyed { Ascends T.key T.Key.cmp self.now.items }
-        ensures start { StartsAt T.key Q.compare (Bound.Excluded query.now) self.now.items result }
-        ensures end { StopsAt T.key Q.compare (Bound.Included query.now) self.now.items result }
+        ensures start { StartsAt T.key Q.compare (Bound.Included query.now) self.now.items result.start }
+        ensures end { StartsAt T.key Q.compare (Bound.Excluded query.now) self.now.items result.end }
         ensures steps { steps.new ≤ steps.old + 4 + 2 * digits (length self.now.items) }
         ensures never_resets { steps.old ≤ steps.new }
     {
         match self.index_of_counted(query, steps) {
             Ok(place) => {
                 prove!(place < self.len());
-                place + 1
+                place..place + 1
             }
-            Err(place) => place,
+            Err(place) => place..place,
         }
     }
 }
