@@ -1,4 +1,0 @@
-//! A trial.
-#![tactic(auto)]
-
-pub mod accounts;
