@@ -1,6 +1,7 @@
 -- What a lookup of accounts by a number, by an address or by a text finds, and what a change leaves of that.
-use Rattle.std.specs.Prelude.{◌≡◌, ◌≢◌, ℕ, ◌==◌, IfSome, List, None, Option, Some, String, string_bytes}
+use Rattle.std.specs.Prelude.{◌≡◌, ◌≢◌, ℕ, ◌==◌, IfSome, List, None, Option, Some, String, false, nat_eq, string_bytes}
 use Rattle.std.specs.Str.{bytes_eq}
+use Rattle.std.specs.String.{string_eq}
 use Rattle.std.specs.declared.alloc.Global.{Global}
 use Rattle.iddqd_bi_hash.specs.Contents.{find_item}
 use Rattle.iddqd_bi_hash.specs.TwoKeys.{find_by_both}
@@ -31,31 +32,30 @@ KeepsNumbers number old new = (other : ℕ) → other ≢ number → of_number o
 abbrev pub KeepsTexts : List ℕ → (old new : List Account) → Type 0
 KeepsTexts text old new = (other : List ℕ) → other ≢ text → of_text other new ≡ of_text other old
 
--- neither key of the account finds one, and every other text finds what it found
-pub record IsGone (old new : List Account) (a : Account) : Type 0 where
-  pub by_number : of_number a.number new ≡ None
-  pub by_email : of_email a.email new ≡ None
-  pub numbers : KeepsNumbers a.number old new
-  pub texts : KeepsTexts (string_bytes a.email) old new
+-- the same of the account's number, or of its address, if there is an account
+abbrev pub KeepsNumbersBeside : Option Account → (old new : List Account) → Type 0
+KeepsNumbersBeside was old new = IfSome was (λ a. KeepsNumbers a.number old new)
 
--- both keys of the account find it with this quota, and every other text finds what it found
-pub record HasQuota (quota : ℕ) (old new : List Account) (a : Account) : Type 0 where
-  pub by_number : of_number a.number new ≡ Some (with_quota quota a)
-  pub by_email : of_email a.email new ≡ Some (with_quota quota a)
-  pub numbers : KeepsNumbers a.number old new
-  pub texts : KeepsTexts (string_bytes a.email) old new
+abbrev pub KeepsTextsBeside : Option Account → (old new : List Account) → Type 0
+KeepsTextsBeside was old new = IfSome was (λ a. KeepsTexts (string_bytes a.email) old new)
 
--- the account has this address now: its number and the address find it, and its former address finds nothing
-pub record HasEmail (email : String Global) (new : List Account) (a : Account) : Type 0 where
-  pub by_number : of_number a.number new ≡ Some (with_email email a)
-  pub by_email : of_email email new ≡ Some (with_email email a)
-  pub former : string_bytes a.email ≢ string_bytes email → of_email a.email new ≡ None
+-- the account, if there is one, is found no more by its number, or by its address
+abbrev pub LosesNumber : Option Account → List Account → Type 0
+LosesNumber was new = IfSome was (λ a. of_number a.number new ≡ None)
 
--- x is there: both its keys find it; the other key of an account that had one of them finds nothing, unless x has that too; and any other
--- key finds the account that it found, if x has neither of that one's keys
-pub record IsPut (x : Account) (old new : List Account) : Type 0 where
-  pub by_number : of_number x.number new ≡ Some x
-  pub by_email : of_email x.email new ≡ Some x
-  pub email_gone : IfSome (of_number x.number old) (λ a. string_bytes a.email ≢ string_bytes x.email → of_email a.email new ≡ None)
-  pub number_gone : IfSome (of_email x.email old) (λ a. a.number ≢ x.number → of_number a.number new ≡ None)
-  pub numbers : (other : ℕ) → other ≢ x.number → IfSome (of_number other old) (λ a. string_bytes a.email ≢ string_bytes x.email → of_number other new ≡ Some a)
+abbrev pub LosesEmail : Option Account → List Account → Type 0
+LosesEmail was new = IfSome was (λ a. of_email a.email new ≡ None)
+
+-- the same, unless x has the number, or the address
+abbrev pub LosesNumberTo : Account → Option Account → List Account → Type 0
+LosesNumberTo x was new = IfSome was (λ a. nat_eq a.number x.number ≡ false → of_number a.number new ≡ None)
+
+abbrev pub LosesEmailTo : String Global → Option Account → List Account → Type 0
+LosesEmailTo email was new = IfSome was (λ a. string_eq a.email email ≡ false → of_email a.email new ≡ None)
+
+-- the account, if there is one, is found by its number, or by its address, as it is after the change
+abbrev pub HasNumber : (Account → Account) → Option Account → List Account → Type 0
+HasNumber change was new = IfSome was (λ a. of_number a.number new ≡ Some (change a))
+
+abbrev pub HasEmail : (Account → Account) → Option Account → List Account → Type 0
+HasEmail change was new = IfSome was (λ a. of_email (change a).email new ≡ Some (change a))

@@ -1,11 +1,11 @@
-//! Callers of a map of two keys, over items that own text: what lookups by either key find after each change. They have
-//! no proof file, and nobody calls them.
+//! Callers of a map of two keys, over items that own text: what lookups by either key find after each change. Nobody
+//! calls them.
 ghost use Rattle.std.specs.Prelude.{◌≡◌, ◌+◌, IfErr, IfSome, IsTrue, None, OnOk, Some, length, option_map, string_bytes};
 ghost use Rattle.std.specs.Hash.{u64};
 ghost use Rattle.iddqd_bi_hash.specs.BiHashItems.{IsKeyedByNumberAndText};
-ghost use Rattle.test_bi_hash.specs.Accounts.{HasEmail, HasQuota, IsGone, IsPut, KeepsNumbers, KeepsTexts, of_both, of_email, of_number, of_text, with_email};
+ghost use Rattle.test_bi_hash.specs.Accounts.{HasEmail, HasNumber, KeepsNumbers, KeepsNumbersBeside, KeepsTexts, KeepsTextsBeside, LosesEmail, LosesEmailTo, LosesNumber, LosesNumberTo, of_both, of_email, of_number, of_text, with_email, with_quota};
 
-use iddqd_bi_hash::{BiHashItem, BiHashMap, InsertError, Text};
+use iddqd_bi_hash::{BiHashItem, BiHashMap, Few, InsertError, Refused, Text};
 
 /// An account, by its number and by the address of its owner.
 #[derive(Drop)]
@@ -51,22 +51,37 @@ fn add(all: &mut BiHashMap<Account>, account: Account) -> bool
 
 /// Both keys find what was inserted, and the other key of an account that it replaces finds nothing.
 #[tactic(auto, using(iddqd_bi_hash::proofs::ChangeLemmas::after_changes))]
-fn put(all: &mut BiHashMap<Account>, account: Account) -> bool
+fn put(
+    all: &mut BiHashMap<Account>,
+    account: Account,
+) -> Result<Option<Few<Account>>, Refused<Account>>
     requires keyed { IsKeyedByNumberAndText u64 (λ a. a.number) (λ a. a.email) all.old }
-    ensures put { IsTrue result → IsPut account all.old.items all.new.items }
+
+    // the account
+    ensures by_number { OnOk result (of_number account.number all.new.items ≡ Some account) }
+    ensures by_email { OnOk result (of_email account.email all.new.items ≡ Some account) }
+
+    // those that it replaces
+    ensures email_gone { OnOk result (LosesEmailTo account.email (of_number account.number all.old.items) all.new.items) }
+    ensures number_gone { OnOk result (LosesNumberTo account (of_email account.email all.old.items) all.new.items) }
     ensures keyed { IsKeyedByNumberAndText u64 (λ a. a.number) (λ a. a.email) all.new }
 {
-    all.insert_overwrite(account).is_ok()
+    all.insert_overwrite(account)
 }
 
 /// Neither key finds what was removed, and any other key finds what it found.
 #[tactic(auto, using(iddqd_bi_hash::proofs::ChangeLemmas::after_changes))]
 fn close(all: &mut BiHashMap<Account>, number: u64) -> Option<Account>
     requires keyed { IsKeyedByNumberAndText u64 (λ a. a.number) (λ a. a.email) all.old }
-    ensures gone { IfSome result (IsGone all.old.items all.new.items) }
-    ensures absent { of_number number all.new.items ≡ None }
-    ensures numbers { KeepsNumbers number all.old.items all.new.items }
+
+    // the account
+    ensures gone { of_number number all.new.items ≡ None }
+    ensures email_gone { LosesEmail result all.new.items }
     ensures shorter { IfSome result (λ _. length all.old.items ≡ length all.new.items + 1) }
+
+    // the others
+    ensures numbers { KeepsNumbers number all.old.items all.new.items }
+    ensures texts { KeepsTextsBeside result all.old.items all.new.items }
     ensures keyed { IsKeyedByNumberAndText u64 (λ a. a.number) (λ a. a.email) all.new }
 {
     all.remove1(&number)
@@ -76,9 +91,14 @@ fn close(all: &mut BiHashMap<Account>, number: u64) -> Option<Account>
 #[tactic(auto, using(iddqd_bi_hash::proofs::ChangeLemmas::after_changes))]
 fn close_by_email(all: &mut BiHashMap<Account>, email: &str) -> Option<Account>
     requires keyed { IsKeyedByNumberAndText u64 (λ a. a.number) (λ a. a.email) all.old }
-    ensures gone { IfSome result (IsGone all.old.items all.new.items) }
-    ensures absent { of_text email.now all.new.items ≡ None }
+
+    // the account
+    ensures gone { of_text email.now all.new.items ≡ None }
+    ensures number_gone { LosesNumber result all.new.items }
+
+    // the others
     ensures texts { KeepsTexts email.now all.old.items all.new.items }
+    ensures numbers { KeepsNumbersBeside result all.old.items all.new.items }
     ensures keyed { IsKeyedByNumberAndText u64 (λ a. a.number) (λ a. a.email) all.new }
 {
     all.remove2(&Text(email))
@@ -88,20 +108,25 @@ fn close_by_email(all: &mut BiHashMap<Account>, email: &str) -> Option<Account>
 #[tactic(auto, using(iddqd_bi_hash::proofs::ChangeLemmas::after_changes))]
 fn close_of_both(all: &mut BiHashMap<Account>, number: u64, email: &str) -> Option<Account>
     requires keyed { IsKeyedByNumberAndText u64 (λ a. a.number) (λ a. a.email) all.old }
-    ensures gone { IfSome result (IsGone all.old.items all.new.items) }
-    ensures numbers { KeepsNumbers number all.old.items all.new.items }
-    ensures texts { KeepsTexts email.now all.old.items all.new.items }
+
+    // the account
+    ensures number_gone { LosesNumber result all.new.items }
+    ensures email_gone { LosesEmail result all.new.items }
+
+    // the others
+    ensures numbers { KeepsNumbersBeside result all.old.items all.new.items }
+    ensures texts { KeepsTextsBeside result all.old.items all.new.items }
     ensures keyed { IsKeyedByNumberAndText u64 (λ a. a.number) (λ a. a.email) all.new }
 {
     all.remove_unique(&number, &Text(email))
 }
 
-/// Both keys find what was written, and any other key finds what it found.
+/// What a write under the same keys leaves of the others.
 #[tactic(auto, using(iddqd_bi_hash::proofs::ChangeLemmas::after_changes))]
 fn set_quota(all: &mut BiHashMap<Account>, number: u64, quota: u32)
     requires keyed { IsKeyedByNumberAndText u64 (λ a. a.number) (λ a. a.email) all.old }
-    ensures set { IfSome (of_number number all.old.items) (HasQuota quota all.old.items all.new.items) }
     ensures numbers { KeepsNumbers number all.old.items all.new.items }
+    ensures texts { KeepsTextsBeside (of_number number all.old.items) all.old.items all.new.items }
     ensures keyed { IsKeyedByNumberAndText u64 (λ a. a.number) (λ a. a.email) all.new }
 {
     if let Some(mut account) = all.get1_mut(&number) {
@@ -110,28 +135,29 @@ fn set_quota(all: &mut BiHashMap<Account>, number: u64, quota: u32)
     }
 }
 
-/// The same by the address.
+/// The same by both keys.
 #[tactic(auto, using(iddqd_bi_hash::proofs::ChangeLemmas::after_changes))]
-fn set_quota_by_email(all: &mut BiHashMap<Account>, email: &str, quota: u32)
+fn set_quota_of_both(all: &mut BiHashMap<Account>, number: u64, email: &str, quota: u32)
     requires keyed { IsKeyedByNumberAndText u64 (λ a. a.number) (λ a. a.email) all.old }
-    ensures set { IfSome (of_text email.now all.old.items) (HasQuota quota all.old.items all.new.items) }
-    ensures texts { KeepsTexts email.now all.old.items all.new.items }
+    ensures numbers { KeepsNumbersBeside (of_both number email.now all.old.items) all.old.items all.new.items }
+    ensures texts { KeepsTextsBeside (of_both number email.now all.old.items) all.old.items all.new.items }
     ensures keyed { IsKeyedByNumberAndText u64 (λ a. a.number) (λ a. a.email) all.new }
 {
-    if let Some(mut account) = all.get2_mut(&Text(email)) {
+    if let Some(mut account) = all.get_mut_unique(&number, &Text(email)) {
         account.quota = quota;
         account.finish();
     }
 }
 
-/// The same by both.
-#[tactic(auto, using(iddqd_bi_hash::proofs::ChangeLemmas::after_changes))]
-fn set_quota_of_both(all: &mut BiHashMap<Account>, number: u64, email: &str, quota: u32)
+/// Both keys find what was written. That the other one does takes a line of proof.
+#[tactic(auto, using(iddqd_bi_hash::proofs::ChangeLemmas::after_writes))]
+fn write_quota(all: &mut BiHashMap<Account>, number: u64, quota: u32)
     requires keyed { IsKeyedByNumberAndText u64 (λ a. a.number) (λ a. a.email) all.old }
-    ensures set { IfSome (of_both number email.now all.old.items) (HasQuota quota all.old.items all.new.items) }
+    ensures by_number { HasNumber (with_quota quota) (of_number number all.old.items) all.new.items }
+    ensures by_email { HasEmail (with_quota quota) (of_number number all.old.items) all.new.items }
     ensures keyed { IsKeyedByNumberAndText u64 (λ a. a.number) (λ a. a.email) all.new }
 {
-    if let Some(mut account) = all.get_mut_unique(&number, &Text(email)) {
+    if let Some(mut account) = all.get1_mut(&number) {
         account.quota = quota;
         account.finish();
     }
@@ -142,7 +168,9 @@ fn set_quota_of_both(all: &mut BiHashMap<Account>, number: u64, email: &str, quo
 #[tactic(auto, using(iddqd_bi_hash::proofs::ChangeLemmas::after_changes))]
 fn change_email(all: &mut BiHashMap<Account>, number: u64, email: String) -> Result<bool, Account>
     requires keyed { IsKeyedByNumberAndText u64 (λ a. a.number) (λ a. a.email) all.old }
-    ensures changed { OnOk result (IfSome (of_number number all.old.items) (HasEmail email all.new.items)) }
+    ensures by_number { OnOk result (HasNumber (with_email email) (of_number number all.old.items) all.new.items) }
+    ensures by_email { OnOk result (HasEmail (with_email email) (of_number number all.old.items) all.new.items) }
+    ensures former { OnOk result (LosesEmailTo email (of_number number all.old.items) all.new.items) }
     ensures back { IfErr result (λ a. option_map (with_email email) (of_number number all.old.items) ≡ Some a) }
     ensures keyed { IsKeyedByNumberAndText u64 (λ a. a.number) (λ a. a.email) all.new }
 {

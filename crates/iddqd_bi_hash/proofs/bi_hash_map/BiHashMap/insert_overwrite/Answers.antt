@@ -1,9 +1,8 @@
 use Rattle.std.proofs.Common.{◌∙◌, ap, rules, subst}
 use Rattle.iddqd_store.specs.Contents.{AddsItem}
-use Rattle.iddqd_bi_hash.specs.BiHashItems.{BiHashItems, differ_by_key1, differ_by_key2}
-use Rattle.iddqd_bi_hash.specs.TwoKeys.{has_one_of_keys, items_met, items_unmet}
+use Rattle.iddqd_bi_hash.specs.BiHashItems.{differ_by_key1, differ_by_key2}
+use Rattle.iddqd_bi_hash.specs.TwoKeys.{has_one_of_keys, items_met}
 use Rattle.iddqd_bi_hash.proofs.DisplacedLemmas.{gone_by_key1, gone_by_key2, none_left, there_by_key1, there_by_key2}
-use Rattle.iddqd_bi_hash.proofs.bi_hash_map.BiHashMap.insert_overwrite.Given.{Over}
 use Rattle.iddqd_bi_hash.proofs.bi_hash_map.BiHashMap.insert_overwrite.Goals as goal
 
 pub insert_hashed-requires-clause-absent : goal.insert_hashed-requires-clause-absent
