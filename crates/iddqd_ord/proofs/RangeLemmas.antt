@@ -6,11 +6,11 @@
 --     places_out, front_less      what is left if the items between two positions are taken out from the back
 --     first_passing, last_before, last_none      the first item that passes, and the last
 --     rank_is      how many items are less than a query
---     part_up_to, part_within, length-part, sum-part      what stands between two positions, its length and its sum
+--     part_up_to, part_within, take_to, length-part, sum-part      what stands between two positions, its length and its sum
 use Rattle.std.proofs.Common.{◌≡◌, ℕ, zero, suc, ◌+◌, ◌-◌, ◌<◌, ◌≤◌, ⊎_elim, Bool, true, false, not, ◌&&◌, List, [], ◌∷◌, ◌++◌, length, map, take, drop, get_or, filter, sum_by, count_by, max, min, Some, None, refl, sym, ap, ◌∙◌, subst, arith, Ordering, Less, Equal, Greater, below_more, suc-le-suc, length-drop, length-take, take-append-drop, ◌⊎◌, inl, inr}
 use Rattle.std.proofs.Math.Nat.{eq-or-lt_of_le}
 use Rattle.std.proofs.lemmas.Bool.{cases_lt}
-use Rattle.std.proofs.lemmas.List.{get_or-map, length-map, drop_all, drop_min, take_more, take_min, get_or-take, length-take-le}
+use Rattle.std.proofs.lemmas.List.{get_or-map, length-map, drop_all, drop_min, take_all, take_more, take_min, get_or-take, length-take-le}
 use Rattle.std.proofs.lemmas.List.Sums.{sum_by-take-drop, sum_by-take-le, length-filter}
 use Rattle.std.proofs.lemmas.List.Edits.{remove-append_left}
 use Rattle.std.proofs.lemmas.Option.{slice_get-get_or}
@@ -19,7 +19,10 @@ use Rattle.std.specs.Ordering.{is_lt, is_le, is_ge, is_gt}
 use Rattle.iddqd_store.specs.Contents.{Ascends, find_item}
 use Rattle.iddqd_store.proofs.QueryLemmas.{OrderedQuery}
 use Rattle.iddqd_store.proofs.SearchLemmas.{greater_in_front, less_at_back, find_from}
-use Rattle.iddqd_ord.specs.Ranges.{EndsAt, SplitsAt}
+use Rattle.std.specs.Bound.{end_index}
+use Rattle.std.specs.declared.ops.Bound.{Bound}
+use Rattle.std.specs.declared.ops.Bound.TheVariants.{Included, Excluded, Unbounded}
+use Rattle.iddqd_ord.specs.Ranges.{EndsAt, SplitsAt, items_to}
 
 module _ {T K : Type 0} (key : T → K) (items : List T) where
   -- from the keys to the items
@@ -170,6 +173,11 @@ module _ {X : Type 0} where
       let long = length-take-le high xs (omega (arith, h)) in
       ap (λ n. drop n (take high xs)) (l ∙ ap (λ n. min start n) (sym long))
       ∙ (drop_min start (take high xs) ∙ ap (λ ys. drop start ys) (ap (λ n. take n xs) h ∙ take_min end xs))
+
+  pub take_to : (xs : List X) (end : Bound ℕ) → take (end_index end (length xs)) xs ≡ items_to end xs
+  take_to xs (Included n) = refl
+  take_to xs (Excluded n) = refl
+  take_to xs Unbounded = take_all (length xs) xs (omega arith)
 
   pub length-part : (xs : List X) (next end : ℕ) → end ≤ length xs → length (drop next (take end xs)) ≡ end - next
   length-part xs next end fits = length-drop next (take end xs) ∙ ap (λ n. n - next) (length-take-le end xs fits)

@@ -5,7 +5,7 @@
 --     items_between compare key low high items      the items whose keys are between the bounds (`range`)
 --     IsPart part items      items that stand side by side in the list
 --     WalksPart walk items      a walk over such a part: sums over it are no greater, and a `u32` counts it
---     items_at low high items      the items at the positions between two bounds (`range_index`)
+--     items_to, items_at      the items at the positions up to a bound, or between two (`range_index`)
 --     RemovesPart      such items were removed
 --     FindsLast      the last item whose key passes the test, lent (`upper_bound`)
 --     position_of      the position that a search returns, found or not
@@ -17,8 +17,8 @@
 --     SplitsAt, EndsAt      the elements that pass are those from a position on, or those before it
 --     StartsAt, StopsAt      the position of the first item from a bound on, or of the first one behind it
 use Rattle.std.specs.Borrow.{Bor}
-use Rattle.std.specs.Bound.{bound_map, end_index, start_index}
-use Rattle.std.specs.Prelude.{◌≡◌, ℕ, ◌-◌, ◌<◌, ◌≤◌, Bool, true, false, ◌&&◌, List, ◌++◌, length, count_by, drop, filter, option_copied, slice_get, slice_index_or, sum_by, take, MatchResult, Option, Result, Ok, Err}
+use Rattle.std.specs.Bound.{bound_map, start_index}
+use Rattle.std.specs.Prelude.{◌≡◌, ℕ, ◌+◌, ◌-◌, ◌<◌, ◌≤◌, Bool, true, false, ◌&&◌, List, ◌++◌, length, count_by, drop, filter, option_copied, slice_get, slice_index_or, sum_by, take, MatchResult, Option, Result, Ok, Err}
 use Rattle.std.specs.declared.cmp.Ordering.{Ordering}
 use Rattle.std.specs.Ordering.{is_ge, is_gt, is_le, is_lt}
 use Rattle.std.specs.declared.ops.Bound.{Bound}
@@ -49,9 +49,15 @@ module _ {Q K : Type 0} (compare : Q → K → Ordering) where
     abbrev pub items_between : Bound Q → Bound Q → List T → List T
     items_between low high items = filter (λ x. is_between low high (key x)) items
 
--- the items at the positions that are not before the first bound, and not behind the second one
+-- the items at the positions that are not behind the bound
+abbrev pub items_to : {T : Type 0} → Bound ℕ → List T → List T
+items_to (Included n) items = take (n + 1) items
+items_to (Excluded n) items = take n items
+items_to Unbounded items = items
+
+-- those that are not before the first bound, and not behind the second one
 abbrev pub items_at : {T : Type 0} → Bound ℕ → Bound ℕ → List T → List T
-items_at low high items = drop (start_index low) (take (end_index high (length items)) items)
+items_at low high items = drop (start_index low) (items_to high items)
 
 -- of a range whose bounds are what its trait says (std's `has_bounds`)
 module _ {R T : Type 0} (bounds : range_bounds.Ghosts R ℕ) where

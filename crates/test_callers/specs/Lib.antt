@@ -1,4 +1,5 @@
 pub mod Adding
+pub mod Groups
 pub mod Lookups
 pub mod Ranges
 pub mod Runs

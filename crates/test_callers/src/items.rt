@@ -1,4 +1,4 @@
-//! Items that hold text or a list, by number and by text.
+//! Items that hold text or a list, by number, by text, and by two numbers.
 
 use iddqd::{IdHashItem, IdOrdItem};
 
@@ -86,5 +86,35 @@ impl IdHashItem for Tagged {
 
     fn key(&self) -> &u32 {
         &self.number
+    }
+}
+
+/// A time, and which of the events at that time.
+#[derive(Clone, Copy, PartialEq, Eq, PartialOrd, Ord)]
+pub(crate) struct At {
+    /// The time.
+    pub(crate) time: u64,
+    /// How many came before it at that time.
+    pub(crate) seq: u32,
+}
+
+/// What happened, and how long it took.
+#[derive(Drop)]
+pub(crate) struct Event {
+    /// What it is found by.
+    pub(crate) at: At,
+    /// How long it took.
+    pub(crate) took: u32,
+    /// What happened.
+    pub(crate) note: String,
+}
+
+impl IdOrdItem for Event {
+    type Key = At;
+
+    ghost key = { λ event. event.at };
+
+    fn key(&self) -> &At {
+        &self.at
     }
 }

@@ -13,6 +13,7 @@ mod items;
 mod lookups;
 mod ord_adding;
 mod ord_entries;
+mod ord_groups;
 mod ord_guards;
 mod ord_insertions;
 mod ord_ranges;

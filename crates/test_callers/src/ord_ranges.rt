@@ -2,7 +2,9 @@
 ghost use Rattle.std.specs.Prelude.{◌≡◌, ◌≤◌, ◌/◌, ◌-◌, drop, length, option_copied, option_map, slice_get, sum_by, take};
 ghost use Rattle.std.specs.Ordering.{nat_cmp};
 ghost use Rattle.std.specs.String.{string_cmp};
+ghost use Rattle.std.specs.declared.ops.Bound.TheVariants.{Included, Excluded};
 ghost use Rattle.iddqd.specs.Contents.{Ascends};
+ghost use Rattle.iddqd.specs.IdOrdMap.{items_between};
 ghost use Rattle.test_callers.specs.Ranges.{IsGoneBetween, StaysBeside, first_name_from, last_pair_to, name_count_between, pairs_between, rank_of_key, value_of_last, SetsValueAt};
 
 use iddqd::{IdOrdMap, Text};
@@ -13,7 +15,8 @@ use test_writers::items::{Named, Pair};
 fn sum_between(all: &IdOrdMap<Pair>, from: u32, to: u32) -> u64
     requires keyed { Ascends (λ p. p.key) nat_cmp all.now.items }
     requires fits { sum_by (λ p. p.value) all.now.items ≤ u64.MAX }
-    ensures { result ≡ sum_by (λ p. p.value) (pairs_between from to all.now.items) }
+    ensures { result ≡ sum_by (λ p. p.value)
+        (items_between nat_cmp (λ p. p.key) (Included from) (Excluded to) all.now.items) }
 {
     all.range(from..to).map(|p| p.value as u64).sum()
 }
@@ -76,16 +79,12 @@ fn rank_of(all: &IdOrdMap<Pair>, key: u32) -> usize
     }
 }
 
-/// The sum of the values on a page of a listing: of this many pairs from a position on.
-fn sum_of_page(all: &IdOrdMap<Pair>, first: usize, count: usize) -> u64
-    requires fits { sum_by (λ p. p.value) all.now.items ≤ u64.MAX }
-    ensures { result ≡ sum_by (λ p. p.value) (take count (drop first all.now.items)) }
+/// The sum of the values on a page of a listing: of the names from one position up to another.
+fn sum_of_page(all: &IdOrdMap<Named>, from: usize, to: usize) -> u64
+    requires fits { sum_by (λ x. x.value) all.now.items ≤ u64.MAX }
+    ensures { result ≡ sum_by (λ x. x.value) (drop from (take to all.now.items)) }
 {
-    all.iter()
-        .skip(first)
-        .take(count)
-        .map(|p| p.value as u64)
-        .sum()
+    all.range_index(from..to).map(|x| x.value as u64).sum()
 }
 
 /// The last value, by a walk from the back.
