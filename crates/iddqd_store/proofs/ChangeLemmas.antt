@@ -22,7 +22,7 @@ use Rattle.std.specs.List.{insert, items_where_true, remove, slice_get, sum_by}
 use Rattle.std.specs.Option.{OnSome, option_map, unwrap_or}
 use Rattle.std.specs.Str.{bytes_eq}
 use Rattle.iddqd_store.specs.Contents.{AddsItem, IsKeyTest, NoTwoAkin, find_item, items_overwritten, items_without}
-use Rattle.iddqd_store.specs.Holding.{Holding, LeavesSlot, Removes}
+use Rattle.iddqd_store.specs.Holding.{Holding, LeavesSlot, LosesPlace, Removes}
 use Rattle.iddqd_store.proofs.ContentsLemmas.{filter_at, map_at, only_place}
 
 pub same_text : (bytes : List ℕ) → pointwise nat_eq bytes bytes ≡ true
@@ -110,6 +110,7 @@ module _ {T : Type 0} (p : T → Bool) where
   beside_gone (y ∷ ys) (suc i) x there fails = ap (λ o. cond (p y) (Some y) o) (beside_gone ys i x there fails)
 
   pub find_beside_removed : (x : T) (old new : Holding T) → LeavesSlot x old new → p x ≡ false → find p new.items ≡ find p old.items
+  unfolding LosesPlace
   find_beside_removed x old new leaves fails = ap (find p) leaves.items ∙ beside_gone old.items leaves.place x leaves.there fails
 
   -- x was put beside those of the old items that a test keeps
@@ -158,6 +159,7 @@ module _ {T : Type 0} where
   length_replaced p y old new put = rw put (length-map old _)
 
   pub length_removed : (x : T) (old new : Holding T) → LeavesSlot x old new → length new.items + 1 ≡ length old.items
+  unfolding LosesPlace
   length_removed x old new leaves =
       let within = slice_get_within old.items leaves.place x leaves.there in
       ap (λ xs. length xs + 1) leaves.items ∙ length-remove old.items leaves.place within
@@ -189,6 +191,7 @@ module _ {T : Type 0} (f : T → ℕ) where
 
   -- with nothing removed the sum is as before
   pub sum_removed : (found : Option T) (old new : Holding T) → Removes found old new → sum_by f new.items + unwrap_or (option_map f found) 0 ≡ sum_by f old.items
+  unfolding LosesPlace
   sum_removed None old new removes = let same = ap (λ m. sum_by f m.items) removes.unchanged in omega arith
   sum_removed (Some x) old new removes =
       let leaves : LeavesSlot x old new = removes.slots in

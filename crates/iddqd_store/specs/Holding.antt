@@ -45,11 +45,15 @@ pub record KeepsItems {T : Type 0} (old new : Holding T) : Type 0 where
   pub capacity : old.capacity ≤ new.capacity
   pub limit : new.limit ≡ old.limit
 
+-- new is old without the item at the place; closed, so that a search takes it whole
+unfoldable pub LosesPlace : {T : Type 0} → ℕ → (old new : List T) → Type 0
+LosesPlace place old new = new ≡ remove old place
+
 -- y has left its place and its slot; the others keep their slots
 pub record LeavesSlot {T : Type 0} (y : T) (old new : Holding T) : Type 0 where
   pub place : ℕ
   pub there : slice_get old.items place ≡ Some y
-  pub items : new.items ≡ remove old.items place
+  pub items : LosesPlace place old.items new.items
   pub slots : new.slots ≡ remove old.slots place
 
 -- what a removal leaves that found this, besides the items: its slot is vacant, or nothing was found and nothing has changed

@@ -1,6 +1,7 @@
 use Rattle.std.proofs.Common.{◌∙◌, ◌+◌, sym, ap, is_some}
 use Rattle.std.specs.List.{remove, slice_get}
 use Rattle.iddqd_store.specs.SlotItems.{item_of_slot}
+use Rattle.iddqd_store.specs.Holding.{LosesPlace}
 use Rattle.iddqd_hash_parts.proofs.GetMutLemmas.{item_in_slot}
 use Rattle.iddqd_hash_parts.proofs.InSlotLemmas.{listed_told, place_lost}
 use Rattle.iddqd_hash_parts.proofs.SlotItemLemmas.{slot_left}
@@ -43,6 +44,7 @@ returns-clause-stays g c =
     c.args.hash1 c.args.hash2 out.ensures.pairs1 out.ensures.pairs2 out.ensures.spare1 out.ensures.spare2 out.ensures.len out.ensures.bounds
 
 pub returns-clause-removed : goal.returns-clause-removed
+unfolding LosesPlace
 returns-clause-removed g c =
     let out = c.remove_from_all.ensures in
     let left = slot_left c.self.inside.store.slots c.remove_from_all.new.store.slots c.args.slot c.remove_from_all.result out.item out.updates.changed out.updates.others in

@@ -2,6 +2,7 @@ use Rattle.std.proofs.Common.{◌∙◌, ◌+◌, sym, ap, subst, refl, slice_ge
 use Rattle.std.specs.List.{remove}
 use Rattle.iddqd_store.specs.Contents.{IsAbsent, items_without}
 use Rattle.iddqd_store.specs.Hashing.{hash_under}
+use Rattle.iddqd_store.specs.Holding.{LosesPlace}
 use Rattle.iddqd_hash_parts.specs.HashItems.{IsKeyed, KeyedItems}
 use Rattle.iddqd_hash.specs.HashMap.{KeepsSpare}
 use Rattle.iddqd_hash_parts.specs.StoreAndIndex.{items_in, map_of}
@@ -73,6 +74,7 @@ returns-clause-stays g c =
     }
 
 pub returns-clause-removed : goal.returns-clause-removed
+unfolding LosesPlace
 returns-clause-removed g c =
     let out = c.remove_from_both.ensures in
     let left = slot_left c.self.inside.store.slots c.remove_from_both.new.store.slots c.in_ok-slot.slot c.remove_from_both.result out.item out.updates.changed out.updates.others in

@@ -2,6 +2,7 @@ use Rattle.std.proofs.Common.{◌∙◌, ◌+◌, sym, ap, subst, is_some, rules
 use Rattle.std.specs.List.{remove, slice_get}
 use Rattle.iddqd_store.specs.Hashing.{hash_under}
 use Rattle.iddqd_store.specs.SlotItems.{item_of_slot}
+use Rattle.iddqd_store.specs.Holding.{LosesPlace}
 use Rattle.iddqd_hash_parts.specs.HashItems.{IsKeyed, KeyedItems}
 use Rattle.iddqd_hash.specs.HashMap.{KeepsSpare}
 use Rattle.iddqd_hash_parts.specs.StoreAndIndex.{map_of}
@@ -49,6 +50,7 @@ returns-clause-stays g c =
     }
 
 pub returns-clause-removed : goal.returns-clause-removed
+unfolding LosesPlace
 returns-clause-removed g c =
     let out = c.remove_from_both.ensures in
     let left = slot_left c.self.inside.store.slots c.remove_from_both.new.store.slots c.args.slot c.remove_from_both.result out.item out.updates.changed out.updates.others in

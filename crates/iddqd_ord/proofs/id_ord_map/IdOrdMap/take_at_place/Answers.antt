@@ -1,6 +1,7 @@
 use Rattle.std.proofs.Common.{◌∙◌, sym, ap, subst, rules}
 use Rattle.std.specs.List.{remove}
 use Rattle.iddqd_store.specs.Contents.{Ascends}
+use Rattle.iddqd_store.specs.Holding.{LosesPlace}
 use Rattle.iddqd_store.specs.SlotItems.{HaveSlots}
 use Rattle.iddqd_store.proofs.KeepsLemmas.{ascends_remove}
 use Rattle.iddqd_ord.proofs.StoreAndIndexLemmas.{have_slots}
@@ -10,6 +11,10 @@ pub returns-clause-own : goal.returns-clause-own
 returns-clause-own g c =
     let m = c.self.inside in
     subst (λ v. HaveSlots v.slots v.items) c.self.view_is (have_slots m.store m.index.slots c.self.invariant)
+
+pub returns-clause-removed : goal.returns-clause-removed
+unfolding LosesPlace
+returns-clause-removed g c = search rules
 
 pub returns-clause-keyed : goal.returns-clause-keyed
 returns-clause-keyed g c =
