@@ -23,6 +23,7 @@ fn are_read(map: &Ordered<Numbered>, items: &[Numbered]) -> bool {
         && map.lower_bound(low) == Some(first)
         && map.upper_bound(high) == Some(last)
         && map.get_index(0) == Some(first)
+        && map.count_at(0, items.len()) == items.len()
         && map.index_of(&first.number).0 == Ok(0)
         && map.count_between((low, high)).0 == items.len()
 }

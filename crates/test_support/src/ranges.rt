@@ -43,6 +43,11 @@ impl<T: IdOrdItem> Ordered<T> {
         (count, steps.count())
     }
 
+    /// The number of items of `range_index`.
+    pub fn count_at(&self, from: usize, to: usize) -> usize {
+        self.map.range_index(from..to).len()
+    }
+
     /// The items from the query on.
     pub fn walk_from<Q: Comparable<T::Key>>(&self, query: &Q) -> Iter<'_, T> {
         self.map
