@@ -19,7 +19,7 @@
 --     IsPlaceAmong, IsIndexOf, number_less, position_of      where a query stands among the items
 --     is_from, is_up_to, is_between, items_between, bound_now, FindsLast, IsPart      what lies between two bounds
 --     FindsRange, RemovesRange      the same of a range's bounds, found or removed
---     FindsPositions, items_at, WalksPart      the items at the positions of a range, and what a walk over a part of the map gives
+--     FindsPositions, items_at, items_to, WalksPart      the items at the positions of a range, and what a walk over a part of the map gives
 --     walk_map, walk_lender, walk_done, walk_with      what a walk that lends items for writing holds
 --     WalkKeeps, WalkKeepsAkin, walk_lends      what a step of such a walk leaves
 pub use Rattle.iddqd_ord.specs.OrdMap.{OrdFills, OrdInserts, OrdKeeps, OrdOverwrites, empty_map, ends_ord_extended, ends_ord_inserted, have_equal_items, lends_nothing, map_overwritten}

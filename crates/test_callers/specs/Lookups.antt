@@ -1,6 +1,6 @@
 -- What a lookup by a text, by a key or by a number finds, the items with another one in its place, and what a caller writes, adds
 -- or removes by them.
-use Rattle.std.specs.Prelude.{◌≡◌, ℕ, ◌-◌, ◌==◌, Bool, IsTrue, List, Option, IfNone, IfSome, String, length, slice_get, slice_set, string_bytes}
+use Rattle.std.specs.Prelude.{◌≡◌, ◌≢◌, ℕ, ◌+◌, ◌-◌, ◌==◌, Bool, IsTrue, List, Option, Some, IfNone, IfSome, String, length, slice_get, slice_set, option_map, string_bytes, sum_by, unwrap_or}
 use Rattle.std.specs.Str.{bytes_eq}
 use Rattle.std.specs.String.{string_eq}
 use Rattle.std.specs.declared.alloc.Global.{Global}
@@ -28,6 +28,20 @@ of_number number items = find_item (λ x. x.number) (λ k. number == k) items
 abbrev pub put_at_number : ℕ → Noted → List Noted → List Noted
 put_at_number number y items = items_overwritten (λ x. x.number) (λ k. number == k) y items
 
+-- each other name, or number, finds what it found
+abbrev pub KeepsOtherNames : List ℕ → (old new : List Named) → Type 0
+KeepsOtherNames name old new = (other : List ℕ) → other ≢ name → of_name other new ≡ of_name other old
+
+abbrev pub KeepsOtherNumbers : ℕ → (old new : List Noted) → Type 0
+KeepsOtherNumbers number old new = (other : ℕ) → other ≢ number → of_number other new ≡ of_number other old
+
+-- the sum of the values, and the value of an item, or 0
+abbrev pub total : List Named → ℕ
+total items = sum_by (λ x. x.value) items
+
+abbrev pub value_of : Option Named → ℕ
+value_of found = unwrap_or (option_map (λ x. x.value) found) 0
+
 -- the item, once the value is written to it
 abbrev pub with_value : ℕ → Named → Named
 with_value value x = record x { value = value }
@@ -46,6 +60,14 @@ SetsAtName name value old new = IfSome (of_name name old) (λ x. new ≡ put_at_
 
 abbrev pub SetsAtKey : String Global → ℕ → (old new : List Named) → Type 0
 SetsAtKey name value old new = IfSome (of_key name old) (λ x. new ≡ put_at_key name (with_value value x) old)
+
+-- what the name finds then is the item, with the value written to it
+abbrev pub ReadsAtName : List ℕ → ℕ → (old new : List Named) → Type 0
+ReadsAtName name value old new = IfSome (of_name name old) (λ x. of_name name new ≡ Some (with_value value x))
+
+-- the written value is in the sum, in place of the one that was there
+abbrev pub SumsAtName : List ℕ → ℕ → (old new : List Named) → Type 0
+SumsAtName name value old new = IfSome (of_name name old) (λ x. total new + x.value ≡ total old + value)
 
 -- if there is an item of the number, the note is written to it, and all else is as it was
 abbrev pub SetsNote : ℕ → String Global → (old new : List Noted) → Type 0

@@ -3,7 +3,7 @@ ghost use Rattle.std.specs.Prelude.{◌≡◌, IfNone, is_some, option_map};
 ghost use Rattle.iddqd.specs.Contents.{IsAbsent, find_item};
 ghost use Rattle.iddqd.specs.IdHashMap.{IsKeyedByText};
 ghost use Rattle.iddqd.specs.Hashing.{HashesAs};
-ghost use Rattle.test_callers.specs.Lookups.{FindsEqualKey, PutsInPlace, SetsAtName, SetsNote, of_name};
+ghost use Rattle.test_callers.specs.Lookups.{FindsEqualKey, KeepsOtherNames, PutsInPlace, ReadsAtName, SetsAtName, SetsNote, SumsAtName, of_name};
 ghost use Rattle.test_writers.specs.Pairs.{SetsPair, pair_at};
 
 use crate::items::Noted;
@@ -59,12 +59,15 @@ fn set_and_read(map: &mut IdHashMap<Named>, name: &str, value: u32) -> Option<u3
     }
 }
 
-/// Writes another value; the map is keyed still.
-#[tactic(auto, using(iddqd::proofs::GuardLemmas::hash_key_kept))]
+/// Writes another value; the map is keyed still, each other name finds what it found, and the sum has the value.
+#[tactic(auto, using(iddqd::proofs::ChangeLemmas::after_changes))]
 fn set_value(map: &mut IdHashMap<Named>, name: &str, value: u32) -> bool
     requires keyed { IsKeyedByText (λ x. x.name) map.old }
     ensures written { SetsAtName name.now value map.old.items map.new.items }
     ensures absent { IfNone (of_name name.now map.old.items) (map.new ≡ map.old) }
+    ensures others { KeepsOtherNames name.now map.old.items map.new.items }
+    ensures read { ReadsAtName name.now value map.old.items map.new.items }
+    ensures sum { SumsAtName name.now value map.old.items map.new.items }
     ensures keyed { IsKeyedByText (λ x. x.name) map.new }
 {
     match map.get_mut(&Text(name)) {

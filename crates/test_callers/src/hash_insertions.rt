@@ -1,10 +1,10 @@
 //! Insertions into a hash map, with the result matched in each form.
-ghost use Rattle.std.specs.Prelude.{◌≡◌, ◌≢◌, ◌==◌, ◌+◌, IfSome, IsTrue, None, OnOk, Some, false, is_some, length};
+ghost use Rattle.std.specs.Prelude.{◌≡◌, ◌+◌, IfSome, IsTrue, None, Some, length, string_bytes};
 ghost use Rattle.iddqd.specs.IdHashMap.{IsKeyedByText};
-ghost use Rattle.test_callers.specs.Lookups.{of_key, of_name, of_number};
+ghost use Rattle.test_callers.specs.Lookups.{KeepsOtherNames, KeepsOtherNumbers, of_key, of_name, of_number, total, value_of};
 
 use crate::items::{Noted, Tagged, Titled};
-use iddqd::errors::{InsertError, TryReserveError};
+use iddqd::errors::InsertError;
 use iddqd::{IdHashMap, Keyed, Text};
 use test_writers::items::Named;
 
@@ -21,11 +21,12 @@ fn add_or_show(all: &mut IdHashMap<Named>, item: Named) -> Option<u32>
     }
 }
 
-/// Joined arms; what was inserted is found.
+/// Joined arms; what was inserted is found, and each other number finds what it found.
 #[tactic(auto, using(iddqd::proofs::ChangeLemmas::after_changes))]
 fn add(all: &mut IdHashMap<Noted>, item: Noted) -> bool
     requires keyed { ⟦<IdHashMap<Noted> as Keyed>⟧.keyed all.old }
     ensures found { IsTrue result → of_number item.number all.new.items ≡ Some item }
+    ensures others { KeepsOtherNumbers item.number all.old.items all.new.items }
     ensures keyed { ⟦<IdHashMap<Noted> as Keyed>⟧.keyed all.new }
 {
     match all.insert_unique(item) {
@@ -56,11 +57,14 @@ fn add_tagged(all: &mut IdHashMap<Tagged>, item: Tagged) -> bool
     true
 }
 
-/// `is_ok()`; what was inserted is found by its text, and the number of items is one more.
+/// `is_ok()`; what was inserted is found, each other name finds what it found, the value is in the sum, and there is one
+/// item more.
 #[tactic(auto, using(iddqd::proofs::ChangeLemmas::after_changes))]
 pub(crate) fn add_named(all: &mut IdHashMap<Named>, item: Named) -> bool
     requires keyed { IsKeyedByText (λ x. x.name) all.old }
     ensures found { IsTrue result → of_key item.name all.new.items ≡ Some item }
+    ensures others { KeepsOtherNames (string_bytes item.name) all.old.items all.new.items }
+    ensures sum { IsTrue result → total all.new.items ≡ total all.old.items + item.value }
     ensures longer { IsTrue result → length all.new.items ≡ length all.old.items + 1 }
     ensures keyed { IsKeyedByText (λ x. x.name) all.new }
 {
@@ -83,57 +87,42 @@ fn note_of(error: InsertError<'_, Noted>) -> String {
     }
 }
 
-/// Other items are found as before.
+/// What was overwritten is found, and each other name finds what it found.
 #[tactic(auto, using(iddqd::proofs::ChangeLemmas::after_changes))]
-fn add_beside(all: &mut IdHashMap<Noted>, item: Noted, other: u32) -> bool
-    requires keyed { ⟦<IdHashMap<Noted> as Keyed>⟧.keyed all.old }
-    requires apart { (other == item.number) ≡ false }
-    ensures same { of_number other all.new.items ≡ of_number other all.old.items }
-{
-    all.insert_unique(item).is_ok()
-}
-
-/// What was overwritten is found.
-#[tactic(auto, using(iddqd::proofs::ChangeLemmas::after_changes))]
-fn put(all: &mut IdHashMap<Named>, item: Named) -> Result<Option<Named>, TryReserveError>
+fn put(all: &mut IdHashMap<Named>, item: Named) -> bool
     requires keyed { IsKeyedByText (λ x. x.name) all.old }
-    ensures found { OnOk result (of_key item.name all.new.items ≡ Some item) }
+    ensures found { IsTrue result → of_key item.name all.new.items ≡ Some item }
+    ensures others { KeepsOtherNames (string_bytes item.name) all.old.items all.new.items }
     ensures keyed { IsKeyedByText (λ x. x.name) all.new }
 {
-    let old = all.insert_overwrite(item).map_err(|refused| refused.error)?;
-    Ok(old)
+    match all.insert_overwrite(item) {
+        Ok(_) => true,
+        Err(_refused) => false,
+    }
 }
 
-/// What was removed is not found.
+/// What was removed is not found, each other name finds what it found, and there is one item less.
 #[tactic(auto, using(iddqd::proofs::ChangeLemmas::after_changes))]
-fn remove(all: &mut IdHashMap<Named>, name: &str) -> bool
+fn remove(all: &mut IdHashMap<Named>, name: &str) -> Option<Named>
     requires keyed { IsKeyedByText (λ x. x.name) all.old }
     ensures gone { of_name name.now all.new.items ≡ None }
+    ensures others { KeepsOtherNames name.now all.old.items all.new.items }
+    ensures sum { total all.new.items + value_of result ≡ total all.old.items }
+    ensures shorter { IfSome result (λ _. length all.new.items + 1 ≡ length all.old.items) }
     ensures keyed { IsKeyedByText (λ x. x.name) all.new }
 {
-    all.remove(&Text(name)).is_some()
+    all.remove(&Text(name))
 }
 
-/// All else is found as before.
+/// The same of a number.
 #[tactic(auto, using(iddqd::proofs::ChangeLemmas::after_changes))]
-fn remove_beside(all: &mut IdHashMap<Noted>, number: u32, other: u32) -> bool
+fn remove_noted(all: &mut IdHashMap<Noted>, number: u32) -> Option<Noted>
     requires keyed { ⟦<IdHashMap<Noted> as Keyed>⟧.keyed all.old }
-    requires apart { other ≢ number }
-    ensures same { of_number other all.new.items ≡ of_number other all.old.items }
+    ensures gone { of_number number all.new.items ≡ None }
+    ensures others { KeepsOtherNumbers number all.old.items all.new.items }
+    ensures keyed { ⟦<IdHashMap<Noted> as Keyed>⟧.keyed all.new }
 {
-    all.remove(&number).is_some()
-}
-
-/// After a removal there is one item less: `len` before and after tell it.
-#[tactic(auto, using(iddqd::proofs::ChangeLemmas::after_changes))]
-fn left_after_removal(all: &mut IdHashMap<Noted>, number: u32) -> usize
-    requires keyed { ⟦<IdHashMap<Noted> as Keyed>⟧.keyed all.old }
-    requires there { IsTrue (is_some (of_number number all.old.items)) }
-    ensures fewer { result + 1 ≡ length all.old.items }
-{
-    let _before = all.len();
-    let _removed = all.remove(&number);
-    all.len()
+    all.remove(&number)
 }
 
 /// After `clear` nothing is found.
