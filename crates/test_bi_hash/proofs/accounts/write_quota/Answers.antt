@@ -9,7 +9,7 @@ returns-in-Some-clause-by_email c =
     let a = c.deref_mut.result.now in
     let m = c.in-Some.account.map.now in
     let read : of_email a.email (written_to_slot m.slots m.items c.in-Some.account.slot (with_quota c.args.quota a)) ≡ Some (with_quota c.args.quota a) =
-        c.in-Some.ensures.read2 a (with_quota c.args.quota a) c.deref_mut.ensures.value (nat_list_eq_equiv.refl a.email.bytes.items) in
+    c.in-Some.ensures.read2 a (with_quota c.args.quota a) c.deref_mut.ensures.value (nat_list_eq_equiv.refl a.email.bytes.items) in
     let found : of_number c.args.number c.args.all.now.items ≡ Some a =
-        ap (λ m. of_number c.args.number m.items) (sym c.in-Some.ensures.lent) ∙ c.in-Some.ensures.found ∙ c.deref_mut.ensures.value in
+    ap (λ m. of_number c.args.number m.items) (sym c.in-Some.ensures.lent) ∙ c.in-Some.ensures.found ∙ c.deref_mut.ensures.value in
     rw found (search rules)
