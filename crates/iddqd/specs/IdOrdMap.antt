@@ -2,9 +2,9 @@
 --     OrdInserts, OrdKeeps      an item was inserted; nothing has changed but the room, which may have grown
 --     OrdFills      items were inserted
 --     OrdOverwrites, map_overwritten      an item replaced the one of an equal key, or was inserted
---     HandsBack, RefusesItem      what a refusal returns, and why
+--     ReturnsItem, RefusesItem      what a refusal returns, and why
 --     empty_map      a map without items and slots
---     ends_ord_inserted, ends_ord_extended, lends_nothing      what the map is once the result of such a call is dropped
+--     map_after_insertion, map_after_extension, lends_nothing      what the map is once the result of such a call is dropped
 --     have_equal_items      what `==` of two maps returns
 --     lent_map, lent_slot, lent_item, guard_lender, lent_with      what a guard lends
 --     GuardFinds, GuardOverwrites, GuardKeeps, GuardKeepsAkin      the item that a guard lends, and what a write leaves
@@ -22,7 +22,7 @@
 --     FindsPositions, items_at, items_to, WalksPart      the items at the positions of a range, and what a walk over a part of the map gives
 --     walk_map, walk_lender, walk_done, walk_with      what a walk that lends items for writing holds
 --     WalkKeeps, WalkKeepsAkin, walk_lends      what a step of such a walk leaves
-pub use Rattle.iddqd_ord.specs.OrdMap.{OrdFills, OrdInserts, OrdKeeps, OrdOverwrites, empty_map, ends_ord_extended, ends_ord_inserted, have_equal_items, lends_nothing, map_overwritten}
+pub use Rattle.iddqd_ord.specs.OrdMap.{OrdFills, OrdInserts, OrdKeeps, OrdOverwrites, empty_map, map_after_extension, map_after_insertion, have_equal_items, lends_nothing, map_overwritten}
 pub use Rattle.iddqd_ord.specs.Guard.{GuardFinds, GuardKeeps, GuardKeepsAkin, GuardOverwrites, GuardReadsAt, GuardWritesAt, guard_follows, item_follows, lends_item, lent_item, lent_map, guard_lender, lent_slot, lent_with, rests_at_none, shown_item, shown_map, shown_lender, with_item_in_slot}
 pub use Rattle.iddqd_ord.specs.declared.id_ord_map.entry.Entry.TheVariants.{Occupied, Vacant}
 pub use Rattle.iddqd_ord.specs.Entry.{EntersInserted, EntryKeeps, EntryKeepsAkin, HasKeyOf, IsEntryAt, IsEntryFor, IsEntryOf, IsFirstEntry, IsLastEntry, LacksKeyOf, LendsFound, LendsInserted, ShowsFound, ShowsInserted, VisitsEntry, entry_follows, entry_item, entry_map, entry_lender, entry_others, entry_slot, entry_with, rests_if_refused, rests_without_entry}

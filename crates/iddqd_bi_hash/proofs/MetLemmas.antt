@@ -3,8 +3,7 @@
 --     met_items      these items, told by what a map shows
 --     shown_met      what is lent of them
 --     neither_found      where there are none, neither search finds one
---     at_most_two      one search finds one slot at most
-use Rattle.std.proofs.Common.{◌≡◌, ◌≤◌, ℕ, Bool, true, false, cond, List, [], ◌∷◌, length, map, drop, filter, find, Option, Some, None, IsSome, refl, sym, ap, ◌∙◌, subst, arith, Bor}
+use Rattle.std.proofs.Common.{◌≡◌, ℕ, Bool, true, false, cond, List, [], ◌∷◌, map, drop, filter, find, Option, Some, None, IsSome, refl, sym, ap, ◌∙◌, subst, Bor}
 use Rattle.std.specs.List.{AllByRecursion, cons_option, filter_map}
 use Rattle.iddqd_store.specs.SlotItems.{item_of_slot}
 use Rattle.iddqd_store.specs.Store.{Store, item_at}
@@ -72,8 +71,3 @@ module _ {T : Type 0} (p q : T → Bool) where
       by false false e f rest =
           let others = rest (none_behind x xs none (rw e f)) in
           (rw e others.0, rw f others.1)
-
--- one search finds one slot at most
-pub at_most_two : (found : Option ℕ) → length (slots_with_found found []) ≤ 2
-at_most_two None = omega arith
-at_most_two (Some slot) = omega arith

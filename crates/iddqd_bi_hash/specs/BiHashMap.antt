@@ -16,9 +16,9 @@
 --     AreSlotsMet, Displaces, KeepsUnmet      of an item: the slots of those that have one of its keys; those are returned; the others stay
 --     BiOverwrites      the item was inserted, and those that had one of its keys are returned
 --     LosesKey      an item is found by this key no more, unless another item has it
---     RefusesItem, BiHandsBack      a refused item is returned, beside the existing ones or because there is no room
+--     RefusesItem, BiReturnsItem      a refused item is returned, beside the existing ones or because there is no room
 -- After a loan:
---     ends_bi_inserted      what the map is once the result of an insertion is dropped
+--     map_after_insertion      what the map is once the result of an insertion is dropped
 use Rattle.std.specs.Prelude.{◌≡◌, ℕ, ◌+◌, [], Bool, true, false, List, length, map, IfErr, IfNone, IfSome, IsSome, OnSome, Option, Result, Some}
 use Rattle.std.specs.Borrow.{Bor, Fml, RattleType, MutBor, LendsSoOk, unit}
 use Rattle.std.specs.Hash.{HashWrites}
@@ -126,7 +126,7 @@ module _ {S T K L : Type 0} (key1 : T → K) (key2 : T → L) (eq1 : K → K →
   KeepsUnmet x old new = new.items ≡ items_unmet key1 key2 eq1 eq2 x old.items
 
   -- x was refused room, since nothing was spare, and is returned; no item has one of its keys
-  pub record BiHandsBack (m : BiHashItems S T) (x : T) (r : refused.Refused T) : Type 0 where
+  pub record BiReturnsItem (m : BiHashItems S T) (x : T) (r : refused.Refused T) : Type 0 where
     pub item : r.item ≡ x
     pub absent : items_met key1 key2 eq1 eq2 x m.items ≡ []
     pub kind : r.error ≡ refusal_kind m.limit m.items
@@ -149,8 +149,8 @@ module _ {S T K L : Type 0} (key1 : T → K) (key2 : T → L) (eq1 : K → K →
 
 -- once the result of an insertion is dropped: at `Ok` the map has the item; at `Err` it keeps its items, and beside duplicates nothing
 -- has changed
-abbrev pub ends_bi_inserted : (S T : RattleType) (own : keyed.Ghosts (BiHashItems S.Denot T.Denot) T.Denot) → MutBor (BiHashItems S.Denot T.Denot) → Result (MutBor unit.Denot) (InsertError T.Denot) → T.Denot → Fml
-ends_bi_inserted S T own map result x =
+abbrev pub map_after_insertion : (S T : RattleType) (own : keyed.Ghosts (BiHashItems S.Denot T.Denot) T.Denot) → MutBor (BiHashItems S.Denot T.Denot) → Result (MutBor unit.Denot) (InsertError T.Denot) → T.Denot → Fml
+map_after_insertion S T own map result x =
     LendsSoOk (the_row T S) unit map result
     (λ new _. BiInserts own.keyed x map.now new)
     (λ new. BiKeeps own.keyed map.now new × IfErr result (OnDuplicate (new ≡ map.now)))

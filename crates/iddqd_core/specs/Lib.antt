@@ -1,6 +1,8 @@
 pub use Rattle.iddqd_hash_index.specs.HashPairs
 pub use Rattle.iddqd_ord_index.specs.Digits
+pub use Rattle.iddqd_ord_index.specs.Inserting
 pub use Rattle.iddqd_ord_index.specs.Listed
+pub use Rattle.iddqd_ord_index.specs.Removal
 pub use Rattle.iddqd_ord_index.specs.Search
 pub use Rattle.iddqd_store.specs.Adding
 pub use Rattle.iddqd_store.specs.Collecting

@@ -6,7 +6,7 @@
 --     LacksKeyOf, LacksKeysOf      no item of its map has a key equal to this item's, or to that of one that a closure makes
 --     IsEntryOf, IsEntryFor      the entry of an item, or of none; the entry of what a query finds
 --     PassesTest, HasKeyOf, VisitKeepsKey      the key of an item, and after a visit
---     EntryHandsBack      the item was refused for lack of room, and is returned
+--     EntryReturnsItem      the item was refused for lack of room, and is returned
 --     RemovesAt      the entry's item was removed
 --     LendsIfOccupied      if the entry is occupied, its item is lent
 --     LendsFound, LendsInserted, EntersInserted      the entry's item is lent; the inserted one is, or has this entry
@@ -30,7 +30,7 @@ use Rattle.iddqd_hash.specs.declared.id_hash_map.ref_mut.RefMut.{RefMut}
 use Rattle.iddqd_hash.specs.Guard.{guard_lender, lent_item, lent_map, lent_with, with_item_in_slot}
 use Rattle.iddqd_hash_parts.specs.HashItems.{HashItems, holding_of}
 use Rattle.iddqd_hash_parts.specs.declared.keyed.Keyed as keyed
-use Rattle.iddqd_hash.specs.HashMap.{HashHandsBack, HashInserts, HashKeeps, HashStays}
+use Rattle.iddqd_hash.specs.HashMap.{HashReturnsItem, HashInserts, HashKeeps, HashStays}
 use Rattle.iddqd_hash.specs.contracts.id_hash_map.IdHashMap as map
 use Rattle.iddqd_hash.specs.contracts.id_hash_map.entry.OccupiedEntry as occupied
 
@@ -121,8 +121,8 @@ module _ {S T K : Type 0} (key : T → K) where
   VisitKeepsKey eq visits v e = IfSome (entry_item e) (λ x. HasKeyOf key eq x (visits v x).1)
 
   -- the refused item is returned, and the entry's map lacked room for it
-  abbrev pub EntryHandsBack : (K → K → Bool) → Entry T S → T → Refused T → Type 0
-  EntryHandsBack eq e x refused = HashHandsBack key eq (entry_map e) x refused
+  abbrev pub EntryReturnsItem : (K → K → Bool) → Entry T S → T → Refused T → Type 0
+  EntryReturnsItem eq e x refused = HashReturnsItem key eq (entry_map e) x refused
 
 module _ {S T : Type 0} (own : keyed.Ghosts (HashItems S T) T) where
   -- the entry's item was removed from its map

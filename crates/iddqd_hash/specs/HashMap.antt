@@ -12,7 +12,7 @@
 --     IsInsertedAt, LosesPlaceOf      an inserted item has this slot; a slot is gone
 -- Searches, insertions and refusals:
 --     HashOverwrites, map_overwritten      the item replaced the one of an equal key, which is returned, or was inserted
---     RefusesItem, HashHandsBack      a refused item is returned, beside the existing one or because there is no room
+--     RefusesItem, HashReturnsItem      a refused item is returned, beside the existing one or because there is no room
 -- Many items:
 --     Extends, Stops, SpareFirst, KeepsIfNoItem      what `extend` leaves
 --     Collects, CollectsUnique, IsCollected      the map that `from_iter` and `from_iter_unique` make
@@ -21,7 +21,7 @@
 --     HaveEqualItems, FindsEqual      what `eq` of two maps says
 --     CloneHashesAlike      a hasher's clone hashes as the hasher does
 -- After a loan:
---     ends_hash_inserted, ends_hash_extended, lends_nothing      what the map is once the result is dropped
+--     map_after_insertion, map_after_extension, lends_nothing      what the map is once the result is dropped
 use Rattle.std.specs.Prelude.{◌≡◌, ℕ, ◌+◌, ◌≤◌, [], length, Bool, true, All, IfErr, IfNone, OnSome, Option, IsPermutation, IsSomeAnd, Result, Some}
 use Rattle.std.specs.Prelude.{min as least}
 use Rattle.std.specs.Borrow.{Fml, RattleType, MutBor, Lends, LendsSoOk, unit}
@@ -32,14 +32,14 @@ use Rattle.iddqd_store.specs.Collecting as collecting
 use Rattle.iddqd_store.specs.Contents.{AddsItem, find_item, items_overwritten, items_without}
 use Rattle.iddqd_store.specs.Holding.{FillsSlots, InsertsItem, Shrinks, max_items}
 use Rattle.iddqd_store.specs.Refusal as refusal
-use Rattle.iddqd_store.specs.Refusal.{HandsBack, OnDuplicate}
+use Rattle.iddqd_store.specs.Refusal.{ReturnsItem, OnDuplicate}
 use Rattle.iddqd_store.specs.SlotItems.{item_of_slot, without_slot, written_to_slot}
 use Rattle.iddqd_store.specs.declared.errors.ExtendError.{ExtendError}
 use Rattle.iddqd_store.specs.declared.errors.ExtendUniqueError.{ExtendUniqueError}
 use Rattle.iddqd_store.specs.declared.errors.InsertError.{InsertError}
 use Rattle.iddqd_store.specs.declared.errors.Refused.{Refused}
 use Rattle.iddqd_store.specs.declared.gives.Gives as gives
-use Rattle.iddqd_store.specs.declared.halts.Halt.{Halt}
+use Rattle.iddqd_store.specs.declared.not_inserted.NotInserted.{NotInserted}
 use Rattle.iddqd_hash_parts.specs.HashItems.{HashItems, holding_of}
 use Rattle.iddqd_hash_parts.specs.declared.keyed.Keyed as keyed
 pub use Rattle.iddqd_hash_parts.specs.HashChanges.{HashInserts, HashKeeps, HashStays, KeepsSpare, LacksRoomFor, LosesPlaceOf, Reserves, SpareFits}
@@ -129,7 +129,7 @@ module _ {S T K : Type 0} (key : T → K) (eq : K → K → Bool) where
     abbrev pub Adds : (old new : HashItems S T) → Type 0
     Adds old new = adding.Adds key eq given iter (holding_of old) (holding_of new)
 
-    abbrev pub Halts : (old new : HashItems S T) → Halt T → Type 0
+    abbrev pub Halts : (old new : HashItems S T) → NotInserted T (ExtendError T) → Type 0
     Halts old new = adding.Halts key eq given iter (holding_of old) (holding_of new)
 
     abbrev pub ShowsConflict : HashItems S T → ExtendUniqueError T → Type 0
@@ -145,8 +145,8 @@ pub record HashOverwrites {S T K : Type 0} (key : T → K) (eq : K → K → Boo
   pub others : AddsItem x (items_without key (eq (key x)) old.items) new.items
 
 -- x was refused room, since nothing was spare, and is returned
-pub record HashHandsBack {S T K : Type 0} (key : T → K) (eq : K → K → Bool) (m : HashItems S T) (x : T) (refused : Refused T) : Type 0 where
-  pub back : HandsBack key eq (holding_of m) x refused
+pub record HashReturnsItem {S T K : Type 0} (key : T → K) (eq : K → K → Bool) (m : HashItems S T) (x : T) (refused : Refused T) : Type 0 where
+  pub back : ReturnsItem key eq (holding_of m) x refused
   pub no_spare : m.spare ≡ 0
 
 -- with a clone of its hasher the map hashes every value as it does (a premise of `clone`)
@@ -154,8 +154,8 @@ abbrev pub CloneHashesAlike : {S T : Type 0} → (S → S → Type 0) → (HashI
 CloneHashesAlike is_clone hash m = (copy : _) → is_clone m.hasher copy → (writes : HashWrites) → hash (record m { hasher = copy }) writes ≡ hash m writes
 
 -- once the result of an insertion is dropped: at `Ok` the map has the item; at `Err` it keeps its items, and beside a duplicate nothing has changed
-abbrev pub ends_hash_inserted : (S T : RattleType) (own : keyed.Ghosts (HashItems S.Denot T.Denot) T.Denot) → MutBor (HashItems S.Denot T.Denot) → Result (MutBor unit.Denot) (InsertError T.Denot) → T.Denot → Fml
-ends_hash_inserted S T own map result x =
+abbrev pub map_after_insertion : (S T : RattleType) (own : keyed.Ghosts (HashItems S.Denot T.Denot) T.Denot) → MutBor (HashItems S.Denot T.Denot) → Result (MutBor unit.Denot) (InsertError T.Denot) → T.Denot → Fml
+map_after_insertion S T own map result x =
     LendsSoOk (the_row T S) unit map result
     (λ new _. HashInserts own.keyed x map.now new)
     (λ new. HashKeeps own.keyed map.now new × IfErr result (OnDuplicate (new ≡ map.now)))
@@ -166,8 +166,8 @@ lends_nothing S T map result = Lends (the_row T S) unit map result (λ _. map.no
 
 -- Once the result of `extend_unique` is dropped: at `Ok` the map has all items, and at `Err` those before the one that was not inserted.
 -- As many new keys as were spare are inserted before one finds no room.
-abbrev pub ends_hash_extended : (S T : RattleType) {K U : Type 0} (key : T.Denot → K) (eq : K → K → Bool) (own : keyed.Ghosts (HashItems S.Denot T.Denot) T.Denot) (given : gives.Ghosts U T.Denot) (iter : U) → MutBor (HashItems S.Denot T.Denot) → Result (MutBor unit.Denot) (ExtendUniqueError T.Denot) → Fml
-ends_hash_extended S T key eq own given iter map result =
+abbrev pub map_after_extension : (S T : RattleType) {K U : Type 0} (key : T.Denot → K) (eq : K → K → Bool) (own : keyed.Ghosts (HashItems S.Denot T.Denot) T.Denot) (given : gives.Ghosts U T.Denot) (iter : U) → MutBor (HashItems S.Denot T.Denot) → Result (MutBor unit.Denot) (ExtendUniqueError T.Denot) → Fml
+map_after_extension S T key eq own given iter map result =
     LendsSoOk (the_row T S) unit map result
     (λ new _. AddsGiven key eq (given.gives_all iter) map.now.items new.items × HashFills own.keyed map.now new)
     (λ new. HashFills own.keyed map.now new × IfErr result (StopsAdding key eq (given.gives_then iter) (holding_of map.now) (holding_of new)) × IfErr result (OnItemRefused (map.now.spare + length map.now.items ≤ length new.items)))

@@ -23,7 +23,7 @@ use regroup::{MOST_ROOM, groups_for, regrouped, room_of};
 use std::alloc::{AllocError, Global};
 use std::marker::Model;
 
-/// Pairs of a hash and a slot, each slot once. It computes no hash, and only `find` and `find_by` look at items.
+/// Pairs of a hash and a slot, each slot once. It computes no hash, and only `find` and `find_by_key` look at items.
 /// Contracts see the pairs, in no order, and how many more can be added.
 /// The pairs are in groups of twelve lanes, with room for nine pairs in each group on average. So a pair takes 18 bytes
 /// if all room is used. A group has the tags of its lanes, and the pairs lie apart. The hash chooses the group where a
@@ -180,13 +180,13 @@ impl HashIndex {
         ensures steps { steps.new ≤ steps.old + of_hash self.now.pairs hash }
         ensures never_resets { steps.old ≤ steps.new }
     {
-        self.find_by::<T, OwnKey, Q>(store, hash, query, steps)
+        self.find_by_key::<T, OwnKey, Q>(store, hash, query, steps)
     }
 
     /// As `find`, by the key that `K` names, for items that show several. The hashes of this index must be of that
     /// key.
     #[inline]
-    pub fn find_by<T, K: KeyOf<T>, Q: Equivalent<K::Key>>(
+    pub fn find_by_key<T, K: KeyOf<T>, Q: Equivalent<K::Key>>(
         &self,
         store: &ItemStore<T>,
         hash: u64,

@@ -1,4 +1,4 @@
--- The slots that several searches found, told as those of the items that pass one of the searches' tests.
+-- The slots that two searches found, told as those of the items that pass one of the searches' tests.
 --     slots_passing store p      the slots whose items pass, in the order of their numbers
 --     none_passing      without a test there is none
 --     passing_more      with what one search more found

@@ -1,4 +1,4 @@
--- The slots that several searches found, of a map with several keys.
+-- The slots that two searches found, of a map with two keys.
 --     slots_with slot slots      a slot, inserted into slots that rise at its place, unless it is among them
 --     slots_with_found      the same of what a search found
 --     values_if_any      the values of a `Few`, or none

@@ -13,7 +13,7 @@ pub use into_iter::IntoIter;
 pub use iter::Iter;
 pub use keyed::Keyed;
 pub use next_slot::slot_from;
-pub use slots_found::with_found;
+pub use slots_found::rising_slots;
 pub use store_and_index::{
     exchange, find_slot, insert_in_both, remove_from_both, reserve_one, reserve_room, shrink_room,
 };

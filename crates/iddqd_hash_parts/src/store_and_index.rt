@@ -28,7 +28,7 @@ pub fn find_slot<T, K: KeyOf<T>, Q: Equivalent<K::Key>>(
     ensures only { IsOnlySlot K.key (Q.equivalent query.now) store.now result }
     ensures listed { IfSome result (λ slot. Contains index.now.pairs (hash, slot)) }
 {
-    index.find_by::<T, K, Q>(store, hash, query, &mut Steps::new())
+    index.find_by_key::<T, K, Q>(store, hash, query, &mut Steps::new())
 }
 
 /// Makes room for one more item in both. Looks at the limit first, then asks for memory. It returns an error if the

@@ -15,7 +15,7 @@
 --     VisitsEntry, VisitKeepsKey      what a visit leaves, and that it keeps the key
 --     LacksKeyOf, MakesAbsent      no item of the entry's map has a key equal to this item's, or to that of one that a closure makes
 --     HasKeyOf      the entry's item has a key equal to this item's
---     EntryHandsBack, EntryRefuses      there was no room for this item, or for the one that is returned
+--     EntryReturnsItem, EntryRefuses      there was no room for this item, or for the one that is returned
 --     rests_if_refused, lends_or_keeps, shows_or_keeps, enters_or_keeps      if an item is refused, the map keeps its items
 --     rests_without_entry      with no entry the map stays as it is
 pub use Rattle.iddqd_ord.specs.declared.id_ord_map.entry.Entry.TheVariants.{Vacant, Occupied}
@@ -25,7 +25,7 @@ use Rattle.std.specs.declared.cmp.Ordering.{Ordering}
 use mir.Syntax.{named}
 use Rattle.iddqd_store.specs.Contents.{AddsItem, Ascends, IsAbsent, find_item, items_overwritten, items_without}
 use Rattle.iddqd_store.specs.Holding.{Holding}
-use Rattle.iddqd_store.specs.Refusal.{FindsNoRoom, HandsBack}
+use Rattle.iddqd_store.specs.Refusal.{FindsNoRoom, ReturnsItem}
 use Rattle.iddqd_store.specs.SlotItems.{item_of_slot, still_there, without_slot}
 use Rattle.iddqd_store.specs.declared.errors.Refused.{Refused}
 use Rattle.iddqd_ord.specs.declared.id_ord_map.entry.Entry.{Entry}
@@ -137,8 +137,8 @@ module _ {T K : Type 0} (key : T → K) where
   VisitKeepsKey eq visits v e = IfSome (entry_item e) (λ x. IsTrue (eq (key x) (key (visits v x).1)))
 
   -- the item is returned: the entry's map is full, or memory was refused
-  abbrev pub EntryHandsBack : (K → K → Bool) → T → Entry T → Refused T → Type 0
-  EntryHandsBack eq x e = HandsBack key eq (entry_map e) x
+  abbrev pub EntryReturnsItem : (K → K → Bool) → T → Entry T → Refused T → Type 0
+  EntryReturnsItem eq x e = ReturnsItem key eq (entry_map e) x
 
   -- the same of whatever item is returned
   abbrev pub EntryRefuses : (K → K → Bool) → Entry T → Refused T → Type 0

@@ -12,10 +12,10 @@ use Rattle.iddqd_ord_index.specs.Listed.{SlotList, listed_keys, unprepared}
 use Rattle.iddqd_ord_index.specs.Search.{FindsSlot, IsPlaceAmong}
 use Rattle.iddqd_ord_index.specs.Shape.{Subtree}
 use Rattle.iddqd_ord_index.specs.Standing.{IsAmong, IsPlace}
-use Rattle.iddqd_ord_index.specs.declared.ord_index.insert_by.Insertion.{Insertion}
-use Rattle.iddqd_ord_index.specs.declared.ord_index.insert_by.Insertion.TheVariants.{Found, Inserted, Unprepared}
-use Rattle.iddqd_ord_index.specs.declared.tree.node.insert_by.Outcome.{Outcome}
-use Rattle.iddqd_ord_index.specs.declared.tree.node.insert_by.Outcome.TheVariants as node
+use Rattle.iddqd_ord_index.specs.declared.ord_index.insert_by_key.Insertion.{Insertion}
+use Rattle.iddqd_ord_index.specs.declared.ord_index.insert_by_key.Insertion.TheVariants.{Found, Inserted, Unprepared}
+use Rattle.iddqd_ord_index.specs.declared.tree.node.insert_by_key.Outcome.{Outcome}
+use Rattle.iddqd_ord_index.specs.declared.tree.node.insert_by_key.Outcome.TheVariants as node
 
 -- what holds of the slot whose item has the key
 abbrev pub IfFound : Insertion → (ℕ → Type 0) → Type 0

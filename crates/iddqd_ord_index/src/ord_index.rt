@@ -4,10 +4,10 @@ ghost use Rattle.std.specs.List.{IsDistinct};
 ghost use Rattle.iddqd_ord_index.specs.Listed.{unprepared};
 ghost use Rattle.iddqd_store.specs.Refusal.{memory_refused};
 
-mod insert_by;
+mod insert_by_key;
 mod into_walk;
 mod lookups;
-mod remove_by;
+mod remove_by_key;
 mod run_cache;
 mod walk;
 
@@ -15,7 +15,7 @@ use crate::tree::node::Node;
 use crate::tree::pool::BlockPool;
 use crate::tree::root;
 use iddqd_store::TryReserveError;
-pub use insert_by::Insertion;
+pub use insert_by_key::Insertion;
 pub use into_walk::IntoWalk;
 use run_cache::RunCache;
 use std::alloc::Global;
@@ -49,8 +49,8 @@ impl Place {
 }
 
 /// Slots in order, each once. Only a search looks at items. Contracts see the list, and whether the index is
-/// prepared for one insertion. Only `prepare` prepares it. `add_prepared`, an `insert_by` that inserts, `remove`,
-/// `remove_by`, `remove_first`, `remove_last`, `rename` and `clear` leave it not prepared, even if the list stays the
+/// prepared for one insertion. Only `prepare` prepares it. `add_prepared`, an `insert_by_key` that inserts, `remove`,
+/// `remove_by_key`, `remove_first`, `remove_last`, `rename` and `clear` leave it not prepared, even if the list stays the
 /// same. A clone is not prepared.
 #[derive(Drop)]
 pub struct OrdIndex {

@@ -19,8 +19,9 @@ use Rattle.iddqd_store.specs.Refusal.{refusal_kind}
 use Rattle.iddqd_store.specs.Unique as unique
 use Rattle.iddqd_store.specs.declared.errors.FromIterError.{FromIterError}
 use Rattle.iddqd_store.specs.declared.errors.FromIterError.TheVariants.{Duplicate, Refused}
-use Rattle.iddqd_store.specs.declared.halts.Halt.{Halt}
-use Rattle.iddqd_store.specs.declared.halts.Halt.TheVariants.{Akin, NoRoom}
+use Rattle.iddqd_store.specs.declared.errors.ExtendError.{ExtendError}
+use Rattle.iddqd_store.specs.declared.not_inserted.NotInserted.{NotInserted}
+use Rattle.iddqd_store.specs.declared.not_inserted.NotInserted.TheVariants.{Akin, NoRoom}
 use Rattle.iddqd_store.proofs.CollectingLemmas.{collects_last}
 use Rattle.iddqd_store.proofs.KeepsLemmas.{differ_insert}
 use Rattle.iddqd_store.proofs.OrderLemmas.{differ_moved, find_moved}
@@ -85,7 +86,7 @@ module _ {T : Type 0} {Differ : List T → Type 0} {Meets : T → List T → Lis
     conflicts_first = first_repeat (old ++ xs) middle adds.same added_differ x
 
 module _ {T K : Type 0} (key : T → K) {eq : K → K → Bool} (equivalence : IsEquivalence eq) (gives : List T → T → Type 0) (old middle new : Holding T) (before : List T) (adds : AddsAll key eq before old.items middle.items) (limit : middle.limit ≡ old.limit) (kept : KeepsItems middle new) (x : T) (came : gives before x) where
-  pub halts_adding : (h : Halt T) → HaltsAt key eq x middle h → HaltsAdding key eq gives old new h
+  pub halts_adding : (h : NotInserted T (ExtendError T)) → HaltsAt key eq x middle h → HaltsAdding key eq gives old new h
   halts_adding (Akin y slot) at = (
     at.1,
     (

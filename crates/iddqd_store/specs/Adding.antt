@@ -16,8 +16,8 @@ use Rattle.iddqd_store.specs.declared.errors.ExtendError.{ExtendError}
 use Rattle.iddqd_store.specs.declared.errors.ExtendUniqueError.{ExtendUniqueError}
 use Rattle.iddqd_store.specs.declared.errors.ExtendUniqueError.TheVariants.{Duplicate, Refused}
 use Rattle.iddqd_store.specs.declared.gives.Gives as gives
-use Rattle.iddqd_store.specs.declared.halts.Halt.{Halt}
-use Rattle.iddqd_store.specs.declared.halts.Halt.TheVariants.{Akin, NoRoom}
+use Rattle.iddqd_store.specs.declared.not_inserted.NotInserted.{NotInserted}
+use Rattle.iddqd_store.specs.declared.not_inserted.NotInserted.TheVariants.{Akin, NoRoom}
 
 module _ {T K : Type 0} (key : T → K) (eq : K → K → Bool) where
   abbrev pub AddsGiven : (gives : List T → Type 0) (old new : List T) → Type 0
@@ -33,7 +33,7 @@ module _ {T K : Type 0} (key : T → K) (eq : K → K → Bool) where
   StopsAdding = unique.StopsAdding (NoTwoAkin key eq) (Meets key eq)
 
   -- the same, with the slot of the existing item
-  abbrev pub HaltsAdding : (gives : List T → T → Type 0) (old new : Holding T) → Halt T → Type 0
+  abbrev pub HaltsAdding : (gives : List T → T → Type 0) (old new : Holding T) → NotInserted T (ExtendError T) → Type 0
   HaltsAdding gives old new (Akin x slot) =
       (there : T)
       × unique.StopsBeside (NoTwoAkin key eq) (Meets key eq) gives old.items new.items x (there ∷ [])
@@ -41,7 +41,7 @@ module _ {T K : Type 0} (key : T → K) (eq : K → K → Bool) where
   HaltsAdding gives old new (NoRoom e) = RefusesAdding gives old new e
 
   -- x is not inserted
-  abbrev pub HaltsAt : T → Holding T → Halt T → Type 0
+  abbrev pub HaltsAt : T → Holding T → NotInserted T (ExtendError T) → Type 0
   HaltsAt x m (Akin y slot) = (y ≡ x) × (there : T) × (find_item key (eq (key x)) m.items ≡ Some there) × (item_of_slot m.slots m.items slot ≡ Some there)
   HaltsAt x m (NoRoom e) = (e.item ≡ Some x) × FindsNoRoom key eq m.limit m.items x e.error
 
@@ -50,7 +50,7 @@ abbrev pub OnItemRefused : {T : Type 0} → Type 0 → ExtendUniqueError T → T
 OnItemRefused P (Duplicate d) = Unit
 OnItemRefused P (Refused e) = OnSome e.item P
 
-abbrev pub OnItemBack : {T : Type 0} → Type 0 → Halt T → Type 0
+abbrev pub OnItemBack : {T : Type 0} → Type 0 → NotInserted T (ExtendError T) → Type 0
 OnItemBack P (Akin x slot) = Unit
 OnItemBack P (NoRoom e) = OnSome e.item P
 
@@ -61,7 +61,7 @@ module _ {T K U : Type 0} (key : T → K) (eq : K → K → Bool) (given : gives
   Adds old new = AddsGiven key eq (given.gives_all iter) old.items new.items
 
   -- the first item that was not inserted, and what the map holds then
-  abbrev pub Halts : (old new : Holding T) → Halt T → Type 0
+  abbrev pub Halts : (old new : Holding T) → NotInserted T (ExtendError T) → Type 0
   Halts old new = HaltsAdding key eq (given.gives_then iter) old new
 
   -- the first item whose key one in the map had is shown beside that one

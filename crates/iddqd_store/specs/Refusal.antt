@@ -56,8 +56,8 @@ module _ {T K : Type 0} (key : T → K) (eq : K → K → Bool) (limit : ℕ) wh
 
 module _ {T K : Type 0} (key : T → K) (eq : K → K → Bool) where
   -- x is returned, and no item of the map has its key: the map is full, or memory was refused
-  abbrev pub HandsBack : Holding T → T → refused.Refused T → Type 0
-  HandsBack m x r = (r.item ≡ x) × FindsNoRoom key eq m.limit m.items x r.error
+  abbrev pub ReturnsItem : Holding T → T → refused.Refused T → Type 0
+  ReturnsItem m x r = (r.item ≡ x) × FindsNoRoom key eq m.limit m.items x r.error
 
   -- x is returned: beside the item of an equal key, or because there was no room
   abbrev pub RefusesItem : Holding T → T → InsertError T → Type 0

@@ -3,11 +3,11 @@
 
 mod errors;
 mod gives;
-mod halts;
 mod hints;
 mod item_store;
 mod items;
 pub mod laws;
+mod not_inserted;
 mod queries;
 mod steps;
 mod text;
@@ -19,10 +19,10 @@ pub use errors::{
     TryReserveError,
 };
 pub use gives::Gives;
-pub use halts::Halt;
 pub use hints::room_to_reserve;
 pub use item_store::{ItemStore, Items, MAX_ITEMS};
 pub use items::{IdHashItem, IdOrdItem, KeyOf};
+pub use not_inserted::NotInserted;
 pub use queries::{Comparable, Equivalent};
 pub use steps::Steps;
 pub use text::Text;

@@ -27,8 +27,8 @@ use Rattle.idtable_commands.specs.KeyedMap.{RefusesAmong, RefusesOne, StaysKeyed
 use Rattle.idtable_commands.specs.SameReplies.{HoldSameItems, IsUnrefused}
 use Rattle.idtable_commands.specs.Step.{Answers, FindsFull, FitsLikely, Hashed, KeepsRoom, MapRule, MapState, MeetsAkin, Ordered, RefusesRoom, StopsAt, InsertsAll}
 use Rattle.idtable_commands.specs.declared.commands.Command.TheVariants.{ExtendUnique}
-use Rattle.idtable_commands.specs.declared.keyed_map.extend.NotTaken.{NotTaken}
-use Rattle.idtable_commands.specs.declared.keyed_map.extend.NotTaken.TheVariants.{Akin, Refused}
+use Rattle.idtable_commands.specs.declared.keyed_map.extend.NotInserted.{NotInserted}
+use Rattle.idtable_commands.specs.declared.keyed_map.extend.NotInserted.TheVariants.{Akin, Refused}
 use Rattle.idtable_commands.specs.declared.commands.Reply.{Reply}
 use Rattle.idtable_commands.specs.declared.commands.Reply.TheVariants.{Extended, Conflict, Stopped}
 
@@ -112,7 +112,7 @@ module _ {T K : Type 0} (key : T → K) {eq : K → K → Bool} (equivalence : I
     spare_first Hashed xs old new takes room none = omega (arith, room.at_least, none, as_many xs old.items new.items takes.added)
 
     -- why the item after those that were put in was not
-    pub refuses_among : (rule : MapRule K) (front rest xs : List T) (x : T) → xs ≡ front ++ x ∷ rest → (old middle : MapState T) (new : List T) → new ≡ middle.items → InsertsAll key eq limit front old.items middle.items → KeepsRoom rule limit old middle → (e : NotTaken T) → RefusesOne key eq limit middle x e → RefusesAmong key eq limit xs old new e
+    pub refuses_among : (rule : MapRule K) (front rest xs : List T) (x : T) → xs ≡ front ++ x ∷ rest → (old middle : MapState T) (new : List T) → new ≡ middle.items → InsertsAll key eq limit front old.items middle.items → KeepsRoom rule limit old middle → (e : NotInserted T) → RefusesOne key eq limit middle x e → RefusesAmong key eq limit xs old new e
     refuses_among rule front rest xs x is old middle new same takes room (Akin back) (itself, y, found) =
         let there : find_item key (eq (key x)) new ≡ Some y = ap (find_item key (eq (key x))) same ∙ found in
         let meets = meets_here front rest xs old.items new x y is (subst (InsertsAll key eq limit front old.items) (sym same) takes) there in

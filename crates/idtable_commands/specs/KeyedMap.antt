@@ -17,8 +17,8 @@ use Rattle.iddqd.specs.declared.errors.ExtendUniqueError.{ExtendUniqueError}
 use Rattle.iddqd.specs.declared.errors.ExtendUniqueError.TheVariants.{Duplicate, Refused}
 use Rattle.iddqd.specs.declared.errors.Refused as refused
 use Rattle.idtable_commands.specs.Step.{MapRule, MapState, FindsFull, FitsLikely, InsertsAll, InsertsAbsent, KeepsRoom, LeavesRoom, MakesRoom, MeetsAkin, RefusesItem, RefusesRoom, RetainsVisited, VisitsItem}
-use Rattle.idtable_commands.specs.declared.keyed_map.extend.NotTaken.{NotTaken}
-use Rattle.idtable_commands.specs.declared.keyed_map.extend.NotTaken.TheVariants as not_taken
+use Rattle.idtable_commands.specs.declared.keyed_map.extend.NotInserted.{NotInserted}
+use Rattle.idtable_commands.specs.declared.keyed_map.extend.NotInserted.TheVariants as not_inserted
 
 module _ {M T : Type 0} (state : M → MapState T) where
   -- the item whose key passes the test, or none
@@ -85,8 +85,8 @@ module _ {M T K : Type 0} (state : M → MapState T) (limit_of : M → ℕ) (rul
 
 -- what the map is once the loan of an insertion's result ends: at `Ok` the item is in; at `Err` the items are as they were, and
 -- at a duplicate the whole map is
-abbrev pub ends_inserted : (M : RattleType) {T K : Type 0} (state : M.Denot → MapState T) (limit_of : M.Denot → ℕ) (rule : MapRule K) (IsKeyed : M.Denot → Type 0) (key : T → K) (eq : K → K → Bool) → MutBor M.Denot → Result (MutBor unit.Denot) (InsertionError T) → T → Fml
-ends_inserted M state limit_of rule IsKeyed key eq map result x =
+abbrev pub map_after_insertion : (M : RattleType) {T K : Type 0} (state : M.Denot → MapState T) (limit_of : M.Denot → ℕ) (rule : MapRule K) (IsKeyed : M.Denot → Type 0) (key : T → K) (eq : K → K → Bool) → MutBor M.Denot → Result (MutBor unit.Denot) (InsertionError T) → T → Fml
+map_after_insertion M state limit_of rule IsKeyed key eq map result x =
     LendsSoOk M unit map result
     (λ new _. InsertsIntoMap state limit_of rule IsKeyed key eq x map.now new)
     (λ new. KeepsMap state limit_of rule IsKeyed map.now new × IfErr result (OnDuplicate (new ≡ map.now)))
@@ -98,19 +98,19 @@ module _ {T K : Type 0} (key : T → K) (eq : K → K → Bool) (limit : ℕ) wh
   StopsExtension xs old new (Refused e) = IfSome e.item (λ x. FitsLikely key eq limit xs old.items × (after : ℕ) × FindsFull key eq limit xs x e.error after old new) × IfNone e.item (RefusesRoom limit (room_to_reserve (length old.items) (length xs)) old e.error × (new ≡ old.items))
 
   -- an item is returned since one of an equal key exists, or it finds no room
-  abbrev pub RefusesOne : MapState T → T → NotTaken T → Type 0
-  RefusesOne old x (not_taken.Akin back) = (back ≡ x) × (y : T) × (find_item key (eq (key x)) old.items ≡ Some y)
-  RefusesOne old x (not_taken.Refused r) = (r.item ≡ x) × FindsNoRoom key eq limit old.items x r.error × (old.spare ≡ 0)
+  abbrev pub RefusesOne : MapState T → T → NotInserted T → Type 0
+  RefusesOne old x (not_inserted.Akin back) = (back ≡ x) × (y : T) × (find_item key (eq (key x)) old.items ≡ Some y)
+  RefusesOne old x (not_inserted.Refused r) = (r.item ≡ x) × FindsNoRoom key eq limit old.items x r.error × (old.spare ≡ 0)
 
   -- the first that is not inserted is returned
-  abbrev pub RefusesAmong : (xs : List T) (old : MapState T) (new : List T) → NotTaken T → Type 0
-  RefusesAmong xs old new (not_taken.Akin x) = (y : T) × (after : ℕ) × MeetsAkin key eq limit xs x y after old.items new × (find_item key (eq (key x)) new ≡ Some y)
-  RefusesAmong xs old new (not_taken.Refused r) = (after : ℕ) × FindsFull key eq limit xs r.item r.error after old new
+  abbrev pub RefusesAmong : (xs : List T) (old : MapState T) (new : List T) → NotInserted T → Type 0
+  RefusesAmong xs old new (not_inserted.Akin x) = (y : T) × (after : ℕ) × MeetsAkin key eq limit xs x y after old.items new × (find_item key (eq (key x)) new ≡ Some y)
+  RefusesAmong xs old new (not_inserted.Refused r) = (after : ℕ) × FindsFull key eq limit xs r.item r.error after old new
 
 -- what the map is once the loan of an extension's result ends: at `Ok` all items are in; at `Err` the error says why not all are,
 -- and which
-abbrev pub ends_extended : (M : RattleType) {T K : Type 0} (state : M.Denot → MapState T) (limit_of : M.Denot → ℕ) (rule : MapRule K) (IsKeyed : M.Denot → Type 0) (key : T → K) (eq : K → K → Bool) → MutBor M.Denot → Result (MutBor unit.Denot) (ExtendUniqueError T) → List T → Fml
-ends_extended M state limit_of rule IsKeyed key eq map result xs =
+abbrev pub map_after_extension : (M : RattleType) {T K : Type 0} (state : M.Denot → MapState T) (limit_of : M.Denot → ℕ) (rule : MapRule K) (IsKeyed : M.Denot → Type 0) (key : T → K) (eq : K → K → Bool) → MutBor M.Denot → Result (MutBor unit.Denot) (ExtendUniqueError T) → List T → Fml
+map_after_extension M state limit_of rule IsKeyed key eq map result xs =
     LendsSoOk M unit map result
     (λ new _. StaysKeyed state limit_of rule IsKeyed map.now new × FitsLikely key eq (limit_of map.now) xs (state map.now).items × InsertsAll key eq (limit_of map.now) xs (state map.now).items (state new).items)
     (λ new. StaysKeyed state limit_of rule IsKeyed map.now new × IfErr result (StopsExtension key eq (limit_of map.now) xs (state map.now) (state new).items))

@@ -9,12 +9,12 @@ use Rattle.std.specs.Prelude.{Bool, List, Result}
 use Rattle.std.specs.Borrow.{Fml, RattleType, MutBor, unit}
 use Rattle.std.specs.Global.{Vec}
 use Rattle.iddqd.specs.declared.errors.ExtendUniqueError.{ExtendUniqueError}
-use Rattle.idtable_commands.specs.KeyedMap.{InsertsIntoMap, RefusesAmong, RefusesOne, ends_extended}
+use Rattle.idtable_commands.specs.KeyedMap.{InsertsIntoMap, RefusesAmong, RefusesOne, map_after_extension}
 use Rattle.idtable_commands.specs.Step.{Answers, Does, InsertsAll, Run, ShowsClones}
 use Rattle.idtable_commands.specs.declared.commands.Command.{Command}
 use Rattle.idtable_commands.specs.declared.commands.Reply.{Reply}
 use Rattle.idtable_commands.specs.declared.keyed_map.KeyedMap.{Ghosts}
-use Rattle.idtable_commands.specs.declared.keyed_map.extend.NotTaken.{NotTaken}
+use Rattle.idtable_commands.specs.declared.keyed_map.extend.NotInserted.{NotInserted}
 
 module _ {M T K : Type 0} (map : Ghosts M T K) (eq : K → K → Bool) where
   -- the item was inserted: its key was absent and the map was not full
@@ -22,7 +22,7 @@ module _ {M T K : Type 0} (map : Ghosts M T K) (eq : K → K → Bool) where
   InsertsOne x old new = InsertsIntoMap map.state map.limit map.rule map.keyed map.key eq x old new
 
   -- the item is returned since one of an equal key exists, or it finds no room
-  abbrev pub RefusesOneIn : M → T → NotTaken T → Type 0
+  abbrev pub RefusesOneIn : M → T → NotInserted T → Type 0
   RefusesOneIn old x back = RefusesOne map.key eq (map.limit old) (map.state old) x back
 
   -- all items are inserted, one after another
@@ -30,7 +30,7 @@ module _ {M T K : Type 0} (map : Ghosts M T K) (eq : K → K → Bool) where
   InsertsEach xs old new = InsertsAll map.key eq (map.limit old) xs (map.state old).items (map.state new).items
 
   -- the first item that is not inserted is returned, and those before it are in
-  abbrev pub RefusesEach : List T → (old new : M) → NotTaken T → Type 0
+  abbrev pub RefusesEach : List T → (old new : M) → NotInserted T → Type 0
   RefusesEach xs old new back = RefusesAmong map.key eq (map.limit old) xs (map.state old) (map.state new).items back
 
   module _ {V : Type 0} (visits : V → T → V × T × Bool) where
@@ -52,4 +52,4 @@ ShowsEach is_infallible commands replies = ShowsClones is_infallible commands.it
 
 -- at `Ok` all items are in; at `Err` the error says why not all are, and which
 abbrev pub ends_extension : (M : RattleType) {T K : Type 0} (map : Ghosts M.Denot T K) (eq : K → K → Bool) → MutBor M.Denot → Result (MutBor unit.Denot) (ExtendUniqueError T) → List T → Fml
-ends_extension M map eq = ends_extended M map.state map.limit map.rule map.keyed map.key eq
+ends_extension M map eq = map_after_extension M map.state map.limit map.rule map.keyed map.key eq

@@ -3,7 +3,7 @@ ghost use Rattle.std.specs.Prelude.{◌≡◌, ℕ, [], length, None, IfErr, IfN
 ghost use Rattle.std.specs.Borrow.{Lends, sem, unit};
 ghost use Rattle.iddqd.specs.Contents.{NoTwoAkin};
 ghost use Rattle.iddqd.specs.Refusal.{OnRefused, memory_refused};
-ghost use Rattle.idtable_commands.specs.KeyedMap.{MakesRoomIn, Overwrites, RefusesIn, RefusesItemIn, RemovesFrom, RetainsIn, ShrinksMap, StaysKeyed, VisitsIn, ends_extended, ends_inserted, find_akin, find_in};
+ghost use Rattle.idtable_commands.specs.KeyedMap.{MakesRoomIn, Overwrites, RefusesIn, RefusesItemIn, RemovesFrom, RetainsIn, ShrinksMap, StaysKeyed, VisitsIn, map_after_extension, map_after_insertion, find_akin, find_in};
 ghost use Rattle.iddqd.specs.Visiting.{VisitsKeepKeys};
 ghost use Rattle.idtable_commands.specs.Step.{MapRule, MapState, FitsRoom, LieByRule, RefusesRoom};
 
@@ -45,7 +45,7 @@ pub trait KeyedMap {
     /// Then the items are as they were.
     fn insert_unique(&mut self, item: Self::Item) -> Result<&mut (), InsertError<'_, Self::Item>>
         requires keyed { keyed self.old }
-        ensures* after { sem 𝓛 (ends_inserted Self.row state limit rule keyed key Self.Key.eq self.entry result item) }
+        ensures* after { sem 𝓛 (map_after_insertion Self.row state limit rule keyed key Self.Key.eq self.entry result item) }
         ensures refused { IfErr result (RefusesIn state limit key Self.Key.eq self.old item) }
         ensures no_spare { IfErr result (OnRefused ((state self.old).spare ≡ 0)) };
 
@@ -155,7 +155,7 @@ pub trait KeyedMap {
     where
         Self::Item: Drop,
         requires keyed { keyed self.old }
-        ensures* after { sem 𝓛 (ends_extended Self.row state limit rule keyed key Self.Key.eq self.entry result items.items) }
+        ensures* after { sem 𝓛 (map_after_extension Self.row state limit rule keyed key Self.Key.eq self.entry result items.items) }
     {
         extend::extend_unique(self, items)
     }

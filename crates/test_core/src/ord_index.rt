@@ -117,7 +117,7 @@ impl Coins {
         }
         match self
             .index
-            .insert_by(&self.store, &year, slot, &mut Steps::new())
+            .insert_by_key(&self.store, &year, slot, &mut Steps::new())
         {
             Insertion::Found(_) => false,
             Insertion::Inserted => {
@@ -142,9 +142,9 @@ impl Coins {
         self.year_of(Some(slot))
     }
 
-    // The year that `remove_by` took out.
+    // The year that `remove_by_key` took out.
     fn take_by(&mut self, year: u32) -> Option<u32> {
-        let slot = self.index.remove_by(&self.store, &year, &mut Steps::new());
+        let slot = self.index.remove_by_key(&self.store, &year, &mut Steps::new());
         self.year_of(slot)
     }
 

@@ -37,13 +37,13 @@ impl<T: BiHashItem, S: BuildHasher> BiHashMap<T, S> {
             Err(error) => return Err(FromIterError::Refused(error)),
         };
         for item in items {
-            map.insert_or_take(item)?;
+            map.insert_or_remove(item)?;
         }
         Ok(map)
     }
 
     // Inserts the item if no item has one of its keys. Else it removes those and returns all.
-    fn insert_or_take(&mut self, item: T) -> Result<(), FromIterError<T>>
+    fn insert_or_remove(&mut self, item: T) -> Result<(), FromIterError<T>>
     where
         T: Drop,
         requires keyed { ⟦<Self as Keyed>⟧.keyed self.old }
@@ -52,7 +52,7 @@ impl<T: BiHashItem, S: BuildHasher> BiHashMap<T, S> {
     {
         let hash1 = self.hasher.hash_one(item.key1());
         let hash2 = self.hasher.hash_one(item.key2());
-        match self.displace(hash1, hash2, &item) {
+        match self.remove_met(hash1, hash2, &item) {
             Some(earlier) => Err(FromIterError::Duplicate(DuplicateItem::internal_new(
                 item, earlier,
             ))),

@@ -1,29 +1,13 @@
 //! Lending one item for writing, and what lends it.
-ghost use Rattle.std.specs.Prelude.{◌≡◌, IfNone, IfSome, IsSome, Some};
+ghost use Rattle.std.specs.Prelude.{◌≡◌, IfNone, IfSome, Some};
 ghost use Rattle.std.specs.Borrow.{sem};
 ghost use Rattle.iddqd_store.specs.Contents.{IsAbsent};
-ghost use Rattle.iddqd_store.specs.SlotItems.{item_of_slot};
 ghost use Rattle.iddqd_bi_hash.specs.TwoKeys.{LacksByBoth};
 
 use super::{BiHashMap, Keyed, RefMut};
 use crate::items::BiHashItem;
 use iddqd_store::Equivalent;
 use std::hash::{BuildHasher, Hash};
-
-impl<T, S> BiHashMap<T, S> {
-    ghost use Rattle.iddqd_bi_hash.specs.BiHashMap.{IsOccupied};
-    ghost use Rattle.iddqd_bi_hash.specs.Guard.{lends_item};
-
-    // Returns the item of the slot, for writing.
-    #[inline]
-    pub(super) fn item_in_slot_mut(&mut self, slot: u32) -> &mut T
-        requires { IsOccupied self.old slot }
-        ensures* writes_back { sem 𝓛 (lends_item S.row T.row self.entry slot result) }
-        ensures value { item_of_slot self.old.slots self.old.items slot ≡ Some result.now }
-    {
-        self.store.get_mut(slot)
-    }
-}
 
 impl<T: BiHashItem, S: BuildHasher> BiHashMap<T, S> {
     ghost use Rattle.iddqd_hash_parts.specs.HashItems.{HashesAsKeys};

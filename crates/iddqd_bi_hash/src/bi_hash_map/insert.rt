@@ -13,7 +13,7 @@ use iddqd_store::{DuplicateItem, InsertError, Refused};
 use std::hash::BuildHasher;
 
 impl<T: BiHashItem, S: BuildHasher> BiHashMap<T, S> {
-    ghost use Rattle.iddqd_bi_hash.specs.BiHashMap.{BiHandsBack, BiInserts, BiKeeps, RefusesItem, ends_bi_inserted as ends_insert};
+    ghost use Rattle.iddqd_bi_hash.specs.BiHashMap.{BiReturnsItem, BiInserts, BiKeeps, RefusesItem, map_after_insertion};
 
     /// Inserts the item if no item has one of its keys. Duplicates do not allocate, and the map is as it was. The error
     /// has references to the one or two items with a key of it, in the order of their slots. If the map is full or
@@ -26,7 +26,7 @@ impl<T: BiHashItem, S: BuildHasher> BiHashMap<T, S> {
         requires keyed { ⟦<Self as Keyed>⟧.keyed self.old }
 
         // once the result is dropped
-        ensures* after { sem 𝓛 (ends_insert S.row T.row ⟦<Self as Keyed>⟧ self.entry result item) }
+        ensures* after { sem 𝓛 (map_after_insertion S.row T.row ⟦<Self as Keyed>⟧ self.entry result item) }
 
         // on success
         ensures absent1 { OnOk result (IsAbsent T.key1 (T.K1.eq (T.key1 item)) self.old.items) }
@@ -64,7 +64,7 @@ impl<T: BiHashItem, S: BuildHasher> BiHashMap<T, S> {
         ensures inserted { OnOk result (BiInserts ⟦<Self as Keyed>⟧.keyed item self.old self.new) }
 
         // on refusal
-        ensures refused { IfErr result (BiHandsBack T.key1 T.key2 T.K1.eq T.K2.eq self.old item) }
+        ensures refused { IfErr result (BiReturnsItem T.key1 T.key2 T.K1.eq T.K2.eq self.old item) }
         ensures kept { OnErr result (BiKeeps ⟦<Self as Keyed>⟧.keyed self.old self.new) }
     {
         if let Err(error) = reserve_one(&mut self.store, &mut self.index1, &mut self.index2) {

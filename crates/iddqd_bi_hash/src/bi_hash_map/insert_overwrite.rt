@@ -22,7 +22,7 @@ fn few_of<T>(one: Option<T>, other: Option<T>) -> Option<Few<T>>
 }
 
 impl<T: BiHashItem, S: BuildHasher> BiHashMap<T, S> {
-    ghost use Rattle.iddqd_bi_hash.specs.BiHashMap.{BiHandsBack, BiKeeps, BiOverwrites, BiStays, Displaces, KeepsUnmet, LeavesVacant};
+    ghost use Rattle.iddqd_bi_hash.specs.BiHashMap.{BiReturnsItem, BiKeeps, BiOverwrites, BiStays, Displaces, KeepsUnmet, LeavesVacant};
 
     /// Inserts the item, and removes and returns the one or two items that have one of its keys, that of the first key
     /// first. If there is one, this does not allocate and is never refused. If there is none, it inserts the item as
@@ -36,7 +36,7 @@ impl<T: BiHashItem, S: BuildHasher> BiHashMap<T, S> {
         ensures put { IfOk result (BiOverwrites T.key1 T.key2 T.K1.eq T.K2.eq item self.old self.new) }
 
         // on refusal
-        ensures refused { IfErr result (BiHandsBack T.key1 T.key2 T.K1.eq T.K2.eq self.old item) }
+        ensures refused { IfErr result (BiReturnsItem T.key1 T.key2 T.K1.eq T.K2.eq self.old item) }
         ensures kept { OnErr result (BiKeeps ⟦<Self as Keyed>⟧.keyed self.old self.new) }
 
         // either way
@@ -44,7 +44,7 @@ impl<T: BiHashItem, S: BuildHasher> BiHashMap<T, S> {
     {
         let hash1 = self.hasher.hash_one(item.key1());
         let hash2 = self.hasher.hash_one(item.key2());
-        match self.displace(hash1, hash2, &item) {
+        match self.remove_met(hash1, hash2, &item) {
             None => {
                 self.insert_hashed(hash1, hash2, item)?;
                 Ok(None)
@@ -58,7 +58,7 @@ impl<T: BiHashItem, S: BuildHasher> BiHashMap<T, S> {
 
     // Removes and returns the items that have one of the item's keys, that of the first key first. The hashes are those
     // of the item's keys.
-    pub(super) fn displace(&mut self, hash1: u64, hash2: u64, item: &T) -> Option<Few<T>>
+    pub(super) fn remove_met(&mut self, hash1: u64, hash2: u64, item: &T) -> Option<Few<T>>
         requires keyed { ⟦<Self as Keyed>⟧.keyed self.old }
         requires hash1 { hash1 ≡ ⟦<Self as Keyed>⟧.hash self.old (T.K1.hash_input (T.key1 item.now)) }
         requires hash2 { hash2 ≡ ⟦<Self as Keyed>⟧.hash self.old (T.K2.hash_input (T.key2 item.now)) }

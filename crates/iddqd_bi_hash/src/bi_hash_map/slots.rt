@@ -1,21 +1,26 @@
-//! The slots that searches find, and their items.
+//! The items of slots: read, lent for writing, removed; and the slots that searches find.
 ghost use Rattle.std.specs.Prelude.{◌≡◌, ◌<◌, IfNone, IfSome, IsSome, Some, length, map};
 ghost use Rattle.std.specs.Option.{option_and_then};
+ghost use Rattle.std.specs.Borrow.{sem};
+ghost use Rattle.iddqd_store.specs.Contents.{AddsItem, IsAbsent};
 ghost use Rattle.iddqd_store.specs.Errors.{values_of};
+ghost use Rattle.iddqd_store.specs.Holding.{Removes};
 ghost use Rattle.iddqd_store.specs.SlotItems.{HaveSlots, item_of_slot};
 ghost use Rattle.iddqd_bi_hash.specs.TwoKeys.{find_by_both};
 ghost use Rattle.iddqd_hash_parts.specs.SlotOrder.{AreBelow, AreRising, IsNext};
 ghost use Rattle.iddqd_hash_parts.specs.SlotsFound.{values_if_any};
 
 use super::by_key::{First, Second};
+use super::store_and_indexes::remove_from_all;
 use super::{BiHashMap, Keyed};
 use crate::items::BiHashItem;
-use iddqd_hash_parts::{find_slot, slot_from, with_found};
+use iddqd_hash_parts::{find_slot, rising_slots, slot_from};
 use iddqd_store::{Equivalent, Few};
 use std::hash::BuildHasher;
 
 impl<T, S> BiHashMap<T, S> {
     ghost use Rattle.iddqd_bi_hash.specs.BiHashMap.{AreItemsOf, AreOccupied, IsOccupied};
+    ghost use Rattle.iddqd_bi_hash.specs.Guard.{lends_item};
 
     // Returns the item of the slot.
     #[inline]
@@ -24,6 +29,16 @@ impl<T, S> BiHashMap<T, S> {
         ensures { item_of_slot self.now.slots self.now.items slot ≡ Some result.now }
     {
         self.store.get(slot).unwrap()
+    }
+
+    // Returns the item of the slot, for writing.
+    #[inline]
+    pub(super) fn item_in_slot_mut(&mut self, slot: u32) -> &mut T
+        requires { IsOccupied self.old slot }
+        ensures* writes_back { sem 𝓛 (lends_item S.row T.row self.entry slot result) }
+        ensures value { item_of_slot self.old.slots self.old.items slot ≡ Some result.now }
+    {
+        self.store.get_mut(slot)
     }
 
     // Returns the items of the slots.
@@ -65,8 +80,8 @@ impl<T, S> BiHashMap<T, S> {
 }
 
 impl<T: BiHashItem, S: BuildHasher> BiHashMap<T, S> {
-    ghost use Rattle.iddqd_bi_hash.specs.BiHashItems.{by_key1, by_key2};
-    ghost use Rattle.iddqd_bi_hash.specs.BiHashMap.{AreOccupied, AreSlotsMet, FindsSlot, HasHash, SpareFits};
+    ghost use Rattle.iddqd_bi_hash.specs.BiHashItems.{by_key1, by_key2, holding_of};
+    ghost use Rattle.iddqd_bi_hash.specs.BiHashMap.{AreOccupied, AreSlotsMet, BiStays, FindsSlot, HasHash, IsOccupied, LosesPlaceOf, SpareFits};
 
     // Returns the slot of the item that the query finds by the first key. The hash is that of each key for which the
     // query stands.
@@ -123,6 +138,47 @@ impl<T: BiHashItem, S: BuildHasher> BiHashMap<T, S> {
     {
         let one = find_slot::<T, First, T::K1>(&self.store, &self.index1, hash1, item.key1());
         let other = find_slot::<T, Second, T::K2>(&self.store, &self.index2, hash2, item.key2());
-        with_found(with_found(None, one), other)
+        rising_slots(one, other)
+    }
+
+    // Removes the item of the slot. Hashes each of its keys once.
+    pub(super) fn take_slot(&mut self, slot: u32) -> T
+        requires keyed { ⟦<Self as Keyed>⟧.keyed self.old }
+        requires there { IsSome (item_of_slot self.old.slots self.old.items slot) }
+        ensures gone { LosesPlaceOf slot self.old self.new }
+        ensures removed { Removes (Some result) (holding_of self.old) (holding_of self.new) }
+        ensures stays { BiStays ⟦<Self as Keyed>⟧.keyed self.old self.new }
+    {
+        let hash1 = self.hasher.hash_one(self.item_in_slot(slot).key1());
+        let hash2 = self.hasher.hash_one(self.item_in_slot(slot).key2());
+        self.take_hashed(hash1, hash2, slot)
+    }
+
+    // Removes the item of the slot, with the hashes that are stored for it.
+    pub(super) fn take_hashed(&mut self, hash1: u64, hash2: u64, slot: u32) -> T
+        requires keyed { ⟦<Self as Keyed>⟧.keyed self.old }
+        requires there { IsOccupied self.old slot }
+        requires listed1 { item_of_slot self.old.slots self.old.hashes1 slot ≡ Some hash1 }
+        requires listed2 { item_of_slot self.old.slots self.old.hashes2 slot ≡ Some hash2 }
+
+        // what is removed
+        ensures value { item_of_slot self.old.slots self.old.items slot ≡ Some result }
+        ensures gone { LosesPlaceOf slot self.old self.new }
+        ensures removed { Removes (Some result) (holding_of self.old) (holding_of self.new) }
+        ensures alone { AddsItem result self.new.items self.old.items }
+        ensures gone1 { IsAbsent T.key1 (T.K1.eq (T.key1 result)) self.new.items }
+        ensures gone2 { IsAbsent T.key2 (T.K2.eq (T.key2 result)) self.new.items }
+
+        // what stays
+        ensures stays { BiStays ⟦<Self as Keyed>⟧.keyed self.old self.new }
+    {
+        remove_from_all(
+            &mut self.store,
+            &mut self.index1,
+            &mut self.index2,
+            hash1,
+            hash2,
+            slot,
+        )
     }
 }

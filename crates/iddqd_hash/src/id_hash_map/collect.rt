@@ -104,13 +104,13 @@ impl<T: IdHashItem, S: BuildHasher> IdHashMap<T, S> {
             Err(error) => return Err(FromIterError::Refused(error)),
         };
         for item in items {
-            map.insert_or_take(item)?;
+            map.insert_or_remove(item)?;
         }
         Ok(map)
     }
 
     // Inserts the item if no item has an equal key. Else it removes that one and returns both.
-    fn insert_or_take(&mut self, item: T) -> Result<(), FromIterError<T>>
+    fn insert_or_remove(&mut self, item: T) -> Result<(), FromIterError<T>>
     where
         T: Drop,
         requires keyed { ⟦<Self as Keyed>⟧.keyed self.old }

@@ -9,13 +9,14 @@ use super::{IdHashMap, Keyed};
 use iddqd_hash_index::OwnKey;
 use iddqd_hash_parts::find_slot;
 use iddqd_store::{
-    DuplicateItem, ExtendError, ExtendUniqueError, Few, Gives, Halt, IdHashItem, room_to_reserve,
+    DuplicateItem, ExtendError, ExtendUniqueError, Few, Gives, IdHashItem, NotInserted,
+    room_to_reserve,
 };
 use std::hash::BuildHasher;
 
 impl<T: IdHashItem, S: BuildHasher> IdHashMap<T, S> {
     ghost use Rattle.iddqd_hash_parts.specs.HashItems.{holding_of};
-    ghost use Rattle.iddqd_hash.specs.HashMap.{Adds, Halts, HasSpareFirst, HashFills, HashInserts, HashKeeps, ShowsConflict, ends_hash_extended as ends_extended};
+    ghost use Rattle.iddqd_hash.specs.HashMap.{Adds, Halts, HasSpareFirst, HashFills, HashInserts, HashKeeps, ShowsConflict, map_after_extension};
 
     /// Inserts the items one after the other, up to the first whose key an item has, from before or from the iterator.
     /// That one is returned as the new item beside a reference to the existing one. A duplicate does not allocate, and
@@ -33,21 +34,24 @@ impl<T: IdHashItem, S: BuildHasher> IdHashMap<T, S> {
         T: Drop,
         requires keyed { ⟦<Self as Keyed>⟧.keyed self.old }
         requires ends { IsFinite U.into_iter_gives U.IntoIter.can_next U.IntoIter.remaining iter }
-        ensures* after { sem 𝓛 (ends_extended S.row T.row T.key T.Key.eq ⟦<Self as Keyed>⟧ ⟦<U as Gives>⟧ iter self.entry result) }
+        ensures* after { sem 𝓛 (map_after_extension S.row T.row T.key T.Key.eq ⟦<Self as Keyed>⟧ ⟦<U as Gives>⟧ iter self.entry result) }
         ensures shown { IfErr result (ShowsConflict T.key T.Key.eq ⟦<U as Gives>⟧ iter self.old) }
     {
         match self.insert_each(iter) {
             Ok(()) => Ok(&mut self.done),
-            Err(Halt::Akin(item, slot)) => {
+            Err(NotInserted::Akin(item, slot)) => {
                 let there = Few::One(self.item_in_slot(slot));
                 Err(ExtendUniqueError::Duplicate(DuplicateItem::internal_new(item, there)))
             }
-            Err(Halt::NoRoom(refused)) => Err(ExtendUniqueError::Refused(refused)),
+            Err(NotInserted::NoRoom(refused)) => Err(ExtendUniqueError::Refused(refused)),
         }
     }
 
     // The same, with the slot of the existing item in place of a reference: a loan cannot leave a loop.
-    fn insert_each<U: IntoIterator<Item = T>>(&mut self, iter: U) -> Result<(), Halt<T>>
+    fn insert_each<U: IntoIterator<Item = T>>(
+        &mut self,
+        iter: U,
+    ) -> Result<(), NotInserted<T, ExtendError<T>>>
     where
         T: Drop,
         requires keyed { ⟦<Self as Keyed>⟧.keyed self.old }
@@ -66,7 +70,7 @@ impl<T: IdHashItem, S: BuildHasher> IdHashMap<T, S> {
         let items = iter.into_iter();
         let room = room_to_reserve(self.len(), items.size_hint().0);
         if let Err(error) = self.reserve(room) {
-            return Err(Halt::NoRoom(ExtendError { item: None, error }));
+            return Err(NotInserted::NoRoom(ExtendError { item: None, error }));
         }
         for item in items {
             self.insert_or_halt(item)?;
@@ -75,7 +79,7 @@ impl<T: IdHashItem, S: BuildHasher> IdHashMap<T, S> {
     }
 
     // Inserts the item if no item has an equal key, and else returns that one's slot.
-    fn insert_or_halt(&mut self, item: T) -> Result<(), Halt<T>>
+    fn insert_or_halt(&mut self, item: T) -> Result<(), NotInserted<T, ExtendError<T>>>
         requires keyed { ⟦<Self as Keyed>⟧.keyed self.old }
 
         // on success
@@ -89,10 +93,10 @@ impl<T: IdHashItem, S: BuildHasher> IdHashMap<T, S> {
     {
         let hash = self.hasher.hash_one(item.key());
         match find_slot::<T, OwnKey, T::Key>(&self.store, &self.index, hash, item.key()) {
-            Some(slot) => Err(Halt::Akin(item, slot)),
+            Some(slot) => Err(NotInserted::Akin(item, slot)),
             None => match self.insert_hashed(hash, item) {
                 Ok(_) => Ok(()),
-                Err(refused) => Err(Halt::NoRoom(ExtendError {
+                Err(refused) => Err(NotInserted::NoRoom(ExtendError {
                     item: Some(refused.item),
                     error: refused.error,
                 })),

@@ -1,37 +1,13 @@
 //! Lending one item for writing, and what lends it.
-ghost use Rattle.std.specs.Prelude.{◌≡◌, IfNone, IfSome, IsSome, Some};
+ghost use Rattle.std.specs.Prelude.{◌≡◌, IfNone, IfSome, Some};
 ghost use Rattle.std.specs.Borrow.{sem};
 ghost use Rattle.iddqd_store.specs.Contents.{IsAbsent};
-ghost use Rattle.iddqd_store.specs.SlotItems.{item_of_slot};
 
 use super::{IdHashMap, Keyed, RefMut};
 use iddqd_hash_index::OwnKey;
 use iddqd_hash_parts::find_slot;
 use iddqd_store::{Equivalent, IdHashItem};
 use std::hash::{BuildHasher, Hash};
-
-impl<T, S> IdHashMap<T, S> {
-    ghost use Rattle.iddqd_hash.specs.Guard.{lends_item};
-
-    // Returns the item of the slot.
-    #[inline]
-    pub(super) fn item_in_slot(&self, slot: u32) -> &T
-        requires { IsSome (item_of_slot self.now.slots self.now.items slot) }
-        ensures { item_of_slot self.now.slots self.now.items slot ≡ Some result.now }
-    {
-        self.store.get(slot).unwrap()
-    }
-
-    // Returns the item of the slot, for writing.
-    #[inline]
-    pub(super) fn item_in_slot_mut(&mut self, slot: u32) -> &mut T
-        requires { IsSome (item_of_slot self.old.slots self.old.items slot) }
-        ensures* writes_back { sem 𝓛 (lends_item S.row T.row self.entry slot result) }
-        ensures value { item_of_slot self.old.slots self.old.items slot ≡ Some result.now }
-    {
-        self.store.get_mut(slot)
-    }
-}
 
 impl<T: IdHashItem, S: BuildHasher> IdHashMap<T, S> {
     ghost use Rattle.iddqd_hash.specs.Guard.{GuardFinds, GuardKeeps, GuardKeepsAkin, GuardOverwrites, guard_lender, lent_map, rests_at_none};

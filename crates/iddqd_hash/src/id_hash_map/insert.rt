@@ -12,7 +12,7 @@ use iddqd_store::{DuplicateItem, Few, IdHashItem, InsertError, Refused};
 use std::hash::BuildHasher;
 
 impl<T: IdHashItem, S: BuildHasher> IdHashMap<T, S> {
-    ghost use Rattle.iddqd_hash.specs.HashMap.{HashHandsBack, HashInserts, HashKeeps, HashOverwrites, HashStays, IsInsertedAt, RefusesItem, ends_hash_inserted as ends_insert, lends_nothing};
+    ghost use Rattle.iddqd_hash.specs.HashMap.{HashReturnsItem, HashInserts, HashKeeps, HashOverwrites, HashStays, IsInsertedAt, RefusesItem, map_after_insertion, lends_nothing};
 
     /// Inserts the item if no item has an equal key. A duplicate is returned beside a reference to the existing item.
     /// That does not allocate, and the map is as it was. If the map is full or memory is refused, the item is returned,
@@ -22,7 +22,7 @@ impl<T: IdHashItem, S: BuildHasher> IdHashMap<T, S> {
     /// leaves nothing known of the map, if the items own memory.
     pub fn insert_unique(&mut self, item: T) -> Result<&mut (), InsertError<'_, T>>
         requires keyed { ⟦<Self as Keyed>⟧.keyed self.old }
-        ensures* after { sem 𝓛 (ends_insert S.row T.row ⟦<Self as Keyed>⟧ self.entry result item) }
+        ensures* after { sem 𝓛 (map_after_insertion S.row T.row ⟦<Self as Keyed>⟧ self.entry result item) }
         ensures absent { OnOk result (IsAbsent T.key (T.Key.eq (T.key item)) self.old.items) }
         ensures refused { IfErr result (RefusesItem T.key T.Key.eq self.old item) }
         ensures no_spare { IfErr result (OnRefused (self.old.spare ≡ 0)) }
@@ -54,7 +54,7 @@ impl<T: IdHashItem, S: BuildHasher> IdHashMap<T, S> {
         ensures put { IfOk result (HashOverwrites T.key T.Key.eq item self.old self.new) }
 
         // on refusal
-        ensures refused { IfErr result (HashHandsBack T.key T.Key.eq self.old item) }
+        ensures refused { IfErr result (HashReturnsItem T.key T.Key.eq self.old item) }
         ensures kept { OnErr result (HashKeeps ⟦<Self as Keyed>⟧.keyed self.old self.new) }
 
         // either way
@@ -90,7 +90,7 @@ impl<T: IdHashItem, S: BuildHasher> IdHashMap<T, S> {
         ensures there { IfOk result (IsInsertedAt item hash self.old self.new) }
 
         // on refusal
-        ensures refused { IfErr result (HashHandsBack T.key T.Key.eq self.old item) }
+        ensures refused { IfErr result (HashReturnsItem T.key T.Key.eq self.old item) }
         ensures kept { OnErr result (HashKeeps ⟦<Self as Keyed>⟧.keyed self.old self.new) }
     {
         if let Err(error) = reserve_one(&mut self.store, &mut self.index) {

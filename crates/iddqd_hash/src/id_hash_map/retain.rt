@@ -2,19 +2,18 @@
 ghost use Rattle.std.specs.Prelude.{◌≡◌, IsSome, Some};
 ghost use Rattle.std.specs.Fn.{CalledAt};
 ghost use Rattle.std.specs.List.Retain.{IsFiltered};
-ghost use Rattle.iddqd_store.specs.Holding.{LeavesSlots, Removes};
+ghost use Rattle.iddqd_store.specs.Holding.{LeavesSlots};
 ghost use Rattle.iddqd_store.specs.SlotItems.{item_of_slot};
 ghost use Rattle.iddqd_store.specs.Visiting.{VisitsKeepKeys, kept_by, visitor_after};
 
 use super::{IdHashMap, Keyed};
-use iddqd_hash_parts::remove_from_both;
 use iddqd_store::{IdHashItem, Visit};
 use std::hash::BuildHasher;
 
 impl<T: IdHashItem, S: BuildHasher> IdHashMap<T, S> {
     ghost use Rattle.iddqd_hash.specs.Guard.{VisitsSlot};
     ghost use Rattle.iddqd_hash_parts.specs.HashItems.{holding_of};
-    ghost use Rattle.iddqd_hash.specs.HashMap.{HashStays, LosesPlaceOf};
+    ghost use Rattle.iddqd_hash.specs.HashMap.{HashStays};
 
     /// Calls the closure once for each item, in no particular order, and drops each item for which it returns false.
     /// The closure only reads. Looks at every slot. Hashes the key of each removed item once, and compares none. Does
@@ -71,34 +70,5 @@ impl<T: IdHashItem, S: BuildHasher> IdHashMap<T, S> {
         ensures keyed { ⟦<Self as Keyed>⟧.keyed self.new }
     {
         visitor.visit(self.item_in_slot_mut(slot))
-    }
-
-    // Removes the item of the slot. Hashes its key once.
-    fn take_slot(&mut self, slot: u32) -> T
-        requires keyed { ⟦<Self as Keyed>⟧.keyed self.old }
-        requires there { IsSome (item_of_slot self.old.slots self.old.items slot) }
-        ensures gone { LosesPlaceOf slot self.old self.new }
-        ensures removed { Removes (Some result) (holding_of self.old) (holding_of self.new) }
-        ensures stays { HashStays ⟦<Self as Keyed>⟧.keyed self.old self.new }
-    {
-        let hash = self.hasher.hash_one(self.item_in_slot(slot).key());
-        self.take_hashed(hash, slot)
-    }
-
-    // The same, with the hash that is stored for the slot.
-    pub(super) fn take_hashed(&mut self, hash: u64, slot: u32) -> T
-        requires keyed { ⟦<Self as Keyed>⟧.keyed self.old }
-        requires there { IsSome (item_of_slot self.old.slots self.old.items slot) }
-        requires listed { item_of_slot self.old.slots self.old.hashes slot ≡ Some hash }
-
-        // what is removed
-        ensures value { item_of_slot self.old.slots self.old.items slot ≡ Some result }
-        ensures gone { LosesPlaceOf slot self.old self.new }
-        ensures removed { Removes (Some result) (holding_of self.old) (holding_of self.new) }
-
-        // what stays
-        ensures stays { HashStays ⟦<Self as Keyed>⟧.keyed self.old self.new }
-    {
-        remove_from_both(&mut self.store, &mut self.index, hash, slot)
     }
 }

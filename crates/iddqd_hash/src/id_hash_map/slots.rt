@@ -1,13 +1,37 @@
-//! From slot to slot, in the order of their numbers.
-ghost use Rattle.std.specs.Prelude.{◌≡◌, ◌<◌, length, IfNone, IfSome};
-ghost use Rattle.iddqd_store.specs.SlotItems.{HaveSlots};
+//! The items of slots: read, lent for writing, removed; and from slot to slot, in the order of their numbers.
+ghost use Rattle.std.specs.Prelude.{◌≡◌, ◌<◌, IfNone, IfSome, IsSome, Some};
+ghost use Rattle.std.specs.Borrow.{sem};
+ghost use Rattle.iddqd_store.specs.Holding.{Removes};
+ghost use Rattle.iddqd_store.specs.SlotItems.{HaveSlots, item_of_slot};
 ghost use Rattle.iddqd_hash_parts.specs.SlotOrder.{AreBelow, AreRising, IsNext};
 
-use super::IdHashMap;
-use iddqd_hash_parts::slot_from;
+use super::{IdHashMap, Keyed};
+use iddqd_hash_parts::{remove_from_both, slot_from};
+use iddqd_store::IdHashItem;
+use std::hash::BuildHasher;
 
 impl<T, S> IdHashMap<T, S> {
+    ghost use Rattle.iddqd_hash.specs.Guard.{lends_item};
     ghost use Rattle.iddqd_hash.specs.HashMap.{SpareFits};
+
+    // Returns the item of the slot.
+    #[inline]
+    pub(super) fn item_in_slot(&self, slot: u32) -> &T
+        requires { IsSome (item_of_slot self.now.slots self.now.items slot) }
+        ensures { item_of_slot self.now.slots self.now.items slot ≡ Some result.now }
+    {
+        self.store.get(slot).unwrap()
+    }
+
+    // Returns the item of the slot, for writing.
+    #[inline]
+    pub(super) fn item_in_slot_mut(&mut self, slot: u32) -> &mut T
+        requires { IsSome (item_of_slot self.old.slots self.old.items slot) }
+        ensures* writes_back { sem 𝓛 (lends_item S.row T.row self.entry slot result) }
+        ensures value { item_of_slot self.old.slots self.old.items slot ≡ Some result.now }
+    {
+        self.store.get_mut(slot)
+    }
 
     // Returns the first slot from this number on that has an item. Looks at each slot up to that one.
     pub(super) fn slot_from(&self, from: u32) -> Option<u32>
@@ -24,5 +48,39 @@ impl<T, S> IdHashMap<T, S> {
         ensures own { HaveSlots self.now.slots self.now.items }
     {
         slot_from(&self.store, from)
+    }
+}
+
+impl<T: IdHashItem, S: BuildHasher> IdHashMap<T, S> {
+    ghost use Rattle.iddqd_hash_parts.specs.HashItems.{holding_of};
+    ghost use Rattle.iddqd_hash.specs.HashMap.{HashStays, LosesPlaceOf};
+
+    // Removes the item of the slot. Hashes its key once.
+    pub(super) fn take_slot(&mut self, slot: u32) -> T
+        requires keyed { ⟦<Self as Keyed>⟧.keyed self.old }
+        requires there { IsSome (item_of_slot self.old.slots self.old.items slot) }
+        ensures gone { LosesPlaceOf slot self.old self.new }
+        ensures removed { Removes (Some result) (holding_of self.old) (holding_of self.new) }
+        ensures stays { HashStays ⟦<Self as Keyed>⟧.keyed self.old self.new }
+    {
+        let hash = self.hasher.hash_one(self.item_in_slot(slot).key());
+        self.take_hashed(hash, slot)
+    }
+
+    // The same, with the hash that is stored for the slot.
+    pub(super) fn take_hashed(&mut self, hash: u64, slot: u32) -> T
+        requires keyed { ⟦<Self as Keyed>⟧.keyed self.old }
+        requires there { IsSome (item_of_slot self.old.slots self.old.items slot) }
+        requires listed { item_of_slot self.old.slots self.old.hashes slot ≡ Some hash }
+
+        // what is removed
+        ensures value { item_of_slot self.old.slots self.old.items slot ≡ Some result }
+        ensures gone { LosesPlaceOf slot self.old self.new }
+        ensures removed { Removes (Some result) (holding_of self.old) (holding_of self.new) }
+
+        // what stays
+        ensures stays { HashStays ⟦<Self as Keyed>⟧.keyed self.old self.new }
+    {
+        remove_from_both(&mut self.store, &mut self.index, hash, slot)
     }
 }

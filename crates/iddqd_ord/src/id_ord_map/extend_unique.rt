@@ -6,14 +6,13 @@ ghost use Rattle.iddqd_store.specs.Adding.{Adds, Halts, HaltsAt, ShowsConflict};
 ghost use Rattle.iddqd_store.specs.Contents.{Ascends, IsAbsent};
 
 use super::IdOrdMap;
-use super::insert_or_find::Missed;
 use iddqd_store::{
-    DuplicateItem, ExtendError, ExtendUniqueError, Few, Gives, Halt, IdOrdItem, Steps,
+    DuplicateItem, ExtendError, ExtendUniqueError, Few, Gives, IdOrdItem, NotInserted, Steps,
     room_to_reserve,
 };
 
 impl<T: IdOrdItem> IdOrdMap<T> {
-    ghost use Rattle.iddqd_ord.specs.OrdMap.{OrdFills, OrdInserts, OrdKeeps, ends_ord_extended as ends_extended};
+    ghost use Rattle.iddqd_ord.specs.OrdMap.{OrdFills, OrdInserts, OrdKeeps, map_after_extension};
 
     /// Inserts the items one after the other, up to the first whose key an item has, from before or from the iterator.
     /// That one is returned as the new item beside a reference to the existing one. A duplicate does not allocate, and
@@ -31,21 +30,24 @@ impl<T: IdOrdItem> IdOrdMap<T> {
         T: Drop,
         requires keyed { Ascends T.key T.Key.cmp self.old.items }
         requires ends { IsFinite U.into_iter_gives U.IntoIter.can_next U.IntoIter.remaining iter }
-        ensures* after { sem 𝓛 (ends_extended T.row T.key T.Key.eq T.Key.cmp ⟦<U as Gives>⟧ iter self.entry result) }
+        ensures* after { sem 𝓛 (map_after_extension T.row T.key T.Key.eq T.Key.cmp ⟦<U as Gives>⟧ iter self.entry result) }
         ensures shown { IfErr result (ShowsConflict T.key T.Key.eq ⟦<U as Gives>⟧ iter self.old) }
     {
         match self.insert_each(iter) {
             Ok(()) => Ok(&mut self.done),
-            Err(Halt::Akin(item, slot)) => {
+            Err(NotInserted::Akin(item, slot)) => {
                 let there = Few::One(self.item_in_slot(slot));
                 Err(ExtendUniqueError::Duplicate(DuplicateItem::internal_new(item, there)))
             }
-            Err(Halt::NoRoom(refused)) => Err(ExtendUniqueError::Refused(refused)),
+            Err(NotInserted::NoRoom(refused)) => Err(ExtendUniqueError::Refused(refused)),
         }
     }
 
     // As `extend_unique`, but returns the slot of the existing item in place of the item: a loan cannot leave a loop.
-    fn insert_each<U: IntoIterator<Item = T>>(&mut self, iter: U) -> Result<(), Halt<T>>
+    fn insert_each<U: IntoIterator<Item = T>>(
+        &mut self,
+        iter: U,
+    ) -> Result<(), NotInserted<T, ExtendError<T>>>
     where
         T: Drop,
         requires keyed { Ascends T.key T.Key.cmp self.old.items }
@@ -57,7 +59,7 @@ impl<T: IdOrdItem> IdOrdMap<T> {
         let items = iter.into_iter();
         let room = room_to_reserve(self.len(), items.size_hint().0);
         if let Err(error) = self.reserve(room) {
-            return Err(Halt::NoRoom(ExtendError { item: None, error }));
+            return Err(NotInserted::NoRoom(ExtendError { item: None, error }));
         }
         for item in items {
             self.insert_or_halt(item)?;
@@ -66,7 +68,7 @@ impl<T: IdOrdItem> IdOrdMap<T> {
     }
 
     // Inserts the item if no item has an equal key, and else returns that one's slot.
-    fn insert_or_halt(&mut self, item: T) -> Result<(), Halt<T>>
+    fn insert_or_halt(&mut self, item: T) -> Result<(), NotInserted<T, ExtendError<T>>>
         requires keyed { Ascends T.key T.Key.cmp self.old.items }
         ensures inserted { OnOk result (OrdInserts T.key T.Key.cmp item self.old self.new) }
         ensures absent { OnOk result (IsAbsent T.key (T.Key.eq (T.key item)) self.old.items) }
@@ -75,8 +77,8 @@ impl<T: IdOrdItem> IdOrdMap<T> {
     {
         match self.insert_or_find(item, &mut Steps::new()) {
             Ok(_) => Ok(()),
-            Err(Missed::Akin(item, slot)) => Err(Halt::Akin(item, slot)),
-            Err(Missed::NoRoom(refused)) => Err(Halt::NoRoom(ExtendError {
+            Err(NotInserted::Akin(item, slot)) => Err(NotInserted::Akin(item, slot)),
+            Err(NotInserted::NoRoom(refused)) => Err(NotInserted::NoRoom(ExtendError {
                 item: Some(refused.item),
                 error: refused.error,
             })),

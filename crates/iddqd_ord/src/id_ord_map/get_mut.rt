@@ -1,55 +1,10 @@
 //! Lending one item for writing, and what lends it.
-ghost use Rattle.std.specs.Prelude.{◌≡◌, ◌<◌, ◌≤◌, length, IfNone, IfSome, IsSome, Some};
+ghost use Rattle.std.specs.Prelude.{◌≡◌, ◌<◌, ◌≤◌, length, IfNone, IfSome, Some};
 ghost use Rattle.std.specs.Borrow.{sem};
 ghost use Rattle.iddqd_store.specs.Contents.{Ascends, IsAbsent};
 
 use super::{IdOrdMap, RefMut};
-use iddqd_ord_index::Place;
 use iddqd_store::{Comparable, IdOrdItem, Steps};
-
-impl<T> IdOrdMap<T> {
-    ghost use Rattle.iddqd_ord.specs.Guard.{IsSlotAt, item_in_slot, lends_item};
-
-    // Returns the item of the slot.
-    #[inline]
-    pub(super) fn item_in_slot(&self, slot: u32) -> &T
-        requires { IsSome (item_in_slot self.now slot) }
-        ensures { item_in_slot self.now slot ≡ Some result.now }
-    {
-        self.store.get(slot).unwrap()
-    }
-
-    // Returns the item of the slot, for writing.
-    #[inline]
-    pub(super) fn item_in_slot_mut(&mut self, slot: u32) -> &mut T
-        requires { IsSome (item_in_slot self.old slot) }
-        ensures* writes_back { sem 𝓛 (lends_item T.row self.entry slot result) }
-        ensures value { item_in_slot self.old slot ≡ Some result.now }
-    {
-        self.store.get_mut(slot)
-    }
-
-    // Returns the slot of the item at this position. Calls for one position after the other go down the index once for
-    // several items.
-    #[inline]
-    pub(super) fn slot_at_position(&mut self, at: usize) -> u32
-        requires { at < length self.old.items }
-        ensures slot { IsSlotAt self.old at result }
-        ensures unchanged { self.new ≡ self.old }
-    {
-        let place = self.index.place(at);
-        self.index.slot_in_turn(place)
-    }
-
-    // Returns the slot at the place. It goes down the index once.
-    #[inline]
-    pub(super) fn slot_at(&self, place: Place) -> u32
-        requires { place < length self.now.items }
-        ensures { IsSlotAt self.now place result }
-    {
-        self.index.slot_at(place)
-    }
-}
 
 impl<T: IdOrdItem> IdOrdMap<T> {
     ghost use Rattle.iddqd_ord.specs.Guard.{GuardFinds, GuardKeeps, GuardKeepsAkin, GuardOverwrites, GuardReadsAt, GuardWritesAt, rests_at_none, guard_lender, lent_map};

@@ -4,17 +4,16 @@ ghost use Rattle.std.specs.Prelude.{◌≡◌, ◌+◌, ◌*◌, ◌≤◌, leng
 ghost use Rattle.std.specs.Borrow.{sem};
 ghost use Rattle.iddqd_store.specs.Contents.{Ascends, IsAbsent};
 ghost use Rattle.iddqd_ord_index.specs.Digits.{digits};
-ghost use Rattle.iddqd_store.specs.Refusal.{HandsBack, RefusesItem, refusal_kind};
+ghost use Rattle.iddqd_store.specs.Refusal.{ReturnsItem, RefusesItem, refusal_kind};
 
 use super::IdOrdMap;
-use super::insert_or_find::Missed;
 use super::store_and_index::{insert_in_both, reserve_one};
 use iddqd_ord_index::Place;
-use iddqd_store::{DuplicateItem, Few, IdOrdItem, InsertError, Refused, Steps};
+use iddqd_store::{DuplicateItem, Few, IdOrdItem, InsertError, NotInserted, Refused, Steps};
 use std::mem;
 
 impl<T: IdOrdItem> IdOrdMap<T> {
-    ghost use Rattle.iddqd_ord.specs.OrdMap.{BelongsAt, OrdInserts, OrdKeeps, OrdOverwrites, ends_ord_inserted, lends_nothing};
+    ghost use Rattle.iddqd_ord.specs.OrdMap.{BelongsAt, OrdInserts, OrdKeeps, OrdOverwrites, map_after_insertion, lends_nothing};
 
     /// Inserts the item if no item has an equal key, by as many comparisons as `insert_unique_counted`. A duplicate is
     /// returned beside a reference to the existing item. That does not allocate, and the map is as it was. If the map
@@ -25,7 +24,7 @@ impl<T: IdOrdItem> IdOrdMap<T> {
     #[inline]
     pub fn insert_unique(&mut self, item: T) -> Result<&mut (), InsertError<'_, T>>
         requires keyed { Ascends T.key T.Key.cmp self.old.items }
-        ensures* after { sem 𝓛 (ends_ord_inserted T.row T.key T.Key.cmp self.entry result item) }
+        ensures* after { sem 𝓛 (map_after_insertion T.row T.key T.Key.cmp self.entry result item) }
         ensures absent { OnOk result (IsAbsent T.key (T.Key.eq (T.key item)) self.old.items) }
         ensures refused { IfErr result (RefusesItem T.key T.Key.eq self.old item) }
     {
@@ -40,7 +39,7 @@ impl<T: IdOrdItem> IdOrdMap<T> {
         steps: &mut Steps,
     ) -> Result<&mut (), InsertError<'_, T>>
         requires keyed { Ascends T.key T.Key.cmp self.old.items }
-        ensures* after { sem 𝓛 (ends_ord_inserted T.row T.key T.Key.cmp self.entry result item) }
+        ensures* after { sem 𝓛 (map_after_insertion T.row T.key T.Key.cmp self.entry result item) }
 
         // on success
         ensures absent { OnOk result (IsAbsent T.key (T.Key.eq (T.key item)) self.old.items) }
@@ -54,11 +53,11 @@ impl<T: IdOrdItem> IdOrdMap<T> {
     {
         match self.insert_or_find(item, steps) {
             Ok(_) => Ok(&mut self.done),
-            Err(Missed::Akin(item, slot)) => {
+            Err(NotInserted::Akin(item, slot)) => {
                 let existing = Few::One(self.item_in_slot(slot));
                 Err(InsertError::Duplicate(DuplicateItem::internal_new(item, existing)))
             }
-            Err(Missed::NoRoom(refused)) => Err(InsertError::Refused(refused)),
+            Err(NotInserted::NoRoom(refused)) => Err(InsertError::Refused(refused)),
         }
     }
 
@@ -73,7 +72,7 @@ impl<T: IdOrdItem> IdOrdMap<T> {
         ensures put { IfOk result (OrdOverwrites T.key T.Key.eq T.Key.cmp item self.old self.new) }
 
         // on refusal
-        ensures refused { IfErr result (HandsBack T.key T.Key.eq self.old item) }
+        ensures refused { IfErr result (ReturnsItem T.key T.Key.eq self.old item) }
         ensures kept { OnErr result (OrdKeeps T.key T.Key.cmp self.old self.new) }
 
         // either way
@@ -81,10 +80,10 @@ impl<T: IdOrdItem> IdOrdMap<T> {
     {
         match self.insert_or_find(item, &mut Steps::new()) {
             Ok(_) => Ok(None),
-            Err(Missed::Akin(item, slot)) => {
+            Err(NotInserted::Akin(item, slot)) => {
                 Ok(Some(mem::replace(self.item_in_slot_mut(slot), item)))
             }
-            Err(Missed::NoRoom(refused)) => Err(refused),
+            Err(NotInserted::NoRoom(refused)) => Err(refused),
         }
     }
 

@@ -6,16 +6,7 @@ ghost use Rattle.iddqd_ord_index.specs.Digits.{digits};
 
 use super::IdOrdMap;
 use iddqd_ord_index::Insertion;
-use iddqd_store::{IdOrdItem, Refused, Steps};
-
-/// Why an item was not inserted.
-#[derive(Drop)]
-pub(super) enum Missed<T> {
-    // An item of an equal key exists: the new item, and the slot of that one. Nothing has changed.
-    Akin(T, u32),
-    // There was no room.
-    NoRoom(Refused<T>),
-}
+use iddqd_store::{IdOrdItem, NotInserted, Refused, Steps};
 
 impl<T: IdOrdItem> IdOrdMap<T> {
     ghost use Rattle.iddqd_ord.specs.Inserting.{IsInsertedIn, MissesItem};
@@ -23,7 +14,11 @@ impl<T: IdOrdItem> IdOrdMap<T> {
 
     // Inserts the item if no item has an equal key, and returns its slot. Allocates only if the store has no room, or
     // if a full leaf has to be split and too few unused blocks are kept. It goes down the index twice then.
-    pub(super) fn insert_or_find(&mut self, item: T, steps: &mut Steps) -> Result<u32, Missed<T>>
+    pub(super) fn insert_or_find(
+        &mut self,
+        item: T,
+        steps: &mut Steps,
+    ) -> Result<u32, NotInserted<T, Refused<T>>>
         requires keyed { Ascends T.key T.Key.cmp self.old.items }
 
         // on success
@@ -42,22 +37,29 @@ impl<T: IdOrdItem> IdOrdMap<T> {
         let Some(slot) = self.store.next_slot() else {
             return self.insert_without_room(item, steps);
         };
-        match self.index.insert_by(&self.store, item.key(), slot, steps) {
-            Insertion::Found(there) => Err(Missed::Akin(item, there)),
+        match self
+            .index
+            .insert_by_key(&self.store, item.key(), slot, steps)
+        {
+            Insertion::Found(there) => Err(NotInserted::Akin(item, there)),
             Insertion::Inserted => {
                 self.store.insert_into(slot, item);
                 Ok(slot)
             }
             Insertion::Unprepared(place) => match self.insert_at_place(place, item) {
                 Ok(slot) => Ok(slot),
-                Err(refused) => Err(Missed::NoRoom(refused)),
+                Err(refused) => Err(NotInserted::NoRoom(refused)),
             },
         }
     }
 
     // As `insert_or_find`, which calls it if the store has no room. It goes down the index twice.
     #[inline(never)]
-    fn insert_without_room(&mut self, item: T, steps: &mut Steps) -> Result<u32, Missed<T>>
+    fn insert_without_room(
+        &mut self,
+        item: T,
+        steps: &mut Steps,
+    ) -> Result<u32, NotInserted<T, Refused<T>>>
         requires keyed { Ascends T.key T.Key.cmp self.old.items }
 
         // on success
@@ -74,10 +76,10 @@ impl<T: IdOrdItem> IdOrdMap<T> {
         ensures never_resets { steps.old ≤ steps.new }
     {
         match self.index.find_slot(&self.store, item.key(), steps) {
-            Ok((_, slot)) => Err(Missed::Akin(item, slot)),
+            Ok((_, slot)) => Err(NotInserted::Akin(item, slot)),
             Err(place) => match self.insert_at_place(place, item) {
                 Ok(slot) => Ok(slot),
-                Err(refused) => Err(Missed::NoRoom(refused)),
+                Err(refused) => Err(NotInserted::NoRoom(refused)),
             },
         }
     }

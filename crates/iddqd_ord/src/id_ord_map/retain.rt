@@ -1,15 +1,12 @@
 //! Keeping some of the items.
-ghost use Rattle.std.specs.Prelude.{◌≡◌, ◌<◌, length, remove, slice_get, Some};
+ghost use Rattle.std.specs.Prelude.{◌≡◌, ◌<◌, length};
 ghost use Rattle.std.specs.Fn.{CalledAt};
 ghost use Rattle.std.specs.List.Retain.{IsFiltered};
 ghost use Rattle.iddqd_store.specs.Contents.{Ascends};
-ghost use Rattle.iddqd_store.specs.Holding.{LeavesSlots, Removes};
-ghost use Rattle.iddqd_store.specs.SlotItems.{HaveSlots};
+ghost use Rattle.iddqd_store.specs.Holding.{LeavesSlots};
 ghost use Rattle.iddqd_store.specs.Visiting.{VisitsKeepKeys, kept_by, visitor_after};
 
 use super::IdOrdMap;
-use super::store_and_index::remove_from_both;
-use iddqd_ord_index::Place;
 use iddqd_store::{IdOrdItem, Visit};
 
 impl<T: IdOrdItem> IdOrdMap<T> {
@@ -72,33 +69,5 @@ impl<T: IdOrdItem> IdOrdMap<T> {
     {
         let slot = self.slot_at_position(at);
         visitor.visit(self.item_in_slot_mut(slot))
-    }
-
-    // Removes and returns the item at this position.
-    pub(super) fn take_at_position(&mut self, at: usize) -> T
-        requires keyed { Ascends T.key T.Key.cmp self.old.items }
-        requires in_list { at < length self.old.items }
-        ensures items { self.new.items ≡ remove self.old.items at }
-        ensures removed { Removes (Some result) self.old self.new }
-        ensures keyed { Ascends T.key T.Key.cmp self.new.items }
-    {
-        let place = self.index.place(at);
-        self.take_at_place(place)
-    }
-
-    // Removes and returns the item at the place.
-    pub(super) fn take_at_place(&mut self, place: Place) -> T
-        requires keyed { Ascends T.key T.Key.cmp self.old.items }
-        requires in_list { place < length self.old.slots }
-        ensures item { slice_get self.old.items place ≡ Some result }
-
-        // what is left
-        ensures items { self.new.items ≡ remove self.old.items place }
-        ensures slots { self.new.slots ≡ remove self.old.slots place }
-        ensures own { HaveSlots self.old.slots self.old.items }
-        ensures removed { Removes (Some result) self.old self.new }
-        ensures keyed { Ascends T.key T.Key.cmp self.new.items }
-    {
-        remove_from_both(&mut self.store, &mut self.index, place)
     }
 }

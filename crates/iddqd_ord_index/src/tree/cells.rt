@@ -13,10 +13,10 @@ pub(crate) fn insert<T: Drop>(cells: &mut [Option<T>], i: usize, item: T)
     ensures items { items_present cells.new ≡ insert (items_present cells.old) i item }
 {
     cells[MOST_BRANCHES - 1] = Some(item);
-    last_to(cells, i);
+    rotate_in(cells, i);
 }
 
-pub(crate) fn last_to<T>(cells: &mut [T], i: usize)
+pub(crate) fn rotate_in<T>(cells: &mut [T], i: usize)
     requires { i < length cells.old }
     ensures { InsertsLast i cells.old cells.new }
 {
@@ -32,14 +32,14 @@ pub(crate) fn remove<T: Drop>(cells: &mut [Option<T>], i: usize) -> T
     ensures value { result ≡ slice_index_or (items_present cells.old) i result }
 {
     let item = cells[i].take();
-    to_last(cells, i);
+    rotate_out(cells, i);
     match item {
         Some(item) => item,
         None => unreachable!(),
     }
 }
 
-pub(crate) fn to_last<T>(cells: &mut [T], i: usize)
+pub(crate) fn rotate_out<T>(cells: &mut [T], i: usize)
     requires { i < length cells.old }
     ensures { (d : T) → cells.new ≡ remove cells.old i ++ slice_index_or cells.old i d ∷ [] }
 {

@@ -4,22 +4,22 @@ ghost use Rattle.std.specs.Prelude.{◌≡◌, ◌+◌, ◌^◌, ◌<◌, ◌≤
 ghost use Rattle.iddqd_ord_index.specs.Nodes.{below};
 ghost use Rattle.iddqd_ord_index.specs.Shape.{unused};
 
-mod below;
+mod branches;
+mod by_position;
 mod clone;
 mod find;
 mod first_last;
 mod insert;
-mod insert_by;
+mod insert_by_key;
 mod pair;
-mod places;
 mod remove;
-mod remove_by;
+mod remove_by_key;
 mod walk;
 mod walk_back;
 
 use crate::tree::slots::{MOST_SLOTS, Slots};
 use arrayvec::ArrayVec;
-pub(crate) use insert_by::Outcome;
+pub(crate) use insert_by_key::Outcome;
 use std::marker::Model;
 pub(crate) use walk::LeafWalk;
 pub(crate) use walk_back::LeafWalkBack;

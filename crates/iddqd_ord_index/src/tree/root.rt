@@ -41,12 +41,18 @@ pub(crate) fn add(
     let Some((middle, upper)) = root.add(at, slot, pool) else {
         return levels;
     };
-    rise(root, len, middle, upper, pool);
+    push_root_level(root, len, middle, upper, pool);
     levels + 1
 }
 
 // Makes a root above the halves of the one that was split. `total` is how many slots both have, without `middle`.
-pub(crate) fn rise(root: &mut Node, total: u32, middle: u32, upper: Node, pool: &mut BlockPool)
+pub(crate) fn push_root_level(
+    root: &mut Node,
+    total: u32,
+    middle: u32,
+    upper: Node,
+    pool: &mut BlockPool,
+)
     requires lower { IsBranch (root.old.height + 1) root.old }
     requires upper { IsBranch (root.old.height + 1) upper }
     requires total { total ≡ length root.old.slots + length upper.slots }
@@ -88,12 +94,12 @@ pub(crate) fn remove(root: &mut Node, levels: usize, at: u32, pool: &mut BlockPo
     ensures fallen { result.1 < levels → pool.new.wanted ≤ pool.new.count }
 {
     let slot = root.remove(at, pool);
-    (slot, fall(root, levels, pool))
+    (slot, pop_root_level(root, levels, pool))
 }
 
 // Removes the slot whose item has the query's key, and returns it with the number of levels. If there is none, it returns
 // `None`, and the root is as it was.
-pub(crate) fn remove_by<T: IdOrdItem, Q: Comparable<T::Key>>(
+pub(crate) fn remove_by_key<T: IdOrdItem, Q: Comparable<T::Key>>(
     root: &mut Node,
     levels: usize,
     store: &ItemStore<T>,
@@ -123,12 +129,12 @@ pub(crate) fn remove_by<T: IdOrdItem, Q: Comparable<T::Key>>(
     ensures steps { steps.new ≤ steps.old + 4 * root.old.height }
     ensures never_resets { steps.old ≤ steps.new }
 {
-    let slot = root.remove_by(store, query, pool, steps);
-    (slot, fall(root, levels, pool))
+    let slot = root.remove_by_key(store, query, pool, steps);
+    (slot, pop_root_level(root, levels, pool))
 }
 
 // Lets the root fall a level if it has lost its last slot of its own, and returns the number of levels.
-fn fall(root: &mut Node, levels: usize, pool: &mut BlockPool) -> usize
+fn pop_root_level(root: &mut Node, levels: usize, pool: &mut BlockPool) -> usize
     requires levels { levels ≡ root.old.height }
     requires dense { IsDense root.old }
     requires wanted { 1 < levels → WantsFor levels pool.old }

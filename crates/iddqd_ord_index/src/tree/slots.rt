@@ -63,7 +63,7 @@ impl Slots {
     {
         let len = self.len as usize;
         self.cells[len] = slot;
-        cells::last_to(&mut self.cells[..len + 1], i);
+        cells::rotate_in(&mut self.cells[..len + 1], i);
         self.len += 1;
     }
 
@@ -76,7 +76,7 @@ impl Slots {
     {
         let len = self.len as usize;
         let slot = self.cells[i];
-        cells::to_last(&mut self.cells[..len], i);
+        cells::rotate_out(&mut self.cells[..len], i);
         self.len -= 1;
         slot
     }

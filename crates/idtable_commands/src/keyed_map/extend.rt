@@ -11,7 +11,7 @@ use iddqd::internal::room_to_reserve;
 
 // An item that was not inserted.
 #[derive(Drop)]
-pub(crate) enum NotTaken<T> {
+pub(crate) enum NotInserted<T> {
     // One of an equal key is there.
     Akin(T),
     // There was no room.
@@ -34,11 +34,11 @@ where
     }
     match insert_each(map, items) {
         Ok(()) => Ok(map.lend_nothing()),
-        Err(NotTaken::Akin(item)) => {
+        Err(NotInserted::Akin(item)) => {
             let there = Few::One(map.akin(&item).unwrap());
             Err(ExtendUniqueError::Duplicate(DuplicateItem::internal_new(item, there)))
         }
-        Err(NotTaken::Refused(refused)) => Err(ExtendUniqueError::Refused(ExtendError {
+        Err(NotInserted::Refused(refused)) => Err(ExtendUniqueError::Refused(ExtendError {
             item: Some(refused.item),
             error: refused.error,
         })),
@@ -46,7 +46,7 @@ where
 }
 
 // Inserts the items up to the first that is not inserted, and lends nothing.
-fn insert_each<M: KeyedMap>(map: &mut M, items: Vec<M::Item>) -> Result<(), NotTaken<M::Item>>
+fn insert_each<M: KeyedMap>(map: &mut M, items: Vec<M::Item>) -> Result<(), NotInserted<M::Item>>
 where
     M::Item: Drop,
     requires keyed { M.keyed map.old }
@@ -62,7 +62,7 @@ where
 }
 
 // Inserts the item, and lends nothing.
-fn insert_one<M: KeyedMap>(map: &mut M, item: M::Item) -> Result<(), NotTaken<M::Item>>
+fn insert_one<M: KeyedMap>(map: &mut M, item: M::Item) -> Result<(), NotInserted<M::Item>>
 where
     M::Item: Drop,
     requires keyed { M.keyed map.old }
@@ -72,7 +72,7 @@ where
 {
     match map.insert_unique(item) {
         Ok(()) => Ok(()),
-        Err(InsertError::Duplicate(duplicate)) => Err(NotTaken::Akin(duplicate.into_parts().0)),
-        Err(InsertError::Refused(refused)) => Err(NotTaken::Refused(refused)),
+        Err(InsertError::Duplicate(duplicate)) => Err(NotInserted::Akin(duplicate.into_parts().0)),
+        Err(InsertError::Refused(refused)) => Err(NotInserted::Refused(refused)),
     }
 }

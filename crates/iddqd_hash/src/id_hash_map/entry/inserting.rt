@@ -7,7 +7,7 @@ use iddqd_store::{IdHashItem, Refused};
 use std::hash::BuildHasher;
 
 impl<T: IdHashItem, S: BuildHasher> IdHashMap<T, S> {
-    ghost use Rattle.iddqd_hash.specs.HashMap.{HashHandsBack, HashInserts, HashKeeps, IsInsertedAt};
+    ghost use Rattle.iddqd_hash.specs.HashMap.{HashReturnsItem, HashInserts, HashKeeps, IsInsertedAt};
 
     // Inserts an item whose key no other has, and returns its slot and its hash.
     pub(super) fn insert_absent(&mut self, item: T) -> Result<(u32, u64), Refused<T>>
@@ -20,7 +20,7 @@ impl<T: IdHashItem, S: BuildHasher> IdHashMap<T, S> {
 
         // on refusal
         ensures kept { OnErr result (HashKeeps ⟦<Self as Keyed>⟧.keyed self.old self.new) }
-        ensures refused { IfErr result (HashHandsBack T.key T.Key.eq self.old item) }
+        ensures refused { IfErr result (HashReturnsItem T.key T.Key.eq self.old item) }
     {
         let hash = self.hasher.hash_one(item.key());
         let slot = self.insert_hashed(hash, item)?;

@@ -1,7 +1,7 @@
 //! The calls of an entry that is occupied or vacant.
-ghost use Rattle.std.specs.Prelude.{◌≡◌, IfErr, IfOk, None};
+ghost use Rattle.std.specs.Prelude.{◌≡◌, IfErr, IfOk, OnErr, None};
 ghost use Rattle.std.specs.Borrow.{sem};
-ghost use Rattle.iddqd_hash.specs.Entry.{EntryHandsBack, LacksKeyOf, LacksKeysOf, LendsIfOccupied, LendsIfVacant, LendsMade, VisitsEntry, VisitKeepsKey, entry_item, entry_map, entry_lender, lent_or_kept};
+ghost use Rattle.iddqd_hash.specs.Entry.{EntryReturnsItem, LacksKeyOf, LacksKeysOf, LendsIfOccupied, LendsIfVacant, LendsMade, VisitsEntry, VisitKeepsKey, entry_item, entry_map, entry_lender, lent_or_kept};
 ghost use Rattle.iddqd_hash.specs.Guard.{GuardKeeps, GuardKeepsAkin, guard_lender};
 
 use super::{Entry, OccupiedEntry};
@@ -29,8 +29,8 @@ impl<'a, T: IdHashItem, S: BuildHasher> Entry<'a, T, S> {
 
         // on refusal
         ensures* kept { sem 𝓛 (lent_or_kept S.row T.row ⟦<Map<T, S> as Keyed>⟧ self.entry result) }
-        ensures absent { IfErr result (λ refused. entry_item self.entry ≡ None) }
-        ensures refused { IfErr result (EntryHandsBack T.key T.Key.eq self.entry item) }
+        ensures vacant { OnErr result (entry_item self.entry ≡ None) }
+        ensures refused { IfErr result (EntryReturnsItem T.key T.Key.eq self.entry item) }
     {
         match self {
             Entry::Occupied(entry) => {
@@ -60,9 +60,9 @@ impl<'a, T: IdHashItem, S: BuildHasher> Entry<'a, T, S> {
 
         // on refusal
         ensures* kept { sem 𝓛 (lent_or_kept S.row T.row ⟦<Map<T, S> as Keyed>⟧ self.entry result) }
-        ensures absent { IfErr result (λ refused. entry_item self.entry ≡ None) }
+        ensures vacant { OnErr result (entry_item self.entry ≡ None) }
         ensures item { IfErr result (λ refused. F.post make refused.item) }
-        ensures refused { IfErr result (λ e. EntryHandsBack T.key T.Key.eq self.entry e.item e) }
+        ensures refused { IfErr result (λ e. EntryReturnsItem T.key T.Key.eq self.entry e.item e) }
     {
         match self {
             Entry::Occupied(found) => {

@@ -1,7 +1,7 @@
 //! Insertions by a vacant entry. Each looks at the limit first, then asks for memory, and only then changes anything.
 ghost use Rattle.std.specs.Prelude.{◌≡◌, IfErr, IfOk};
 ghost use Rattle.std.specs.Borrow.{sem};
-ghost use Rattle.iddqd_hash.specs.Entry.{EntersInserted as Enters, EntryHandsBack, LacksKeyOf, LendsInserted as Lends, Vacant, entry_map, entry_lender, entry_or_kept, guard_or_kept};
+ghost use Rattle.iddqd_hash.specs.Entry.{EntersInserted as Enters, EntryReturnsItem, LacksKeyOf, LendsInserted as Lends, Vacant, entry_map, entry_lender, entry_or_kept, guard_or_kept};
 ghost use Rattle.iddqd_hash.specs.Guard.{GuardKeeps, GuardKeepsAkin, guard_lender};
 
 use super::{OccupiedEntry, VacantEntry};
@@ -28,7 +28,7 @@ impl<'a, T: IdHashItem, S: BuildHasher> VacantEntry<'a, T, S> {
 
         // on refusal
         ensures* kept { sem 𝓛 (guard_or_kept S.row T.row ⟦<Map<T, S> as Keyed>⟧ self.entry result) }
-        ensures refused { IfErr result (EntryHandsBack T.key T.Key.eq (Vacant self.entry) item) }
+        ensures refused { IfErr result (EntryReturnsItem T.key T.Key.eq (Vacant self.entry) item) }
     {
         let VacantEntry { map } = self;
         match map.insert_absent(item) {
@@ -47,7 +47,7 @@ impl<'a, T: IdHashItem, S: BuildHasher> VacantEntry<'a, T, S> {
         requires absent { LacksKeyOf T.key T.Key.eq item (Vacant self) }
         ensures inserted { IfOk result (Enters ⟦<Map<T, S> as Keyed>⟧ item (Vacant self.entry)) }
         ensures* kept { sem 𝓛 (entry_or_kept S.row T.row ⟦<Map<T, S> as Keyed>⟧ self.entry result) }
-        ensures refused { IfErr result (EntryHandsBack T.key T.Key.eq (Vacant self.entry) item) }
+        ensures refused { IfErr result (EntryReturnsItem T.key T.Key.eq (Vacant self.entry) item) }
     {
         let VacantEntry { map } = self;
         match map.insert_absent(item) {

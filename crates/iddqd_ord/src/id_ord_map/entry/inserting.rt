@@ -1,12 +1,11 @@
 //! What each insertion by an entry does to the map.
 ghost use Rattle.std.specs.Prelude.{IfErr, IfOk, OnErr, OnOk};
-ghost use Rattle.iddqd_store.specs.Refusal.{HandsBack};
+ghost use Rattle.iddqd_store.specs.Refusal.{ReturnsItem};
 ghost use Rattle.iddqd_store.specs.Contents.{Ascends, IsAbsent};
 
 use crate::id_ord_map::IdOrdMap;
-use crate::id_ord_map::insert_or_find::Missed;
 use iddqd_ord_index::Place;
-use iddqd_store::{IdOrdItem, Refused, Steps};
+use iddqd_store::{IdOrdItem, NotInserted, Refused, Steps};
 
 impl<T: IdOrdItem> IdOrdMap<T> {
     ghost use Rattle.iddqd_ord.specs.Guard.{IsInsertedAt};
@@ -24,12 +23,12 @@ impl<T: IdOrdItem> IdOrdMap<T> {
 
         // on refusal
         ensures kept { OnErr result (OrdKeeps T.key T.Key.cmp self.old self.new) }
-        ensures refused { IfErr result (HandsBack T.key T.Key.eq self.old item) }
+        ensures refused { IfErr result (ReturnsItem T.key T.Key.eq self.old item) }
     {
         match self.insert_or_find(item, &mut Steps::new()) {
             Ok(slot) => Ok(slot),
-            Err(Missed::Akin(_, _)) => unreachable!(),
-            Err(Missed::NoRoom(refused)) => Err(refused),
+            Err(NotInserted::Akin(_, _)) => unreachable!(),
+            Err(NotInserted::NoRoom(refused)) => Err(refused),
         }
     }
 
@@ -44,7 +43,7 @@ impl<T: IdOrdItem> IdOrdMap<T> {
 
         // on refusal
         ensures kept { OnErr result (OrdKeeps T.key T.Key.cmp self.old self.new) }
-        ensures refused { IfErr result (HandsBack T.key T.Key.eq self.old item) }
+        ensures refused { IfErr result (ReturnsItem T.key T.Key.eq self.old item) }
     {
         match self.index.find(&self.store, item.key(), &mut Steps::new()) {
             Ok(_) => unreachable!(),

@@ -1,8 +1,8 @@
 //! The calls of an entry that is occupied or vacant.
-ghost use Rattle.std.specs.Prelude.{◌≡◌, IfErr, IfOk, None};
+ghost use Rattle.std.specs.Prelude.{◌≡◌, IfErr, IfOk, OnErr, None};
 ghost use Rattle.std.specs.Borrow.{sem};
 ghost use Rattle.iddqd_store.specs.Contents.{Ascends};
-ghost use Rattle.iddqd_ord.specs.Entry.{EntryHandsBack, EntryRefuses, LacksKeyOf, LendsIfOccupied, LendsIfVacant, LendsMade, MakesAbsent, ShowsIfOccupied, ShowsIfVacant, ShowsMade, VisitKeepsKey, VisitsEntry, entry_item, entry_map, entry_lender, lends_or_keeps, shows_or_keeps};
+ghost use Rattle.iddqd_ord.specs.Entry.{EntryReturnsItem, EntryRefuses, LacksKeyOf, LendsIfOccupied, LendsIfVacant, LendsMade, MakesAbsent, ShowsIfOccupied, ShowsIfVacant, ShowsMade, VisitKeepsKey, VisitsEntry, entry_item, entry_map, entry_lender, lends_or_keeps, shows_or_keeps};
 ghost use Rattle.iddqd_ord.specs.Guard.{GuardKeeps, GuardKeepsAkin, guard_lender, shown_lender};
 
 use super::{Entry, OccupiedEntry};
@@ -29,8 +29,8 @@ impl<'a, T: IdOrdItem> Entry<'a, T> {
         ensures keyed_akin { IfOk result (GuardKeepsAkin T.key T.Key.cmp T.Key.eq) }
 
         // on refusal
-        ensures absent { IfErr result (λ refused. entry_item self.entry ≡ None) }
-        ensures refused { IfErr result (EntryHandsBack T.key T.Key.eq item self.entry) }
+        ensures vacant { OnErr result (entry_item self.entry ≡ None) }
+        ensures refused { IfErr result (EntryReturnsItem T.key T.Key.eq item self.entry) }
     {
         match self {
             Entry::Occupied(entry) => {
@@ -64,7 +64,7 @@ impl<'a, T: IdOrdItem> Entry<'a, T> {
         ensures keyed_akin { IfOk result (GuardKeepsAkin T.key T.Key.cmp T.Key.eq) }
 
         // on refusal
-        ensures absent { IfErr result (λ refused. entry_item self.entry ≡ None) }
+        ensures vacant { OnErr result (entry_item self.entry ≡ None) }
         ensures item { IfErr result (λ refused. F.post make refused.item) }
         ensures refused { IfErr result (EntryRefuses T.key T.Key.eq self.entry) }
     {
@@ -99,8 +99,8 @@ impl<'a, T: IdOrdItem> Entry<'a, T> {
         ensures inserted { IfOk result (ShowsIfVacant T.key T.Key.cmp item self.entry) }
 
         // on refusal
-        ensures absent { IfErr result (λ refused. entry_item self.entry ≡ None) }
-        ensures refused { IfErr result (EntryHandsBack T.key T.Key.eq item self.entry) }
+        ensures vacant { OnErr result (entry_item self.entry ≡ None) }
+        ensures refused { IfErr result (EntryReturnsItem T.key T.Key.eq item self.entry) }
     {
         match self {
             Entry::Occupied(entry) => {
@@ -128,7 +128,7 @@ impl<'a, T: IdOrdItem> Entry<'a, T> {
         ensures inserted { IfOk result (ShowsMade T.key T.Key.cmp (F.post make) self.entry) }
 
         // on refusal
-        ensures absent { IfErr result (λ refused. entry_item self.entry ≡ None) }
+        ensures vacant { OnErr result (entry_item self.entry ≡ None) }
         ensures item { IfErr result (λ refused. F.post make refused.item) }
         ensures refused { IfErr result (EntryRefuses T.key T.Key.eq self.entry) }
     {

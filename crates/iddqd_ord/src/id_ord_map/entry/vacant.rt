@@ -2,7 +2,7 @@
 ghost use Rattle.std.specs.Prelude.{◌≡◌, IfErr, IfOk};
 ghost use Rattle.std.specs.Borrow.{sem};
 ghost use Rattle.iddqd_store.specs.Contents.{Ascends};
-ghost use Rattle.iddqd_ord.specs.Entry.{EntersInserted, EntryHandsBack, LacksKeyOf, LendsInserted, ShowsInserted, Vacant, entry_map, entry_lender, enters_or_keeps, lends_or_keeps, shows_or_keeps};
+ghost use Rattle.iddqd_ord.specs.Entry.{EntersInserted, EntryReturnsItem, LacksKeyOf, LendsInserted, ShowsInserted, Vacant, entry_map, entry_lender, enters_or_keeps, lends_or_keeps, shows_or_keeps};
 ghost use Rattle.iddqd_ord.specs.Guard.{GuardKeeps, GuardKeepsAkin, guard_lender, shown_lender};
 
 use super::{OccupiedEntry, VacantEntry};
@@ -28,7 +28,7 @@ impl<'a, T: IdOrdItem> VacantEntry<'a, T> {
         ensures keyed_akin { IfOk result (GuardKeepsAkin T.key T.Key.cmp T.Key.eq) }
 
         // on refusal
-        ensures refused { IfErr result (EntryHandsBack T.key T.Key.eq item (Vacant self.entry)) }
+        ensures refused { IfErr result (EntryReturnsItem T.key T.Key.eq item (Vacant self.entry)) }
     {
         let VacantEntry { map } = self;
         match map.insert_absent(item) {
@@ -52,7 +52,7 @@ impl<'a, T: IdOrdItem> VacantEntry<'a, T> {
         ensures inserted { IfOk result (ShowsInserted T.key T.Key.cmp item (Vacant self.entry)) }
 
         // on refusal
-        ensures refused { IfErr result (EntryHandsBack T.key T.Key.eq item (Vacant self.entry)) }
+        ensures refused { IfErr result (EntryReturnsItem T.key T.Key.eq item (Vacant self.entry)) }
     {
         let VacantEntry { map } = self;
         match map.insert_absent(item) {
@@ -71,7 +71,7 @@ impl<'a, T: IdOrdItem> VacantEntry<'a, T> {
         ensures inserted { IfOk result (EntersInserted T.key T.Key.cmp item (Vacant self.entry)) }
 
         // on refusal
-        ensures refused { IfErr result (EntryHandsBack T.key T.Key.eq item (Vacant self.entry)) }
+        ensures refused { IfErr result (EntryReturnsItem T.key T.Key.eq item (Vacant self.entry)) }
     {
         let VacantEntry { map } = self;
         match map.insert_absent_with_place(item) {

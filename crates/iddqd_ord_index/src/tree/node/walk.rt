@@ -100,7 +100,7 @@ impl Node {
                 return LeafWalk::along(&node.slots.as_slice()[i..i + 1]);
             }
             slots = &node.slots.as_slice()[i..];
-            leaves = node.branches.behind(i);
+            leaves = node.branches.branches_after(i);
             node = node.branches.get(i);
             place = rest;
         }

@@ -80,7 +80,7 @@ impl Node {
                 return LeafWalkBack::along(&node.slots.as_slice()[i..i + 1]);
             }
             slots = &node.slots.as_slice()[..i];
-            leaves = node.branches.ahead(i);
+            leaves = node.branches.branches_before(i);
             node = node.branches.get(i);
             place = rest;
         }

@@ -14,10 +14,10 @@ loop-item-preserved g c =
     let x = c.in-Some.item in
     let inv = c.loop-item.invariant in
     let goes = on x c.in-Some.is c.next.ensures.goes inv.1 in
-    let put = c.in_ok-insert_or_take.ensures.inserted in (
+    let put = c.in_ok-insert_or_remove.ensures.inserted in (
       goes.0,
       goes.1,
-      collects_last x c.loop-item.yielded c.loop-item.map.items c.insert_or_take.new.self.items inv.2 put.inserts.added,
+      collects_last x c.loop-item.yielded c.loop-item.map.items c.insert_or_remove.new.self.items inv.2 put.inserts.added,
       put.stays.spare.spare_fits,
       omega (arith, put.inserts.vacant, inv.4),
       put.inserts.limit ∙ inv.5,
@@ -32,8 +32,8 @@ returns-in-Err g c = record {
   collected = tt;
 }
 
-pub returns-in_err-insert_or_take : goal.returns-in_err-insert_or_take
-returns-in_err-insert_or_take g c =
+pub returns-in_err-insert_or_remove : goal.returns-in_err-insert_or_remove
+returns-in_err-insert_or_remove g c =
     let key = g.T.IdHashItem.key in
     let inv = c.loop-item.invariant in
     let back = err_from_is_err_and c.from_residual.result c.from_residual.ensures.1 in
@@ -41,7 +41,7 @@ returns-in_err-insert_or_take g c =
     let gives = GivesThen g.U.IntoIterator.into_iter_gives g.U.IntoIter.Iterator.next_gives c.args.iter in
     rw back.1 (record {
       items = tt;
-      repeat = shows_first (by_one_key key g.met.T.Key.Eq.laws) c.loop-item.yielded items inv.2 inv.7.differ gives c.in-Some.item _ (gives_then g.U.IntoIterator.into_iter_gives g.U.IntoIter.Iterator.next_gives c.args.iter c.loop-item.yielded c.in-Some.item (search rules)) (rw back.2 c.in_err-insert_or_take.ensures.akin);
+      repeat = shows_first (by_one_key key g.met.T.Key.Eq.laws) c.loop-item.yielded items inv.2 inv.7.differ gives c.in-Some.item _ (gives_then g.U.IntoIterator.into_iter_gives g.U.IntoIter.Iterator.next_gives c.args.iter c.loop-item.yielded c.in-Some.item (search rules)) (rw back.2 c.in_err-insert_or_remove.ensures.akin);
       collected = tt;
     })
 

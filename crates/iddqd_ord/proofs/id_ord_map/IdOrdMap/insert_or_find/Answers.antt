@@ -34,7 +34,7 @@ invariant_of-self-in-Inserted g c =
     let slot = c.in-Some.slot in
     let free = c.in-Some.ensures.slot.free in
     let put = c.insert_into in
-    let slots : c.insert_by.new.self.slots ≡ insert m.index.slots place slot = ap (λ i. i.slots) ins.2 in
+    let slots : c.insert_by_key.new.self.slots ≡ insert m.index.slots place slot = ap (λ i. i.slots) ins.2 in
     let within : place ≤ length m.index.slots = omega (arith, ins.1.0, length-map (listed_items m.store m.index.slots) key, length-listed m.store m.index.slots c.self.invariant.occupied) in
     subst (ListsOccupied put.new.self) (sym slots) (paired_added m.store put.new.self m.index.slots c.self.invariant slot place item within free put.ensures.updates put.ensures.len)
 
@@ -44,7 +44,7 @@ returns-in-Found-clause-missed g c =
     let item = c.args.item in
     let items = c.args.self.now.items in
     let m = c.self.inside in
-    let view : shown m.store c.insert_by.new.self ≡ c.args.self.now = ap (λ i. shown m.store i) c.in-Found.ensures.kept ∙ c.self.view_is in
+    let view : shown m.store c.insert_by_key.new.self ≡ c.args.self.now = ap (λ i. shown m.store i) c.in-Found.ensures.kept ∙ c.self.view_is in
     let test = g.T.Key.PartialEq.eq (key item) in
     let slot = c.in-Found.there in
     let found = rw c.key.ensures at c.in-Found.ensures.found in
@@ -63,7 +63,7 @@ returns-in-Found-clause-steps g c =
     let items = c.args.self.now.items in
     let m = c.self.inside in
     let bound = bound_of m.store m.index.slots c.self.invariant items (ap (λ v. v.items) c.self.view_is) in
-    omega (arith, c.insert_by.ensures.steps, bound)
+    omega (arith, c.insert_by_key.ensures.steps, bound)
 
 pub returns-in-Inserted-clause-inserted : goal.returns-in-Inserted-clause-inserted
 returns-in-Inserted-clause-inserted g c =
@@ -76,9 +76,9 @@ returns-in-Inserted-clause-inserted g c =
     let slot = c.in-Some.slot in
     let free = c.in-Some.ensures.slot.free in
     let put = c.insert_into in
-    let slots : c.insert_by.new.self.slots ≡ insert m.index.slots place slot = ap (λ i. i.slots) ins.2 in
+    let slots : c.insert_by_key.new.self.slots ≡ insert m.index.slots place slot = ap (λ i. i.slots) ins.2 in
     let within : place ≤ length m.index.slots = omega (arith, ins.1.0, length-map (listed_items m.store m.index.slots) key, length-listed m.store m.index.slots c.self.invariant.occupied) in
-    let own = have_slots put.new.self c.insert_by.new.self.slots (invariant_of-self-in-Inserted g c) in
+    let own = have_slots put.new.self c.insert_by_key.new.self.slots (invariant_of-self-in-Inserted g c) in
     let p = rw (ap (λ m. m.items) c.self.view_is, c.key.ensures) at ins.1 in
     let list = ap (listed_items put.new.self) slots ∙ (listed-added m.store put.new.self m.index.slots place slot item c.self.invariant.occupied free put.ensures.updates.changed put.ensures.updates.others ∙ ap (λ v. insert v.items place item) c.self.view_is) in
     record {
@@ -114,12 +114,12 @@ returns-in-Inserted-clause-there g c =
     let slot = c.in-Some.slot in
     let free = c.in-Some.ensures.slot.free in
     let put = c.insert_into in
-    let slots : c.insert_by.new.self.slots ≡ insert m.index.slots place slot = ap (λ i. i.slots) ins.2 in
+    let slots : c.insert_by_key.new.self.slots ≡ insert m.index.slots place slot = ap (λ i. i.slots) ins.2 in
     let within : place ≤ length m.index.slots = omega (arith, ins.1.0, length-map (listed_items m.store m.index.slots) key, length-listed m.store m.index.slots c.self.invariant.occupied) in
-    let own = have_slots put.new.self c.insert_by.new.self.slots (invariant_of-self-in-Inserted g c) in
+    let own = have_slots put.new.self c.insert_by_key.new.self.slots (invariant_of-self-in-Inserted g c) in
     let p = rw (ap (λ m. m.items) c.self.view_is, c.key.ensures) at ins.1 in
     let list = ap (listed_items put.new.self) slots ∙ (listed-added m.store put.new.self m.index.slots place slot item c.self.invariant.occupied free put.ensures.updates.changed put.ensures.updates.others ∙ ap (λ v. insert v.items place item) c.self.view_is) in
-    let new = shown put.new.self c.insert_by.new.self in
+    let new = shown put.new.self c.insert_by_key.new.self in
     let at = ap (λ l. slice_get l place) slots ∙ insert_then_get m.index.slots place slot within in
     let inside : place ≤ length items = omega (arith, p.0, length-map items key) in (
       place,
@@ -138,7 +138,7 @@ returns-in-Inserted-clause-steps g c =
     let items = c.args.self.now.items in
     let m = c.self.inside in
     let bound = bound_of m.store m.index.slots c.self.invariant items (ap (λ v. v.items) c.self.view_is) in
-    omega (arith, c.insert_by.ensures.steps, bound)
+    omega (arith, c.insert_by_key.ensures.steps, bound)
 
 pub returns-in-Ok-clause-absent : goal.returns-in-Ok-clause-absent
 returns-in-Ok-clause-absent g c =
@@ -156,7 +156,7 @@ returns-in-Ok-clause-there g c =
     let item = c.args.item in
     let items = c.args.self.now.items in
     let m = c.self.inside in
-    let view : shown m.store c.insert_by.new.self ≡ c.args.self.now = ap (λ i. shown m.store i) c.in-Unprepared.ensures.kept ∙ c.self.view_is in
+    let view : shown m.store c.insert_by_key.new.self ≡ c.args.self.now = ap (λ i. shown m.store i) c.in-Unprepared.ensures.kept ∙ c.self.view_is in
     let place = c.in-Unprepared.place in
     let p = rw (ap (λ m. m.items) c.self.view_is, c.key.ensures) at c.in-Unprepared.ensures.place in
     let slot = c.in-Ok.slot in
@@ -181,7 +181,7 @@ returns-in-Ok-clause-steps g c =
     let items = c.args.self.now.items in
     let m = c.self.inside in
     let bound = bound_of m.store m.index.slots c.self.invariant items (ap (λ v. v.items) c.self.view_is) in
-    omega (arith, c.insert_by.ensures.steps, bound)
+    omega (arith, c.insert_by_key.ensures.steps, bound)
 
 pub returns-in-Err-clause-missed : goal.returns-in-Err-clause-missed
 returns-in-Err-clause-missed g c =
@@ -189,7 +189,7 @@ returns-in-Err-clause-missed g c =
     let item = c.args.item in
     let items = c.args.self.now.items in
     let m = c.self.inside in
-    let view : shown m.store c.insert_by.new.self ≡ c.args.self.now = ap (λ i. shown m.store i) c.in-Unprepared.ensures.kept ∙ c.self.view_is in
+    let view : shown m.store c.insert_by_key.new.self ≡ c.args.self.now = ap (λ i. shown m.store i) c.in-Unprepared.ensures.kept ∙ c.self.view_is in
     let place = c.in-Unprepared.place in
     let p = rw (ap (λ m. m.items) c.self.view_is, c.key.ensures) at c.in-Unprepared.ensures.place in
     let absent = sym (find_nowhere key (query g (key item)) items c.requires.keyed place p.1 p.2) in
@@ -203,4 +203,4 @@ returns-in-Err-clause-steps g c =
     let items = c.args.self.now.items in
     let m = c.self.inside in
     let bound = bound_of m.store m.index.slots c.self.invariant items (ap (λ v. v.items) c.self.view_is) in
-    omega (arith, c.insert_by.ensures.steps, bound)
+    omega (arith, c.insert_by_key.ensures.steps, bound)

@@ -11,16 +11,16 @@ unreachable-requires g c =
 
 pub returns-clause-packed : goal.returns-clause-packed
 returns-clause-packed g c =
-    let e = removed c.args.cells.now _ _ c.args.i c.requires.packed c.requires.in_bounds c.take-item.ensures.after c.to_last.ensures in
+    let e = removed c.args.cells.now _ _ c.args.i c.requires.packed c.requires.in_bounds c.take-item.ensures.after c.rotate_out.ensures in
     let n = length-remove (items_present c.args.cells.now) c.args.i c.requires.in_bounds in
     packed_is _ (remove (items_present c.args.cells.now) c.args.i) e (omega (arith, c.requires.packed.fits))
 
 pub returns-clause-items : goal.returns-clause-items
 returns-clause-items g c =
-    held_is _ _ (removed c.args.cells.now _ _ c.args.i c.requires.packed c.requires.in_bounds c.take-item.ensures.after c.to_last.ensures)
+    held_is _ _ (removed c.args.cells.now _ _ c.args.i c.requires.packed c.requires.in_bounds c.take-item.ensures.after c.rotate_out.ensures)
 
-pub to_last-requires : goal.to_last-requires
-to_last-requires g c = grind (arith, common_steps)
+pub rotate_out-requires : goal.rotate_out-requires
+rotate_out-requires g c = grind (arith, common_steps)
 
 pub offset_bounds-cells-i : goal.offset_bounds-cells-i
 offset_bounds-cells-i g c = grind (arith, common_steps)

@@ -8,8 +8,8 @@ use Rattle.test_core.proofs.ord_index.Coins.put_by.Goals as goal
 abbrev year : Coin → ℕ
 year coin = coin.year
 
-pub insert_by-requires-clause-absent : goal.insert_by-requires-clause-absent
-insert_by-requires-clause-absent c = vacant_absent year nat_cmp c.self.inside.store c.self.inside.index.slots c.in-Some.slot c.self.invariant c.in-Some.ensures.slot.free
+pub insert_by_key-requires-clause-absent : goal.insert_by_key-requires-clause-absent
+insert_by_key-requires-clause-absent c = vacant_absent year nat_cmp c.self.inside.store c.self.inside.index.slots c.in-Some.slot c.self.invariant c.in-Some.ensures.slot.free
 
 pub invariant_of-self-in-Inserted : goal.invariant_of-self-in-Inserted
 invariant_of-self-in-Inserted c =

@@ -8,4 +8,4 @@ year coin = coin.year
 
 pub invariant_of-self : goal.invariant_of-self
 invariant_of-self c =
-    in_order_removed_by year nat_cmp (nat_cmp c.args.year) c.self.inside.store c.self.inside.index c.remove_by-slot.result c.remove_by-slot.new.self c.self.invariant c.remove_by-slot.ensures.after
+    in_order_removed_by year nat_cmp (nat_cmp c.args.year) c.self.inside.store c.self.inside.index c.remove_by_key-slot.result c.remove_by_key-slot.new.self c.self.invariant c.remove_by_key-slot.ensures.after

@@ -20,7 +20,7 @@ returns-in-Occupied g c =
         inserted = λ none. absurd (absurdly none);
         keyed = λ x w at same. keyed_written g.T.IdHashItem.key g.T.Key.Hash.hash_input (hash_under g.S.BuildHasher g.S.Hasher.Hasher) e.map.now sorted e.slot x w at g.met.T.Key.Eq.laws g.met.T.Key.Hash.respects_eq same;
         keyed_akin = λ x w at akin. keyed_akin_written g.T.IdHashItem.key g.T.Key.Hash.hash_input (hash_under g.S.BuildHasher g.S.Hasher.Hasher) e.map.now sorted e.slot x w at g.met.T.Key.Eq.laws g.met.T.Key.Hash.respects_eq akin;
-        absent = tt;
+        vacant = tt;
         refused = tt;
       },
     )

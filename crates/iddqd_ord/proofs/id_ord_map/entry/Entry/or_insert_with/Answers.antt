@@ -22,7 +22,7 @@ returns-in-Occupied g c =
         inserted = λ none. absurd (absurdly none);
         keyed = λ x w at same. same_key_kept g.T.IdOrdItem.key e.map.now.slots e.map.now.items e.slot x w at g.T.Key.Ord.cmp same sorted;
         keyed_akin = λ x w at akin. akin_key_kept g.T.IdOrdItem.key e.map.now.slots e.map.now.items e.slot x w at g.met.T.Key.Eq.laws akin g.met.T.Key.Ord.total g.met.T.Key.Ord.matches_eq sorted;
-        absent = tt;
+        vacant = tt;
         item = tt;
         refused = tt;
       },

@@ -59,16 +59,16 @@ down-preserved c =
     let v = ap (λ t. length t.slots) c.get-node.ensures in
     let within = rest_within ts ss place i rest f branch_at in
     let lt = branch_at_in ts ss place i rest f branch_at in
-    let us = subtrees c.behind-leaves.result.now in
+    let us = subtrees c.branches_after-leaves.result.now in
     let os = take (length c.as_slice-in-down.result.now - i) (drop i c.as_slice-in-down.result.now) in
-    let u : us ≡ drop (i + 1) ts = c.behind-leaves.ensures.branches in
+    let u : us ≡ drop (i + 1) ts = c.branches_after-leaves.ensures.branches in
     let o : os ≡ drop i ss = take_rest c.as_slice-in-down.result.now i ∙ ap (λ l. drop i l) c.as_slice-in-down.ensures.value in
     let e = ap (λ t. drop place t.slots) (sym n) ∙ below_branch_at ts us ss os child.slots place i rest f branch_at (ap (λ t. t.slots) c.get-node.ensures) u o in
     record {
       within = omega (arith, c.count.ensures, c.if-rest-count.false);
       walk = subst (λ l. BeginsWith l all) e (front_of (drop place c.down.node.now.slots) _ all c.down.invariant.walk);
-      cells = omega (arith, c.behind-leaves.ensures.present, ap length u, ap length o, length-drop (i + 1) ts, length-drop i ss, f.fork (omega arith));
-      present = c.behind-leaves.ensures.present;
+      cells = omega (arith, c.branches_after-leaves.ensures.present, ap length u, ap length o, length-drop (i + 1) ts, length-drop i ss, f.fork (omega arith));
+      present = c.branches_after-leaves.ensures.present;
       heights = subst (λ l. All (λ t. t.height ≡ child.height) l) (sym u) (heights_behind ts ss f i lt child c.get-node.ensures);
     }
 
@@ -99,8 +99,8 @@ slice_bounds-slots-count c = grind (arith, common_steps)
 pub slice_bounds-slots-start : goal.slice_bounds-slots-start
 slice_bounds-slots-start c = grind (arith, common_steps)
 
-pub behind-leaves-requires-clause-in_bounds : goal.behind-leaves-requires-clause-in_bounds
-behind-leaves-requires-clause-in_bounds c = grind (arith, common_steps)
+pub branches_after-leaves-requires-clause-in_bounds : goal.branches_after-leaves-requires-clause-in_bounds
+branches_after-leaves-requires-clause-in_bounds c = grind (arith, common_steps)
 
 pub get-node-requires-clause-in_bounds : goal.get-node-requires-clause-in_bounds
 get-node-requires-clause-in_bounds c = grind (arith, common_steps)

@@ -60,9 +60,9 @@ down-preserved c =
     let within = rest_within ts ss place i rest f branch_at in
     let lt = branch_at_in ts ss place i rest f branch_at in
     let more : rest < length child.slots = omega (arith, c.count.ensures, c.if-rest-count.false) in
-    let us = subtrees c.ahead-leaves.result.now in
+    let us = subtrees c.branches_before-leaves.result.now in
     let os = take i c.as_slice-in-down.result.now in
-    let u : us ≡ take i ts = c.ahead-leaves.ensures.branches in
+    let u : us ≡ take i ts = c.branches_before-leaves.ensures.branches in
     let o : os ≡ take i ss = ap (take i) c.as_slice-in-down.ensures.value in
     let fork = branch_at_fork ts ss place i rest f branch_at in
     let e = ap (λ t. take (place + 1) t.slots) (sym n) ∙ ahead_branch_at ts us ss os child.slots place i rest f branch_at (ap (λ t. t.slots) c.get-node.ensures) more u o in
@@ -70,8 +70,8 @@ down-preserved c =
     record {
       within = more;
       walk = subst (λ l. EndsWith l all) e here;
-      cells = sym c.ahead-leaves.ensures.present ∙ (ap length u ∙ (length-take-le i ts (omega (arith, lt)) ∙ sym (ap length o ∙ length-take-le i ss (omega (arith, lt, fork, length-lists ts)))));
-      present = c.ahead-leaves.ensures.present;
+      cells = sym c.branches_before-leaves.ensures.present ∙ (ap length u ∙ (length-take-le i ts (omega (arith, lt)) ∙ sym (ap length o ∙ length-take-le i ss (omega (arith, lt, fork, length-lists ts)))));
+      present = c.branches_before-leaves.ensures.present;
       heights = subst (λ l. All (λ t. t.height ≡ child.height) l) (sym u) (heights_ahead ts ss f i lt child c.get-node.ensures);
     }
 
@@ -103,8 +103,8 @@ offset_bounds-as_slice-i c = grind (arith, common_steps)
 pub slice_bounds-slots-end-in-down : goal.slice_bounds-slots-end-in-down
 slice_bounds-slots-end-in-down c = grind (arith, common_steps)
 
-pub ahead-leaves-requires-clause-in_bounds : goal.ahead-leaves-requires-clause-in_bounds
-ahead-leaves-requires-clause-in_bounds c = grind (arith, common_steps)
+pub branches_before-leaves-requires-clause-in_bounds : goal.branches_before-leaves-requires-clause-in_bounds
+branches_before-leaves-requires-clause-in_bounds c = grind (arith, common_steps)
 
 pub get-node-requires-clause-in_bounds : goal.get-node-requires-clause-in_bounds
 get-node-requires-clause-in_bounds c = grind (arith, common_steps)
