@@ -4,7 +4,7 @@ ghost use Rattle.std.specs.Prelude.{◌≡◌, ◌+◌, ◌^◌, ◌<◌, ◌≤
 ghost use Rattle.iddqd_ord_index.specs.Nodes.{below};
 ghost use Rattle.iddqd_ord_index.specs.Shape.{unused};
 
-mod branches;
+mod branch_block;
 mod by_position;
 mod clone;
 mod find;
