@@ -6,10 +6,9 @@ ghost use Rattle.iddqd_store.specs.Contents.{Ascends, IsAbsent};
 ghost use Rattle.iddqd_store.specs.Holding.{FillsSlots};
 
 use super::IdOrdMap;
-use super::store_and_index::remove_from_both;
 use iddqd_store::{
-    DuplicateItem, ExtendError, Few, FromIterError, Gives, IdOrdItem, MAX_ITEMS, Steps,
-    TryReserveError, room_to_reserve,
+    DuplicateItem, ExtendError, Few, FromIterError, Gives, IdOrdItem, MAX_ITEMS, NotInserted,
+    Steps, TryReserveError, room_to_reserve,
 };
 use std::alloc::Global;
 
@@ -81,7 +80,8 @@ impl<T: IdOrdItem> IdOrdMap<T> {
     /// Returns a map of the iterator's items, if no two have equal keys. It stops at the first item whose key came
     /// before, and returns it as the new one beside the earlier one, which is removed. Room for the lower bound of the
     /// iterator's `size_hint` is reserved before an item is asked for. After an error all else that was collected is
-    /// dropped, and so is the rest of the iterator. It makes as many comparisons as that many calls of `insert_unique`.
+    /// dropped, and so is the rest of the iterator. It makes as many comparisons as that many calls of `insert_unique`,
+    /// and searches once more for the earlier item of a repeat.
     pub fn from_iter_unique<U: IntoIterator<Item = T>>(
         alloc: Global,
         iter: U,
@@ -119,15 +119,13 @@ impl<T: IdOrdItem> IdOrdMap<T> {
         ensures absent { OnOk result (IsAbsent T.key (T.Key.eq (T.key item)) self.old.items) }
         ensures akin { IfErr result (ShowsAkin T.key T.Key.eq self.old.items item) }
     {
-        match self.index.find(&self.store, item.key(), &mut Steps::new()) {
-            Ok(place) => {
-                let earlier = Few::One(remove_from_both(&mut self.store, &mut self.index, place));
+        match self.insert_or_find(item, &mut Steps::new()) {
+            Ok(_) => Ok(()),
+            Err(NotInserted::Akin(item, _)) => {
+                let earlier = Few::One(self.remove(item.key()).unwrap());
                 Err(FromIterError::Duplicate(DuplicateItem::internal_new(item, earlier)))
             }
-            Err(place) => match self.insert_at_place(place, item) {
-                Ok(_) => Ok(()),
-                Err(refused) => Err(FromIterError::Refused(refused.error)),
-            },
+            Err(NotInserted::NoRoom(refused)) => Err(FromIterError::Refused(refused.error)),
         }
     }
 }
