@@ -17,7 +17,7 @@ use std::test::Fail;
 use test_support::bulk::Hinted;
 use test_support::counting::CountingKey;
 use test_support::hashers::ZeroHasher;
-use test_support::maps::{AskedByKey, Ordered, in_order};
+use test_support::maps::{Ordered, UnderTest, in_order};
 
 // An item that counts how often it is compared, and whose `==` counts no comparison of its key.
 #[derive(Clone, Copy)]
@@ -78,7 +78,7 @@ fn twenty<'a>(
 }
 
 // Whether the items are inserted; the keys have counted nothing then.
-fn go_in<T: Copy + Drop, M: AskedByKey<Item = T>>(
+fn go_in<T: Copy + Drop, K, M: UnderTest<T, K>>(
     map: &mut M,
     items: &[T],
     compared: &Cell<u32>,

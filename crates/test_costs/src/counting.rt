@@ -8,7 +8,7 @@ use std::test::Fail;
 use test_support::counted::Outcome;
 use test_support::counting::{CountingKey, Tallied};
 use test_support::hashers::ZeroHasher;
-use test_support::maps::{AskedByKey, Hashed, Ordered, in_order};
+use test_support::maps::{Hashed, Ordered, UnderTest, in_order};
 
 // This many items, of every second number from the first on.
 pub(crate) fn tallied(

@@ -11,9 +11,9 @@ use std::alloc::{AllocError, Global};
 use std::cell::Cell;
 use std::process::Abort;
 use std::test::Fail;
-use test_support::bulk::{Added, Adding, Bulk, Hinted};
+use test_support::bulk::{Bulk, Hinted};
 use test_support::counting::{Fed, HashedKey};
-use test_support::maps::{AskedByKey, AskedForRoom, Hashed, by_hash};
+use test_support::maps::{Added, Copying, Hashed, UnderTest, by_hash};
 use test_support::plain::Plain;
 use test_support::walks::Walked;
 
@@ -82,7 +82,7 @@ fn looks<T: IdHashItem + Copy + Drop>(
     check(rt, counts.hashings() == 1);
     check(rt, map.contains(key) == is_there);
     check(rt, counts.hashings() == 1);
-    let _ = map.steps_of(key);
+    let _ = map.get_counted(key);
     check(rt, counts.hashings() == 1);
 }
 

@@ -4,9 +4,9 @@ use iddqd::errors::{ExtendError, FromIterError, TryReserveError};
 use iddqd::{DefaultHashBuilder, IdHashMap, IdOrdMap};
 use std::alloc::Global;
 use std::process::Abort;
-use test_support::bulk::{Added, Adding, Bulk, Hinted};
+use test_support::bulk::{Bulk, Hinted};
 use test_support::items::Numbered;
-use test_support::maps::{AskedByKey, AskedForRoom, Hashed, Ordered, by_hash, in_order};
+use test_support::maps::{Added, Copying, Hashed, Ordered, UnderTest, by_hash, in_order};
 
 fn numbered(number: u32, value: u32) -> Numbered {
     Numbered { number, value }
@@ -20,10 +20,7 @@ fn stopped_at(outcome: Result<(), ExtendError<Numbered>>) -> (Option<Numbered>, 
     }
 }
 
-fn fill_to_two<M: AskedByKey<Item = Numbered, Key = u32> + Bulk<Numbered> + Drop>(
-    rt: &impl Abort,
-    mut map: M,
-) {
+fn fill_to_two<M: UnderTest<Numbered, u32> + Drop>(rt: &impl Abort, mut map: M) {
     let items = [
         numbered(1, 1),
         numbered(2, 2),
@@ -46,14 +43,11 @@ fn extend_to_the_limit(rt: HostRuntime) {
 }
 
 // What an announcement of this many comes to, of which none is there.
-fn announced<M: Bulk<Numbered>>(map: &mut M, hint: usize) -> (Option<Numbered>, bool) {
+fn announced<M: UnderTest<Numbered, u32>>(map: &mut M, hint: usize) -> (Option<Numbered>, bool) {
     stopped_at(map.extend(Hinted::new(&[], hint)))
 }
 
-fn hint_at_two<M: AskedByKey<Item = Numbered, Key = u32> + Bulk<Numbered> + Drop>(
-    rt: &impl Abort,
-    mut map: M,
-) {
+fn hint_at_two<M: UnderTest<Numbered, u32> + Drop>(rt: &impl Abort, mut map: M) {
     check(rt, announced(&mut map, 3) == (None, true));
     check(rt, map.len() == 0);
     check(rt, map.is_put(numbered(1, 1)));
@@ -74,11 +68,7 @@ fn hints_at_the_limit(rt: HostRuntime) {
 }
 
 // A map without items reserves for all that is announced, if it has some room too, and whatever comes.
-fn reserves_all<M: Adding<Numbered> + AskedForRoom + Bulk<Numbered>>(
-    rt: &impl Abort,
-    one: &mut M,
-    other: &mut M,
-) {
+fn reserves_all<M: Copying<Numbered, u32>>(rt: &impl Abort, one: &mut M, other: &mut M) {
     check(rt, one.reserve(4).is_ok());
     check(rt, announced(one, 100) == (None, false));
     check(rt, one.room() >= 100);
@@ -93,10 +83,7 @@ fn hints_to_empty_maps(rt: HostRuntime) {
     reserves_all(&rt, &mut by_hash(alloc), &mut by_hash(alloc));
 }
 
-fn few_come<M: AskedByKey<Item = Numbered, Key = u32> + Bulk<Numbered> + Drop>(
-    rt: &impl Abort,
-    mut map: M,
-) {
+fn few_come<M: UnderTest<Numbered, u32> + Drop>(rt: &impl Abort, mut map: M) {
     let one = [numbered(1, 1)];
     check(
         rt,
@@ -105,10 +92,7 @@ fn few_come<M: AskedByKey<Item = Numbered, Key = u32> + Bulk<Numbered> + Drop>(
     check(rt, map.len() == 1);
 }
 
-fn many_come<M: AskedByKey<Item = Numbered, Key = u32> + Bulk<Numbered> + Drop>(
-    rt: &impl Abort,
-    mut map: M,
-) {
+fn many_come<M: UnderTest<Numbered, u32> + Drop>(rt: &impl Abort, mut map: M) {
     let mut hundred = [numbered(0, 0); 100];
     for (at, item) in hundred.iter_mut().enumerate() {
         item.number = at as u32;
@@ -128,7 +112,7 @@ fn refused_whole<M: Drop>(made: Result<M, FromIterError<Numbered>>) -> Option<Tr
     }
 }
 
-fn few_or_many<M: AskedByKey<Item = Numbered, Key = u32> + Bulk<Numbered> + Drop>(
+fn few_or_many<M: UnderTest<Numbered, u32> + Bulk<Numbered> + Drop>(
     rt: &impl Abort,
     alloc: Global,
     one: M,

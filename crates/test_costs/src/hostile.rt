@@ -7,17 +7,12 @@ use test_support::caseless::{Caseless, Coarse, item_of, spelled};
 use test_support::guards::{Copied, Probed};
 use test_support::hashers::ZeroHasher;
 use test_support::items::Numbered;
-use test_support::maps::{
-    AskedByKey, AskedForRoom, AskedToInsert, Hashed, Inserted, by_hash, in_order,
-};
+use test_support::maps::{Copying, Hashed, Inserted, UnderTest, by_hash, in_order};
 use test_support::respelled::Respelled;
 use test_support::walks::Walked;
 
 // The map with bar 1 and Foo 2.
-fn of_bar_and_foo<M: AskedByKey<Item = Coarse, Key = Caseless> + Drop>(
-    rt: &impl Abort,
-    mut map: M,
-) -> M {
+fn of_bar_and_foo<M: UnderTest<Coarse, Caseless> + Drop>(rt: &impl Abort, mut map: M) -> M {
     check(
         rt,
         map.is_put(item_of(*b"bar", 1)) && map.is_put(item_of(*b"Foo", 2)),
@@ -26,10 +21,7 @@ fn of_bar_and_foo<M: AskedByKey<Item = Coarse, Key = Caseless> + Drop>(
 }
 
 // Another item of FOO is a duplicate of fOO 7, and bar is as it was.
-fn is_respelled<M: AskedByKey<Item = Coarse, Key = Caseless> + AskedToInsert<Coarse> + Drop>(
-    rt: &impl Abort,
-    mut map: M,
-) -> M {
+fn is_respelled<M: Copying<Coarse, Caseless> + Drop>(rt: &impl Abort, mut map: M) -> M {
     let existing = match map.insert(item_of(*b"FOO", 9)) {
         Inserted::Duplicate(_, existing) => existing,
         Inserted::Done | Inserted::Refused(_, _) => None,
@@ -48,34 +40,25 @@ const RESPELLED: Coarse = Coarse {
     value: 7,
 };
 
-fn by_guard<
-    M: AskedByKey<Item = Coarse, Key = Caseless> + AskedToInsert<Coarse> + Respelled + Drop,
->(rt: &impl Abort, map: M) -> M {
+fn by_guard<M: Copying<Coarse, Caseless> + Respelled + Drop>(rt: &impl Abort, map: M) -> M {
     let mut map = of_bar_and_foo(rt, map);
     check(rt, map.respell_by_guard(&Caseless(*b"FOO"), RESPELLED));
     is_respelled(rt, map)
 }
 
-fn by_entry<
-    M: AskedByKey<Item = Coarse, Key = Caseless> + AskedToInsert<Coarse> + Respelled + Drop,
->(rt: &impl Abort, map: M) -> M {
+fn by_entry<M: Copying<Coarse, Caseless> + Respelled + Drop>(rt: &impl Abort, map: M) -> M {
     let mut map = of_bar_and_foo(rt, map);
     check(rt, map.respell_by_entry(&Caseless(*b"FOO"), RESPELLED));
     is_respelled(rt, map)
 }
 
-fn by_visitor<
-    M: AskedByKey<Item = Coarse, Key = Caseless> + AskedToInsert<Coarse> + Respelled + Drop,
->(rt: &impl Abort, map: M) -> M {
+fn by_visitor<M: Copying<Coarse, Caseless> + Respelled + Drop>(rt: &impl Abort, map: M) -> M {
     let mut map = of_bar_and_foo(rt, map);
     map.respell_by_visitor(RESPELLED);
     is_respelled(rt, map)
 }
 
-fn by_walk<M: AskedByKey<Item = Coarse, Key = Caseless> + AskedToInsert<Coarse> + Respelled + Drop>(
-    rt: &impl Abort,
-    map: M,
-) -> M {
+fn by_walk<M: Copying<Coarse, Caseless> + Respelled + Drop>(rt: &impl Abort, map: M) -> M {
     let mut map = of_bar_and_foo(rt, map);
     check(rt, map.respell_by_walk(RESPELLED));
     is_respelled(rt, map)
@@ -134,10 +117,7 @@ fn numbered(number: u32, value: u32) -> Numbered {
 }
 
 // The inner loan writes 5: the guard reads it then, and shows it once it is spent.
-fn reads_and_shows<M: AskedByKey<Item = Coarse, Key = Caseless> + Probed + Drop>(
-    rt: &impl Abort,
-    map: M,
-) {
+fn reads_and_shows<M: UnderTest<Coarse, Caseless> + Probed + Drop>(rt: &impl Abort, map: M) {
     let mut map = of_bar_and_foo(rt, map);
     let by_guard = map.write_by_reborrow(&Caseless(*b"Foo"), 5);
     let five = (*b"Foo", 5);
@@ -153,7 +133,7 @@ fn reborrow(rt: HostRuntime) {
     reads_and_shows(&rt, by_hash(rt.alloc()));
 }
 
-fn equals_its_clone<M: AskedByKey<Item = Coarse, Key = Caseless> + Copied + Probed + Drop>(
+fn equals_its_clone<M: UnderTest<Coarse, Caseless> + Copied + Probed + Drop>(
     rt: &impl Abort,
     map: M,
 ) {

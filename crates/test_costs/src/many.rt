@@ -8,7 +8,7 @@ use std::process::Abort;
 use std::test::Fail;
 use test_support::hashers::{FewBits, Varying, ZeroHasher};
 use test_support::items::Numbered;
-use test_support::maps::{AskedByKey, AskedToInsert, Hashed, Inserted, by_hash, in_order, is_put};
+use test_support::maps::{Copying, Hashed, Inserted, UnderTest, by_hash, in_order, is_put};
 
 fn numbered(number: u32) -> Numbered {
     Numbered {
@@ -33,7 +33,7 @@ fn parted(items: &[Numbered], place: usize) -> (&[Numbered], &[Numbered]) {
 }
 
 /// Whether each of the items is inserted.
-fn all_go_in<M: AskedToInsert<Numbered>>(map: &mut M, items: &[Numbered]) -> bool {
+fn all_go_in<M: Copying<Numbered, u32>>(map: &mut M, items: &[Numbered]) -> bool {
     for item in items {
         if map.insert(*item) != Inserted::Done {
             return false;
@@ -43,7 +43,7 @@ fn all_go_in<M: AskedToInsert<Numbered>>(map: &mut M, items: &[Numbered]) -> boo
 }
 
 /// Whether each of the items is found under its key.
-fn all_are_found<M: AskedByKey<Item = Numbered, Key = u32>>(map: &M, items: &[Numbered]) -> bool {
+fn all_are_found<M: UnderTest<Numbered, u32>>(map: &M, items: &[Numbered]) -> bool {
     for item in items {
         if map.get(&item.number) != Some(item) {
             return false;
@@ -53,10 +53,7 @@ fn all_are_found<M: AskedByKey<Item = Numbered, Key = u32>>(map: &M, items: &[Nu
 }
 
 /// Whether each of the items comes out, and is not there any more.
-fn all_come_out<M: AskedByKey<Item = Numbered, Key = u32>>(
-    map: &mut M,
-    items: &[Numbered],
-) -> bool {
+fn all_come_out<M: UnderTest<Numbered, u32>>(map: &mut M, items: &[Numbered]) -> bool {
     for item in items {
         if map.remove(&item.number) != Some(*item) || map.get(&item.number).is_some() {
             return false;
@@ -66,11 +63,7 @@ fn all_come_out<M: AskedByKey<Item = Numbered, Key = u32>>(
 }
 
 // The numbers from 1 to 100 are inserted, 50 cannot be inserted twice, and it is removed.
-fn hundred<M: AskedByKey<Item = Numbered, Key = u32> + AskedToInsert<Numbered> + Drop>(
-    rt: &impl Abort,
-    items: &[Numbered],
-    mut map: M,
-) {
+fn hundred<M: Copying<Numbered, u32> + Drop>(rt: &impl Abort, items: &[Numbered], mut map: M) {
     check(rt, all_go_in(&mut map, items));
     check(rt, all_are_found(&map, items));
     check(rt, map.get(&101).is_none());
@@ -85,11 +78,7 @@ fn hundred<M: AskedByKey<Item = Numbered, Key = u32> + AskedToInsert<Numbered> +
     lose_one(rt, items, &mut map);
 }
 
-fn lose_one<M: AskedByKey<Item = Numbered, Key = u32>>(
-    rt: &impl Abort,
-    items: &[Numbered],
-    map: &mut M,
-) {
+fn lose_one<M: UnderTest<Numbered, u32>>(rt: &impl Abort, items: &[Numbered], map: &mut M) {
     let (front, rest) = parted(items, 50);
     check(rt, map.remove(&50) == Some(numbered(50)));
     check(rt, map.get(&50).is_none());
@@ -111,11 +100,7 @@ fn constant_hasher(rt: HostRuntime) -> Result<(), Fail> {
 }
 
 // The items are inserted, and all are found.
-fn go_in<M: AskedByKey<Item = Numbered, Key = u32> + AskedToInsert<Numbered> + Drop>(
-    rt: &impl Abort,
-    items: &[Numbered],
-    mut map: M,
-) {
+fn go_in<M: Copying<Numbered, u32> + Drop>(rt: &impl Abort, items: &[Numbered], mut map: M) {
     check(rt, all_go_in(&mut map, items));
     check(rt, all_are_found(&map, items));
 }
@@ -134,7 +119,7 @@ fn hashers_of_few_bits(rt: HostRuntime) -> Result<(), Fail> {
 }
 
 // Ten thousand keys are inserted in one order, and removed in another.
-fn ten_thousand<M: AskedByKey<Item = Numbered, Key = u32> + AskedToInsert<Numbered> + Drop>(
+fn ten_thousand<M: Copying<Numbered, u32> + Drop>(
     rt: &impl Abort,
     coming: &[Numbered],
     going: &[Numbered],
@@ -162,11 +147,7 @@ fn ten_thousand_keys(rt: HostRuntime) -> Result<(), Fail> {
 }
 
 // The items are inserted, 7 cannot be inserted twice, and all are removed.
-fn come_and_go<M: AskedByKey<Item = Numbered, Key = u32> + AskedToInsert<Numbered> + Drop>(
-    rt: &impl Abort,
-    items: &[Numbered],
-    mut map: M,
-) {
+fn come_and_go<M: Copying<Numbered, u32> + Drop>(rt: &impl Abort, items: &[Numbered], mut map: M) {
     check(rt, all_go_in(&mut map, items));
     let seven = numbered(7);
     check(
@@ -236,7 +217,7 @@ fn hash_numbers_after_a_removal(rt: HostRuntime) {
 }
 
 // Six hundred thousand items are inserted, more than 65,536 groups of nine hold.
-fn go_in_by_number<M: AskedByKey<Item = Numbered, Key = u32>>(rt: &impl Abort, map: &mut M) {
+fn go_in_by_number<M: UnderTest<Numbered, u32>>(rt: &impl Abort, map: &mut M) {
     for number in 0..600_000 {
         check(rt, map.is_put(numbered(number)));
     }

@@ -1,6 +1,6 @@
 //! Items by their numbers.
 use test_support::items::Numbered;
-use test_support::maps::AskedByKey;
+use test_support::maps::UnderTest;
 
 pub(crate) fn numbered(number: u32) -> Numbered {
     Numbered {
@@ -10,7 +10,7 @@ pub(crate) fn numbered(number: u32) -> Numbered {
 }
 
 // Whether each of the numbers from one to below another goes into the map.
-pub(crate) fn are_numbers_put<M: AskedByKey<Item = Numbered>>(
+pub(crate) fn are_numbers_put<M: UnderTest<Numbered, u32>>(
     map: &mut M,
     first: u32,
     end: u32,

@@ -9,22 +9,28 @@ use std::hash::BuildHasherDefault;
 use std::ops::Bound;
 use std::process::Abort;
 use std::test::Fail;
-use test_support::bulk::{Added, Adding, Bulk, Hinted};
+use test_support::bulk::{Bulk, Hinted};
 use test_support::counting::{CountingKey, Tallied};
 use test_support::hashers::ZeroHasher;
-use test_support::maps::{AskedByKey, AskedForRoom, Hashed, Ordered, by_hash, in_order};
+use test_support::maps::{Added, Copying, Hashed, Ordered, UnderTest, by_hash, in_order};
 use test_support::plain::Plain;
 use test_support::walks::Walked;
 
 // The comparisons of one search for the key.
-fn searched<M: Plain>(map: &M, key: &M::Key, compared: &Cell<u32>) -> u32 {
-    let steps = map.steps_of(key);
+fn searched<T: Copy, K, M: Plain<T, K>>(map: &M, key: &K, compared: &Cell<u32>) -> u32 {
+    let (_, steps) = map.get_counted(key);
     compared.set(0);
     steps
 }
 
 // A lookup of the key compares as often as one search.
-fn looks<M: Plain>(rt: &impl Abort, map: &M, key: &M::Key, is_there: bool, compared: &Cell<u32>) {
+fn looks<T: Copy, K, M: Plain<T, K>>(
+    rt: &impl Abort,
+    map: &M,
+    key: &K,
+    is_there: bool,
+    compared: &Cell<u32>,
+) {
     let once = searched(map, key, compared);
     check(rt, map.get(key).is_some() == is_there);
     check(rt, since(compared) == once);
@@ -33,7 +39,7 @@ fn looks<M: Plain>(rt: &impl Abort, map: &M, key: &M::Key, is_there: bool, compa
 }
 
 // So do a duplicate, a replacement, a removal, and insertions of the key that is absent then.
-fn comes_and_goes<'a, M: Plain<Item = Tallied<'a>, Key = CountingKey<'a>>>(
+fn comes_and_goes<'a, M: Plain<Tallied<'a>, CountingKey<'a>>>(
     rt: &impl Abort,
     map: &mut M,
     item: Tallied<'a>,
@@ -54,19 +60,18 @@ fn comes_and_goes<'a, M: Plain<Item = Tallied<'a>, Key = CountingKey<'a>>>(
     check(rt, since(compared) == once);
 }
 
-fn goes<M: Plain>(rt: &impl Abort, map: &mut M, key: &M::Key, compared: &Cell<u32>)
-where
-    M::Item: Drop,
-{
+fn goes<T: Copy + Drop, K, M: Plain<T, K>>(
+    rt: &impl Abort,
+    map: &mut M,
+    key: &K,
+    compared: &Cell<u32>,
+) {
     let once = searched(map, key, compared);
     check(rt, map.remove(key).is_some());
     check(rt, since(compared) == once);
 }
 
-fn calls_of_each<
-    'a,
-    M: Bulk<Tallied<'a>> + Plain<Item = Tallied<'a>, Key = CountingKey<'a>> + Drop,
->(
+fn calls_of_each<'a, M: Plain<Tallied<'a>, CountingKey<'a>> + Drop>(
     rt: &impl Abort,
     mut map: M,
     items: &[Tallied<'a>],
@@ -110,7 +115,7 @@ fn by_zero<'a>(alloc: Global) -> ByZero<'a> {
 }
 
 // A map of the items, the comparisons of one search for the key in it, and no comparison counted since.
-fn built<'a, M: Bulk<Tallied<'a>> + Plain<Item = Tallied<'a>, Key = CountingKey<'a>>>(
+fn built<'a, M: Plain<Tallied<'a>, CountingKey<'a>> + Bulk<Tallied<'a>>>(
     alloc: Global,
     items: &[Tallied<'a>],
     key: &CountingKey<'a>,
@@ -122,10 +127,7 @@ fn built<'a, M: Bulk<Tallied<'a>> + Plain<Item = Tallied<'a>, Key = CountingKey<
 }
 
 // A guard, an entry, and what is called on it compare as often as one search; an insertion by an entry searches so often.
-fn by_guard_and_entry<
-    'a,
-    M: Bulk<Tallied<'a>> + Plain<Item = Tallied<'a>, Key = CountingKey<'a>> + Drop,
->(
+fn by_guard_and_entry<'a, M: Plain<Tallied<'a>, CountingKey<'a>> + Bulk<Tallied<'a>> + Drop>(
     rt: &impl Abort,
     alloc: Global,
     items: &[Tallied<'a>],
@@ -148,10 +150,7 @@ fn by_guard_and_entry<
     Ok(())
 }
 
-fn guards_and_entries<
-    'a,
-    M: Bulk<Tallied<'a>> + Plain<Item = Tallied<'a>, Key = CountingKey<'a>> + Drop,
->(
+fn guards_and_entries<'a, M: Plain<Tallied<'a>, CountingKey<'a>> + Bulk<Tallied<'a>> + Drop>(
     rt: &impl Abort,
     alloc: Global,
     vacant_searches: u32,
@@ -189,10 +188,12 @@ fn hash_guards_and_entries_search_once(rt: HostRuntime) -> Result<(), Fail> {
 }
 
 // Walks and room compare no keys.
-fn compares_none<
-    'a,
-    M: AskedForRoom + Bulk<Tallied<'a>> + Plain<Item = Tallied<'a>> + Walked<Tallied<'a>>,
->(rt: &impl Abort, mut map: M, items: &[Tallied<'a>], compared: &Cell<u32>)
+fn compares_none<'a, M: Plain<Tallied<'a>, CountingKey<'a>> + Walked<Tallied<'a>>>(
+    rt: &impl Abort,
+    mut map: M,
+    items: &[Tallied<'a>],
+    compared: &Cell<u32>,
+)
 where
     M::Map: Drop,
 {
@@ -220,10 +221,13 @@ fn walks_and_room_compare_none(rt: HostRuntime) -> Result<(), Fail> {
 }
 
 // The first of fifty items is taken out, so that the last one moves into its slot.
-fn shrinks<
-    'a,
-    M: AskedForRoom + Bulk<Tallied<'a>> + Plain<Item = Tallied<'a>, Key = CountingKey<'a>> + Drop,
->(rt: &impl Abort, mut map: M, items: &[Tallied<'a>], searches: u32, compared: &Cell<u32>) {
+fn shrinks<'a, M: Plain<Tallied<'a>, CountingKey<'a>> + Drop>(
+    rt: &impl Abort,
+    mut map: M,
+    items: &[Tallied<'a>],
+    searches: u32,
+    compared: &Cell<u32>,
+) {
     check(rt, items.len() == 50);
     check(rt, map.extend(Hinted::new(items, 0)).is_ok());
     check(rt, map.remove(&items[0].key).is_some());
@@ -291,7 +295,10 @@ fn finds_ranges<T: IdOrdItem + Copy + Drop>(
     high: &T::Key,
     compared: &Cell<u32>,
 ) {
-    let both = map.steps_of(low).saturating_add(map.steps_of(high));
+    let both = map
+        .get_counted(low)
+        .1
+        .saturating_add(map.get_counted(high).1);
     compared.set(0);
     let between = (Bound::Included(low), Bound::Excluded(high));
     let (_, steps) = map.count_between(between);
@@ -328,7 +335,7 @@ fn bounds_search_once(rt: HostRuntime) -> Result<(), Fail> {
 }
 
 // How often the items are compared as they are inserted one by one.
-fn one_by_one<'a, M: Plain<Item = Tallied<'a>> + Drop>(
+fn one_by_one<'a, M: Plain<Tallied<'a>, CountingKey<'a>> + Drop>(
     mut map: M,
     items: &[Tallied<'a>],
     compared: &Cell<u32>,
@@ -341,7 +348,7 @@ fn one_by_one<'a, M: Plain<Item = Tallied<'a>> + Drop>(
 }
 
 // The calls that take many items compare as often as that many insertions.
-fn takes_many<'a, M: Bulk<Tallied<'a>> + Plain<Item = Tallied<'a>> + Drop>(
+fn takes_many<'a, M: Plain<Tallied<'a>, CountingKey<'a>> + Bulk<Tallied<'a>> + Drop>(
     rt: &impl Abort,
     alloc: Global,
     mut map: M,
@@ -360,7 +367,7 @@ fn takes_many<'a, M: Bulk<Tallied<'a>> + Plain<Item = Tallied<'a>> + Drop>(
     check(rt, since(compared) == each);
 }
 
-fn adds_each<'a, M: Adding<Tallied<'a>> + Drop>(
+fn adds_each<'a, M: Copying<Tallied<'a>, CountingKey<'a>> + Drop>(
     rt: &impl Abort,
     mut map: M,
     items: &[Tallied<'a>],

@@ -7,7 +7,7 @@ use std::hash::BuildHasherDefault;
 use std::test::Fail;
 use test_support::hashers::ZeroHasher;
 use test_support::items::Numbered;
-use test_support::maps::{AskedByKey, Hashed, Ordered, in_order};
+use test_support::maps::{Hashed, Ordered, UnderTest, in_order};
 
 // The most steps of the lookup of one of this many numbers, and of its removal from the full map. `None` if a call
 // went wrong.

@@ -4,8 +4,7 @@ use iddqd::IdHashItem;
 use std::alloc::Global;
 use std::cell::Cell;
 use test_support::counting::{Fed, HashedKey};
-use test_support::maps::{AskedByKey, AskedForRoom, by_hash};
-use test_support::walks::Walked;
+use test_support::maps::{UnderTest, by_hash};
 
 const IDS: [u32; 25] = [
     0, 17, 1, 12, 5, 21, 8, 10, 18, 4, 16, 22, 9, 24, 23, 13, 7, 25, 26, 20, 31, 11, 14, 2, 6,

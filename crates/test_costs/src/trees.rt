@@ -3,7 +3,7 @@ use crate::checks::check;
 use crate::numbers::{are_numbers_put, numbered};
 use std::alloc::Global;
 use test_support::items::Numbered;
-use test_support::maps::{AskedByKey, Ordered, in_order};
+use test_support::maps::{Ordered, UnderTest, in_order};
 
 // The i-th of the numbers below 1009, in an order that the factor gives.
 fn number_at(place: u32, factor: u32) -> u32 {

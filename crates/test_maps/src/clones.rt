@@ -4,10 +4,10 @@ use std::process::Abort;
 use std::test::Fail;
 use test_support::caseless::{Caseless, Coarse, item_of, spelled};
 use test_support::guards::{Copied, Probed};
-use test_support::maps::{AskedByKey, AskedForRoom, by_hash, in_order};
+use test_support::maps::{UnderTest, by_hash, in_order};
 
 // Two items and a vacant slot, and room for more.
-fn fill<M: AskedByKey<Item = Coarse, Key = Caseless> + AskedForRoom>(rt: &impl Abort, map: &mut M) {
+fn fill<M: UnderTest<Coarse, Caseless>>(rt: &impl Abort, map: &mut M) {
     check(rt, map.reserve(100).is_ok());
     check(rt, map.is_put(item_of(*b"foo", 42)));
     check(rt, map.is_put(item_of(*b"bar", 20)));
@@ -16,11 +16,7 @@ fn fill<M: AskedByKey<Item = Coarse, Key = Caseless> + AskedForRoom>(rt: &impl A
 }
 
 // A clone equals its source, has room for no more than its slots, and what is written into it the source does not show.
-fn is_apart<M: AskedByKey<Item = Coarse, Key = Caseless> + AskedForRoom + Probed>(
-    rt: &impl Abort,
-    map: &M,
-    twin: &mut M,
-) {
+fn is_apart<M: UnderTest<Coarse, Caseless> + Probed>(rt: &impl Abort, map: &M, twin: &mut M) {
     check(rt, twin.equals(map));
     check(rt, twin.capacity() == 3);
     check(rt, twin.write_by_reborrow(&Caseless(*b"foo"), 7).is_some());
@@ -31,7 +27,7 @@ fn is_apart<M: AskedByKey<Item = Coarse, Key = Caseless> + AskedForRoom + Probed
 
 fn cloned<M>(rt: &impl Abort, map: &mut M) -> Result<(), Fail>
 where
-    M: AskedByKey<Item = Coarse, Key = Caseless> + AskedForRoom + Copied + Probed + Drop,
+    M: UnderTest<Coarse, Caseless> + Copied + Probed + Drop,
 {
     fill(rt, map);
     let Ok(mut twin) = map.copied() else {

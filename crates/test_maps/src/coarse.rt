@@ -5,11 +5,11 @@ use std::alloc::{AllocError, Global};
 use std::process::Abort;
 use std::test::Fail;
 use test_support::caseless::{Caseless, Coarse, item_of, spelled};
-use test_support::maps::{AskedByKey, Commanded, by_hash, in_order};
+use test_support::maps::{Commanded, UnderTest, by_hash, in_order};
 use test_support::visitors::Untouched;
 
 // What the item replaced, if it was put.
-fn replaced_by<M: AskedByKey<Item = Coarse>>(
+fn replaced_by<M: UnderTest<Coarse, Caseless>>(
     map: &mut M,
     item: Coarse,
 ) -> Option<Option<([u8; 3], u32)>> {
@@ -17,7 +17,7 @@ fn replaced_by<M: AskedByKey<Item = Coarse>>(
     Some(old.as_ref().map(spelled))
 }
 
-fn overwrites<M: AskedByKey<Item = Coarse, Key = Caseless> + Drop>(rt: &impl Abort, mut map: M) {
+fn overwrites<M: UnderTest<Coarse, Caseless> + Drop>(rt: &impl Abort, mut map: M) {
     check(rt, replaced_by(&mut map, item_of(*b"Foo", 1)) == Some(None));
     check(
         rt,

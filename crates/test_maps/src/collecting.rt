@@ -6,9 +6,9 @@ use iddqd::{DefaultHashBuilder, IdHashMap, IdOrdMap};
 use std::alloc::{AllocError, Global};
 use std::process::Abort;
 use std::test::Fail;
-use test_support::bulk::{Added, Adding, Bulk, Liar, Unannounced, is_not_taken_in};
+use test_support::bulk::{Bulk, Liar, Unannounced, is_not_taken_in};
 use test_support::items::{Named, Wide};
-use test_support::maps::{AskedByKey, Hashed, Ordered, by_hash, in_order};
+use test_support::maps::{Added, Copying, Hashed, Ordered, UnderTest, by_hash, in_order};
 
 fn named(name: [u8; 3], value: u32) -> Named {
     Named { name, value }
@@ -50,7 +50,7 @@ fn collect_by_name<M: Bulk<Named> + Drop>(
     Ok(())
 }
 
-fn collect_what_differs<M: AskedByKey<Item = Named> + Bulk<Named> + Drop>(
+fn collect_what_differs<M: UnderTest<Named, [u8; 3]> + Bulk<Named> + Drop>(
     rt: &impl Abort,
     alloc: Global,
 ) -> Result<(), AllocError> {
@@ -63,7 +63,7 @@ fn collect_what_differs<M: AskedByKey<Item = Named> + Bulk<Named> + Drop>(
     Ok(())
 }
 
-fn collect_names<M: AskedByKey<Item = Named> + Bulk<Named> + Drop>(
+fn collect_names<M: UnderTest<Named, [u8; 3]> + Bulk<Named> + Drop>(
     rt: &impl Abort,
     alloc: Global,
 ) -> Result<(), AllocError> {
@@ -72,7 +72,7 @@ fn collect_names<M: AskedByKey<Item = Named> + Bulk<Named> + Drop>(
 }
 
 // How many items there are in a map that was made.
-fn len_of<M: AskedByKey<Item = Named> + Drop>(
+fn len_of<M: UnderTest<Named, [u8; 3]> + Drop>(
     made: Result<M, FromIterError<Named>>,
 ) -> Option<usize> {
     match made {
@@ -104,11 +104,11 @@ fn of_two_numbers(alloc: Global) -> Result<Vec<Wide>, AllocError> {
 }
 
 // Whether there are two items, and these two.
-fn has_both_numbers<M: AskedByKey<Item = Wide, Key = u8>>(map: &M, one: Wide, other: Wide) -> bool {
+fn has_both_numbers<M: UnderTest<Wide, u8>>(map: &M, one: Wide, other: Wide) -> bool {
     map.len() == 2 && map.get(&one.number) == Some(&one) && map.get(&other.number) == Some(&other)
 }
 
-fn overwritten_by_number<M: AskedByKey<Item = Wide, Key = u8> + Bulk<Wide> + Drop>(
+fn overwritten_by_number<M: UnderTest<Wide, u8> + Drop>(
     rt: &impl Abort,
     alloc: Global,
     mut map: M,
@@ -121,11 +121,11 @@ fn overwritten_by_number<M: AskedByKey<Item = Wide, Key = u8> + Bulk<Wide> + Dro
 }
 
 // Whether there are two items, and these two.
-fn has_both<M: AskedByKey<Item = Named, Key = [u8; 3]>>(map: &M, one: Named, other: Named) -> bool {
+fn has_both<M: UnderTest<Named, [u8; 3]>>(map: &M, one: Named, other: Named) -> bool {
     map.len() == 2 && map.get(&one.name) == Some(&one) && map.get(&other.name) == Some(&other)
 }
 
-fn overwritten_by_name<M: AskedByKey<Item = Named, Key = [u8; 3]> + Bulk<Named> + Drop>(
+fn overwritten_by_name<M: UnderTest<Named, [u8; 3]> + Bulk<Named> + Drop>(
     rt: &impl Abort,
     alloc: Global,
     mut map: M,
@@ -137,7 +137,7 @@ fn overwritten_by_name<M: AskedByKey<Item = Named, Key = [u8; 3]> + Bulk<Named> 
     collected_by_name::<M>(rt, alloc)
 }
 
-fn collected_by_name<M: AskedByKey<Item = Named, Key = [u8; 3]> + Bulk<Named> + Drop>(
+fn collected_by_name<M: UnderTest<Named, [u8; 3]> + Bulk<Named> + Drop>(
     rt: &impl Abort,
     alloc: Global,
 ) -> Result<(), AllocError> {
@@ -160,10 +160,7 @@ fn extend_overwrites(rt: HostRuntime) -> Result<(), Fail> {
     Ok(())
 }
 
-fn lied_to<M: AskedByKey<Item = Named, Key = [u8; 3]> + Bulk<Named> + Drop>(
-    rt: &impl Abort,
-    mut map: M,
-) {
+fn lied_to<M: UnderTest<Named, [u8; 3]> + Drop>(rt: &impl Abort, mut map: M) {
     check(rt, is_not_taken_in(&mut map));
     check(rt, map.len() == 0);
     check(rt, map.is_put(FOO) && map.is_put(BAR));
@@ -177,7 +174,7 @@ fn lying_hints(rt: HostRuntime) {
     lied_to(&rt, by_hash(rt.alloc()));
 }
 
-fn stops_at_present<M: AskedByKey<Item = Named, Key = [u8; 3]> + Adding<Named> + Drop>(
+fn stops_at_present<M: Copying<Named, [u8; 3]> + Drop>(
     rt: &impl Abort,
     items: Vec<Named>,
     mut map: M,
@@ -205,11 +202,7 @@ fn of_two_names() -> [Named; 3] {
     [named(*b"  a", 1), named(*b"  b", 2), named(*b"  a", 3)]
 }
 
-fn stops_at_own<M: AskedByKey<Item = Named, Key = [u8; 3]> + Adding<Named> + Drop>(
-    rt: &impl Abort,
-    items: Vec<Named>,
-    mut map: M,
-) {
+fn stops_at_own<M: Copying<Named, [u8; 3]> + Drop>(rt: &impl Abort, items: Vec<Named>, mut map: M) {
     let [first, second, third] = of_two_names();
     check(
         rt,
@@ -229,10 +222,7 @@ fn extend_unique_repeats(rt: HostRuntime) -> Result<(), Fail> {
 }
 
 // What a map that has foo returns for items that are not announced; the last one comes first.
-fn unannounced<M: AskedByKey<Item = Named, Key = [u8; 3]> + Adding<Named>>(
-    map: &mut M,
-    items: Vec<Named>,
-) -> Option<Added<Named>> {
+fn unannounced<M: Copying<Named, [u8; 3]>>(map: &mut M, items: Vec<Named>) -> Option<Added<Named>> {
     if map.is_put(FOO) {
         Some(map.add_each(Unannounced::new(items)))
     } else {
@@ -240,7 +230,7 @@ fn unannounced<M: AskedByKey<Item = Named, Key = [u8; 3]> + Adding<Named>>(
     }
 }
 
-fn conflicts_when_full<M: AskedByKey<Item = Named, Key = [u8; 3]> + Adding<Named> + Drop>(
+fn conflicts_when_full<M: Copying<Named, [u8; 3]> + Drop>(
     rt: &impl Abort,
     items: Vec<Named>,
     mut map: M,
@@ -250,7 +240,7 @@ fn conflicts_when_full<M: AskedByKey<Item = Named, Key = [u8; 3]> + Adding<Named
     check(rt, has_both(&map, FOO, BAR));
 }
 
-fn refuses_when_full<M: AskedByKey<Item = Named, Key = [u8; 3]> + Adding<Named> + Drop>(
+fn refuses_when_full<M: Copying<Named, [u8; 3]> + Drop>(
     rt: &impl Abort,
     items: Vec<Named>,
     mut map: M,
@@ -262,7 +252,7 @@ fn refuses_when_full<M: AskedByKey<Item = Named, Key = [u8; 3]> + Adding<Named> 
 }
 
 // Two maps with room for two items each.
-fn full_at_two<M: AskedByKey<Item = Named, Key = [u8; 3]> + Adding<Named> + Drop>(
+fn full_at_two<M: Copying<Named, [u8; 3]> + Drop>(
     rt: &impl Abort,
     alloc: Global,
     one: M,
@@ -292,10 +282,7 @@ fn extend_unique_at_the_limit(rt: HostRuntime) -> Result<(), Fail> {
     Ok(())
 }
 
-fn refuses_announced<M: AskedByKey<Item = Named, Key = [u8; 3]> + Adding<Named> + Drop>(
-    rt: &impl Abort,
-    mut map: M,
-) {
+fn refuses_announced<M: Copying<Named, [u8; 3]> + Drop>(rt: &impl Abort, mut map: M) {
     check(rt, map.is_put(FOO));
     let mut liar = Liar::announcing(5);
     let full = TryReserveError::capacity_overflow();
@@ -310,11 +297,7 @@ fn extend_unique_hint(rt: HostRuntime) {
     refuses_announced(&rt, hashed_of_two(rt.alloc()));
 }
 
-fn adds_nothing<M: AskedByKey<Item = Named, Key = [u8; 3]> + Adding<Named> + Drop>(
-    rt: &impl Abort,
-    alloc: Global,
-    mut map: M,
-) {
+fn adds_nothing<M: Copying<Named, [u8; 3]> + Drop>(rt: &impl Abort, alloc: Global, mut map: M) {
     check(rt, map.add_each(Vec::new(alloc)) == Added::All);
     check(rt, map.len() == 0);
     check(rt, map.is_put(FOO) && map.is_put(BAR));

@@ -12,7 +12,7 @@ use std::alloc::{AllocError, Global};
 use std::process::Abort;
 use std::test::Fail;
 use test_support::items::{Named, Numbered, Wide};
-use test_support::maps::{AskedForRoom, Commanded, Hashed, Ordered, by_hash, in_order};
+use test_support::maps::{Commanded, Hashed, Ordered, UnderTest, by_hash, in_order};
 use test_support::visitors::Untouched;
 
 /// Whether there was memory for the commands, and the map gives these replies to them.
@@ -336,7 +336,7 @@ fn hash_retain_mut_by_commands(rt: HostRuntime) -> Result<(), Fail> {
 }
 
 // Whether there was memory for the commands, and the map, with room for none, says that each is done. The room then.
-fn room_after<M: Commanded<Named, [u8; 3]> + AskedForRoom + Drop>(
+fn room_after<M: UnderTest<Named, [u8; 3]> + Commanded<Named, [u8; 3]> + Drop>(
     alloc: Global,
     mut map: M,
     commands: Result<Vec<Command<Named, [u8; 3], Untouched>>, AllocError>,

@@ -9,7 +9,7 @@ use std::cell::Cell;
 use std::process::Abort;
 use std::test::Fail;
 use test_support::bulk::Bulk;
-use test_support::maps::{AskedByKey, Hashed, Ordered, by_hash, in_order};
+use test_support::maps::{Hashed, Ordered, UnderTest, by_hash, in_order};
 use test_support::tickets::{Announced, Dropping, Ticket};
 use test_support::walks::Walked;
 
@@ -28,11 +28,7 @@ fn tickets(
 }
 
 // Whether those numbers are inserted, and none is dropped.
-fn go_in<'a, M: AskedByKey<Item = Ticket<'a>>>(
-    map: &mut M,
-    end: u32,
-    dropped: &'a Cell<u32>,
-) -> bool {
+fn go_in<'a, M: UnderTest<Ticket<'a>, u32>>(map: &mut M, end: u32, dropped: &'a Cell<u32>) -> bool {
     for number in 0..end {
         if !map.is_put(Ticket { number, dropped }) {
             return false;
@@ -41,7 +37,7 @@ fn go_in<'a, M: AskedByKey<Item = Ticket<'a>>>(
     dropped.get() == 0
 }
 
-fn clears<'a, M: AskedByKey<Item = Ticket<'a>> + Drop>(
+fn clears<'a, M: UnderTest<Ticket<'a>, u32> + Drop>(
     rt: &impl Abort,
     mut map: M,
     dropped: &'a Cell<u32>,
@@ -61,7 +57,7 @@ fn cleared(rt: HostRuntime) {
 }
 
 // One is taken out before.
-fn goes<'a, M: AskedByKey<Item = Ticket<'a>, Key = u32> + Drop>(
+fn goes<'a, M: UnderTest<Ticket<'a>, u32> + Drop>(
     rt: &impl Abort,
     mut map: M,
     dropped: &'a Cell<u32>,
@@ -82,7 +78,7 @@ fn removed_refused_and_dropped_with_the_map(rt: HostRuntime) {
     goes(&rt, by_hash(rt.alloc()), &hashed);
 }
 
-fn retains<'a, M: AskedByKey<Item = Ticket<'a>> + Walked<Ticket<'a>> + Drop>(
+fn retains<'a, M: UnderTest<Ticket<'a>, u32> + Drop>(
     rt: &impl Abort,
     mut map: M,
     dropped: &'a Cell<u32>,
@@ -101,7 +97,7 @@ fn retained(rt: HostRuntime) {
     retains(&rt, by_hash(rt.alloc()), &hashed);
 }
 
-fn keeps_even<'a, M: AskedByKey<Item = Ticket<'a>> + Dropping<'a> + Drop>(
+fn keeps_even<'a, M: UnderTest<Ticket<'a>, u32> + Dropping<'a> + Drop>(
     rt: &impl Abort,
     mut map: M,
     dropped: &'a Cell<u32>,
@@ -121,7 +117,7 @@ fn retained_by_a_visitor(rt: HostRuntime) {
 }
 
 // Three of the five that come are there.
-fn extends<'a, M: AskedByKey<Item = Ticket<'a>> + Bulk<Ticket<'a>> + Drop>(
+fn extends<'a, M: UnderTest<Ticket<'a>, u32> + Drop>(
     rt: &impl Abort,
     mut map: M,
     coming: Vec<Ticket<'a>>,
@@ -144,7 +140,7 @@ fn replaced_by_extend(rt: HostRuntime) -> Result<(), Fail> {
     Ok(())
 }
 
-fn overwrites<'a, M: AskedByKey<Item = Ticket<'a>> + Drop>(
+fn overwrites<'a, M: UnderTest<Ticket<'a>, u32> + Drop>(
     rt: &impl Abort,
     mut map: M,
     dropped: &'a Cell<u32>,
@@ -165,7 +161,7 @@ fn overwritten(rt: HostRuntime) {
     overwrites(&rt, by_hash(rt.alloc()), &hashed);
 }
 
-fn replaces<'a, M: AskedByKey<Item = Ticket<'a>> + Dropping<'a>>(
+fn replaces<'a, M: UnderTest<Ticket<'a>, u32> + Dropping<'a>>(
     rt: &impl Abort,
     mut map: M,
     dropped: &'a Cell<u32>,
@@ -182,7 +178,7 @@ fn replaced_by_an_entry(rt: HostRuntime) {
     replaces(&rt, by_hash(rt.alloc()), &hashed);
 }
 
-fn finds_or_puts<'a, M: AskedByKey<Item = Ticket<'a>> + Dropping<'a>>(
+fn finds_or_puts<'a, M: UnderTest<Ticket<'a>, u32> + Dropping<'a>>(
     rt: &impl Abort,
     mut map: M,
     number: u32,
@@ -226,7 +222,7 @@ fn shown_by_an_occupied_entry(rt: HostRuntime) {
     check(&rt, shows(map, again) && dropped.get() == 2);
 }
 
-fn removes<'a, M: AskedByKey<Item = Ticket<'a>> + Dropping<'a>>(
+fn removes<'a, M: UnderTest<Ticket<'a>, u32> + Dropping<'a>>(
     rt: &impl Abort,
     mut map: M,
     dropped: &'a Cell<u32>,
@@ -243,7 +239,7 @@ fn removed_by_an_entry(rt: HostRuntime) {
     removes(&rt, by_hash(rt.alloc()), &hashed);
 }
 
-fn walks<'a, M: AskedByKey<Item = Ticket<'a>> + Dropping<'a> + Drop>(
+fn walks<'a, M: UnderTest<Ticket<'a>, u32> + Dropping<'a> + Drop>(
     rt: &impl Abort,
     mut map: M,
     dropped: &'a Cell<u32>,

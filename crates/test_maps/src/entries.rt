@@ -3,12 +3,9 @@ use crate::checks::check;
 use std::process::Abort;
 use test_support::caseless::{Caseless, Coarse, item_of, spelled};
 use test_support::entered::Entered;
-use test_support::maps::{AskedByKey, by_hash, in_order};
+use test_support::maps::{UnderTest, by_hash, in_order};
 
-fn foo_by_entry<M: AskedByKey<Item = Coarse, Key = Caseless> + Entered + Drop>(
-    rt: &impl Abort,
-    mut map: M,
-) {
+fn foo_by_entry<M: UnderTest<Coarse, Caseless> + Entered + Drop>(rt: &impl Abort, mut map: M) {
     let foo = map.insert_vacant(*b"foo", item_of(*b"foo", 42));
     check(rt, foo.map(|item| item.value) == Some(42));
     check(rt, map.write(*b"foo", 99));
@@ -28,10 +25,7 @@ fn entry(rt: HostRuntime) {
     foo_by_entry(&rt, by_hash(rt.alloc()));
 }
 
-fn written_by_entries<M: AskedByKey<Item = Coarse, Key = Caseless> + Entered>(
-    rt: &impl Abort,
-    map: &mut M,
-) {
+fn written_by_entries<M: UnderTest<Coarse, Caseless> + Entered>(rt: &impl Abort, map: &mut M) {
     let doubled = map.double_or_insert(item_of(*b"foo", 0));
     check(
         rt,
@@ -49,10 +43,7 @@ fn written_by_entries<M: AskedByKey<Item = Coarse, Key = Caseless> + Entered>(
     );
 }
 
-fn put_by_entries<M: AskedByKey<Item = Coarse, Key = Caseless> + Entered>(
-    rt: &impl Abort,
-    map: &mut M,
-) {
+fn put_by_entries<M: UnderTest<Coarse, Caseless> + Entered>(rt: &impl Abort, map: &mut M) {
     let old = map.insert_occupied(item_of(*b"FOO", 7));
     check(rt, old.as_ref().map(spelled) == Some((*b"foo", 84)));
     check(
@@ -68,7 +59,7 @@ fn put_by_entries<M: AskedByKey<Item = Coarse, Key = Caseless> + Entered>(
     check(rt, map.get(&Caseless(*b"qux")).is_none());
 }
 
-fn coarse_entries<M: AskedByKey<Item = Coarse, Key = Caseless> + Entered + Drop>(
+fn coarse_entries<M: UnderTest<Coarse, Caseless> + Entered + Drop>(
     rt: &impl Abort,
     mut map: M,
 ) -> M {

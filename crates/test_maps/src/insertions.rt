@@ -2,7 +2,7 @@
 use crate::checks::check;
 use std::process::Abort;
 use test_support::items::{Named, Numbered, Wide};
-use test_support::maps::{AskedByKey, AskedToInsert, Inserted, Ordered, by_hash, in_order};
+use test_support::maps::{Copying, Inserted, Ordered, UnderTest, by_hash, in_order};
 use test_support::walks::Walked;
 
 pub(crate) const FOO: Named = Named {
@@ -38,10 +38,7 @@ fn numbered(number: u32, value: u32) -> Numbered {
     Numbered { number, value }
 }
 
-fn foo_twice<M: AskedByKey<Item = Named, Key = [u8; 3]> + AskedToInsert<Named> + Drop>(
-    rt: &impl Abort,
-    mut map: M,
-) {
+fn foo_twice<M: Copying<Named, [u8; 3]> + Drop>(rt: &impl Abort, mut map: M) {
     check(rt, map.insert(FOO) == Inserted::Done);
     check(rt, map.insert(BAR) == Inserted::Done);
     check(
@@ -58,7 +55,7 @@ fn insert_unique(rt: HostRuntime) {
     foo_twice(&rt, by_hash(rt.alloc()));
 }
 
-fn chain<M: AskedToInsert<Wide> + Drop>(rt: &impl Abort, mut map: M) {
+fn chain<M: Copying<Wide, u8> + Drop>(rt: &impl Abort, mut map: M) {
     let first = wide_item(20, 'a', 'x');
     let fourth = wide_item(5, 'a', 'y');
     let second_twenty = wide_item(20, 'b', 'y');
@@ -86,10 +83,7 @@ fn duplicate_chain(rt: HostRuntime) {
     chain(&rt, by_hash(rt.alloc()));
 }
 
-fn one_and_two<M: AskedByKey<Item = Numbered, Key = u32> + AskedToInsert<Numbered> + Drop>(
-    rt: &impl Abort,
-    mut map: M,
-) {
+fn one_and_two<M: Copying<Numbered, u32> + Drop>(rt: &impl Abort, mut map: M) {
     check(rt, map.insert(numbered(1, 10)) == Inserted::Done);
     check(rt, map.insert(numbered(2, 20)) == Inserted::Done);
     check(rt, map.get(&1).copied() == Some(numbered(1, 10)));
@@ -124,10 +118,7 @@ fn get_and_double(rt: HostRuntime) {
 }
 
 // A removed item is not found, and the others are.
-fn coming_and_going<M: AskedByKey<Item = Named, Key = [u8; 3]> + AskedToInsert<Named> + Drop>(
-    rt: &impl Abort,
-    mut map: M,
-) {
+fn coming_and_going<M: Copying<Named, [u8; 3]> + Drop>(rt: &impl Abort, mut map: M) {
     check(rt, map.insert(FOO) == Inserted::Done);
     check(rt, map.insert(BAR) == Inserted::Done);
     check(rt, map.remove(b"baz") == None);

@@ -6,18 +6,14 @@ use iddqd::{DefaultHashBuilder, IdHashMap, IdOrdMap};
 use std::process::Abort;
 use std::test::Fail;
 use test_support::items::{Named, Numbered};
-use test_support::maps::{
-    AskedByKey, AskedForRoom, AskedToInsert, Hashed, Inserted, Ordered, by_hash, in_order,
-};
+use test_support::maps::{Copying, Hashed, Inserted, Ordered, UnderTest, by_hash, in_order};
 
 const BAZ: Named = Named {
     name: *b"baz",
     value: 7,
 };
 
-fn full_at_two<
-    M: AskedByKey<Item = Named, Key = [u8; 3]> + AskedToInsert<Named> + AskedForRoom + Drop,
->(rt: &impl Abort, mut map: M) {
+fn full_at_two<M: Copying<Named, [u8; 3]> + Drop>(rt: &impl Abort, mut map: M) {
     let full = TryReserveError::capacity_overflow();
     let answers = [
         map.insert(FOO),
@@ -43,7 +39,7 @@ fn full_at_two<
     check(rt, map.reserve(1) == Err(full));
 }
 
-fn full_at_none<M: AskedToInsert<Named> + AskedForRoom + Drop>(rt: &impl Abort, mut map: M) {
+fn full_at_none<M: Copying<Named, [u8; 3]> + Drop>(rt: &impl Abort, mut map: M) {
     let full = TryReserveError::capacity_overflow();
     check(rt, map.reserve(0) == Ok(()));
     check(rt, map.insert(FOO) == Inserted::Refused(FOO, full));
@@ -95,17 +91,13 @@ fn made_with_room(rt: HostRuntime) -> Result<(), Fail> {
 }
 
 // Whether foo and bar are there.
-fn has_both<M: AskedByKey<Item = Named, Key = [u8; 3]>>(map: &M) -> bool {
+fn has_both<M: UnderTest<Named, [u8; 3]>>(map: &M) -> bool {
     map.get(b"foo") == Some(&FOO) && map.get(b"bar") == Some(&BAR)
 }
 
 // Shrinks a map that was made with room for 100. The store keeps room for what is asked for or there, and for no more. How
 // much room is left for ten at least is told apart.
-fn shrunk<M: AskedByKey<Item = Named, Key = [u8; 3]> + AskedForRoom + Drop>(
-    rt: &impl Abort,
-    mut map: M,
-    room_of_ten: usize,
-) {
+fn shrunk<M: UnderTest<Named, [u8; 3]> + Drop>(rt: &impl Abort, mut map: M, room_of_ten: usize) {
     check(rt, map.is_put(FOO) && map.is_put(BAR));
     check(rt, map.shrink_to(usize::MAX) == Ok(()));
     check(
@@ -134,10 +126,7 @@ fn capacity_and_shrink(rt: HostRuntime) -> Result<(), Fail> {
 }
 
 // A map without items lacks what is asked for, and is as it should be.
-fn of_nothing<M: AskedByKey<Item = Named, Key = [u8; 3]> + AskedForRoom + Drop>(
-    rt: &impl Abort,
-    mut map: M,
-) {
+fn of_nothing<M: UnderTest<Named, [u8; 3]> + Drop>(rt: &impl Abort, mut map: M) {
     check(rt, map.get(b"foo").is_none());
     check(rt, map.remove(b"foo").is_none());
     check(rt, map.len() == 0 && map.is_compact());
@@ -150,10 +139,7 @@ fn empty_map(rt: HostRuntime) {
 }
 
 // Room for ten is full but for four vacant slots. They serve a reservation of four, and four of a reservation of fourteen.
-fn reserves_beside_vacant<M: AskedByKey<Item = Numbered, Key = u32> + AskedForRoom + Drop>(
-    rt: &impl Abort,
-    mut map: M,
-) {
+fn reserves_beside_vacant<M: UnderTest<Numbered, u32> + Drop>(rt: &impl Abort, mut map: M) {
     for number in 0..10 {
         check(rt, map.is_put(Numbered { number, value: 0 }));
     }

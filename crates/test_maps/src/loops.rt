@@ -6,14 +6,14 @@ use std::alloc::{AllocError, Global};
 use std::process::Abort;
 use std::test::Fail;
 use test_support::items::Named;
-use test_support::maps::{AskedByKey, by_hash, in_order};
+use test_support::maps::{UnderTest, by_hash, in_order};
 
 const BAZ: Named = Named {
     name: *b"baz",
     value: 7,
 };
 
-fn with_three<M: AskedByKey<Item = Named> + Drop>(rt: &impl Abort, mut map: M) -> M {
+fn with_three<M: UnderTest<Named, [u8; 3]> + Drop>(rt: &impl Abort, mut map: M) -> M {
     check(rt, map.is_put(FOO) && map.is_put(BAR) && map.is_put(BAZ));
     map
 }

@@ -5,7 +5,7 @@ use std::process::Abort;
 use std::rc::Rc;
 use std::test::Fail;
 use test_support::items::{Artifact, Release, Titled};
-use test_support::maps::{AskedByKey, AskedByText, by_hash, in_order};
+use test_support::maps::{AskedByText, UnderTest, by_hash, in_order};
 
 fn foo(alloc: Global) -> Result<Titled, AllocError> {
     Ok(Titled {
@@ -14,7 +14,7 @@ fn foo(alloc: Global) -> Result<Titled, AllocError> {
     })
 }
 
-fn query_by_text<M: AskedByKey<Item = Titled, Key = String> + AskedByText<Item = Titled> + Drop>(
+fn query_by_text<M: UnderTest<Titled, String> + AskedByText<Item = Titled> + Drop>(
     rt: &impl Abort,
     name: &String,
     item: Titled,
@@ -22,7 +22,7 @@ fn query_by_text<M: AskedByKey<Item = Titled, Key = String> + AskedByText<Item =
 ) {
     check(rt, map.is_put(item));
     check(rt, map.find("foo").map(|item| item.value) == Some(42));
-    check(rt, !map.contains("fo"));
+    check(rt, !map.has_name("fo"));
     check(rt, map.get(name).map(|item| item.value) == Some(42));
     check(rt, map.take_out("foo").map(|item| item.value) == Some(42));
     check(rt, map.len() == 0);
@@ -44,10 +44,7 @@ fn released(name: [u8; 9], data: u32) -> Artifact {
     }
 }
 
-fn query_by_release<M: AskedByKey<Item = Artifact, Key = Release> + Drop>(
-    rt: &impl Abort,
-    mut map: M,
-) {
+fn query_by_release<M: UnderTest<Artifact, Release> + Drop>(rt: &impl Abort, mut map: M) {
     let first = released(*b"artifact1", 1);
     let other = Release {
         name: *b"artifact1",
@@ -89,7 +86,7 @@ impl Holder for &Titled {
 }
 
 // Whether the item is inserted, and what is found by its name shows 42.
-fn is_found<T: Holder + Drop, M: AskedByKey<Item = T> + AskedByText<Item = T> + Drop>(
+fn is_found<T: Holder + Drop, M: UnderTest<T, String> + AskedByText<Item = T> + Drop>(
     item: T,
     mut map: M,
 ) -> bool {

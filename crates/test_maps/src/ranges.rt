@@ -8,7 +8,7 @@ use std::process::Abort;
 use std::test::Fail;
 use test_support::caseless::{Caseless, Coarse, item_of};
 use test_support::items::{Numbered, Titled};
-use test_support::maps::{AskedByKey, Ordered, in_order};
+use test_support::maps::{Ordered, UnderTest, in_order};
 use test_support::tickets::Ticket;
 
 fn numbered(number: u32) -> Numbered {

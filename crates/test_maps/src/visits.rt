@@ -11,7 +11,7 @@ use std::alloc::{AllocError, Global};
 use std::process::Abort;
 use std::test::Fail;
 use test_support::items::{Named, Numbered};
-use test_support::maps::{AskedByKey, AskedForRoom, by_hash, in_order};
+use test_support::maps::{UnderTest, by_hash, in_order};
 use test_support::nine::{are_left, retain_nine};
 use test_support::visitors::{Change, Visited};
 use test_support::walks::Walked;
@@ -26,7 +26,7 @@ fn numbered(number: u32, value: u32) -> Numbered {
 }
 
 // The map with three numbers.
-fn of_three<M: AskedByKey<Item = Numbered, Key = u32> + Drop>(rt: &impl Abort, mut map: M) -> M {
+fn of_three<M: UnderTest<Numbered, u32> + Drop>(rt: &impl Abort, mut map: M) -> M {
     for number in [3, 1, 2] {
         check(rt, map.is_put(numbered(number, 10 * number)));
     }
@@ -34,10 +34,7 @@ fn of_three<M: AskedByKey<Item = Numbered, Key = u32> + Drop>(rt: &impl Abort, m
 }
 
 // The visitor, once it has kept the odd ones of three.
-fn odd_of_three<M: AskedByKey<Item = Numbered, Key = u32> + Drop + Visited>(
-    rt: &impl Abort,
-    map: M,
-) -> Change {
+fn odd_of_three<M: UnderTest<Numbered, u32> + Drop + Visited>(rt: &impl Abort, map: M) -> Change {
     let mut map = of_three(rt, map);
     let mut visitor = Change::KeepOdd(0);
     map.retain_mut(&mut visitor);
@@ -104,7 +101,7 @@ fn visitor(rt: HostRuntime) -> Result<(), Fail> {
 }
 
 // The names that were asked about, in the vector that has room for them, once the greater values were kept.
-fn kept_by_value<M: AskedByKey<Item = Named, Key = [u8; 3]> + Walked<Named> + Drop>(
+fn kept_by_value<M: UnderTest<Named, [u8; 3]> + Drop>(
     rt: &impl Abort,
     mut asked: Vec<[u8; 3]>,
     mut map: M,
@@ -143,10 +140,7 @@ macro_rules! value_in {
     };
 }
 
-fn of_foo_and_bar<M: AskedByKey<Item = Named, Key = [u8; 3]> + Drop>(
-    rt: &impl Abort,
-    mut map: M,
-) -> M {
+fn of_foo_and_bar<M: UnderTest<Named, [u8; 3]> + Drop>(rt: &impl Abort, mut map: M) -> M {
     check(rt, map.is_put(FOO) && map.is_put(BAR));
     map
 }
@@ -197,10 +191,7 @@ fn writing_walk_of_one_item(rt: HostRuntime) {
     );
 }
 
-fn nine_left<M: AskedByKey<Item = Numbered, Key = u32> + Walked<Numbered> + AskedForRoom + Drop>(
-    rt: &impl Abort,
-    mut map: M,
-) {
+fn nine_left<M: UnderTest<Numbered, u32> + Drop>(rt: &impl Abort, mut map: M) {
     check(rt, retain_nine(&mut map) && are_left(&map));
     check(rt, map.vacant() == 16);
     check(rt, map.reserve(10) == Ok(()));

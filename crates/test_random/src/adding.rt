@@ -2,102 +2,31 @@
 use crate::draws::Draws;
 use crate::many::{announced, drawn};
 use crate::plain::{Plain, is_same};
-use idtable_commands::{Command, Reply};
+use iddqd::errors::TryReserveError;
 use std::alloc::{AllocError, Global};
-use std::collections::hash_map::RandomState;
-use std::hash::BuildHasherDefault;
-use test_support::bulk::{Added, Adding};
 use test_support::caseless::{Caseless, Coarse};
-use test_support::hashers::ZeroHasher;
-use test_support::maps::{Commanded, Hashed, Ordered};
-
-/// What became of many new items.
-#[derive(Clone, Copy)]
-pub(crate) enum Told {
-    AllIn,
-    /// The first whose name is there, and the item of that name.
-    Conflict(Coarse, Option<Coarse>),
-    /// The first that found the map full; `None` where room for them was refused before.
-    Full(Option<Coarse>),
-    Otherwise,
-}
-
-/// A map of either kind that takes many new items at once.
-pub(crate) trait TakesNew {
-    /// `extend_unique`; over a hasher of one's own the command for it.
-    fn take_new(&mut self, alloc: Global, items: Vec<Coarse>) -> Result<Told, AllocError>;
-}
-
-impl TakesNew for Ordered<Coarse> {
-    fn take_new(&mut self, _: Global, items: Vec<Coarse>) -> Result<Told, AllocError> {
-        Ok(answered(&self.add_each(items)))
-    }
-}
-
-impl TakesNew for Hashed<Coarse> {
-    fn take_new(&mut self, _: Global, items: Vec<Coarse>) -> Result<Told, AllocError> {
-        Ok(answered(&self.add_each(items)))
-    }
-}
-
-impl TakesNew for Hashed<Coarse, BuildHasherDefault<ZeroHasher>> {
-    fn take_new(&mut self, alloc: Global, items: Vec<Coarse>) -> Result<Told, AllocError> {
-        by_command(alloc, self, items)
-    }
-}
-
-impl TakesNew for Hashed<Coarse, RandomState> {
-    fn take_new(&mut self, alloc: Global, items: Vec<Coarse>) -> Result<Told, AllocError> {
-        by_command(alloc, self, items)
-    }
-}
-
-fn answered(added: &Added<Coarse>) -> Told {
-    match added {
-        Added::All => Told::AllIn,
-        Added::Conflict(new, there) => Told::Conflict(*new, *there),
-        Added::Stopped(item, error) if error.is_capacity_overflow() => Told::Full(*item),
-        Added::Stopped(..) => Told::Otherwise,
-    }
-}
-
-fn replied(reply: &Reply<Coarse>) -> Told {
-    match reply {
-        Reply::Extended(_) => Told::AllIn,
-        Reply::Conflict { new, existing, .. } => Told::Conflict(*new, *existing),
-        Reply::Stopped { item, error, .. } if error.is_capacity_overflow() => Told::Full(*item),
-        _ => Told::Otherwise,
-    }
-}
-
-fn by_command<M: Commanded<Coarse, Caseless>>(
-    alloc: Global,
-    map: &mut M,
-    items: Vec<Coarse>,
-) -> Result<Told, AllocError> {
-    let commands = Vec::from_array(alloc, [Command::ExtendUnique(items)])?;
-    match map.run(alloc, commands) {
-        Ok(replies) => Ok(replies.get(0).map(replied).unwrap_or(Told::Otherwise)),
-        Err(_) => Ok(Told::Otherwise),
-    }
-}
+use test_support::maps::{Added, Copying, UnderTest};
 
 // Puts the items into the list up to the first whose name is there, or that finds it full.
-fn put_all(plain: &mut Plain, items: &[Coarse]) -> Result<Told, AllocError> {
+fn put_all(plain: &mut Plain, items: &[Coarse]) -> Result<Added<Coarse>, AllocError> {
     for item in items {
         let there = plain.find(&item.name);
         if there.is_some() {
-            return Ok(Told::Conflict(*item, there));
+            return Ok(Added::Conflict(*item, there));
         }
         if plain.is_full() {
-            return Ok(Told::Full(Some(*item)));
+            return Ok(full(Some(*item)));
         }
         plain.put(*item)?;
     }
-    Ok(Told::AllIn)
+    Ok(Added::All)
 }
 
-pub(crate) fn extend_unique<M: TakesNew>(
+fn full(item: Option<Coarse>) -> Added<Coarse> {
+    Added::Stopped(item, TryReserveError::capacity_overflow())
+}
+
+pub(crate) fn extend_unique<M: Copying<Coarse, Caseless>>(
     alloc: Global,
     map: &mut M,
     plain: &mut Plain,
@@ -107,20 +36,21 @@ pub(crate) fn extend_unique<M: TakesNew>(
     let expected = if plain.has_room(announced(plain, items.as_slice())) {
         put_all(plain, items.as_slice())?
     } else {
-        Told::Full(None)
+        full(None)
     };
-    let answer = map.take_new(alloc, items)?;
-    Ok(is_told(answer, expected))
+    Ok(is_told(&map.add_each(items), &expected))
 }
 
 // By the spelling of names too.
-fn is_told(answer: Told, expected: Told) -> bool {
-    match (answer, expected) {
-        (Told::AllIn, Told::AllIn) => true,
-        (Told::Conflict(new, there), Told::Conflict(item, earlier)) => {
-            is_same(Some(new), Some(item)) && is_same(there, earlier)
+fn is_told(added: &Added<Coarse>, expected: &Added<Coarse>) -> bool {
+    match (added, expected) {
+        (Added::All, Added::All) => true,
+        (Added::Conflict(new, there), Added::Conflict(item, earlier)) => {
+            is_same(Some(*new), Some(*item)) && is_same(*there, *earlier)
         }
-        (Told::Full(item), Told::Full(refused)) => is_same(item, refused),
+        (Added::Stopped(item, error), Added::Stopped(refused, kind)) => {
+            is_same(*item, *refused) && error == kind
+        }
         _ => false,
     }
 }

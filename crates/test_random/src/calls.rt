@@ -5,11 +5,10 @@ use std::alloc::AllocError;
 use test_support::caseless::{Caseless, Coarse, spelled};
 use test_support::entered::Entered;
 use test_support::guards::Probed;
-use test_support::maps::{AskedByKey, AskedForRoom, AskedToInsert};
+use test_support::maps::{Copying, UnderTest};
 use test_support::respelled::Respelled;
-use test_support::walks::Walked;
 
-pub(crate) fn insert<M: AskedToInsert<Coarse>>(
+pub(crate) fn insert<M: Copying<Coarse, Caseless>>(
     map: &mut M,
     plain: &mut Plain,
     draws: &mut Draws,
@@ -18,7 +17,7 @@ pub(crate) fn insert<M: AskedToInsert<Coarse>>(
     plain.inserts(item, map.insert(item))
 }
 
-pub(crate) fn overwrite<M: AskedByKey<Item = Coarse, Key = Caseless>>(
+pub(crate) fn overwrite<M: UnderTest<Coarse, Caseless>>(
     map: &mut M,
     plain: &mut Plain,
     draws: &mut Draws,
@@ -39,7 +38,7 @@ pub(crate) fn overwrite<M: AskedByKey<Item = Coarse, Key = Caseless>>(
     }
 }
 
-pub(crate) fn remove<M: AskedByKey<Item = Coarse, Key = Caseless>>(
+pub(crate) fn remove<M: UnderTest<Coarse, Caseless>>(
     map: &mut M,
     plain: &mut Plain,
     draws: &mut Draws,
@@ -58,7 +57,7 @@ pub(crate) fn remove_by_entry<M: Probed>(
 }
 
 // A lookup, whose comparisons are counted too, among this many items at most.
-pub(crate) fn find<M: AskedByKey<Item = Coarse, Key = Caseless> + Probed>(
+pub(crate) fn find<M: UnderTest<Coarse, Caseless> + Probed>(
     map: &M,
     plain: &Plain,
     name: &Caseless,
@@ -66,12 +65,12 @@ pub(crate) fn find<M: AskedByKey<Item = Coarse, Key = Caseless> + Probed>(
     let item = plain.find(name);
     let (counted, steps) = map.get_counted(name);
     is_same(map.get(name).copied(), item)
-        && is_same(counted, item)
+        && is_same(counted.copied(), item)
         && map.contains(name) == item.is_some()
         && steps as usize <= plain.len().saturating_add(4)
 }
 
-pub(crate) fn write<M: AskedByKey<Item = Coarse, Key = Caseless> + Entered + Probed>(
+pub(crate) fn write<M: UnderTest<Coarse, Caseless> + Entered + Probed>(
     map: &mut M,
     plain: &mut Plain,
     draws: &mut Draws,
@@ -93,7 +92,7 @@ pub(crate) fn write<M: AskedByKey<Item = Coarse, Key = Caseless> + Entered + Pro
     }
 }
 
-pub(crate) fn respell<M: AskedByKey<Item = Coarse, Key = Caseless> + Respelled>(
+pub(crate) fn respell<M: UnderTest<Coarse, Caseless> + Respelled>(
     map: &mut M,
     plain: &mut Plain,
     draws: &mut Draws,
@@ -111,7 +110,11 @@ pub(crate) fn respell<M: AskedByKey<Item = Coarse, Key = Caseless> + Respelled>(
     }
 }
 
-pub(crate) fn retain<M: Walked<Coarse>>(map: &mut M, plain: &mut Plain, draws: &mut Draws) -> bool {
+pub(crate) fn retain<M: UnderTest<Coarse, Caseless>>(
+    map: &mut M,
+    plain: &mut Plain,
+    draws: &mut Draws,
+) -> bool {
     let (part, rest) = (draws.below(8).saturating_add(3), draws.below(3));
     let before = plain.len();
     plain
@@ -123,7 +126,7 @@ pub(crate) fn retain<M: Walked<Coarse>>(map: &mut M, plain: &mut Plain, draws: &
     true
 }
 
-pub(crate) fn insert_by_entry<M: AskedByKey<Item = Coarse, Key = Caseless> + Entered>(
+pub(crate) fn insert_by_entry<M: UnderTest<Coarse, Caseless> + Entered>(
     map: &mut M,
     plain: &mut Plain,
     draws: &mut Draws,
@@ -145,7 +148,7 @@ pub(crate) fn insert_by_entry<M: AskedByKey<Item = Coarse, Key = Caseless> + Ent
     Ok(is_same(gone, fits.then_some(item)))
 }
 
-pub(crate) fn replace_by_entry<M: AskedByKey<Item = Coarse, Key = Caseless> + Entered>(
+pub(crate) fn replace_by_entry<M: UnderTest<Coarse, Caseless> + Entered>(
     map: &mut M,
     plain: &mut Plain,
     draws: &mut Draws,
@@ -166,7 +169,7 @@ pub(crate) fn shown(plain: &mut Plain, item: Coarse) -> Result<Option<Coarse>, A
     Ok(old)
 }
 
-pub(crate) fn find_or_make<M: AskedByKey<Item = Coarse, Key = Caseless> + Entered>(
+pub(crate) fn find_or_make<M: UnderTest<Coarse, Caseless> + Entered>(
     map: &mut M,
     plain: &mut Plain,
     draws: &mut Draws,
@@ -180,7 +183,7 @@ pub(crate) fn find_or_make<M: AskedByKey<Item = Coarse, Key = Caseless> + Entere
     Ok(is_same(answer, expected) && (asked == 0) == was_there)
 }
 
-pub(crate) fn double_or_insert<M: AskedByKey<Item = Coarse, Key = Caseless> + Entered>(
+pub(crate) fn double_or_insert<M: UnderTest<Coarse, Caseless> + Entered>(
     map: &mut M,
     plain: &mut Plain,
     draws: &mut Draws,
@@ -193,7 +196,7 @@ pub(crate) fn double_or_insert<M: AskedByKey<Item = Coarse, Key = Caseless> + En
     Ok(is_same(map.double_or_insert(item), expected))
 }
 
-pub(crate) fn insert_and_write<M: AskedByKey<Item = Coarse, Key = Caseless> + Entered>(
+pub(crate) fn insert_and_write<M: UnderTest<Coarse, Caseless> + Entered>(
     map: &mut M,
     plain: &mut Plain,
     draws: &mut Draws,
@@ -204,7 +207,7 @@ pub(crate) fn insert_and_write<M: AskedByKey<Item = Coarse, Key = Caseless> + En
     Ok(map.insert_and_write(item, value) == is_in)
 }
 
-pub(crate) fn reserve<M: AskedForRoom + Probed>(
+pub(crate) fn reserve<M: UnderTest<Coarse, Caseless> + Probed>(
     map: &mut M,
     plain: &Plain,
     draws: &mut Draws,
@@ -225,7 +228,11 @@ pub(crate) fn reserve<M: AskedForRoom + Probed>(
     }
 }
 
-pub(crate) fn shrink<M: AskedForRoom>(map: &mut M, plain: &mut Plain, draws: &mut Draws) -> bool {
+pub(crate) fn shrink<M: UnderTest<Coarse, Caseless>>(
+    map: &mut M,
+    plain: &mut Plain,
+    draws: &mut Draws,
+) -> bool {
     let before = map.capacity();
     plain.vacant = 0;
     if draws.coin() {
@@ -235,10 +242,7 @@ pub(crate) fn shrink<M: AskedForRoom>(map: &mut M, plain: &mut Plain, draws: &mu
     map.shrink_to(min).is_ok() && map.capacity() <= before && map.capacity() >= min.min(before)
 }
 
-pub(crate) fn clear<M: AskedByKey<Item = Coarse, Key = Caseless>>(
-    map: &mut M,
-    plain: &mut Plain,
-) -> bool {
+pub(crate) fn clear<M: UnderTest<Coarse, Caseless>>(map: &mut M, plain: &mut Plain) -> bool {
     map.clear();
     plain.items.clear();
     plain.vacant = 0;
@@ -256,7 +260,7 @@ fn are_listed(plain: &Plain, walked: &[Coarse]) -> bool {
 }
 
 // Whether the map finds each item of the list.
-fn are_found<M: AskedByKey<Item = Coarse, Key = Caseless>>(map: &M, plain: &Plain) -> bool {
+fn are_found<M: UnderTest<Coarse, Caseless>>(map: &M, plain: &Plain) -> bool {
     for item in plain.items.iter() {
         if map.get(&item.name).map(spelled) != Some(spelled(item)) {
             return false;
@@ -266,7 +270,7 @@ fn are_found<M: AskedByKey<Item = Coarse, Key = Caseless>>(map: &M, plain: &Plai
 }
 
 // Whether the map holds just what the list does, by what it finds and by its walk, and tells the numbers of the list.
-pub(crate) fn holds_the_same<M: AskedByKey<Item = Coarse, Key = Caseless> + Probed + AskedForRoom>(
+pub(crate) fn holds_the_same<M: UnderTest<Coarse, Caseless> + Probed>(
     map: &M,
     plain: &Plain,
     walked: &[Coarse],

@@ -7,7 +7,7 @@ use std::alloc::{AllocError, Global};
 use test_support::bulk::Bulk;
 use test_support::caseless::{Caseless, Coarse};
 use test_support::guards::{Copied, Probed};
-use test_support::maps::{AskedByKey, AskedForRoom};
+use test_support::maps::{Copying, UnderTest};
 
 // Some items, of which some have equal names.
 pub(crate) fn drawn(alloc: Global, draws: &mut Draws) -> Result<Vec<Coarse>, AllocError> {
@@ -39,7 +39,7 @@ fn overwrite_all(plain: &mut Plain, items: &[Coarse]) -> Result<Option<Coarse>, 
     Ok(None)
 }
 
-pub(crate) fn extend<M: Probed>(
+pub(crate) fn extend<M: UnderTest<Coarse, Caseless>>(
     alloc: Global,
     map: &mut M,
     plain: &mut Plain,
@@ -52,7 +52,7 @@ pub(crate) fn extend<M: Probed>(
     } else {
         None
     };
-    match map.take_all(items) {
+    match map.extend(items) {
         Ok(()) => Ok(is_reserved && stopped.is_none()),
         Err(refused) => {
             let fits = !is_reserved || stopped.is_some();
@@ -76,29 +76,31 @@ fn first_repeat(
 }
 
 // A map of its own that is made of many items.
-pub(crate) fn collect<
-    M: AskedByKey<Item = Coarse, Key = Caseless> + Bulk<Coarse> + Probed + AskedForRoom + Drop,
->(alloc: Global, draws: &mut Draws) -> Result<bool, AllocError> {
+pub(crate) fn collect<M: Copying<Coarse, Caseless> + Bulk<Coarse> + Probed + Drop>(
+    alloc: Global,
+    draws: &mut Draws,
+) -> Result<bool, AllocError> {
     let items = drawn(alloc, draws)?;
     let mut plain = Plain::new(alloc, 4_294_967_295);
     let _ = overwrite_all(&mut plain, items.as_slice())?;
     let Ok(map) = M::collected(alloc, items) else {
         return Ok(false);
     };
-    let walked = map.walked(alloc)?;
+    let walked = map.listed(alloc)?;
     Ok(holds_the_same(&map, &plain, walked.as_slice()))
 }
 
 // The same of different items, or the first repeat.
-pub(crate) fn collect_unique<
-    M: AskedByKey<Item = Coarse, Key = Caseless> + Bulk<Coarse> + Probed + AskedForRoom + Drop,
->(alloc: Global, draws: &mut Draws) -> Result<bool, AllocError> {
+pub(crate) fn collect_unique<M: Copying<Coarse, Caseless> + Bulk<Coarse> + Probed + Drop>(
+    alloc: Global,
+    draws: &mut Draws,
+) -> Result<bool, AllocError> {
     let items = drawn(alloc, draws)?;
     let mut plain = Plain::new(alloc, 4_294_967_295);
     let repeat = first_repeat(&mut plain, items.as_slice())?;
     match M::collected_unique(alloc, items) {
         Ok(map) => {
-            let walked = map.walked(alloc)?;
+            let walked = map.listed(alloc)?;
             Ok(repeat.is_none() && holds_the_same(&map, &plain, walked.as_slice()))
         }
         Err(FromIterError::Duplicate(both)) => Ok(is_told(&both, repeat)),
@@ -117,9 +119,12 @@ fn is_told(both: &DuplicateItem<Coarse>, repeat: Option<(Coarse, Coarse)>) -> bo
 }
 
 // A clone holds the same, equals the map as long as it is not written, and lets its items out.
-pub(crate) fn copy<
-    M: AskedByKey<Item = Coarse, Key = Caseless> + Copied + Probed + AskedForRoom + Drop,
->(alloc: Global, map: &M, plain: &Plain, draws: &mut Draws) -> Result<bool, AllocError> {
+pub(crate) fn copy<M: UnderTest<Coarse, Caseless> + Copied + Probed + Drop>(
+    alloc: Global,
+    map: &M,
+    plain: &Plain,
+    draws: &mut Draws,
+) -> Result<bool, AllocError> {
     let Ok(mut copy) = map.copied() else {
         return Ok(false);
     };
@@ -143,7 +148,7 @@ fn equals_unwritten<M: Probed>(map: &M, copy: &mut M, plain: &Plain, draws: &mut
 }
 
 // An entry of a clone reads the item there, and shows what it wrote.
-pub(crate) fn write_copy<M: AskedByKey<Item = Coarse, Key = Caseless> + Copied + Probed>(
+pub(crate) fn write_copy<M: UnderTest<Coarse, Caseless> + Copied + Probed>(
     map: &M,
     plain: &Plain,
     draws: &mut Draws,

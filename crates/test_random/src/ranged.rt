@@ -5,8 +5,7 @@ use crate::plain::{Plain, is_same};
 use std::alloc::{AllocError, Global};
 use std::ops::Bound;
 use test_support::caseless::{Caseless, Coarse};
-use test_support::guards::Probed;
-use test_support::maps::Ordered;
+use test_support::maps::{Copying, Ordered};
 
 // How many names of the list are less.
 fn rank(plain: &Plain, name: &Caseless) -> usize {
@@ -106,7 +105,7 @@ pub(crate) fn range(
 ) -> Result<bool, AllocError> {
     let (one, other) = (draws.name(), draws.name());
     let (low, high) = (drawn_bound(&one, draws), drawn_bound(&other, draws));
-    let mut items = map.walked(alloc)?;
+    let mut items = map.listed(alloc)?;
     items.retain(|item| lies(&item.name, low, high));
     Ok(has_range(map, low, high, items.as_slice()))
 }
@@ -119,7 +118,7 @@ pub(crate) fn remove_range(
 ) -> Result<bool, AllocError> {
     let (one, other) = (draws.name(), draws.name());
     let (low, high) = (drawn_bound(&one, draws), drawn_bound(&other, draws));
-    let mut items = map.walked(alloc)?;
+    let mut items = map.listed(alloc)?;
     items.retain(|item| lies(&item.name, low, high));
     for item in items.iter() {
         let _ = plain.take(&item.name);

@@ -8,7 +8,7 @@ use std::process::Abort;
 use std::test::Fail;
 use test_support::caseless::{Caseless, Coarse, spelled};
 use test_support::heap::{arm, is_met};
-use test_support::maps::{AskedByKey, AskedForRoom, AskedToInsert, Inserted, by_hash, in_order};
+use test_support::maps::{Copying, Inserted, UnderTest, by_hash, in_order};
 
 /// How a call went.
 #[derive(Clone, Copy, PartialEq, Eq)]
@@ -37,7 +37,7 @@ fn refusal(plain: &Plain, item: Coarse, back: Coarse, error: TryReserveError) ->
     }
 }
 
-fn insert<M: AskedToInsert<Coarse>>(
+fn insert<M: Copying<Coarse, Caseless>>(
     map: &mut M,
     plain: &mut Plain,
     item: Coarse,
@@ -48,7 +48,7 @@ fn insert<M: AskedToInsert<Coarse>>(
     }
 }
 
-fn overwrite<M: AskedByKey<Item = Coarse, Key = Caseless>>(
+fn overwrite<M: UnderTest<Coarse, Caseless>>(
     map: &mut M,
     plain: &mut Plain,
     item: Coarse,
@@ -63,7 +63,7 @@ fn overwrite<M: AskedByKey<Item = Coarse, Key = Caseless>>(
     }
 }
 
-fn remove<M: AskedByKey<Item = Coarse, Key = Caseless>>(
+fn remove<M: UnderTest<Coarse, Caseless>>(
     map: &mut M,
     plain: &mut Plain,
     name: &Caseless,
@@ -81,10 +81,7 @@ fn told(answer: Result<(), TryReserveError>) -> Outcome {
 }
 
 // Whether each item of the list is found, and no more are there. It asks for no memory.
-fn finds_all<M: AskedByKey<Item = Coarse, Key = Caseless> + AskedForRoom>(
-    map: &M,
-    plain: &Plain,
-) -> bool {
+fn finds_all<M: UnderTest<Coarse, Caseless>>(map: &M, plain: &Plain) -> bool {
     for item in plain.items.iter() {
         if map.get(&item.name).map(spelled) != Some(spelled(item)) {
             return false;
@@ -113,7 +110,7 @@ fn drawn_call(draws: &mut Draws) -> Call {
     }
 }
 
-fn made<M: AskedByKey<Item = Coarse, Key = Caseless> + AskedToInsert<Coarse> + AskedForRoom>(
+fn made<M: Copying<Coarse, Caseless>>(
     map: &mut M,
     plain: &mut Plain,
     draws: &mut Draws,
@@ -132,7 +129,7 @@ fn made<M: AskedByKey<Item = Coarse, Key = Caseless> + AskedToInsert<Coarse> + A
 }
 
 // How many of the calls were refused. The list has its room from the beginning.
-fn refusals<M: AskedByKey<Item = Coarse, Key = Caseless> + AskedToInsert<Coarse> + AskedForRoom>(
+fn refusals<M: Copying<Coarse, Caseless>>(
     rt: &impl Abort,
     alloc: Global,
     map: &mut M,

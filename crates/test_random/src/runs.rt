@@ -1,6 +1,6 @@
 //! The runs: lists of calls from fixed seeds. After each call the whole contents and the numbers are compared too, and
 //! `validate`.
-use crate::adding::{TakesNew, extend_unique};
+use crate::adding::extend_unique;
 use crate::draws::Draws;
 use crate::lengths::{CALLS, MANY_CALLS, MAPS};
 use crate::plain::Plain;
@@ -16,9 +16,8 @@ use test_support::caseless::{Caseless, Coarse};
 use test_support::entered::Entered;
 use test_support::guards::{Copied, Probed};
 use test_support::hashers::ZeroHasher;
-use test_support::maps::{AskedByKey, AskedForRoom, AskedToInsert, Hashed, Ordered, by_hash};
+use test_support::maps::{Copying, Hashed, Ordered, UnderTest, by_hash};
 use test_support::respelled::Respelled;
-use test_support::walks::Walked;
 
 /// What is called.
 #[derive(Clone, Copy, Debug)]
@@ -80,15 +79,11 @@ fn drawn_call(draws: &mut Draws) -> Call {
 }
 
 // What takes every call.
-trait Callable: AskedByKey<Item = Coarse, Key = Caseless>
-    + AskedToInsert<Coarse>
+trait Callable: Copying<Coarse, Caseless>
     + Probed
     + Copied
     + Entered
     + Respelled
-    + AskedForRoom
-    + Walked<Coarse>
-    + TakesNew
     + Written
     + Drop {}
 
@@ -158,7 +153,7 @@ fn run_hashed<M: Callable>(
             answered,
             "{run:?}: call {number}, {call:?}, is answered otherwise"
         );
-        let walked = map.walked(alloc)?;
+        let walked = map.listed(alloc)?;
         let held = calls::holds_the_same(&map, &plain, walked.as_slice());
         assert!(rt;
             held,
@@ -238,7 +233,7 @@ fn is_held_in_order(
     map: &Ordered<Coarse>,
     plain: &Plain,
 ) -> Result<bool, AllocError> {
-    let walked = map.walked(alloc)?;
+    let walked = map.listed(alloc)?;
     let held = calls::holds_the_same(map, plain, walked.as_slice());
     Ok(held && ordered::ascends(walked.as_slice()) && ordered::ends(map, plain))
 }
@@ -348,13 +343,11 @@ fn calls_of_random_hashes(rt: HostRuntime) -> Result<(), Fail> {
 }
 
 // Maps that are made of many items, each compared with its list.
-fn make_many<
-    M: AskedByKey<Item = Coarse, Key = Caseless>
-        + Probed
-        + AskedForRoom
-        + test_support::bulk::Bulk<Coarse>
-        + Drop,
->(rt: &impl Abort, alloc: Global, seed: u64) -> Result<(), AllocError> {
+fn make_many<M: Copying<Coarse, Caseless> + Probed + test_support::bulk::Bulk<Coarse> + Drop>(
+    rt: &impl Abort,
+    alloc: Global,
+    seed: u64,
+) -> Result<(), AllocError> {
     let mut draws = Draws::new(seed, 3);
     for number in 0..MAPS {
         let collected = many::collect::<M>(alloc, &mut draws)?;

@@ -4,8 +4,8 @@ use crate::plain::is_same;
 use std::alloc::{AllocError, Global};
 use std::hash::BuildHasher;
 use test_support::caseless::{Caseless, Coarse};
-use test_support::guards::{Copied, Probed};
-use test_support::maps::{Hashed, Ordered};
+use test_support::guards::Copied;
+use test_support::maps::{Copying, Hashed, Ordered, UnderTest};
 use test_support::walks::Walked;
 
 /// A map of either kind that a walk writes.
@@ -40,7 +40,7 @@ fn raise(item: &mut Coarse) {
     item.value = item.value.wrapping_add(1);
 }
 
-pub(crate) fn write_first<M: Copied + Probed + Written + Drop>(
+pub(crate) fn write_first<M: Copying<Coarse, Caseless> + Copied + Written + Drop>(
     alloc: Global,
     map: &M,
     draws: &mut Draws,
@@ -49,7 +49,7 @@ pub(crate) fn write_first<M: Copied + Probed + Written + Drop>(
         return Ok(false);
     };
     let most = draws.below(40) as usize;
-    let mut expected = map.walked(alloc)?;
+    let mut expected = map.listed(alloc)?;
     for item in expected.iter_mut().take(most) {
         raise(item);
     }

@@ -7,11 +7,11 @@ use std::test::Fail;
 use test_support::heap::{arm, has_leaked, is_met};
 use test_support::items::Numbered;
 use test_support::kept::Kept;
-use test_support::maps::{AskedByKey, AskedForRoom, Hashed, Ordered, by_hash, in_order};
+use test_support::maps::{Hashed, Ordered, UnderTest, by_hash, in_order};
 
 // The word for what was seen: a clone that is equal, or none since memory was refused. The map has its four numbers
 // either way.
-fn row_of_clone<M: AskedByKey<Item = Numbered, Key = u32> + AskedForRoom>(
+fn row_of_clone<M: UnderTest<Numbered, u32>>(
     map: &M,
     is_equal: Result<bool, TryReserveError>,
     is_met: bool,
@@ -64,10 +64,7 @@ fn shown(kept: &Kept) -> (u32, u32) {
 }
 
 // Inserts four items, each of whose clones asks for memory.
-fn fill_with_kept<M: AskedByKey<Item = Kept, Key = u32>>(
-    alloc: Global,
-    map: &mut M,
-) -> Result<(), Fail> {
+fn fill_with_kept<M: UnderTest<Kept, u32>>(alloc: Global, map: &mut M) -> Result<(), Fail> {
     for name in 0..4u32 {
         let value = Box::new(alloc, name + 5)?;
         if !map.is_put(Kept { name, value }) {
@@ -78,7 +75,7 @@ fn fill_with_kept<M: AskedByKey<Item = Kept, Key = u32>>(
 }
 
 // Whether the map is sound and has those four, and no other.
-fn holds_kept<M: AskedByKey<Item = Kept, Key = u32> + AskedForRoom>(map: &M) -> bool {
+fn holds_kept<M: UnderTest<Kept, u32>>(map: &M) -> bool {
     for name in 0..4u32 {
         if map.get(&name).map(shown) != Some((name, name + 5)) {
             return false;
@@ -88,10 +85,7 @@ fn holds_kept<M: AskedByKey<Item = Kept, Key = u32> + AskedForRoom>(map: &M) -> 
 }
 
 // Whether what was copied is whole, or was refused because a request was. It is dropped.
-fn is_copy<M: AskedByKey<Item = Kept, Key = u32> + AskedForRoom + Drop>(
-    copy: Result<M, TryReserveError>,
-    is_met: bool,
-) -> bool {
+fn is_copy<M: UnderTest<Kept, u32> + Drop>(copy: Result<M, TryReserveError>, is_met: bool) -> bool {
     match copy {
         Ok(copy) => !is_met && holds_kept(&copy),
         Err(error) => is_met && !error.is_capacity_overflow(),
@@ -99,7 +93,7 @@ fn is_copy<M: AskedByKey<Item = Kept, Key = u32> + AskedForRoom + Drop>(
 }
 
 // The word for a copy of those four that is dropped: the map is as it was, and no more memory is held than before.
-fn row_of_kept<M: AskedByKey<Item = Kept, Key = u32> + AskedForRoom + Drop>(
+fn row_of_kept<M: UnderTest<Kept, u32> + Drop>(
     alloc: Global,
     map: &M,
     copy: Result<M, TryReserveError>,

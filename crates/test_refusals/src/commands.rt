@@ -7,7 +7,7 @@ use std::alloc::{AllocError, Global};
 use std::test::Fail;
 use test_support::heap::{arm, is_met};
 use test_support::kept::{Kept, make_kept};
-use test_support::maps::{AskedByKey, Commanded, Ordered, by_hash, in_order};
+use test_support::maps::{Commanded, Ordered, UnderTest, by_hash, in_order};
 use test_support::visitors::Untouched;
 
 // Six commands, all of one name.
@@ -196,7 +196,7 @@ fn is_answered<M: Commanded<Kept, u32>>(
 
 // Runs the commands on a map with a request refused: the row that came, and whether a request was refused. Commands that come back
 // are run again. In the end the map has as many items as before.
-fn swept_run<M: AskedByKey<Item = Kept, Key = u32> + Commanded<Kept, u32>>(
+fn swept_run<M: UnderTest<Kept, u32> + Commanded<Kept, u32>>(
     alloc: Global,
     map: &mut M,
     commands: Vec<Command<Kept, u32, Untouched>>,
@@ -229,7 +229,7 @@ fn word((row, is_met): (&'static str, bool)) -> Result<&'static str, Fail> {
     Err(Fail::from("a refusal is not told, or none was met"))
 }
 
-fn run_by<M: AskedByKey<Item = Kept, Key = u32> + Commanded<Kept, u32>>(
+fn run_by<M: UnderTest<Kept, u32> + Commanded<Kept, u32>>(
     alloc: Global,
     map: &mut M,
 ) -> Result<&'static str, Fail> {
@@ -237,7 +237,7 @@ fn run_by<M: AskedByKey<Item = Kept, Key = u32> + Commanded<Kept, u32>>(
 }
 
 // The same of the six others. The store keeps its room where a shrink meets a refusal there, and the reply does not say so.
-fn bulk_run_by<M: AskedByKey<Item = Kept, Key = u32> + Commanded<Kept, u32>>(
+fn bulk_run_by<M: UnderTest<Kept, u32> + Commanded<Kept, u32>>(
     alloc: Global,
     map: &mut M,
 ) -> Result<&'static str, Fail> {

@@ -5,8 +5,7 @@ use std::test::Fail;
 use test_support::caseless::{Caseless, Coarse, item_of, spelled};
 use test_support::entered::{Entered, Put};
 use test_support::heap::{arm, is_met};
-use test_support::maps::{AskedByKey, AskedForRoom, Ordered, by_hash, in_order};
-use test_support::walks::Listed;
+use test_support::maps::{Copying, Ordered, UnderTest, by_hash, in_order};
 
 // An insertion that is tried.
 trait Tried<M>: Copy {
@@ -59,10 +58,7 @@ const NAMES: [[u8; 3]; 9] = [
 ];
 
 // Whether the map is sound and has these names, each with the value 5, and no other.
-fn holds<M: AskedByKey<Item = Coarse, Key = Caseless> + AskedForRoom>(
-    map: &M,
-    names: &[[u8; 3]],
-) -> bool {
+fn holds<M: UnderTest<Coarse, Caseless>>(map: &M, names: &[[u8; 3]]) -> bool {
     for name in names {
         if map.get(&Caseless(*name)).map(spelled) != Some((*name, 5)) {
             return false;
@@ -72,10 +68,7 @@ fn holds<M: AskedByKey<Item = Coarse, Key = Caseless> + AskedForRoom>(
 }
 
 // Inserts an item of each name.
-fn fill<M: AskedByKey<Item = Coarse, Key = Caseless>>(
-    map: &mut M,
-    names: &[[u8; 3]],
-) -> Result<(), Fail> {
+fn fill<M: UnderTest<Coarse, Caseless>>(map: &mut M, names: &[[u8; 3]]) -> Result<(), Fail> {
     for name in names {
         if !map.is_put(item_of(*name, 5)) {
             return Err(Fail::from("an item is not in"));
@@ -109,7 +102,7 @@ fn is_back(answer: &Put) -> bool {
 
 // Fills the map with this many names, so that no slot is vacant. Then it tries the insertion of a new one with a
 // request refused: the word for what was seen.
-fn insertion<M: AskedByKey<Item = Coarse, Key = Caseless> + AskedForRoom + Listed<Coarse>>(
+fn insertion<M: Copying<Coarse, Caseless>>(
     alloc: Global,
     map: &mut M,
     call: impl Tried<M>,

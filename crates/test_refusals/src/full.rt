@@ -6,7 +6,7 @@ use std::alloc::Global;
 use std::test::Fail;
 use test_support::heap::{arm, is_met};
 use test_support::items::Numbered;
-use test_support::maps::{AskedByKey, AskedForRoom, AskedToInsert, Hashed, Inserted, Ordered};
+use test_support::maps::{Copying, Hashed, Inserted, Ordered, UnderTest};
 
 // Whether the item came back since the map is full.
 fn is_kept_out(inserted: Inserted<Numbered>, item: Numbered) -> bool {
@@ -18,7 +18,7 @@ fn is_kept_out(inserted: Inserted<Numbered>, item: Numbered) -> bool {
 
 // Fills a map up to its limit, and tries two insertions of a new number and a reservation. Whether each was refused
 // since the map is full, and met a request.
-fn insertions<M: AskedByKey<Item = Numbered, Key = u32> + AskedToInsert<Numbered> + AskedForRoom>(
+fn insertions<M: Copying<Numbered, u32>>(
     alloc: Global,
     map: &mut M,
     limit: u32,

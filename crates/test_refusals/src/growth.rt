@@ -3,7 +3,7 @@ use crate::checks::check;
 use std::test::Fail;
 use test_support::heap::{arm, is_met};
 use test_support::items::Numbered;
-use test_support::maps::{AskedForRoom, AskedToInsert, Inserted, Ordered, in_order};
+use test_support::maps::{Copying, Inserted, Ordered, UnderTest, in_order};
 
 // Whether the walk has the numbers from 1 to below another, in order.
 fn walks(map: &Ordered<Numbered>, end: u32) -> bool {

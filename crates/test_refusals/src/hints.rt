@@ -2,10 +2,10 @@
 use crate::words::tell;
 use std::alloc::Global;
 use std::test::Fail;
-use test_support::bulk::{Bulk, is_not_taken_in};
+use test_support::bulk::is_not_taken_in;
 use test_support::heap::{arm, is_met};
 use test_support::items::Named;
-use test_support::maps::{AskedByKey, AskedForRoom, AskedToInsert, Inserted, by_hash, in_order};
+use test_support::maps::{Copying, Inserted, UnderTest, by_hash, in_order};
 
 const FOO: Named = Named {
     name: *b"foo",
@@ -18,7 +18,7 @@ const BAR: Named = Named {
 };
 
 // Inserts the item, again if it is refused: whether it was refused, or `None` if it is not in.
-fn put_at_last<M: AskedToInsert<Named>>(map: &mut M, item: Named) -> Option<bool> {
+fn put_at_last<M: Copying<Named, [u8; 3]>>(map: &mut M, item: Named) -> Option<bool> {
     match map.insert(item) {
         Inserted::Done => Some(false),
         Inserted::Refused(back, _) if back == item && map.insert(item) == Inserted::Done => Some(
@@ -29,16 +29,14 @@ fn put_at_last<M: AskedToInsert<Named>>(map: &mut M, item: Named) -> Option<bool
 }
 
 // Whether the map is sound and has foo and bar.
-fn has_both<M: AskedByKey<Item = Named, Key = [u8; 3]> + AskedForRoom>(map: &M) -> bool {
+fn has_both<M: UnderTest<Named, [u8; 3]>>(map: &M) -> bool {
     let are_found = map.get(b"foo") == Some(&FOO) && map.get(b"bar") == Some(&BAR);
     are_found && map.len() == 2 && map.is_sound()
 }
 
 // The word for a map that an iterator lies to before and after it has two items. A request that is refused is one
 // of theirs.
-fn lied_to<
-    M: AskedByKey<Item = Named, Key = [u8; 3]> + AskedToInsert<Named> + AskedForRoom + Bulk<Named>,
->(alloc: Global, map: &mut M) -> Result<&'static str, Fail> {
+fn lied_to<M: Copying<Named, [u8; 3]>>(alloc: Global, map: &mut M) -> Result<&'static str, Fail> {
     arm(alloc);
     let is_empty_kept = is_not_taken_in(map) && map.len() == 0;
     let refused = (put_at_last(map, FOO), put_at_last(map, BAR));

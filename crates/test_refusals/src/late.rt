@@ -6,7 +6,7 @@ use std::test::Fail;
 use test_support::bulk::{Bulk, Unannounced};
 use test_support::heap::{arm, is_met};
 use test_support::kept::Kept;
-use test_support::maps::{AskedByKey, by_hash, in_order};
+use test_support::maps::{UnderTest, by_hash, in_order};
 
 // Twenty items, from the name 19 on down.
 fn twenty(alloc: Global) -> Result<Unannounced<Kept>, AllocError> {
@@ -27,7 +27,7 @@ fn is_refused(outcome: Result<usize, Option<TryReserveError>>) -> Option<bool> {
     }
 }
 
-fn collect<M: Bulk<Kept> + AskedByKey<Item = Kept> + Drop>(
+fn collect<M: UnderTest<Kept, u32> + Bulk<Kept> + Drop>(
     alloc: Global,
     items: Unannounced<Kept>,
 ) -> Option<bool> {
@@ -45,7 +45,7 @@ fn error_of(stopped: FromIterError<Kept>) -> Option<TryReserveError> {
     }
 }
 
-fn collect_unique<M: Bulk<Kept> + AskedByKey<Item = Kept> + Drop>(
+fn collect_unique<M: UnderTest<Kept, u32> + Bulk<Kept> + Drop>(
     alloc: Global,
     items: Unannounced<Kept>,
 ) -> Option<bool> {
@@ -57,10 +57,7 @@ fn collect_unique<M: Bulk<Kept> + AskedByKey<Item = Kept> + Drop>(
 }
 
 // The refused item comes back, and those before it are in.
-fn extend<M: Bulk<Kept> + AskedByKey<Item = Kept>>(
-    map: &mut M,
-    items: Unannounced<Kept>,
-) -> Option<bool> {
+fn extend<M: UnderTest<Kept, u32>>(map: &mut M, items: Unannounced<Kept>) -> Option<bool> {
     let outcome = map.extend(items);
     is_refused(match outcome {
         Ok(()) => Ok(map.len()),
@@ -86,7 +83,7 @@ fn word(refused: [Option<bool>; 3], is_met: bool) -> Result<&'static str, Fail> 
 }
 
 // Three maps of the items.
-fn takes_late<M: Bulk<Kept> + AskedByKey<Item = Kept> + Drop>(
+fn takes_late<M: UnderTest<Kept, u32> + Bulk<Kept> + Drop>(
     alloc: Global,
     map: &mut M,
 ) -> Result<&'static str, Fail> {

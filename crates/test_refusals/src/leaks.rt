@@ -5,28 +5,24 @@ use std::alloc::Global;
 use std::test::Fail;
 use test_support::heap::{arm, has_leaked, is_met};
 use test_support::items::Numbered;
-use test_support::maps::{
-    AskedByKey, AskedForRoom, AskedToInsert, Hashed, Ordered, by_hash, in_order,
-};
+use test_support::maps::{Copying, Hashed, Ordered, UnderTest, by_hash, in_order};
 
 // Inserts the numbers from the one up to the other, but for those that are refused.
-fn put_in<M: AskedToInsert<Numbered>>(map: &mut M, from: u32, to: u32) {
+fn put_in<M: Copying<Numbered, u32>>(map: &mut M, from: u32, to: u32) {
     for number in from..to {
         let _ = map.insert(numbered(number, 5));
     }
 }
 
 // Takes out the numbers from the one up to the other.
-fn take_out<M: AskedByKey<Item = Numbered, Key = u32>>(map: &mut M, from: u32, to: u32) {
+fn take_out<M: UnderTest<Numbered, u32>>(map: &mut M, from: u32, to: u32) {
     for number in from..to {
         let _ = map.remove(&number);
     }
 }
 
 // Fills the map, so that its index grows, takes most out again, so that it falls, and gives memory back.
-fn rise_and_fall<
-    M: AskedByKey<Item = Numbered, Key = u32> + AskedToInsert<Numbered> + AskedForRoom,
->(map: &mut M) {
+fn rise_and_fall<M: Copying<Numbered, u32>>(map: &mut M) {
     put_in(map, 0, 100);
     take_out(map, 10, 90);
     let _ = map.shrink_to_fit();

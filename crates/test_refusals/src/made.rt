@@ -10,7 +10,7 @@ use std::test::Fail;
 use test_support::bulk::Bulk;
 use test_support::heap::{arm, is_met};
 use test_support::items::Numbered;
-use test_support::maps::{AskedByKey, AskedForRoom, Hashed, Ordered};
+use test_support::maps::{Hashed, Ordered, UnderTest};
 
 // The word for what was made.
 fn word<M: Drop>(made: Result<M, TryReserveError>, is_met: bool) -> Result<&'static str, Fail> {
@@ -54,7 +54,7 @@ fn hash_room_without_memory(rt: HostRuntime) -> Result<(), Fail> {
 }
 
 // The word for a map of twenty numbers.
-fn word_of_twenty<M: AskedByKey<Item = Numbered, Key = u32> + AskedForRoom + Drop>(
+fn word_of_twenty<M: UnderTest<Numbered, u32> + Drop>(
     made: Result<M, Option<TryReserveError>>,
     is_met: bool,
 ) -> Result<&'static str, Fail> {
@@ -68,7 +68,7 @@ fn word_of_twenty<M: AskedByKey<Item = Numbered, Key = u32> + AskedForRoom + Dro
 }
 
 // Collects twenty numbers.
-fn collection<M: AskedByKey<Item = Numbered, Key = u32> + AskedForRoom + Bulk<Numbered> + Drop>(
+fn collection<M: UnderTest<Numbered, u32> + Bulk<Numbered> + Drop>(
     alloc: Global,
 ) -> Result<&'static str, Fail> {
     let items = numbers(alloc, 0, 20)?;
@@ -78,9 +78,9 @@ fn collection<M: AskedByKey<Item = Numbered, Key = u32> + AskedForRoom + Bulk<Nu
 }
 
 // The same, where no number may repeat.
-fn unique_collection<
-    M: AskedByKey<Item = Numbered, Key = u32> + AskedForRoom + Bulk<Numbered> + Drop,
->(alloc: Global) -> Result<&'static str, Fail> {
+fn unique_collection<M: UnderTest<Numbered, u32> + Bulk<Numbered> + Drop>(
+    alloc: Global,
+) -> Result<&'static str, Fail> {
     let items = numbers(alloc, 0, 20)?;
     arm(alloc);
     let made = M::collected_unique(alloc, items);

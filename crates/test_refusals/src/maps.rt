@@ -5,17 +5,14 @@ use std::alloc::{AllocError, Global};
 use std::test::Fail;
 use test_support::heap::{arm, is_met};
 use test_support::items::{Numbered, Titled};
-use test_support::maps::{
-    AskedByKey, AskedByText, AskedForRoom, AskedToInsert, Inserted, Ordered, by_hash, in_order,
-};
-use test_support::walks::Listed;
+use test_support::maps::{AskedByText, Copying, Inserted, Ordered, UnderTest, by_hash, in_order};
 
 pub(crate) fn numbered(number: u32, value: u32) -> Numbered {
     Numbered { number, value }
 }
 
 // Inserts the numbers below the count, each with the value 5.
-pub(crate) fn fill<M: AskedToInsert<Numbered>>(map: &mut M, count: u32) -> Result<(), Fail> {
+pub(crate) fn fill<M: Copying<Numbered, u32>>(map: &mut M, count: u32) -> Result<(), Fail> {
     for number in 0..count {
         if map.insert(numbered(number, 5)) != Inserted::Done {
             return Err(Fail::from("an item is not in"));
@@ -26,11 +23,7 @@ pub(crate) fn fill<M: AskedToInsert<Numbered>>(map: &mut M, count: u32) -> Resul
 
 // Whether the map is sound and holds the numbers below the count, each with the value 5. It holds no other but
 // 1000, if a value is given for it.
-pub(crate) fn holds<M: AskedByKey<Item = Numbered, Key = u32> + AskedForRoom>(
-    map: &M,
-    count: u32,
-    new: Option<u32>,
-) -> bool {
+pub(crate) fn holds<M: UnderTest<Numbered, u32>>(map: &M, count: u32, new: Option<u32>) -> bool {
     for number in 0..count {
         if map.get(&number).copied() != Some(numbered(number, 5)) {
             return false;
@@ -49,7 +42,7 @@ trait Call<M>: Copy {
 #[derive(Clone, Copy)]
 struct ByUnique;
 
-impl<M: AskedToInsert<Numbered>> Call<M> for ByUnique {
+impl<M: Copying<Numbered, u32>> Call<M> for ByUnique {
     fn put(self, map: &mut M, item: Numbered) -> Inserted<Numbered> {
         map.insert(item)
     }
@@ -67,13 +60,13 @@ impl Call<Ordered<Numbered>> for ByCounted {
 #[derive(Clone, Copy)]
 struct ByOverwrite;
 
-impl<M: AskedByKey<Item = Numbered, Key = u32>> Call<M> for ByOverwrite {
+impl<M: UnderTest<Numbered, u32>> Call<M> for ByOverwrite {
     fn put(self, map: &mut M, item: Numbered) -> Inserted<Numbered> {
         overwrite(map, item)
     }
 }
 
-pub(crate) fn overwrite<M: AskedByKey<Item = Numbered, Key = u32>>(
+pub(crate) fn overwrite<M: UnderTest<Numbered, u32>>(
     map: &mut M,
     item: Numbered,
 ) -> Inserted<Numbered> {
@@ -85,7 +78,7 @@ pub(crate) fn overwrite<M: AskedByKey<Item = Numbered, Key = u32>>(
 }
 
 // Whether nothing has changed, the walk and the vacant slots neither, and an item that was refused is inserted now.
-fn goes_in_again<M: AskedByKey<Item = Numbered, Key = u32> + AskedForRoom + Listed<Numbered>>(
+fn goes_in_again<M: Copying<Numbered, u32>>(
     map: &mut M,
     call: impl Call<M>,
     item: Numbered,
@@ -101,12 +94,12 @@ fn goes_in_again<M: AskedByKey<Item = Numbered, Key = u32> + AskedForRoom + List
 
 // Fills the map with this many numbers, none of which goes again, so that no slot is vacant. Then it tries the
 // insertion of a new one with a request refused: the word for what was seen.
-fn insertion<
-    M: AskedByKey<Item = Numbered, Key = u32>
-        + AskedToInsert<Numbered>
-        + AskedForRoom
-        + Listed<Numbered>,
->(alloc: Global, map: &mut M, call: impl Call<M>, count: u32) -> Result<&'static str, Fail> {
+fn insertion<M: Copying<Numbered, u32>>(
+    alloc: Global,
+    map: &mut M,
+    call: impl Call<M>,
+    count: u32,
+) -> Result<&'static str, Fail> {
     fill(map, count)?;
     let walk = map.listed(alloc)?;
     let new = numbered(1000, 6);
@@ -177,7 +170,7 @@ fn hash_insert_overwrite(rt: HostRuntime) -> Result<(), Fail> {
 
 // Fills the map with this many numbers, inserts each again by both insertions, and clears the map. Whether that
 // went well, and met a request.
-fn akin_insertions<M: AskedByKey<Item = Numbered, Key = u32> + AskedToInsert<Numbered> + Drop>(
+fn akin_insertions<M: Copying<Numbered, u32> + Drop>(
     alloc: Global,
     mut map: M,
     count: u32,
@@ -237,7 +230,7 @@ fn names(alloc: Global) -> Result<Vec<String>, AllocError> {
 }
 
 // Inserts an item of each name, its value the place of the name.
-fn fill_with_names<M: AskedByKey<Item = Titled>>(
+fn fill_with_names<M: UnderTest<Titled, String>>(
     map: &mut M,
     names: &[String],
 ) -> Result<(), AllocError> {
@@ -272,7 +265,7 @@ fn are_taken_out<M: AskedByText<Item = Titled>>(map: &mut M, names: &[String]) -
 }
 
 // Fills the map with a hundred names, and then finds and takes out each: whether that went well, and met a request.
-fn lookups<M: AskedByKey<Item = Titled> + AskedByText<Item = Titled> + Drop>(
+fn lookups<M: UnderTest<Titled, String> + AskedByText<Item = Titled> + Drop>(
     alloc: Global,
     mut map: M,
 ) -> Result<(bool, bool), AllocError> {

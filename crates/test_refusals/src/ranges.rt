@@ -6,8 +6,7 @@ use std::ops::Bound;
 use std::test::Fail;
 use test_support::heap::{arm, is_met};
 use test_support::items::Numbered;
-use test_support::maps::{AskedByKey, Ordered, in_order};
-use test_support::walks::Listed;
+use test_support::maps::{Copying, Ordered, UnderTest, in_order};
 
 // Whether positions, bounds and walks from both ends are those of the list.
 fn are_read(map: &Ordered<Numbered>, items: &[Numbered]) -> bool {

@@ -6,7 +6,7 @@ use std::alloc::Global;
 use std::test::Fail;
 use test_support::heap::{arm, is_met};
 use test_support::items::Numbered;
-use test_support::maps::{AskedByKey, AskedForRoom, AskedToInsert, Hashed, Inserted};
+use test_support::maps::{Copying, Hashed, Inserted, UnderTest};
 use test_support::visitors::{Change, Visited};
 
 fn numbered(number: u32) -> Numbered {

@@ -4,12 +4,10 @@ use crate::words::tell;
 use iddqd::errors::{ExtendError, TryReserveError};
 use std::alloc::{AllocError, Global};
 use std::test::Fail;
-use test_support::bulk::{Added, Adding, Bulk};
 use test_support::heap::{arm, is_met};
 use test_support::items::Numbered;
-use test_support::maps::{AskedByKey, AskedForRoom, AskedToInsert, Hashed, by_hash, in_order};
+use test_support::maps::{Added, Copying, Hashed, UnderTest, by_hash, in_order};
 use test_support::nine::{are_left, retain_nine};
-use test_support::walks::{Listed, Walked};
 
 // A reservation that is tried.
 trait Reserving<M>: Copy {
@@ -19,7 +17,7 @@ trait Reserving<M>: Copy {
 #[derive(Clone, Copy)]
 struct ByReserve;
 
-impl<M: AskedForRoom> Reserving<M> for ByReserve {
+impl<M: UnderTest<Numbered, u32>> Reserving<M> for ByReserve {
     fn reserve(self, map: &mut M) -> Result<(), TryReserveError> {
         map.reserve(1000)
     }
@@ -35,12 +33,11 @@ impl Reserving<Hashed<Numbered>> for ByTryReserve {
 }
 
 // The word for a reservation on a map of four numbers.
-fn reservation<
-    M: AskedByKey<Item = Numbered, Key = u32>
-        + AskedToInsert<Numbered>
-        + AskedForRoom
-        + Listed<Numbered>,
->(alloc: Global, map: &mut M, call: impl Reserving<M>) -> Result<&'static str, Fail> {
+fn reservation<M: Copying<Numbered, u32>>(
+    alloc: Global,
+    map: &mut M,
+    call: impl Reserving<M>,
+) -> Result<&'static str, Fail> {
     fill(map, 4)?;
     let walk = map.listed(alloc)?;
     let room = map.room();
@@ -77,7 +74,10 @@ fn hash_try_reserve(rt: HostRuntime) -> Result<(), Fail> {
 }
 
 // The least room that a shrink leaves; `None` asks for no more than the items need.
-fn shrink_by<M: AskedForRoom>(map: &mut M, min: Option<usize>) -> Result<(), TryReserveError> {
+fn shrink_by<M: UnderTest<Numbered, u32>>(
+    map: &mut M,
+    min: Option<usize>,
+) -> Result<(), TryReserveError> {
     match min {
         None => map.shrink_to_fit(),
         Some(min) => map.shrink_to(min),
@@ -85,7 +85,7 @@ fn shrink_by<M: AskedForRoom>(map: &mut M, min: Option<usize>) -> Result<(), Try
 }
 
 // The word for a shrink of a map of nine numbers, with vacant slots among them.
-fn shrink<M: AskedByKey<Item = Numbered, Key = u32> + AskedForRoom + Walked<Numbered>>(
+fn shrink<M: UnderTest<Numbered, u32>>(
     alloc: Global,
     map: &mut M,
     min: Option<usize>,
@@ -142,12 +142,7 @@ pub(crate) fn numbers(alloc: Global, from: u32, to: u32) -> Result<Vec<Numbered>
 }
 
 // The word for the numbers 5 to 24 put into a map of five numbers.
-fn extension<
-    M: AskedByKey<Item = Numbered, Key = u32>
-        + AskedToInsert<Numbered>
-        + AskedForRoom
-        + Bulk<Numbered>,
->(alloc: Global, map: &mut M) -> Result<&'static str, Fail> {
+fn extension<M: Copying<Numbered, u32>>(alloc: Global, map: &mut M) -> Result<&'static str, Fail> {
     fill(map, 5)?;
     let items = numbers(alloc, 5, 25)?;
     arm(alloc);
@@ -175,12 +170,7 @@ fn hash_extend(rt: HostRuntime) -> Result<(), Fail> {
 }
 
 // The word for the numbers 5 to 24 added to a map of five numbers.
-fn addition<
-    M: AskedByKey<Item = Numbered, Key = u32>
-        + AskedToInsert<Numbered>
-        + Adding<Numbered>
-        + AskedForRoom,
->(alloc: Global, map: &mut M) -> Result<&'static str, Fail> {
+fn addition<M: Copying<Numbered, u32>>(alloc: Global, map: &mut M) -> Result<&'static str, Fail> {
     fill(map, 5)?;
     let items = numbers(alloc, 5, 25)?;
     arm(alloc);

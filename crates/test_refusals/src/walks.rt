@@ -5,8 +5,8 @@ use std::alloc::Global;
 use std::test::Fail;
 use test_support::heap::{arm, is_met};
 use test_support::items::Numbered;
-use test_support::maps::{AskedByKey, AskedToInsert, by_hash, in_order};
-use test_support::walks::{Listed, Walked};
+use test_support::maps::{Copying, UnderTest, by_hash, in_order};
+use test_support::walks::Walked;
 
 fn write(item: &mut Numbered) {
     item.value = 7;
@@ -16,11 +16,7 @@ fn write(item: &mut Numbered) {
 // and met a request.
 fn walks<M>(alloc: Global, mut map: M) -> Result<(bool, bool), Fail>
 where
-    M: AskedByKey<Item = Numbered, Key = u32>
-        + AskedToInsert<Numbered>
-        + Listed<Numbered>
-        + Walked<Numbered>
-        + Drop,
+    M: Copying<Numbered, u32> + Walked<Numbered> + Drop,
     M::Map: Drop,
 {
     fill(&mut map, 78)?;

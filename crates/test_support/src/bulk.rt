@@ -1,22 +1,14 @@
-//! What a row asks of the bulk calls of a map of either kind, and iterators that lie.
+//! Maps of either kind made of iterators, and iterators that lie.
 ghost use Rattle.std.specs.Iterator.{IsFiniteIterable as IsFinite};
 
 use crate::items::Named;
-use crate::maps::{Hashed, Ordered, both};
-use iddqd::errors::{ExtendError, ExtendUniqueError, FromIterError, TryReserveError};
-use iddqd::{IdHashItem, IdHashMap, IdOrdItem, IdOrdMap, Keyed};
+use crate::maps::{Hashed, Ordered, UnderTest};
+use iddqd::errors::{FromIterError, TryReserveError};
+use iddqd::{IdHashItem, IdHashMap, IdOrdItem, IdOrdMap};
 use std::alloc::Global;
 use std::hash::BuildHasher;
 
-/// What adding many items left: all of them, the first conflict's new item and the one that is there, or a refusal.
-#[derive(Drop, PartialEq, Eq)]
-pub enum Added<T> {
-    All,
-    Conflict(T, Option<T>),
-    Stopped(Option<T>, TryReserveError),
-}
-
-/// A map of either kind, by its calls on many items.
+/// A map of either kind that is made of an iterator.
 pub trait Bulk<T>: Sized {
     /// `from_iter`.
     fn collected<U: IntoIterator<Item = T>>(
@@ -32,12 +24,6 @@ pub trait Bulk<T>: Sized {
         alloc: Global,
         items: U,
     ) -> Result<Self, FromIterError<T>>
-    where
-        T: Drop,
-        requires ends { IsFinite U.into_iter_gives U.IntoIter.can_next U.IntoIter.remaining items };
-
-    /// `extend`.
-    fn extend<U: IntoIterator<Item = T>>(&mut self, items: U) -> Result<(), ExtendError<T>>
     where
         T: Drop,
         requires ends { IsFinite U.into_iter_gives U.IntoIter.can_next U.IntoIter.remaining items };
@@ -63,13 +49,6 @@ impl<T: IdOrdItem> Bulk<T> for Ordered<T> {
     {
         Ok(Ordered::new(IdOrdMap::from_iter_unique(alloc, items)?))
     }
-
-    fn extend<U: IntoIterator<Item = T>>(&mut self, items: U) -> Result<(), ExtendError<T>>
-    where
-        T: Drop,
-    {
-        self.map.extend(items)
-    }
 }
 
 impl<T: IdHashItem, S: BuildHasher + Default + Drop> Bulk<T> for Hashed<T, S> {
@@ -91,60 +70,6 @@ impl<T: IdHashItem, S: BuildHasher + Default + Drop> Bulk<T> for Hashed<T, S> {
         T: Drop,
     {
         Ok(Hashed::new(IdHashMap::from_iter_unique(alloc, items)?))
-    }
-
-    fn extend<U: IntoIterator<Item = T>>(&mut self, items: U) -> Result<(), ExtendError<T>>
-    where
-        T: Drop,
-    {
-        self.map.extend(items)
-    }
-}
-
-/// A map of either kind, by `extend_unique`.
-pub trait Adding<T>: Sized {
-    /// `extend_unique`, with what is lent copied.
-    fn add_each<U: IntoIterator<Item = T>>(&mut self, items: U) -> Added<T>
-        requires ends { IsFinite U.into_iter_gives U.IntoIter.can_next U.IntoIter.remaining items };
-}
-
-impl<T: IdOrdItem + Copy + Drop> Adding<T> for Ordered<T> {
-    fn add_each<U: IntoIterator<Item = T>>(&mut self, items: U) -> Added<T> {
-        match self.map.extend_unique(items) {
-            Ok(()) => Added::All,
-            Err(error) => stopped(error),
-        }
-    }
-}
-
-impl<T: IdHashItem + Copy + Drop> Adding<T> for Hashed<T> {
-    fn add_each<U: IntoIterator<Item = T>>(&mut self, items: U) -> Added<T> {
-        add_by_hash(&mut self.map, items)
-    }
-}
-
-fn add_by_hash<T: IdHashItem + Copy + Drop, S: BuildHasher, U: IntoIterator<Item = T>>(
-    map: &mut IdHashMap<T, S>,
-    items: U,
-) -> Added<T>
-    requires keyed { ⟦<IdHashMap<T, S> as Keyed>⟧.keyed map.old }
-    requires ends { IsFinite U.into_iter_gives U.IntoIter.can_next U.IntoIter.remaining items }
-    ensures keyed { ⟦<IdHashMap<T, S> as Keyed>⟧.keyed map.new }
-{
-    match map.extend_unique(items) {
-        Ok(()) => Added::All,
-        Err(error) => stopped(error),
-    }
-}
-
-// What ends the adding, with what is lent copied.
-fn stopped<T: Copy>(error: ExtendUniqueError<T>) -> Added<T> {
-    match error {
-        ExtendUniqueError::Duplicate(conflict) => {
-            let (new, there) = both(&conflict);
-            Added::Conflict(new, there)
-        }
-        ExtendUniqueError::Refused(stopped) => Added::Stopped(stopped.item, stopped.error),
     }
 }
 
@@ -193,7 +118,7 @@ impl Iterator for Liar {
 }
 
 /// Whether the map refuses what a liar announces before it asks it.
-pub fn is_not_taken_in<M: Bulk<Named>>(map: &mut M) -> bool {
+pub fn is_not_taken_in<M: UnderTest<Named, [u8; 3]>>(map: &mut M) -> bool {
     let mut liar = Liar::new();
     let refused = match map.extend(&mut liar) {
         Ok(()) => false,

@@ -5,8 +5,7 @@ mod ord;
 use crate::caseless::{Caseless, Coarse};
 use crate::hashers::ZeroHasher;
 use crate::maps::{Hashed, Ordered};
-use iddqd::Steps;
-use iddqd::errors::{ExtendError, TryReserveError};
+use iddqd::errors::TryReserveError;
 use iddqd::internal::ValidateCompact;
 use std::alloc::{AllocError, Global};
 use std::collections::hash_map::RandomState;
@@ -24,15 +23,6 @@ pub trait Probed: Sized {
     /// may be.
     fn is_valid(&self) -> bool;
 
-    /// `contains_key`.
-    fn contains(&self, name: &Caseless) -> bool;
-
-    /// `get_counted`, and how many comparisons it took.
-    fn get_counted(&self, name: &Caseless) -> (Option<Coarse>, u32);
-
-    /// The items of `iter`.
-    fn walked(&self, alloc: Global) -> Result<Vec<Coarse>, AllocError>;
-
     /// The items of `into_iter`.
     fn walked_out(self, alloc: Global) -> Result<Vec<Coarse>, AllocError>;
 
@@ -41,9 +31,6 @@ pub trait Probed: Sized {
 
     /// `try_reserve`, or `reserve` where there is no such call.
     fn try_reserve(&mut self, additional: usize) -> Result<(), TryReserveError>;
-
-    /// `extend`.
-    fn take_all(&mut self, items: Vec<Coarse>) -> Result<(), ExtendError<Coarse>>;
 
     /// Writes by a guard that is lent once more. It returns the old item, what the guard reads once that loan is
     /// over, and what it shows once it is spent.
@@ -81,20 +68,6 @@ impl Probed for Ordered<Coarse> {
             && map.validate_structural(ValidateCompact::Compact).is_ok() == is_compact
     }
 
-    fn contains(&self, name: &Caseless) -> bool {
-        self.map.contains_key(name)
-    }
-
-    fn get_counted(&self, name: &Caseless) -> (Option<Coarse>, u32) {
-        let mut steps = Steps::new();
-        let found = self.map.get_counted(name, &mut steps).copied();
-        (found, steps.count())
-    }
-
-    fn walked(&self, alloc: Global) -> Result<Vec<Coarse>, AllocError> {
-        self.map.iter().copied().collect(alloc)
-    }
-
     fn walked_out(self, alloc: Global) -> Result<Vec<Coarse>, AllocError> {
         self.map.into_iter().collect(alloc)
     }
@@ -105,10 +78,6 @@ impl Probed for Ordered<Coarse> {
 
     fn try_reserve(&mut self, additional: usize) -> Result<(), TryReserveError> {
         self.map.reserve(additional)
-    }
-
-    fn take_all(&mut self, items: Vec<Coarse>) -> Result<(), ExtendError<Coarse>> {
-        self.map.extend(items)
     }
 
     fn write_by_reborrow(
@@ -150,20 +119,6 @@ impl<S: BuildHasher + Drop> Probed for Hashed<Coarse, S> {
             && map.validate_structural(ValidateCompact::Compact).is_ok() == is_compact
     }
 
-    fn contains(&self, name: &Caseless) -> bool {
-        self.map.contains_key(name)
-    }
-
-    fn get_counted(&self, name: &Caseless) -> (Option<Coarse>, u32) {
-        let mut steps = Steps::new();
-        let found = self.map.get_counted(name, &mut steps).copied();
-        (found, steps.count())
-    }
-
-    fn walked(&self, alloc: Global) -> Result<Vec<Coarse>, AllocError> {
-        self.map.iter().copied().collect(alloc)
-    }
-
     fn walked_out(self, alloc: Global) -> Result<Vec<Coarse>, AllocError> {
         self.map.into_iter().collect(alloc)
     }
@@ -174,10 +129,6 @@ impl<S: BuildHasher + Drop> Probed for Hashed<Coarse, S> {
 
     fn try_reserve(&mut self, additional: usize) -> Result<(), TryReserveError> {
         self.map.try_reserve(additional)
-    }
-
-    fn take_all(&mut self, items: Vec<Coarse>) -> Result<(), ExtendError<Coarse>> {
-        self.map.extend(items)
     }
 
     fn write_by_reborrow(

@@ -1,16 +1,19 @@
 //! Maps under test, one of each kind. Their calls are the maps', and say nothing of what they leave. A test shows
 //! that by what it finds, so that its proof carries no contract of the maps along.
+ghost use Rattle.std.specs.Iterator.{IsFiniteIterable as IsFinite};
 ghost use Rattle.iddqd.specs.Contents.{Ascends, ClonesAreEqual};
 ghost use Rattle.iddqd.specs.IdHashMap.{HashItems, IsKeyed};
 ghost use Rattle.iddqd.specs.Hashing.{hash_under};
 ghost use Rattle.iddqd.specs.Holding.{Holding};
 
 use crate::visitors::Untouched;
-use iddqd::errors::{DuplicateItem, InsertError, Refused, TryReserveError};
+use iddqd::errors::{
+    DuplicateItem, ExtendError, ExtendUniqueError, InsertError, Refused, TryReserveError,
+};
 use iddqd::internal::ValidateCompact;
-use iddqd::{DefaultHashBuilder, IdHashItem, IdHashMap, IdOrdItem, IdOrdMap, Keyed, Text};
+use iddqd::{DefaultHashBuilder, IdHashItem, IdHashMap, IdOrdItem, IdOrdMap, Keyed, Steps, Text};
 use idtable_commands::{Command, KeyedMap, Reply, RunStop, run};
-use std::alloc::Global;
+use std::alloc::{AllocError, Global};
 use std::hash::BuildHasher;
 use std::marker::Model;
 
@@ -39,6 +42,25 @@ pub(crate) fn kept_out<T: Copy>(error: InsertError<T>) -> Inserted<T> {
             Inserted::Duplicate(new, there)
         }
         InsertError::Refused(refused) => Inserted::Refused(refused.item, refused.error),
+    }
+}
+
+/// What adding many items left: all of them, the first conflict's new item and the one that is there, or a refusal.
+#[derive(Drop, PartialEq, Eq)]
+pub enum Added<T> {
+    All,
+    Conflict(T, Option<T>),
+    Stopped(Option<T>, TryReserveError),
+}
+
+// What ends the adding, with what is lent copied.
+fn stopped<T: Copy>(error: ExtendUniqueError<T>) -> Added<T> {
+    match error {
+        ExtendUniqueError::Duplicate(conflict) => {
+            let (new, there) = both(&conflict);
+            Added::Conflict(new, there)
+        }
+        ExtendUniqueError::Refused(stopped) => Added::Stopped(stopped.item, stopped.error),
     }
 }
 
@@ -123,42 +145,79 @@ impl<T: IdHashItem, S: BuildHasher> Hashed<T, S> {
     }
 }
 
-/// What a row asks of a map of either kind by keys.
-pub trait AskedByKey {
-    /// What the map holds.
-    type Item;
-
-    /// What tells an item from others.
-    type Key;
-
-    /// Whether the item is inserted, if no item of its key exists.
-    fn is_put(&mut self, item: Self::Item) -> bool
+/// A map of either kind under test, with items `T` of keys `K`.
+pub trait UnderTest<T, K>: Sized {
+    /// Whether `insert_unique` inserts the item.
+    fn is_put(&mut self, item: T) -> bool
     where
-        Self::Item: Drop;
+        T: Drop;
 
     /// `insert_overwrite`.
-    fn overwrite(&mut self, item: Self::Item) -> Result<Option<Self::Item>, Refused<Self::Item>>;
+    fn overwrite(&mut self, item: T) -> Result<Option<T>, Refused<T>>;
 
-    /// The item of the key.
-    fn get(&self, key: &Self::Key) -> Option<&Self::Item>;
+    /// `extend`.
+    fn extend<U: IntoIterator<Item = T>>(&mut self, items: U) -> Result<(), ExtendError<T>>
+    where
+        T: Drop,
+        requires ends { IsFinite U.into_iter_gives U.IntoIter.can_next U.IntoIter.remaining items };
 
-    /// Takes out the item of the key.
-    fn remove(&mut self, key: &Self::Key) -> Option<Self::Item>;
+    /// `get`, which lends the item.
+    fn get(&self, key: &K) -> Option<&T>;
 
-    /// Drops every item.
+    /// `contains_key`.
+    fn contains(&self, key: &K) -> bool;
+
+    /// `get_counted`, and how many comparisons it took.
+    fn get_counted(&self, key: &K) -> (Option<&T>, u32);
+
+    /// `remove`.
+    fn remove(&mut self, key: &K) -> Option<T>;
+
+    /// `retain`.
+    fn retain<F: FnMut(&T) -> bool>(&mut self, keep: F)
+    where
+        T: Drop,
+        requires { F.IsAlwaysCallable keep };
+
+    /// `clear`.
     fn clear(&mut self)
     where
-        Self::Item: Drop;
+        T: Drop;
 
-    /// How many items there are.
+    /// `len`.
     fn len(&self) -> usize;
+
+    /// Whether `iter` has these items, in this order.
+    fn lists(&self, items: &[T]) -> bool
+    where
+        T: PartialEq;
+
+    /// `reserve`.
+    fn reserve(&mut self, additional: usize) -> Result<(), TryReserveError>;
+
+    /// `shrink_to`.
+    fn shrink_to(&mut self, min: usize) -> Result<(), TryReserveError>;
+
+    /// `shrink_to_fit`.
+    fn shrink_to_fit(&mut self) -> Result<(), TryReserveError>;
+
+    /// How many items fit, by the numbers that the map shows.
+    fn room(&self) -> usize;
+
+    /// `capacity`.
+    fn capacity(&self) -> usize;
+
+    /// `vacant`.
+    fn vacant(&self) -> u32;
+
+    /// Whether `validate` finds no error, where slots may be vacant.
+    fn is_sound(&self) -> bool;
+
+    /// Whether `validate` finds no error, where no slot may be vacant.
+    fn is_compact(&self) -> bool;
 }
 
-impl<T: IdOrdItem> AskedByKey for Ordered<T> {
-    type Item = T;
-
-    type Key = T::Key;
-
+impl<T: IdOrdItem> UnderTest<T, T::Key> for Ordered<T> {
     fn is_put(&mut self, item: T) -> bool
     where
         T: Drop,
@@ -170,12 +229,36 @@ impl<T: IdOrdItem> AskedByKey for Ordered<T> {
         self.map.insert_overwrite(item)
     }
 
+    fn extend<U: IntoIterator<Item = T>>(&mut self, items: U) -> Result<(), ExtendError<T>>
+    where
+        T: Drop,
+    {
+        self.map.extend(items)
+    }
+
     fn get(&self, key: &T::Key) -> Option<&T> {
         self.map.get(key)
     }
 
+    fn contains(&self, key: &T::Key) -> bool {
+        self.map.contains_key(key)
+    }
+
+    fn get_counted(&self, key: &T::Key) -> (Option<&T>, u32) {
+        let mut steps = Steps::new();
+        let found = self.map.get_counted(key, &mut steps);
+        (found, steps.count())
+    }
+
     fn remove(&mut self, key: &T::Key) -> Option<T> {
         self.map.remove(key)
+    }
+
+    fn retain<F: FnMut(&T) -> bool>(&mut self, keep: F)
+    where
+        T: Drop,
+    {
+        self.map.retain(keep)
     }
 
     fn clear(&mut self)
@@ -188,13 +271,48 @@ impl<T: IdOrdItem> AskedByKey for Ordered<T> {
     fn len(&self) -> usize {
         self.map.len()
     }
+
+    fn lists(&self, items: &[T]) -> bool
+    where
+        T: PartialEq,
+    {
+        self.map.iter().eq(items)
+    }
+
+    fn reserve(&mut self, additional: usize) -> Result<(), TryReserveError> {
+        self.map.reserve(additional)
+    }
+
+    fn shrink_to(&mut self, min: usize) -> Result<(), TryReserveError> {
+        self.map.shrink_to(min)
+    }
+
+    fn shrink_to_fit(&mut self) -> Result<(), TryReserveError> {
+        self.map.shrink_to_fit()
+    }
+
+    fn room(&self) -> usize {
+        self.map.capacity()
+    }
+
+    fn capacity(&self) -> usize {
+        self.map.capacity()
+    }
+
+    fn vacant(&self) -> u32 {
+        self.map.vacant()
+    }
+
+    fn is_sound(&self) -> bool {
+        self.map.validate(ValidateCompact::NonCompact).is_ok()
+    }
+
+    fn is_compact(&self) -> bool {
+        self.map.validate(ValidateCompact::Compact).is_ok()
+    }
 }
 
-impl<T: IdHashItem, S: BuildHasher> AskedByKey for Hashed<T, S> {
-    type Item = T;
-
-    type Key = T::Key;
-
+impl<T: IdHashItem, S: BuildHasher> UnderTest<T, T::Key> for Hashed<T, S> {
     fn is_put(&mut self, item: T) -> bool
     where
         T: Drop,
@@ -206,12 +324,36 @@ impl<T: IdHashItem, S: BuildHasher> AskedByKey for Hashed<T, S> {
         self.map.insert_overwrite(item)
     }
 
+    fn extend<U: IntoIterator<Item = T>>(&mut self, items: U) -> Result<(), ExtendError<T>>
+    where
+        T: Drop,
+    {
+        self.map.extend(items)
+    }
+
     fn get(&self, key: &T::Key) -> Option<&T> {
         self.map.get(key)
     }
 
+    fn contains(&self, key: &T::Key) -> bool {
+        self.map.contains_key(key)
+    }
+
+    fn get_counted(&self, key: &T::Key) -> (Option<&T>, u32) {
+        let mut steps = Steps::new();
+        let found = self.map.get_counted(key, &mut steps);
+        (found, steps.count())
+    }
+
     fn remove(&mut self, key: &T::Key) -> Option<T> {
         self.map.remove(key)
+    }
+
+    fn retain<F: FnMut(&T) -> bool>(&mut self, keep: F)
+    where
+        T: Drop,
+    {
+        self.map.retain(keep)
     }
 
     fn clear(&mut self)
@@ -224,29 +366,97 @@ impl<T: IdHashItem, S: BuildHasher> AskedByKey for Hashed<T, S> {
     fn len(&self) -> usize {
         self.map.len()
     }
+
+    fn lists(&self, items: &[T]) -> bool
+    where
+        T: PartialEq,
+    {
+        self.map.iter().eq(items)
+    }
+
+    fn reserve(&mut self, additional: usize) -> Result<(), TryReserveError> {
+        self.map.reserve(additional)
+    }
+
+    fn shrink_to(&mut self, min: usize) -> Result<(), TryReserveError> {
+        self.map.shrink_to(min)
+    }
+
+    fn shrink_to_fit(&mut self) -> Result<(), TryReserveError> {
+        self.map.shrink_to_fit()
+    }
+
+    fn room(&self) -> usize {
+        self.map.spare()
+    }
+
+    fn capacity(&self) -> usize {
+        self.map.capacity()
+    }
+
+    fn vacant(&self) -> u32 {
+        self.map.vacant()
+    }
+
+    fn is_sound(&self) -> bool {
+        self.map.validate(ValidateCompact::NonCompact).is_ok()
+    }
+
+    fn is_compact(&self) -> bool {
+        self.map.validate(ValidateCompact::Compact).is_ok()
+    }
 }
 
-/// What a row asks of a map of either kind that takes items.
-pub trait AskedToInsert<T> {
-    /// `insert_unique`, with what is lent copied.
+/// A map of either kind under test, whose items are copied where a call lends or takes some.
+pub trait Copying<T, K>: UnderTest<T, K> {
+    /// `insert_unique`.
     fn insert(&mut self, item: T) -> Inserted<T>;
+
+    /// `extend_unique`.
+    fn add_each<U: IntoIterator<Item = T>>(&mut self, items: U) -> Added<T>
+        requires ends { IsFinite U.into_iter_gives U.IntoIter.can_next U.IntoIter.remaining items };
+
+    /// The items of `iter`.
+    fn listed(&self, alloc: Global) -> Result<Vec<T>, AllocError>;
 }
 
-impl<T: IdOrdItem + Copy> AskedToInsert<T> for Ordered<T> {
+impl<T: IdOrdItem + Copy + Drop> Copying<T, T::Key> for Ordered<T> {
     fn insert(&mut self, item: T) -> Inserted<T> {
         match self.map.insert_unique(item) {
             Ok(()) => Inserted::Done,
             Err(error) => kept_out(error),
         }
     }
+
+    fn add_each<U: IntoIterator<Item = T>>(&mut self, items: U) -> Added<T> {
+        match self.map.extend_unique(items) {
+            Ok(()) => Added::All,
+            Err(error) => stopped(error),
+        }
+    }
+
+    fn listed(&self, alloc: Global) -> Result<Vec<T>, AllocError> {
+        self.map.iter().copied().collect(alloc)
+    }
 }
 
-impl<T: IdHashItem + Copy, S: BuildHasher> AskedToInsert<T> for Hashed<T, S> {
+impl<T: IdHashItem + Copy + Drop, S: BuildHasher> Copying<T, T::Key> for Hashed<T, S> {
     fn insert(&mut self, item: T) -> Inserted<T> {
         match self.map.insert_unique(item) {
             Ok(()) => Inserted::Done,
             Err(error) => kept_out(error),
         }
+    }
+
+    fn add_each<U: IntoIterator<Item = T>>(&mut self, items: U) -> Added<T> {
+        match self.map.extend_unique(items) {
+            Ok(()) => Added::All,
+            Err(error) => stopped(error),
+        }
+    }
+
+    fn listed(&self, alloc: Global) -> Result<Vec<T>, AllocError> {
+        self.map.iter().copied().collect(alloc)
     }
 }
 
@@ -310,7 +520,7 @@ pub trait AskedByText {
     fn find(&self, name: &str) -> Option<&Self::Item>;
 
     /// Whether there is an item of the name.
-    fn contains(&self, name: &str) -> bool;
+    fn has_name(&self, name: &str) -> bool;
 
     /// Takes out the item of the name.
     fn take_out(&mut self, name: &str) -> Option<Self::Item>;
@@ -323,7 +533,7 @@ impl<T: IdOrdItem<Key = String>> AskedByText for Ordered<T> {
         self.map.get(&Text(name))
     }
 
-    fn contains(&self, name: &str) -> bool {
+    fn has_name(&self, name: &str) -> bool {
         self.map.contains_key(&Text(name))
     }
 
@@ -339,106 +549,11 @@ impl<T: IdHashItem<Key = String>> AskedByText for Hashed<T> {
         self.map.get(&Text(name))
     }
 
-    fn contains(&self, name: &str) -> bool {
+    fn has_name(&self, name: &str) -> bool {
         self.map.contains_key(&Text(name))
     }
 
     fn take_out(&mut self, name: &str) -> Option<T> {
         self.map.remove(&Text(name))
-    }
-}
-
-/// What a row asks of the room of a map of either kind.
-pub trait AskedForRoom {
-    /// `reserve`.
-    fn reserve(&mut self, additional: usize) -> Result<(), TryReserveError>;
-
-    /// `shrink_to`.
-    fn shrink_to(&mut self, min: usize) -> Result<(), TryReserveError>;
-
-    /// `shrink_to_fit`.
-    fn shrink_to_fit(&mut self) -> Result<(), TryReserveError>;
-
-    /// How many items fit, by the numbers that the map shows.
-    fn room(&self) -> usize;
-
-    /// How many items fit before the store needs memory.
-    fn capacity(&self) -> usize;
-
-    /// How many slots are vacant.
-    fn vacant(&self) -> u32;
-
-    /// Whether the map is as it should be, as `validate` says, where vacant slots may be.
-    fn is_sound(&self) -> bool;
-
-    /// Whether no slot is vacant, as `validate` says.
-    fn is_compact(&self) -> bool;
-}
-
-impl<T: IdOrdItem> AskedForRoom for Ordered<T> {
-    fn reserve(&mut self, additional: usize) -> Result<(), TryReserveError> {
-        self.map.reserve(additional)
-    }
-
-    fn shrink_to(&mut self, min: usize) -> Result<(), TryReserveError> {
-        self.map.shrink_to(min)
-    }
-
-    fn shrink_to_fit(&mut self) -> Result<(), TryReserveError> {
-        self.map.shrink_to_fit()
-    }
-
-    fn room(&self) -> usize {
-        self.map.capacity()
-    }
-
-    fn capacity(&self) -> usize {
-        self.map.capacity()
-    }
-
-    fn vacant(&self) -> u32 {
-        self.map.vacant()
-    }
-
-    fn is_sound(&self) -> bool {
-        self.map.validate(ValidateCompact::NonCompact).is_ok()
-    }
-
-    fn is_compact(&self) -> bool {
-        self.map.validate(ValidateCompact::Compact).is_ok()
-    }
-}
-
-impl<T: IdHashItem, S: BuildHasher> AskedForRoom for Hashed<T, S> {
-    fn reserve(&mut self, additional: usize) -> Result<(), TryReserveError> {
-        self.map.reserve(additional)
-    }
-
-    fn shrink_to(&mut self, min: usize) -> Result<(), TryReserveError> {
-        self.map.shrink_to(min)
-    }
-
-    fn shrink_to_fit(&mut self) -> Result<(), TryReserveError> {
-        self.map.shrink_to_fit()
-    }
-
-    fn room(&self) -> usize {
-        self.map.spare()
-    }
-
-    fn capacity(&self) -> usize {
-        self.map.capacity()
-    }
-
-    fn vacant(&self) -> u32 {
-        self.map.vacant()
-    }
-
-    fn is_sound(&self) -> bool {
-        self.map.validate(ValidateCompact::NonCompact).is_ok()
-    }
-
-    fn is_compact(&self) -> bool {
-        self.map.validate(ValidateCompact::Compact).is_ok()
     }
 }

@@ -1,7 +1,6 @@
 //! Nine items that are left of twenty-five, with vacant slots among them.
 use crate::items::Numbered;
-use crate::maps::AskedByKey;
-use crate::walks::Walked;
+use crate::maps::UnderTest;
 
 const IDS: [u32; 25] = [
     0, 17, 1, 12, 5, 21, 8, 10, 18, 4, 16, 22, 9, 24, 23, 13, 7, 25, 26, 20, 31, 11, 14, 2, 6,
@@ -18,9 +17,7 @@ fn of_id(id: u32) -> Numbered {
 }
 
 /// Inserts the twenty-five, and retains the odd ones that three does not divide: whether each was inserted.
-pub fn retain_nine<M: AskedByKey<Item = Numbered, Key = u32> + Walked<Numbered>>(
-    map: &mut M,
-) -> bool {
+pub fn retain_nine<M: UnderTest<Numbered, u32>>(map: &mut M) -> bool {
     for id in IDS {
         if !map.is_put(of_id(id)) {
             return false;
@@ -31,7 +28,7 @@ pub fn retain_nine<M: AskedByKey<Item = Numbered, Key = u32> + Walked<Numbered>>
 }
 
 /// Whether the nine are there, and no others.
-pub fn are_left<M: AskedByKey<Item = Numbered, Key = u32>>(map: &M) -> bool {
+pub fn are_left<M: UnderTest<Numbered, u32>>(map: &M) -> bool {
     for id in LEFT {
         if map.get(&id) != Some(&of_id(id)) {
             return false;

@@ -1,8 +1,6 @@
 //! Items that count how often one is dropped, and what a row asks of a map of either kind that drops them.
-ghost use Rattle.iddqd.specs.Contents.{Ascends};
-
 use crate::maps::{Hashed, Ordered};
-use iddqd::{IdHashItem, IdHashMap, IdOrdItem, IdOrdMap, Keyed, Visit, id_hash_map, id_ord_map};
+use iddqd::{IdHashItem, IdOrdItem, Visit, id_hash_map, id_ord_map};
 use std::cell::Cell;
 
 /// A number, and the cell that counts each drop of such an item.
@@ -112,15 +110,38 @@ impl<'a> Dropping<'a> for Ordered<Ticket<'a>> {
     }
 
     fn replace_by_entry(self, item: Ticket<'a>) -> bool {
-        replace_in_order(self.map, item)
+        let mut map = self.map;
+        let number = item.number;
+        match map.entry(&number) {
+            id_ord_map::Entry::Occupied(mut entry) => {
+                drop(entry.insert(item));
+                true
+            }
+            id_ord_map::Entry::Vacant(_) => false,
+        }
     }
 
     fn remove_by_entry(self, number: u32) -> bool {
-        remove_in_order(self.map, number)
+        let mut map = self.map;
+        match map.entry(&number) {
+            id_ord_map::Entry::Occupied(entry) => {
+                drop(entry.remove());
+                true
+            }
+            id_ord_map::Entry::Vacant(_) => false,
+        }
     }
 
     fn find_or_put(self, item: Ticket<'a>) -> bool {
-        find_or_put_in_order(self.map, item)
+        let mut map = self.map;
+        let number = item.number;
+        match map.entry(&number).or_insert(item) {
+            Ok(lent) => {
+                lent.finish();
+                true
+            }
+            Err(_refused) => false,
+        }
     }
 }
 
@@ -134,90 +155,37 @@ impl<'a> Dropping<'a> for Hashed<Ticket<'a>> {
     }
 
     fn replace_by_entry(self, item: Ticket<'a>) -> bool {
-        replace_by_hash(self.map, item)
+        let mut map = self.map;
+        let number = item.number;
+        match map.entry(&number) {
+            id_hash_map::Entry::Occupied(mut entry) => {
+                drop(entry.insert(item));
+                true
+            }
+            id_hash_map::Entry::Vacant(_) => false,
+        }
     }
 
     fn remove_by_entry(self, number: u32) -> bool {
-        remove_by_hash(self.map, number)
+        let mut map = self.map;
+        match map.entry(&number) {
+            id_hash_map::Entry::Occupied(entry) => {
+                drop(entry.remove());
+                true
+            }
+            id_hash_map::Entry::Vacant(_) => false,
+        }
     }
 
     fn find_or_put(self, item: Ticket<'a>) -> bool {
-        find_or_put_by_hash(self.map, item)
-    }
-}
-
-fn replace_in_order<'a>(mut map: IdOrdMap<Ticket<'a>>, item: Ticket<'a>) -> bool
-    requires keyed { Ascends ⟦<Ticket<'a> as IdOrdItem>⟧.key ⟦<u32 as Ord>⟧.cmp map.items }
-{
-    let number = item.number;
-    match map.entry(&number) {
-        id_ord_map::Entry::Occupied(mut entry) => {
-            drop(entry.insert(item));
-            true
+        let mut map = self.map;
+        let number = item.number;
+        match map.entry(&number).or_insert(item) {
+            Ok(lent) => {
+                lent.finish();
+                true
+            }
+            Err(_refused) => false,
         }
-        id_ord_map::Entry::Vacant(_) => false,
-    }
-}
-
-fn remove_in_order<'a>(mut map: IdOrdMap<Ticket<'a>>, number: u32) -> bool
-    requires keyed { Ascends ⟦<Ticket<'a> as IdOrdItem>⟧.key ⟦<u32 as Ord>⟧.cmp map.items }
-{
-    match map.entry(&number) {
-        id_ord_map::Entry::Occupied(entry) => {
-            drop(entry.remove());
-            true
-        }
-        id_ord_map::Entry::Vacant(_) => false,
-    }
-}
-
-fn find_or_put_in_order<'a>(mut map: IdOrdMap<Ticket<'a>>, item: Ticket<'a>) -> bool
-    requires keyed { Ascends ⟦<Ticket<'a> as IdOrdItem>⟧.key ⟦<u32 as Ord>⟧.cmp map.items }
-{
-    let number = item.number;
-    match map.entry(&number).or_insert(item) {
-        Ok(lent) => {
-            lent.finish();
-            true
-        }
-        Err(_refused) => false,
-    }
-}
-
-fn replace_by_hash<'a>(mut map: IdHashMap<Ticket<'a>>, item: Ticket<'a>) -> bool
-    requires keyed { ⟦<IdHashMap<Ticket<'a>> as Keyed>⟧.keyed map }
-{
-    let number = item.number;
-    match map.entry(&number) {
-        id_hash_map::Entry::Occupied(mut entry) => {
-            drop(entry.insert(item));
-            true
-        }
-        id_hash_map::Entry::Vacant(_) => false,
-    }
-}
-
-fn remove_by_hash<'a>(mut map: IdHashMap<Ticket<'a>>, number: u32) -> bool
-    requires keyed { ⟦<IdHashMap<Ticket<'a>> as Keyed>⟧.keyed map }
-{
-    match map.entry(&number) {
-        id_hash_map::Entry::Occupied(entry) => {
-            drop(entry.remove());
-            true
-        }
-        id_hash_map::Entry::Vacant(_) => false,
-    }
-}
-
-fn find_or_put_by_hash<'a>(mut map: IdHashMap<Ticket<'a>>, item: Ticket<'a>) -> bool
-    requires keyed { ⟦<IdHashMap<Ticket<'a>> as Keyed>⟧.keyed map }
-{
-    let number = item.number;
-    match map.entry(&number).or_insert(item) {
-        Ok(lent) => {
-            lent.finish();
-            true
-        }
-        Err(_refused) => false,
     }
 }
