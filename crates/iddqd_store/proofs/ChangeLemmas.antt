@@ -8,7 +8,10 @@
 --     found_passes      what is found passes the test
 --     same_text, text_apart, text_beside, text_differs      a text equals itself, and a key of one text is not another
 --     length_inserted, length_replaced, length_removed      how many items there are then
---     sum_inserted, sum_removed, sum_retained, sum_put_over      the sum of a weight then
+--     sum_inserted, sum_removed, sum_taken, sum_retained, sum_put_over      the sum of a weight then
+--     found_in_sum      the sum is no less than the weight of an item that is found
+--     key_apart, key_beside      by the laws of `Eq`: a key equal to one is not equal to another
+--     kept_in_place      what `retain_mut` leaves, if the visitor stays as it is
 --     after_changes      what a caller may cite of them, under one name
 use Rattle.std.proofs.Common.{◌≡◌, ◌≢◌, ℕ, zero, suc, ◌+◌, ◌<◌, ◌≤◌, Bool, true, false, cond, not, List, [], ◌∷◌, Option, Some, None, is_some, length, map, set, filter, find, nat_eq, refl, sym, ap, subst, ◌∙◌, arith, true≢false}
 use Rattle.std.proofs.lemmas.List.{length-map}
@@ -23,6 +26,7 @@ use Rattle.std.specs.Option.{OnSome, option_map, unwrap_or}
 use Rattle.std.specs.Str.{bytes_eq}
 use Rattle.iddqd_store.specs.Contents.{AddsItem, IsKeyTest, NoTwoAkin, find_item, items_overwritten, items_without}
 use Rattle.iddqd_store.specs.Holding.{Holding, LeavesSlot, LosesPlace, Removes}
+use Rattle.iddqd_store.specs.Visiting.{kept_by}
 use Rattle.iddqd_store.proofs.ContentsLemmas.{filter_at, map_at, only_place}
 
 pub same_text : (bytes : List ℕ) → pointwise nat_eq bytes bytes ≡ true
@@ -37,6 +41,14 @@ text_beside name other k same apart = grind (arith, bytes_eq-Decides other k, by
 
 pub text_differs : (other k : List ℕ) → other ≢ k → bytes_eq other k ≡ false
 text_differs other k apart = grind (arith, bytes_eq-Decides other k)
+
+-- keys of a caller's own: k is equal to the one and so not to the other
+module _ {K : Type 0} {eq : K → K → Bool} (laws : IsEquivalence eq) where
+  pub key_apart : (asked other k : K) → eq other k ≡ true → eq other asked ≡ false → eq asked k ≡ false
+  key_apart asked other k same apart = laws.symm asked k ∙ sym (laws.congr other k asked same) ∙ apart
+
+  pub key_beside : (asked other k : K) → eq asked k ≡ true → eq other asked ≡ false → eq other k ≡ false
+  key_beside asked other k same apart = laws.symm other k ∙ sym (laws.congr asked k other same) ∙ laws.symm asked other ∙ apart
 
 module _ {T : Type 0} (p : T → Bool) where
   pub found_passes : (items : List T) (x : T) → find p items ≡ Some x → p x ≡ true
@@ -200,6 +212,23 @@ module _ {T : Type 0} (f : T → ℕ) where
       ∙ ap (λ y. sum_by f (remove old.items leaves.place) + f y) (sym (get_or_from_slice_get old.items leaves.place x x leaves.there))
       ∙ sum_by-remove f old.items leaves.place x within
 
+  -- the same of the item that is returned
+  pub sum_taken : (found : Option T) (x : T) (old new : Holding T) → Removes found old new → found ≡ Some x → sum_by f new.items + f x ≡ sum_by f old.items
+  sum_taken found x old new removes is = ap (λ o. sum_by f new.items + unwrap_or (option_map f o) 0) (sym is) ∙ sum_removed found old new removes
+
+  pub found_in_sum : (p : T → Bool) (items : List T) (x : T) → find p items ≡ Some x → f x ≤ sum_by f items
+  found_in_sum p [] x found = absurd (true≢false (sym (ap is_some found)))
+  found_in_sum p (y ∷ ys) x found = by (p y) found (found_in_sum p ys x)
+    where
+      by : (b : Bool) → cond b (Some y) (find p ys) ≡ Some x → (find p ys ≡ Some x → f x ≤ sum_by f ys) → f x ≤ sum_by f (y ∷ ys)
+      by true found rest =
+          let same : y ≡ x = cc in
+          let weight = ap f same in
+          omega (arith, sum_by-cons f y ys)
+      by false found rest =
+          let behind = rest found in
+          omega (arith, sum_by-cons f y ys)
+
   -- some were left out, as by `retain`
   pub sum_retained : (kept : List Bool) (old new : List T) → new ≡ items_where_true kept old → sum_by f new ≤ sum_by f old
   sum_retained kept old new left = subst (λ xs. sum_by f xs ≤ sum_by f old) (sym left) (of_kept kept old)
@@ -242,4 +271,11 @@ module _ {T : Type 0} (f : T → ℕ) (p : T → Bool) where
       let longer = length_inserted (filter (λ y. not (p y)) old) new x adds in
       omega (arith, sum_inserted f (filter (λ y. not (p y)) old) new x adds, one_gone old y (sym found) (omega arith))
 
-pub ruleset after_changes = (same_text, text_apart, text_beside, text_differs, found_passes, find_inserted, find_beside_inserted, find_removed, find_beside_removed, still_found_removed, still_absent_removed, still_found_put, still_absent_put, find_replaced, length_inserted, length_replaced, length_removed, sum_inserted, sum_removed, sum_retained)
+-- each visit leaves the visitor as it is, writes so, and keeps what passes the test
+pub kept_in_place : {V T : Type 0} (visits : V → T → V × T × Bool) (v : V) (writes : T → T) (keeps : T → Bool) → ((x : T) → visits v x ≡ (v, writes x, keeps x)) → (items : List T) → kept_by visits v items ≡ map writes (filter keeps items)
+kept_in_place visits v writes keeps told [] = refl
+kept_in_place visits v writes keeps told (x ∷ xs) =
+    let rest = kept_in_place visits v writes keeps told xs in
+    rw (told x) (elim (keeps x) as (λ b. cond b (writes x ∷ kept_by visits v xs) (kept_by visits v xs) ≡ map writes (cond b (x ∷ filter keeps xs) (filter keeps xs))) [ true ↦ ap (λ ys. writes x ∷ ys) rest | false ↦ rest ])
+
+pub ruleset after_changes = (same_text, text_apart, text_beside, text_differs, found_passes, find_inserted, find_beside_inserted, find_removed, find_beside_removed, still_found_removed, still_absent_removed, still_found_put, still_absent_put, find_replaced, length_inserted, length_replaced, length_removed, sum_inserted, sum_removed, sum_taken, found_in_sum, sum_retained)

@@ -11,10 +11,11 @@
 --     same_key_kept, akin_key_kept, akin_keys_differ      where an equal key was written the items still ascend, and their keys still differ
 --     others_at_slot, read_at_slot      what a test finds after a write: what it found, or what was written
 --     sum_at_slot      the sum of a weight after a write
+--     slot_in_sum      the sum is no less than the weight of a slot's item
 --     listed_slot      a slot has an item exactly where it is one of the slots
-use Rattle.std.proofs.Common.{◌≡◌, ℕ, zero, suc, ◌+◌, ◌<◌, ◌↔◌, Bool, true, false, cond, List, [], ◌∷◌, length, find, set, get_or, Option, Some, None, is_some, refl, sym, ap, ◌∙◌, arith, nat_eq, true≢false, subst, map, Ordering, Equal}
+use Rattle.std.proofs.Common.{◌≡◌, ℕ, zero, suc, ◌+◌, ◌<◌, ◌≤◌, ◌↔◌, Bool, true, false, cond, List, [], ◌∷◌, length, find, set, get_or, Option, Some, None, is_some, refl, sym, ap, ◌∙◌, arith, nat_eq, true≢false, subst, map, Ordering, Equal}
 use Rattle.std.proofs.lemmas.Bool.{eqb-true, eq-eqb}
-use Rattle.std.proofs.lemmas.List.Sums.{sum_by-set}
+use Rattle.std.proofs.lemmas.List.Sums.{sum_by-remove, sum_by-set}
 use Rattle.std.proofs.lemmas.Option.{get_or_from_slice_get, slice_get_within}
 use Rattle.std.proofs.Math.Seq.{map-set_same}
 use Rattle.std.specs.Cmp.{IsEquivalence, IsTotalOrder, Equal-is}
@@ -214,3 +215,10 @@ sum_at_slot f slots items slot x w there =
     ap (λ xs. sum_by f xs + f x) (p.written w)
     ∙ ap (λ y. sum_by f (set items p.place w) + f y) (sym (get_or_from_slice_get items p.place x x p.item_there))
     ∙ sum_by-set f items p.place w x (slice_get_within items p.place x p.item_there)
+
+pub slot_in_sum : {T : Type 0} (f : T → ℕ) (slots : List ℕ) (items : List T) (slot : ℕ) (x : T) → item_of_slot slots items slot ≡ Some x → f x ≤ sum_by f items
+slot_in_sum f slots items slot x there =
+    let p = slot_place slots items slot x there in
+    let weight = ap f (get_or_from_slice_get items p.place x x p.item_there) in
+    let removed = sum_by-remove f items p.place x (slice_get_within items p.place x p.item_there) in
+    omega arith

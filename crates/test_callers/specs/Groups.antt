@@ -18,3 +18,7 @@ of_time_to time seq events = filter (λ e. (time == e.at.time) && nat_le e.at.se
 -- all of other times
 abbrev pub without_time : ℕ → List Event → List Event
 without_time time events = items_without (λ e. e.at) (λ at. time == at.time) events
+
+-- the event, once this much is taken off what it took
+abbrev pub taken_off : ℕ → Event → Event
+taken_off off e = record e { took = e.took - off }

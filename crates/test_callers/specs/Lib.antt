@@ -1,5 +1,6 @@
 pub mod Adding
 pub mod Groups
 pub mod Lookups
+pub mod OwnKeys
 pub mod Ranges
 pub mod Runs

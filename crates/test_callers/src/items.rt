@@ -1,6 +1,9 @@
 //! Items that hold text or a list, by number, by text, and by two numbers.
 
-use iddqd::{IdHashItem, IdOrdItem};
+ghost use Rattle.std.specs.Prelude.{nat_lt};
+ghost use Rattle.test_callers.specs.Groups.{taken_off};
+
+use iddqd::{IdHashItem, IdOrdItem, Visit};
 
 /// A number and a note.
 #[derive(Drop)]
@@ -90,7 +93,7 @@ impl IdHashItem for Tagged {
 }
 
 /// A time, and which of the events at that time.
-#[derive(Clone, Copy, PartialEq, Eq, PartialOrd, Ord)]
+#[derive(Clone, Copy, PartialEq, Eq, PartialOrd, Ord, Hash)]
 pub(crate) struct At {
     /// The time.
     pub(crate) time: u64,
@@ -116,5 +119,32 @@ impl IdOrdItem for Event {
 
     fn key(&self) -> &At {
         &self.at
+    }
+}
+
+impl IdHashItem for Event {
+    type Key = At;
+
+    ghost key = { λ event. event.at };
+
+    fn key(&self) -> &At {
+        &self.at
+    }
+}
+
+/// Takes off some of what each event took. Those that took more stay.
+#[derive(Drop)]
+pub(crate) struct TakesOff {
+    /// How much is taken off.
+    pub(crate) off: u32,
+}
+
+impl Visit<Event> for TakesOff {
+    ghost visits = { λ v e. (v, taken_off v.off e, nat_lt v.off e.took) };
+
+    fn visit(&mut self, event: &mut Event) -> bool {
+        let stays = self.off < event.took;
+        event.took = event.took.saturating_sub(self.off);
+        stays
     }
 }

@@ -1,11 +1,11 @@
 //! Events by a key of two fields: a range finds those of one time.
-ghost use Rattle.std.specs.Prelude.{◌≡◌, ◌==◌, ◌+◌, ◌<◌, ◌≤◌, List, filter, length, option_copied, sum_by};
+ghost use Rattle.std.specs.Prelude.{◌≡◌, ◌==◌, ◌+◌, ◌<◌, ◌≤◌, List, filter, length, map, nat_lt, option_copied, sum_by};
 ghost use Rattle.iddqd.specs.Contents.{Ascends, IsAbsent};
 ghost use Rattle.iddqd.specs.IdOrdMap.{WalksPart};
-ghost use Rattle.test_callers.specs.Groups.{last_of_time, of_time, of_time_to, without_time};
+ghost use Rattle.test_callers.specs.Groups.{last_of_time, of_time, of_time_to, taken_off, without_time};
 ghost use Rattle.test_callers.specs.declared.items.Event.{Event};
 
-use crate::items::{At, Event};
+use crate::items::{At, Event, TakesOff};
 use iddqd::IdOrdMap;
 use iddqd::id_ord_map::Iter;
 use std::marker::Model;
@@ -92,5 +92,18 @@ impl Log {
         let from = At { time, seq: 0 };
         let time = time + 1;
         self.0.remove_range(from..At { time, seq: 0 })
+    }
+    /// Keeps the events that took longer.
+    fn keep_longer(&mut self, least: u32)
+        ensures kept { self.new ≡ filter (λ e. nat_lt least e.took) self.old }
+    {
+        self.0.retain(|event| least < event.took);
+    }
+
+    /// Takes off some of what each event took, and keeps those that took more.
+    fn take_off(&mut self, off: u32)
+        ensures kept { self.new ≡ map (taken_off off) (filter (λ e. nat_lt off e.took) self.old) }
+    {
+        self.0.retain_mut(&mut TakesOff { off });
     }
 }
