@@ -11,11 +11,9 @@
 --     text_apart, text_beside, text_differs      a key of one text is not another
 --     length_inserted, length_replaced, length_removed      how many items there are
 --     sum_inserted, sum_removed, hash_sum_removed, sum_retained      the sum of a weight
---     hash_sum_overwritten, ord_sum_overwritten      ... after `insert_overwrite`
 use Rattle.iddqd_store.proofs.ChangeLemmas.{after_changes as of_lists}
 pub use Rattle.iddqd_store.proofs.ChangeLemmas.{find_beside_inserted, find_beside_removed, find_inserted, find_removed, find_replaced, found_passes, length_inserted, length_removed, length_replaced, same_text, still_absent_put, still_absent_removed, still_found_put, still_found_removed, sum_inserted, sum_removed, sum_retained, text_apart, text_beside, text_differs}
-pub use Rattle.iddqd_hash.proofs.ChangeLemmas.{hash_sum_overwritten, hash_sum_removed}
-pub use Rattle.iddqd_ord.proofs.ChangeLemmas.{ord_sum_overwritten}
+pub use Rattle.iddqd_hash.proofs.ChangeLemmas.{hash_sum_removed}
 use Rattle.iddqd.proofs.GuardLemmas.{hash_key_kept, others_at_slot, read_at_slot, same_key_kept, sum_at_slot}
 
-pub ruleset after_changes = (of_lists, hash_sum_removed, hash_sum_overwritten, ord_sum_overwritten, others_at_slot, read_at_slot, sum_at_slot, hash_key_kept, same_key_kept)
+pub ruleset after_changes = (of_lists, hash_sum_removed, others_at_slot, read_at_slot, sum_at_slot, hash_key_kept, same_key_kept)
