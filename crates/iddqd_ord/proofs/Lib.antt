@@ -1,4 +1,3 @@
-pub mod ChangeLemmas
 mod CloneLemmas
 mod CompactLemmas
 mod EndLemmas

@@ -1,10 +1,17 @@
 -- A slot was taken out of the index, and its item out of the store.
-use Rattle.std.proofs.Common.{◌≡◌, ℕ, ◌+◌, List, Some, None, sym, ap, subst, ◌∙◌}
+--     IsTakenOut, taken_out      the item at the place, and what is left
+--     taken_absent      no item that is left has a key equal to the one's that was taken out
+use Rattle.std.proofs.Common.{◌≡◌, ℕ, ◌+◌, Bool, not, List, Some, None, refl, sym, ap, subst, ◌∙◌}
+use Rattle.std.proofs.lemmas.Option.{get_or_from_slice_get, slice_get_within}
+use Rattle.std.specs.Cmp.{IsEquivalence}
 use Rattle.std.specs.List.{remove, slice_get}
 use Rattle.std.specs.Option.{option_and_then}
 use Rattle.iddqd_ord_index.specs.Listed.{listed_items}
+use Rattle.iddqd_store.specs.Contents.{IsAbsent, NoTwoAkin}
 use Rattle.iddqd_store.specs.Store.{Store, item_at, store_len, Updates}
 use Rattle.iddqd_ord_index.proofs.ListedLemmas.{get-listed}
+use Rattle.iddqd_store.proofs.ChangeLemmas.{find_removed}
+use Rattle.iddqd_store.proofs.ContentsLemmas.{filter_at, only_place}
 use Rattle.iddqd_ord.specs.StoreAndIndex.{ListsOccupied}
 use Rattle.iddqd_ord.proofs.StoreAndIndexLemmas.{paired_removed, items_removed}
 
@@ -21,3 +28,8 @@ taken_out old new slots left i slot x paired at gone item updates len = record {
   item = get-listed old slots paired.occupied i ∙ ap (option_and_then (item_at old)) at ∙ item;
   items = ap (listed_items new) gone ∙ items_removed old new slots paired slot i at updates;
 }
+
+pub taken_absent : {T K : Type 0} (key : T → K) {eq : K → K → Bool} → IsEquivalence eq → (items : List T) → NoTwoAkin key eq items → (i : ℕ) (x : T) → slice_get items i ≡ Some x → IsAbsent key (eq (key x)) (remove items i)
+taken_absent key {eq} equivalence items differ i x there =
+    let only = only_place key equivalence (eq (key x)) (equivalence.congr (key x)) items differ i (slice_get_within items i x there) (λ d. ap (λ y. eq (key x) (key y)) (get_or_from_slice_get items i x d there) ∙ equivalence.refl (key x)) in
+    find_removed (λ y. eq (key x) (key y)) (λ y. not (eq (key x) (key y))) items (remove items i) (sym (filter_at (λ y. eq (key x) (key y)) items i only)) refl

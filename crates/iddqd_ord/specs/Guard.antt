@@ -86,8 +86,8 @@ module _ {T K : Type 0} (key : T → K) where
   abbrev pub GuardFinds : (K → Bool) → RefMut T → Type 0
   GuardFinds test r = find_item key test (lent_map r).items ≡ lent_item r
 
-  abbrev pub GuardOverwrites : (K → Bool) → RefMut T → Type 0
-  GuardOverwrites test r = (w : T) → (lent_with r w).items ≡ items_overwritten key test w (lent_map r).items
+  abbrev pub GuardOverwrites : (K → Bool) → Holding T → RefMut T → Type 0
+  GuardOverwrites test m r = (w : T) → (with_item_in_slot m (lent_slot r) w).items ≡ items_overwritten key test w m.items
 
   -- if the map was keyed, it is so after a write of an item of the same key, or of an equal one
   module _ (cmp : K → K → Ordering) where

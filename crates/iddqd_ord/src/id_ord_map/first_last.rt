@@ -1,6 +1,6 @@
 //! The first and the last item.
-ghost use Rattle.std.specs.Prelude.{◌≡◌, ◌-◌, length, drop, take, option_copied, slice_get};
-ghost use Rattle.iddqd_store.specs.Contents.{Ascends};
+ghost use Rattle.std.specs.Prelude.{◌≡◌, ◌-◌, IfSome, length, drop, take, option_copied, slice_get};
+ghost use Rattle.iddqd_store.specs.Contents.{Ascends, IsAbsent};
 ghost use Rattle.iddqd_store.specs.Holding.{Removes};
 
 use super::IdOrdMap;
@@ -33,6 +33,7 @@ impl<T: IdOrdItem> IdOrdMap<T> {
         ensures items { self.new.items ≡ drop 1 self.old.items }
         ensures slots { self.new.slots ≡ drop 1 self.old.slots }
         ensures removed { Removes result self.old self.new }
+        ensures gone { IfSome result (λ x. IsAbsent T.key (T.Key.eq (T.key x)) self.new.items) }
         ensures keyed { Ascends T.key T.Key.cmp self.new.items }
     {
         self.remove_index(0)
@@ -48,6 +49,7 @@ impl<T: IdOrdItem> IdOrdMap<T> {
         ensures items { self.new.items ≡ take (length self.old.items - 1) self.old.items }
         ensures slots { self.new.slots ≡ take (length self.old.slots - 1) self.old.slots }
         ensures removed { Removes result self.old self.new }
+        ensures gone { IfSome result (λ x. IsAbsent T.key (T.Key.eq (T.key x)) self.new.items) }
         ensures keyed { Ascends T.key T.Key.cmp self.new.items }
     {
         let last = self.len().saturating_sub(1);

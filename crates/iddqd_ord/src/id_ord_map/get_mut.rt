@@ -22,7 +22,7 @@ impl<T: IdOrdItem> IdOrdMap<T> {
         ensures found { IfSome result (GuardFinds T.key (Q.equivalent query.now)) }
 
         // after a write
-        ensures written { IfSome result (GuardOverwrites T.key (Q.equivalent query.now)) }
+        ensures written { IfSome result (GuardOverwrites T.key (Q.equivalent query.now) self.old) }
         ensures keyed { IfSome result (GuardKeeps T.key T.Key.cmp) }
         ensures keyed_akin { IfSome result (GuardKeepsAkin T.key T.Key.cmp T.Key.eq) }
     {

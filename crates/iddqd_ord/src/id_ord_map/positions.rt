@@ -1,8 +1,8 @@
 //! Items by their positions in the order of the keys.
-ghost use Rattle.std.specs.Prelude.{◌≡◌, ◌+◌, ◌*◌, ◌≤◌, length, remove, option_copied, slice_get};
+ghost use Rattle.std.specs.Prelude.{◌≡◌, ◌+◌, ◌*◌, ◌≤◌, IfSome, length, remove, option_copied, slice_get};
 ghost use Rattle.std.specs.Prelude.{min as least};
 ghost use Rattle.std.specs.Bound.{end_index, start_index};
-ghost use Rattle.iddqd_store.specs.Contents.{Ascends, keys};
+ghost use Rattle.iddqd_store.specs.Contents.{Ascends, IsAbsent, keys};
 ghost use Rattle.iddqd_store.specs.Holding.{Removes};
 ghost use Rattle.iddqd_ord_index.specs.Digits.{digits};
 ghost use Rattle.iddqd_ord_index.specs.Search.{IsPlaceAmong};
@@ -105,6 +105,7 @@ impl<T: IdOrdItem> IdOrdMap<T> {
         ensures items { self.new.items ≡ remove self.old.items index }
         ensures slots { self.new.slots ≡ remove self.old.slots index }
         ensures removed { Removes result self.old self.new }
+        ensures gone { IfSome result (λ x. IsAbsent T.key (T.Key.eq (T.key x)) self.new.items) }
         ensures keyed { Ascends T.key T.Key.cmp self.new.items }
     {
         if index >= self.len() {
