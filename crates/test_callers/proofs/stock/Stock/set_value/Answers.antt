@@ -5,6 +5,7 @@ use Rattle.test_callers.proofs.stock.Stock.set_value.Goals as goal
 
 pub returns-in-Occupied-clause-read : goal.returns-in-Occupied-clause-read
 returns-in-Occupied-clause-read c =
-    let found : of_name c.args.name.now c.self.inside.map.items ≡ Some c.get_mut-found.result.now = search rules in
-    let read = find_replaced _ _ _ _ (record c.get_mut-found.result.now { value = c.args.value }) _ (c.in-Occupied.ensures.entry.written _) refl found (found_passes _ _ _ found) in
+    let x = c.get_mut-found.result.now in
+    let found : of_name c.args.name.now c.self.inside.map.items ≡ Some x = search rules in
+    let read = find_replaced _ _ c.self.inside.map.items _ (record x { value = c.args.value }) x (c.in-Occupied.ensures.entry.written _) refl found (found_passes _ c.self.inside.map.items x found) in
     rw (← c.self.view_is) (rw found (search rules))
