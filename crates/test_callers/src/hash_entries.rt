@@ -1,5 +1,5 @@
 //! Entries of a hash map.
-ghost use Rattle.std.specs.Prelude.{◌≡◌, IfNone, IfSome, IsTrue, OnSome, Some, false, option_map};
+ghost use Rattle.std.specs.Prelude.{◌≡◌, IfNone, IfSome, IsTrue, OnSome, Some, false, option_map, string_bytes, unwrap_or};
 ghost use Rattle.iddqd.specs.Contents.{AddsItem};
 ghost use Rattle.iddqd.specs.IdHashMap.{IsKeyedByText};
 ghost use Rattle.test_callers.specs.Lookups.{AddsIfNew, AddsPairIfNew, KeepsOtherNames, ReadsAtName, Replaces, SetsAtKey, SumsAtName, of_key, of_name, with_value, without_name};
@@ -94,6 +94,35 @@ fn set_or_add(map: &mut IdHashMap<Named>, set: u32, item: Named) -> bool
         }
         Err(_refused) => false,
     }
+}
+
+/// Adds the item if its name is not there, and else changes nothing.
+fn keep_or_add(map: &mut IdHashMap<Named>, item: Named) -> bool
+    requires keyed { IsKeyedByText (λ x. x.name) map.old }
+    ensures unchanged { IfSome (of_key item.name map.old.items) (λ _. map.new.items ≡ map.old.items) }
+    ensures added { IsTrue result → AddsIfNew item map.old.items map.new.items }
+    ensures kept { result ≡ false → map.new.items ≡ map.old.items }
+    ensures keyed { IsKeyedByText (λ x. x.name) map.new }
+{
+    match map.entry(&item.name).or_insert(item) {
+        Ok(found) => {
+            found.finish();
+            true
+        }
+        Err(_refused) => false,
+    }
+}
+
+/// The same, of what is found then. The item's name finds the item that was there, or this one; each other name finds
+/// what it found.
+#[tactic(auto, using(iddqd::proofs::ChangeLemmas::after_changes))]
+fn ensure_present(map: &mut IdHashMap<Named>, item: Named) -> bool
+    requires keyed { IsKeyedByText (λ x. x.name) map.old }
+    ensures found { IsTrue result → of_key item.name map.new.items ≡ Some (unwrap_or (of_key item.name map.old.items) item) }
+    ensures others { KeepsOtherNames (string_bytes item.name) map.old.items map.new.items }
+    ensures keyed { IsKeyedByText (λ x. x.name) map.new }
+{
+    keep_or_add(map, item)
 }
 
 /// The value of the item of that name, or of this one, which is added.

@@ -3,7 +3,7 @@ ghost use Rattle.std.specs.Prelude.{◌≡◌, IfNone, is_some, option_map};
 ghost use Rattle.std.specs.Ordering.{nat_cmp};
 ghost use Rattle.std.specs.String.{string_cmp};
 ghost use Rattle.iddqd.specs.Contents.{Ascends, IsAbsent, find_item};
-ghost use Rattle.test_callers.specs.Lookups.{FindsEqualKey, KeepsOtherNames, PutsInPlace, SetsAtName, SetsNote, SumsAtName, of_name};
+ghost use Rattle.test_callers.specs.Lookups.{FindsEqualKey, KeepsOtherNames, PutsInPlace, ReadsAtName, SetsAtName, SetsNote, SumsAtName, of_name};
 ghost use Rattle.test_writers.specs.Pairs.{SetsPair, pair_at};
 
 use crate::items::Noted;
@@ -59,6 +59,7 @@ fn set_value(map: &mut IdOrdMap<Named>, name: &str, value: u32) -> bool
     ensures written { SetsAtName name.now value map.old.items map.new.items }
     ensures absent { IfNone (of_name name.now map.old.items) (map.new ≡ map.old) }
     ensures others { KeepsOtherNames name.now map.old.items map.new.items }
+    ensures read { ReadsAtName name.now value map.old.items map.new.items }
     ensures sum { SumsAtName name.now value map.old.items map.new.items }
     ensures keyed { Ascends (λ x. x.name) string_cmp map.new.items }
 {

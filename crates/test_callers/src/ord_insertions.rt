@@ -127,6 +127,19 @@ fn remove_noted(all: &mut IdOrdMap<Noted>, number: u32) -> Option<Noted>
     all.remove(&number)
 }
 
+/// Once the first item is removed, its name finds nothing, and each other name finds what it found. Its value has left
+/// the sum.
+#[tactic(auto, using(iddqd::proofs::ChangeLemmas::after_changes))]
+fn remove_first(all: &mut IdOrdMap<Named>) -> Option<Named>
+    requires keyed { Ascends (λ x. x.name) string_cmp all.old.items }
+    ensures gone { IfSome result (λ x. of_key x.name all.new.items ≡ None) }
+    ensures others { IfSome result (λ x. KeepsOtherNames (string_bytes x.name) all.old.items all.new.items) }
+    ensures sum { total all.new.items + value_of result ≡ total all.old.items }
+    ensures keyed { Ascends (λ x. x.name) string_cmp all.new.items }
+{
+    all.pop_first()
+}
+
 /// After `clear` nothing is found.
 fn clear(all: &mut IdOrdMap<Named>, name: &str) -> usize
     ensures none { of_name name.now all.new.items ≡ None }

@@ -1,5 +1,5 @@
 //! Positions, ranges and walks from the back, over an ordered map.
-ghost use Rattle.std.specs.Prelude.{◌≡◌, ◌≤◌, ◌/◌, ◌-◌, drop, length, option_copied, option_map, slice_get, sum_by, take};
+ghost use Rattle.std.specs.Prelude.{◌≡◌, ◌+◌, ◌≤◌, ◌/◌, ◌-◌, drop, length, option_copied, option_map, slice_get, sum_by, take};
 ghost use Rattle.std.specs.Ordering.{nat_cmp};
 ghost use Rattle.std.specs.String.{string_cmp};
 ghost use Rattle.std.specs.declared.ops.Bound.TheVariants.{Included, Excluded};
@@ -85,6 +85,14 @@ fn sum_of_page(all: &IdOrdMap<Named>, from: usize, to: usize) -> u64
     ensures { result ≡ sum_by (λ x. x.value) (drop from (take to all.now.items)) }
 {
     all.range_index(from..to).map(|x| x.value as u64).sum()
+}
+
+/// How many pairs come after the position.
+fn count_behind(all: &IdOrdMap<Pair>, index: usize) -> usize
+    ensures { result ≡ length (drop (index + 1) all.now.items) }
+{
+    all.range_index((Bound::Excluded(index), Bound::Unbounded))
+        .count()
 }
 
 /// The last value, by a walk from the back.
