@@ -144,7 +144,9 @@ impl Coins {
 
     // The year that `remove_by_key` took out.
     fn take_by(&mut self, year: u32) -> Option<u32> {
-        let slot = self.index.remove_by_key(&self.store, &year, &mut Steps::new());
+        let slot = self
+            .index
+            .remove_by_key(&self.store, &year, &mut Steps::new());
         self.year_of(slot)
     }
 
