@@ -5,6 +5,7 @@ ghost use Rattle.test_bi_hash.specs.Hosts.{of_address, of_number};
 use crate::hosts::Host;
 use iddqd_bi_hash::{BiHashMap, InsertError, Keyed};
 use std::alloc::Global;
+use std::collections::hash_map::RandomState;
 
 /// After an insertion both keys find the item.
 #[tactic(auto, using(iddqd_bi_hash::proofs::ChangeLemmas::after_changes))]
@@ -80,4 +81,12 @@ fn set_load_of_both(hosts: &mut BiHashMap<Host>, number: u32, address: u64, load
         found.finish();
     }
     hosts.contains_key2(&address)
+}
+
+/// Two numbers, with a random seed.
+fn remove_host(all: &mut BiHashMap<Host, RandomState>, number: u32) -> Option<Host>
+    requires keyed { ⟦<BiHashMap<Host, RandomState> as Keyed>⟧.keyed all.old }
+    ensures keyed { ⟦<BiHashMap<Host, RandomState> as Keyed>⟧.keyed all.new }
+{
+    all.remove1(&number)
 }

@@ -2,7 +2,6 @@
 //! at hand, and long runs of calls.
 #![tactic(auto)]
 
-pub mod accounts;
 mod callers;
 #[cfg(test)]
 mod checks;
@@ -13,7 +12,6 @@ mod filled;
 #[cfg(test)]
 mod held;
 pub mod hosts;
-pub mod keys;
 #[cfg(test)]
 mod owned;
 #[cfg(test)]

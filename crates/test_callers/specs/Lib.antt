@@ -1,3 +1,4 @@
+pub mod Accounts
 pub mod Adding
 pub mod Groups
 pub mod Lookups

@@ -2,6 +2,8 @@
 //! calls them.
 #![tactic(auto)]
 
+mod bi_accounts;
+mod bi_keys;
 mod errors;
 mod hash_adding;
 mod hash_entries;

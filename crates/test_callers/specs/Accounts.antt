@@ -5,7 +5,7 @@ use Rattle.std.specs.String.{string_eq}
 use Rattle.std.specs.declared.alloc.Global.{Global}
 use Rattle.iddqd_bi_hash.specs.Contents.{find_item}
 use Rattle.iddqd_bi_hash.specs.TwoKeys.{find_by_both}
-use Rattle.test_bi_hash.specs.declared.accounts.Account.{Account}
+use Rattle.test_callers.specs.declared.bi_accounts.Account.{Account}
 
 abbrev pub of_number : ℕ → List Account → Option Account
 of_number number all = find_item (λ a. a.number) (λ k. number == k) all
@@ -38,6 +38,13 @@ KeepsNumbersBeside was old new = IfSome was (λ a. KeepsNumbers a.number old new
 
 abbrev pub KeepsTextsBeside : Option Account → (old new : List Account) → Type 0
 KeepsTextsBeside was old new = IfSome was (λ a. KeepsTexts (string_bytes a.email) old new)
+
+-- an account that shares neither key with x is found as before, by its number or by its address
+abbrev pub KeepsNumbersUnmet : Account → (old new : List Account) → Type 0
+KeepsNumbersUnmet x old new = (a : Account) → of_number a.number old ≡ Some a → nat_eq a.number x.number ≡ false → nat_eq x.number a.number ≡ false → string_eq x.email a.email ≡ false → of_number a.number new ≡ Some a
+
+abbrev pub KeepsTextsUnmet : Account → (old new : List Account) → Type 0
+KeepsTextsUnmet x old new = (a : Account) → of_email a.email old ≡ Some a → nat_eq x.number a.number ≡ false → string_eq a.email x.email ≡ false → string_eq x.email a.email ≡ false → of_email a.email new ≡ Some a
 
 -- the account, if there is one, is found no more by its number, or by its address
 abbrev pub LosesNumber : Option Account → List Account → Type 0

@@ -3,20 +3,19 @@
 ghost use Rattle.std.specs.Prelude.{◌≡◌, IsTrue, Some};
 ghost use Rattle.std.specs.Hash.{u32, u64};
 ghost use Rattle.iddqd_bi_hash.specs.BiHashItems.{IsKeyedByNumberAndTextUnder, IsKeyedByTextAndNumber, IsKeyedByTextAndNumberUnder, IsKeyedByTexts, IsKeyedByTextsUnder, random_hash};
-ghost use Rattle.test_bi_hash.specs.Accounts.{of_number};
+ghost use Rattle.test_callers.specs.Accounts.{of_number};
 
-use crate::accounts::Account;
-use crate::hosts::Host;
-use iddqd_bi_hash::{BiHashItem, BiHashMap, Keyed, Text};
+use crate::bi_accounts::Account;
+use iddqd_bi_hash::{BiHashItem, BiHashMap, Text};
 use std::collections::hash_map::RandomState;
 
 /// A badge, by its owner and by its number.
 #[derive(Drop)]
-pub struct Badge {
+pub(crate) struct Badge {
     /// The first key.
-    pub owner: String,
+    pub(crate) owner: String,
     /// The second key.
-    pub number: u32,
+    pub(crate) number: u32,
 }
 
 impl BiHashItem for Badge {
@@ -39,11 +38,11 @@ impl BiHashItem for Badge {
 
 /// Two names of one thing.
 #[derive(Drop)]
-pub struct Alias {
+pub(crate) struct Alias {
     /// The first key.
-    pub long: String,
+    pub(crate) long: String,
     /// The second key.
-    pub short: String,
+    pub(crate) short: String,
 }
 
 impl BiHashItem for Alias {
@@ -104,12 +103,4 @@ fn add_account(all: &mut BiHashMap<Account, RandomState>, account: Account) -> b
     ensures keyed { IsKeyedByNumberAndTextUnder random_hash u64 (λ a. a.number) (λ a. a.email) all.new }
 {
     all.insert_unique(account).is_ok()
-}
-
-/// Two numbers, with a random seed.
-fn remove_host(all: &mut BiHashMap<Host, RandomState>, number: u32) -> Option<Host>
-    requires keyed { ⟦<BiHashMap<Host, RandomState> as Keyed>⟧.keyed all.old }
-    ensures keyed { ⟦<BiHashMap<Host, RandomState> as Keyed>⟧.keyed all.new }
-{
-    all.remove1(&number)
 }

@@ -1,8 +1,8 @@
 use Rattle.std.proofs.Common.{◌≡◌, ◌∙◌, Some, ap, rules, sym}
 use Rattle.std.specs.Cmp.Lexicographic.{nat_list_eq_equiv}
 use Rattle.iddqd_bi_hash.specs.SlotItems.{written_to_slot}
-use Rattle.test_bi_hash.specs.Accounts.{of_email, of_number, with_quota}
-use Rattle.test_bi_hash.proofs.accounts.write_quota.Goals as goal
+use Rattle.test_callers.specs.Accounts.{of_email, of_number, with_quota}
+use Rattle.test_callers.proofs.bi_accounts.write_quota.Goals as goal
 
 pub returns-in-Some-clause-by_email : goal.returns-in-Some-clause-by_email
 returns-in-Some-clause-by_email c =

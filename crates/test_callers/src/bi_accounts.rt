@@ -3,19 +3,19 @@
 ghost use Rattle.std.specs.Prelude.{◌≡◌, ◌+◌, IfErr, IfSome, IsTrue, None, OnOk, Some, length, option_map, string_bytes};
 ghost use Rattle.std.specs.Hash.{u64};
 ghost use Rattle.iddqd_bi_hash.specs.BiHashItems.{IsKeyedByNumberAndText};
-ghost use Rattle.test_bi_hash.specs.Accounts.{HasEmail, HasNumber, KeepsNumbers, KeepsNumbersBeside, KeepsTexts, KeepsTextsBeside, LosesEmail, LosesEmailTo, LosesNumber, LosesNumberTo, of_both, of_email, of_number, of_text, with_email, with_quota};
+ghost use Rattle.test_callers.specs.Accounts.{HasEmail, HasNumber, KeepsNumbers, KeepsNumbersBeside, KeepsNumbersUnmet, KeepsTexts, KeepsTextsBeside, KeepsTextsUnmet, LosesEmail, LosesEmailTo, LosesNumber, LosesNumberTo, of_both, of_email, of_number, of_text, with_email, with_quota};
 
 use iddqd_bi_hash::{BiHashItem, BiHashMap, Few, InsertError, Refused, Text};
 
 /// An account, by its number and by the address of its owner.
 #[derive(Drop)]
-pub struct Account {
+pub(crate) struct Account {
     /// The first key.
-    pub number: u64,
+    pub(crate) number: u64,
     /// The second key.
-    pub email: String,
+    pub(crate) email: String,
     /// How much it may hold.
-    pub quota: u32,
+    pub(crate) quota: u32,
 }
 
 impl BiHashItem for Account {
@@ -64,6 +64,20 @@ fn put(
     // those that it replaces
     ensures email_gone { OnOk result (LosesEmailTo account.email (of_number account.number all.old.items) all.new.items) }
     ensures number_gone { OnOk result (LosesNumberTo account (of_email account.email all.old.items) all.new.items) }
+    ensures keyed { IsKeyedByNumberAndText u64 (λ a. a.number) (λ a. a.email) all.new }
+{
+    all.insert_overwrite(account)
+}
+
+/// An account that shares neither key with the new one is found as before by either.
+#[tactic(auto, using(iddqd_bi_hash::proofs::ChangeLemmas::find_unmet))]
+fn put_beside(
+    all: &mut BiHashMap<Account>,
+    account: Account,
+) -> Result<Option<Few<Account>>, Refused<Account>>
+    requires keyed { IsKeyedByNumberAndText u64 (λ a. a.number) (λ a. a.email) all.old }
+    ensures numbers { OnOk result (KeepsNumbersUnmet account all.old.items all.new.items) }
+    ensures texts { OnOk result (KeepsTextsUnmet account all.old.items all.new.items) }
     ensures keyed { IsKeyedByNumberAndText u64 (λ a. a.number) (λ a. a.email) all.new }
 {
     all.insert_overwrite(account)
