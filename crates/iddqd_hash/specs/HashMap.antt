@@ -22,7 +22,7 @@
 --     CloneHashesAlike      a hasher's clone hashes as the hasher does
 -- After a loan:
 --     map_after_insertion, map_after_extension, lends_nothing      what the map is once the result is dropped
-use Rattle.std.specs.Prelude.{◌≡◌, ℕ, ◌+◌, ◌≤◌, [], length, Bool, true, All, IfErr, IfNone, OnSome, Option, IsPermutation, IsSomeAnd, Result, Some, option_map, sum_by, unwrap_or}
+use Rattle.std.specs.Prelude.{◌≡◌, ℕ, ◌+◌, ◌≤◌, [], length, Bool, true, All, IfErr, IfNone, OnSome, Option, IsPermutation, IsSomeAnd, Result, Some}
 use Rattle.std.specs.Prelude.{min as least}
 use Rattle.std.specs.Borrow.{Fml, RattleType, MutBor, Lends, LendsSoOk, unit}
 use Rattle.std.specs.Hash.{HashWrites}
@@ -143,8 +143,6 @@ pub record HashOverwrites {S T K : Type 0} (key : T → K) (eq : K → K → Boo
   pub inserted : IfNone back (InsertsItem x (holding_of old) (holding_of new))
   pub there : find_item key (eq (key x)) new.items ≡ Some x
   pub others : AddsItem x (items_without key (eq (key x)) old.items) new.items
-  -- in a sum over the items x has taken the place of what is returned
-  pub sums : (number : T → ℕ) → sum_by number new.items + unwrap_or (option_map number back) 0 ≡ sum_by number old.items + number x
 
 -- x was refused room, since nothing was spare, and is returned
 pub record HashReturnsItem {S T K : Type 0} (key : T → K) (eq : K → K → Bool) (m : HashItems S T) (x : T) (refused : Refused T) : Type 0 where

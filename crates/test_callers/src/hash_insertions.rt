@@ -1,10 +1,10 @@
 //! Insertions into a hash map, with the result matched in each form.
-ghost use Rattle.std.specs.Prelude.{◌≡◌, ◌+◌, IfOk, IfSome, IsTrue, None, OnOk, Some, length, string_bytes};
+ghost use Rattle.std.specs.Prelude.{◌≡◌, ◌+◌, IfSome, IsTrue, None, Some, length, string_bytes};
 ghost use Rattle.iddqd.specs.IdHashMap.{IsKeyedByText};
 ghost use Rattle.test_callers.specs.Lookups.{KeepsOtherNames, KeepsOtherNumbers, of_key, of_name, of_number, total, value_of};
 
 use crate::items::{Noted, Tagged, Titled};
-use iddqd::errors::{InsertError, Refused};
+use iddqd::errors::InsertError;
 use iddqd::{IdHashMap, Keyed, Text};
 use test_writers::items::Named;
 
@@ -87,31 +87,18 @@ fn note_of(error: InsertError<'_, Noted>) -> String {
     }
 }
 
-/// What was overwritten is found, and each other name finds what it found. The value is in the sum, in place of that of
-/// the name.
+/// What was overwritten is found, and each other name finds what it found.
 #[tactic(auto, using(iddqd::proofs::ChangeLemmas::after_changes))]
 fn put(all: &mut IdHashMap<Named>, item: Named) -> bool
     requires keyed { IsKeyedByText (λ x. x.name) all.old }
     ensures found { IsTrue result → of_key item.name all.new.items ≡ Some item }
     ensures others { KeepsOtherNames (string_bytes item.name) all.old.items all.new.items }
-    ensures sum { IsTrue result → total all.new.items + value_of (of_key item.name all.old.items) ≡ total all.old.items + item.value }
     ensures keyed { IsKeyedByText (λ x. x.name) all.new }
 {
     match all.insert_overwrite(item) {
         Ok(_) => true,
         Err(_refused) => false,
     }
-}
-
-/// The same of the sum, by what is returned.
-#[tactic(auto, using(iddqd::proofs::ChangeLemmas::after_changes))]
-fn exchange(all: &mut IdHashMap<Named>, item: Named) -> Result<Option<Named>, Refused<Named>>
-    requires keyed { IsKeyedByText (λ x. x.name) all.old }
-    ensures found { OnOk result (of_key item.name all.new.items ≡ Some item) }
-    ensures sum { IfOk result (λ former. total all.new.items + value_of former ≡ total all.old.items + item.value) }
-    ensures keyed { IsKeyedByText (λ x. x.name) all.new }
-{
-    all.insert_overwrite(item)
 }
 
 /// What was removed is not found, each other name finds what it found, and there is one item less.

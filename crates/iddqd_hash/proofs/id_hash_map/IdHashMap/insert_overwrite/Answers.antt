@@ -1,7 +1,6 @@
-use Rattle.std.proofs.Common.{◌∙◌, ◌≡◌, None, Some, cond, length, refl, sym, ap, subst, arith}
-use Rattle.std.proofs.lemmas.List.{length-map}
+use Rattle.std.proofs.Common.{◌∙◌, ◌≡◌, None, Some, cond, refl, sym, ap, subst, arith}
 use Rattle.std.proofs.lemmas.Result.{err_from_is_err_and}
-use Rattle.iddqd_store.proofs.ChangeLemmas.{find_inserted, find_replaced, put_beside, put_over, sum_put_over}
+use Rattle.iddqd_store.proofs.ChangeLemmas.{find_inserted, find_replaced, put_beside, put_over}
 use Rattle.iddqd_store.specs.Contents.{AddsItem, find_item, items_overwritten, items_without}
 use Rattle.iddqd_store.specs.Hashing.{hash_under}
 use Rattle.iddqd_hash_parts.specs.HashItems.{IsKeyed, KeyedItems}
@@ -69,14 +68,12 @@ returns-in-Some-clause-put g c =
     let vacant = c.exchange.ensures.vacant ∙ ap (λ v. v.vacant) c.self.view_is in
     let capacity = c.exchange.ensures.bounds.capacity ∙ ap (λ v. v.capacity) c.self.view_is in
     let limit = c.exchange.ensures.bounds.limit ∙ ap (λ v. v.limit) c.self.view_is in
-    let others = subst (AddsItem y (items_without key (eq (key y)) c.args.self.now.items)) (sym items) (put_over key g.met.T.Key.Eq.laws (eq (key y)) (g.met.T.Key.Eq.laws.congr (key y)) c.args.self.now.items c.requires.keyed.differ x y found_before) in
     record {
       found = sym found_before;
       replaced = cc;
       inserted = tt;
       there = find_replaced (λ z. eq (key y) (key z)) (λ z. cond (eq (key y) (key z)) y z) c.args.self.now.items (items_in c.exchange.new.store) y x items refl found_before (g.met.T.Key.Eq.laws.refl (key y));
-      others = others;
-      sums = λ number. sum_put_over number (λ z. eq (key y) (key z)) c.args.self.now.items (items_in c.exchange.new.store) y (Some x) (sym found_before) others (ap length items ∙ length-map c.args.self.now.items _);
+      others = subst (AddsItem y (items_without key (eq (key y)) c.args.self.now.items)) (sym items) (put_over key g.met.T.Key.Eq.laws (eq (key y)) (g.met.T.Key.Eq.laws.congr (key y)) c.args.self.now.items c.requires.keyed.differ x y found_before);
     }
 
 pub returns-in_err-insert_hashed-in-None : goal.returns-in_err-insert_hashed-in-None
@@ -103,7 +100,6 @@ returns-in_ok-insert_hashed-in-None g c =
         inserted = put.inserts;
         there = find_inserted (λ z. eq (key c.args.item) (key z)) _ _ c.args.item put.inserts.added absent (g.met.T.Key.Eq.laws.refl (key c.args.item));
         others = put_beside (λ z. eq (key c.args.item) (key z)) _ _ c.args.item put.inserts.added absent;
-        sums = λ number. sum_put_over number (λ z. eq (key c.args.item) (key z)) _ _ c.args.item None (sym absent) (put_beside (λ z. eq (key c.args.item) (key z)) _ _ c.args.item put.inserts.added absent) tt;
       };
       refused = tt;
       kept = tt;
