@@ -4,7 +4,7 @@ use iddqd::{IdHashMap, IdOrdMap};
 use std::alloc::{AllocError, Global};
 use std::collections::{BTreeMap, HashMap};
 use std::hash::Hash;
-use test_support::maps::{AskedByKey, Hashed, Ordered};
+use test_support::maps::{Hashed, Ordered, UnderTest};
 use test_support::walks::Walked;
 
 /// A map that is timed.
