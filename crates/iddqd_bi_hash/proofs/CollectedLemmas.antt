@@ -1,31 +1,31 @@
 -- Items are put in a map of two keys one after the other.
 --     both_differ      in a keyed map no two items have a key in common
+--     halts      one is not put in
 --     by_two_keys      the items that a new one meets are the same in any order of the items, and one that meets none may be inserted
-use Rattle.std.proofs.Common.{◌≡◌, ℕ, Bool, true, false, cond, not, List, [], ◌∷◌, ◌++◌, filter, find, Option, Some, None, refl, sym, ap, ◌∙◌, IsPermutation}
+use Rattle.std.proofs.Common.{◌≡◌, ℕ, Bool, cond, not, List, [], ◌++◌, Option, Some, None, sym, ap, ◌∙◌, subst, IsPermutation}
 use Rattle.std.specs.Cmp.{IsEquivalence}
 use Rattle.std.specs.Hash.{HashWrites}
+use Rattle.std.specs.List.{filter_map}
 use Rattle.std.specs.Option.{option_and_then}
 use Rattle.iddqd_store.specs.Contents.{IsAbsent, NoTwoAkin, find_item, items_without}
-use Rattle.iddqd_store.proofs.AddingLemmas.{UniqueLaws}
+use Rattle.iddqd_store.specs.Errors.{values_of}
+use Rattle.iddqd_store.specs.Holding.{KeepsItems}
+use Rattle.iddqd_store.specs.Refusal.{refusal_kind}
+use Rattle.iddqd_store.specs.SlotItems.{item_of_slot}
+use Rattle.iddqd_store.specs.Unique.{AddsAll}
+use Rattle.iddqd_store.proofs.AddingLemmas.{UniqueLaws, conflicts_first}
 use Rattle.iddqd_store.proofs.KeepsLemmas.{differ_insert}
 use Rattle.iddqd_store.proofs.OrderLemmas.{differ_moved, find_moved}
 use Rattle.iddqd_hash_parts.proofs.FoundLemmas.{without_absent}
-use Rattle.iddqd_bi_hash.specs.BiHashItems.{BiHashItems, IsKeyedByBoth, differ_by_key1, differ_by_key2}
-use Rattle.iddqd_bi_hash.specs.Collecting.{DifferInBoth, Meets}
+use Rattle.iddqd_bi_hash.specs.Extending.{HaltsAdding, HaltsAt}
+use Rattle.iddqd_bi_hash.specs.BiHashItems.{BiHashItems, IsKeyedByBoth, differ_by_key1, differ_by_key2, holding_of}
+use Rattle.iddqd_bi_hash.specs.Collecting.{DifferInBoth, Meets, MeetsNone}
 use Rattle.iddqd_bi_hash.specs.TwoKeys.{as_list, items_displaced}
+use Rattle.iddqd_bi_hash.specs.declared.bi_hash_map.extend_unique.Halted.{Halted}
+use Rattle.iddqd_bi_hash.specs.declared.bi_hash_map.extend_unique.Halted.TheVariants.{Met, NoRoom}
 use Rattle.iddqd_bi_hash.proofs.DisplacedLemmas.{at_none}
+use Rattle.iddqd_bi_hash.proofs.SlotsLemmas.{find_kept}
 use Rattle.iddqd_bi_hash.proofs.UniqueLemmas.{both_found}
-
--- a search among the items that pass is one by both tests
-find_kept : {T : Type 0} (p q : T → Bool) (xs : List T) → find p (filter q xs) ≡ find (λ x. cond (p x) (q x) false) xs
-find_kept p q [] = refl
-find_kept p q (x ∷ xs) = by (q x) (p x) refl refl (find_kept p q xs)
-  where
-    by : (a b : Bool) → q x ≡ a → p x ≡ b → find p (filter q xs) ≡ find (λ x. cond (p x) (q x) false) xs → find p (filter q (x ∷ xs)) ≡ find (λ x. cond (p x) (q x) false) (x ∷ xs)
-    by true true e f rest = rw (e, f) refl
-    by true false e f rest = rw (e, f) rest
-    by false true e f rest = rw (e, f) rest
-    by false false e f rest = rw (e, f) rest
 
 pub both_differ : {S T K L : Type 0} (key1 : T → K) (key2 : T → L) (eq1 : K → K → Bool) (eq2 : L → L → Bool) (input1 : K → HashWrites) (input2 : L → HashWrites) (hash : S → HashWrites → ℕ) (m : BiHashItems S T)
     → IsKeyedByBoth key1 key2 eq1 eq2 input1 input2 hash m → DifferInBoth key1 key2 eq1 eq2 m.items
@@ -83,3 +83,19 @@ module _ {T K L : Type 0} (key1 : T → K) (key2 : T → L) {eq1 : K → K → B
           other = differ_insert key2 equivalence2 x items place absent.1 differ.other;
         };
   }
+
+  module _ {S : Type 0} (gives : List T → T → Type 0) (old middle new : BiHashItems S T) (before : List T) (adds : AddsAll (DifferInBoth key1 key2 eq1 eq2) before old.items middle.items) (limit : middle.limit ≡ old.limit) (kept : KeepsItems (holding_of middle) (holding_of new)) (x : T) (came : gives before x) where
+    moved_on : AddsAll (DifferInBoth key1 key2 eq1 eq2) before old.items new.items
+    moved_on = subst (AddsAll (DifferInBoth key1 key2 eq1 eq2) before old.items) (sym kept.items) adds
+
+    pub halts : (h : Halted T) → HaltsAt key1 key2 eq1 eq2 x middle h → HaltsAdding key1 key2 eq1 eq2 gives old new h
+    halts (Met y slots) at =
+        let met = filter_map (item_of_slot middle.slots middle.items) (values_of slots) in
+        rw (kept.slots, kept.items, at.0) (
+          at.1,
+          (before, came, conflicts_first by_two_keys before old.items middle.items adds x met at.2, adds),
+        )
+    halts (NoRoom e) at =
+        let none = subst (MeetsNone key1 key2 eq1 eq2 x) (sym kept.items) at.1.0 in
+        let kind = at.1.1 ∙ ap (λ l. refusal_kind l middle.items) limit ∙ ap (refusal_kind old.limit) (sym kept.items) in
+        rw at.0 ((before, came, moved_on, (none, kind)), tt)

@@ -4,5 +4,8 @@ pub mod CollectedLemmas
 pub mod DisplacedLemmas
 pub mod GuardLemmas
 pub mod MetLemmas
+pub mod OverwrittenLemmas
+pub mod PairedLemmas
+pub mod SlotsLemmas
 pub mod TakenLemmas
 pub mod UniqueLemmas

@@ -1,4 +1,5 @@
 -- The items that have one of an item's keys.
+--     item_by_slot      the item of a slot, told by what a map shows
 --     met_slots      the slots that the two searches found are those of these items
 --     met_items      these items, told by what a map shows
 --     shown_met      what is lent of them
@@ -17,7 +18,7 @@ use Rattle.iddqd_bi_hash.specs.StoreAndIndexes.{bi_map_of}
 use Rattle.iddqd_bi_hash.specs.TwoKeys.{has_one_of_keys, items_met}
 
 -- the item of a slot, of the store and of the lists that a map shows
-item_by_slot : {T : Type 0} (store : Store T) → (λ (slot : ℕ). item_of_slot (slots_in store) (items_in store) slot) ≡ item_at store
+pub item_by_slot : {T : Type 0} (store : Store T) → (λ (slot : ℕ). item_of_slot (slots_in store) (items_in store) slot) ≡ item_at store
 item_by_slot store i slot = item_in_slot store.slots slot i
 
 module _ {T K L : Type 0} (key1 : T → K) (key2 : T → L) (eq1 : K → K → Bool) (eq2 : L → L → Bool) (x : T) where

@@ -4,31 +4,41 @@
 -- Changes:
 --     IsEmptyMap, HasNoItems      a map without items, before it allocates and after
 --     BiStays      what stays in each call that changes a keyed map: it is keyed, keeps the spare, and has the same hasher
---     BiInserts      an item was inserted
+--     BiInserts, BiFills      an item was inserted, or several
+--     BiRefills      several were inserted, and each may have replaced others
 --     BiKeeps      nothing has changed but the room, which may have grown
---     LosesPlaceOf      a slot is gone
+--     BiShrinks      the slots were closed up, and memory was given back
+--     IsInsertedAt, LosesPlaceOf      an inserted item has this slot; a slot is gone
 --     LeavesVacant      these items' slots are vacant
 -- Searches, insertions and refusals:
 --     HasHash      each key that a query stands for has this hash
 --     FindsSlot      the slot of the item that a query finds by one key
 --     IsOccupied, AreOccupied      a slot has an item, and each of several has
 --     AreItemsOf      the items of several slots are lent
---     AreSlotsMet, Displaces, KeepsUnmet      of an item: the slots of those that have one of its keys; those are returned; the others stay
+--     AreSlotsMet, AreSlotsDisplaced      of an item: the slots of those that have one of its keys, in rising order, or by key
+--     Displaces, KeepsUnmet      of an item: those that have one of its keys are returned; the others stay
 --     BiOverwrites      the item was inserted, and those that had one of its keys are returned
 --     LosesKey      an item is found by this key no more, unless another item has it
 --     RefusesItem, BiReturnsItem      a refused item is returned, beside the existing ones or because there is no room
+-- Many items:
+--     HasSpareFirst, SpareFirst, KeepsIfNoItem      what `extend` leaves if an item is refused, or room before any
+-- Copies:
+--     HaveEqualItems, FindsEqual      what `eq` of two maps says
+--     CloneHashesAlike      a hasher's clone hashes as the hasher does
 -- After a loan:
 --     map_after_insertion      what the map is once the result of an insertion is dropped
-use Rattle.std.specs.Prelude.{◌≡◌, ℕ, ◌+◌, [], Bool, true, false, List, length, map, IfErr, IfNone, IfSome, IsSome, OnSome, Option, Result, Some}
+use Rattle.std.specs.Prelude.{◌≡◌, ℕ, ◌+◌, ◌≤◌, [], All, Bool, true, false, List, length, map, IfErr, IfNone, IfSome, IsPermutation, IsSome, IsSomeAnd, OnSome, Option, Result, Some}
+use Rattle.std.specs.Prelude.{min as least}
 use Rattle.std.specs.Borrow.{Bor, Fml, RattleType, MutBor, LendsSoOk, unit}
 use Rattle.std.specs.Hash.{HashWrites}
 use Rattle.std.specs.List.{AllByRecursion, filter_map}
 use Rattle.std.specs.Option.{option_and_then}
 use Rattle.iddqd_store.specs.Contents.{AddsItem, IsAbsent, find_item}
 use Rattle.iddqd_store.specs.Errors.{new_item_of, lent_duplicates_of, values_of}
-use Rattle.iddqd_store.specs.Holding.{InsertsItem, KeepsItems}
+use Rattle.iddqd_store.specs.Holding.{FillsSlots, InsertsItem, KeepsItems, Shrinks}
 use Rattle.iddqd_store.specs.Refusal.{OnDuplicate, RefusalKind, refusal_kind}
-use Rattle.iddqd_store.specs.SlotItems.{HaveSlots, item_of_slot}
+use Rattle.iddqd_store.specs.SlotItems.{HaveSlots, item_of_slot, written_to_slot}
+use Rattle.iddqd_store.specs.declared.errors.ExtendError.{ExtendError}
 use Rattle.iddqd_store.specs.declared.errors.Few.{Few}
 use Rattle.iddqd_store.specs.declared.errors.InsertError.{InsertError}
 use Rattle.iddqd_store.specs.declared.errors.InsertError.TheVariants.{Duplicate, Refused}
@@ -68,6 +78,13 @@ module _ {S T : Type 0} where
   abbrev pub LeavesVacant : BiHashItems S T → BiHashItems S T → Few T → Type 0
   LeavesVacant old new few = new.vacant ≡ old.vacant + length (values_of few)
 
+  -- as many items with new keys as were spare were inserted before one found no room
+  abbrev pub HasSpareFirst : BiHashItems S T → BiHashItems S T → Type 0
+  HasSpareFirst old new = old.spare + length old.items ≤ length new.items
+
+  abbrev pub SpareFirst : BiHashItems S T → BiHashItems S T → ExtendError T → Type 0
+  SpareFirst old new e = OnSome e.item (HasSpareFirst old new)
+
   abbrev pub IsOccupied : BiHashItems S T → ℕ → Type 0
   IsOccupied m slot = IsSome (item_of_slot m.slots m.items slot)
 
@@ -88,6 +105,11 @@ module _ {S T : Type 0} where
     pub there : IfSome found (λ slot. IsSome (item_of_slot m.slots m.items slot))
     pub listed : IfSome found (λ slot. item_of_slot m.slots m.hashes slot ≡ Some hash)
 
+  -- the inserted x has this slot; a write to the slot is as if that item had been inserted
+  pub record IsInsertedAt (x : T) (old new : BiHashItems S T) (slot : ℕ) : Type 0 where
+    pub there : item_of_slot new.slots new.items slot ≡ Some x
+    pub written : (w : T) → AddsItem w old.items (written_to_slot new.slots new.items slot w)
+
   module _ (IsKeyed : BiHashItems S T → Type 0) where
     pub record BiStays (old new : BiHashItems S T) : Type 0 where
       pub keyed : IsKeyed new
@@ -101,6 +123,30 @@ module _ {S T : Type 0} where
     pub record BiKeeps (old new : BiHashItems S T) : Type 0 where
       pub keeps : KeepsItems (holding_of old) (holding_of new)
       pub stays : BiStays old new
+
+    pub record BiFills (old new : BiHashItems S T) : Type 0 where
+      pub fills : FillsSlots (holding_of old) (holding_of new)
+      pub stays : BiStays old new
+
+    -- besides the items
+    pub record BiRefills (old new : BiHashItems S T) : Type 0 where
+      pub slots : HaveSlots new.slots new.items
+      pub capacity : old.capacity ≤ new.capacity
+      pub limit : new.limit ≡ old.limit
+      pub stays : BiStays old new
+
+    -- if the error has no item, nothing has changed but the room
+    abbrev pub KeepsIfNoItem : BiHashItems S T → BiHashItems S T → ExtendError T → Type 0
+    KeepsIfNoItem old new e = IfNone e.item (BiKeeps old new)
+
+    -- there is room for `min` items in all, or for as many as before; the spare may be less
+    pub record BiShrinks (min : ℕ) (old new : BiHashItems S T) : Type 0 where
+      pub items : IsPermutation old.items new.items
+      pub shrinks : Shrinks min (holding_of old) (holding_of new)
+      pub spare : least min (old.spare + length old.items) ≤ new.spare + length new.items
+      pub spare_fits : SpareFits new
+      pub hasher : new.hasher ≡ old.hasher
+      pub keyed : IsKeyed new
 
 -- what is returned are the items that have one of x's keys
 abbrev pub Displaces : {T K L : Type 0} (key1 : T → K) (key2 : T → L) (eq1 : K → K → Bool) (eq2 : L → L → Bool) → T → List T → Option (Few T) → Type 0
@@ -121,6 +167,9 @@ module _ {S T K L : Type 0} (key1 : T → K) (key2 : T → L) (eq1 : K → K →
   -- the slots that are found, if any, are of the items that have one of x's keys
   abbrev pub AreSlotsMet : T → BiHashItems S T → Option (Few ℕ) → Type 0
   AreSlotsMet x m found = filter_map (item_of_slot m.slots m.items) (values_if_any found) ≡ items_met key1 key2 eq1 eq2 x m.items
+
+  abbrev pub AreSlotsDisplaced : T → BiHashItems S T → Option (Few ℕ) → Type 0
+  AreSlotsDisplaced x m found = filter_map (item_of_slot m.slots m.items) (values_if_any found) ≡ items_displaced key1 key2 eq1 eq2 x m.items
 
   abbrev pub KeepsUnmet : T → BiHashItems S T → BiHashItems S T → Type 0
   KeepsUnmet x old new = new.items ≡ items_unmet key1 key2 eq1 eq2 x old.items
@@ -146,6 +195,20 @@ module _ {S T K L : Type 0} (key1 : T → K) (key2 : T → L) (eq1 : K → K →
     pub there2 : find_item key2 (eq2 (key2 x)) new.items ≡ Some x
     pub gone1 : LosesKey key1 eq1 x (find_item key2 (eq2 (key2 x)) old.items) new.items
     pub gone2 : LosesKey key2 eq2 x (find_item key1 (eq1 (key1 x)) old.items) new.items
+
+module _ {S T K : Type 0} (key : T → K) (key_eq : K → K → Bool) (eq : T → T → Bool) where
+  -- the item's key finds an item that is equal to it
+  abbrev pub FindsEqual : BiHashItems S T → T → Type 0
+  FindsEqual m x = IsSomeAnd (find_item key (key_eq (key x)) m.items) (λ y. eq x y ≡ true)
+
+  -- both have as many items, and each one's key finds an equal item in the other; no order plays a part
+  pub record HaveEqualItems (one other : BiHashItems S T) : Type 0 where
+    pub as_many : length one.items ≡ length other.items
+    pub each_found : All (FindsEqual other) one.items
+
+-- with a clone of its hasher the map hashes every value as it does (a premise of `clone`)
+abbrev pub CloneHashesAlike : {S T : Type 0} → (S → S → Type 0) → (BiHashItems S T → HashWrites → ℕ) → BiHashItems S T → Type 0
+CloneHashesAlike is_clone hash m = (copy : _) → is_clone m.hasher copy → (writes : HashWrites) → hash (record m { hasher = copy }) writes ≡ hash m writes
 
 -- once the result of an insertion is dropped: at `Ok` the map has the item; at `Err` it keeps its items, and beside duplicates nothing
 -- has changed

@@ -1,5 +1,6 @@
 -- What a contract sees of a guard of a hash map of two keys.
 --     with_item_in_slot m slot w      the map, once w is written to the slot
+--     VisitsSlot      the slot's item was visited
 --     lent_map, lent_slot, lent_item      the map as the guard holds it, the slot, its item
 --     guard_lender      the name of the guard's reference to the map
 --     lent_with r w      the map once w is written through the guard
@@ -26,6 +27,13 @@ use Rattle.iddqd_bi_hash.specs.contracts.bi_hash_map.ref_mut.RefMut as guard
 module _ {S T : Type 0} where
   abbrev pub with_item_in_slot : BiHashItems S T → ℕ → T → BiHashItems S T
   with_item_in_slot m slot w = record m { items = written_to_slot m.slots m.items slot w }
+
+  -- the slot's item was visited, and now is as the visit left it; so is the visitor
+  abbrev pub VisitsSlot : {V : Type 0} → (V → T → V × T × Bool) → V → V → ℕ → BiHashItems S T → BiHashItems S T → Bool → Type 0
+  VisitsSlot visits before after slot old new kept = (x y : T)
+      × (item_of_slot old.slots old.items slot ≡ Some x)
+      × (visits before x ≡ (after, y, kept))
+      × (new ≡ with_item_in_slot old slot y)
 
   abbrev pub lent_map : RefMut T S → BiHashItems S T
   lent_map r = r.map.now

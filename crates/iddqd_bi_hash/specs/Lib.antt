@@ -1,12 +1,17 @@
 pub mod BiHashItems
 pub mod BiHashMap
 pub mod Collecting
+pub mod Entry
+pub mod Extending
 pub mod Guard
 pub mod StoreAndIndexes
 pub mod TwoKeys
+pub mod WritingWalk
 pub use Rattle.iddqd_hash_parts.specs.HashChanges
 pub use Rattle.iddqd_hash_parts.specs.HashItems
+pub use Rattle.iddqd_hash_parts.specs.SlotOrder
 pub use Rattle.iddqd_hash_parts.specs.SlotsFound
+pub use Rattle.iddqd_store.specs.Adding
 pub use Rattle.iddqd_store.specs.Contents
 pub use Rattle.iddqd_store.specs.Errors
 pub use Rattle.iddqd_store.specs.Hashing
@@ -16,3 +21,4 @@ pub use Rattle.iddqd_store.specs.Refusal
 pub use Rattle.iddqd_store.specs.SlotItems
 pub use Rattle.iddqd_store.specs.Unique
 pub use Rattle.iddqd_store.specs.Validation
+pub use Rattle.iddqd_store.specs.Visiting

@@ -2,17 +2,49 @@
 --     find_by_both, FindsByBoth, LacksByBoth      the item whose keys pass both tests (`get_unique`), or that there is none
 --     items_without_both, RemovesByBoth      the items, without that one; it was removed
 --     items_met, items_unmet      of an item: the items that have one of its keys, in their order and each once, and the others
+--     other_slot, found_same      the slot that the second of two searches found, if the first found another; both found one
+--     slots_of_pair, slots_found      two slots, or one if they are the same, and those that searches found, if any
+--     without_slots      the items, without those of these slots
+--     items_found, items_left      of two tests: the items that pass one of them, that of the first key first, and the others
 --     items_displaced      of an item: those that have one of its keys, that of the first key first (`insert_overwrite`)
 use Rattle.std.specs.Borrow.{Bor}
-use Rattle.std.specs.Prelude.{◌≡◌, Bool, true, false, not, List, [], ◌∷◌, ◌++◌, Option, Some, None, filter, find, option_copied, if◌then◌else◌}
+use Rattle.std.specs.Prelude.{◌≡◌, ◌==◌, ℕ, Bool, true, false, not, List, [], ◌∷◌, ◌++◌, Option, Some, None, filter, find, option_copied, if◌then◌else◌}
 use Rattle.iddqd_store.specs.Contents.{find_item, items_without}
+use Rattle.iddqd_store.specs.SlotItems.{without_slot}
 
 -- an item, or none, as a list
 abbrev pub as_list : {T : Type 0} → Option T → List T
 as_list None = []
 as_list (Some x) = x ∷ []
 
+abbrev pub other_slot : Option ℕ → Option ℕ → Option ℕ
+other_slot None other = other
+other_slot (Some a) None = None
+other_slot (Some a) (Some b) = if a == b then None else Some b
+
+abbrev pub found_same : Option ℕ → Option ℕ → Bool
+found_same None other = false
+found_same (Some a) None = false
+found_same (Some a) (Some b) = a == b
+
+abbrev pub slots_of_pair : ℕ → ℕ → List ℕ
+slots_of_pair a b = if a == b then a ∷ [] else a ∷ b ∷ []
+
+abbrev pub slots_found : Option (ℕ × ℕ) → List ℕ
+slots_found None = []
+slots_found (Some pair) = slots_of_pair pair.0 pair.1
+
+abbrev pub without_slots : {T : Type 0} → List ℕ → List T → List ℕ → List T
+without_slots slots items [] = items
+without_slots slots items (s ∷ gone) = without_slots (without_slot slots slots s) (without_slot slots items s) gone
+
 module _ {T K L : Type 0} (key1 : T → K) (key2 : T → L) where
+  abbrev pub items_found : (K → Bool) → (L → Bool) → List T → List T
+  items_found test1 test2 items = as_list (find_item key1 test1 items) ++ as_list (find_item key2 test2 (items_without key1 test1 items))
+
+  abbrev pub items_left : (K → Bool) → (L → Bool) → List T → List T
+  items_left test1 test2 items = items_without key2 test2 (items_without key1 test1 items)
+
   abbrev pub passes_both : (K → Bool) → (L → Bool) → T → Bool
   passes_both test1 test2 x = if test1 (key1 x) then test2 (key2 x) else false
 

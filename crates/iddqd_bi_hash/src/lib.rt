@@ -6,7 +6,7 @@ mod items;
 
 pub use bi_hash_map::{BiHashMap, DefaultHashBuilder, Keyed};
 pub use iddqd_store::{
-    DuplicateItem, Equivalent, Few, FromIterError, InsertError, MAX_ITEMS, Refused, Text,
-    TryReserveError, ValidateCompact, ValidationError,
+    DuplicateItem, Equivalent, ExtendError, ExtendUniqueError, Few, FromIterError, InsertError,
+    MAX_ITEMS, Refused, Text, TryReserveError, ValidateCompact, ValidationError, Visit,
 };
 pub use items::BiHashItem;

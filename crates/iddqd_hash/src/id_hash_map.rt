@@ -121,7 +121,7 @@ impl<T, S> IdHashMap<T, S> {
         self.store.capacity()
     }
 
-    /// Returns the number of new keys that the map accepts without a refusal, in constant time.
+    /// Returns the number of items with new keys that the map accepts without a refusal, in constant time.
     #[inline]
     pub fn spare(&self) -> usize
         ensures number { result ≡ self.now.spare }

@@ -9,13 +9,17 @@ use std::test::Fail;
 use test_support::bulk::Hinted;
 use test_support::hashers::ZeroHasher;
 
-// First keys were compared and hashed so often since, and second keys so often.
-fn counted(rt: &impl Abort, tallies: &Tallies, wanted: (u32, u32, u32, u32)) {
+/// First keys were compared and hashed so often since, and second keys so often.
+pub(crate) fn counted(rt: &impl Abort, tallies: &Tallies, wanted: (u32, u32, u32, u32)) {
     check(rt, tallies.since() == wanted);
 }
 
-// The items (1, 2), (2, 4) and (3, 6).
-fn three<'a>(rt: &impl Abort, alloc: Global, tallies: &'a Tallies) -> BiHashMap<Counted<'a>>
+/// The items (1, 2), (2, 4) and (3, 6).
+pub(crate) fn three<'a>(
+    rt: &impl Abort,
+    alloc: Global,
+    tallies: &'a Tallies,
+) -> BiHashMap<Counted<'a>>
     ensures keyed { ⟦<BiHashMap<Counted<'a>> as Keyed>⟧.keyed result }
 {
     let mut all = BiHashMap::new(alloc);

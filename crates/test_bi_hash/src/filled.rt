@@ -113,3 +113,92 @@ fn made_with_room(rt: HostRuntime) {
         BiHashMap::with_capacity_and_hasher(rt.alloc(), 300, hasher),
     );
 }
+
+#[test]
+fn extended(rt: HostRuntime) -> Result<(), Fail> {
+    let hosts = hosts_below(rt.alloc(), COUNT)?;
+    let mut all = Hosts::new(rt.alloc());
+    check(&rt, all.is_put(host(7)));
+    check(
+        &rt,
+        all.map.extend(Hinted::new(hosts.as_slice(), 0)).is_ok(),
+    );
+    check(&rt, all.holds_below(COUNT));
+    check(&rt, all.map.extend(hosts).is_ok());
+    check(&rt, all.holds_below(COUNT));
+    Ok(())
+}
+
+#[test]
+fn extended_by_new_ones(rt: HostRuntime) -> Result<(), Fail> {
+    let hosts = hosts_below(rt.alloc(), COUNT)?;
+    let mut all = Hosts::new(rt.alloc());
+    check(
+        &rt,
+        all.map
+            .extend_unique(Hinted::new(hosts.as_slice(), 0))
+            .is_ok(),
+    );
+    check(&rt, all.holds_below(COUNT));
+    let mut all = Hosts::new(rt.alloc());
+    check(&rt, all.map.extend_unique(hosts).is_ok());
+    check(&rt, all.holds_below(COUNT));
+    Ok(())
+}
+
+/// The same by `from_iter`, where one may replace another.
+pub(crate) fn is_unmade(
+    rt: &impl Abort,
+    alloc: Global,
+    hosts: &[Host],
+    count: u32,
+    hint: usize,
+) -> bool {
+    match BiHashMap::from_iter(alloc, Hinted::new(hosts, hint)) {
+        Ok(map) => {
+            check(rt, Held::over(map).holds_below(count));
+            false
+        }
+        Err(error) => {
+            check(rt, !error.is_capacity_overflow());
+            true
+        }
+    }
+}
+
+#[test]
+fn from_iter(rt: HostRuntime) -> Result<(), Fail> {
+    let hosts = hosts_below(rt.alloc(), COUNT)?;
+    check(&rt, !is_unmade(&rt, rt.alloc(), hosts.as_slice(), COUNT, 0));
+    check(
+        &rt,
+        !is_unmade(&rt, rt.alloc(), hosts.as_slice(), COUNT, 300),
+    );
+    Ok(())
+}
+
+#[test]
+fn cloned(rt: HostRuntime) {
+    let mut all = Hosts::new(rt.alloc());
+    fill(&rt, &mut all);
+    match all.copied() {
+        Ok(copy) => check(&rt, copy.holds_below(COUNT)),
+        Err(_error) => check(&rt, false),
+    }
+    check(&rt, all.holds_below(COUNT));
+}
+
+// The first hosts stay, and room for them.
+#[test]
+fn shrunk(rt: HostRuntime) {
+    let mut all = Hosts::new(rt.alloc());
+    check(&rt, all.map.reserve(2000).is_ok());
+    fill(&rt, &mut all);
+    check(&rt, all.map.shrink_to(1000).is_ok());
+    check(&rt, all.map.capacity() >= 1000 && all.map.capacity() < 2000);
+    check(&rt, all.map.spare() >= 700);
+    check(&rt, all.holds_below(COUNT));
+    check(&rt, all.map.shrink_to_fit().is_ok());
+    check(&rt, all.map.capacity() >= 300 && all.map.capacity() < 1000);
+    check(&rt, all.holds_below(COUNT));
+}

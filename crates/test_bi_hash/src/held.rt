@@ -1,10 +1,13 @@
 //! A map under test.
+ghost use Rattle.std.specs.Prelude.{◌≡◌};
 ghost use Rattle.iddqd_bi_hash.specs.Hashing.{hash_under};
 ghost use Rattle.iddqd_bi_hash.specs.BiHashItems.{BiHashItems, IsKeyedByBoth};
 
 use crate::hosts::Host;
 use crate::plain::is_same;
-use iddqd_bi_hash::{BiHashItem, BiHashMap, DefaultHashBuilder, Keyed, ValidateCompact};
+use iddqd_bi_hash::{
+    BiHashItem, BiHashMap, DefaultHashBuilder, Keyed, TryReserveError, ValidateCompact,
+};
 use std::alloc::Global;
 use std::hash::BuildHasher;
 use std::marker::Model;
@@ -60,6 +63,38 @@ impl<T: BiHashItem, S: BuildHasher> Held<T, S> {
     }
 }
 
+// Adds one to a load.
+fn raise(host: &mut Host)
+    ensures { host.new ≡ record host.old { load = host.new.load } }
+{
+    host.load = host.load.saturating_add(1);
+}
+
+// Adds one to the loads of the first four hosts of a walk, and returns how many it lends, four at most.
+fn raise_four(map: &mut BiHashMap<Host>) -> u32
+    requires keyed { ⟦<BiHashMap<Host> as Keyed>⟧.keyed map.old }
+    ensures keyed { ⟦<BiHashMap<Host> as Keyed>⟧.keyed map.new }
+{
+    let mut walk = map.iter_mut();
+    let Some(first) = walk.next() else {
+        return 0;
+    };
+    raise(first);
+    let Some(second) = walk.next() else {
+        return 1;
+    };
+    raise(second);
+    let Some(third) = walk.next() else {
+        return 2;
+    };
+    raise(third);
+    let Some(fourth) = walk.next() else {
+        return 3;
+    };
+    raise(fourth);
+    4
+}
+
 impl Held<Host> {
     /// Whether each host of a number below this one is found by both keys, and the map has no other.
     pub(crate) fn holds_below(&self, count: u32) -> bool {
@@ -73,6 +108,28 @@ impl Held<Host> {
         }
         let is_sound = self.map.validate(ValidateCompact::Compact).is_ok();
         self.map.len() == count as usize && self.map.iter().count() == count as usize && is_sound
+    }
+
+    /// Whether each of the hosts is found by both keys, and the map has no other.
+    pub(crate) fn holds(&self, hosts: &[Host]) -> bool {
+        for wanted in hosts {
+            let one = self.map.get1(&wanted.number).copied();
+            let other = self.map.get2(&wanted.address).copied();
+            if !is_same(one, Some(*wanted)) || !is_same(other, Some(*wanted)) {
+                return false;
+            }
+        }
+        self.map.len() == hosts.len() && self.map.iter().count() == hosts.len()
+    }
+
+    /// `clone`.
+    pub(crate) fn copied(&self) -> Result<Hosts, TryReserveError> {
+        Ok(Held::over(self.map.clone()?))
+    }
+
+    /// Adds one to the loads of the first four hosts that `iter_mut` lends, and returns how many it lends, four at most.
+    pub(crate) fn raise_four(&mut self) -> u32 {
+        raise_four(&mut self.map)
     }
 
     /// Writes the load of the host of the number.

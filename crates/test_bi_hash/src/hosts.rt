@@ -2,7 +2,7 @@
 use iddqd_bi_hash::BiHashItem;
 
 /// A host, which its number tells from others, and its address.
-#[derive(Clone, Copy, Drop)]
+#[derive(Clone, Copy, Debug, Drop, PartialEq, Eq)]
 pub struct Host {
     /// The first key.
     pub number: u32,

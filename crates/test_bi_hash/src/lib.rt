@@ -2,13 +2,25 @@
 //! at hand, and long runs of calls.
 #![tactic(auto)]
 
+#[cfg(test)]
+mod bulk;
 mod callers;
 #[cfg(test)]
 mod checks;
 #[cfg(test)]
+mod copies;
+#[cfg(test)]
 mod counts;
 #[cfg(test)]
+mod drops;
+#[cfg(test)]
+mod entries;
+#[cfg(test)]
+mod extended;
+#[cfg(test)]
 mod filled;
+#[cfg(test)]
+mod gaps;
 #[cfg(test)]
 mod held;
 pub mod hosts;
@@ -25,4 +37,14 @@ mod rows;
 #[cfg(test)]
 mod shapes;
 #[cfg(test)]
+mod short;
+#[cfg(test)]
+mod shrinks;
+#[cfg(test)]
 mod tallies;
+#[cfg(test)]
+mod texts;
+#[cfg(test)]
+mod walks;
+#[cfg(test)]
+mod whole_counts;

@@ -5,6 +5,7 @@ use crate::hosts::Host;
 use crate::plain::{Plain, is_same};
 use iddqd_bi_hash::{Few, InsertError};
 use std::process::Abort;
+use test_support::bulk::Hinted;
 
 // A generator by shifts (Marsaglia's of 64 bits).
 #[derive(Drop)]
@@ -118,6 +119,53 @@ fn many_calls(rt: HostRuntime) {
         match draws.below(3) {
             0 => insert(&rt, &mut hosts, &mut plain, host),
             1 => overwrite(&rt, &mut hosts, &mut plain, host),
+            _ => remove(&rt, &mut hosts, &mut plain, host),
+        }
+        same(&rt, &hosts, &plain);
+    }
+}
+
+// Inserts three hosts into both, one after the other, in place of those that have one of the keys.
+fn extend(rt: &impl Abort, hosts: &mut Hosts, plain: &mut Plain, draws: &mut Draws) {
+    let coming = [draws.host(), draws.host(), draws.host()];
+    check(rt, hosts.map.extend(Hinted::new(&coming, 3)).is_ok());
+    for host in coming {
+        plain.remove(host.number, host.address);
+        check(rt, plain.hosts.push(host).is_ok());
+    }
+}
+
+// Closes up the slots.
+fn close_up(rt: &impl Abort, hosts: &mut Hosts) {
+    check(rt, hosts.map.shrink_to_fit().is_ok());
+    check(rt, hosts.map.vacant() == 0);
+}
+
+// A copy is equal, and finds what the list does.
+fn copy(rt: &impl Abort, hosts: &Hosts, plain: &Plain) {
+    match hosts.copied() {
+        Ok(copy) => {
+            check(rt, hosts.map.eq(&copy.map));
+            same(rt, &copy, plain);
+        }
+        Err(_error) => check(rt, false),
+    }
+}
+
+// The same with calls on many hosts among them.
+#[test]
+fn calls_on_many(rt: HostRuntime) {
+    let mut hosts = Hosts::new(rt.alloc());
+    let mut plain = Plain::with_room(rt.alloc(), 12).expect(&rt, "room");
+    let mut draws = Draws { state: 99 };
+    for _ in 0..1000 {
+        let host = draws.host();
+        match draws.below(6) {
+            0 => insert(&rt, &mut hosts, &mut plain, host),
+            1 => overwrite(&rt, &mut hosts, &mut plain, host),
+            2 => extend(&rt, &mut hosts, &mut plain, &mut draws),
+            3 => close_up(&rt, &mut hosts),
+            4 => copy(&rt, &hosts, &plain),
             _ => remove(&rt, &mut hosts, &mut plain, host),
         }
         same(&rt, &hosts, &plain);

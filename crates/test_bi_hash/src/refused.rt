@@ -25,9 +25,9 @@ fn is_refused(rt: &impl Abort, all: &mut Hosts, number: u32) -> bool {
     }
 }
 
-// Inserts as many hosts, each again if it is refused: how many are refused. A refusal leaves the others, and no room of
-// the refused one.
-fn put_all(rt: &impl Abort, all: &mut Hosts, count: u32) -> u32 {
+/// Inserts as many hosts, each again if it is refused: how many are refused. A refusal leaves the others, and no room
+/// of the refused one.
+pub(crate) fn put_all(rt: &impl Abort, all: &mut Hosts, count: u32) -> u32 {
     let mut refused = 0u32;
     for number in 0..count {
         if is_refused(rt, all, number) {
@@ -127,8 +127,8 @@ fn insert_overwrite(rt: HostRuntime) -> Result<(), Fail> {
     Ok(())
 }
 
-// The word of the call that was refused, if one was; exactly then a refusal was met.
-fn word(rt: &impl Abort, is_met: bool, one: bool, other: bool) -> &'static str {
+/// The word of the call that was refused, if one was; exactly then a refusal was met.
+pub(crate) fn word(rt: &impl Abort, is_met: bool, one: bool, other: bool) -> &'static str {
     check(rt, is_met == (one || other) && !(one && other));
     if one {
         "first_refused"

@@ -8,7 +8,8 @@ use std::cell::Cell;
 use std::process::Abort;
 use std::test::Fail;
 
-fn host(number: u32, address: u64, load: u32) -> Host {
+/// A host.
+pub(crate) fn host(number: u32, address: u64, load: u32) -> Host {
     Host {
         number,
         address,
@@ -16,8 +17,8 @@ fn host(number: u32, address: u64, load: u32) -> Host {
     }
 }
 
-// Hosts 1 to 3, of which 2 and 3 leave, so that slots are vacant; 4 and 5 come.
-fn hosts(rt: &impl Abort, alloc: Global) -> Hosts {
+/// Hosts 1 to 3, of which 2 and 3 leave, so that slots are vacant; 4 and 5 come.
+pub(crate) fn hosts(rt: &impl Abort, alloc: Global) -> Hosts {
     let mut all = Hosts::new(alloc);
     check(rt, all.is_put(host(1, 101, 1)));
     check(rt, all.is_put(host(2, 102, 2)));

@@ -53,8 +53,8 @@ impl Hash for Counting<'_> {
     }
 }
 
-/// An item of two such keys.
-#[derive(Clone, Copy)]
+/// An item of two such keys. Its `==` compares the first keys, and then the second ones if those are equal.
+#[derive(Clone, Copy, PartialEq, Eq)]
 pub(crate) struct Counted<'a> {
     pub(crate) one: Counting<'a>,
     pub(crate) other: Counting<'a>,

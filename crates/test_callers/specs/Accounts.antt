@@ -8,13 +8,13 @@ use Rattle.iddqd_bi_hash.specs.TwoKeys.{find_by_both}
 use Rattle.test_callers.specs.declared.bi_accounts.Account.{Account}
 
 abbrev pub of_number : ℕ → List Account → Option Account
-of_number number all = find_item (λ a. a.number) (λ k. number == k) all
+of_number number all = find_item (λ a. a.number) (nat_eq number) all
 
 abbrev pub of_text : List ℕ → List Account → Option Account
 of_text text all = find_item (λ a. a.email) (λ k. bytes_eq text (string_bytes k)) all
 
 abbrev pub of_email : String Global → List Account → Option Account
-of_email email all = of_text (string_bytes email) all
+of_email email all = find_item (λ a. a.email) (string_eq email) all
 
 abbrev pub of_both : ℕ → List ℕ → List Account → Option Account
 of_both number text all = find_by_both (λ a. a.number) (λ a. a.email) (λ k. number == k) (λ k. bytes_eq text (string_bytes k)) all

@@ -5,3 +5,4 @@ pub mod Lookups
 pub mod OwnKeys
 pub mod Ranges
 pub mod Runs
+pub mod Settings

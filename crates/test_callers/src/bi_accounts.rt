@@ -135,10 +135,16 @@ fn close_of_both(all: &mut BiHashMap<Account>, number: u64, email: &str) -> Opti
     all.remove_unique(&number, &Text(email))
 }
 
-/// What a write under the same keys leaves of the others.
-#[tactic(auto, using(iddqd_bi_hash::proofs::ChangeLemmas::after_changes))]
+/// Either key finds what was written, and any other key finds what it found.
+#[tactic(auto, using(iddqd_bi_hash::proofs::ChangeLemmas::after_writes))]
 fn set_quota(all: &mut BiHashMap<Account>, number: u64, quota: u32)
     requires keyed { IsKeyedByNumberAndText u64 (λ a. a.number) (λ a. a.email) all.old }
+
+    // the account
+    ensures by_number { HasNumber (with_quota quota) (of_number number all.old.items) all.new.items }
+    ensures by_email { HasEmail (with_quota quota) (of_number number all.old.items) all.new.items }
+
+    // the others
     ensures numbers { KeepsNumbers number all.old.items all.new.items }
     ensures texts { KeepsTextsBeside (of_number number all.old.items) all.old.items all.new.items }
     ensures keyed { IsKeyedByNumberAndText u64 (λ a. a.number) (λ a. a.email) all.new }
@@ -149,29 +155,41 @@ fn set_quota(all: &mut BiHashMap<Account>, number: u64, quota: u32)
     }
 }
 
-/// The same by both keys.
-#[tactic(auto, using(iddqd_bi_hash::proofs::ChangeLemmas::after_changes))]
-fn set_quota_of_both(all: &mut BiHashMap<Account>, number: u64, email: &str, quota: u32)
+/// The same by the address.
+#[tactic(auto, using(iddqd_bi_hash::proofs::ChangeLemmas::after_writes))]
+fn set_quota_by_email(all: &mut BiHashMap<Account>, email: &str, quota: u32)
     requires keyed { IsKeyedByNumberAndText u64 (λ a. a.number) (λ a. a.email) all.old }
-    ensures numbers { KeepsNumbersBeside (of_both number email.now all.old.items) all.old.items all.new.items }
-    ensures texts { KeepsTextsBeside (of_both number email.now all.old.items) all.old.items all.new.items }
+
+    // the account
+    ensures by_number { HasNumber (with_quota quota) (of_text email.now all.old.items) all.new.items }
+    ensures by_email { HasEmail (with_quota quota) (of_text email.now all.old.items) all.new.items }
+
+    // the others
+    ensures numbers { KeepsNumbersBeside (of_text email.now all.old.items) all.old.items all.new.items }
+    ensures texts { KeepsTexts email.now all.old.items all.new.items }
     ensures keyed { IsKeyedByNumberAndText u64 (λ a. a.number) (λ a. a.email) all.new }
 {
-    if let Some(mut account) = all.get_mut_unique(&number, &Text(email)) {
+    if let Some(mut account) = all.get2_mut(&Text(email)) {
         account.quota = quota;
         account.finish();
     }
 }
 
-/// Both keys find what was written. That the other one does takes a line of proof.
+/// The same by both.
 #[tactic(auto, using(iddqd_bi_hash::proofs::ChangeLemmas::after_writes))]
-fn write_quota(all: &mut BiHashMap<Account>, number: u64, quota: u32)
+fn set_quota_of_both(all: &mut BiHashMap<Account>, number: u64, email: &str, quota: u32)
     requires keyed { IsKeyedByNumberAndText u64 (λ a. a.number) (λ a. a.email) all.old }
-    ensures by_number { HasNumber (with_quota quota) (of_number number all.old.items) all.new.items }
-    ensures by_email { HasEmail (with_quota quota) (of_number number all.old.items) all.new.items }
+
+    // the account
+    ensures by_number { HasNumber (with_quota quota) (of_both number email.now all.old.items) all.new.items }
+    ensures by_email { HasEmail (with_quota quota) (of_both number email.now all.old.items) all.new.items }
+
+    // the others
+    ensures numbers { KeepsNumbersBeside (of_both number email.now all.old.items) all.old.items all.new.items }
+    ensures texts { KeepsTextsBeside (of_both number email.now all.old.items) all.old.items all.new.items }
     ensures keyed { IsKeyedByNumberAndText u64 (λ a. a.number) (λ a. a.email) all.new }
 {
-    if let Some(mut account) = all.get1_mut(&number) {
+    if let Some(mut account) = all.get_mut_unique(&number, &Text(email)) {
         account.quota = quota;
         account.finish();
     }

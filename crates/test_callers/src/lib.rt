@@ -4,6 +4,7 @@
 
 mod bi_accounts;
 mod bi_keys;
+mod differences;
 mod errors;
 mod hash_adding;
 mod hash_entries;

@@ -1,12 +1,12 @@
-//! The two keys, each as the one that a search goes by.
+//! The two keys, each as the one that a search or a walk goes by.
 use crate::items::BiHashItem;
 use iddqd_store::KeyOf;
 
-// The first key.
-pub(super) struct First;
+/// The first key of an item.
+pub struct First;
 
-// The second key.
-pub(super) struct Second;
+/// The second key of an item.
+pub struct Second;
 
 impl<T: BiHashItem> KeyOf<T> for First {
     type Key = T::K1;

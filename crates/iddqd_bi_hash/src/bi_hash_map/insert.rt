@@ -1,6 +1,6 @@
 //! Insertions of items with new keys. Each looks for the items that have one of the keys first, then at the limit, then
 //! asks for memory. After a refusal no item has changed.
-ghost use Rattle.std.specs.Prelude.{◌≡◌, ◌<◌, [], IfErr, OnOk, OnErr};
+ghost use Rattle.std.specs.Prelude.{◌≡◌, ◌<◌, [], IfErr, IfOk, OnOk, OnErr};
 ghost use Rattle.std.specs.Borrow.{sem};
 ghost use Rattle.iddqd_store.specs.Contents.{IsAbsent};
 ghost use Rattle.iddqd_store.specs.Refusal.{OnRefused};
@@ -13,15 +13,15 @@ use iddqd_store::{DuplicateItem, InsertError, Refused};
 use std::hash::BuildHasher;
 
 impl<T: BiHashItem, S: BuildHasher> BiHashMap<T, S> {
-    ghost use Rattle.iddqd_bi_hash.specs.BiHashMap.{BiReturnsItem, BiInserts, BiKeeps, RefusesItem, map_after_insertion};
+    ghost use Rattle.iddqd_bi_hash.specs.BiHashMap.{BiReturnsItem, BiInserts, BiKeeps, IsInsertedAt, RefusesItem, map_after_insertion};
 
     /// Inserts the item if no item has one of its keys. Duplicates do not allocate, and the map is as it was. The error
     /// has references to the one or two items with a key of it, in the order of their slots. If the map is full or
-    /// memory is refused, the item is returned, and the items are as they were. If `spare` is above 0, an item with new
-    /// keys is never refused. Allocates only if `spare` is 0. Hashes each key once and searches once by each. If an
-    /// index grows, it reads each of its pairs.
-    /// In a caller's proof, match the error by a name, as in `Err(_error)`. `Err(_)` in the last `match` of a function
-    /// leaves nothing known of the map, if the items own memory.
+    /// memory is refused, the item is returned, and the items are as they were. If `spare` is above 0, an item that is
+    /// no duplicate is never refused. Allocates only if `spare` is 0. Hashes each key once and searches once by each.
+    /// If an index grows, it reads each of its pairs. In a caller's proof, match the error by a name, as in
+    /// `Err(_error)`. `Err(_)` in the last `match` of a function leaves nothing known of the map, if the items own
+    /// memory.
     pub fn insert_unique(&mut self, item: T) -> Result<&mut (), InsertError<'_, T>>
         requires keyed { ⟦<Self as Keyed>⟧.keyed self.old }
 
@@ -43,18 +43,18 @@ impl<T: BiHashItem, S: BuildHasher> BiHashMap<T, S> {
             return Err(InsertError::Duplicate(DuplicateItem::internal_new(item, existing)));
         }
         match self.insert_hashed(hash1, hash2, item) {
-            Ok(()) => Ok(&mut self.done),
+            Ok(_) => Ok(&mut self.done),
             Err(refused) => Err(InsertError::Refused(refused)),
         }
     }
 
-    // Inserts an item whose keys no other has.
+    // Inserts an item whose keys no other has, and returns its slot.
     pub(super) fn insert_hashed(
         &mut self,
         hash1: u64,
         hash2: u64,
         item: T,
-    ) -> Result<(), Refused<T>>
+    ) -> Result<u32, Refused<T>>
         requires keyed { ⟦<Self as Keyed>⟧.keyed self.old }
         requires absent { items_met T.key1 T.key2 T.K1.eq T.K2.eq item self.old.items ≡ [] }
         requires hash1 { hash1 ≡ ⟦<Self as Keyed>⟧.hash self.old (T.K1.hash_input (T.key1 item)) }
@@ -62,6 +62,7 @@ impl<T: BiHashItem, S: BuildHasher> BiHashMap<T, S> {
 
         // on success
         ensures inserted { OnOk result (BiInserts ⟦<Self as Keyed>⟧.keyed item self.old self.new) }
+        ensures there { IfOk result (IsInsertedAt item self.old self.new) }
 
         // on refusal
         ensures refused { IfErr result (BiReturnsItem T.key1 T.key2 T.K1.eq T.K2.eq self.old item) }
@@ -70,12 +71,11 @@ impl<T: BiHashItem, S: BuildHasher> BiHashMap<T, S> {
         if let Err(error) = reserve_one(&mut self.store, &mut self.index1, &mut self.index2) {
             return Err(Refused { item, error });
         }
-        self.insert_reserved(hash1, hash2, item);
-        Ok(())
+        Ok(self.insert_reserved(hash1, hash2, item))
     }
 
     // As `insert_hashed`, if there is room. Does not allocate.
-    pub(super) fn insert_reserved(&mut self, hash1: u64, hash2: u64, item: T)
+    pub(super) fn insert_reserved(&mut self, hash1: u64, hash2: u64, item: T) -> u32
         requires keyed { ⟦<Self as Keyed>⟧.keyed self.old }
         requires absent { items_met T.key1 T.key2 T.K1.eq T.K2.eq item self.old.items ≡ [] }
         requires hash1 { hash1 ≡ ⟦<Self as Keyed>⟧.hash self.old (T.K1.hash_input (T.key1 item)) }
@@ -84,6 +84,7 @@ impl<T: BiHashItem, S: BuildHasher> BiHashMap<T, S> {
 
         // afterwards
         ensures inserted { BiInserts ⟦<Self as Keyed>⟧.keyed item self.old self.new }
+        ensures there { IsInsertedAt item self.old self.new result }
         ensures capacity { self.new.capacity ≡ self.old.capacity }
     {
         insert_in_all(
@@ -93,6 +94,6 @@ impl<T: BiHashItem, S: BuildHasher> BiHashMap<T, S> {
             hash1,
             hash2,
             item,
-        );
+        )
     }
 }

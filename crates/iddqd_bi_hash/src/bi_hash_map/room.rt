@@ -1,9 +1,10 @@
 //! Room for items.
-ghost use Rattle.std.specs.Prelude.{◌≡◌, ◌<◌, ◌≤◌, IfOk, IfErr, OnOk, OnErr};
-ghost use Rattle.iddqd_store.specs.Refusal.{IsKindOf};
-ghost use Rattle.iddqd_bi_hash.specs.BiHashMap.{BiKeeps, HasNoItems, LacksRoomFor, Reserves, SpareFits};
+ghost use Rattle.std.specs.Prelude.{◌≡◌, ◌<◌, ◌≤◌, length, IfOk, IfErr, OnOk, OnErr};
+ghost use Rattle.iddqd_store.specs.Refusal.{IsKindOf, memory_refused};
+ghost use Rattle.iddqd_bi_hash.specs.BiHashMap.{BiKeeps, BiShrinks, HasNoItems, LacksRoomFor, Reserves, SpareFits};
 
-use super::store_and_indexes::reserve_room;
+use super::compact::compact;
+use super::store_and_indexes::{reserve_room, shrink_room};
 use super::{BiHashMap, DefaultHashBuilder, Keyed};
 use crate::items::BiHashItem;
 use iddqd_hash_index::HashIndex;
@@ -62,9 +63,9 @@ impl<T: BiHashItem, S: BuildHasher> BiHashMap<T, S> {
         Ok(BiHashMap::over(store, index1, index2, hasher))
     }
 
-    /// Reserves room for `additional` more items, in the store and in both indexes: the next `additional` items with
-    /// new keys are accepted. If the limit has no room for them, it is refused before memory is asked for. Memory can
-    /// refuse it only if `spare` is below `additional`. The items stay, and `spare` is no less. Hashes no key.
+    /// Reserves room for `additional` more items: the next `additional` items with new keys are accepted. If the limit
+    /// has no room for them, it is refused before memory is asked for. Memory can refuse it only if `spare` is below
+    /// `additional`. The items stay, and `spare` is no less. Hashes no key.
     pub fn reserve(&mut self, additional: usize) -> Result<(), TryReserveError>
         requires keyed { ⟦<Self as Keyed>⟧.keyed self.old }
         ensures reserves { OnOk result (Reserves additional self.old self.new) }
@@ -87,5 +88,35 @@ impl<T: BiHashItem, S: BuildHasher> BiHashMap<T, S> {
         ensures kept { BiKeeps ⟦<Self as Keyed>⟧.keyed self.old self.new }
     {
         self.reserve(additional)
+    }
+
+    /// As `shrink_to(0)`: gives back the memory that the items do not need. Without items the store gives back all.
+    pub fn shrink_to_fit(&mut self) -> Result<(), TryReserveError>
+        requires keyed { ⟦<Self as Keyed>⟧.keyed self.old }
+        ensures shrinks { BiShrinks ⟦<Self as Keyed>⟧.keyed 0 self.old self.new }
+        ensures frees { length self.old.items ≡ 0 → OnOk result (self.new.capacity ≡ 0) }
+        ensures only_memory { IfErr result (λ e. e ≡ memory_refused) }
+    {
+        self.shrink_to(0)
+    }
+
+    /// Closes up the slots, and gives memory back, in the store and in the index. There are two indexes. Room stays for
+    /// the items, and for `min` in all, or as much as there was. It can be refused only for memory, since the smaller
+    /// arrays are made before the old ones are dropped. Refused or not, the items stay and no slot is vacant then.
+    /// Hashes both keys of each item that moves into a vacant slot once. An index that gives memory back reads each of
+    /// its pairs.
+    pub fn shrink_to(&mut self, min: usize) -> Result<(), TryReserveError>
+        requires keyed { ⟦<Self as Keyed>⟧.keyed self.old }
+        ensures shrinks { BiShrinks ⟦<Self as Keyed>⟧.keyed min self.old self.new }
+        ensures frees { length self.old.items ≡ 0 → min ≡ 0 → OnOk result (self.new.capacity ≡ 0) }
+        ensures only_memory { IfErr result (λ e. e ≡ memory_refused) }
+    {
+        compact(
+            &mut self.store,
+            &mut self.index1,
+            &mut self.index2,
+            &self.hasher,
+        );
+        shrink_room(&mut self.store, &mut self.index1, &mut self.index2, min)
     }
 }

@@ -1,12 +1,12 @@
 //! The items of slots: read, lent for writing, removed; and the slots that searches find.
-ghost use Rattle.std.specs.Prelude.{◌≡◌, ◌<◌, IfNone, IfSome, IsSome, Some, length, map};
+ghost use Rattle.std.specs.Prelude.{◌≡◌, ◌<◌, ◌++◌, IfNone, IfSome, IsSome, Some, length, map};
 ghost use Rattle.std.specs.Option.{option_and_then};
 ghost use Rattle.std.specs.Borrow.{sem};
 ghost use Rattle.iddqd_store.specs.Contents.{AddsItem, IsAbsent};
 ghost use Rattle.iddqd_store.specs.Errors.{values_of};
 ghost use Rattle.iddqd_store.specs.Holding.{Removes};
 ghost use Rattle.iddqd_store.specs.SlotItems.{HaveSlots, item_of_slot};
-ghost use Rattle.iddqd_bi_hash.specs.TwoKeys.{find_by_both};
+ghost use Rattle.iddqd_bi_hash.specs.TwoKeys.{as_list, find_by_both, other_slot};
 ghost use Rattle.iddqd_hash_parts.specs.SlotOrder.{AreBelow, AreRising, IsNext};
 ghost use Rattle.iddqd_hash_parts.specs.SlotsFound.{values_if_any};
 
@@ -17,6 +17,18 @@ use crate::items::BiHashItem;
 use iddqd_hash_parts::{find_slot, rising_slots, slot_from};
 use iddqd_store::{Equivalent, Few};
 use std::hash::BuildHasher;
+
+// The slots that two searches found, that of the first search first and each once.
+fn slots_once(one: Option<u32>, other: Option<u32>) -> Option<Few<u32>>
+    ensures { values_if_any result ≡ as_list one ++ as_list (other_slot one other) }
+{
+    match (one, other) {
+        (None, None) => None,
+        (Some(slot), None) | (None, Some(slot)) => Some(Few::One(slot)),
+        (Some(one), Some(other)) if one == other => Some(Few::One(one)),
+        (Some(one), Some(other)) => Some(Few::Two(one, other)),
+    }
+}
 
 impl<T, S> BiHashMap<T, S> {
     ghost use Rattle.iddqd_bi_hash.specs.BiHashMap.{AreItemsOf, AreOccupied, IsOccupied};
@@ -81,7 +93,7 @@ impl<T, S> BiHashMap<T, S> {
 
 impl<T: BiHashItem, S: BuildHasher> BiHashMap<T, S> {
     ghost use Rattle.iddqd_bi_hash.specs.BiHashItems.{by_key1, by_key2, holding_of};
-    ghost use Rattle.iddqd_bi_hash.specs.BiHashMap.{AreOccupied, AreSlotsMet, BiStays, FindsSlot, HasHash, IsOccupied, LosesPlaceOf, SpareFits};
+    ghost use Rattle.iddqd_bi_hash.specs.BiHashMap.{AreOccupied, AreSlotsDisplaced, AreSlotsMet, BiStays, FindsSlot, HasHash, IsOccupied, LosesPlaceOf, SpareFits};
 
     // Returns the slot of the item that the query finds by the first key. The hash is that of each key for which the
     // query stands.
@@ -141,10 +153,24 @@ impl<T: BiHashItem, S: BuildHasher> BiHashMap<T, S> {
         rising_slots(one, other)
     }
 
+    // Returns the slots of the items that have one of the item's keys, that of the first key first and each once.
+    pub(super) fn slots_displaced(&self, hash1: u64, hash2: u64, item: &T) -> Option<Few<u32>>
+        requires keyed { ⟦<Self as Keyed>⟧.keyed self.now }
+        requires hash1 { hash1 ≡ ⟦<Self as Keyed>⟧.hash self.now (T.K1.hash_input (T.key1 item.now)) }
+        requires hash2 { hash2 ≡ ⟦<Self as Keyed>⟧.hash self.now (T.K2.hash_input (T.key2 item.now)) }
+        ensures there { AreOccupied self.now (values_if_any result) }
+        ensures met { AreSlotsDisplaced T.key1 T.key2 T.K1.eq T.K2.eq item.now self.now result }
+    {
+        let one = find_slot::<T, First, T::K1>(&self.store, &self.index1, hash1, item.key1());
+        let other = find_slot::<T, Second, T::K2>(&self.store, &self.index2, hash2, item.key2());
+        slots_once(one, other)
+    }
+
     // Removes the item of the slot. Hashes each of its keys once.
     pub(super) fn take_slot(&mut self, slot: u32) -> T
         requires keyed { ⟦<Self as Keyed>⟧.keyed self.old }
         requires there { IsSome (item_of_slot self.old.slots self.old.items slot) }
+        ensures value { item_of_slot self.old.slots self.old.items slot ≡ Some result }
         ensures gone { LosesPlaceOf slot self.old self.new }
         ensures removed { Removes (Some result) (holding_of self.old) (holding_of self.new) }
         ensures stays { BiStays ⟦<Self as Keyed>⟧.keyed self.old self.new }

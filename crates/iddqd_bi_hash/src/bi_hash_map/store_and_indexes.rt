@@ -1,10 +1,11 @@
 //! Calls that change the store and both indexes together. No key plays a part.
 ghost use Rattle.std.specs.Prelude.{◌≡◌, ◌+◌, ◌-◌, ◌<◌, ◌≤◌, length, IfErr, OnOk, OnErr, Some, None, Contains};
-ghost use Rattle.iddqd_hash_index.specs.HashPairs.{HasOneMore};
-ghost use Rattle.iddqd_store.specs.Refusal.{IsKindOf, refusal_kind};
+ghost use Rattle.std.specs.Prelude.{min as least};
+ghost use Rattle.iddqd_hash_index.specs.HashPairs.{HasOneMore, SamePairs};
+ghost use Rattle.iddqd_store.specs.Refusal.{IsKindOf, memory_refused, refusal_kind};
 ghost use Rattle.iddqd_store.specs.Store.{item_at, store_len, vacant, HasRoomFor, Updates};
 ghost use Rattle.iddqd_hash_parts.specs.StoreAndIndex.{GrowsRoom, KeepsBounds};
-ghost use Rattle.iddqd_bi_hash.specs.StoreAndIndexes.{ArePaired, spare_in_both};
+ghost use Rattle.iddqd_bi_hash.specs.StoreAndIndexes.{ArePaired, room_in_both, spare_in_both};
 
 use iddqd_hash_index::HashIndex;
 use iddqd_hash_parts as parts;
@@ -63,6 +64,39 @@ pub(super) fn reserve_room<T>(
 {
     parts::reserve_room(store, index1, additional)?;
     index2.try_reserve(additional)
+}
+
+// Gives memory back in all three, and keeps room for the items, and for `min` in all. It returns an error only if
+// memory is refused for the smaller arrays.
+pub(super) fn shrink_room<T>(
+    store: &mut ItemStore<T>,
+    index1: &mut HashIndex,
+    index2: &mut HashIndex,
+    min: usize,
+) -> Result<(), TryReserveError>
+    requires paired { ArePaired store.old index1.old.pairs index2.old.pairs }
+    requires compact { vacant store.old ≡ 0 }
+
+    // on success
+    ensures frees { store_len store.old ≡ 0 → min ≡ 0 → OnOk result (store.new.capacity ≡ 0) }
+
+    // on refusal
+    ensures only_memory { IfErr result (λ e. e ≡ memory_refused) }
+
+    // room
+    ensures lowers { store.new.capacity ≤ store.old.capacity }
+    ensures keeps_items { store_len store.old ≤ store.new.capacity }
+    ensures keeps_min { least min store.old.capacity ≤ store.new.capacity }
+    ensures spare { least min (room_in_both store.old index1.old index2.old) ≤ room_in_both store.new index1.new index2.new }
+
+    // what stays
+    ensures paired { ArePaired store.new index1.new.pairs index2.new.pairs }
+    ensures store { store.new ≡ record store.old { capacity = store.new.capacity } }
+    ensures pairs1 { SamePairs index1.old.pairs index1.new.pairs }
+    ensures pairs2 { SamePairs index2.old.pairs index2.new.pairs }
+{
+    index2.shrink(min)?;
+    parts::shrink_room(store, index1, min)
 }
 
 // Inserts the item into a slot, lists the slot under the hashes, and returns it. Does not allocate.

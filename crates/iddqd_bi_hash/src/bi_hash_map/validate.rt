@@ -12,6 +12,14 @@ impl<T, S> BiHashMap<T, S> {
     pub fn validate(&self, compact: ValidateCompact) -> Result<(), ValidationError>
         ensures { IsErr result ↔ IsNotCompact compact self.now.vacant }
     {
+        self.validate_structural(compact)
+    }
+
+    /// As `validate`, which asks for no keyed map either.
+    #[doc(hidden)]
+    pub fn validate_structural(&self, compact: ValidateCompact) -> Result<(), ValidationError>
+        ensures { IsErr result ↔ IsNotCompact compact self.now.vacant }
+    {
         compact.internal_check(self.vacant())
     }
 }

@@ -11,9 +11,9 @@ use std::hash::BuildHasher;
 impl<T: IdHashItem, S: BuildHasher> IdHashMap<T, S> {
     ghost use Rattle.iddqd_hash.specs.HashMap.{CloneHashesAlike, SpareFits};
 
-    /// Returns a map of the items' clones, in the same slots and under the same limit, over the hasher's clone. It
-    /// returns `Err` if memory for a clone, for the slots or for the index was refused, and drops what was cloned.
-    /// Hashes and compares no keys. This is no `Clone`, which cannot refuse.
+    /// Returns a map of the items' clones, in the same slots and under the same limit. Its hasher is the hasher's
+    /// clone. It returns `Err` if memory for a clone, for the slots or for the index was refused, and drops what was
+    /// cloned. Hashes and compares no keys. This is no `Clone`, which cannot refuse.
     pub fn clone(&self) -> Result<Self, TryReserveError>
     where
         T: Clone,

@@ -59,8 +59,8 @@ impl<T: IdHashItem, S: BuildHasher> IdHashMap<T, S> {
         Ok(())
     }
 
-    /// Returns a map of the iterator's items over the hasher of `S::default`, as `extend` inserts them into an empty
-    /// one. Of equal keys the last item stays. If room is refused, what was collected is dropped. This is no
+    /// Returns a map of the iterator's items, as `extend` inserts them into an empty one. Its hasher is that of
+    /// `S::default`. Of equal keys the last item stays. If room is refused, what was collected is dropped. This is no
     /// `FromIterator`, which cannot refuse.
     pub fn from_iter<U: IntoIterator<Item = T>>(
         alloc: Global,
@@ -80,8 +80,8 @@ impl<T: IdHashItem, S: BuildHasher> IdHashMap<T, S> {
         }
     }
 
-    /// Returns a map of the iterator's items, if no two have equal keys, over the hasher of `S::default`. It stops at
-    /// the first item whose key came before, and returns it as the new one beside the earlier one, which is removed.
+    /// Returns a map of the iterator's items, if no two have equal keys. Its hasher is that of `S::default`. It stops
+    /// at the first item whose key came before, and returns it as the new one beside the earlier one, which is removed.
     /// Room for the lower bound of the iterator's `size_hint` is reserved before an item is asked for. After an error
     /// all else that was collected is dropped, and so is the rest of the iterator. Hashes each item's key once and
     /// searches once for it.

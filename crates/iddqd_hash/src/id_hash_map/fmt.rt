@@ -17,7 +17,8 @@ pub struct DebugWithKeys<'a, T, S> {
 }
 
 impl<T, S> IdHashMap<T, S> {
-    /// Returns a value that `Debug` writes as the keys and their items, in no particular order: `{key: item}`.
+    /// Returns a value that `Debug` writes as the keys and their items: `{key: item}`. They stand in no particular
+    /// order.
     pub fn debug_with_keys(&self) -> DebugWithKeys<'_, T, S> {
         DebugWithKeys { map: self }
     }

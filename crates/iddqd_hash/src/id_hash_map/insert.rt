@@ -16,9 +16,9 @@ impl<T: IdHashItem, S: BuildHasher> IdHashMap<T, S> {
 
     /// Inserts the item if no item has an equal key. A duplicate is returned beside a reference to the existing item.
     /// That does not allocate, and the map is as it was. If the map is full or memory is refused, the item is returned,
-    /// and the items are as they were. If `spare` is above 0, a new key is never refused. Allocates only if `spare` is
-    /// 0. Hashes the key once and searches once. If the index grows, it reads each of its pairs.
-    /// In a caller's proof, match the error by a name, as in `Err(_error)`. `Err(_)` in the last `match` of a function
+    /// and the items are as they were. If `spare` is above 0, an item that is no duplicate is never refused. Allocates
+    /// only if `spare` is 0. Hashes the key once and searches once. If the index grows, it reads each of its pairs. In
+    /// a caller's proof, match the error by a name, as in `Err(_error)`. `Err(_)` in the last `match` of a function
     /// leaves nothing known of the map, if the items own memory.
     pub fn insert_unique(&mut self, item: T) -> Result<&mut (), InsertError<'_, T>>
         requires keyed { ⟦<Self as Keyed>⟧.keyed self.old }

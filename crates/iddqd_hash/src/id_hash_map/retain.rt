@@ -15,9 +15,9 @@ impl<T: IdHashItem, S: BuildHasher> IdHashMap<T, S> {
     ghost use Rattle.iddqd_hash_parts.specs.HashItems.{holding_of};
     ghost use Rattle.iddqd_hash.specs.HashMap.{HashStays};
 
-    /// Calls the closure once for each item, in no particular order, and drops each item for which it returns false.
-    /// The closure only reads. Looks at every slot. Hashes the key of each removed item once, and compares none. Does
-    /// not allocate.
+    /// Calls the closure once for each item, and drops each item for which it returns false. It goes in no particular
+    /// order. The closure only reads. Looks at every slot. Hashes the key of each removed item once, and compares none.
+    /// Does not allocate.
     pub fn retain<F: FnMut(&T) -> bool>(&mut self, mut keep: F)
     where
         T: Drop,
@@ -36,8 +36,8 @@ impl<T: IdHashItem, S: BuildHasher> IdHashMap<T, S> {
         }
     }
 
-    /// Visits each item once, in no particular order, and drops each item for which the visit returns false. No visit
-    /// may change a key. Hashes the key of each removed item once, and compares none. Does not allocate.
+    /// Visits each item once, and drops each item for which the visit returns false. It goes in no particular order. No
+    /// visit may change a key. Hashes the key of each removed item once, and compares none. Does not allocate.
     pub fn retain_mut<V: Visit<T>>(&mut self, visitor: &mut V)
     where
         T: Drop,

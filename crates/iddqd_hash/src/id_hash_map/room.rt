@@ -31,8 +31,8 @@ impl<T: IdHashItem> IdHashMap<T> {
 }
 
 impl<T: IdHashItem, S: BuildHasher> IdHashMap<T, S> {
-    /// Returns a map without items that accepts the next `capacity` new keys. The limit refuses it if `capacity` is
-    /// above `MAX_ITEMS`. Memory can refuse it only if `capacity` is above 0.
+    /// Returns a map without items that accepts the next `capacity` items with new keys. The limit refuses it if
+    /// `capacity` is above `MAX_ITEMS`. Memory can refuse it only if `capacity` is above 0.
     pub fn with_capacity_and_hasher(
         alloc: Global,
         capacity: usize,
@@ -61,9 +61,9 @@ impl<T: IdHashItem, S: BuildHasher> IdHashMap<T, S> {
         Ok(IdHashMap::over(store, index, hasher))
     }
 
-    /// Reserves room for `additional` more items, in the store and in the index: the next `additional` new keys are
-    /// accepted. If the limit has no room for them, it is refused before memory is asked for. Memory can refuse it only
-    /// if `spare` is below `additional`. The items stay, and `spare` is no less. Hashes no key.
+    /// Reserves room for `additional` more items: the next `additional` items with new keys are accepted. If the limit
+    /// has no room for them, it is refused before memory is asked for. Memory can refuse it only if `spare` is below
+    /// `additional`. The items stay, and `spare` is no less. Hashes no key.
     pub fn reserve(&mut self, additional: usize) -> Result<(), TryReserveError>
         requires keyed { ⟦<Self as Keyed>⟧.keyed self.old }
         ensures reserves { OnOk result (Reserves additional self.old self.new) }

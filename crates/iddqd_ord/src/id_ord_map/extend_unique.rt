@@ -16,12 +16,11 @@ impl<T: IdOrdItem> IdOrdMap<T> {
 
     /// Inserts the items one after the other, up to the first whose key an item has, from before or from the iterator.
     /// That one is returned as the new item beside a reference to the existing one. A duplicate does not allocate, and
-    /// is reported before a full map. Room in the store is reserved before an item is asked for, as `extend` does. If
-    /// that is refused, the error has no item, and the items are as they were. Else the first item that is refused is
-    /// returned. After an error the items before it stay, and the rest of the iterator is dropped. It makes as many
-    /// comparisons as that many calls of `insert_unique`.
-    /// In a caller's proof, match the error by a name, as in `Err(_error)`. `Err(_)` in the last `match` of a function
-    /// leaves nothing known of the map, if the items own memory.
+    /// is reported before a full map. Room is reserved before an item is asked for, as `extend` does. If that is
+    /// refused, the error has no item, and the items are as they were. Else the first item that is refused is returned.
+    /// After an error the items before it stay, and the rest of the iterator is dropped. It makes as many comparisons
+    /// as that many calls of `insert_unique`. In a caller's proof, match the error by a name, as in `Err(_error)`.
+    /// `Err(_)` in the last `match` of a function leaves nothing known of the map, if the items own memory.
     pub fn extend_unique<U: IntoIterator<Item = T>>(
         &mut self,
         iter: U,

@@ -17,7 +17,8 @@ pub struct DebugWithKeys<'a, T> {
 }
 
 impl<T> IdOrdMap<T> {
-    /// Returns a value that `Debug` writes as the keys and their items, in the order of the keys: `{key: item}`.
+    /// Returns a value that `Debug` writes as the keys and their items: `{key: item}`. They stand in the order of the
+    /// keys.
     pub fn debug_with_keys(&self) -> DebugWithKeys<'_, T> {
         DebugWithKeys { map: self }
     }

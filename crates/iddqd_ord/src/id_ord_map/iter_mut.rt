@@ -18,8 +18,8 @@ pub struct IterMut<'a, T> {
 }
 
 impl<T: IdOrdItem> IdOrdMap<T> {
-    /// Returns a walk over the items, ascending, that lends each once. Compares no keys. Does not allocate. The map
-    /// stays keyed unless you change an item's key.
+    /// Returns a walk over the items that lends each once. It goes in the order of the keys. Compares no keys. Does not
+    /// allocate. The map stays keyed unless you change an item's key.
     #[inline]
     pub fn iter_mut(&mut self) -> IterMut<'_, T>
         requires keyed { Ascends T.key T.Key.cmp self.old.items }

@@ -53,7 +53,7 @@ impl<'a, K: Ord + 'a, T: IdOrdItem<Key = K>> ExactSizeIterator for Keys<'a, K, T
 impl<'a, K: Ord + 'a, T: IdOrdItem<Key = K>> FusedIterator for Keys<'a, K, T> {}
 
 impl<T: IdOrdItem> IdOrdMap<T> {
-    /// Returns a walk over the items' keys, ascending. Compares no keys. Does not allocate.
+    /// Returns a walk over the items' keys, in the order of `iter`. Compares no keys. Does not allocate.
     pub fn keys(&self) -> Keys<'_, T::Key, T>
         ensures { result ≡ map T.key self.now.items }
     {

@@ -12,9 +12,9 @@ use iddqd_store::{IdOrdItem, Visit};
 impl<T: IdOrdItem> IdOrdMap<T> {
     ghost use Rattle.iddqd_ord.specs.OrdMap.{VisitsAt};
 
-    /// Calls the closure once for each item, ascending, and drops each item for which it returns false. The closure
-    /// only reads. Compares no keys. Does not allocate. It goes down the index once for an item that goes, and once for
-    /// several items.
+    /// Calls the closure once for each item, and drops each item for which it returns false. It goes in the order of
+    /// the keys. The closure only reads. Compares no keys. Does not allocate. It goes down the index once for an item
+    /// that goes, and once for several items.
     pub fn retain<F: FnMut(&T) -> bool>(&mut self, mut keep: F)
     where
         T: Drop,
@@ -35,8 +35,8 @@ impl<T: IdOrdItem> IdOrdMap<T> {
         }
     }
 
-    /// Visits each item once, ascending, and drops each item for which the visit returns false. No visit may change a
-    /// key. Compares no keys. Does not allocate. It goes down the index as `retain` does.
+    /// Visits each item once, and drops each item for which the visit returns false. It goes in the order of the keys.
+    /// No visit may change a key. Compares no keys. Does not allocate. It goes down the index as `retain` does.
     pub fn retain_mut<V: Visit<T>>(&mut self, visitor: &mut V)
     where
         T: Drop,

@@ -52,7 +52,7 @@ impl<T: IdOrdItem> IdOrdMap<T> {
         reserve_slots(&mut self.store, &self.index, additional)
     }
 
-    /// As `shrink_to(0)`: gives back the memory of the store that the items do not need.
+    /// As `shrink_to(0)`: gives back the memory that the items do not need.
     pub fn shrink_to_fit(&mut self) -> Result<(), TryReserveError>
         requires keyed { Ascends T.key T.Key.cmp self.old.items }
 

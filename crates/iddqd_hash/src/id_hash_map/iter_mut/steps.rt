@@ -10,8 +10,8 @@ use iddqd_store::IdHashItem;
 use std::hash::BuildHasher;
 
 impl<T: IdHashItem, S: BuildHasher> IdHashMap<T, S> {
-    /// Returns a walk over the items, in no particular order, that lends each once. The map stays keyed unless you
-    /// change an item's key. Hashes nothing and compares no keys. Does not allocate.
+    /// Returns a walk over the items that lends each once. It goes in no particular order. The map stays keyed unless
+    /// you change an item's key. Hashes nothing and compares no keys. Does not allocate.
     #[inline]
     pub fn iter_mut(&mut self) -> IterMut<'_, T, S>
         requires keyed { ⟦<Self as Keyed>⟧.keyed self.old }

@@ -1,4 +1,6 @@
-use Rattle.std.proofs.Common.{◌∙◌, refl, sym, ap}
+use Rattle.std.proofs.Common.{◌∙◌, refl, sym, ap, subst}
+use Rattle.iddqd_store.specs.Contents.{AddsItem}
+use Rattle.iddqd_store.specs.SlotItems.{written_to_slot}
 use Rattle.iddqd_store.specs.Refusal.{refusal_kind}
 use Rattle.iddqd_store.proofs.RefusalLemmas.{kind_by_length}
 use Rattle.iddqd_hash_parts.specs.StoreAndIndex.{items_in}
@@ -38,3 +40,16 @@ returns-clause-inserted g c =
     let room = c.reserve_one.new in
     let grown = c.reserve_one.ensures in
     inserted_after _ c.args.item _ _ _ (kept _ _ _ _ _ _ _ m.hasher m.store room.store m.index1 m.index2 room.index1 room.index2 c.self.invariant grown.paired _ c.self.view_is c.requires.keyed grown.grows1 grown.grows2) c.insert_reserved.ensures.inserted
+
+pub returns-clause-there : goal.returns-clause-there
+returns-clause-there g c =
+    let m = c.self.inside in
+    let room = c.reserve_one.new in
+    let grown = c.reserve_one.ensures in
+    let new = c.insert_reserved.new.self in
+    let there = c.insert_reserved.ensures.there in
+    let same = (kept _ _ _ _ _ _ _ m.hasher m.store room.store m.index1 m.index2 room.index1 room.index2 c.self.invariant grown.paired _ c.self.view_is c.requires.keyed grown.grows1 grown.grows2).keeps.items in
+    record {
+      there = there.there;
+      written = λ w. subst (λ items. AddsItem w items (written_to_slot new.slots new.items c.insert_reserved.result w)) same (there.written w);
+    }

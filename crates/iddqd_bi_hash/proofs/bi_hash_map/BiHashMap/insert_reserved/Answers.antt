@@ -1,4 +1,8 @@
-use Rattle.std.proofs.Common.{◌∙◌, ap, arith}
+use Rattle.std.proofs.Common.{◌∙◌, ap, arith, subst}
+use Rattle.iddqd_store.specs.Contents.{AddsItem}
+use Rattle.iddqd_store.specs.SlotItems.{written_to_slot}
+use Rattle.iddqd_hash_parts.specs.StoreAndIndex.{items_in, slots_in}
+use Rattle.iddqd_hash_parts.proofs.InSlotLemmas.{added_item, added_written}
 use Rattle.iddqd_bi_hash.proofs.BothLemmas.{inserted}
 use Rattle.iddqd_bi_hash.proofs.MetLemmas.{neither_found}
 use Rattle.iddqd_bi_hash.proofs.bi_hash_map.BiHashMap.insert_reserved.Goals as goal
@@ -25,3 +29,14 @@ returns-clause-inserted g c =
 
 pub returns-clause-capacity : goal.returns-clause-capacity
 returns-clause-capacity g c = c.insert_in_all.ensures.bounds.capacity ∙ ap (λ v. v.capacity) c.self.view_is
+
+pub returns-clause-there : goal.returns-clause-there
+returns-clause-there g c =
+    let old = c.self.inside.store in
+    let put = c.insert_in_all in
+    let new = put.new.store in
+    let done = put.ensures in
+    record {
+      there = added_item old new put.result c.args.item done.was_vacant done.updates;
+      written = λ w. subst (λ v. AddsItem w v.items (written_to_slot (slots_in new) (items_in new) put.result w)) c.self.view_is (added_written old new put.result c.args.item done.was_vacant done.updates w);
+    }

@@ -1,0 +1,96 @@
+use Rattle.std.proofs.Common.{ℕ, ◌≡◌, ◌+◌, ◌∙◌, sym, subst, arith, Some, slice_get, ap, rules, inl, inr, refl, List}
+use mathlib.Core.HLevel.{is_prop→PathP}
+use Rattle.std.proofs.Math.Nat.{ℕ_set}
+use Rattle.std.proofs.lemmas.Option.{slice_get_past}
+use Rattle.iddqd_store.specs.Hashing.{hash_under}
+use Rattle.iddqd_store.specs.SlotItems.{written_to_slot}
+use Rattle.iddqd_store.proofs.WrittenLemmas.{place_read}
+use Rattle.iddqd_hash_parts.specs.SlotOrder.{behind, slots_below}
+use Rattle.iddqd_hash_parts.proofs.RisingLemmas.{behind_next, there_listed}
+use Rattle.iddqd_bi_hash.specs.BiHashItems.{BiHashItems, IsKeyedByBoth}
+use Rattle.iddqd_bi_hash.proofs.BothLemmas.{written_akin, written_same}
+use Rattle.iddqd_bi_hash.proofs.bi_hash_map.iter_mut.IterMut.next.Given.{Over}
+use Rattle.iddqd_bi_hash.proofs.bi_hash_map.iter_mut.IterMut.next.Goals as goal
+
+-- two proofs that numbers are equal are one
+all_same : {A : Type 0} {n b : ℕ} (p q : A → n ≡ b) → p ≡ q
+all_same p q i w = ℕ_set _ _ (p w) (q w) i
+
+-- the map with these items is keyed
+abbrev IsKeyedWith : (g : Over) → BiHashItems g.row.S.Denot g.row.T.Denot → List g.row.T.Denot → Type 0
+IsKeyedWith g m items = IsKeyedByBoth g.T.BiHashItem.key1 g.T.BiHashItem.key2 g.T.K1.PartialEq.eq g.T.K2.PartialEq.eq g.T.K1.Hash.hash_input g.T.K2.Hash.hash_input (hash_under g.S.BuildHasher g.S.Hasher.Hasher) (record m { items = items })
+
+pub item_in_slot_mut-requires : goal.item_in_slot_mut-requires
+item_in_slot_mut-requires g c =
+    let m = c.args.self.now.map.now in
+    let found = c.in_ok-slot.ensures in
+    there_listed m.slots (slots_below c.args.self.now.next m.slots) c.in_ok-slot.slot found.there m.items found.own
+
+pub invariant_of-self-then-self-len : goal.invariant_of-self-then-self-len
+invariant_of-self-then-self-len g c =
+    let walk = c.args.self.now in
+    let m = walk.map.now in
+    let slot = c.in_ok-slot.slot in
+    let found = c.in_ok-slot.ensures in
+    let below : slots_below walk.next m.slots ≡ walk.done = ap (λ n. slots_below n m.slots) walk.from ∙ found.rises walk.done (omega (arith, c.if-self-len.true, c.len.ensures.len, found.own.as_many)) in
+    record { from = behind_next m.slots walk.done slot (ap (slice_get m.slots) (sym below) ∙ found.there) }
+
+pub returns-in_ok-slot : goal.returns-in_ok-slot
+returns-in_ok-slot g c =
+    let walk = c.args.self.now in
+    let m = walk.map.now in
+    let slot = c.in_ok-slot.slot in
+    let found = c.in_ok-slot.ensures in
+    let below : slots_below walk.next m.slots ≡ walk.done = ap (λ n. slots_below n m.slots) walk.from ∙ found.rises walk.done (omega (arith, c.if-self-len.true, c.len.ensures.len, found.own.as_many)) in
+    let there : slice_get m.slots walk.done ≡ Some slot = ap (slice_get m.slots) (sym below) ∙ found.there in
+    let read = place_read m.slots m.items walk.done slot found.own there in
+    let x = c.item_in_slot_mut.result.now in
+    let at = c.item_in_slot_mut.ensures.value in
+    let respects1 = g.met.T.K1.Hash.respects_eq in
+    let respects2 = g.met.T.K2.Hash.respects_eq in
+    let next : slot + 1 ≡ behind m.slots (walk.done + 1) = behind_next m.slots walk.done slot there in (
+      ap (λ q. inl (
+        c.item_in_slot_mut.result.ghost_name,
+        λ w. record {
+          map = record walk.map { now = record m { items = written_to_slot m.slots m.items slot w } };
+          done = walk.done + 1;
+          next = slot + 1;
+          from = q w;
+        },
+      )) (all_same _ (λ w. next))
+          ∙ (λ j. inl (
+            c.item_in_slot_mut.result.ghost_name,
+            λ w. record {
+              map = record walk.map { now = record m { items = read.written w j } };
+              done = walk.done + 1;
+              next = next j;
+              from = is_prop→PathP (λ i. next i ≡ behind m.slots (walk.done + 1)) (λ i. ℕ_set _ _) next refl j;
+            },
+          )),
+      record {
+        writes_back = tt;
+        value = sym c.item_in_slot_mut.ensures.value ∙ read.item;
+        found = (λ _. omega (arith, c.if-self-len.true, c.len.ensures.len), λ _. refl);
+        keyed = λ keyed w same1 same2. subst (IsKeyedWith g m) (read.written w) (written_same _ _ _ _ _ _ _ m keyed slot x at w g.met.T.K1.Eq.laws g.met.T.K2.Eq.laws respects1 respects2 same1 same2);
+        keyed_akin = λ keyed w akin. subst (IsKeyedWith g m) (read.written w) (written_akin _ _ _ _ _ _ _ m keyed slot x at w g.met.T.K1.Eq.laws g.met.T.K2.Eq.laws respects1 respects2 akin.0 akin.1);
+      },
+    )
+
+pub returns-else-self-len : goal.returns-else-self-len
+returns-else-self-len g c =
+    let walk = c.args.self.now in (
+      ap (λ q. inr (record walk { from = q })) (ℕ_set _ _ _ _),
+      record {
+        writes_back = tt;
+        value = sym (slice_get_past (walk.map.now.items) walk.done (omega (arith, c.if-self-len.false, c.len.ensures.len)));
+        found = search rules;
+        keyed = λ _. tt;
+        keyed_akin = λ _. tt;
+      },
+    )
+
+pub overflow_add-self : goal.overflow_add-self
+overflow_add-self g c = search rules
+
+pub overflow_add-self-then-self-len : goal.overflow_add-self-then-self-len
+overflow_add-self-then-self-len g c = search rules

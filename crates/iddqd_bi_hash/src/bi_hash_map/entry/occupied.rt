@@ -1,0 +1,64 @@
+//! The items of an entry: read, replaced, removed. No call looks for them again, and none allocates.
+ghost use Rattle.std.specs.Prelude.{◌≡◌, map};
+ghost use Rattle.iddqd_store.specs.Errors.{values_of};
+ghost use Rattle.iddqd_bi_hash.specs.Entry.{AreLent, LacksKeysOf, Occupied, RemovesItems, ReplacesItems, entry_is_unique, entry_map, entry_others};
+ghost use Rattle.iddqd_bi_hash.specs.TwoKeys.{slots_of_pair};
+
+use super::OccupiedEntry;
+use crate::bi_hash_map::{BiHashMap as Map, Keyed};
+use crate::items::BiHashItem;
+use iddqd_store::Few;
+use std::hash::BuildHasher;
+
+// Two slots, or one if they are the same.
+fn few_slots(first: u32, second: u32) -> Few<u32>
+    ensures { values_of result ≡ slots_of_pair first second }
+{
+    if first == second {
+        Few::One(first)
+    } else {
+        Few::Two(first, second)
+    }
+}
+
+impl<'a, T, S> OccupiedEntry<'a, T, S> {
+    /// Returns the one or two items, that of the first key first.
+    #[inline]
+    pub fn items(&self) -> Few<&T>
+        ensures { AreLent (Occupied self.now) (values_of result) }
+    {
+        let slots = few_slots(self.first, self.second);
+        self.map.items_in_slots(slots)
+    }
+
+    /// Returns true if one item has both keys.
+    #[inline]
+    pub fn is_unique(&self) -> bool
+        ensures { result ≡ entry_is_unique (Occupied self.now) }
+    {
+        self.unique
+    }
+}
+
+impl<'a, T: BiHashItem, S: BuildHasher> OccupiedEntry<'a, T, S> {
+    /// Replaces the entry's items by this one, and returns them, that of the first key first. No other item has one of
+    /// its keys, which need not be those that were asked for. Hashes each key once, and those of each removed item.
+    pub fn insert(self, item: T) -> Few<T>
+        requires keyed { ⟦<Map<T, S> as Keyed>⟧.keyed (entry_map (Occupied self)) }
+        requires absent { LacksKeysOf T.key1 T.key2 T.K1.eq T.K2.eq item (entry_others (Occupied self)) }
+        ensures { ReplacesItems ⟦<Map<T, S> as Keyed>⟧ item self.entry result self.exit.0.now }
+    {
+        let slots = few_slots(self.first, self.second);
+        self.map.replace_slots(slots, item)
+    }
+
+    /// Removes and returns the items, that of the first key first. Their slots become vacant, and their room is spare.
+    /// Hashes both keys of each once, and compares none.
+    pub fn remove(self) -> Few<T>
+        requires keyed { ⟦<Map<T, S> as Keyed>⟧.keyed (entry_map (Occupied self)) }
+        ensures { RemovesItems ⟦<Map<T, S> as Keyed>⟧ self.entry result self.exit.0.now }
+    {
+        let slots = few_slots(self.first, self.second);
+        self.map.take_slots(slots)
+    }
+}

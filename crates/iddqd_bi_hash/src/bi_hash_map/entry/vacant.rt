@@ -1,0 +1,44 @@
+//! An insertion by a vacant entry. It looks at the limit first, then asks for memory, and only then changes anything.
+ghost use Rattle.std.specs.Prelude.{◌≡◌, IfErr, IfOk};
+ghost use Rattle.std.specs.Borrow.{sem};
+ghost use Rattle.iddqd_bi_hash.specs.Entry.{EntryReturnsItem, LacksKeysOf, LendsInserted as Lends, Vacant, entry_map, entry_lender, guard_or_kept};
+ghost use Rattle.iddqd_bi_hash.specs.Guard.{GuardKeeps, GuardKeepsAkin, guard_lender};
+
+use super::VacantEntry;
+use crate::bi_hash_map::{BiHashMap as Map, Keyed, RefMut};
+use crate::items::BiHashItem;
+use iddqd_store::Refused;
+use std::hash::BuildHasher;
+
+impl<'a, T: BiHashItem, S: BuildHasher> VacantEntry<'a, T, S> {
+    /// Inserts the item, and returns a guard for it. No item has one of its keys, which need not be those that were
+    /// asked for. If the map is full or memory is refused, the item is returned, and the items are as they were. If
+    /// `spare` is above 0, it is never refused. Allocates only if `spare` is 0. Hashes each key once, and compares
+    /// none. If an index grows, it reads each of its pairs. The guard has to be spent.
+    /// Match the refusal by a name, as in `Err(_refused)`. Beside a guard that is moved out of `Ok`, `Err(_)` gets no
+    /// proof, if the items are not `Copy`.
+    pub fn insert(self, item: T) -> Result<RefMut<'a, T, S>, Refused<T>>
+        requires keyed { ⟦<Map<T, S> as Keyed>⟧.keyed (entry_map (Vacant self)) }
+        requires absent { LacksKeysOf T.key1 T.key2 T.K1.eq T.K2.eq item (entry_map (Vacant self)).items }
+
+        // on success
+        ensures same_map { IfOk result (λ r. guard_lender r ≡ entry_lender (Vacant self.entry)) }
+        ensures inserted { IfOk result (Lends ⟦<Map<T, S> as Keyed>⟧ item (Vacant self.entry)) }
+        ensures keyed { IfOk result (GuardKeeps T.key1 T.key2 ⟦<Map<T, S> as Keyed>⟧.keyed) }
+        ensures keyed_akin { IfOk result (GuardKeepsAkin ⟦<Map<T, S> as Keyed>⟧) }
+
+        // on refusal
+        ensures* kept { sem 𝓛 (guard_or_kept S.row T.row ⟦<Map<T, S> as Keyed>⟧ self.entry result) }
+        ensures refused { IfErr result (EntryReturnsItem T.key1 T.key2 T.K1.eq T.K2.eq (Vacant self.entry) item) }
+    {
+        let VacantEntry { map } = self;
+        match map.insert_absent(item) {
+            Ok(slot) => Ok(RefMut {
+                map,
+                slot,
+                spent: false,
+            }),
+            Err(refused) => Err(refused),
+        }
+    }
+}

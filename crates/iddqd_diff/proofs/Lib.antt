@@ -1,0 +1,10 @@
+mod AddedLemmas
+mod ApplyLemmas
+mod HashApplyLemmas
+mod KeyOrderLemmas
+mod LookedUpLemmas
+mod MergedLemmas
+mod OrdApplyLemmas
+mod PermutationLemmas
+pub mod SameKeysLemmas
+pub mod UniqueLemmas

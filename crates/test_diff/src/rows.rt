@@ -1,0 +1,67 @@
+//! Rows: maps that are equal, that share no key, of which one is empty, and keys that are equal though spelled
+//! differently.
+use crate::checks::check;
+use crate::held::{ByHash, InOrder, Listed, Sides};
+use std::alloc::Global;
+use std::process::Abort;
+use std::test::Fail;
+use test_support::caseless::{Coarse, item_of, spelled};
+
+// Two maps whose names differ in case alone, and one name beside.
+fn spellings<M: Listed<Coarse>>(rt: &impl Abort, alloc: Global) -> (M, M) {
+    let (mut before, mut after) = (M::empty(alloc), M::empty(alloc));
+    check(rt, before.is_put(item_of(*b"web", 1)));
+    check(rt, before.is_put(item_of(*b"db1", 2)));
+    check(rt, after.is_put(item_of(*b"WEB", 1)));
+    check(rt, after.is_put(item_of(*b"Tmp", 3)));
+    (before, after)
+}
+
+fn shown(side: &Option<Coarse>) -> Option<([u8; 3], u32)> {
+    side.as_ref().map(|item| spelled(item))
+}
+
+// Whether these are the differences, by the names' spellings and the values.
+fn are(
+    rt: &impl Abort,
+    found: &[Sides<Coarse>],
+    wanted: &[(Option<([u8; 3], u32)>, Option<([u8; 3], u32)>)],
+) {
+    check(rt, found.len() == wanted.len());
+    for (sides, other) in found.iter().zip(wanted) {
+        check(rt, shown(&sides.0) == other.0 && shown(&sides.1) == other.1);
+    }
+}
+
+#[test]
+fn spelled_differently_in_order(rt: HostRuntime) -> Result<(), Fail> {
+    let (before, after) = spellings::<InOrder<Coarse>>(&rt, rt.alloc());
+    let found = before.differences(&after, rt.alloc())?;
+    are(
+        &rt,
+        found.as_slice(),
+        &[
+            (Some((*b"db1", 2)), None),
+            (None, Some((*b"Tmp", 3))),
+            (Some((*b"web", 1)), Some((*b"WEB", 1))),
+        ],
+    );
+    check(&rt, before.changes(&after) == 2);
+    Ok(())
+}
+
+#[test]
+fn spelled_differently_by_hash(rt: HostRuntime) -> Result<(), Fail> {
+    let (before, after) = spellings::<ByHash<Coarse>>(&rt, rt.alloc());
+    let found = before.differences(&after, rt.alloc())?;
+    are(
+        &rt,
+        found.as_slice(),
+        &[
+            (Some((*b"web", 1)), Some((*b"WEB", 1))),
+            (Some((*b"db1", 2)), None),
+            (None, Some((*b"Tmp", 3))),
+        ],
+    );
+    Ok(())
+}
