@@ -1,5 +1,5 @@
 //! A reading walk over the slots of a store. Contracts see the items to come.
-ghost use Rattle.std.specs.Prelude.{◌≡◌, length, IfSome, None};
+ghost use Rattle.std.specs.Prelude.{◌≡◌, ◌≤◌, length, IfSome, None};
 ghost use Rattle.std.specs.Iterator.{UpTo, YieldsFirstRef, at_most, item_count};
 ghost use Rattle.std.specs.Iterator.SizeHint.{IsWithinCount};
 
@@ -32,7 +32,8 @@ impl<'a, T> Iter<'a, T> {
     /// Returns a walk over the items of the store. It looks at vacant slots too. Does not allocate.
     #[inline]
     pub fn over(store: &'a ItemStore<T>) -> Self
-        ensures { result ≡ items_in store.now }
+        ensures items { result ≡ items_in store.now }
+        ensures fits { length result ≤ u32.MAX }
     {
         Iter {
             items: store.items(),

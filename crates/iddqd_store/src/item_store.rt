@@ -82,6 +82,7 @@ impl<T> ItemStore<T> {
     pub fn len(&self) -> usize
         ensures items { result ≡ store_len self.now }
         ensures limit { result ≤ self.now.limit }
+        ensures fits { result ≤ u32.MAX }
     {
         self.len
     }

@@ -1,5 +1,5 @@
 //! Reading walks, in no particular order.
-ghost use Rattle.std.specs.Prelude.{◌≡◌};
+ghost use Rattle.std.specs.Prelude.{◌≡◌, ◌≤◌, length};
 
 use super::BiHashMap;
 use iddqd_hash_parts::Iter;
@@ -7,7 +7,8 @@ use iddqd_hash_parts::Iter;
 impl<T, S> BiHashMap<T, S> {
     /// Returns a walk over the items, in no particular order. It looks at vacant slots too. Does not allocate.
     pub fn iter(&self) -> Iter<'_, T>
-        ensures { result ≡ self.now.items }
+        ensures items { result ≡ self.now.items }
+        ensures fits { length result ≤ u32.MAX }
     {
         Iter::over(&self.store)
     }

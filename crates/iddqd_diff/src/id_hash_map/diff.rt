@@ -64,9 +64,6 @@ impl<'o, 'n, T: IdHashItem, S: BuildHasher, U: BuildHasher> Diffable<&'n IdHashM
     ghost in_order = { λ _. ⊤ };
 
     fn diff(self, after: &'n IdHashMap<T, U>) -> Diff<'o, 'n, T, S, U> {
-        // that the numbers of items fit is known of these calls
-        let (_, _) = (self.len(), self.limit());
-        let (_, _) = (after.len(), after.limit());
         Diff {
             before: self,
             after,

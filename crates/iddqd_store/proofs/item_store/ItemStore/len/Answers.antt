@@ -8,3 +8,6 @@ returns-clause-items g c = search rules
 
 pub returns-clause-limit : goal.returns-clause-limit
 returns-clause-limit g c = grind (arith, common_steps)
+
+pub returns-clause-fits : goal.returns-clause-fits
+returns-clause-fits g c = grind (arith, common_steps)
