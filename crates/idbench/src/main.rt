@@ -3,12 +3,14 @@
 //! std's, their ratio, and a bar that shows it. `bytes` fills the maps for `tools/measure-bytes`, and times nothing.
 #![tactic(auto)]
 
+mod differences;
 mod items;
 mod phases;
 mod ranges;
 mod report;
 mod subjects;
 
+use crate::differences::compare_differences;
 use crate::items::{BenchKey, Item};
 use crate::phases::{Plan, Times, filled, timed};
 use crate::ranges::compare_ranges;
@@ -119,7 +121,10 @@ fn time_size(
     let by_text = compare::<String>(clock, alloc, out, plan, is_told)?;
     let of_numbers = compare_ranges::<u64>(clock, alloc, out, plan, is_told)?;
     let of_texts = compare_ranges::<String>(clock, alloc, out, plan, is_told)?;
-    Ok(by_number && by_text && of_numbers && of_texts)
+    let pair = (plan.0, plan.2);
+    let number_differences = compare_differences::<u64>(clock, alloc, out, pair, is_told)?;
+    let text_differences = compare_differences::<String>(clock, alloc, out, pair, is_told)?;
+    Ok(by_number && by_text && of_numbers && of_texts && number_differences && text_differences)
 }
 
 // Times both kinds of map at each size: whether all sums agree.

@@ -287,6 +287,18 @@ fn timed_calls<S: Subject>(
     Ok((nanos, summed(parts)))
 }
 
+/// Exchanges a hundredth of the map's items for others.
+pub(crate) fn exchange_hundredth<S: Subject>(
+    map: &mut S,
+    alloc: Global,
+    plan: &Plan,
+) -> Result<(), AllocError> {
+    let keys: Vec<S::Key> = plan.keys(alloc, 0)?;
+    let (exchanged, _) = keys.as_slice().split_at(keys.len() / 100);
+    churn(map, exchanged, plan.loads::<S>(alloc, plan.size)?);
+    Ok(())
+}
+
 /// A new map with the items of the plan, which goes in unclocked.
 pub(crate) fn filled<S: Subject>(alloc: Global, plan: &Plan) -> Result<S, AllocError> {
     let loads = plan.loads::<S>(alloc, 0)?;

@@ -3,7 +3,7 @@ ghost use Rattle.iddqd.specs.Contents.{ClonesKeepKeys};
 
 use crate::cases::hundreds;
 use crate::checks::check;
-use crate::held::{ByHash, InOrder, Listed};
+use crate::held::Listed;
 use iddqd::errors::TryReserveError;
 use iddqd::{IdHashItem, IdOrdItem};
 use iddqd_diff::{id_hash_map, id_ord_map};
@@ -11,55 +11,58 @@ use std::alloc::Global;
 use std::test::Fail;
 use test_support::heap::arm;
 use test_support::items::Numbered;
+use test_support::maps::{Hashed, Ordered, UnderTest};
 
 // A copy of the old map, brought up to the new one, and whether that was refused. Requests count from the end of the
 // copying on.
 #[tactic(auto, using(iddqd_diff::proofs::SameKeysLemmas::keys_of_clones))]
 pub(crate) fn brought_up<T: IdOrdItem + Clone + Drop>(
     alloc: Global,
-    before: &InOrder<T>,
-    after: &InOrder<T>,
-) -> Result<(InOrder<T>, bool), TryReserveError>
+    before: &Ordered<T>,
+    after: &Ordered<T>,
+) -> Result<(Ordered<T>, bool), TryReserveError>
     requires keeps { ClonesKeepKeys T.key T.Key.eq T.is_clone }
 {
-    let mut copy = before.map.clone()?;
+    let before = before.map();
+    let mut copy = before.clone()?;
     arm(alloc);
-    let is_refused = id_ord_map::apply(&mut copy, &before.map, &after.map).is_err();
-    Ok((InOrder { map: copy }, is_refused))
+    let is_refused = id_ord_map::apply(&mut copy, before, after.map()).is_err();
+    Ok((Ordered::new(copy), is_refused))
 }
 
 // The same of a hash map.
 #[tactic(auto, using(iddqd_diff::proofs::SameKeysLemmas::keys_of_clones))]
 pub(crate) fn brought_up_by_hash<T: IdHashItem + Clone + Drop>(
     alloc: Global,
-    before: &ByHash<T>,
-    after: &ByHash<T>,
-) -> Result<(ByHash<T>, bool), TryReserveError>
+    before: &Hashed<T>,
+    after: &Hashed<T>,
+) -> Result<(Hashed<T>, bool), TryReserveError>
     requires keeps { ClonesKeepKeys T.key T.Key.eq T.is_clone }
 {
-    let mut copy = before.map.clone()?;
+    let before = before.map();
+    let mut copy = before.clone()?;
     arm(alloc);
-    let is_refused = id_hash_map::apply(&mut copy, &before.map, &after.map).is_err();
-    Ok((ByHash { map: copy }, is_refused))
+    let is_refused = id_hash_map::apply(&mut copy, before, after.map()).is_err();
+    Ok((Hashed::new(copy), is_refused))
 }
 
 // With memory at hand the copy has the items of the new map, and no other.
 #[test]
 fn hundreds_in_order(rt: HostRuntime) -> Result<(), Fail> {
-    let (before, after) = hundreds::<InOrder<Numbered>>(&rt, rt.alloc())?;
+    let (before, after) = hundreds::<Ordered<Numbered>>(&rt, rt.alloc())?;
     let (copy, is_refused) = brought_up(rt.alloc(), &before, &after)?;
     check(&rt, !is_refused);
     check(&rt, copy.has_keys_of(&after) && copy.changes(&after) == 0);
-    check(&rt, copy.map.len() == after.map.len());
+    check(&rt, copy.len() == after.len());
     Ok(())
 }
 
 #[test]
 fn hundreds_by_hash(rt: HostRuntime) -> Result<(), Fail> {
-    let (before, after) = hundreds::<ByHash<Numbered>>(&rt, rt.alloc())?;
+    let (before, after) = hundreds::<Hashed<Numbered>>(&rt, rt.alloc())?;
     let (copy, is_refused) = brought_up_by_hash(rt.alloc(), &before, &after)?;
     check(&rt, !is_refused);
     check(&rt, copy.has_keys_of(&after) && copy.changes(&after) == 0);
-    check(&rt, copy.map.len() == after.map.len());
+    check(&rt, copy.len() == after.len());
     Ok(())
 }

@@ -1,10 +1,11 @@
 //! Each case of five keys, and one of hundreds, against plain lists.
 use crate::checks::check;
-use crate::held::{ByHash, InOrder, Listed, Sides};
+use crate::held::{Listed, Sides};
 use std::alloc::{AllocError, Global};
 use std::process::Abort;
 use std::test::Fail;
 use test_support::items::Numbered;
+use test_support::maps::{Hashed, Ordered, UnderTest};
 
 // What the maps have at a key: neither an item, the old one alone, the new one alone, both the same, or each another.
 fn sides_of(number: u32, digit: u32) -> Sides<Numbered> {
@@ -31,7 +32,7 @@ fn sides_of_case(alloc: Global, case: u32) -> Result<Vec<Sides<Numbered>>, Alloc
 }
 
 // Inserts the items of each side into its map.
-fn fill<M: Listed<Numbered>>(
+fn fill<M: Listed<Numbered, u32>>(
     rt: &impl Abort,
     before: &mut M,
     after: &mut M,
@@ -75,7 +76,7 @@ fn looked_up(alloc: Global, all: &[Sides<Numbered>]) -> Result<Vec<Sides<Numbere
 }
 
 // Whether the difference of two maps with these sides gives what is wanted, and counts as many changes.
-fn gives<M: Listed<Numbered> + Drop>(
+fn gives<M: Listed<Numbered, u32> + Drop>(
     rt: &impl Abort,
     alloc: Global,
     all: &[Sides<Numbered>],
@@ -101,7 +102,7 @@ fn each_case_in_order(rt: HostRuntime) -> Result<(), Fail> {
     for case in 0..3125u32 {
         let all = sides_of_case(rt.alloc(), case)?;
         let wanted = merged(rt.alloc(), all.as_slice())?;
-        gives::<InOrder<Numbered>>(&rt, rt.alloc(), all.as_slice(), wanted.as_slice())?;
+        gives::<Ordered<Numbered>>(&rt, rt.alloc(), all.as_slice(), wanted.as_slice())?;
     }
     Ok(())
 }
@@ -111,7 +112,7 @@ fn each_case_by_hash(rt: HostRuntime) -> Result<(), Fail> {
     for case in 0..3125u32 {
         let all = sides_of_case(rt.alloc(), case)?;
         let wanted = looked_up(rt.alloc(), all.as_slice())?;
-        gives::<ByHash<Numbered>>(&rt, rt.alloc(), all.as_slice(), wanted.as_slice())?;
+        gives::<Hashed<Numbered>>(&rt, rt.alloc(), all.as_slice(), wanted.as_slice())?;
     }
     Ok(())
 }
@@ -126,7 +127,7 @@ fn sides_of_hundreds(alloc: Global) -> Result<Vec<Sides<Numbered>>, AllocError> 
 }
 
 /// Two maps of hundreds of items.
-pub(crate) fn hundreds<M: Listed<Numbered>>(
+pub(crate) fn hundreds<M: Listed<Numbered, u32>>(
     rt: &impl Abort,
     alloc: Global,
 ) -> Result<(M, M), Fail> {
@@ -140,12 +141,12 @@ pub(crate) fn hundreds<M: Listed<Numbered>>(
 fn hundreds_in_order(rt: HostRuntime) -> Result<(), Fail> {
     let all = sides_of_hundreds(rt.alloc())?;
     let wanted = merged(rt.alloc(), all.as_slice())?;
-    gives::<InOrder<Numbered>>(&rt, rt.alloc(), all.as_slice(), wanted.as_slice())
+    gives::<Ordered<Numbered>>(&rt, rt.alloc(), all.as_slice(), wanted.as_slice())
 }
 
 #[test]
 fn hundreds_by_hash(rt: HostRuntime) -> Result<(), Fail> {
     let all = sides_of_hundreds(rt.alloc())?;
     let wanted = looked_up(rt.alloc(), all.as_slice())?;
-    gives::<ByHash<Numbered>>(&rt, rt.alloc(), all.as_slice(), wanted.as_slice())
+    gives::<Hashed<Numbered>>(&rt, rt.alloc(), all.as_slice(), wanted.as_slice())
 }

@@ -1,14 +1,15 @@
 //! Rows: maps that are equal, that share no key, of which one is empty, and keys that are equal though spelled
 //! differently.
 use crate::checks::check;
-use crate::held::{ByHash, InOrder, Listed, Sides};
+use crate::held::{Listed, Sides};
 use std::alloc::Global;
 use std::process::Abort;
 use std::test::Fail;
-use test_support::caseless::{Coarse, item_of, spelled};
+use test_support::caseless::{Caseless, Coarse, item_of, spelled};
+use test_support::maps::{Hashed, Ordered, UnderTest};
 
 // Two maps whose names differ in case alone, and one name beside.
-fn spellings<M: Listed<Coarse>>(rt: &impl Abort, alloc: Global) -> (M, M) {
+fn spellings<M: Listed<Coarse, Caseless>>(rt: &impl Abort, alloc: Global) -> (M, M) {
     let (mut before, mut after) = (M::empty(alloc), M::empty(alloc));
     check(rt, before.is_put(item_of(*b"web", 1)));
     check(rt, before.is_put(item_of(*b"db1", 2)));
@@ -35,7 +36,7 @@ fn are(
 
 #[test]
 fn spelled_differently_in_order(rt: HostRuntime) -> Result<(), Fail> {
-    let (before, after) = spellings::<InOrder<Coarse>>(&rt, rt.alloc());
+    let (before, after) = spellings::<Ordered<Coarse>>(&rt, rt.alloc());
     let found = before.differences(&after, rt.alloc())?;
     are(
         &rt,
@@ -52,7 +53,7 @@ fn spelled_differently_in_order(rt: HostRuntime) -> Result<(), Fail> {
 
 #[test]
 fn spelled_differently_by_hash(rt: HostRuntime) -> Result<(), Fail> {
-    let (before, after) = spellings::<ByHash<Coarse>>(&rt, rt.alloc());
+    let (before, after) = spellings::<Hashed<Coarse>>(&rt, rt.alloc());
     let found = before.differences(&after, rt.alloc())?;
     are(
         &rt,

@@ -111,7 +111,9 @@ impl<T: IdOrdItem> Ordered<T> {
     }
 
     /// The map, for calls that take any.
-    pub fn map(&self) -> &IdOrdMap<T> {
+    pub fn map(&self) -> &IdOrdMap<T>
+        ensures keyed { Ascends T.key T.Key.cmp result.now.items }
+    {
         &self.map
     }
 
@@ -130,7 +132,9 @@ impl<T: IdHashItem, S: BuildHasher> Hashed<T, S> {
     }
 
     /// The map, for calls that take any.
-    pub fn map(&self) -> &IdHashMap<T, S> {
+    pub fn map(&self) -> &IdHashMap<T, S>
+        ensures keyed { ⟦<IdHashMap<T, S> as Keyed>⟧.keyed result.now }
+    {
         &self.map
     }
 
