@@ -1,6 +1,7 @@
 pub mod ChangeLemmas
 pub mod GivenLemmas
 pub mod GuardLemmas
+pub mod PermutationLemmas
 pub use Rattle.iddqd_store.proofs.AddingLemmas
 pub use Rattle.iddqd_store.proofs.DistinctLemmas
 pub use Rattle.iddqd_store.proofs.KeepsLemmas

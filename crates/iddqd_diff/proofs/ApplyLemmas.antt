@@ -18,7 +18,7 @@ use Rattle.iddqd_diff.specs.Applying.{AppliesOne, AreDifferences, HaveEqualKeys,
 use Rattle.iddqd_diff.specs.declared.difference.Difference.{Difference}
 use Rattle.iddqd_diff.specs.declared.difference.Difference.TheVariants.{Removed, Added, Kept}
 use Rattle.iddqd_diff.specs.Difference.{IsAkin, added_item, lacks, new_item, old_item}
-use Rattle.iddqd_diff.proofs.PermutationLemmas.{filter_permutation}
+use Rattle.iddqd.proofs.PermutationLemmas.{filter_permutation}
 use Rattle.iddqd_diff.proofs.SameKeysLemmas.{clones_have_equal_keys}
 
 -- what stays for lists that have the same items

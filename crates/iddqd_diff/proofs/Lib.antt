@@ -5,6 +5,5 @@ mod KeyOrderLemmas
 mod LookedUpLemmas
 mod MergedLemmas
 mod OrdApplyLemmas
-mod PermutationLemmas
 pub mod SameKeysLemmas
 pub mod UniqueLemmas

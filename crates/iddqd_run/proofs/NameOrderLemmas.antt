@@ -16,7 +16,7 @@ use Rattle.iddqd.proofs.MappedLemmas.{insert-map}
 use Rattle.iddqd.proofs.OrderLemmas.{find_moved}
 use Rattle.iddqd.proofs.PlacedLemmas.{insert_placed}
 use Rattle.iddqd.specs.Query.{differ_from_ascends}
-use Rattle.idtable_commands.proofs.SameItemsLemmas.{filter_permutation}
+use Rattle.iddqd.proofs.PermutationLemmas.{filter_permutation}
 
 module _ {T K : Type 0} (key : T → K) {eq : K → K → Bool} {cmp : K → K → Ordering} (equivalence : IsEquivalence eq) (total : IsTotalOrder cmp) (ties : (x y : K) → eq x y ≡ is_eq (cmp x y)) where
   -- the items in the order of their keys

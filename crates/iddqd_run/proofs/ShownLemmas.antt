@@ -21,7 +21,7 @@ use Rattle.iddqd_run.specs.declared.entries.LineReply.TheVariants.{Added, Duplic
 use Rattle.iddqd.proofs.KeepsLemmas.{ascends_filter}
 use Rattle.iddqd.proofs.MappedLemmas.{filter-map, find_item-map, insert-map, without-map, replaced-map}
 use Rattle.iddqd.proofs.OrderLemmas.{Tells, find_tells}
-use Rattle.idtable_commands.proofs.SameItemsLemmas.{filter_permutation}
+use Rattle.iddqd.proofs.PermutationLemmas.{filter_permutation}
 use Rattle.iddqd_run.proofs.NameOrderLemmas.{AreInOrder, found_in_order, placed_in_order, replaced_in_order, without_in_order}
 
 abbrev pub by_name : Entry → String Global

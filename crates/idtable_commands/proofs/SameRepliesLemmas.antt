@@ -20,7 +20,8 @@ use Rattle.iddqd.proofs.KeepsLemmas.{differ_filter, differ_insert}
 use Rattle.iddqd.proofs.OrderLemmas.{Tells, differ_moved, find_moved, find_tells}
 use Rattle.idtable_commands.proofs.ExtendLemmas.{extended_ends, extended_same}
 use Rattle.idtable_commands.proofs.SameCommandLemmas.{run_of_same}
-use Rattle.idtable_commands.proofs.SameItemsLemmas.{filter_permutation, differ_replaced}
+use Rattle.idtable_commands.proofs.SameItemsLemmas.{differ_replaced}
+use Rattle.iddqd.proofs.PermutationLemmas.{filter_permutation}
 
 module _ {T K V : Type 0} (key : T → K) (eq : K → K → Bool) (visits : V → T → V × T × Bool) where
   abbrev sought : Command T K V → List T → Option T
