@@ -50,8 +50,11 @@ impl Inventory {
         ensures unchanged { IfNone result (self.new ≡ self.old) }
         ensures taken { IfSome result (λ left. IsTaken number count left self.old self.new) }
     {
-        let left = self.0.get(&number)?.count.checked_sub(count)?;
         let mut part = self.0.get_mut(&number)?;
+        let Some(left) = part.count.checked_sub(count) else {
+            part.finish();
+            return None;
+        };
         part.count = left;
         part.finish();
         Some(left)
