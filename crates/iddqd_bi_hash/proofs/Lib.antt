@@ -2,6 +2,7 @@ pub mod BothLemmas
 pub mod ChangeLemmas
 pub mod CollectedLemmas
 pub mod DisplacedLemmas
+pub mod EntryLemmas
 pub mod GuardLemmas
 pub mod MetLemmas
 pub mod OverwrittenLemmas

@@ -4,7 +4,8 @@
 --     met_items      these items, told by what a map shows
 --     shown_met      what is lent of them
 --     neither_found      where there are none, neither search finds one
-use Rattle.std.proofs.Common.{◌≡◌, ℕ, Bool, true, false, cond, List, [], ◌∷◌, map, drop, filter, find, Option, Some, None, IsSome, refl, sym, ap, ◌∙◌, subst, Bor}
+--     none_met      where neither search finds one, there are none
+use Rattle.std.proofs.Common.{◌≡◌, ℕ, Bool, true, false, cond, List, [], ◌∷◌, map, drop, filter, find, Option, Some, None, IsSome, is_some, refl, sym, ap, ◌∙◌, subst, true≢false, Bor}
 use Rattle.std.specs.List.{AllByRecursion, cons_option, filter_map}
 use Rattle.iddqd_store.specs.SlotItems.{item_of_slot}
 use Rattle.iddqd_store.specs.Store.{Store, item_at}
@@ -72,3 +73,12 @@ module _ {T : Type 0} (p q : T → Bool) where
       by false false e f rest =
           let others = rest (none_behind x xs none (rw e f)) in
           (rw e others.0, rw f others.1)
+
+  pub none_met : (xs : List T) → find p xs ≡ None → find q xs ≡ None → filter either xs ≡ []
+  none_met [] one other = refl
+  none_met (x ∷ xs) one other = by (p x) (q x) refl refl one other (none_met xs)
+    where
+      by : (a b : Bool) → p x ≡ a → q x ≡ b → cond a (Some x) (find p xs) ≡ None → cond b (Some x) (find q xs) ≡ None → (find p xs ≡ None → find q xs ≡ None → filter either xs ≡ []) → filter either (x ∷ xs) ≡ []
+      by true b e f one other rest = absurd (true≢false (ap is_some one))
+      by false true e f one other rest = absurd (true≢false (ap is_some other))
+      by false false e f one other rest = rw (e, f) (rest one other)

@@ -12,9 +12,11 @@
 --     LeavesVacant      these items' slots are vacant
 -- Searches, insertions and refusals:
 --     HasHash      each key that a query stands for has this hash
---     FindsSlot      the slot of the item that a query finds by one key
+--     FindsSlot, FindsSlotByBoth      the slot of the item that a query finds by one key, or two by both
 --     IsOccupied, AreOccupied      a slot has an item, and each of several has
 --     AreItemsOf      the items of several slots are lent
+--     items_at, items_beside      the items of several slots, and the others
+--     MeetsNoneBeside      of an item: none of those others has one of its keys
 --     AreSlotsMet, AreSlotsDisplaced      of an item: the slots of those that have one of its keys, in rising order, or by key
 --     Displaces, KeepsUnmet      of an item: those that have one of its keys are returned; the others stay
 --     BiOverwrites      the item was inserted, and those that had one of its keys are returned
@@ -37,7 +39,7 @@ use Rattle.iddqd_store.specs.Contents.{AddsItem, IsAbsent, find_item}
 use Rattle.iddqd_store.specs.Errors.{new_item_of, lent_duplicates_of, values_of}
 use Rattle.iddqd_store.specs.Holding.{FillsSlots, InsertsItem, KeepsItems, Shrinks}
 use Rattle.iddqd_store.specs.Refusal.{OnDuplicate, RefusalKind, refusal_kind}
-use Rattle.iddqd_store.specs.SlotItems.{HaveSlots, item_of_slot, written_to_slot}
+use Rattle.iddqd_store.specs.SlotItems.{HaveSlots, item_of_slot, without_slot, written_to_slot}
 use Rattle.iddqd_store.specs.declared.errors.ExtendError.{ExtendError}
 use Rattle.iddqd_store.specs.declared.errors.Few.{Few}
 use Rattle.iddqd_store.specs.declared.errors.InsertError.{InsertError}
@@ -48,7 +50,7 @@ use Rattle.iddqd_hash_parts.specs.HashItems.{HashItems}
 use Rattle.iddqd_hash_parts.specs.SlotsFound.{values_if_any}
 use Rattle.iddqd_hash_parts.specs.declared.keyed.Keyed as keyed
 use Rattle.iddqd_bi_hash.specs.BiHashItems.{BiHashItems, by_key1, holding_of}
-use Rattle.iddqd_bi_hash.specs.TwoKeys.{items_displaced, items_met, items_unmet}
+use Rattle.iddqd_bi_hash.specs.TwoKeys.{find_by_both, items_displaced, items_met, items_unmet, without_slots}
 use Rattle.iddqd_bi_hash.specs.contracts.bi_hash_map.BiHashMap.{the_row}
 
 module _ {S T : Type 0} where
@@ -91,6 +93,13 @@ module _ {S T : Type 0} where
   abbrev pub AreOccupied : BiHashItems S T → List ℕ → Type 0
   AreOccupied m slots = AllByRecursion (λ slot. IsSome (item_of_slot m.slots m.items slot)) slots
 
+  -- the items of these slots, in this order, and the items but for these
+  abbrev pub items_at : BiHashItems S T → List ℕ → List T
+  items_at m slots = filter_map (item_of_slot m.slots m.items) slots
+
+  abbrev pub items_beside : BiHashItems S T → List ℕ → List T
+  items_beside m slots = without_slots m.slots m.items slots
+
   -- what is lent are the items of these slots, in this order
   abbrev pub AreItemsOf : BiHashItems S T → List ℕ → List (Bor T) → Type 0
   AreItemsOf m slots lents = map (λ lent. Some lent.now) lents ≡ map (item_of_slot m.slots m.items) slots
@@ -109,6 +118,7 @@ module _ {S T : Type 0} where
   pub record IsInsertedAt (x : T) (old new : BiHashItems S T) (slot : ℕ) : Type 0 where
     pub there : item_of_slot new.slots new.items slot ≡ Some x
     pub written : (w : T) → AddsItem w old.items (written_to_slot new.slots new.items slot w)
+    pub others : without_slot new.slots new.items slot ≡ old.items
 
   module _ (IsKeyed : BiHashItems S T → Type 0) where
     pub record BiStays (old new : BiHashItems S T) : Type 0 where
@@ -156,6 +166,11 @@ Displaces key1 key2 eq1 eq2 x items back = values_if_any back ≡ items_displace
 abbrev pub LosesKey : {T K : Type 0} → (T → K) → (K → K → Bool) → T → Option T → List T → Type 0
 LosesKey {T} key eq x found items = (y : T) → found ≡ Some y → eq (key y) (key x) ≡ false → IsAbsent key (eq (key y)) items
 
+module _ {S T K L : Type 0} (key1 : T → K) (key2 : T → L) where
+  -- the slot, if one is found, is of the item whose keys pass both tests
+  abbrev pub FindsSlotByBoth : (K → Bool) → (L → Bool) → BiHashItems S T → Option ℕ → Type 0
+  FindsSlotByBoth test1 test2 m found = option_and_then (item_of_slot m.slots m.items) found ≡ find_by_both key1 key2 test1 test2 m.items
+
 module _ {S T K L : Type 0} (key1 : T → K) (key2 : T → L) (eq1 : K → K → Bool) (eq2 : L → L → Bool) where
   -- x is returned: beside the items that have one of its keys, in the order of their slots, or because there was no room
   abbrev pub RefusesItem : BiHashItems S T → T → InsertError T → Type 0
@@ -167,6 +182,10 @@ module _ {S T K L : Type 0} (key1 : T → K) (key2 : T → L) (eq1 : K → K →
   -- the slots that are found, if any, are of the items that have one of x's keys
   abbrev pub AreSlotsMet : T → BiHashItems S T → Option (Few ℕ) → Type 0
   AreSlotsMet x m found = filter_map (item_of_slot m.slots m.items) (values_if_any found) ≡ items_met key1 key2 eq1 eq2 x m.items
+
+  -- the items but for those of these slots have none of x's keys
+  abbrev pub MeetsNoneBeside : T → BiHashItems S T → List ℕ → Type 0
+  MeetsNoneBeside x m slots = items_met key1 key2 eq1 eq2 x (items_beside m slots) ≡ []
 
   abbrev pub AreSlotsDisplaced : T → BiHashItems S T → Option (Few ℕ) → Type 0
   AreSlotsDisplaced x m found = filter_map (item_of_slot m.slots m.items) (values_if_any found) ≡ items_displaced key1 key2 eq1 eq2 x m.items

@@ -1,33 +1,51 @@
 -- What a contract sees of an entry of a hash map of two keys.
 --     entry_map, entry_lender      the map as the entry holds it, the name of the reference to the map
 --     entry_slots, entry_items, entry_others      its slots and items, that of the first key first, and the items but for these
---     entry_is_unique      one item has both keys
+--     entry_is_unique, entry_item      one item has both keys; that item
+--     entry_with e w      the map once w is written to that item; if the entry is vacant, the map
+--     still_occupied      after a write to any slot a slot that had an item has one
 --     IsEntryFor      the entry of what two queries find
 --     AreLent      the entry's items are lent
---     LacksKeysOf      none of these items has a key of this one
 --     RemovesItems, ReplacesItems      the entry's items were removed, or replaced by one
 --     EntryReturnsItem      the item was refused for lack of room, and is returned
---     LendsInserted      the inserted item is lent
---     guard_or_kept      if an item was refused, the map keeps its items
+--     LendsInserted, EntersInserted      the inserted item is lent, or has this entry
+--     entry_follows      the entry ends with the last value written to its item
+--     EntryKeeps, EntryKeepsAkin      an item of the same keys, or of equal ones, may be written
+--     rests_if_refused, guard_or_kept, entry_or_kept      if an item was refused, the map keeps its items
 pub use Rattle.iddqd_bi_hash.specs.declared.bi_hash_map.entry.Entry.TheVariants.{Vacant, Occupied}
-use Rattle.std.specs.Prelude.{◌≡◌, ℕ, ◌+◌, [], Bool, false, List, Some, Result, is_some, length, map}
-use Rattle.std.specs.Borrow.{Bor, Fml, GName, RattleType, MutBor, RestsIfErr}
+use Rattle.std.proofs.Common.{cond, refl}
+use Rattle.std.specs.Prelude.{◌≡◌, ℕ, ◌+◌, [], ◌∷◌, Bool, true, false, IsTrue, List, Option, None, Some, Result, if◌then◌else◌, is_some, length, map, nat_eq}
+use Rattle.std.specs.Borrow.{Bor, Fml, GName, RattleType, MutBor, RestsIfErr, follows}
+use mir.Syntax.{named}
 use Rattle.std.specs.List.{filter_map}
-use Rattle.iddqd_store.specs.Contents.{AddsItem}
+use Rattle.iddqd_store.specs.Contents.{AddsItem, IsAbsent, items_overwritten}
 use Rattle.iddqd_store.specs.Errors.{values_of}
-use Rattle.iddqd_store.specs.SlotItems.{HaveSlots, item_of_slot}
+use Rattle.iddqd_store.specs.SlotItems.{HaveSlots, item_of_slot, written_to_slot}
 use Rattle.iddqd_store.specs.declared.errors.Few.{Few}
 use Rattle.iddqd_store.specs.declared.errors.Refused.{Refused}
 use Rattle.iddqd_hash_parts.specs.declared.keyed.Keyed as keyed
 use Rattle.iddqd_bi_hash.specs.BiHashItems.{BiHashItems}
 use Rattle.iddqd_bi_hash.specs.BiHashMap.{BiInserts, BiKeeps, BiReturnsItem, BiStays}
-use Rattle.iddqd_bi_hash.specs.Guard.{guard_lender, lent_item, lent_map, lent_with}
-use Rattle.iddqd_bi_hash.specs.TwoKeys.{find_by_both, items_found, items_left, items_met, slots_of_pair, without_slots}
+use Rattle.iddqd_bi_hash.specs.Guard.{guard_lender, lent_item, lent_map, lent_with, with_item_in_slot}
+use Rattle.iddqd_bi_hash.specs.TwoKeys.{find_by_both, items_found, items_left, slots_of_pair, without_slots}
 use Rattle.iddqd_bi_hash.specs.declared.bi_hash_map.entry.Entry.{Entry}
 use Rattle.iddqd_bi_hash.specs.declared.bi_hash_map.entry.OccupiedEntry.{OccupiedEntry}
 use Rattle.iddqd_bi_hash.specs.declared.bi_hash_map.entry.VacantEntry.{VacantEntry}
 use Rattle.iddqd_bi_hash.specs.declared.bi_hash_map.ref_mut.RefMut.{RefMut}
 use Rattle.iddqd_bi_hash.specs.contracts.bi_hash_map.BiHashMap as bi_map
+use Rattle.iddqd_bi_hash.specs.contracts.bi_hash_map.entry.OccupiedEntry as occupied
+
+-- after a write to any slot a slot that had an item has one
+pub still_occupied : {T : Type 0} (slots : List ℕ) (items : List T) (at slot : ℕ) (w : T) → is_some (item_of_slot slots items slot) ≡ true → is_some (item_of_slot slots (written_to_slot slots items at w) slot) ≡ true
+still_occupied [] items at slot w some = some
+still_occupied (s ∷ slots) [] at slot w some = some
+still_occupied (s ∷ slots) (y ∷ items) at slot w some = by (still_occupied slots items at slot w) (nat_eq s at) (nat_eq s slot) refl refl some
+  where
+    by : (is_some (item_of_slot slots items slot) ≡ true → is_some (item_of_slot slots (written_to_slot slots items at w) slot) ≡ true) → (a b : Bool) → nat_eq s at ≡ a → nat_eq s slot ≡ b → is_some (cond b (Some y) (item_of_slot slots items slot)) ≡ true → is_some (item_of_slot (s ∷ slots) (written_to_slot (s ∷ slots) (y ∷ items) at w) slot) ≡ true
+    by behind true true p q there = rw (p, q) refl
+    by behind true false p q there = rw (p, q) there
+    by behind false true p q there = rw (p, q) refl
+    by behind false false p q there = rw (p, q) (behind there)
 
 module _ {S T : Type 0} where
   abbrev pub entry_map_ref : Entry T S → MutBor (BiHashItems S T)
@@ -54,22 +72,44 @@ module _ {S T : Type 0} where
   entry_is_unique (Occupied e) = e.unique
   entry_is_unique (Vacant e) = false
 
+  -- the item that both queries found, if there is one
+  abbrev pub entry_item : Entry T S → Option T
+  entry_item (Occupied e) = if e.unique then item_of_slot e.map.now.slots e.map.now.items e.first else None
+  entry_item (Vacant e) = None
+
+  abbrev pub entry_with : Entry T S → T → BiHashItems S T
+  entry_with (Occupied e) w = with_item_in_slot e.map.now e.first w
+  entry_with (Vacant e) w = e.map.now
+
+  -- the occupied entry, once w is written to its item
+  abbrev pub with_entry_item : OccupiedEntry T S → T → OccupiedEntry T S
+  with_entry_item e w = record {
+    map = record e.map { now = with_item_in_slot e.map.now e.first w };
+    first = e.first;
+    second = e.second;
+    unique = e.unique;
+    there1 = still_occupied e.map.now.slots e.map.now.items e.first e.first w e.there1;
+    there2 = still_occupied e.map.now.slots e.map.now.items e.first e.second w e.there2;
+    same = e.same;
+  }
+
   abbrev pub AreLent : Entry T S → List (Bor T) → Type 0
   AreLent e lents = map (λ lent. lent.now) lents ≡ entry_items e
 
 module _ {S T K L : Type 0} (key1 : T → K) (key2 : T → L) where
-  -- the entry holds the map of this reference, unchanged, at the items that pass one of the tests
+  -- the entry holds the map of this reference, unchanged, at the items that pass one of the tests; no other passes one
   pub record IsEntryFor (test1 : K → Bool) (test2 : L → Bool) (m : MutBor (BiHashItems S T)) (e : Entry T S) : Type 0 where
     pub lender : entry_lender e ≡ m.ghost_name
     pub map : entry_map e ≡ m.now
     pub items : entry_items e ≡ items_found key1 key2 test1 test2 m.now.items
     pub others : entry_others e ≡ items_left key1 key2 test1 test2 m.now.items
+    pub absent1 : IsAbsent key1 test1 (entry_others e)
+    pub absent2 : IsAbsent key2 test2 (entry_others e)
     pub unique : entry_is_unique e ≡ is_some (find_by_both key1 key2 test1 test2 m.now.items)
+    pub item : entry_item e ≡ find_by_both key1 key2 test1 test2 m.now.items
+    pub written : IsTrue (entry_is_unique e) → (w : T) → (entry_with e w).items ≡ items_overwritten key1 test1 w m.now.items
 
 module _ {T K L : Type 0} (key1 : T → K) (key2 : T → L) (eq1 : K → K → Bool) (eq2 : L → L → Bool) where
-  abbrev pub LacksKeysOf : T → List T → Type 0
-  LacksKeysOf x items = items_met key1 key2 eq1 eq2 x items ≡ []
-
   -- the refused item is returned, and the entry's map lacked room for it
   abbrev pub EntryReturnsItem : {S : Type 0} → Entry T S → T → Refused T → Type 0
   EntryReturnsItem e x refused = BiReturnsItem key1 key2 eq1 eq2 (entry_map e) x refused
@@ -100,6 +140,38 @@ module _ {S T : Type 0} (own : keyed.Ghosts (BiHashItems S T) T) where
     pub item : lent_item r ≡ Some x
     pub written : (w : T) → AddsItem w (entry_map e).items (lent_with r w).items
 
--- if an item was refused, the map behind the entry keeps its items; otherwise the guard holds it
-abbrev pub guard_or_kept : (S T : RattleType) {E : Type 0} → keyed.Ghosts (BiHashItems S.Denot T.Denot) T.Denot → VacantEntry T.Denot S.Denot → Result (RefMut T.Denot S.Denot) E → Fml
-guard_or_kept S T own e r = RestsIfErr (bi_map.the_row T S) (entry_map_ref (Vacant e)) guard_lender r (BiKeeps own.keyed (entry_map (Vacant e)))
+  -- x was inserted into the entry's map, and this is its entry
+  pub record EntersInserted (x : T) (e : Entry T S) (found : OccupiedEntry T S) : Type 0 where
+    pub lender : entry_lender (Occupied found) ≡ entry_lender e
+    pub inserts : BiInserts own.keyed x (entry_map e) (entry_map (Occupied found))
+    pub items : entry_items (Occupied found) ≡ x ∷ []
+    pub item : entry_item (Occupied found) ≡ Some x
+    pub unique : entry_is_unique (Occupied found) ≡ true
+    pub written : (w : T) → AddsItem w (entry_map e).items (entry_with (Occupied found) w).items
+    pub others : entry_others (Occupied found) ≡ (entry_map e).items
+
+  -- if the map is keyed, it is so after a write of an item of the same keys, or of equal ones
+  abbrev pub EntryKeeps : {K L : Type 0} → (T → K) → (T → L) → OccupiedEntry T S → MutBor T → Type 0
+  EntryKeeps key1 key2 e lent =
+      own.keyed (entry_map (Occupied e)) → (w : T) → key1 w ≡ key1 lent.now → key2 w ≡ key2 lent.now → own.keyed (entry_with (Occupied e) w)
+
+  abbrev pub EntryKeepsAkin : OccupiedEntry T S → MutBor T → Type 0
+  EntryKeepsAkin e lent =
+      own.keyed (entry_map (Occupied e)) → (w : T) → own.akin lent.now w → own.keyed (entry_with (Occupied e) w)
+
+module _ (S T : RattleType) where
+  -- the entry's lifetime is the second of the signature
+  abbrev pub entry_follows : MutBor (OccupiedEntry T.Denot S.Denot) → MutBor T.Denot → Fml
+  entry_follows e x =
+      follows (occupied.the_row (record { mir = named 1; lft = [] }) T S) T e.ghost_name x.ghost_name (with_entry_item e.now)
+
+  -- if an item was refused, the map behind the entry keeps its items; otherwise the result holds the map under this name
+  abbrev pub rests_if_refused : {A E : Type 0} → keyed.Ghosts (BiHashItems S.Denot T.Denot) T.Denot → (A → GName) → Entry T.Denot S.Denot → Result A E → Fml
+  rests_if_refused own name e r = RestsIfErr (bi_map.the_row T S) (entry_map_ref e) name r (BiKeeps own.keyed (entry_map e))
+
+  -- the same of a vacant entry, which returns a guard or its occupied entry
+  abbrev pub guard_or_kept : {E : Type 0} → keyed.Ghosts (BiHashItems S.Denot T.Denot) T.Denot → VacantEntry T.Denot S.Denot → Result (RefMut T.Denot S.Denot) E → Fml
+  guard_or_kept own e r = rests_if_refused own guard_lender (Vacant e) r
+
+  abbrev pub entry_or_kept : {E : Type 0} → keyed.Ghosts (BiHashItems S.Denot T.Denot) T.Denot → VacantEntry T.Denot S.Denot → Result (OccupiedEntry T.Denot S.Denot) E → Fml
+  entry_or_kept own e r = rests_if_refused own (λ found. entry_lender (Occupied found)) (Vacant e) r

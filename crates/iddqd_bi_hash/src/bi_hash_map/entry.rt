@@ -1,5 +1,5 @@
 //! Entries: the items of a map that have one of two keys, or a map that has none.
-ghost use Rattle.std.specs.Prelude.{◌≡◌, ◌++◌, IsSome};
+ghost use Rattle.std.specs.Prelude.{◌≡◌, ◌++◌, IsSome, IsTrue};
 ghost use Rattle.iddqd_store.specs.SlotItems.{item_of_slot};
 ghost use Rattle.iddqd_bi_hash.specs.TwoKeys.{as_list, found_same, other_slot, slots_found};
 
@@ -39,6 +39,7 @@ pub struct OccupiedEntry<'a, T, S = DefaultHashBuilder> {
     pub(super) unique: bool,
     ghost there1: { IsSome (item_of_slot map.now.slots map.now.items first) },
     ghost there2: { IsSome (item_of_slot map.now.slots map.now.items second) },
+    ghost same: { IsTrue unique → first ≡ second },
 }
 
 // Returns true if both searches found one slot.

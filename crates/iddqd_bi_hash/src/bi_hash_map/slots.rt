@@ -1,12 +1,11 @@
 //! The items of slots: read, lent for writing, removed; and the slots that searches find.
 ghost use Rattle.std.specs.Prelude.{◌≡◌, ◌<◌, ◌++◌, IfNone, IfSome, IsSome, Some, length, map};
-ghost use Rattle.std.specs.Option.{option_and_then};
 ghost use Rattle.std.specs.Borrow.{sem};
 ghost use Rattle.iddqd_store.specs.Contents.{AddsItem, IsAbsent};
 ghost use Rattle.iddqd_store.specs.Errors.{values_of};
 ghost use Rattle.iddqd_store.specs.Holding.{Removes};
 ghost use Rattle.iddqd_store.specs.SlotItems.{HaveSlots, item_of_slot};
-ghost use Rattle.iddqd_bi_hash.specs.TwoKeys.{as_list, find_by_both, other_slot};
+ghost use Rattle.iddqd_bi_hash.specs.TwoKeys.{as_list, other_slot};
 ghost use Rattle.iddqd_hash_parts.specs.SlotOrder.{AreBelow, AreRising, IsNext};
 ghost use Rattle.iddqd_hash_parts.specs.SlotsFound.{values_if_any};
 
@@ -93,7 +92,7 @@ impl<T, S> BiHashMap<T, S> {
 
 impl<T: BiHashItem, S: BuildHasher> BiHashMap<T, S> {
     ghost use Rattle.iddqd_bi_hash.specs.BiHashItems.{by_key1, by_key2, holding_of};
-    ghost use Rattle.iddqd_bi_hash.specs.BiHashMap.{AreOccupied, AreSlotsDisplaced, AreSlotsMet, BiStays, FindsSlot, HasHash, IsOccupied, LosesPlaceOf, SpareFits};
+    ghost use Rattle.iddqd_bi_hash.specs.BiHashMap.{AreOccupied, AreSlotsDisplaced, AreSlotsMet, BiStays, FindsSlot, FindsSlotByBoth, HasHash, IsOccupied, LosesPlaceOf, SpareFits};
 
     // Returns the slot of the item that the query finds by the first key. The hash is that of each key for which the
     // query stands.
@@ -129,7 +128,7 @@ impl<T: BiHashItem, S: BuildHasher> BiHashMap<T, S> {
         requires keyed { ⟦<Self as Keyed>⟧.keyed self.now }
         requires hash { HasHash ⟦<Self as Keyed>⟧.hash self.now (Q.equivalent query1.now) T.K1.hash_input hash }
         ensures first { IfSome result (λ slot. FindsSlot T.key1 (Q.equivalent query1.now) (by_key1 self.now) hash (Some slot)) }
-        ensures both { option_and_then (item_of_slot self.now.slots self.now.items) result ≡ find_by_both T.key1 T.key2 (Q.equivalent query1.now) (R.equivalent query2.now) self.now.items }
+        ensures both { FindsSlotByBoth T.key1 T.key2 (Q.equivalent query1.now) (R.equivalent query2.now) self.now result }
         ensures spare_fits { SpareFits self.now }
     {
         let slot = self.slot_by_key1(hash, query1)?;

@@ -1,10 +1,10 @@
 //! What the calls of an entry do to its map.
 ghost use Rattle.std.specs.Prelude.{◌≡◌, ◌+◌, ◌<◌, ◌≤◌, [], IfErr, IfOk, OnErr, OnOk, length, nat_eq};
-ghost use Rattle.std.specs.List.{IsDistinct, filter_map};
+ghost use Rattle.std.specs.List.{IsDistinct};
 ghost use Rattle.iddqd_store.specs.Contents.{AddsItem};
 ghost use Rattle.iddqd_store.specs.Errors.{values_of};
-ghost use Rattle.iddqd_store.specs.SlotItems.{HaveSlots, item_of_slot};
-ghost use Rattle.iddqd_bi_hash.specs.TwoKeys.{items_met, without_slots};
+ghost use Rattle.iddqd_store.specs.SlotItems.{HaveSlots};
+ghost use Rattle.iddqd_bi_hash.specs.TwoKeys.{items_met};
 
 use crate::bi_hash_map::{BiHashMap, Keyed};
 use crate::items::BiHashItem;
@@ -12,7 +12,7 @@ use iddqd_store::{Few, Refused};
 use std::hash::BuildHasher;
 
 impl<T: BiHashItem, S: BuildHasher> BiHashMap<T, S> {
-    ghost use Rattle.iddqd_bi_hash.specs.BiHashMap.{AreOccupied, BiInserts, BiKeeps, BiReturnsItem, BiStays, IsInsertedAt};
+    ghost use Rattle.iddqd_bi_hash.specs.BiHashMap.{AreOccupied, BiInserts, BiKeeps, BiReturnsItem, BiStays, IsInsertedAt, MeetsNoneBeside, items_at, items_beside};
 
     // Inserts an item whose keys no other has, and returns its slot.
     pub(super) fn insert_absent(&mut self, item: T) -> Result<u32, Refused<T>>
@@ -40,8 +40,8 @@ impl<T: BiHashItem, S: BuildHasher> BiHashMap<T, S> {
         requires at_most_two { length (values_of slots) ≤ 2 }
 
         // what is removed
-        ensures items { values_of result ≡ filter_map (item_of_slot self.old.slots self.old.items) (values_of slots) }
-        ensures others { self.new.items ≡ without_slots self.old.slots self.old.items (values_of slots) }
+        ensures items { values_of result ≡ items_at self.old (values_of slots) }
+        ensures others { self.new.items ≡ items_beside self.old (values_of slots) }
         ensures vacant { self.new.vacant ≡ self.old.vacant + length (values_of result) }
 
         // room
@@ -68,11 +68,11 @@ impl<T: BiHashItem, S: BuildHasher> BiHashMap<T, S> {
         requires there { AreOccupied self.old (values_of slots) }
         requires each_once { IsDistinct nat_eq (values_of slots) }
         requires at_most_two { length (values_of slots) ≤ 2 }
-        requires absent { items_met T.key1 T.key2 T.K1.eq T.K2.eq item (without_slots self.old.slots self.old.items (values_of slots)) ≡ [] }
+        requires absent { MeetsNoneBeside T.key1 T.key2 T.K1.eq T.K2.eq item self.old (values_of slots) }
 
         // what is replaced
-        ensures items { values_of result ≡ filter_map (item_of_slot self.old.slots self.old.items) (values_of slots) }
-        ensures put { AddsItem item (without_slots self.old.slots self.old.items (values_of slots)) self.new.items }
+        ensures items { values_of result ≡ items_at self.old (values_of slots) }
+        ensures put { AddsItem item (items_beside self.old (values_of slots)) self.new.items }
         ensures slots { HaveSlots self.new.slots self.new.items }
         ensures vacant { self.new.vacant + 1 ≡ self.old.vacant + length (values_of result) }
 

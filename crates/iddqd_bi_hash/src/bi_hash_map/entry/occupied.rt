@@ -1,7 +1,9 @@
-//! The items of an entry: read, replaced, removed. No call looks for them again, and none allocates.
-ghost use Rattle.std.specs.Prelude.{◌≡◌, map};
+//! The items of an entry: read, lent, replaced, removed. No call looks for them again, and none allocates.
+ghost use Rattle.std.specs.Prelude.{◌≡◌, ◌∷◌, [], IsTrue, Some, map};
+ghost use Rattle.std.specs.Borrow.{sem};
+ghost use Rattle.iddqd_store.specs.Contents.{IsAbsent};
 ghost use Rattle.iddqd_store.specs.Errors.{values_of};
-ghost use Rattle.iddqd_bi_hash.specs.Entry.{AreLent, LacksKeysOf, Occupied, RemovesItems, ReplacesItems, entry_is_unique, entry_map, entry_others};
+ghost use Rattle.iddqd_bi_hash.specs.Entry.{AreLent, EntryKeeps, EntryKeepsAkin, Occupied, RemovesItems, ReplacesItems, entry_follows, entry_is_unique, entry_item, entry_items, entry_map, entry_others};
 ghost use Rattle.iddqd_bi_hash.specs.TwoKeys.{slots_of_pair};
 
 use super::OccupiedEntry;
@@ -41,11 +43,28 @@ impl<'a, T, S> OccupiedEntry<'a, T, S> {
 }
 
 impl<'a, T: BiHashItem, S: BuildHasher> OccupiedEntry<'a, T, S> {
+    /// Returns the item that has both keys, for writing while the entry is borrowed. Ask `is_unique` first: if the
+    /// entry has two items, or an item that one query alone finds, the prover refuses the call. A keyed map stays keyed
+    /// if each key written is equal to the item's.
+    #[inline]
+    pub fn get_mut(&mut self) -> &mut T
+        requires unique { IsTrue (entry_is_unique (Occupied self.old)) }
+        ensures* writes_back { sem 𝓛 (entry_follows S.row T.row self.entry result) }
+        ensures value { entry_item (Occupied self.old) ≡ Some result.now }
+        ensures items { entry_items (Occupied self.old) ≡ result.now ∷ [] }
+        ensures keyed { EntryKeeps ⟦<Map<T, S> as Keyed>⟧ T.key1 T.key2 self.old result }
+        ensures keyed_akin { EntryKeepsAkin ⟦<Map<T, S> as Keyed>⟧ self.old result }
+    {
+        let slot = self.first;
+        self.map.item_in_slot_mut(slot)
+    }
+
     /// Replaces the entry's items by this one, and returns them, that of the first key first. No other item has one of
     /// its keys, which need not be those that were asked for. Hashes each key once, and those of each removed item.
     pub fn insert(self, item: T) -> Few<T>
         requires keyed { ⟦<Map<T, S> as Keyed>⟧.keyed (entry_map (Occupied self)) }
-        requires absent { LacksKeysOf T.key1 T.key2 T.K1.eq T.K2.eq item (entry_others (Occupied self)) }
+        requires absent1 { IsAbsent T.key1 (T.K1.eq (T.key1 item)) (entry_others (Occupied self)) }
+        requires absent2 { IsAbsent T.key2 (T.K2.eq (T.key2 item)) (entry_others (Occupied self)) }
         ensures { ReplacesItems ⟦<Map<T, S> as Keyed>⟧ item self.entry result self.exit.0.now }
     {
         let slots = few_slots(self.first, self.second);

@@ -1,10 +1,11 @@
-//! An insertion by a vacant entry. It looks at the limit first, then asks for memory, and only then changes anything.
+//! Insertions by a vacant entry. Each looks at the limit first, then asks for memory, and only then changes anything.
 ghost use Rattle.std.specs.Prelude.{◌≡◌, IfErr, IfOk};
 ghost use Rattle.std.specs.Borrow.{sem};
-ghost use Rattle.iddqd_bi_hash.specs.Entry.{EntryReturnsItem, LacksKeysOf, LendsInserted as Lends, Vacant, entry_map, entry_lender, guard_or_kept};
+ghost use Rattle.iddqd_store.specs.Contents.{IsAbsent};
+ghost use Rattle.iddqd_bi_hash.specs.Entry.{EntersInserted as Enters, EntryReturnsItem, LendsInserted as Lends, Vacant, entry_map, entry_lender, entry_or_kept, entry_others, guard_or_kept};
 ghost use Rattle.iddqd_bi_hash.specs.Guard.{GuardKeeps, GuardKeepsAkin, guard_lender};
 
-use super::VacantEntry;
+use super::{OccupiedEntry, VacantEntry};
 use crate::bi_hash_map::{BiHashMap as Map, Keyed, RefMut};
 use crate::items::BiHashItem;
 use iddqd_store::Refused;
@@ -19,7 +20,8 @@ impl<'a, T: BiHashItem, S: BuildHasher> VacantEntry<'a, T, S> {
     /// proof, if the items are not `Copy`.
     pub fn insert(self, item: T) -> Result<RefMut<'a, T, S>, Refused<T>>
         requires keyed { ⟦<Map<T, S> as Keyed>⟧.keyed (entry_map (Vacant self)) }
-        requires absent { LacksKeysOf T.key1 T.key2 T.K1.eq T.K2.eq item (entry_map (Vacant self)).items }
+        requires absent1 { IsAbsent T.key1 (T.K1.eq (T.key1 item)) (entry_others (Vacant self)) }
+        requires absent2 { IsAbsent T.key2 (T.K2.eq (T.key2 item)) (entry_others (Vacant self)) }
 
         // on success
         ensures same_map { IfOk result (λ r. guard_lender r ≡ entry_lender (Vacant self.entry)) }
@@ -37,6 +39,27 @@ impl<'a, T: BiHashItem, S: BuildHasher> VacantEntry<'a, T, S> {
                 map,
                 slot,
                 spent: false,
+            }),
+            Err(refused) => Err(refused),
+        }
+    }
+
+    /// Inserts the item as `insert` does, and returns its entry.
+    pub fn insert_entry(self, item: T) -> Result<OccupiedEntry<'a, T, S>, Refused<T>>
+        requires keyed { ⟦<Map<T, S> as Keyed>⟧.keyed (entry_map (Vacant self)) }
+        requires absent1 { IsAbsent T.key1 (T.K1.eq (T.key1 item)) (entry_others (Vacant self)) }
+        requires absent2 { IsAbsent T.key2 (T.K2.eq (T.key2 item)) (entry_others (Vacant self)) }
+        ensures inserted { IfOk result (Enters ⟦<Map<T, S> as Keyed>⟧ item (Vacant self.entry)) }
+        ensures* kept { sem 𝓛 (entry_or_kept S.row T.row ⟦<Map<T, S> as Keyed>⟧ self.entry result) }
+        ensures refused { IfErr result (EntryReturnsItem T.key1 T.key2 T.K1.eq T.K2.eq (Vacant self.entry) item) }
+    {
+        let VacantEntry { map } = self;
+        match map.insert_absent(item) {
+            Ok(slot) => Ok(OccupiedEntry {
+                map,
+                first: slot,
+                second: slot,
+                unique: true,
             }),
             Err(refused) => Err(refused),
         }

@@ -52,4 +52,5 @@ returns-clause-there g c =
     record {
       there = there.there;
       written = λ w. subst (λ items. AddsItem w items (written_to_slot new.slots new.items c.insert_reserved.result w)) same (there.written w);
+      others = there.others ∙ same;
     }

@@ -2,7 +2,7 @@ use Rattle.std.proofs.Common.{◌∙◌, ap, arith, subst}
 use Rattle.iddqd_store.specs.Contents.{AddsItem}
 use Rattle.iddqd_store.specs.SlotItems.{written_to_slot}
 use Rattle.iddqd_hash_parts.specs.StoreAndIndex.{items_in, slots_in}
-use Rattle.iddqd_hash_parts.proofs.InSlotLemmas.{added_item, added_written}
+use Rattle.iddqd_hash_parts.proofs.InSlotLemmas.{added_item, added_others, added_written}
 use Rattle.iddqd_bi_hash.proofs.BothLemmas.{inserted}
 use Rattle.iddqd_bi_hash.proofs.MetLemmas.{neither_found}
 use Rattle.iddqd_bi_hash.proofs.bi_hash_map.BiHashMap.insert_reserved.Goals as goal
@@ -39,4 +39,5 @@ returns-clause-there g c =
     record {
       there = added_item old new put.result c.args.item done.was_vacant done.updates;
       written = λ w. subst (λ v. AddsItem w v.items (written_to_slot (slots_in new) (items_in new) put.result w)) c.self.view_is (added_written old new put.result c.args.item done.was_vacant done.updates w);
+      others = added_others old new put.result c.args.item done.was_vacant done.updates ∙ ap (λ v. v.items) c.self.view_is;
     }

@@ -4,6 +4,7 @@ use Rattle.iddqd_store.specs.Contents.{AddsItem}
 use Rattle.iddqd_store.specs.SlotItems.{item_of_slot}
 use Rattle.iddqd_bi_hash.specs.BiHashMap.{AreOccupied}
 use Rattle.iddqd_bi_hash.specs.TwoKeys.{items_met, without_slots}
+use Rattle.iddqd_bi_hash.proofs.MetLemmas.{none_met}
 use Rattle.iddqd_bi_hash.proofs.SlotsLemmas.{pair_apart, pair_few, pair_occupied}
 use Rattle.iddqd_bi_hash.proofs.bi_hash_map.entry.OccupiedEntry.insert.Goals as goal
 
@@ -21,7 +22,9 @@ replace_slots-requires-clause-at_most_two g c = subst (λ l. length l ≤ 2) (sy
 pub replace_slots-requires-clause-absent : goal.replace_slots-requires-clause-absent
 replace_slots-requires-clause-absent g c =
     let m = c.args.self.map.now in
-    ap (λ slots. items_met g.T.BiHashItem.key1 g.T.BiHashItem.key2 g.T.K1.PartialEq.eq g.T.K2.PartialEq.eq c.args.item (without_slots m.slots m.items slots)) c.few_slots-slots.ensures ∙ c.requires.absent
+    let x = c.args.item in
+    ap (λ slots. items_met g.T.BiHashItem.key1 g.T.BiHashItem.key2 g.T.K1.PartialEq.eq g.T.K2.PartialEq.eq x (without_slots m.slots m.items slots)) c.few_slots-slots.ensures
+    ∙ none_met (λ y. g.T.K1.PartialEq.eq (g.T.BiHashItem.key1 x) (g.T.BiHashItem.key1 y)) (λ y. g.T.K2.PartialEq.eq (g.T.BiHashItem.key2 x) (g.T.BiHashItem.key2 y)) _ c.requires.absent1 c.requires.absent2
 
 pub returns : goal.returns
 returns g c =

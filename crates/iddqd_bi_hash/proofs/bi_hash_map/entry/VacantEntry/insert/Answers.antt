@@ -1,6 +1,12 @@
 use Rattle.std.proofs.Common.{refl}
 use Rattle.iddqd_bi_hash.proofs.BothLemmas.{written_akin, written_same}
+use Rattle.iddqd_bi_hash.proofs.MetLemmas.{none_met}
 use Rattle.iddqd_bi_hash.proofs.bi_hash_map.entry.VacantEntry.insert.Goals as goal
+
+pub insert_absent-requires-clause-absent : goal.insert_absent-requires-clause-absent
+insert_absent-requires-clause-absent g c =
+    let x = c.args.item in
+    none_met (λ y. g.T.K1.PartialEq.eq (g.T.BiHashItem.key1 x) (g.T.BiHashItem.key1 y)) (λ y. g.T.K2.PartialEq.eq (g.T.BiHashItem.key2 x) (g.T.BiHashItem.key2 y)) c.args.self.map.now.items c.requires.absent1 c.requires.absent2
 
 pub returns-in-Ok : goal.returns-in-Ok
 returns-in-Ok g c =
