@@ -3,6 +3,7 @@
 #![tactic(auto)]
 
 mod bi_accounts;
+mod bi_entries;
 mod bi_keys;
 mod differences;
 mod errors;
