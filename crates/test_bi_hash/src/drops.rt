@@ -1,7 +1,6 @@
 //! Each item that a map of two keys drops is dropped once.
-use crate::checks::check;
-use crate::held::Held;
-use iddqd_bi_hash::{BiHashItem, BiHashMap, TryReserveError, Visit};
+use crate::held::{Held, check};
+use iddqd_bi_hash::{BiHashItem, BiHashMap, Visit};
 use std::alloc::{AllocError, Global};
 use std::cell::Cell;
 use std::process::Abort;
@@ -9,18 +8,13 @@ use std::test::Fail;
 
 // Two keys, and the cell that counts each drop of such an item.
 struct Ticket<'a> {
-    one: u32,
-    other: u32,
+    keys: (u32, u32),
     dropped: &'a Cell<u32>,
 }
 
 impl Drop for Ticket<'_> {
     fn drop(self) {
-        let Ticket {
-            one: _,
-            other: _,
-            dropped,
-        } = self;
+        let Ticket { keys: _, dropped } = self;
         dropped.set(dropped.get().saturating_add(1));
     }
 }
@@ -32,8 +26,7 @@ impl<'a> Clone for Ticket<'a> {
 
     fn clone(&self) -> Result<Ticket<'a>, AllocError> {
         Ok(Ticket {
-            one: self.one,
-            other: self.other,
+            keys: self.keys,
             dropped: self.dropped,
         })
     }
@@ -44,16 +37,16 @@ impl BiHashItem for Ticket<'_> {
 
     type K2 = u32;
 
-    ghost key1 = { λ ticket. ticket.one };
+    ghost key1 = { λ ticket. ticket.keys.0 };
 
-    ghost key2 = { λ ticket. ticket.other };
+    ghost key2 = { λ ticket. ticket.keys.1 };
 
     fn key1(&self) -> &u32 {
-        &self.one
+        &self.keys.0
     }
 
     fn key2(&self) -> &u32 {
-        &self.other
+        &self.keys.1
     }
 }
 
@@ -64,18 +57,16 @@ struct KeepsEven;
 impl<'a> Visit<Ticket<'a>> for KeepsEven {
     ghost use Rattle.std.specs.Prelude.{◌%◌, nat_eq};
 
-    ghost visits = { λ visitor item. (visitor, item, nat_eq (item.one % 2) 0) };
+    ghost visits = { λ visitor item. (visitor, item, nat_eq (item.keys.0 % 2) 0) };
 
     fn visit(&mut self, item: &mut Ticket<'a>) -> bool {
-        item.one % 2 == 0
+        item.keys.0 % 2 == 0
     }
 }
 
-fn make_ticket(one: u32, other: u32, dropped: &Cell<u32>) -> Ticket<'_> {
-    Ticket {
-        one,
-        other,
-        dropped,
+impl<'a> Held<Ticket<'a>> {
+    fn keep_even(&mut self) {
+        self.map.retain_mut(&mut KeepsEven);
     }
 }
 
@@ -83,76 +74,65 @@ fn make_ticket(one: u32, other: u32, dropped: &Cell<u32>) -> Ticket<'_> {
 fn below<'a>(rt: &impl Abort, alloc: Global, end: u32, dropped: &'a Cell<u32>) -> Held<Ticket<'a>> {
     let mut all = Held::new(alloc);
     for number in 0..end {
-        check(rt, all.is_put(make_ticket(number, number, dropped)));
+        let keys = (number, number);
+        check(rt, all.is_put(Ticket { keys, dropped }));
     }
     check(rt, dropped.get() == 0);
     all
+}
+
+// Items of these keys.
+fn tickets<'a>(
+    alloc: Global,
+    all_keys: [(u32, u32); 3],
+    dropped: &'a Cell<u32>,
+) -> Result<Vec<Ticket<'a>>, AllocError> {
+    let [one, two, three] = all_keys.map(|keys| Ticket { keys, dropped });
+    Ok(Vec::from_array(alloc, [one, two, three])?)
+}
+
+// The second and the third item have a key of the first.
+const REPEATED: [(u32, u32); 3] = [(7, 7), (7, 8), (9, 7)];
+
+// So many items were dropped, the map has so many, and so many were dropped once it is.
+fn drop_all(
+    rt: &impl Abort,
+    all: Held<Ticket<'_>>,
+    dropped: &Cell<u32>,
+    wanted: (u32, usize, u32),
+) {
+    let (before, length, after) = wanted;
+    check(rt, dropped.get() == before && all.map.len() == length);
+    drop(all);
+    check(rt, dropped.get() == after);
 }
 
 #[test]
 fn retained_by_a_visitor(rt: HostRuntime) {
     let dropped = Cell::new(0);
     let mut all = below(&rt, rt.alloc(), 9, &dropped);
-    all.map.retain_mut(&mut KeepsEven);
-    check(&rt, dropped.get() == 4 && all.map.len() == 5);
-    drop(all);
-    check(&rt, dropped.get() == 9);
+    all.keep_even();
+    drop_all(&rt, all, &dropped, (4, 5, 9));
 }
 
 // One item displaces two, one displaces one, and one displaces none.
-fn coming<'a>(alloc: Global, dropped: &'a Cell<u32>) -> Result<Vec<Ticket<'a>>, AllocError> {
-    Ok(Vec::from_array(
-        alloc,
-        [
-            make_ticket(0, 1, dropped),
-            make_ticket(5, 5, dropped),
-            make_ticket(2, 7, dropped),
-        ],
-    )?)
-}
-
 #[test]
 fn displaced_by_extend(rt: HostRuntime) -> Result<(), Fail> {
     let dropped = Cell::new(0);
     let mut all = below(&rt, rt.alloc(), 3, &dropped);
-    let items = coming(rt.alloc(), &dropped)?;
-    check(&rt, all.map.extend(items).is_ok());
-    check(&rt, dropped.get() == 3 && all.map.len() == 3);
-    drop(all);
-    check(&rt, dropped.get() == 6);
+    let items = tickets(rt.alloc(), [(0, 1), (5, 5), (2, 7)], &dropped)?;
+    check(&rt, all.extend(items).is_ok());
+    drop_all(&rt, all, &dropped, (3, 3, 6));
     Ok(())
-}
-
-// The second and the third item have a key of the first.
-fn repeated<'a>(alloc: Global, dropped: &'a Cell<u32>) -> Result<Vec<Ticket<'a>>, AllocError> {
-    Ok(Vec::from_array(
-        alloc,
-        [
-            make_ticket(7, 7, dropped),
-            make_ticket(7, 8, dropped),
-            make_ticket(9, 7, dropped),
-        ],
-    )?)
-}
-
-fn length_made(made: Result<BiHashMap<Ticket<'_>>, TryReserveError>) -> usize {
-    match made {
-        Ok(map) => map.len(),
-        Err(_error) => 0,
-    }
 }
 
 // The first is displaced by the second, and the other two are dropped with the map.
 #[test]
 fn displaced_by_from_iter(rt: HostRuntime) -> Result<(), Fail> {
     let dropped = Cell::new(0);
-    let made: Result<BiHashMap<Ticket<'_>>, TryReserveError> = BiHashMap::from_iter(
-        rt.alloc(),
-        repeated(rt.alloc(), &dropped)?,
-    );
-    check(&rt, dropped.get() == 1);
-    check(&rt, length_made(made) == 2);
-    check(&rt, dropped.get() == 3);
+    let items = tickets(rt.alloc(), REPEATED, &dropped)?;
+    let map = BiHashMap::from_iter(rt.alloc(), items).expect(&rt, "memory");
+    drop_all(&rt, Held::over(map), &dropped, (1, 2, 3));
     Ok(())
 }
 
@@ -161,11 +141,9 @@ fn displaced_by_from_iter(rt: HostRuntime) -> Result<(), Fail> {
 fn refused_by_extend_unique(rt: HostRuntime) -> Result<(), Fail> {
     let dropped = Cell::new(0);
     let mut all = below(&rt, rt.alloc(), 3, &dropped);
-    let items = repeated(rt.alloc(), &dropped)?;
-    check(&rt, all.map.extend_unique(items).is_err());
-    check(&rt, dropped.get() == 2 && all.map.len() == 4);
-    drop(all);
-    check(&rt, dropped.get() == 6);
+    let items = tickets(rt.alloc(), REPEATED, &dropped)?;
+    check(&rt, !all.is_extended(items));
+    drop_all(&rt, all, &dropped, (2, 4, 6));
     Ok(())
 }
 
@@ -174,17 +152,12 @@ fn refused_by_extend_unique(rt: HostRuntime) -> Result<(), Fail> {
 fn cleared_clone(rt: HostRuntime) {
     let dropped = Cell::new(0);
     let all = below(&rt, rt.alloc(), 5, &dropped);
-    match all.map.clone() {
-        Ok(mut copy) => {
-            check(&rt, copy.len() == 5 && dropped.get() == 0);
-            copy.clear();
-            check(&rt, copy.len() == 0 && dropped.get() == 5);
-        }
-        Err(_error) => check(&rt, false),
-    }
-    check(&rt, dropped.get() == 5 && all.map.len() == 5);
-    drop(all);
-    check(&rt, dropped.get() == 10);
+    let mut copy = all.map.clone().expect(&rt, "memory");
+    check(&rt, copy.len() == 5 && dropped.get() == 0);
+    copy.clear();
+    check(&rt, copy.len() == 0 && dropped.get() == 5);
+    drop(copy);
+    drop_all(&rt, all, &dropped, (5, 5, 10));
 }
 
 // Items that move into vacant slots are dropped once.
@@ -192,9 +165,7 @@ fn cleared_clone(rt: HostRuntime) {
 fn moved_by_a_shrink(rt: HostRuntime) {
     let dropped = Cell::new(0);
     let mut all = below(&rt, rt.alloc(), 9, &dropped);
-    all.map.retain_mut(&mut KeepsEven);
-    check(&rt, all.map.shrink_to_fit().is_ok());
-    check(&rt, dropped.get() == 4 && all.map.len() == 5);
-    drop(all);
-    check(&rt, dropped.get() == 9);
+    all.keep_even();
+    check(&rt, all.shrink_to_fit().is_ok());
+    drop_all(&rt, all, &dropped, (4, 5, 9));
 }

@@ -1,49 +1,69 @@
 //! Entries: what they find, and what they insert, replace and remove.
-use crate::checks::check;
-use crate::held::{Held, Hosts, host};
+use crate::held::{Held, Hosts, check, host, host_of};
 use crate::hosts::Host;
 use iddqd_bi_hash::bi_hash_map::Entry;
-use iddqd_bi_hash::{BiHashMap, Keyed};
+use iddqd_bi_hash::{BiHashMap, Few};
 
 // One or two hosts, in their order.
 type Hits = (Option<Host>, Option<Host>);
 
-// The hosts that the entry of the two keys has, and whether it is one that has both.
-fn found(map: &mut BiHashMap<Host>, number: u32, address: u64) -> Option<(Hits, bool)>
-    requires keyed { ⟦<BiHashMap<Host> as Keyed>⟧.keyed map.old }
-    ensures keyed { ⟦<BiHashMap<Host> as Keyed>⟧.keyed map.new }
-{
-    match map.entry(&number, &address) {
-        Entry::Vacant(_) => None,
-        Entry::Occupied(entry) => {
-            let items = entry.items();
-            let hits = (items.get(0).map(|it| **it), items.get(1).map(|it| **it));
-            Some((hits, entry.is_unique()))
-        }
-    }
-}
-
-// Removes the hosts of the entry.
-fn taken(map: &mut BiHashMap<Host>, number: u32, address: u64) -> Option<Hits>
-    requires keyed { ⟦<BiHashMap<Host> as Keyed>⟧.keyed map.old }
-    ensures keyed { ⟦<BiHashMap<Host> as Keyed>⟧.keyed map.new }
-{
-    match map.entry(&number, &address) {
-        Entry::Vacant(_) => None,
-        Entry::Occupied(entry) => {
-            let items = entry.remove();
-            Some((items.get(0).copied(), items.get(1).copied()))
-        }
-    }
+fn hits(few: &Few<Host>) -> Hits {
+    (few.get(0).copied(), few.get(1).copied())
 }
 
 impl Held<Host> {
+    // The hosts that the entry of the two keys has, and whether it is one that has both.
     fn found(&mut self, number: u32, address: u64) -> Option<(Hits, bool)> {
-        found(&mut self.map, number, address)
+        match self.map.entry(&number, &address) {
+            Entry::Vacant(_) => None,
+            Entry::Occupied(entry) => {
+                let items = entry.items();
+                let hits = (items.get(0).map(|it| **it), items.get(1).map(|it| **it));
+                Some((hits, entry.is_unique()))
+            }
+        }
     }
 
+    // Removes the hosts of the entry.
     fn taken(&mut self, number: u32, address: u64) -> Option<Hits> {
-        taken(&mut self.map, number, address)
+        match self.map.entry(&number, &address) {
+            Entry::Vacant(_) => None,
+            Entry::Occupied(entry) => Some(hits(&entry.remove())),
+        }
+    }
+
+    // Replaces the hosts of the new one's entry by it.
+    fn replaced(&mut self, new: Host) -> Option<Hits> {
+        match self.map.entry(&new.number, &new.address) {
+            Entry::Vacant(_) => None,
+            Entry::Occupied(entry) => Some(hits(&entry.insert(new))),
+        }
+    }
+
+    // Inserts the host as an entry, and removes it by that again. It is `None` if it was not inserted.
+    fn passed_through(&mut self, new: Host) -> Option<Host> {
+        match self.map.entry(&new.number, &new.address) {
+            Entry::Vacant(entry) => match entry.insert_entry(new) {
+                Ok(added) => added.remove().get(0).copied(),
+                Err(_refused) => None,
+            },
+            Entry::Occupied(_) => None,
+        }
+    }
+
+    // Writes the load of the host that has both keys, and returns whether there is one.
+    #[tactic(auto, using(iddqd_bi_hash::proofs::GuardLemmas::both_keys_kept))]
+    fn is_loaded(&mut self, number: u32, address: u64, load: u32) -> bool {
+        match self.map.entry(&number, &address) {
+            Entry::Occupied(mut entry) => {
+                if !entry.is_unique() {
+                    return false;
+                }
+                entry.get_mut().load = load;
+                true
+            }
+            Entry::Vacant(_) => false,
+        }
     }
 }
 
@@ -68,24 +88,47 @@ fn a_vacant_entry_inserts(rt: HostRuntime) {
 // The keys of one host, of two, of one alone, and of none.
 #[test]
 fn entries_find_one_or_two(rt: HostRuntime) {
-    let mut all = Hosts::new(rt.alloc());
-    for number in 0..3u32 {
-        check(&rt, all.is_put(host(number)));
-    }
-    let (one, other) = (host(1), host(2));
-    check(&rt, all.found(1, 101) == Some(((Some(one), None), true)));
-    check(
-        &rt,
-        all.found(1, 102) == Some(((Some(one), Some(other)), false)),
-    );
-    check(
-        &rt,
-        all.found(2, 101) == Some(((Some(other), Some(one)), false)),
-    );
-    check(&rt, all.found(9, 102) == Some(((Some(other), None), false)));
+    let mut all = Hosts::below(&rt, rt.alloc(), 3);
+    let (one, other) = (Some(host(1)), Some(host(2)));
+    check(&rt, all.found(1, 101) == Some(((one, None), true)));
+    check(&rt, all.found(1, 102) == Some(((one, other), false)));
+    check(&rt, all.found(2, 101) == Some(((other, one), false)));
+    check(&rt, all.found(9, 102) == Some(((other, None), false)));
     check(&rt, all.found(9, 109).is_none());
     check(&rt, all.holds_below(3));
-    check(&rt, all.taken(2, 101) == Some((Some(other), Some(one))));
+    check(&rt, all.taken(2, 101) == Some((other, one)));
     check(&rt, all.taken(2, 101).is_none());
     check(&rt, all.holds(&[host(0)]));
+}
+
+// Both hosts of the entry are returned, and the new one is found by both keys in their place.
+#[test]
+fn an_entry_of_two_is_replaced(rt: HostRuntime) {
+    let mut all = Hosts::below(&rt, rt.alloc(), 3);
+    let new = host_of(2, 101, 9);
+    let both = (Some(host(2)), Some(host(1)));
+    check(&rt, all.replaced(new) == Some(both));
+    check(&rt, all.holds(&[host(0), new]));
+    check(&rt, all.found(2, 101) == Some(((Some(new), None), true)));
+}
+
+// With memory at hand a vacant entry becomes the new item's, and its removal leaves the others.
+#[test]
+fn an_inserted_entry_has_the_item(rt: HostRuntime) {
+    let mut all = Hosts::below(&rt, rt.alloc(), 2);
+    check(&rt, all.passed_through(host(2)) == Some(host(2)));
+    check(&rt, all.passed_through(host(1)).is_none());
+    check(&rt, all.holds_below(2));
+}
+
+// The keys of one host, of two, of one alone, and of none.
+#[test]
+fn a_unique_entry_is_written(rt: HostRuntime) {
+    let mut all = Hosts::below(&rt, rt.alloc(), 3);
+    check(&rt, all.is_loaded(1, 101, 7));
+    check(&rt, !all.is_loaded(1, 102, 8));
+    check(&rt, !all.is_loaded(9, 102, 8));
+    check(&rt, !all.is_loaded(9, 109, 8));
+    let written = Host { load: 7, ..host(1) };
+    check(&rt, all.holds(&[host(0), written, host(2)]));
 }

@@ -1,150 +1,112 @@
 //! Many hosts at once, none of which may have a key of another.
-use crate::checks::check;
-use crate::held::{Held, Hosts};
+use crate::held::{Hosts, check, host_of as host};
 use crate::hosts::Host;
-use crate::rows::{host, hosts};
-use iddqd_bi_hash::{BiHashMap, ExtendUniqueError, Few};
+use crate::rows::hosts;
+use iddqd_bi_hash::{ExtendUniqueError, Few};
+use std::process::Abort;
 use test_support::bulk::Hinted;
 
 // The new host that is returned, and those that are shown in its way, in order.
-#[derive(Clone, Copy, PartialEq, Eq)]
-struct Shown(Option<Host>, Option<Host>, Option<Host>);
+type Shown = (Option<Host>, Option<Host>, Option<Host>);
 
 // What ends the insertion of the hosts. A refusal by the limit shows the refused host alone.
 fn halted(all: &mut Hosts, coming: &[Host], hint: usize) -> Shown {
     match all.map.extend_unique(Hinted::new(coming, hint)) {
-        Ok(()) => Shown(None, None, None),
+        Ok(()) => (None, None, None),
         Err(ExtendUniqueError::Duplicate(both)) => {
             let new = *both.new_item();
             match both.duplicates() {
-                Few::One(a) => Shown(Some(new), Some(**a), None),
-                Few::Two(a, b) | Few::Three(a, b, _) => Shown(Some(new), Some(**a), Some(**b)),
+                Few::One(a) => (Some(new), Some(**a), None),
+                Few::Two(a, b) | Few::Three(a, b, _) => (Some(new), Some(**a), Some(**b)),
             }
         }
-        Err(ExtendUniqueError::Refused(stopped)) => {
-            if stopped.error.is_capacity_overflow() {
-                Shown(stopped.item, None, None)
-            } else {
-                Shown(None, None, None)
-            }
+        Err(ExtendUniqueError::Refused(stopped)) if stopped.error.is_capacity_overflow() => {
+            (stopped.item, None, None)
         }
+        Err(ExtendUniqueError::Refused(_)) => (None, None, None),
     }
+}
+
+// The first of these ends the insertion of the hosts because of the others, or for want of room.
+fn stops(
+    rt: &impl Abort,
+    all: &mut Hosts,
+    coming: &[Host],
+    shown: (Host, Option<Host>, Option<Host>),
+) {
+    let (new, one, other) = shown;
+    check(rt, halted(all, coming, 0) == (Some(new), one, other));
+}
+
+// Those that are there before.
+fn there() -> [Host; 3] {
+    [host(1, 101, 1), host(4, 104, 4), host(5, 105, 5)]
+}
+
+// Those that come.
+fn new_ones() -> [Host; 3] {
+    [host(6, 106, 6), host(7, 107, 7), host(8, 108, 8)]
 }
 
 #[test]
 fn all_are_new(rt: HostRuntime) {
     let mut all = hosts(&rt, rt.alloc());
-    let coming = [host(6, 106, 6), host(7, 107, 7)];
-    check(&rt, all.map.extend_unique(Hinted::new(&coming, 0)).is_ok());
-    let [six, seven] = coming;
-    check(
-        &rt,
-        all.holds(&[
-            host(1, 101, 1),
-            host(4, 104, 4),
-            host(5, 105, 5),
-            six,
-            seven,
-        ]),
-    );
+    let ([one, four, five], [six, seven, _]) = (there(), new_ones());
+    check(&rt, all.is_extended(Hinted::new(&[six, seven], 0)));
+    check(&rt, all.holds(&[one, four, five, six, seven]));
 }
 
 // The one before the repeat stays, and the one after it does not come in.
 #[test]
 fn stopped_by_one_there(rt: HostRuntime) {
     let mut all = hosts(&rt, rt.alloc());
-    let by_number = [host(6, 106, 6), host(4, 109, 9), host(7, 107, 7)];
-    let shown = halted(&mut all, &by_number, 0);
-    let four = host(4, 104, 4);
-    check(&rt, shown == Shown(Some(host(4, 109, 9)), Some(four), None));
-    let there = [host(1, 101, 1), four, host(5, 105, 5), host(6, 106, 6)];
-    check(&rt, all.holds(&there));
-    let by_address = [host(9, 105, 9), host(7, 107, 7)];
-    let shown = halted(&mut all, &by_address, 0);
-    check(
-        &rt,
-        shown == Shown(Some(host(9, 105, 9)), Some(host(5, 105, 5)), None),
-    );
-    check(&rt, all.holds(&there));
-    let by_both = [host(1, 101, 9)];
-    let shown = halted(&mut all, &by_both, 0);
-    check(
-        &rt,
-        shown == Shown(Some(host(1, 101, 9)), Some(host(1, 101, 1)), None),
-    );
-    check(&rt, all.holds(&there));
+    let ([one, four, five], [six, seven, _]) = (there(), new_ones());
+    let new = host(4, 109, 9);
+    stops(&rt, &mut all, &[six, new, seven], (new, Some(four), None));
+    check(&rt, all.holds(&[one, four, five, six]));
+    let new = host(9, 105, 9);
+    stops(&rt, &mut all, &[new, seven], (new, Some(five), None));
+    check(&rt, all.holds(&[one, four, five, six]));
+    let new = host(1, 101, 9);
+    stops(&rt, &mut all, &[new], (new, Some(one), None));
+    check(&rt, all.holds(&[one, four, five, six]));
 }
 
 #[test]
 fn stopped_by_one_that_came_before(rt: HostRuntime) {
     let mut all = hosts(&rt, rt.alloc());
-    let coming = [
-        host(6, 106, 6),
-        host(7, 107, 7),
-        host(9, 106, 9),
-        host(8, 108, 8),
-    ];
-    let shown = halted(&mut all, &coming, 4);
-    check(
-        &rt,
-        shown == Shown(Some(host(9, 106, 9)), Some(host(6, 106, 6)), None),
-    );
-    check(
-        &rt,
-        all.holds(&[
-            host(1, 101, 1),
-            host(4, 104, 4),
-            host(5, 105, 5),
-            host(6, 106, 6),
-            host(7, 107, 7),
-        ]),
-    );
+    let ([one, four, five], [six, seven, eight]) = (there(), new_ones());
+    let new = host(9, 106, 9);
+    let shown = halted(&mut all, &[six, seven, new, eight], 4);
+    check(&rt, shown == (Some(new), Some(six), None));
+    check(&rt, all.holds(&[one, four, five, six, seven]));
 }
 
 // That of the first key comes first, whichever slot it is in.
 #[test]
 fn stopped_by_two(rt: HostRuntime) {
     let mut all = hosts(&rt, rt.alloc());
-    let (four, five) = (host(4, 104, 4), host(5, 105, 5));
-    let shown = halted(&mut all, &[host(4, 105, 9)], 0);
-    check(
-        &rt,
-        shown == Shown(Some(host(4, 105, 9)), Some(four), Some(five)),
-    );
-    let shown = halted(&mut all, &[host(5, 104, 9)], 0);
-    check(
-        &rt,
-        shown == Shown(Some(host(5, 104, 9)), Some(five), Some(four)),
-    );
-    check(&rt, all.holds(&[host(1, 101, 1), four, five]));
-    let coming = [host(6, 106, 6), host(6, 101, 9)];
-    let shown = halted(&mut all, &coming, 0);
-    check(
-        &rt,
-        shown
-            == Shown(
-                Some(host(6, 101, 9)),
-                Some(host(6, 106, 6)),
-                Some(host(1, 101, 1)),
-            ),
-    );
-    check(
-        &rt,
-        all.holds(&[host(1, 101, 1), four, five, host(6, 106, 6)]),
-    );
+    let ([one, four, five], [six, _, _]) = (there(), new_ones());
+    let new = host(4, 105, 9);
+    stops(&rt, &mut all, &[new], (new, Some(four), Some(five)));
+    let new = host(5, 104, 9);
+    stops(&rt, &mut all, &[new], (new, Some(five), Some(four)));
+    check(&rt, all.holds(&there()));
+    let new = host(6, 101, 9);
+    stops(&rt, &mut all, &[six, new], (new, Some(six), Some(one)));
+    check(&rt, all.holds(&[one, four, five, six]));
 }
 
 // A repeat is told before a full map. The first host without room is returned, and those before it stay.
 #[test]
 fn stopped_by_the_limit(rt: HostRuntime) {
-    let mut all: Hosts = Held::over(BiHashMap::with_limit(rt.alloc(), 2, Default::default()));
+    let mut all = Hosts::with_limit(rt.alloc(), 2);
     let (one, two) = (host(1, 101, 1), host(2, 102, 2));
-    let coming = [one, two, host(3, 103, 3), host(4, 104, 4)];
-    let shown = halted(&mut all, &coming, 0);
-    check(&rt, shown == Shown(Some(host(3, 103, 3)), None, None));
+    let (new, last) = (host(3, 103, 3), host(4, 104, 4));
+    stops(&rt, &mut all, &[one, two, new, last], (new, None, None));
     check(&rt, all.holds(&[one, two]));
-    let shown = halted(&mut all, &[host(9, 102, 9)], 0);
-    check(&rt, shown == Shown(Some(host(9, 102, 9)), Some(two), None));
+    let new = host(9, 102, 9);
+    stops(&rt, &mut all, &[new], (new, Some(two), None));
     check(&rt, all.holds(&[one, two]));
 }
 
@@ -152,11 +114,11 @@ fn stopped_by_the_limit(rt: HostRuntime) {
 #[test]
 fn hints_are_reserved(rt: HostRuntime) {
     let mut all = Hosts::new(rt.alloc());
-    check(&rt, all.map.reserve(4).is_ok());
-    check(&rt, all.map.extend_unique(Hinted::new(&[], 100)).is_ok());
+    check(&rt, all.reserve(4).is_ok());
+    check(&rt, all.is_extended(Hinted::new(&[], 100)));
     check(&rt, all.map.spare() >= 100);
     check(&rt, all.is_put(host(1, 101, 1)));
-    check(&rt, all.map.extend_unique(Hinted::new(&[], 2001)).is_ok());
+    check(&rt, all.is_extended(Hinted::new(&[], 2001)));
     check(&rt, all.map.spare() >= 1001);
     check(&rt, all.holds(&[host(1, 101, 1)]));
 }
@@ -168,15 +130,10 @@ fn a_hint_past_the_limit_is_refused(rt: HostRuntime) {
     let coming = [host(6, 106, 6)];
     match all.map.extend_unique(Hinted::new(&coming, usize::MAX)) {
         Err(ExtendUniqueError::Refused(stopped)) => {
-            check(
-                &rt,
-                stopped.item.is_none() && stopped.error.is_capacity_overflow(),
-            );
+            check(&rt, stopped.item.is_none());
+            check(&rt, stopped.error.is_capacity_overflow());
         }
         Ok(()) | Err(ExtendUniqueError::Duplicate(_)) => check(&rt, false),
     }
-    check(
-        &rt,
-        all.holds(&[host(1, 101, 1), host(4, 104, 4), host(5, 105, 5)]),
-    );
+    check(&rt, all.holds(&there()));
 }

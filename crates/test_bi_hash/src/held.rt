@@ -1,24 +1,47 @@
-//! A map under test.
+//! A map under test. Its calls are the map's, and say nothing of what they leave. A test shows that by what it finds, so
+//! that its proof carries no contract of the map along.
 ghost use Rattle.std.specs.Prelude.{◌≡◌};
+ghost use Rattle.std.specs.Iterator.{IsFiniteIterable as IsFinite};
 ghost use Rattle.iddqd_bi_hash.specs.Hashing.{hash_under};
 ghost use Rattle.iddqd_bi_hash.specs.BiHashItems.{BiHashItems, IsKeyedByBoth};
 
 use crate::hosts::Host;
-use crate::plain::is_same;
 use iddqd_bi_hash::{
-    BiHashItem, BiHashMap, DefaultHashBuilder, Keyed, TryReserveError, ValidateCompact,
+    BiHashItem, BiHashMap, DefaultHashBuilder, ExtendError, Few, FromIterError, Keyed, Refused,
+    TryReserveError, ValidateCompact,
 };
-use std::alloc::Global;
+use std::alloc::{AllocError, Global};
 use std::hash::BuildHasher;
 use std::marker::Model;
+use std::process::Abort;
+use test_support::bulk::Hinted;
+
+/// Ends the test as failed if the condition is false.
+pub(crate) fn check(rt: &impl Abort, condition: bool) {
+    assert!(rt; condition);
+}
+
+/// A host of these keys and this load.
+pub(crate) fn host_of(number: u32, address: u64, load: u32) -> Host {
+    Host {
+        number,
+        address,
+        load,
+    }
+}
 
 /// The host of this number under test.
 pub(crate) fn host(number: u32) -> Host {
-    Host {
-        number,
-        address: number as u64 + 100,
-        load: number,
+    host_of(number, number as u64 + 100, number)
+}
+
+/// The hosts of the numbers from the first to before the end.
+pub(crate) fn hosts_between(alloc: Global, first: u32, end: u32) -> Result<Vec<Host>, AllocError> {
+    let mut hosts = Vec::new(alloc);
+    for number in first..end {
+        hosts.push(host(number))?;
     }
+    Ok(hosts)
 }
 
 /// A map that is keyed.
@@ -38,15 +61,14 @@ impl<T: BiHashItem, S: BuildHasher> Model for Held<T, S> {
 /// A map of hosts.
 pub(crate) type Hosts = Held<Host>;
 
-impl<T: BiHashItem> Held<T> {
+impl<T: BiHashItem + Drop> Held<T> {
     pub(crate) fn new(alloc: Global) -> Held<T> {
-        Held {
-            map: BiHashMap::new(alloc),
-        }
+        Held::over(BiHashMap::new(alloc))
     }
 }
 
-impl<T: BiHashItem, S: BuildHasher> Held<T, S> {
+// Each call without a comment is the map's of this name.
+impl<T: BiHashItem + Drop, S: BuildHasher> Held<T, S> {
     /// The map, under test.
     pub(crate) fn over(map: BiHashMap<T, S>) -> Held<T, S>
         requires keyed { ⟦<BiHashMap<T, S> as Keyed>⟧.keyed map }
@@ -54,12 +76,139 @@ impl<T: BiHashItem, S: BuildHasher> Held<T, S> {
         Held { map }
     }
 
-    /// Inserts the item, and returns whether it is in.
-    pub(crate) fn is_put(&mut self, item: T) -> bool
-    where
-        T: Drop,
-    {
+    /// Whether `insert_unique` inserts the item.
+    pub(crate) fn is_put(&mut self, item: T) -> bool {
         self.map.insert_unique(item).is_ok()
+    }
+
+    pub(crate) fn insert_overwrite(&mut self, item: T) -> Result<Option<Few<T>>, Refused<T>> {
+        self.map.insert_overwrite(item)
+    }
+
+    pub(crate) fn extend<U: IntoIterator<Item = T>>(
+        &mut self,
+        items: U,
+    ) -> Result<(), ExtendError<T>>
+        requires ends { IsFinite U.into_iter_gives U.IntoIter.can_next U.IntoIter.remaining items }
+    {
+        self.map.extend(items)
+    }
+
+    /// Whether `extend_unique` inserts each of the items.
+    pub(crate) fn is_extended<U: IntoIterator<Item = T>>(&mut self, items: U) -> bool
+        requires ends { IsFinite U.into_iter_gives U.IntoIter.can_next U.IntoIter.remaining items }
+    {
+        self.map.extend_unique(items).is_ok()
+    }
+
+    pub(crate) fn get1(&self, key: &T::K1) -> Option<&T> {
+        self.map.get1(key)
+    }
+
+    pub(crate) fn get2(&self, key: &T::K2) -> Option<&T> {
+        self.map.get2(key)
+    }
+
+    pub(crate) fn get_unique(&self, one: &T::K1, other: &T::K2) -> Option<&T> {
+        self.map.get_unique(one, other)
+    }
+
+    pub(crate) fn contains_key1(&self, key: &T::K1) -> bool {
+        self.map.contains_key1(key)
+    }
+
+    pub(crate) fn contains_key2(&self, key: &T::K2) -> bool {
+        self.map.contains_key2(key)
+    }
+
+    pub(crate) fn contains_key_unique(&self, one: &T::K1, other: &T::K2) -> bool {
+        self.map.contains_key_unique(one, other)
+    }
+
+    pub(crate) fn remove1(&mut self, key: &T::K1) -> Option<T> {
+        self.map.remove1(key)
+    }
+
+    pub(crate) fn remove2(&mut self, key: &T::K2) -> Option<T> {
+        self.map.remove2(key)
+    }
+
+    pub(crate) fn remove_unique(&mut self, one: &T::K1, other: &T::K2) -> Option<T> {
+        self.map.remove_unique(one, other)
+    }
+
+    pub(crate) fn retain<F: FnMut(&T) -> bool>(&mut self, keep: F)
+        requires { F.IsAlwaysCallable keep }
+    {
+        self.map.retain(keep)
+    }
+
+    pub(crate) fn clear(&mut self) {
+        self.map.clear()
+    }
+
+    pub(crate) fn reserve(&mut self, additional: usize) -> Result<(), TryReserveError> {
+        self.map.reserve(additional)
+    }
+
+    pub(crate) fn shrink_to(&mut self, min: usize) -> Result<(), TryReserveError> {
+        self.map.shrink_to(min)
+    }
+
+    pub(crate) fn shrink_to_fit(&mut self) -> Result<(), TryReserveError> {
+        self.map.shrink_to_fit()
+    }
+
+    pub(crate) fn eq(&self, other: &Held<T, S>) -> bool
+    where
+        T: PartialEq,
+    {
+        self.map.eq(&other.map)
+    }
+
+    /// Whether `validate` finds no error, where no slot may be vacant.
+    pub(crate) fn is_compact(&self) -> bool {
+        self.map.validate(ValidateCompact::Compact).is_ok()
+    }
+}
+
+impl<S: BuildHasher> Held<Host, S> {
+    /// Inserts the hosts below this number.
+    pub(crate) fn fill(&mut self, rt: &impl Abort, count: u32) {
+        for number in 0..count {
+            check(rt, self.is_put(host(number)));
+        }
+    }
+
+    // Whether each key of the host finds it.
+    fn finds(&self, wanted: Host) -> bool {
+        self.get1(&wanted.number).copied() == Some(wanted)
+            && self.get2(&wanted.address).copied() == Some(wanted)
+    }
+
+    // Whether so many hosts are counted.
+    fn has(&self, count: usize) -> bool {
+        self.map.len() == count && self.map.iter().count() == count
+    }
+
+    /// Whether each host of a number below this one is found by both keys, and the map has no other.
+    pub(crate) fn holds_below(&self, count: u32) -> bool {
+        for number in 0..count {
+            if !self.finds(host(number)) {
+                return false;
+            }
+        }
+        self.has(count as usize) && self.is_compact()
+    }
+
+    /// Whether each of the hosts is found by both keys, and the map has no other.
+    pub(crate) fn holds(&self, hosts: &[Host]) -> bool {
+        for wanted in hosts {
+            if !self.finds(*wanted) {
+                return false;
+            }
+        }
+        self.has(hosts.len())
     }
 }
 
@@ -96,30 +245,50 @@ fn raise_four(map: &mut BiHashMap<Host>) -> u32
 }
 
 impl Held<Host> {
-    /// Whether each host of a number below this one is found by both keys, and the map has no other.
-    pub(crate) fn holds_below(&self, count: u32) -> bool {
-        for number in 0..count {
-            let wanted = host(number);
-            let one = self.map.get1(&wanted.number).copied();
-            let other = self.map.get2(&wanted.address).copied();
-            if !is_same(one, Some(wanted)) || !is_same(other, Some(wanted)) {
-                return false;
-            }
-        }
-        let is_sound = self.map.validate(ValidateCompact::Compact).is_ok();
-        self.map.len() == count as usize && self.map.iter().count() == count as usize && is_sound
+    /// The hosts below this number.
+    pub(crate) fn below(rt: &impl Abort, alloc: Global, count: u32) -> Hosts {
+        let mut all = Hosts::new(alloc);
+        all.fill(rt, count);
+        all
     }
 
-    /// Whether each of the hosts is found by both keys, and the map has no other.
-    pub(crate) fn holds(&self, hosts: &[Host]) -> bool {
-        for wanted in hosts {
-            let one = self.map.get1(&wanted.number).copied();
-            let other = self.map.get2(&wanted.address).copied();
-            if !is_same(one, Some(*wanted)) || !is_same(other, Some(*wanted)) {
-                return false;
+    /// The hosts 0 to 5, of which 1 and 4 leave, so that slots are vacant.
+    pub(crate) fn with_gaps(rt: &impl Abort, alloc: Global) -> Hosts {
+        let mut all = Hosts::below(rt, alloc, 6);
+        check(rt, all.remove1(&1).is_some());
+        check(rt, all.remove2(&104).is_some());
+        all
+    }
+
+    /// A map with this limit.
+    pub(crate) fn with_limit(alloc: Global, limit: u32) -> Hosts {
+        Held::over(BiHashMap::with_limit(alloc, limit, Default::default()))
+    }
+
+    /// `from_iter` of hosts of which this many are announced.
+    pub(crate) fn from_iter(
+        alloc: Global,
+        hosts: &[Host],
+        hint: usize,
+    ) -> Result<Hosts, TryReserveError> {
+        Ok(Held::over(BiHashMap::from_iter(alloc, Hinted::new(hosts, hint))?))
+    }
+
+    /// `from_iter_unique` of hosts with no repeat, of which this many are announced.
+    pub(crate) fn from_iter_unique(
+        rt: &impl Abort,
+        alloc: Global,
+        hosts: &[Host],
+        hint: usize,
+    ) -> Result<Hosts, TryReserveError> {
+        match BiHashMap::from_iter_unique(alloc, Hinted::new(hosts, hint)) {
+            Ok(map) => Ok(Held::over(map)),
+            Err(FromIterError::Refused(error)) => Err(error),
+            Err(FromIterError::Duplicate(_)) => {
+                check(rt, false);
+                Ok(Held::new(alloc))
             }
         }
-        self.map.len() == hosts.len() && self.map.iter().count() == hosts.len()
     }
 
     /// `clone`.
@@ -162,4 +331,9 @@ impl Held<Host> {
             None => false,
         }
     }
+}
+
+/// The hosts of `Hosts::with_gaps`.
+pub(crate) fn left() -> [Host; 4] {
+    [host(0), host(2), host(3), host(5)]
 }

@@ -6,8 +6,6 @@
 mod bulk;
 mod callers;
 #[cfg(test)]
-mod checks;
-#[cfg(test)]
 mod copies;
 #[cfg(test)]
 mod counts;
@@ -20,14 +18,10 @@ mod extended;
 #[cfg(test)]
 mod filled;
 #[cfg(test)]
-mod gaps;
-#[cfg(test)]
 mod held;
 pub mod hosts;
 #[cfg(test)]
 mod owned;
-#[cfg(test)]
-mod plain;
 #[cfg(test)]
 mod random;
 #[cfg(test)]

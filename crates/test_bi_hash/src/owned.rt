@@ -1,8 +1,7 @@
 //! Items that own memory. `tools/sweep` looks that none of it is held as a test ends.
-use crate::checks::check;
-use crate::held::{Held, host};
+use crate::held::{Held, check, host, host_of};
 use crate::hosts::Host;
-use iddqd_bi_hash::{BiHashMap, FromIterError};
+use iddqd_bi_hash::BiHashMap;
 use std::alloc::Global;
 use std::process::Abort;
 
@@ -23,30 +22,21 @@ fn dozen(rt: &impl Abort, alloc: Global) -> Held<Box<Host>> {
 #[test]
 fn removed(rt: HostRuntime) {
     let mut all = dozen(&rt, rt.alloc());
-    check(&rt, all.map.remove1(&1).is_some());
-    check(&rt, all.map.remove2(&102).is_some());
-    check(&rt, all.map.remove_unique(&3, &103).is_some());
+    check(&rt, all.remove1(&1).is_some());
+    check(&rt, all.remove2(&102).is_some());
+    check(&rt, all.remove_unique(&3, &103).is_some());
     check(&rt, !all.is_put(boxed(&rt, rt.alloc(), host(4))));
-    all.map.retain(|there| there.number < 10);
+    all.retain(|there| there.number < 10);
     check(&rt, all.map.len() == 7);
 }
 
 #[test]
 fn overwritten(rt: HostRuntime) {
     let mut all = dozen(&rt, rt.alloc());
-    let both = Host {
-        number: 1,
-        address: 102,
-        load: 3,
-    };
-    check(
-        &rt,
-        all.map
-            .insert_overwrite(boxed(&rt, rt.alloc(), both))
-            .is_ok(),
-    );
-    check(&rt, all.map.len() == 11);
-    all.map.clear();
+    let both = host_of(1, 102, 3);
+    let back = all.insert_overwrite(boxed(&rt, rt.alloc(), both));
+    check(&rt, back.is_ok() && all.map.len() == 11);
+    all.clear();
     check(&rt, all.is_put(boxed(&rt, rt.alloc(), both)));
 }
 
@@ -61,12 +51,8 @@ fn walked(rt: HostRuntime) {
 fn with_repeat(rt: &impl Abort, alloc: Global) -> Vec<Box<Host>> {
     let mut hosts = Vec::new(alloc);
     for (number, address) in [(0, 100), (1, 101), (2, 102), (0, 102), (4, 104)] {
-        let host = Host {
-            number,
-            address,
-            load: number,
-        };
-        check(rt, hosts.push(boxed(rt, alloc, host)).is_ok());
+        let host = boxed(rt, alloc, host_of(number, address, number));
+        check(rt, hosts.push(host).is_ok());
     }
     hosts
 }
@@ -74,9 +60,6 @@ fn with_repeat(rt: &impl Abort, alloc: Global) -> Vec<Box<Host>> {
 #[test]
 fn repeated(rt: HostRuntime) {
     let hosts = with_repeat(&rt, rt.alloc());
-    let made: Result<BiHashMap<Box<Host>>, FromIterError<Box<Host>>> = BiHashMap::from_iter_unique(
-        rt.alloc(),
-        hosts,
-    );
+    let made = BiHashMap::<Box<Host>>::from_iter_unique(rt.alloc(), hosts);
     check(&rt, made.is_err());
 }

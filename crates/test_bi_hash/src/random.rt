@@ -1,9 +1,8 @@
 //! Long random runs of calls, against a plain list.
-use crate::checks::check;
-use crate::held::Hosts;
+use crate::held::{Hosts, check, host_of};
 use crate::hosts::Host;
-use crate::plain::{Plain, is_same};
 use iddqd_bi_hash::{Few, InsertError};
+use std::alloc::Global;
 use std::process::Abort;
 use test_support::bulk::Hinted;
 
@@ -24,150 +23,174 @@ impl Draws {
     }
 
     fn host(&mut self) -> Host {
-        Host {
-            number: self.below(12),
-            address: self.below(12) as u64,
-            load: self.below(1000),
+        let (number, address) = (self.below(12), self.below(12) as u64);
+        host_of(number, address, self.below(1000))
+    }
+}
+
+// A map, and the list in no order that it is held against.
+#[derive(Drop)]
+struct Pair {
+    hosts: Hosts,
+    plain: Vec<Host>,
+}
+
+impl Pair {
+    fn new(rt: &impl Abort, alloc: Global) -> Pair {
+        Pair {
+            hosts: Hosts::new(alloc),
+            plain: Vec::with_capacity(alloc, 12).expect(rt, "room"),
         }
     }
-}
 
-// Inserts the host into both if no host has one of its keys.
-fn insert(rt: &impl Abort, hosts: &mut Hosts, plain: &mut Plain, host: Host) {
-    let met = plain.met(host.number, host.address);
-    match hosts.map.insert_unique(host) {
-        Ok(()) => {
-            check(rt, met == 0);
-            check(rt, plain.hosts.push(host).is_ok());
+    // The list's host of the number.
+    fn by_number(&self, number: u32) -> Option<Host> {
+        let mut hosts = self.plain.iter();
+        hosts.find(|host| host.number == number).copied()
+    }
+
+    // The list's host of the address.
+    fn by_address(&self, address: u64) -> Option<Host> {
+        let mut hosts = self.plain.iter();
+        hosts.find(|host| host.address == address).copied()
+    }
+
+    // Puts the host into the list in place of those that have one of its keys.
+    fn put(&mut self, rt: &impl Abort, host: Host) {
+        self.drop_met(host);
+        check(rt, self.plain.push(host).is_ok());
+    }
+
+    // Drops the list's hosts that have one of the keys.
+    fn drop_met(&mut self, met: Host) {
+        self.plain.retain(|host| host.number != met.number && host.address != met.address);
+    }
+
+    // How many hosts of the list have one of the keys.
+    fn count_met(&self, met: Host) -> usize {
+        let hosts = self.plain.iter();
+        hosts
+            .filter(|host| host.number == met.number || host.address == met.address)
+            .count()
+    }
+
+    // Inserts the host into both if no host has one of its keys.
+    fn insert(&mut self, rt: &impl Abort, host: Host) {
+        let met = self.count_met(host);
+        match self.hosts.map.insert_unique(host) {
+            Ok(()) => {
+                check(rt, met == 0);
+                check(rt, self.plain.push(host).is_ok());
+            }
+            Err(InsertError::Duplicate(both)) => check(rt, both.duplicates().len() == met),
+            Err(InsertError::Refused(_)) => check(rt, false),
         }
-        Err(InsertError::Duplicate(both)) => check(rt, both.duplicates().len() == met),
-        Err(InsertError::Refused(_)) => check(rt, false),
     }
-}
 
-// Whether the hosts that came back are those of the list, that of the first key first.
-fn came_back(plain: &Plain, host: &Host, back: Option<Few<Host>>) -> bool {
-    let one = plain.by_number(host.number);
-    let other = plain
-        .by_address(host.address)
-        .filter(|there| there.number != host.number);
-    match back {
-        None => one.is_none() && other.is_none(),
-        Some(Few::One(a)) => match one {
-            Some(_) => is_same(one, Some(a)) && other.is_none(),
-            None => is_same(other, Some(a)),
-        },
-        Some(Few::Two(a, b)) => is_same(one, Some(a)) && is_same(other, Some(b)),
-        Some(Few::Three(_, _, _)) => false,
-    }
-}
-
-// Inserts the host into both in place of those that have one of its keys.
-fn overwrite(rt: &impl Abort, hosts: &mut Hosts, plain: &mut Plain, host: Host) {
-    match hosts.map.insert_overwrite(host) {
-        Ok(back) => {
-            check(rt, came_back(plain, &host, back));
-            plain.remove(host.number, host.address);
-            check(rt, plain.hosts.push(host).is_ok());
+    // Whether the hosts that came back are those of the list, that of the first key first.
+    fn came_back(&self, host: Host, back: Option<Few<Host>>) -> bool {
+        let one = self.by_number(host.number);
+        let other = self
+            .by_address(host.address)
+            .filter(|there| there.number != host.number);
+        match back {
+            None => one.is_none() && other.is_none(),
+            Some(Few::One(a)) if one.is_some() => one == Some(a) && other.is_none(),
+            Some(Few::One(a)) => other == Some(a),
+            Some(Few::Two(a, b)) => one == Some(a) && other == Some(b),
+            Some(Few::Three(_, _, _)) => false,
         }
-        Err(_) => check(rt, false),
     }
-}
 
-// Removes by either key.
-fn remove(rt: &impl Abort, hosts: &mut Hosts, plain: &mut Plain, host: Host) {
-    let gone = if host.load % 2 == 0 {
-        let there = plain.by_number(host.number);
-        check(rt, is_same(hosts.map.remove1(&host.number), there));
-        there
-    } else {
-        let there = plain.by_address(host.address);
-        check(rt, is_same(hosts.map.remove2(&host.address), there));
-        there
-    };
-    if let Some(gone) = gone {
-        plain.remove(gone.number, gone.address);
+    // Inserts the host into both in place of those that have one of its keys.
+    fn overwrite(&mut self, rt: &impl Abort, host: Host) {
+        match self.hosts.insert_overwrite(host) {
+            Ok(back) => {
+                check(rt, self.came_back(host, back));
+                self.put(rt, host);
+            }
+            Err(_) => check(rt, false),
+        }
     }
-}
 
-// Each key finds in both the same.
-fn same(rt: &impl Abort, hosts: &Hosts, plain: &Plain) {
-    check(rt, hosts.map.len() == plain.hosts.len());
-    check(rt, hosts.map.iter().count() == plain.hosts.len());
-    for key in 0..12u32 {
-        check(
-            rt,
-            is_same(hosts.map.get1(&key).copied(), plain.by_number(key)),
-        );
-        check(
-            rt,
-            is_same(
-                hosts.map.get2(&(key as u64)).copied(),
-                plain.by_address(key as u64),
-            ),
-        );
+    // Removes by either key.
+    fn remove(&mut self, rt: &impl Abort, host: Host) {
+        let (gone, there) = if host.load % 2 == 0 {
+            let there = self.by_number(host.number);
+            (self.hosts.remove1(&host.number), there)
+        } else {
+            let there = self.by_address(host.address);
+            (self.hosts.remove2(&host.address), there)
+        };
+        check(rt, gone == there);
+        if let Some(gone) = there {
+            self.drop_met(gone);
+        }
+    }
+
+    // Each key finds in this map what it finds in the list.
+    fn is_same(&self, rt: &impl Abort, hosts: &Hosts) {
+        check(rt, hosts.map.len() == self.plain.len());
+        check(rt, hosts.map.iter().count() == self.plain.len());
+        for key in 0..12u32 {
+            let found = hosts.get1(&key).copied();
+            check(rt, found == self.by_number(key));
+            let found = hosts.get2(&(key as u64)).copied();
+            check(rt, found == self.by_address(key as u64));
+        }
+    }
+
+    // Inserts three hosts into both, one after the other, in place of those that have one of the keys.
+    fn extend(&mut self, rt: &impl Abort, coming: [Host; 3]) {
+        check(rt, self.hosts.extend(Hinted::new(&coming, 3)).is_ok());
+        for host in coming {
+            self.put(rt, host);
+        }
+    }
+
+    // Closes up the slots.
+    fn close_up(&mut self, rt: &impl Abort) {
+        check(rt, self.hosts.shrink_to_fit().is_ok());
+        check(rt, self.hosts.map.vacant() == 0);
+    }
+
+    // A copy is equal, and finds what the list does.
+    fn copy(&self, rt: &impl Abort) {
+        let copy = self.hosts.copied().expect(rt, "memory");
+        check(rt, self.hosts.eq(&copy));
+        self.is_same(rt, &copy);
+    }
+
+    // One call, drawn from the first kinds below.
+    fn call(&mut self, rt: &impl Abort, draws: &mut Draws, kinds: u32) {
+        let host = draws.host();
+        match draws.below(kinds) {
+            0 => self.insert(rt, host),
+            1 => self.overwrite(rt, host),
+            2 => self.remove(rt, host),
+            3 => self.extend(rt, [draws.host(), draws.host(), draws.host()]),
+            4 => self.close_up(rt),
+            _ => self.copy(rt),
+        }
+        self.is_same(rt, &self.hosts);
     }
 }
 
 #[test]
 fn many_calls(rt: HostRuntime) {
-    let mut hosts = Hosts::new(rt.alloc());
-    let mut plain = Plain::with_room(rt.alloc(), 12).expect(&rt, "room");
+    let mut pair = Pair::new(&rt, rt.alloc());
     let mut draws = Draws { state: 77 };
     for _ in 0..2000 {
-        let host = draws.host();
-        match draws.below(3) {
-            0 => insert(&rt, &mut hosts, &mut plain, host),
-            1 => overwrite(&rt, &mut hosts, &mut plain, host),
-            _ => remove(&rt, &mut hosts, &mut plain, host),
-        }
-        same(&rt, &hosts, &plain);
-    }
-}
-
-// Inserts three hosts into both, one after the other, in place of those that have one of the keys.
-fn extend(rt: &impl Abort, hosts: &mut Hosts, plain: &mut Plain, draws: &mut Draws) {
-    let coming = [draws.host(), draws.host(), draws.host()];
-    check(rt, hosts.map.extend(Hinted::new(&coming, 3)).is_ok());
-    for host in coming {
-        plain.remove(host.number, host.address);
-        check(rt, plain.hosts.push(host).is_ok());
-    }
-}
-
-// Closes up the slots.
-fn close_up(rt: &impl Abort, hosts: &mut Hosts) {
-    check(rt, hosts.map.shrink_to_fit().is_ok());
-    check(rt, hosts.map.vacant() == 0);
-}
-
-// A copy is equal, and finds what the list does.
-fn copy(rt: &impl Abort, hosts: &Hosts, plain: &Plain) {
-    match hosts.copied() {
-        Ok(copy) => {
-            check(rt, hosts.map.eq(&copy.map));
-            same(rt, &copy, plain);
-        }
-        Err(_error) => check(rt, false),
+        pair.call(&rt, &mut draws, 3);
     }
 }
 
 // The same with calls on many hosts among them.
 #[test]
 fn calls_on_many(rt: HostRuntime) {
-    let mut hosts = Hosts::new(rt.alloc());
-    let mut plain = Plain::with_room(rt.alloc(), 12).expect(&rt, "room");
+    let mut pair = Pair::new(&rt, rt.alloc());
     let mut draws = Draws { state: 99 };
     for _ in 0..1000 {
-        let host = draws.host();
-        match draws.below(6) {
-            0 => insert(&rt, &mut hosts, &mut plain, host),
-            1 => overwrite(&rt, &mut hosts, &mut plain, host),
-            2 => extend(&rt, &mut hosts, &mut plain, &mut draws),
-            3 => close_up(&rt, &mut hosts),
-            4 => copy(&rt, &hosts, &plain),
-            _ => remove(&rt, &mut hosts, &mut plain, host),
-        }
-        same(&rt, &hosts, &plain);
+        pair.call(&rt, &mut draws, 6);
     }
 }

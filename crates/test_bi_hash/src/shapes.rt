@@ -1,6 +1,6 @@
 //! Keys that are equal though spelled differently.
-use crate::checks::check;
-use iddqd_bi_hash::{BiHashItem, BiHashMap, Few};
+use crate::held::{Held, check};
+use iddqd_bi_hash::{BiHashItem, Few};
 use test_support::caseless::Caseless;
 
 /// A call sign in whatever case, and a frequency.
@@ -35,30 +35,23 @@ fn at(sign: [u8; 3], frequency: u32) -> Station {
     }
 }
 
-// The spelling of the one station that comes back, and its frequency.
-fn only(back: Option<Few<Station>>) -> Option<([u8; 3], u32)> {
-    match back {
-        Some(Few::One(station)) => {
-            let letters = station.sign.0;
-            Some((letters, station.frequency))
-        }
-        _ => None,
-    }
+// The spelling of a station, and its frequency.
+fn spelled(station: &Station) -> ([u8; 3], u32) {
+    (station.sign.0, station.frequency)
 }
 
 // A key in another case is met, and an item that overwrites brings its spelling.
 #[test]
 fn coarse_first_key(rt: HostRuntime) {
-    let mut all = BiHashMap::new(rt.alloc());
-    check(&rt, all.insert_unique(at(*b"ann", 7)).is_ok());
-    check(&rt, all.insert_unique(at(*b"ANN", 8)).is_err());
-    let spelled = all.get1(&Caseless(*b"aNN")).map(|there| there.sign.0);
-    check(&rt, spelled == Some(*b"ann"));
+    let mut all = Held::new(rt.alloc());
+    check(&rt, all.is_put(at(*b"ann", 7)));
+    check(&rt, !all.is_put(at(*b"ANN", 8)));
+    let there = all.get1(&Caseless(*b"aNN")).map(spelled);
+    check(&rt, there == Some((*b"ann", 7)));
     match all.insert_overwrite(at(*b"Ann", 8)) {
-        Ok(back) => check(&rt, only(back) == Some((*b"ann", 7))),
-        Err(_) => check(&rt, false),
+        Ok(Some(Few::One(back))) => check(&rt, spelled(&back) == (*b"ann", 7)),
+        _ => check(&rt, false),
     }
     check(&rt, !all.contains_key2(&7));
-    let spelled = all.get2(&8).map(|there| there.sign.0);
-    check(&rt, spelled == Some(*b"Ann"));
+    check(&rt, all.get2(&8).map(spelled) == Some((*b"Ann", 8)));
 }

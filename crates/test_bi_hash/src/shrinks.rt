@@ -1,22 +1,18 @@
 //! What a shrink leaves.
-use crate::checks::check;
-use crate::gaps::{left, with_gaps};
-use crate::held::{Hosts, host};
-use iddqd_bi_hash::ValidateCompact;
+use crate::held::{Hosts, check, host, left};
 use std::alloc::Global;
 use std::process::Abort;
 
 // The hosts that are left are there, and no slot is vacant.
 fn closed_up(rt: &impl Abort, all: &Hosts) {
     check(rt, all.holds(&left()));
-    check(rt, all.map.vacant() == 0);
-    check(rt, all.map.validate(ValidateCompact::Compact).is_ok());
+    check(rt, all.map.vacant() == 0 && all.is_compact());
 }
 
 // Hosts with vacant slots among them, and room for a hundred more.
 fn with_room(rt: &impl Abort, alloc: Global) -> Hosts {
-    let mut all = with_gaps(rt, alloc);
-    check(rt, all.map.reserve(100).is_ok());
+    let mut all = Hosts::with_gaps(rt, alloc);
+    check(rt, all.reserve(100).is_ok());
     check(rt, all.map.spare() >= 100 && all.map.capacity() >= 104);
     check(rt, all.map.vacant() == 2);
     all
@@ -25,7 +21,7 @@ fn with_room(rt: &impl Abort, alloc: Global) -> Hosts {
 #[test]
 fn to_fit(rt: HostRuntime) {
     let mut all = with_room(&rt, rt.alloc());
-    check(&rt, all.map.shrink_to_fit().is_ok());
+    check(&rt, all.shrink_to_fit().is_ok());
     closed_up(&rt, &all);
     check(&rt, all.map.capacity() >= 4 && all.map.capacity() < 50);
     check(&rt, all.map.spare() < 50);
@@ -35,7 +31,7 @@ fn to_fit(rt: HostRuntime) {
 #[test]
 fn to_some(rt: HostRuntime) {
     let mut all = with_room(&rt, rt.alloc());
-    check(&rt, all.map.shrink_to(20).is_ok());
+    check(&rt, all.shrink_to(20).is_ok());
     closed_up(&rt, &all);
     check(&rt, all.map.capacity() >= 20 && all.map.capacity() < 50);
     check(&rt, all.map.spare() >= 16 && all.map.spare() < 50);
@@ -46,21 +42,20 @@ fn to_some(rt: HostRuntime) {
 fn to_more_than_there_is(rt: HostRuntime) {
     let mut all = with_room(&rt, rt.alloc());
     let before = all.map.capacity();
-    check(&rt, all.map.shrink_to(5000).is_ok());
+    check(&rt, all.shrink_to(5000).is_ok());
     closed_up(&rt, &all);
-    check(&rt, all.map.capacity() == before);
-    check(&rt, all.map.spare() >= 100);
+    check(&rt, all.map.capacity() == before && all.map.spare() >= 100);
 }
 
 // The hosts that moved are removed, met and replaced by either key as before.
 #[test]
 fn changed_after_it(rt: HostRuntime) {
-    let mut all = with_gaps(&rt, rt.alloc());
-    check(&rt, all.map.shrink_to_fit().is_ok());
+    let mut all = Hosts::with_gaps(&rt, rt.alloc());
+    check(&rt, all.shrink_to_fit().is_ok());
     let [first, second, third, last] = left();
-    check(&rt, all.map.insert_unique(last).is_err());
-    check(&rt, all.map.remove1(&last.number) == Some(last));
-    check(&rt, all.map.remove2(&third.address) == Some(third));
+    check(&rt, !all.is_put(last));
+    check(&rt, all.remove1(&last.number) == Some(last));
+    check(&rt, all.remove2(&third.address) == Some(third));
     check(&rt, all.holds(&[first, second]));
     check(&rt, all.is_put(last) && all.is_put(third));
     check(&rt, all.holds(&left()));
@@ -69,10 +64,10 @@ fn changed_after_it(rt: HostRuntime) {
 #[test]
 fn without_hosts(rt: HostRuntime) {
     let mut all = with_room(&rt, rt.alloc());
-    all.map.clear();
-    check(&rt, all.map.shrink_to(10).is_ok());
+    all.clear();
+    check(&rt, all.shrink_to(10).is_ok());
     check(&rt, all.map.capacity() >= 10 && all.map.spare() >= 10);
-    check(&rt, all.map.shrink_to_fit().is_ok());
+    check(&rt, all.shrink_to_fit().is_ok());
     check(&rt, all.map.capacity() == 0 && all.map.spare() == 0);
     check(&rt, all.holds(&[]));
 }
@@ -84,8 +79,8 @@ fn many_move(rt: HostRuntime) {
     for number in 0..300u32 {
         check(&rt, all.is_put(host(299u32.saturating_sub(number))));
     }
-    all.map.retain(|there| there.number < 150);
+    all.retain(|there| there.number < 150);
     check(&rt, all.map.vacant() == 150);
-    check(&rt, all.map.shrink_to_fit().is_ok());
+    check(&rt, all.shrink_to_fit().is_ok());
     check(&rt, all.holds_below(150));
 }

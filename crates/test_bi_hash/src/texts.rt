@@ -1,8 +1,5 @@
 //! What `Debug` writes of a map, of its guards and of its writing walk.
-use crate::checks::check;
-use crate::hosts::Host;
-use crate::rows::host;
-use iddqd_bi_hash::{BiHashMap, Keyed};
+use crate::held::{Hosts, check, host_of};
 use std::alloc::Global;
 use std::fmt::Debug;
 
@@ -11,25 +8,17 @@ fn is_debugged(alloc: Global, value: &impl Debug, expected: &str) -> bool {
     format!(in alloc; "{value:?}").is_ok_and(|text| text.as_str() == expected)
 }
 
-fn none(alloc: Global) -> BiHashMap<Host>
-    ensures keyed { ⟦<BiHashMap<Host> as Keyed>⟧.keyed result }
-{
-    BiHashMap::new(alloc)
-}
-
-fn one(alloc: Global) -> BiHashMap<Host>
-    ensures keyed { ⟦<BiHashMap<Host> as Keyed>⟧.keyed result }
-{
-    let mut hosts = BiHashMap::new(alloc);
-    let _ = hosts.insert_overwrite(host(1, 101, 7));
+// A map of one host.
+fn one(alloc: Global) -> Hosts {
+    let mut hosts = Hosts::new(alloc);
+    let _ = hosts.insert_overwrite(host_of(1, 101, 7));
     hosts
 }
 
-fn two(alloc: Global) -> BiHashMap<Host>
-    ensures keyed { ⟦<BiHashMap<Host> as Keyed>⟧.keyed result }
-{
+// A map of two.
+fn two(alloc: Global) -> Hosts {
     let mut hosts = one(alloc);
-    let _ = hosts.insert_overwrite(host(2, 102, 8));
+    let _ = hosts.insert_overwrite(host_of(2, 102, 8));
     hosts
 }
 
@@ -37,55 +26,53 @@ fn two(alloc: Global) -> BiHashMap<Host>
 #[test]
 fn map_for_debugging(rt: HostRuntime) {
     let alloc = rt.alloc();
-    check(&rt, is_debugged(alloc, &none(alloc), "{}"));
+    check(&rt, is_debugged(alloc, &Hosts::new(alloc).map, "{}"));
     let items = "{Host { number: 1, address: 101, load: 7 }}";
-    check(&rt, is_debugged(alloc, &one(alloc), items));
+    check(&rt, is_debugged(alloc, &one(alloc).map, items));
 }
 
-// Two items come in either order.
+// Whether two items are written, in either order.
+fn is_either(alloc: Global, value: &impl Debug, rising: &str, falling: &str) -> bool {
+    is_debugged(alloc, value, rising) || is_debugged(alloc, value, falling)
+}
+
 #[test]
 fn two_hosts_for_debugging(rt: HostRuntime) {
-    let alloc = rt.alloc();
-    let map = two(alloc);
     let rising =
         "{Host { number: 1, address: 101, load: 7 }, Host { number: 2, address: 102, load: 8 }}";
     let falling =
         "{Host { number: 2, address: 102, load: 8 }, Host { number: 1, address: 101, load: 7 }}";
-    check(
-        &rt,
-        is_debugged(alloc, &map, rising) || is_debugged(alloc, &map, falling),
-    );
+    let alloc = rt.alloc();
+    check(&rt, is_either(alloc, &two(alloc).map, rising, falling));
 }
 
 // Both keys beside each item.
 #[test]
 fn keys_for_debugging(rt: HostRuntime) {
     let alloc = rt.alloc();
-    check(
-        &rt,
-        is_debugged(alloc, &none(alloc).debug_with_keys(), "{}"),
-    );
+    let none = Hosts::new(alloc);
+    check(&rt, is_debugged(alloc, &none.map.debug_with_keys(), "{}"));
     let keyed = "{(1, 101): Host { number: 1, address: 101, load: 7 }}";
+    let written = one(alloc);
     check(
         &rt,
-        is_debugged(alloc, &one(alloc).debug_with_keys(), keyed),
+        is_debugged(alloc, &written.map.debug_with_keys(), keyed),
     );
-    let map = two(alloc);
     let rising =
         "{(1, 101): Host { number: 1, address: 101, load: 7 }, (2, 102): Host { number: 2, address: 102, load: 8 }}";
     let falling =
         "{(2, 102): Host { number: 2, address: 102, load: 8 }, (1, 101): Host { number: 1, address: 101, load: 7 }}";
+    let written = two(alloc);
     check(
         &rt,
-        is_debugged(alloc, &map.debug_with_keys(), rising)
-            || is_debugged(alloc, &map.debug_with_keys(), falling),
+        is_either(alloc, &written.map.debug_with_keys(), rising, falling),
     );
 }
 
 // Writes a load, and shows the guard, before it is spent and after.
 #[tactic(auto, using(iddqd_bi_hash::proofs::GuardLemmas::both_keys_kept))]
 fn is_guard(alloc: Global, number: u32, expected: &str) -> bool {
-    match one(alloc).get1_mut(&number) {
+    match one(alloc).map.get1_mut(&number) {
         Some(mut found) => {
             found.load = 9;
             let is_before = is_debugged(alloc, &found, expected);
@@ -107,8 +94,6 @@ fn guards_for_debugging(rt: HostRuntime) {
 #[test]
 fn writing_walk_for_debugging(rt: HostRuntime) {
     let alloc = rt.alloc();
-    check(
-        &rt,
-        is_debugged(alloc, &one(alloc).iter_mut(), "IterMut { .. }"),
-    );
+    let mut map = one(alloc).map;
+    check(&rt, is_debugged(alloc, &map.iter_mut(), "IterMut { .. }"));
 }

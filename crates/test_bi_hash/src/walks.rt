@@ -1,16 +1,13 @@
 //! Walks over keys, walks that write, visits, and checks of the structure, some slots vacant.
-use crate::checks::check;
-use crate::gaps::{left, with_gaps};
-use crate::held::Hosts;
+use crate::held::{Hosts, check, host_of as host, left};
 use crate::hosts::Host;
-use crate::rows::host;
 use iddqd_bi_hash::{ValidateCompact, Visit};
 use std::cell::Cell;
 use test_support::heap::{arm, is_met};
 
 #[test]
 fn keys_in_the_order_of_iter(rt: HostRuntime) {
-    let all = with_gaps(&rt, rt.alloc());
+    let all = Hosts::with_gaps(&rt, rt.alloc());
     let mut numbers = all.map.keys1();
     let mut addresses = all.map.keys2();
     check(&rt, numbers.len() == 4 && addresses.len() == 4);
@@ -24,7 +21,7 @@ fn keys_in_the_order_of_iter(rt: HostRuntime) {
 
 #[test]
 fn keys_announce_how_many_come(rt: HostRuntime) {
-    let all = with_gaps(&rt, rt.alloc());
+    let all = Hosts::with_gaps(&rt, rt.alloc());
     let mut numbers = all.map.keys1();
     check(&rt, numbers.size_hint() == (4, Some(4)));
     check(&rt, numbers.next().is_some());
@@ -38,21 +35,21 @@ fn keys_announce_how_many_come(rt: HostRuntime) {
 // What is written is read by both keys.
 #[test]
 fn each_host_is_lent_once(rt: HostRuntime) {
-    let mut all = with_gaps(&rt, rt.alloc());
-    check(&rt, all.map.remove1(&3).is_some());
+    let mut all = Hosts::with_gaps(&rt, rt.alloc());
+    check(&rt, all.remove1(&3).is_some());
     check(&rt, all.raise_four() == 3);
     let raised = [host(0, 100, 1), host(2, 102, 3), host(5, 105, 6)];
     check(&rt, all.holds(&raised));
-    check(&rt, all.map.remove2(&102).is_some());
+    check(&rt, all.remove2(&102).is_some());
     check(&rt, all.raise_four() == 2);
     check(&rt, all.holds(&[host(0, 100, 2), host(5, 105, 7)]));
-    all.map.clear();
+    all.clear();
     check(&rt, all.raise_four() == 0);
 }
 
 #[test]
 fn a_writing_walk_tells_how_many_come(rt: HostRuntime) {
-    let mut map = with_gaps(&rt, rt.alloc()).map;
+    let mut map = Hosts::with_gaps(&rt, rt.alloc()).map;
     let mut walk = map.iter_mut();
     for to_come in [4, 3, 2, 1] {
         check(&rt, walk.len() == to_come);
@@ -81,73 +78,62 @@ impl Visit<Host> for KeepsEven<'_> {
     }
 }
 
+impl Hosts {
+    // Writes 7 to each load, keeps the hosts of even numbers, and returns how many are visited.
+    fn keep_even(&mut self) -> u32 {
+        let asked = Cell::new(0u32);
+        let visitor = &mut KeepsEven {
+            load: 7,
+            asked: &asked,
+        };
+        self.map.retain_mut(visitor);
+        asked.get()
+    }
+
+    fn is_sound(&self, compact: ValidateCompact) -> bool {
+        self.map.validate_structural(compact).is_ok()
+    }
+}
+
 // What a visit wrote is read by both keys, and what goes is found by neither.
 #[test]
 fn each_host_is_visited_once(rt: HostRuntime) {
-    let mut all = with_gaps(&rt, rt.alloc());
-    let asked = Cell::new(0u32);
-    all.map.retain_mut(&mut KeepsEven {
-        load: 7,
-        asked: &asked,
-    });
-    check(&rt, asked.get() == 4);
-    check(&rt, all.holds(&[host(0, 100, 7), host(2, 102, 7)]));
-    check(
-        &rt,
-        !all.map.contains_key1(&3) && !all.map.contains_key2(&103),
-    );
-    check(
-        &rt,
-        !all.map.contains_key1(&5) && !all.map.contains_key2(&105),
-    );
+    let mut all = Hosts::with_gaps(&rt, rt.alloc());
+    check(&rt, all.keep_even() == 4);
+    let (zero, two) = (host(0, 100, 7), host(2, 102, 7));
+    check(&rt, all.holds(&[zero, two]));
+    check(&rt, !all.contains_key1(&3) && !all.contains_key2(&103));
+    check(&rt, !all.contains_key1(&5) && !all.contains_key2(&105));
     check(&rt, all.map.vacant() == 4);
-    check(
-        &rt,
-        all.is_put(host(9, 103, 9)) && all.is_put(host(5, 109, 5)),
-    );
-    check(
-        &rt,
-        all.holds(&[
-            host(0, 100, 7),
-            host(2, 102, 7),
-            host(9, 103, 9),
-            host(5, 109, 5),
-        ]),
-    );
-}
-
-fn is_sound(all: &Hosts, compact: ValidateCompact) -> bool {
-    all.map.validate_structural(compact).is_ok()
+    let (nine, five) = (host(9, 103, 9), host(5, 109, 5));
+    check(&rt, all.is_put(nine) && all.is_put(five));
+    check(&rt, all.holds(&[zero, two, nine, five]));
 }
 
 // An error exactly if slots are vacant and none may be.
 #[test]
 fn structure(rt: HostRuntime) {
-    let mut all = with_gaps(&rt, rt.alloc());
-    check(&rt, is_sound(&all, ValidateCompact::NonCompact));
-    check(&rt, !is_sound(&all, ValidateCompact::Compact));
-    check(&rt, all.map.shrink_to_fit().is_ok());
-    check(&rt, is_sound(&all, ValidateCompact::NonCompact));
-    check(&rt, is_sound(&all, ValidateCompact::Compact));
+    let mut all = Hosts::with_gaps(&rt, rt.alloc());
+    check(&rt, all.is_sound(ValidateCompact::NonCompact));
+    check(&rt, !all.is_sound(ValidateCompact::Compact));
+    check(&rt, all.shrink_to_fit().is_ok());
+    check(&rt, all.is_sound(ValidateCompact::NonCompact));
+    check(&rt, all.is_sound(ValidateCompact::Compact));
 }
 
 // Without memory: writing walks, visits, keys, equality, and checks of the structure.
 #[test]
 fn walked_without_memory(rt: HostRuntime) {
-    let mut all = with_gaps(&rt, rt.alloc());
-    let other = with_gaps(&rt, rt.alloc());
-    let asked = Cell::new(0u32);
+    let mut all = Hosts::with_gaps(&rt, rt.alloc());
+    let other = Hosts::with_gaps(&rt, rt.alloc());
     arm(rt.alloc());
-    check(&rt, all.map.eq(&other.map));
+    check(&rt, all.eq(&other));
     check(&rt, all.map.keys1().count() == 4);
     check(&rt, all.map.keys2().count() == 4);
-    check(&rt, !is_sound(&all, ValidateCompact::Compact));
+    check(&rt, !all.is_sound(ValidateCompact::Compact));
     check(&rt, all.raise_four() == 4);
-    check(&rt, !all.map.eq(&other.map));
-    all.map.retain_mut(&mut KeepsEven {
-        load: 7,
-        asked: &asked,
-    });
+    check(&rt, !all.eq(&other));
+    check(&rt, all.keep_even() == 4);
     check(&rt, all.holds(&[host(0, 100, 7), host(2, 102, 7)]));
     check(&rt, !is_met(rt.alloc()));
 }

@@ -1,12 +1,12 @@
 //! How often the calls on all items, or on many, compare and hash the keys.
-use crate::checks::check;
-use crate::counts::{counted, three};
-use crate::tallies::{Counted, Tallies};
-use iddqd_bi_hash::{BiHashMap, ExtendUniqueError, Keyed, TryReserveError, ValidateCompact, Visit};
+use crate::held::check;
+use crate::tallies::{Counted, Tallies, is_put};
+use iddqd_bi_hash::{BiHashMap, ExtendUniqueError, Keyed, ValidateCompact, Visit};
+use std::alloc::Global;
 use std::test::Fail;
 use test_support::bulk::Hinted;
 
-fn lend_all<'a>(all: &mut BiHashMap<Counted<'a>>) -> bool
+fn lends_three<'a>(all: &mut BiHashMap<Counted<'a>>) -> bool
     requires keyed { ⟦<BiHashMap<Counted<'a>> as Keyed>⟧.keyed all.old }
 {
     let mut walk = all.iter_mut();
@@ -19,16 +19,12 @@ fn lend_all<'a>(all: &mut BiHashMap<Counted<'a>>) -> bool
 #[test]
 fn walks(rt: HostRuntime) {
     let tallies = Tallies::new();
-    let all = three(&rt, rt.alloc(), &tallies);
-    check(&rt, all.keys1().count() == 3);
-    check(&rt, all.keys2().count() == 3);
-    check(
-        &rt,
-        all.validate_structural(ValidateCompact::Compact).is_ok(),
-    );
-    counted(&rt, &tallies, (0, 0, 0, 0));
-    check(&rt, lend_all(&mut three(&rt, rt.alloc(), &tallies)));
-    counted(&rt, &tallies, (0, 0, 0, 0));
+    let mut map = tallies.three(&rt, rt.alloc());
+    check(&rt, map.keys1().count() == 3);
+    check(&rt, map.keys2().count() == 3);
+    let checked = map.validate_structural(ValidateCompact::Compact);
+    tallies.tell(&rt, checked.is_ok(), (0, 0, 0, 0));
+    tallies.tell(&rt, lends_three(&mut map), (0, 0, 0, 0));
 }
 
 // Keeps the items of first keys above one.
@@ -57,86 +53,75 @@ fn keep_above_one<'a>(all: &mut BiHashMap<Counted<'a>>) -> usize
 #[test]
 fn visits_and_shrinks(rt: HostRuntime) {
     let tallies = Tallies::new();
-    let mut all = three(&rt, rt.alloc(), &tallies);
-    check(&rt, keep_above_one(&mut all) == 2);
-    counted(&rt, &tallies, (0, 1, 0, 1));
-    check(&rt, keep_above_one(&mut all) == 2);
-    counted(&rt, &tallies, (0, 0, 0, 0));
+    let mut all = tallies.three(&rt, rt.alloc());
+    tallies.tell(&rt, keep_above_one(&mut all) == 2, (0, 1, 0, 1));
+    tallies.tell(&rt, keep_above_one(&mut all) == 2, (0, 0, 0, 0));
     check(&rt, all.vacant() == 1);
-    check(&rt, all.shrink_to(3).is_ok() && all.vacant() == 0);
-    counted(&rt, &tallies, (0, 1, 0, 1));
-    check(&rt, all.shrink_to_fit().is_ok());
-    counted(&rt, &tallies, (0, 0, 0, 0));
-}
-
-// Copies the map, and returns how many items the copy has.
-fn length_of_copy<'a>(all: &BiHashMap<Counted<'a>>) -> usize
-    requires keyed { ⟦<BiHashMap<Counted<'a>> as Keyed>⟧.keyed all.now }
-{
-    match all.clone() {
-        Ok(copy) => copy.len(),
-        Err(_error) => 0,
-    }
+    let is_shrunk = all.shrink_to(3).is_ok() && all.vacant() == 0;
+    tallies.tell(&rt, is_shrunk, (0, 1, 0, 1));
+    tallies.tell(&rt, all.shrink_to_fit().is_ok(), (0, 0, 0, 0));
 }
 
 #[test]
 fn copies(rt: HostRuntime) {
     let tallies = Tallies::new();
-    let all = three(&rt, rt.alloc(), &tallies);
-    check(&rt, length_of_copy(&all) == 3);
-    counted(&rt, &tallies, (0, 0, 0, 0));
+    let copy = tallies.three(&rt, rt.alloc()).clone();
+    let is_made = copy.is_ok_and(|copy| copy.len() == 3);
+    tallies.tell(&rt, is_made, (0, 0, 0, 0));
 }
 
 // Each first key is hashed once and finds one. Then the items' own `==` compares both keys once.
 #[test]
 fn equality(rt: HostRuntime) {
     let tallies = Tallies::new();
-    let one = three(&rt, rt.alloc(), &tallies);
-    let mut other = three(&rt, rt.alloc(), &tallies);
-    check(&rt, one.eq(&other));
-    counted(&rt, &tallies, (6, 3, 3, 0));
-    check(&rt, other.insert_unique(tallies.item(4, 8)).is_ok());
-    let _ = tallies.since();
-    check(&rt, !one.eq(&other) && !other.eq(&one));
-    counted(&rt, &tallies, (0, 0, 0, 0));
+    let one = tallies.three(&rt, rt.alloc());
+    let mut other = tallies.three(&rt, rt.alloc());
+    tallies.tell(&rt, one.eq(&other), (6, 3, 3, 0));
+    let is_in = is_put(&mut other, tallies.item(4, 8));
+    tallies.tell(&rt, is_in, (0, 1, 0, 1));
+    let is_unequal = !one.eq(&other) && !other.eq(&one);
+    tallies.tell(&rt, is_unequal, (0, 0, 0, 0));
 }
 
 // As the insertions one by one: the last displaces two, and their other keys are hashed.
 #[test]
 fn extend(rt: HostRuntime) {
     let tallies = Tallies::new();
-    let mut all = three(&rt, rt.alloc(), &tallies);
+    let mut all = tallies.three(&rt, rt.alloc());
     let items = [tallies.item(4, 8), tallies.item(5, 10)];
-    check(&rt, all.extend(Hinted::new(&items, 0)).is_ok());
-    counted(&rt, &tallies, (0, 2, 0, 2));
+    let extended = all.extend(Hinted::new(&items, 0));
+    tallies.tell(&rt, extended.is_ok(), (0, 2, 0, 2));
     let items = [tallies.item(9, 18), tallies.item(1, 4)];
-    check(&rt, all.extend(Hinted::new(&items, 2)).is_ok());
-    counted(&rt, &tallies, (1, 3, 1, 3));
+    let extended = all.extend(Hinted::new(&items, 2));
+    tallies.tell(&rt, extended.is_ok(), (1, 3, 1, 3));
     check(&rt, all.len() == 5);
+}
+
+// Whether a repeat ends the insertion of the items.
+fn is_repeated<'a>(all: &mut BiHashMap<Counted<'a>>, items: &[Counted<'a>]) -> bool
+    requires keyed { ⟦<BiHashMap<Counted<'a>> as Keyed>⟧.keyed all.old }
+{
+    matches!(
+        all.extend_unique(Hinted::new(items, 0)),
+        Err(ExtendUniqueError::Duplicate(_))
+    )
 }
 
 // At the repeat each key is hashed, and finds one. No item behind it is asked for.
 #[test]
 fn extend_unique(rt: HostRuntime) {
     let tallies = Tallies::new();
-    let mut all = three(&rt, rt.alloc(), &tallies);
+    let mut all = tallies.three(&rt, rt.alloc());
     let items = [tallies.item(4, 8), tallies.item(5, 10)];
-    check(&rt, all.extend_unique(Hinted::new(&items, 0)).is_ok());
-    counted(&rt, &tallies, (0, 2, 0, 2));
+    let extended = all.extend_unique(Hinted::new(&items, 0));
+    tallies.tell(&rt, extended.is_ok(), (0, 2, 0, 2));
     let items = [tallies.item(6, 12), tallies.item(1, 4), tallies.item(7, 14)];
-    check(
-        &rt,
-        matches!(
-            all.extend_unique(Hinted::new(&items, 0)),
-            Err(ExtendUniqueError::Duplicate(_))
-        ),
-    );
-    counted(&rt, &tallies, (1, 2, 1, 2));
+    tallies.tell(&rt, is_repeated(&mut all, &items), (1, 2, 1, 2));
     check(&rt, all.len() == 6);
 }
 
-fn length_made(made: Result<BiHashMap<Counted<'_>>, TryReserveError>) -> usize {
-    match made {
+fn length_collected(alloc: Global, items: &[Counted<'_>]) -> usize {
+    match BiHashMap::<Counted>::from_iter(alloc, Hinted::new(items, 0)) {
         Ok(map) => map.len(),
         Err(_error) => 0,
     }
@@ -146,16 +131,11 @@ fn length_made(made: Result<BiHashMap<Counted<'_>>, TryReserveError>) -> usize {
 #[test]
 fn from_iter(rt: HostRuntime) -> Result<(), Fail> {
     let tallies = Tallies::new();
-    let mut items = Vec::new(rt.alloc());
-    for number in 0..100u32 {
-        items.push(tallies.item(number, number))?;
-    }
-    let made = BiHashMap::from_iter(rt.alloc(), Hinted::new(items.as_slice(), 0));
-    check(&rt, length_made(made) == 100);
-    counted(&rt, &tallies, (0, 100, 0, 100));
+    let items = tallies.hundred(rt.alloc())?;
+    let length = length_collected(rt.alloc(), items.as_slice());
+    tallies.tell(&rt, length == 100, (0, 100, 0, 100));
     let items = [tallies.item(1, 2), tallies.item(2, 4), tallies.item(1, 4)];
-    let made = BiHashMap::from_iter(rt.alloc(), Hinted::new(&items, 0));
-    check(&rt, length_made(made) == 1);
-    counted(&rt, &tallies, (1, 4, 1, 4));
+    let length = length_collected(rt.alloc(), &items);
+    tallies.tell(&rt, length == 1, (1, 4, 1, 4));
     Ok(())
 }
