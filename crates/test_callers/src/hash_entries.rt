@@ -5,6 +5,7 @@ ghost use Rattle.iddqd.specs.IdHashMap.{IsKeyedByText};
 ghost use Rattle.test_callers.specs.Lookups.{AddsIfNew, AddsPairIfNew, KeepsOtherNames, Replaces, SetsAtKey, of_key, of_name, with_value, without_name};
 ghost use Rattle.test_writers.specs.Pairs.{pair_at};
 
+use iddqd::errors::Refused;
 use iddqd::id_hash_map::Entry;
 use iddqd::{IdHashMap, Keyed, Text};
 use std::hash::BuildHasher;
@@ -120,6 +121,15 @@ fn add_or_leave(map: &mut IdHashMap<Named>, item: Named) -> bool
     };
     found.finish();
     true
+}
+
+/// The same, by `?`.
+fn add_or_pass_on(map: &mut IdHashMap<Named>, item: Named) -> Result<(), Refused<Named>>
+    requires keyed { IsKeyedByText (λ x. x.name) map.old }
+    ensures keyed { IsKeyedByText (λ x. x.name) map.new }
+{
+    map.entry(&item.name).or_insert(item)?.finish();
+    Ok(())
 }
 
 /// Writes the value through the entry, and then removes the item.

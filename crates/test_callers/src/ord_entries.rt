@@ -3,10 +3,9 @@ ghost use Rattle.std.specs.Prelude.{◌≡◌, ◌-◌, IfNone, IfSome, IsTrue, 
 ghost use Rattle.std.specs.Ordering.{nat_cmp};
 ghost use Rattle.std.specs.String.{string_cmp};
 ghost use Rattle.iddqd.specs.Contents.{AddsItem, Ascends};
-ghost use Rattle.test_callers.specs.Lookups.{AddsIfNew, AddsPairIfNew, KeepsOtherNames, ReadsAtName, Replaces, SetsAtKey, SetsFirst, SumsAtName, last_of, of_key, of_name, with_value, without_name};
+ghost use Rattle.test_callers.specs.Lookups.{AddsIfNew, AddsPairIfNew, Replaces, SetsAtKey, SetsFirst, last_of, of_key, of_name, with_value, without_name};
 ghost use Rattle.test_writers.specs.Pairs.{pair_at};
 
-use iddqd::errors::Refused;
 use iddqd::id_ord_map::Entry;
 use iddqd::{IdOrdMap, Text};
 use test_writers::items::{Named, Pair, SetsValue};
@@ -42,24 +41,6 @@ fn replace(map: &mut IdOrdMap<Named>, item: Named) -> Option<Named>
     match map.entry(&item.name) {
         Entry::Occupied(mut entry) => Some(entry.insert(item)),
         Entry::Vacant(_) => None,
-    }
-}
-
-/// Writes the value of the name through its entry.
-#[tactic(auto, using(iddqd::proofs::ChangeLemmas::after_changes))]
-fn set_value(map: &mut IdOrdMap<Named>, name: &str, value: u32) -> bool
-    requires keyed { Ascends (λ x. x.name) string_cmp map.old.items }
-    ensures read { ReadsAtName name.now value map.old.items map.new.items }
-    ensures others { KeepsOtherNames name.now map.old.items map.new.items }
-    ensures sum { SumsAtName name.now value map.old.items map.new.items }
-    ensures keyed { Ascends (λ x. x.name) string_cmp map.new.items }
-{
-    match map.entry(&Text(name)) {
-        Entry::Occupied(mut entry) => {
-            entry.get_mut().value = value;
-            true
-        }
-        Entry::Vacant(_) => false,
     }
 }
 
@@ -119,15 +100,6 @@ fn set_first(map: &mut IdOrdMap<Pair>, value: u32)
     if let Some(mut entry) = map.first_entry() {
         entry.get_mut().value = value;
     }
-}
-
-/// Adds the item if its name is not there, and passes a refusal on: `?`.
-fn add_or_pass_on(map: &mut IdOrdMap<Named>, item: Named) -> Result<(), Refused<Named>>
-    requires keyed { Ascends (λ x. x.name) string_cmp map.old.items }
-    ensures keyed { Ascends (λ x. x.name) string_cmp map.new.items }
-{
-    map.entry(&item.name).or_insert(item)?.finish();
-    Ok(())
 }
 
 /// Writes a value through the entry, and another one through its guard.
