@@ -1,5 +1,5 @@
 -- What callers say of the events of one time.
-use Rattle.std.specs.Prelude.{ℕ, ◌-◌, ◌==◌, ◌&&◌, List, Option, filter, length, nat_le, slice_get}
+use Rattle.std.specs.Prelude.{ℕ, ◌-◌, ◌==◌, List, Option, filter, length, slice_get}
 use Rattle.iddqd.specs.Contents.{items_without}
 use Rattle.test_callers.specs.declared.items.Event.{Event}
 
@@ -10,10 +10,6 @@ of_time time events = filter (λ e. time == e.at.time) events
 -- the last of them
 abbrev pub last_of_time : ℕ → List Event → Option Event
 last_of_time time events = slice_get (of_time time events) (length (of_time time events) - 1)
-
--- those whose number at that time is no greater
-abbrev pub of_time_to : (time seq : ℕ) → List Event → List Event
-of_time_to time seq events = filter (λ e. (time == e.at.time) && nat_le e.at.seq seq) events
 
 -- all of other times
 abbrev pub without_time : ℕ → List Event → List Event

@@ -1,6 +1,6 @@
 -- What a lookup by a text, by a key or by a number finds, the items with another one in its place, and what a caller writes, adds
 -- or removes by them.
-use Rattle.std.specs.Prelude.{◌≡◌, ◌≢◌, ℕ, ◌+◌, ◌-◌, ◌==◌, Bool, IsTrue, List, Option, Some, IfNone, IfSome, String, length, slice_get, slice_set, option_map, string_bytes, sum_by, unwrap_or}
+use Rattle.std.specs.Prelude.{◌≡◌, ◌≢◌, ℕ, ◌+◌, ◌-◌, ◌==◌, List, Option, Some, IfNone, IfSome, String, length, slice_get, slice_set, option_map, string_bytes, sum_by, unwrap_or}
 use Rattle.std.specs.Str.{bytes_eq}
 use Rattle.std.specs.String.{string_eq}
 use Rattle.std.specs.declared.alloc.Global.{Global}
@@ -24,9 +24,6 @@ put_at_key name y items = items_overwritten (λ x. x.name) (string_eq name) y it
 
 abbrev pub of_number : ℕ → List Noted → Option Noted
 of_number number items = find_item (λ x. x.number) (λ k. number == k) items
-
-abbrev pub put_at_number : ℕ → Noted → List Noted → List Noted
-put_at_number number y items = items_overwritten (λ x. x.number) (λ k. number == k) y items
 
 -- each other name, or number, finds what it found
 abbrev pub KeepsOtherNames : List ℕ → (old new : List Named) → Type 0
@@ -69,10 +66,6 @@ ReadsAtName name value old new = IfSome (of_name name old) (λ x. of_name name n
 abbrev pub SumsAtName : List ℕ → ℕ → (old new : List Named) → Type 0
 SumsAtName name value old new = IfSome (of_name name old) (λ x. total new + x.value ≡ total old + value)
 
--- if there is an item of the number, the note is written to it, and all else is as it was
-abbrev pub SetsNote : ℕ → String Global → (old new : List Noted) → Type 0
-SetsNote number note old new = IfSome (of_number number old) (λ x. new ≡ put_at_number number (record x { note = note }) old)
-
 -- if there is a first pair, the value is written to it, and all else is as it was
 abbrev pub SetsFirst : ℕ → (old new : List Pair) → Type 0
 SetsFirst value old new = IfSome (slice_get old 0) (λ p. new ≡ slice_set old 0 (record p { value = value }))
@@ -87,11 +80,3 @@ AddsIfNew item old new = IfNone (of_key item.name old) (AddsItem item old new)
 
 abbrev pub AddsPairIfNew : (key value : ℕ) → (old new : List Pair) → Type 0
 AddsPairIfNew key value old new = IfNone (pair_at key old) (AddsItem (record { key = key; value = value }) old new)
-
--- if there is an item whose key passes the test, its key is equal to y's
-abbrev pub FindsEqualKey : {T K : Type 0} → (T → K) → (K → K → Bool) → (K → Bool) → T → List T → Type 0
-FindsEqualKey key eq test y items = IfSome (find_item key test items) (λ x. IsTrue (eq (key x) (key y)))
-
--- if there is an item whose key passes the test, y is in its place, and all else is as it was
-abbrev pub PutsInPlace : {T K : Type 0} → (T → K) → (K → Bool) → T → (old new : List T) → Type 0
-PutsInPlace key test y old new = IfSome (find_item key test old) (λ _. new ≡ items_overwritten key test y old)

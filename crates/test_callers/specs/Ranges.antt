@@ -1,5 +1,5 @@
 -- What callers say of positions and ranges of pairs and of names.
-use Rattle.std.specs.Prelude.{◌≡◌, ℕ, ◌-◌, false, List, Option, Some, IfSome, option_map, count_by, filter, length, slice_get, slice_set, string_bytes}
+use Rattle.std.specs.Prelude.{◌≡◌, ℕ, ◌-◌, false, List, Option, Some, IfSome, count_by, filter, length, slice_get, slice_set, string_bytes}
 use Rattle.std.specs.Cmp.Lexicographic.{slice_cmp}
 use Rattle.std.specs.Ordering.{is_ge, is_gt, is_le, nat_cmp}
 use Rattle.std.specs.declared.ops.Bound.TheVariants.{Included, Excluded}
@@ -9,10 +9,6 @@ use Rattle.test_writers.specs.declared.items.Named.{Named}
 use Rattle.test_writers.specs.declared.items.Pair.{Pair}
 use Rattle.test_writers.specs.Pairs.{pair_at}
 
--- the pairs whose keys are not less than the first number, and less than the second
-abbrev pub pairs_between : ℕ → ℕ → List Pair → List Pair
-pairs_between from to pairs = items_between nat_cmp (λ p. p.key) (Included from) (Excluded to) pairs
-
 -- the pair of the greatest key that is not above the number
 abbrev pub last_pair_to : ℕ → List Pair → Option Pair
 last_pair_to key pairs =
@@ -21,9 +17,6 @@ last_pair_to key pairs =
 
 abbrev pub rank_of_key : ℕ → List Pair → ℕ
 rank_of_key key pairs = count_by (λ p. is_gt (nat_cmp key p.key)) pairs
-
-abbrev pub value_of_last : List Pair → Option ℕ
-value_of_last pairs = option_map (λ p. p.value) (slice_get pairs (length pairs - 1))
 
 -- how many names there are from one text up to another
 abbrev pub name_count_between : List ℕ → List ℕ → List Named → ℕ

@@ -1,24 +1,15 @@
 //! The kind of a refusal, out of the errors of the maps.
 
+use iddqd::IdHashMap;
 use iddqd::errors::{
     ExtendError, ExtendUniqueError, FromIterError, InsertError, Refused, TryReserveError,
 };
-use iddqd::{IdHashMap, IdOrdMap};
 use std::alloc::{AllocError, Global};
 use test_writers::items::Named;
 
 /// Prints it out of what makes a hash map, beside a duplicate that is not moved out.
 fn collected(alloc: Global, items: Vec<Named>) -> Result<String, AllocError> {
     match IdHashMap::<Named>::from_iter_unique(alloc, items) {
-        Ok(all) => format!(in alloc; "{}", all.len()),
-        Err(FromIterError::Duplicate(_)) => format!(in alloc; "twice"),
-        Err(FromIterError::Refused(error)) => format!(in alloc; "{error}"),
-    }
-}
-
-/// The same of an ordered map.
-fn collected_in_order(alloc: Global, items: Vec<Named>) -> Result<String, AllocError> {
-    match IdOrdMap::<Named>::from_iter_unique(alloc, items) {
         Ok(all) => format!(in alloc; "{}", all.len()),
         Err(FromIterError::Duplicate(_)) => format!(in alloc; "twice"),
         Err(FromIterError::Refused(error)) => format!(in alloc; "{error}"),

@@ -1,6 +1,5 @@
 //! Adding many items to a hash map.
 ghost use Rattle.std.specs.Prelude.{◌≡◌, ◌≤◌, ◌++◌, [], IfSome, IsTrue, IsPermutation};
-ghost use Rattle.std.specs.List.{AllZip};
 ghost use Rattle.std.specs.String.{string_eq};
 ghost use Rattle.iddqd.specs.Contents.{NoTwoAkin};
 ghost use Rattle.iddqd.specs.IdHashMap.{IsKeyedByText};
@@ -30,18 +29,6 @@ fn add_and_show<S: BuildHasher>(
             Some((*conflict.new_item(), there))
         }
         Err(ExtendUniqueError::Refused(_)) => None,
-    }
-}
-
-/// Adds items up to the first whose name is there, and returns the value of the one that is there.
-fn add_named(all: &mut IdHashMap<Named>, items: Vec<Named>) -> Option<u32>
-    requires keyed { IsKeyedByText (λ x. x.name) all.old }
-    ensures keyed { IsKeyedByText (λ x. x.name) all.new }
-{
-    match all.extend_unique(items) {
-        Ok(()) => None,
-        Err(ExtendUniqueError::Duplicate(both)) => Some(both.duplicates().first().value),
-        Err(ExtendUniqueError::Refused(_refused)) => None,
     }
 }
 
@@ -112,16 +99,4 @@ fn trim(all: &mut IdHashMap<Named>) -> bool
     ensures keyed { IsKeyedByText (λ x. x.name) all.new }
 {
     all.shrink_to(8).is_ok()
-}
-
-/// A map of the same pairs.
-fn copied(map: &IdHashMap<Pair>) -> Option<IdHashMap<Pair>>
-    requires keyed { ⟦<IdHashMap<Pair> as Keyed>⟧.keyed map.now }
-    ensures same { IfSome result (λ copy. AllZip (λ x y. y ≡ x) map.now.items copy.items) }
-    ensures keyed { IfSome result (λ copy. ⟦<IdHashMap<Pair> as Keyed>⟧.keyed copy) }
-{
-    match map.clone() {
-        Ok(copy) => Some(copy),
-        Err(_error) => None,
-    }
 }

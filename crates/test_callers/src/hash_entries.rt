@@ -2,7 +2,7 @@
 ghost use Rattle.std.specs.Prelude.{◌≡◌, IfNone, IfSome, IsTrue, OnSome, Some, false, option_map, string_bytes, unwrap_or};
 ghost use Rattle.iddqd.specs.Contents.{AddsItem};
 ghost use Rattle.iddqd.specs.IdHashMap.{IsKeyedByText};
-ghost use Rattle.test_callers.specs.Lookups.{AddsIfNew, AddsPairIfNew, KeepsOtherNames, ReadsAtName, Replaces, SetsAtKey, SumsAtName, of_key, of_name, with_value, without_name};
+ghost use Rattle.test_callers.specs.Lookups.{AddsIfNew, AddsPairIfNew, KeepsOtherNames, Replaces, SetsAtKey, of_key, of_name, with_value, without_name};
 ghost use Rattle.test_writers.specs.Pairs.{pair_at};
 
 use iddqd::errors::Refused;
@@ -41,37 +41,6 @@ fn replace(map: &mut IdHashMap<Named>, item: Named) -> Option<Named>
 {
     match map.entry(&item.name) {
         Entry::Occupied(mut entry) => Some(entry.insert(item)),
-        Entry::Vacant(_) => None,
-    }
-}
-
-/// Writes the value of the name through its entry.
-#[tactic(auto, using(iddqd::proofs::ChangeLemmas::after_changes))]
-fn set_value(map: &mut IdHashMap<Named>, name: &str, value: u32) -> bool
-    requires keyed { IsKeyedByText (λ x. x.name) map.old }
-    ensures read { ReadsAtName name.now value map.old.items map.new.items }
-    ensures others { KeepsOtherNames name.now map.old.items map.new.items }
-    ensures sum { SumsAtName name.now value map.old.items map.new.items }
-    ensures keyed { IsKeyedByText (λ x. x.name) map.new }
-{
-    match map.entry(&Text(name)) {
-        Entry::Occupied(mut entry) => {
-            entry.get_mut().value = value;
-            true
-        }
-        Entry::Vacant(_) => false,
-    }
-}
-
-/// Removes the item of the name.
-fn take(map: &mut IdHashMap<Named>, name: &str) -> Option<Named>
-    requires keyed { IsKeyedByText (λ x. x.name) map.old }
-    ensures found { result ≡ of_name name.now map.old.items }
-    ensures left { map.new.items ≡ without_name name.now map.old.items }
-    ensures keyed { IsKeyedByText (λ x. x.name) map.new }
-{
-    match map.entry(&Text(name)) {
-        Entry::Occupied(entry) => Some(entry.remove()),
         Entry::Vacant(_) => None,
     }
 }
@@ -125,23 +94,6 @@ fn ensure_present(map: &mut IdHashMap<Named>, item: Named) -> bool
     keep_or_add(map, item)
 }
 
-/// The value of the item of that name, or of this one, which is added.
-fn value_or(map: &mut IdHashMap<Named>, item: Named) -> Option<u32>
-    requires keyed { IsKeyedByText (λ x. x.name) map.old }
-    ensures found { IfSome (of_key item.name map.old.items) (λ x. result ≡ Some x.value) }
-    ensures unchanged { IfSome (of_key item.name map.old.items) (λ _. map.new ≡ map.old) }
-    ensures added { OnSome result (AddsIfNew item map.old.items map.new.items) }
-    ensures kept { IfNone result (map.new.items ≡ map.old.items) }
-{
-    match map.entry(&item.name).or_insert(item) {
-        Ok(found) => {
-            let shown = found.into_ref();
-            Some(shown.value)
-        }
-        Err(_refused) => None,
-    }
-}
-
 /// Shows the value of the key, or adds the key with this one.
 fn show_or_add<S: BuildHasher>(map: &mut IdHashMap<Pair, S>, key: u32, value: u32) -> Option<u32>
     requires keyed { ⟦<IdHashMap<Pair, S> as Keyed>⟧.keyed map.old }
@@ -192,22 +144,6 @@ fn write_and_take(map: &mut IdHashMap<Named>, name: &str, value: u32) -> Option<
         Entry::Occupied(mut entry) => {
             entry.get_mut().value = value;
             Some(entry.remove())
-        }
-        Entry::Vacant(_) => None,
-    }
-}
-
-/// Writes the value through the entry, and then puts the item in the place of what is there, which is returned.
-#[tactic(auto, using(iddqd::proofs::GuardLemmas::read_back))]
-fn write_and_replace(map: &mut IdHashMap<Named>, item: Named, value: u32) -> Option<Named>
-    requires keyed { IsKeyedByText (λ x. x.name) map.old }
-    ensures found { result ≡ option_map (with_value value) (of_key item.name map.old.items) }
-    ensures keyed { IsKeyedByText (λ x. x.name) map.new }
-{
-    match map.entry(&item.name) {
-        Entry::Occupied(mut entry) => {
-            entry.get_mut().value = value;
-            Some(entry.insert(item))
         }
         Entry::Vacant(_) => None,
     }

@@ -1,9 +1,9 @@
-//! Insertions into a hash map, with the result matched in each form.
+//! Insertions into a hash map, with the result matched in each form, and removals.
 ghost use Rattle.std.specs.Prelude.{◌≡◌, ◌+◌, IfSome, IsTrue, None, Some, length, string_bytes};
 ghost use Rattle.iddqd.specs.IdHashMap.{IsKeyedByText};
 ghost use Rattle.test_callers.specs.Lookups.{KeepsOtherNames, KeepsOtherNumbers, of_key, of_name, of_number, total, value_of};
 
-use crate::items::{Noted, Tagged, Titled};
+use crate::items::{Noted, Tagged};
 use iddqd::errors::InsertError;
 use iddqd::{IdHashMap, Keyed, Text};
 use test_writers::items::Named;
@@ -32,17 +32,6 @@ fn add(all: &mut IdHashMap<Noted>, item: Noted) -> bool
     match all.insert_unique(item) {
         Ok(()) => true,
         Err(InsertError::Duplicate(_) | InsertError::Refused(_)) => false,
-    }
-}
-
-/// One arm for both errors.
-fn add_titled(all: &mut IdHashMap<Titled>, item: Titled) -> bool
-    requires keyed { IsKeyedByText (λ x. x.title) all.old }
-    ensures keyed { IsKeyedByText (λ x. x.title) all.new }
-{
-    match all.insert_unique(item) {
-        Ok(()) => true,
-        Err(_error) => false,
     }
 }
 
@@ -112,17 +101,6 @@ fn remove(all: &mut IdHashMap<Named>, name: &str) -> Option<Named>
     ensures keyed { IsKeyedByText (λ x. x.name) all.new }
 {
     all.remove(&Text(name))
-}
-
-/// The same of a number.
-#[tactic(auto, using(iddqd::proofs::ChangeLemmas::after_changes))]
-fn remove_noted(all: &mut IdHashMap<Noted>, number: u32) -> Option<Noted>
-    requires keyed { ⟦<IdHashMap<Noted> as Keyed>⟧.keyed all.old }
-    ensures gone { of_number number all.new.items ≡ None }
-    ensures others { KeepsOtherNumbers number all.old.items all.new.items }
-    ensures keyed { ⟦<IdHashMap<Noted> as Keyed>⟧.keyed all.new }
-{
-    all.remove(&number)
 }
 
 /// After `clear` nothing is found.

@@ -1,7 +1,7 @@
 //! Callers of a hash map with text keys whose hasher has a random seed.
-ghost use Rattle.std.specs.Prelude.{◌≡◌, IsTrue, Some};
+ghost use Rattle.std.specs.Prelude.{◌≡◌};
 ghost use Rattle.iddqd.specs.IdHashMap.{IsKeyedByTextUnder, random_hash};
-ghost use Rattle.test_callers.specs.Lookups.{of_key, of_name};
+ghost use Rattle.test_callers.specs.Lookups.{of_name};
 
 use iddqd::{IdHashMap, Text};
 use std::alloc::Global;
@@ -13,16 +13,6 @@ fn made(alloc: Global, state: RandomState) -> IdHashMap<Named, RandomState>
     ensures keyed { IsKeyedByTextUnder random_hash (λ x. x.name) result }
 {
     IdHashMap::with_hasher(alloc, state)
-}
-
-/// What was inserted is found.
-#[tactic(auto, using(iddqd::proofs::ChangeLemmas::after_changes))]
-fn add(all: &mut IdHashMap<Named, RandomState>, item: Named) -> bool
-    requires keyed { IsKeyedByTextUnder random_hash (λ x. x.name) all.old }
-    ensures found { IsTrue result → of_key item.name all.new.items ≡ Some item }
-    ensures keyed { IsKeyedByTextUnder random_hash (λ x. x.name) all.new }
-{
-    all.insert_unique(item).is_ok()
 }
 
 /// A lookup by a text.

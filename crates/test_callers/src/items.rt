@@ -1,4 +1,4 @@
-//! Items that hold text or a list, by number, by text, and by two numbers.
+//! Items that hold text or a list, by number and by two numbers.
 
 ghost use Rattle.std.specs.Prelude.{nat_lt};
 ghost use Rattle.test_callers.specs.Groups.{taken_off};
@@ -34,35 +34,6 @@ impl IdHashItem for Noted {
     }
 }
 
-/// Two texts.
-#[derive(Drop)]
-pub(crate) struct Titled {
-    /// What it is found by.
-    pub(crate) title: String,
-    /// What is noted.
-    pub(crate) note: String,
-}
-
-impl IdOrdItem for Titled {
-    type Key = String;
-
-    ghost key = { λ item. item.title };
-
-    fn key(&self) -> &String {
-        &self.title
-    }
-}
-
-impl IdHashItem for Titled {
-    type Key = String;
-
-    ghost key = { λ item. item.title };
-
-    fn key(&self) -> &String {
-        &self.title
-    }
-}
-
 /// A number and others.
 #[derive(Drop)]
 pub(crate) struct Tagged {
@@ -70,16 +41,6 @@ pub(crate) struct Tagged {
     pub(crate) number: u32,
     /// What it is tagged with.
     pub(crate) tags: Vec<u32>,
-}
-
-impl IdOrdItem for Tagged {
-    type Key = u32;
-
-    ghost key = { λ item. item.number };
-
-    fn key(&self) -> &u32 {
-        &self.number
-    }
 }
 
 impl IdHashItem for Tagged {

@@ -24,7 +24,6 @@ mod ord_ranges;
 mod ord_walks;
 mod own_keys;
 mod parts;
-mod registry;
 mod runs;
 mod stock;
 mod sums;

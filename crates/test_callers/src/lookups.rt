@@ -1,14 +1,13 @@
 //! Lookups in both maps.
-ghost use Rattle.std.specs.Prelude.{◌≡◌, ◌∷◌, [], IfNone, IfSome, option_copied, option_map};
+ghost use Rattle.std.specs.Prelude.{◌≡◌, ◌∷◌, [], IfNone, IfSome, option_map};
 ghost use Rattle.std.specs.Ordering.{nat_cmp};
 ghost use Rattle.std.specs.String.{string_cmp};
 ghost use Rattle.iddqd.specs.Contents.{Ascends};
 ghost use Rattle.iddqd.specs.IdHashMap.{IsKeyedByText};
-ghost use Rattle.test_callers.specs.Lookups.{of_name, of_number};
+ghost use Rattle.test_callers.specs.Lookups.{of_name};
 
 use crate::items::Noted;
-use iddqd::{IdHashMap, IdOrdMap, Keyed, Text};
-use std::hash::BuildHasher;
+use iddqd::{IdHashMap, IdOrdMap, Text};
 use test_writers::items::Named;
 
 /// The value of the name, in an ordered map.
@@ -25,22 +24,6 @@ fn hash_value_of(map: &IdHashMap<Named>, name: &str) -> Option<u32>
     ensures { result ≡ option_map (λ x. x.value) (of_name name.now map.now.items) }
 {
     Some(map.get(&Text(name))?.value)
-}
-
-/// The note of the number, in a hash map under any hasher.
-fn note_of<S: BuildHasher>(map: &IdHashMap<Noted, S>, number: u32) -> Option<&String>
-    requires keyed { ⟦<IdHashMap<Noted, S> as Keyed>⟧.keyed map.now }
-    ensures { option_copied result ≡ option_map (λ x. x.note) (of_number number map.now.items) }
-{
-    Some(&map.get(&number)?.note)
-}
-
-/// The item of the number, in an ordered map.
-fn read(log: &IdOrdMap<Noted>, number: u32) -> Option<&Noted>
-    requires keyed { Ascends (λ x. x.number) nat_cmp log.now.items }
-    ensures { option_copied result ≡ of_number number log.now.items }
-{
-    log.get(&number)
 }
 
 /// Removes the item of the least number.

@@ -1,12 +1,10 @@
 //! Adding many items to an ordered map.
 ghost use Rattle.std.specs.Prelude.{◌≡◌, ◌≤◌, ◌++◌, [], IfSome, IsTrue, IsPermutation};
-ghost use Rattle.std.specs.List.{AllZip};
 ghost use Rattle.std.specs.Ordering.{nat_cmp};
 ghost use Rattle.std.specs.String.{string_cmp, string_eq};
 ghost use Rattle.iddqd.specs.Contents.{Ascends, NoTwoAkin};
 ghost use Rattle.test_callers.specs.Adding.{ComesBehindNew, PutsAll, ShowsConflict};
 
-use crate::ord_insertions;
 use iddqd::errors::ExtendUniqueError;
 use iddqd::{IdOrdMap, MAX_ITEMS};
 use std::alloc::Global;
@@ -27,30 +25,6 @@ fn add_and_show(map: &mut IdOrdMap<Pair>, pairs: Vec<Pair>) -> Option<(Pair, Pai
         }
         Err(ExtendUniqueError::Refused(_)) => None,
     }
-}
-
-/// Adds items up to the first whose name is there, and returns the value of the one that is there.
-fn add_named(all: &mut IdOrdMap<Named>, items: Vec<Named>) -> Option<u32>
-    requires keyed { Ascends (λ x. x.name) string_cmp all.old.items }
-    ensures keyed { Ascends (λ x. x.name) string_cmp all.new.items }
-{
-    match all.extend_unique(items) {
-        Ok(()) => None,
-        Err(ExtendUniqueError::Duplicate(both)) => Some(both.duplicates().first().value),
-        Err(ExtendUniqueError::Refused(_refused)) => None,
-    }
-}
-
-/// Adds each item by a function on the bare map: the loop's invariant is that the map is keyed.
-fn add_in_turn(all: &mut IdOrdMap<Named>, items: Vec<Named>) -> bool
-    requires keyed { Ascends (λ x. x.name) string_cmp all.old.items }
-    ensures keyed { Ascends (λ x. x.name) string_cmp all.new.items }
-{
-    let mut all_added = true;
-    for item in items {
-        all_added &= ord_insertions::add_named(all, item);
-    }
-    all_added
 }
 
 /// Adds all items, and tells whether all are in.
@@ -108,16 +82,4 @@ fn trim(all: &mut IdOrdMap<Named>) -> bool
     ensures keyed { Ascends (λ x. x.name) string_cmp all.new.items }
 {
     all.shrink_to(8).is_ok()
-}
-
-/// A map of the same pairs.
-fn copied(map: &IdOrdMap<Pair>) -> Option<IdOrdMap<Pair>>
-    requires keyed { Ascends (λ p. p.key) nat_cmp map.now.items }
-    ensures same { IfSome result (λ copy. AllZip (λ x y. y ≡ x) map.now.items copy.items) }
-    ensures keyed { IfSome result (λ copy. Ascends (λ p. p.key) nat_cmp copy.items) }
-{
-    match map.clone() {
-        Ok(copy) => Some(copy),
-        Err(_error) => None,
-    }
 }

@@ -1,12 +1,11 @@
 //! Entries of an ordered map.
-ghost use Rattle.std.specs.Prelude.{◌≡◌, ◌-◌, IfNone, IfSome, IsTrue, OnSome, Some, false, length, option_map, string_bytes, take, unwrap_or};
+ghost use Rattle.std.specs.Prelude.{◌≡◌, ◌-◌, IfNone, IfSome, IsTrue, OnSome, Some, false, length, take};
 ghost use Rattle.std.specs.Ordering.{nat_cmp};
 ghost use Rattle.std.specs.String.{string_cmp};
 ghost use Rattle.iddqd.specs.Contents.{AddsItem, Ascends};
-ghost use Rattle.test_callers.specs.Lookups.{AddsIfNew, AddsPairIfNew, KeepsOtherNames, ReadsAtName, Replaces, SetsAtKey, SetsFirst, SumsAtName, last_of, of_key, of_name, with_value, without_name};
+ghost use Rattle.test_callers.specs.Lookups.{AddsIfNew, AddsPairIfNew, Replaces, SetsAtKey, SetsFirst, last_of, of_key, of_name, with_value, without_name};
 ghost use Rattle.test_writers.specs.Pairs.{pair_at};
 
-use iddqd::errors::Refused;
 use iddqd::id_ord_map::Entry;
 use iddqd::{IdOrdMap, Text};
 use test_writers::items::{Named, Pair, SetsValue};
@@ -45,24 +44,6 @@ fn replace(map: &mut IdOrdMap<Named>, item: Named) -> Option<Named>
     }
 }
 
-/// Writes the value of the name through its entry.
-#[tactic(auto, using(iddqd::proofs::ChangeLemmas::after_changes))]
-fn set_value(map: &mut IdOrdMap<Named>, name: &str, value: u32) -> bool
-    requires keyed { Ascends (λ x. x.name) string_cmp map.old.items }
-    ensures read { ReadsAtName name.now value map.old.items map.new.items }
-    ensures others { KeepsOtherNames name.now map.old.items map.new.items }
-    ensures sum { SumsAtName name.now value map.old.items map.new.items }
-    ensures keyed { Ascends (λ x. x.name) string_cmp map.new.items }
-{
-    match map.entry(&Text(name)) {
-        Entry::Occupied(mut entry) => {
-            entry.get_mut().value = value;
-            true
-        }
-        Entry::Vacant(_) => false,
-    }
-}
-
 /// Removes the item of the name.
 fn take(map: &mut IdOrdMap<Named>, name: &str) -> Option<Named>
     requires keyed { Ascends (λ x. x.name) string_cmp map.old.items }
@@ -96,52 +77,6 @@ fn set_or_add(map: &mut IdOrdMap<Named>, set: u32, item: Named) -> bool
     }
 }
 
-/// Adds the item if its name is not there, and else changes nothing.
-fn keep_or_add(map: &mut IdOrdMap<Named>, item: Named) -> bool
-    requires keyed { Ascends (λ x. x.name) string_cmp map.old.items }
-    ensures unchanged { IfSome (of_key item.name map.old.items) (λ _. map.new.items ≡ map.old.items) }
-    ensures added { IsTrue result → AddsIfNew item map.old.items map.new.items }
-    ensures kept { result ≡ false → map.new.items ≡ map.old.items }
-    ensures keyed { Ascends (λ x. x.name) string_cmp map.new.items }
-{
-    match map.entry(&item.name).or_insert(item) {
-        Ok(found) => {
-            found.finish();
-            true
-        }
-        Err(_refused) => false,
-    }
-}
-
-/// The same, of what is found then. The item's name finds the item that was there, or this one; each other name finds
-/// what it found.
-#[tactic(auto, using(iddqd::proofs::ChangeLemmas::after_changes))]
-fn ensure_present(map: &mut IdOrdMap<Named>, item: Named) -> bool
-    requires keyed { Ascends (λ x. x.name) string_cmp map.old.items }
-    ensures found { IsTrue result → of_key item.name map.new.items ≡ Some (unwrap_or (of_key item.name map.old.items) item) }
-    ensures others { KeepsOtherNames (string_bytes item.name) map.old.items map.new.items }
-    ensures keyed { Ascends (λ x. x.name) string_cmp map.new.items }
-{
-    keep_or_add(map, item)
-}
-
-/// The value of the item of that name, or of this one, which is added.
-fn value_or(map: &mut IdOrdMap<Named>, item: Named) -> Option<u32>
-    requires keyed { Ascends (λ x. x.name) string_cmp map.old.items }
-    ensures found { IfSome (of_key item.name map.old.items) (λ x. result ≡ Some x.value) }
-    ensures unchanged { IfSome (of_key item.name map.old.items) (λ _. map.new ≡ map.old) }
-    ensures added { OnSome result (AddsIfNew item map.old.items map.new.items) }
-    ensures kept { IfNone result (map.new.items ≡ map.old.items) }
-{
-    match map.entry(&item.name).or_insert(item) {
-        Ok(found) => {
-            let shown = found.into_ref();
-            Some(shown.value)
-        }
-        Err(_refused) => None,
-    }
-}
-
 /// Shows the value of the key, or adds the key with this one.
 fn show_or_add(map: &mut IdOrdMap<Pair>, key: u32, value: u32) -> Option<u32>
     requires keyed { Ascends (λ p. p.key) nat_cmp map.old.items }
@@ -164,60 +99,6 @@ fn set_first(map: &mut IdOrdMap<Pair>, value: u32)
 {
     if let Some(mut entry) = map.first_entry() {
         entry.get_mut().value = value;
-    }
-}
-
-/// Adds the item if its name is not there: `let .. else`.
-fn add_or_leave(map: &mut IdOrdMap<Named>, item: Named) -> bool
-    requires keyed { Ascends (λ x. x.name) string_cmp map.old.items }
-    ensures keyed { Ascends (λ x. x.name) string_cmp map.new.items }
-{
-    let Ok(found) = map.entry(&item.name).or_insert(item) else {
-        return false;
-    };
-    found.finish();
-    true
-}
-
-/// The same, by `?`.
-fn add_or_pass_on(map: &mut IdOrdMap<Named>, item: Named) -> Result<(), Refused<Named>>
-    requires keyed { Ascends (λ x. x.name) string_cmp map.old.items }
-    ensures keyed { Ascends (λ x. x.name) string_cmp map.new.items }
-{
-    map.entry(&item.name).or_insert(item)?.finish();
-    Ok(())
-}
-
-/// Writes the value through the entry, and then removes the item.
-#[tactic(auto, using(iddqd::proofs::GuardLemmas::read_back, iddqd::proofs::GuardLemmas::others_written))]
-fn write_and_take(map: &mut IdOrdMap<Named>, name: &str, value: u32) -> Option<Named>
-    requires keyed { Ascends (λ x. x.name) string_cmp map.old.items }
-    ensures taken { result ≡ option_map (with_value value) (of_name name.now map.old.items) }
-    ensures left { map.new.items ≡ without_name name.now map.old.items }
-    ensures keyed { Ascends (λ x. x.name) string_cmp map.new.items }
-{
-    match map.entry(&Text(name)) {
-        Entry::Occupied(mut entry) => {
-            entry.get_mut().value = value;
-            Some(entry.remove())
-        }
-        Entry::Vacant(_) => None,
-    }
-}
-
-/// Writes the value through the entry, and then puts the item in the place of what is there, which is returned.
-#[tactic(auto, using(iddqd::proofs::GuardLemmas::read_back))]
-fn write_and_replace(map: &mut IdOrdMap<Named>, item: Named, value: u32) -> Option<Named>
-    requires keyed { Ascends (λ x. x.name) string_cmp map.old.items }
-    ensures found { result ≡ option_map (with_value value) (of_key item.name map.old.items) }
-    ensures keyed { Ascends (λ x. x.name) string_cmp map.new.items }
-{
-    match map.entry(&item.name) {
-        Entry::Occupied(mut entry) => {
-            entry.get_mut().value = value;
-            Some(entry.insert(item))
-        }
-        Entry::Vacant(_) => None,
     }
 }
 

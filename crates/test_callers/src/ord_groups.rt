@@ -2,7 +2,7 @@
 ghost use Rattle.std.specs.Prelude.{◌≡◌, ◌==◌, ◌+◌, ◌<◌, ◌≤◌, List, filter, length, map, nat_lt, option_copied, sum_by};
 ghost use Rattle.iddqd.specs.Contents.{Ascends, IsAbsent};
 ghost use Rattle.iddqd.specs.IdOrdMap.{WalksPart};
-ghost use Rattle.test_callers.specs.Groups.{last_of_time, of_time, of_time_to, taken_off, without_time};
+ghost use Rattle.test_callers.specs.Groups.{last_of_time, of_time, taken_off, without_time};
 ghost use Rattle.test_callers.specs.declared.items.Event.{Event};
 
 use crate::items::{At, Event, TakesOff};
@@ -34,15 +34,6 @@ impl Log {
         self.0.range(from..At { time, seq: 0 })
     }
 
-    /// The events of one time up to one of them, which need not be there.
-    fn of_time_up_to(&self, last: At) -> Iter<'_, Event>
-        ensures items { result ≡ of_time_to last.time last.seq self.now }
-        ensures part { WalksPart result self.now }
-    {
-        let time = last.time;
-        self.0.range(At { time, seq: 0 }..=last)
-    }
-
     /// How many events there are of one time.
     fn count(&self, time: u64) -> usize
         requires later { time < u64.MAX }
@@ -66,19 +57,6 @@ impl Log {
         ensures { result ≡ sum_by (λ e. e.took) (of_time time self.now) }
     {
         self.of_time(time).map(|e| e.took as u64).sum()
-    }
-
-    /// The same, by a loop.
-    fn took_in_turn(&self, time: u64) -> u64
-        requires later { time < u64.MAX }
-        requires fits { sum_by (λ e. e.took) self.now ≤ u64.MAX }
-        ensures { result ≡ sum_by (λ e. e.took) (of_time time self.now) }
-    {
-        let mut sum = 0;
-        for event in self.of_time(time) {
-            sum += event.took as u64;
-        }
-        sum
     }
 
     /// Removes the events of one time, and returns how many there were.

@@ -1,11 +1,9 @@
-//! Insertions into an ordered map, with the result matched in each form.
+//! Insertions into an ordered map, and removals.
 ghost use Rattle.std.specs.Prelude.{◌≡◌, ◌+◌, IfSome, IsTrue, None, Some, length, string_bytes};
-ghost use Rattle.std.specs.Ordering.{nat_cmp};
 ghost use Rattle.std.specs.String.{string_cmp};
 ghost use Rattle.iddqd.specs.Contents.{Ascends};
-ghost use Rattle.test_callers.specs.Lookups.{KeepsOtherNames, KeepsOtherNumbers, of_key, of_name, of_number, total, value_of};
+ghost use Rattle.test_callers.specs.Lookups.{KeepsOtherNames, of_key, of_name, total, value_of};
 
-use crate::items::{Noted, Tagged, Titled};
 use iddqd::errors::InsertError;
 use iddqd::{IdOrdMap, Text};
 use test_writers::items::Named;
@@ -23,46 +21,10 @@ fn add_or_show(all: &mut IdOrdMap<Named>, item: Named) -> Option<u32>
     }
 }
 
-/// Joined arms; what was inserted is found, and each other number finds what it found.
-#[tactic(auto, using(iddqd::proofs::ChangeLemmas::after_changes))]
-fn add(all: &mut IdOrdMap<Noted>, item: Noted) -> bool
-    requires keyed { Ascends (λ x. x.number) nat_cmp all.old.items }
-    ensures found { IsTrue result → of_number item.number all.new.items ≡ Some item }
-    ensures others { KeepsOtherNumbers item.number all.old.items all.new.items }
-    ensures keyed { Ascends (λ x. x.number) nat_cmp all.new.items }
-{
-    match all.insert_unique(item) {
-        Ok(()) => true,
-        Err(InsertError::Duplicate(_) | InsertError::Refused(_)) => false,
-    }
-}
-
-/// One arm for both errors.
-fn add_titled(all: &mut IdOrdMap<Titled>, item: Titled) -> bool
-    requires keyed { Ascends (λ x. x.title) string_cmp all.old.items }
-    ensures keyed { Ascends (λ x. x.title) string_cmp all.new.items }
-{
-    match all.insert_unique(item) {
-        Ok(()) => true,
-        Err(_error) => false,
-    }
-}
-
-/// `let .. else`.
-fn add_tagged(all: &mut IdOrdMap<Tagged>, item: Tagged) -> bool
-    requires keyed { Ascends (λ x. x.number) nat_cmp all.old.items }
-    ensures keyed { Ascends (λ x. x.number) nat_cmp all.new.items }
-{
-    let Ok(()) = all.insert_unique(item) else {
-        return false;
-    };
-    true
-}
-
 /// `is_ok()`; what was inserted is found, each other name finds what it found, the value is in the sum, and there is one
 /// item more.
 #[tactic(auto, using(iddqd::proofs::ChangeLemmas::after_changes))]
-pub(crate) fn add_named(all: &mut IdOrdMap<Named>, item: Named) -> bool
+fn add_named(all: &mut IdOrdMap<Named>, item: Named) -> bool
     requires keyed { Ascends (λ x. x.name) string_cmp all.old.items }
     ensures found { IsTrue result → of_key item.name all.new.items ≡ Some item }
     ensures others { KeepsOtherNames (string_bytes item.name) all.old.items all.new.items }
@@ -71,22 +33,6 @@ pub(crate) fn add_named(all: &mut IdOrdMap<Named>, item: Named) -> bool
     ensures keyed { Ascends (λ x. x.name) string_cmp all.new.items }
 {
     all.insert_unique(item).is_ok()
-}
-
-/// `?`, behind a function that makes the error into one of the caller's.
-fn add_question(all: &mut IdOrdMap<Noted>, item: Noted) -> Result<(), String>
-    requires keyed { Ascends (λ x. x.number) nat_cmp all.old.items }
-    ensures keyed { Ascends (λ x. x.number) nat_cmp all.new.items }
-{
-    all.insert_unique(item).map_err(note_of)?;
-    Ok(())
-}
-
-fn note_of(error: InsertError<'_, Noted>) -> String {
-    match error {
-        InsertError::Duplicate(both) => both.into_parts().0.note,
-        InsertError::Refused(refused) => refused.item.note,
-    }
 }
 
 /// What was overwritten is found, and each other name finds what it found.
@@ -114,17 +60,6 @@ fn remove(all: &mut IdOrdMap<Named>, name: &str) -> Option<Named>
     ensures keyed { Ascends (λ x. x.name) string_cmp all.new.items }
 {
     all.remove(&Text(name))
-}
-
-/// The same of a number.
-#[tactic(auto, using(iddqd::proofs::ChangeLemmas::after_changes))]
-fn remove_noted(all: &mut IdOrdMap<Noted>, number: u32) -> Option<Noted>
-    requires keyed { Ascends (λ x. x.number) nat_cmp all.old.items }
-    ensures gone { of_number number all.new.items ≡ None }
-    ensures others { KeepsOtherNumbers number all.old.items all.new.items }
-    ensures keyed { Ascends (λ x. x.number) nat_cmp all.new.items }
-{
-    all.remove(&number)
 }
 
 /// Once the first item is removed, its name finds nothing, and each other name finds what it found. Its value has left

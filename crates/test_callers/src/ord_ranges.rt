@@ -1,11 +1,11 @@
 //! Positions, ranges and walks from the back, over an ordered map.
-ghost use Rattle.std.specs.Prelude.{◌≡◌, ◌+◌, ◌≤◌, ◌/◌, ◌-◌, drop, length, option_copied, option_map, slice_get, sum_by, take};
+ghost use Rattle.std.specs.Prelude.{◌≡◌, ◌≤◌, ◌/◌, ◌-◌, drop, length, option_copied, option_map, slice_get, sum_by, take};
 ghost use Rattle.std.specs.Ordering.{nat_cmp};
 ghost use Rattle.std.specs.String.{string_cmp};
 ghost use Rattle.std.specs.declared.ops.Bound.TheVariants.{Included, Excluded};
 ghost use Rattle.iddqd.specs.Contents.{Ascends};
 ghost use Rattle.iddqd.specs.IdOrdMap.{items_between};
-ghost use Rattle.test_callers.specs.Ranges.{IsGoneBetween, StaysBeside, first_name_from, last_pair_to, name_count_between, pairs_between, rank_of_key, value_of_last, SetsValueAt};
+ghost use Rattle.test_callers.specs.Ranges.{IsGoneBetween, StaysBeside, first_name_from, last_pair_to, name_count_between, rank_of_key, SetsValueAt};
 
 use iddqd::{IdOrdMap, Text};
 use std::ops::Bound;
@@ -19,22 +19,6 @@ fn sum_between(all: &IdOrdMap<Pair>, from: u32, to: u32) -> u64
         (items_between nat_cmp (λ p. p.key) (Included from) (Excluded to) all.now.items) }
 {
     all.range(from..to).map(|p| p.value as u64).sum()
-}
-
-/// How many keys there are from one up to another.
-fn count_between(all: &IdOrdMap<Pair>, from: u32, to: u32) -> usize
-    requires keyed { Ascends (λ p. p.key) nat_cmp all.now.items }
-    ensures { result ≡ length (pairs_between from to all.now.items) }
-{
-    all.range(from..to).len()
-}
-
-/// The same, counted along the walk.
-fn walk_between(all: &IdOrdMap<Pair>, from: u32, to: u32) -> usize
-    requires keyed { Ascends (λ p. p.key) nat_cmp all.now.items }
-    ensures { result ≡ length (pairs_between from to all.now.items) }
-{
-    all.range(from..to).count()
 }
 
 /// How many names there are from one text up to another.
@@ -85,21 +69,6 @@ fn sum_of_page(all: &IdOrdMap<Named>, from: usize, to: usize) -> u64
     ensures { result ≡ sum_by (λ x. x.value) (drop from (take to all.now.items)) }
 {
     all.range_index(from..to).map(|x| x.value as u64).sum()
-}
-
-/// How many pairs come after the position.
-fn count_behind(all: &IdOrdMap<Pair>, index: usize) -> usize
-    ensures { result ≡ length (drop (index + 1) all.now.items) }
-{
-    all.range_index((Bound::Excluded(index), Bound::Unbounded))
-        .count()
-}
-
-/// The last value, by a walk from the back.
-fn last_value(all: &IdOrdMap<Pair>) -> Option<u32>
-    ensures { result ≡ value_of_last all.now.items }
-{
-    Some(all.iter().next_back()?.value)
 }
 
 /// How many pairs there are, counted from the back.
