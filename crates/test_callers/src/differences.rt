@@ -1,5 +1,5 @@
-//! Callers of the difference of two maps, over settings that own text: what it counts, names, and makes of a copy.
-ghost use Rattle.std.specs.Prelude.{◌≡◌, ◌+◌, [], IfOk, IsTrue, filter, length, map};
+//! Callers of the difference of two maps, over settings that own text: what it counts, names, sums, and makes of a copy.
+ghost use Rattle.std.specs.Prelude.{◌≡◌, ◌+◌, ◌≤◌, [], IfOk, IsTrue, filter, length, map, sum_by};
 ghost use Rattle.std.specs.List.{AllZip};
 ghost use Rattle.std.specs.String.{string_cmp, string_eq};
 ghost use Rattle.iddqd.specs.Contents.{Ascends};
@@ -110,6 +110,22 @@ fn added_names<'a>(
         }
     }
     Ok(names)
+}
+
+/// The sum of the values that were added.
+fn added_sum(before: &IdHashMap<Setting>, after: &IdHashMap<Setting>) -> u64
+    requires before_keyed { IsKeyedByText (λ s. s.name) before.now }
+    requires after_keyed { IsKeyedByText (λ s. s.name) after.now }
+    requires fits { sum_by (λ s. s.value) (added before.now.items after.now.items) ≤ u64.MAX }
+    ensures { result ≡ sum_by (λ s. s.value) (added before.now.items after.now.items) }
+{
+    let mut sum = 0u64;
+    for difference in before.diff(after) {
+        if let Difference::Added(item) = difference {
+            sum += item.value as u64;
+        }
+    }
+    sum
 }
 
 /// A copy of the old map, brought up to the new one.

@@ -24,6 +24,7 @@ mod ord_ranges;
 mod ord_walks;
 mod own_keys;
 mod parts;
+mod registry;
 mod runs;
 mod stock;
 mod sums;

@@ -4,6 +4,7 @@ ghost use Rattle.iddqd.specs.Contents.{Ascends, find_item};
 ghost use Rattle.test_callers.specs.OwnKeys.{KeepsOtherKeys, ReadsTook};
 
 use crate::items::{At, Event};
+use iddqd::id_ord_map::Entry;
 use iddqd::{IdHashMap, IdOrdMap, Keyed};
 
 /// Adds an event to an ordered map.
@@ -17,7 +18,55 @@ fn add(all: &mut IdOrdMap<Event>, event: Event) -> bool
     all.insert_unique(event).is_ok()
 }
 
-/// Removes an event from a hash map.
+/// Removes an event.
+#[tactic(auto, using(iddqd::proofs::ChangeLemmas::after_changes, std::proofs::lemmas::Bool::Decides::nat_tests))]
+fn remove(all: &mut IdOrdMap<Event>, at: &At) -> Option<Event>
+    requires keyed { Ascends (λ e. e.at) ⟦<At as Ord>⟧.cmp all.old.items }
+    ensures gone { find_item (λ e. e.at) (⟦<At as PartialEq>⟧.eq at.now) all.new.items ≡ None }
+    ensures others { KeepsOtherKeys (λ e. e.at) ⟦<At as PartialEq>⟧.eq at.now all.old.items all.new.items }
+    ensures keyed { Ascends (λ e. e.at) ⟦<At as Ord>⟧.cmp all.new.items }
+{
+    all.remove(at)
+}
+
+/// Writes through a guard.
+#[tactic(auto, using(iddqd::proofs::ChangeLemmas::after_changes, std::proofs::lemmas::Bool::Decides::nat_tests))]
+fn set_took(all: &mut IdOrdMap<Event>, at: &At, took: u32)
+    requires keyed { Ascends (λ e. e.at) ⟦<At as Ord>⟧.cmp all.old.items }
+    ensures others { KeepsOtherKeys (λ e. e.at) ⟦<At as PartialEq>⟧.eq at.now all.old.items all.new.items }
+    ensures keyed { Ascends (λ e. e.at) ⟦<At as Ord>⟧.cmp all.new.items }
+{
+    if let Some(mut event) = all.get_mut(at) {
+        event.took = took;
+        event.finish();
+    }
+}
+
+/// Writes through an entry.
+#[tactic(auto, using(iddqd::proofs::ChangeLemmas::after_changes, std::proofs::lemmas::Bool::Decides::nat_tests))]
+fn set_took_by_entry(all: &mut IdOrdMap<Event>, at: &At, took: u32)
+    requires keyed { Ascends (λ e. e.at) ⟦<At as Ord>⟧.cmp all.old.items }
+    ensures read { ReadsTook ⟦<At as PartialEq>⟧.eq at.now took all.old.items all.new.items }
+    ensures others { KeepsOtherKeys (λ e. e.at) ⟦<At as PartialEq>⟧.eq at.now all.old.items all.new.items }
+    ensures keyed { Ascends (λ e. e.at) ⟦<At as Ord>⟧.cmp all.new.items }
+{
+    if let Entry::Occupied(mut entry) = all.entry(at) {
+        entry.get_mut().took = took;
+    }
+}
+
+/// Adds an event to a hash map.
+#[tactic(auto, using(iddqd::proofs::ChangeLemmas::after_changes, std::proofs::lemmas::Bool::Decides::nat_tests))]
+fn add_hashed(all: &mut IdHashMap<Event>, event: Event) -> bool
+    requires keyed { ⟦<IdHashMap<Event> as Keyed>⟧.keyed all.old }
+    ensures found { IsTrue result → find_item (λ e. e.at) (⟦<At as PartialEq>⟧.eq event.at) all.new.items ≡ Some event }
+    ensures others { KeepsOtherKeys (λ e. e.at) ⟦<At as PartialEq>⟧.eq event.at all.old.items all.new.items }
+    ensures keyed { ⟦<IdHashMap<Event> as Keyed>⟧.keyed all.new }
+{
+    all.insert_unique(event).is_ok()
+}
+
+/// Removes an event.
 #[tactic(auto, using(iddqd::proofs::ChangeLemmas::after_changes, std::proofs::lemmas::Bool::Decides::nat_tests))]
 fn remove_hashed(all: &mut IdHashMap<Event>, at: &At) -> Option<Event>
     requires keyed { ⟦<IdHashMap<Event> as Keyed>⟧.keyed all.old }
@@ -28,7 +77,7 @@ fn remove_hashed(all: &mut IdHashMap<Event>, at: &At) -> Option<Event>
     all.remove(at)
 }
 
-/// Writes through a guard of a hash map.
+/// Writes through a guard.
 #[tactic(auto, using(iddqd::proofs::ChangeLemmas::after_changes, std::proofs::lemmas::Bool::Decides::nat_tests))]
 fn set_took_hashed(all: &mut IdHashMap<Event>, at: &At, took: u32)
     requires keyed { ⟦<IdHashMap<Event> as Keyed>⟧.keyed all.old }
