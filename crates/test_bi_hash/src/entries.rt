@@ -118,7 +118,7 @@ fn an_inserted_entry_has_the_item(rt: HostRuntime) {
     let mut all = Hosts::below(&rt, rt.alloc(), 2);
     check(&rt, all.passed_through(host(2)) == Some(host(2)));
     check(&rt, all.passed_through(host(1)).is_none());
-    check(&rt, all.holds_below(2));
+    check(&rt, all.holds(&[host(0), host(1)]));
 }
 
 // The keys of one host, of two, of one alone, and of none.
