@@ -43,9 +43,8 @@ impl<'a, T, S> OccupiedEntry<'a, T, S> {
 }
 
 impl<'a, T: BiHashItem, S: BuildHasher> OccupiedEntry<'a, T, S> {
-    /// Returns the item that has both keys, for writing while the entry is borrowed. Ask `is_unique` first: if the
-    /// entry has two items, or an item that one query alone finds, the prover refuses the call. A keyed map stays keyed
-    /// if each key written is equal to the item's.
+    /// Returns the item that has both keys, for writing while the entry is borrowed. Ask `is_unique` first. A keyed map
+    /// stays keyed if each key written is equal to the item's.
     #[inline]
     pub fn get_mut(&mut self) -> &mut T
         requires unique { IsTrue (entry_is_unique (Occupied self.old)) }
