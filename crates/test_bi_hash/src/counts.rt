@@ -85,15 +85,14 @@ fn insertions(rt: HostRuntime) {
     let mut all = tallies.three(&rt, rt.alloc());
     let is_refused = !is_put(&mut all, tallies.item(1, 4));
     tallies.tell(&rt, is_refused, (1, 1, 1, 1));
-    for (one, other, wanted) in [
-        (4, 8, (0, 1, 0, 1)),
-        (4, 8, (1, 1, 0, 2)),
-        (9, 8, (0, 2, 1, 1)),
-        (1, 4, (1, 2, 1, 2)),
-    ] {
-        let is_in = all.insert_overwrite(tallies.item(one, other)).is_ok();
-        tallies.tell(&rt, is_in, wanted);
-    }
+    let is_in = all.insert_overwrite(tallies.item(4, 8)).is_ok();
+    tallies.tell(&rt, is_in, (0, 1, 0, 1));
+    let is_in = all.insert_overwrite(tallies.item(4, 8)).is_ok();
+    tallies.tell(&rt, is_in, (1, 1, 0, 2));
+    let is_in = all.insert_overwrite(tallies.item(9, 8)).is_ok();
+    tallies.tell(&rt, is_in, (0, 2, 1, 1));
+    let is_in = all.insert_overwrite(tallies.item(1, 4)).is_ok();
+    tallies.tell(&rt, is_in, (1, 2, 1, 2));
 }
 
 // What looks at all items hashes those that it removes.

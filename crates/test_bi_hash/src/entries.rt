@@ -2,7 +2,7 @@
 use crate::held::{Held, Hosts, check, host, host_of};
 use crate::hosts::Host;
 use iddqd_bi_hash::bi_hash_map::Entry;
-use iddqd_bi_hash::{BiHashMap, Few};
+use iddqd_bi_hash::{BiHashMap, Few, Keyed};
 
 // One or two hosts, in their order.
 type Hits = (Option<Host>, Option<Host>);
@@ -40,17 +40,6 @@ impl Held<Host> {
         }
     }
 
-    // Inserts the host as an entry, and removes it by that again. It is `None` if it was not inserted.
-    fn passed_through(&mut self, new: Host) -> Option<Host> {
-        match self.map.entry(&new.number, &new.address) {
-            Entry::Vacant(entry) => match entry.insert_entry(new) {
-                Ok(added) => added.remove().get(0).copied(),
-                Err(_refused) => None,
-            },
-            Entry::Occupied(_) => None,
-        }
-    }
-
     // Writes the load of the host that has both keys, and returns whether there is one.
     #[tactic(auto, using(iddqd_bi_hash::proofs::GuardLemmas::both_keys_kept))]
     fn is_loaded(&mut self, number: u32, address: u64, load: u32) -> bool {
@@ -64,6 +53,23 @@ impl Held<Host> {
             }
             Entry::Vacant(_) => false,
         }
+    }
+}
+
+// Inserts the host as an entry, and removes it by that again. It is `None` if it was not inserted.
+fn passed_through(map: &mut BiHashMap<Host>, new: Host) -> Option<Host>
+    requires keyed { ⟦<BiHashMap<Host> as Keyed>⟧.keyed map.old }
+    ensures keyed { ⟦<BiHashMap<Host> as Keyed>⟧.keyed map.new }
+{
+    match map.entry(&new.number, &new.address) {
+        Entry::Vacant(entry) => match entry.insert_entry(new) {
+            Ok(added) => {
+                let back = added.remove();
+                back.get(0).copied()
+            }
+            Err(_refused) => None,
+        },
+        Entry::Occupied(_) => None,
     }
 }
 
@@ -116,8 +122,8 @@ fn an_entry_of_two_is_replaced(rt: HostRuntime) {
 #[test]
 fn an_inserted_entry_has_the_item(rt: HostRuntime) {
     let mut all = Hosts::below(&rt, rt.alloc(), 2);
-    check(&rt, all.passed_through(host(2)) == Some(host(2)));
-    check(&rt, all.passed_through(host(1)).is_none());
+    check(&rt, passed_through(&mut all.map, host(2)) == Some(host(2)));
+    check(&rt, passed_through(&mut all.map, host(1)).is_none());
     check(&rt, all.holds(&[host(0), host(1)]));
 }
 
