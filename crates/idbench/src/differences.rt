@@ -1,0 +1,141 @@
+//! What is timed of two maps: their difference, where a hundredth of the keys went and as many others came.
+use crate::items::{BenchKey, Item};
+use crate::phases::{Plan, exchange_hundredth, filled, nanos_since};
+use crate::report::write_phases;
+use crate::subjects::Subject;
+use iddqd_diff::{Diffable, Difference};
+use std::alloc::Global;
+use std::collections::{BTreeMap, HashMap};
+use std::io::{self, Write};
+use std::time::{Clock, Instant};
+use test_support::maps::{Hashed, Ordered};
+
+/// A map that is compared with a later one.
+trait Compared: Subject {
+    /// The sum of the values of the items whose keys the other map lacks, of both maps.
+    fn sum_changes(&self, later: &Self) -> u64;
+}
+
+// The value of an item whose key the other map lacks, else 0.
+fn changed_value<K>(difference: &Difference<&Item<K>>) -> u64 {
+    match difference {
+        Difference::Removed(old) => old.value,
+        Difference::Added(new) => new.value,
+        Difference::Kept(_, _) => 0,
+    }
+}
+
+impl<K: BenchKey> Compared for Hashed<Item<K>> {
+    fn sum_changes(&self, later: &Self) -> u64 {
+        let mut sum = 0u64;
+        let mut differences = self.map().diff(later.map());
+        while let Some(difference) = differences.next() {
+            sum = sum.wrapping_add(changed_value(&difference));
+        }
+        sum
+    }
+}
+
+impl<K: BenchKey> Compared for Ordered<Item<K>> {
+    fn sum_changes(&self, later: &Self) -> u64 {
+        let mut sum = 0u64;
+        for difference in self.map().diff(later.map()) {
+            sum = sum.wrapping_add(changed_value(&difference));
+        }
+        sum
+    }
+}
+
+// The sum of the values of the items whose keys the other map lacks.
+fn sum_lacking_hashed<K: BenchKey>(map: &HashMap<K, Item<K>>, other: &HashMap<K, Item<K>>) -> u64 {
+    let mut sum = 0u64;
+    for (key, item) in map.iter() {
+        if !other.contains_key(key) {
+            sum = sum.wrapping_add(item.value);
+        }
+    }
+    sum
+}
+
+// The same of maps in order.
+fn sum_lacking_sorted<K: BenchKey>(
+    map: &BTreeMap<K, Item<K>>,
+    other: &BTreeMap<K, Item<K>>,
+) -> u64 {
+    let mut sum = 0u64;
+    for (key, item) in map.iter() {
+        if !other.contains_key(key) {
+            sum = sum.wrapping_add(item.value);
+        }
+    }
+    sum
+}
+
+impl<K: BenchKey> Compared for HashMap<K, Item<K>> {
+    fn sum_changes(&self, later: &Self) -> u64 {
+        sum_lacking_hashed(self, later).wrapping_add(sum_lacking_hashed(later, self))
+    }
+}
+
+impl<K: BenchKey> Compared for BTreeMap<K, Item<K>> {
+    fn sum_changes(&self, later: &Self) -> u64 {
+        sum_lacking_sorted(self, later).wrapping_add(sum_lacking_sorted(later, self))
+    }
+}
+
+// The nanoseconds of the difference of two maps, and the sum of what changed.
+fn timed<S: Compared>(clock: &impl Clock, alloc: Global, plan: &Plan) -> io::Result<(u64, u64)> {
+    let before: S = filled(alloc, plan)?;
+    let mut after: S = filled(alloc, plan)?;
+    exchange_hundredth(&mut after, alloc, plan)?;
+    let start = Instant::now(clock)?;
+    let sum = before.sum_changes(&after);
+    Ok((nanos_since(clock, start)?, sum))
+}
+
+// Times our maps and std's, taking turns: whether their sums agree. The times are written if they are asked for.
+fn compare_kind<S: Compared, R: Compared>(
+    clock: &impl Clock,
+    alloc: Global,
+    out: &mut impl Write,
+    (plan, rounds, kind): (&Plan, u32, &str),
+    is_told: bool,
+) -> io::Result<bool> {
+    let mut ours = timed::<S>(clock, alloc, plan)?;
+    let mut std = timed::<R>(clock, alloc, plan)?;
+    for _ in 1..rounds {
+        ours.0 = ours.0.min(timed::<S>(clock, alloc, plan)?.0);
+        std.0 = std.0.min(timed::<R>(clock, alloc, plan)?.0);
+    }
+    if is_told {
+        let times: (&[u64], &[u64]) = (&[ours.0], &[std.0]);
+        write_phases(
+            out,
+            (kind, S::Key::name()),
+            plan.size(),
+            &["difference"],
+            times,
+        )?;
+    }
+    Ok(ours.1 == std.1)
+}
+
+/// Times the differences of both kinds of map with keys of one type, each beside std's walked by hand with a lookup in
+/// the other map: whether all sums agree.
+pub(crate) fn compare_differences<K: BenchKey>(
+    clock: &impl Clock,
+    alloc: Global,
+    out: &mut impl Write,
+    (plan, rounds): (&Plan, u32),
+    is_told: bool,
+) -> io::Result<bool> {
+    let hash = (plan, rounds, "hash");
+    let do_agree = compare_kind::<Hashed<Item<K>>, HashMap<K, Item<K>>>(
+        clock, alloc, out, hash, is_told,
+    )?;
+    let ord = (plan, rounds, "ord");
+    Ok(
+        compare_kind::<Ordered<Item<K>>, BTreeMap<K, Item<K>>>(clock, alloc, out, ord, is_told)?
+            && do_agree,
+    )
+}
