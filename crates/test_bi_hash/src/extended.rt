@@ -27,7 +27,7 @@ fn halted(all: &mut Hosts, coming: &[Host], hint: usize) -> Shown {
     }
 }
 
-// The first of these ends the insertion of the hosts because of the others, or for want of room.
+// The first of these ends the insertion of the hosts: the others have its keys, or there is no room.
 fn stops(
     rt: &impl Abort,
     all: &mut Hosts,
