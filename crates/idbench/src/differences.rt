@@ -120,8 +120,8 @@ fn compare_kind<S: Compared, R: Compared>(
     Ok(ours.1 == std.1)
 }
 
-/// Times the differences of both kinds of map with keys of one type, each beside std's walked by hand with a lookup in
-/// the other map: whether all sums agree.
+/// Times the differences of both kinds of map with keys of one type: whether all sums agree. Std's maps are walked by
+/// hand, with a lookup in the other map.
 pub(crate) fn compare_differences<K: BenchKey>(
     clock: &impl Clock,
     alloc: Global,
