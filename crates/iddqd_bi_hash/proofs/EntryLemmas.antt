@@ -2,6 +2,7 @@
 --     left_lacks1, left_lacks2      no item that two tests leave passes one of them
 --     same_slots      the slots of two searches that found one
 --     one_item, one_other      the item of an entry whose slots are one, and the others
+--     has_items      an entry whose first slot has an item has one
 --     both_item, item_if      the item that the first search found passes both tests, if one does
 --     same_entry      an entry is told by its map, its slots and whether it is unique
 use Rattle.std.proofs.Common.{◌≡◌, ◌==◌, ◌∙◌, ℕ, Bool, true, false, cond, List, [], ◌∷◌, ◌++◌, not, Option, Some, None, IsSome, is_some, refl, sym, ap, ⊎_elim, true≢false}
@@ -41,6 +42,19 @@ module _ {T : Type 0} (slots : List ℕ) (items : List T) (first second : ℕ) (
 
   pub one_other : without_slots slots items (slots_of_pair first second) ≡ without_slot slots items first
   one_other = rw (eq-eqb first second same) refl
+
+pub has_items : {T : Type 0} (slots : List ℕ) (items : List T) (first second : ℕ) → is_some (item_of_slot slots items first) ≡ true → filter_map (item_of_slot slots items) (slots_of_pair first second) ≡ [] → ⊥
+has_items {T} slots items first second some = by (item_of_slot slots items first) refl some (first == second)
+  where
+    behind : (x : T) → item_of_slot slots items first ≡ Some x → (rest : List ℕ) → filter_map (item_of_slot slots items) (first ∷ rest) ≡ [] → ⊥
+    behind x at rest none =
+        let there : filter_map (item_of_slot slots items) (first ∷ rest) ≡ x ∷ filter_map (item_of_slot slots items) rest = rw at refl in
+        absurd (let is : x ∷ filter_map (item_of_slot slots items) rest ≡ [] = sym there ∙ none in cc)
+
+    by : (o : Option T) → item_of_slot slots items first ≡ o → is_some o ≡ true → (one : Bool) → filter_map (item_of_slot slots items) (cond one (first ∷ []) (first ∷ second ∷ [])) ≡ [] → ⊥
+    by None at s one none = true≢false (sym s)
+    by (Some x) at s true none = behind x at [] none
+    by (Some x) at s false none = behind x at (second ∷ []) none
 
 -- a test of the first search's item
 pub both_item : {T : Type 0} (p : T → Bool) (o found : Option T) → found ≡ option_and_then (λ x. cond (p x) (Some x) None) o → (b : Bool) → b ≡ is_some found → cond b o None ≡ found

@@ -8,11 +8,18 @@
 --     AreLent      the entry's items are lent
 --     RemovesItems, ReplacesItems      the entry's items were removed, or replaced by one
 --     EntryReturnsItem      the item was refused for lack of room, and is returned
+--     LendsFound      the entry's item is lent
 --     LendsInserted, EntersInserted      the inserted item is lent, or has this entry
+--     LendsIfOccupied      the item that has both keys is lent, or else the entry is returned
+--     LendsIfVacant, LendsMade      if the entry is vacant, the inserted item is lent, this one or one that a closure made
+--     LacksKeysOf, LacksKeysOfMade      no item but the entry's has a key of this item, or of one that a closure makes
+--     mut_lender      the name of the reference to the map in what an entry lends
+--     MutKeeps, MutKeepsAkin      an item of the same keys, or of equal ones, may be written to what is lent
 --     entry_follows      the entry ends with the last value written to its item
 --     EntryKeeps, EntryKeepsAkin      an item of the same keys, or of equal ones, may be written
---     rests_if_refused, guard_or_kept, entry_or_kept      if an item was refused, the map keeps its items
+--     rests_if_refused, mut_or_kept, guard_or_kept, entry_or_kept      if an item was refused, the map keeps its items
 pub use Rattle.iddqd_bi_hash.specs.declared.bi_hash_map.entry.Entry.TheVariants.{Vacant, Occupied}
+pub use Rattle.iddqd_bi_hash.specs.declared.bi_hash_map.entry.OccupiedEntryMut.TheVariants.{Unique, NonUnique}
 use Rattle.std.proofs.Common.{cond, refl}
 use Rattle.std.specs.Prelude.{◌≡◌, ℕ, ◌+◌, [], ◌∷◌, Bool, true, false, IsTrue, List, Option, None, Some, Result, if◌then◌else◌, is_some, length, map, nat_eq}
 use Rattle.std.specs.Borrow.{Bor, Fml, GName, RattleType, MutBor, RestsIfErr, follows}
@@ -26,10 +33,11 @@ use Rattle.iddqd_store.specs.declared.errors.Refused.{Refused}
 use Rattle.iddqd_hash_parts.specs.declared.keyed.Keyed as keyed
 use Rattle.iddqd_bi_hash.specs.BiHashItems.{BiHashItems}
 use Rattle.iddqd_bi_hash.specs.BiHashMap.{BiInserts, BiKeeps, BiReturnsItem, BiStays}
-use Rattle.iddqd_bi_hash.specs.Guard.{guard_lender, lent_item, lent_map, lent_with, with_item_in_slot}
+use Rattle.iddqd_bi_hash.specs.Guard.{GuardKeeps, GuardKeepsAkin, guard_lender, lent_item, lent_map, lent_with, with_item_in_slot}
 use Rattle.iddqd_bi_hash.specs.TwoKeys.{find_by_both, items_found, items_left, slots_of_pair, without_slots}
 use Rattle.iddqd_bi_hash.specs.declared.bi_hash_map.entry.Entry.{Entry}
 use Rattle.iddqd_bi_hash.specs.declared.bi_hash_map.entry.OccupiedEntry.{OccupiedEntry}
+use Rattle.iddqd_bi_hash.specs.declared.bi_hash_map.entry.OccupiedEntryMut.{OccupiedEntryMut}
 use Rattle.iddqd_bi_hash.specs.declared.bi_hash_map.entry.VacantEntry.{VacantEntry}
 use Rattle.iddqd_bi_hash.specs.declared.bi_hash_map.ref_mut.RefMut.{RefMut}
 use Rattle.iddqd_bi_hash.specs.contracts.bi_hash_map.BiHashMap as bi_map
@@ -96,6 +104,30 @@ module _ {S T : Type 0} where
   abbrev pub AreLent : Entry T S → List (Bor T) → Type 0
   AreLent e lents = map (λ lent. lent.now) lents ≡ entry_items e
 
+  abbrev pub mut_lender : OccupiedEntryMut T S → GName
+  mut_lender (Unique r) = guard_lender r
+  mut_lender (NonUnique e) = entry_lender (Occupied e)
+
+  -- the guard lends the entry's item, and a write through it is one to the entry
+  pub record LendsFound (e : Entry T S) (r : RefMut T S) : Type 0 where
+    pub map : lent_map r ≡ entry_map e
+    pub item : lent_item r ≡ entry_item e
+    pub written : (w : T) → lent_with r w ≡ entry_with e w
+
+  -- the guard lends the entry's one item; an entry without one item is vacant
+  pub record LendsUnique (e : Entry T S) (r : RefMut T S) : Type 0 where
+    pub found : IsTrue (entry_is_unique e) → LendsFound e r
+    pub vacant : entry_is_unique e ≡ false → entry_items e ≡ []
+
+  -- the entry is the same, and no item of it has both keys
+  pub record ReturnsEntry (e : Entry T S) (r : OccupiedEntry T S) : Type 0 where
+    pub same : Occupied r ≡ e
+    pub non_unique : entry_is_unique e ≡ false
+
+  abbrev pub LendsIfOccupied : Entry T S → OccupiedEntryMut T S → Type 0
+  LendsIfOccupied e (Unique r) = LendsUnique e r
+  LendsIfOccupied e (NonUnique r) = ReturnsEntry e r
+
 module _ {S T K L : Type 0} (key1 : T → K) (key2 : T → L) where
   -- the entry holds the map of this reference, unchanged, at the items that pass one of the tests; no other passes one
   pub record IsEntryFor (test1 : K → Bool) (test2 : L → Bool) (m : MutBor (BiHashItems S T)) (e : Entry T S) : Type 0 where
@@ -110,6 +142,14 @@ module _ {S T K L : Type 0} (key1 : T → K) (key2 : T → L) where
     pub written : IsTrue (entry_is_unique e) → (w : T) → (entry_with e w).items ≡ items_overwritten key1 test1 w m.now.items
 
 module _ {T K L : Type 0} (key1 : T → K) (key2 : T → L) (eq1 : K → K → Bool) (eq2 : L → L → Bool) where
+  -- no item but the entry's has a key of this one
+  pub record LacksKeysOf {S : Type 0} (x : T) (e : Entry T S) : Type 0 where
+    pub absent1 : IsAbsent key1 (eq1 (key1 x)) (entry_others e)
+    pub absent2 : IsAbsent key2 (eq2 (key2 x)) (entry_others e)
+
+  abbrev pub LacksKeysOfMade : {S : Type 0} → (T → Type 0) → Entry T S → Type 0
+  LacksKeysOfMade made e = (x : T) → made x → LacksKeysOf x e
+
   -- the refused item is returned, and the entry's map lacked room for it
   abbrev pub EntryReturnsItem : {S : Type 0} → Entry T S → T → Refused T → Type 0
   EntryReturnsItem e x refused = BiReturnsItem key1 key2 eq1 eq2 (entry_map e) x refused
@@ -140,6 +180,14 @@ module _ {S T : Type 0} (own : keyed.Ghosts (BiHashItems S T) T) where
     pub item : lent_item r ≡ Some x
     pub written : (w : T) → AddsItem w (entry_map e).items (lent_with r w).items
 
+  abbrev pub LendsIfVacant : T → Entry T S → OccupiedEntryMut T S → Type 0
+  LendsIfVacant x e (Unique r) = entry_items e ≡ [] → LendsInserted x e r
+  LendsIfVacant x e (NonUnique r) = entry_is_unique e ≡ false
+
+  abbrev pub LendsMade : (T → Type 0) → Entry T S → OccupiedEntryMut T S → Type 0
+  LendsMade made e (Unique r) = entry_items e ≡ [] → (x : T) × made x × LendsInserted x e r
+  LendsMade made e (NonUnique r) = entry_is_unique e ≡ false
+
   -- x was inserted into the entry's map, and this is its entry
   pub record EntersInserted (x : T) (e : Entry T S) (found : OccupiedEntry T S) : Type 0 where
     pub lender : entry_lender (Occupied found) ≡ entry_lender e
@@ -159,6 +207,15 @@ module _ {S T : Type 0} (own : keyed.Ghosts (BiHashItems S T) T) where
   EntryKeepsAkin e lent =
       own.keyed (entry_map (Occupied e)) → (w : T) → own.akin lent.now w → own.keyed (entry_with (Occupied e) w)
 
+  -- the map is keyed after a write of an item of the same keys, or of equal ones; where no item is lent, it is keyed
+  abbrev pub MutKeeps : {K L : Type 0} → (T → K) → (T → L) → OccupiedEntryMut T S → Type 0
+  MutKeeps key1 key2 (Unique r) = GuardKeeps key1 key2 own.keyed r
+  MutKeeps key1 key2 (NonUnique e) = own.keyed (entry_map (Occupied e))
+
+  abbrev pub MutKeepsAkin : OccupiedEntryMut T S → Type 0
+  MutKeepsAkin (Unique r) = GuardKeepsAkin own r
+  MutKeepsAkin (NonUnique e) = own.keyed (entry_map (Occupied e))
+
 module _ (S T : RattleType) where
   -- the entry's lifetime is the second of the signature
   abbrev pub entry_follows : MutBor (OccupiedEntry T.Denot S.Denot) → MutBor T.Denot → Fml
@@ -168,6 +225,9 @@ module _ (S T : RattleType) where
   -- if an item was refused, the map behind the entry keeps its items; otherwise the result holds the map under this name
   abbrev pub rests_if_refused : {A E : Type 0} → keyed.Ghosts (BiHashItems S.Denot T.Denot) T.Denot → (A → GName) → Entry T.Denot S.Denot → Result A E → Fml
   rests_if_refused own name e r = RestsIfErr (bi_map.the_row T S) (entry_map_ref e) name r (BiKeeps own.keyed (entry_map e))
+
+  abbrev pub mut_or_kept : {E : Type 0} → keyed.Ghosts (BiHashItems S.Denot T.Denot) T.Denot → Entry T.Denot S.Denot → Result (OccupiedEntryMut T.Denot S.Denot) E → Fml
+  mut_or_kept own e r = rests_if_refused own mut_lender e r
 
   -- the same of a vacant entry, which returns a guard or its occupied entry
   abbrev pub guard_or_kept : {E : Type 0} → keyed.Ghosts (BiHashItems S.Denot T.Denot) T.Denot → VacantEntry T.Denot S.Denot → Result (RefMut T.Denot S.Denot) E → Fml

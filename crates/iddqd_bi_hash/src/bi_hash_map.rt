@@ -31,7 +31,7 @@ mod validate;
 
 use crate::items::BiHashItem;
 pub use by_key::{First, Second};
-pub use entry::{Entry, OccupiedEntry, VacantEntry};
+pub use entry::{Entry, OccupiedEntry, OccupiedEntryMut, VacantEntry};
 pub use fmt::DebugWithKeys;
 use iddqd_hash_index::HashIndex;
 pub use iddqd_hash_parts::{IntoIter, Iter, Keyed};

@@ -4,11 +4,12 @@ ghost use Rattle.iddqd_store.specs.SlotItems.{item_of_slot};
 ghost use Rattle.iddqd_bi_hash.specs.TwoKeys.{as_list, found_same, other_slot, slots_found};
 
 mod inserting;
+mod methods;
 mod occupied;
 mod vacant;
 
 use super::by_key::{First, Second};
-use super::{BiHashMap, DefaultHashBuilder, Keyed};
+use super::{BiHashMap, DefaultHashBuilder, Keyed, RefMut};
 use crate::items::BiHashItem;
 use iddqd_hash_parts::find_slot;
 use iddqd_store::Equivalent;
@@ -40,6 +41,14 @@ pub struct OccupiedEntry<'a, T, S = DefaultHashBuilder> {
     ghost there1: { IsSome (item_of_slot map.now.slots map.now.items first) },
     ghost there2: { IsSome (item_of_slot map.now.slots map.now.items second) },
     ghost same: { IsTrue unique → first ≡ second },
+}
+
+/// What an entry that has items lends for writing. Two items cannot be lent at once.
+pub enum OccupiedEntryMut<'a, T, S = DefaultHashBuilder> {
+    /// A guard for the item that has both keys. It has to be spent.
+    Unique(RefMut<'a, T, S>),
+    /// The entry as it was, if no item has both keys.
+    NonUnique(OccupiedEntry<'a, T, S>),
 }
 
 // Returns true if both searches found one slot.

@@ -3,11 +3,11 @@ ghost use Rattle.std.specs.Prelude.{◌≡◌, ◌∷◌, [], IsTrue, Some, map}
 ghost use Rattle.std.specs.Borrow.{sem};
 ghost use Rattle.iddqd_store.specs.Contents.{IsAbsent};
 ghost use Rattle.iddqd_store.specs.Errors.{values_of};
-ghost use Rattle.iddqd_bi_hash.specs.Entry.{AreLent, EntryKeeps, EntryKeepsAkin, Occupied, RemovesItems, ReplacesItems, entry_follows, entry_is_unique, entry_item, entry_items, entry_map, entry_others};
+ghost use Rattle.iddqd_bi_hash.specs.Entry.{AreLent, EntryKeeps, EntryKeepsAkin, LendsIfOccupied, MutKeeps, MutKeepsAkin, Occupied, RemovesItems, ReplacesItems, entry_follows, entry_is_unique, entry_item, entry_items, entry_lender, entry_map, entry_others, mut_lender};
 ghost use Rattle.iddqd_bi_hash.specs.TwoKeys.{slots_of_pair};
 
-use super::OccupiedEntry;
-use crate::bi_hash_map::{BiHashMap as Map, Keyed};
+use super::{OccupiedEntry, OccupiedEntryMut};
+use crate::bi_hash_map::{BiHashMap as Map, Keyed, RefMut};
 use crate::items::BiHashItem;
 use iddqd_store::Few;
 use std::hash::BuildHasher;
@@ -56,6 +56,31 @@ impl<'a, T: BiHashItem, S: BuildHasher> OccupiedEntry<'a, T, S> {
     {
         let slot = self.first;
         self.map.item_in_slot_mut(slot)
+    }
+
+    /// Returns a guard for the item that has both keys, as long as the map is borrowed, or else the entry. The guard has
+    /// to be spent.
+    #[inline]
+    pub fn into_mut(self) -> OccupiedEntryMut<'a, T, S>
+        requires keyed { ⟦<Map<T, S> as Keyed>⟧.keyed (entry_map (Occupied self)) }
+
+        // what is lent
+        ensures same_map { mut_lender result ≡ entry_lender (Occupied self.entry) }
+        ensures lent { LendsIfOccupied (Occupied self.entry) result }
+
+        // what may be written
+        ensures keyed { MutKeeps ⟦<Map<T, S> as Keyed>⟧ T.key1 T.key2 result }
+        ensures keyed_akin { MutKeepsAkin ⟦<Map<T, S> as Keyed>⟧ result }
+    {
+        if !self.unique {
+            return OccupiedEntryMut::NonUnique(self);
+        }
+        let slot = self.first;
+        OccupiedEntryMut::Unique(RefMut {
+            map: self.map,
+            slot,
+            spent: false,
+        })
     }
 
     /// Replaces the entry's items by this one, and returns them, that of the first key first. No other item has one of

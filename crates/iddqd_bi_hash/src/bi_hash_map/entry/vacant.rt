@@ -2,10 +2,10 @@
 ghost use Rattle.std.specs.Prelude.{◌≡◌, IfErr, IfOk};
 ghost use Rattle.std.specs.Borrow.{sem};
 ghost use Rattle.iddqd_store.specs.Contents.{IsAbsent};
-ghost use Rattle.iddqd_bi_hash.specs.Entry.{EntersInserted as Enters, EntryReturnsItem, LendsInserted as Lends, Vacant, entry_map, entry_lender, entry_or_kept, entry_others, guard_or_kept};
+ghost use Rattle.iddqd_bi_hash.specs.Entry.{EntersInserted as Enters, EntryReturnsItem, LacksKeysOf, LendsIfOccupied, LendsIfVacant, LendsInserted as Lends, MutKeeps, MutKeepsAkin, Vacant, entry_map, entry_lender, entry_or_kept, entry_others, guard_or_kept, mut_lender, mut_or_kept};
 ghost use Rattle.iddqd_bi_hash.specs.Guard.{GuardKeeps, GuardKeepsAkin, guard_lender};
 
-use super::{OccupiedEntry, VacantEntry};
+use super::{OccupiedEntry, OccupiedEntryMut, VacantEntry};
 use crate::bi_hash_map::{BiHashMap as Map, Keyed, RefMut};
 use crate::items::BiHashItem;
 use iddqd_store::Refused;
@@ -40,6 +40,33 @@ impl<'a, T: BiHashItem, S: BuildHasher> VacantEntry<'a, T, S> {
                 slot,
                 spent: false,
             }),
+            Err(refused) => Err(refused),
+        }
+    }
+
+    // Inserts the item as `insert` does, and returns its guard as an entry does that may be occupied.
+    pub(super) fn lend_inserted(self, item: T) -> Result<OccupiedEntryMut<'a, T, S>, Refused<T>>
+        requires keyed { ⟦<Map<T, S> as Keyed>⟧.keyed (entry_map (Vacant self)) }
+        requires absent { LacksKeysOf T.key1 T.key2 T.K1.eq T.K2.eq item (Vacant self) }
+
+        // on success
+        ensures same_map { IfOk result (λ r. mut_lender r ≡ entry_lender (Vacant self.entry)) }
+        ensures inserted { IfOk result (LendsIfVacant ⟦<Map<T, S> as Keyed>⟧ item (Vacant self.entry)) }
+        ensures found { IfOk result (LendsIfOccupied (Vacant self.entry)) }
+        ensures keyed { IfOk result (MutKeeps ⟦<Map<T, S> as Keyed>⟧ T.key1 T.key2) }
+        ensures keyed_akin { IfOk result (MutKeepsAkin ⟦<Map<T, S> as Keyed>⟧) }
+
+        // on refusal
+        ensures* kept { sem 𝓛 (mut_or_kept S.row T.row ⟦<Map<T, S> as Keyed>⟧ (Vacant self.entry) result) }
+        ensures refused { IfErr result (EntryReturnsItem T.key1 T.key2 T.K1.eq T.K2.eq (Vacant self.entry) item) }
+    {
+        let VacantEntry { map } = self;
+        match map.insert_absent(item) {
+            Ok(slot) => Ok(OccupiedEntryMut::Unique(RefMut {
+                map,
+                slot,
+                spent: false,
+            })),
             Err(refused) => Err(refused),
         }
     }
