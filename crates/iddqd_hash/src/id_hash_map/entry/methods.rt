@@ -32,17 +32,7 @@ impl<'a, T: IdHashItem, S: BuildHasher> Entry<'a, T, S> {
         ensures vacant { OnErr result (entry_item self.entry ≡ None) }
         ensures refused { IfErr result (EntryReturnsItem T.key T.Key.eq self.entry item) }
     {
-        match self {
-            Entry::Occupied(entry) => {
-                let OccupiedEntry { map, slot, hash: _ } = entry;
-                Ok(RefMut {
-                    map,
-                    slot,
-                    spent: false,
-                })
-            }
-            Entry::Vacant(entry) => entry.insert(item),
-        }
+        self.or_insert_with(|| item)
     }
 
     /// As `or_insert`, with the item that the closure returns. It is called only if the entry is vacant.

@@ -32,21 +32,7 @@ impl<'a, T: IdOrdItem> Entry<'a, T> {
         ensures vacant { OnErr result (entry_item self.entry ≡ None) }
         ensures refused { IfErr result (EntryReturnsItem T.key T.Key.eq item self.entry) }
     {
-        match self {
-            Entry::Occupied(entry) => {
-                let OccupiedEntry {
-                    map,
-                    slot,
-                    place: _,
-                } = entry;
-                Ok(RefMut {
-                    map,
-                    slot,
-                    spent: false,
-                })
-            }
-            Entry::Vacant(entry) => entry.insert(item),
-        }
+        self.or_insert_with(|| item)
     }
 
     /// As `or_insert`, with the item that the closure returns. It is called only if the entry is vacant.
@@ -102,17 +88,7 @@ impl<'a, T: IdOrdItem> Entry<'a, T> {
         ensures vacant { OnErr result (entry_item self.entry ≡ None) }
         ensures refused { IfErr result (EntryReturnsItem T.key T.Key.eq item self.entry) }
     {
-        match self {
-            Entry::Occupied(entry) => {
-                let OccupiedEntry {
-                    map,
-                    slot,
-                    place: _,
-                } = entry;
-                Ok(Shown { map, slot })
-            }
-            Entry::Vacant(entry) => entry.insert_ref(item),
-        }
+        self.or_insert_with_ref(|| item)
     }
 
     /// As `or_insert_with`, for reading.
