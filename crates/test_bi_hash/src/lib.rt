@@ -21,6 +21,8 @@ mod filled;
 mod held;
 pub mod hosts;
 #[cfg(test)]
+mod or_insert;
+#[cfg(test)]
 mod owned;
 #[cfg(test)]
 mod random;
