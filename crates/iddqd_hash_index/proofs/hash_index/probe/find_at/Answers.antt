@@ -1,9 +1,7 @@
-use Rattle.std.proofs.Common.{◌≡◌, ℕ, ◌+◌, ◌*◌, length, true, option_copied, sym, ap, subst, ◌∙◌, arith}
-use Rattle.std.specs.List.{Contains}
-use Rattle.std.specs.Option.{IsSome, IsSomeAnd}
-use borrow.Author.Rules.{rules}
+use Rattle.std.proofs.Common.{◌≡◌, ℕ, ◌+◌, ◌*◌, length, true, sym, ap, subst, ◌∙◌, arith}
+use Rattle.std.specs.Option.{IsSomeAnd}
 use Rattle.std.proofs.lemmas.Bool.{true≢false}
-use Rattle.iddqd_hash_index.specs.Groups.{hash_at, slot_at, tag_at, pair_at, pairs_of}
+use Rattle.iddqd_hash_index.specs.Groups.{hash_at, slot_at, tag_at, pair_at}
 use Rattle.iddqd_store.specs.Store.{item_at}
 use Rattle.iddqd_hash_index.proofs.LaneLemmas.{LanesLeft-all, LanesLeft-next}
 use Rattle.iddqd_hash_index.proofs.FindLemmas.{cell_tag, listed, Compared-none, Compared-wider, Compared-one, IsVisited-wider, IsVisited-lane, IsVisited-new}

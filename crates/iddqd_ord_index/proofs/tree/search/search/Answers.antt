@@ -1,4 +1,4 @@
-use Rattle.std.proofs.Common.{◌≡◌, ◌+◌, ◌-◌, ◌/◌, ◌<◌, ◌∙◌, length, get_or, arith, sym, ap, Some, Less, Equal, Greater}
+use Rattle.std.proofs.Common.{◌≡◌, ◌+◌, ◌-◌, ◌/◌, ◌<◌, ◌∙◌, length, get_or, arith, ap, Some, Less, Equal, Greater}
 use Rattle.iddqd_store.specs.Store.{item_at}
 use Rattle.iddqd_ord_index.specs.Standing.{slot_standing, standing}
 use Rattle.iddqd_ord_index.proofs.DigitLemmas.{digits-fewer, digits_mono}
