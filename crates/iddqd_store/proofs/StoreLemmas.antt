@@ -4,8 +4,7 @@
 --     len_left      how many items there are without that of one slot
 --     given      what is there has a value
 --     last_moves      the item that moves into a vacant slot is that of the last slot
---     some_lent      what is lent is the item, if there is one
-use Rattle.std.proofs.Common.{Bool, true, false, cond, List, get_or, is_none, count_by, arith, ◌≡◌, ℕ, ◌+◌, ◌-◌, ◌<◌, ⊎_elim, length, set, Option, Some, None, IsSome, is_some, refl, sym, ap, ◌∙◌, true≢false, Bor, option_copied}
+use Rattle.std.proofs.Common.{Bool, true, false, cond, List, get_or, is_none, count_by, arith, ◌≡◌, ℕ, ◌+◌, ◌-◌, ◌<◌, ⊎_elim, length, set, Option, Some, None, IsSome, is_some, refl, sym, ap, ◌∙◌, true≢false}
 use Rattle.std.proofs.lemmas.Bool.{cases_lt}
 use Rattle.std.proofs.lemmas.List.{get_or-set_same, get_or-set_other, get_or_past}
 use Rattle.std.proofs.lemmas.List.Sums.{sum_by-set}
@@ -48,11 +47,6 @@ module _ {T : Type 0} where
 
     pub len_lent : store_len (with_item store slot w) ≡ store_len store
     len_lent = count_kept is_some store.slots slot (Some w) (occupied_within store slot some) some
-
-  -- what is lent is the item, if there is one
-  pub some_lent : (lent : Option (Bor T)) (o : Option T) → option_copied lent ≡ o → IsSome o → IsSome lent
-  some_lent None o e some = absurd (true≢false (sym some ∙ ap is_some (sym e)))
-  some_lent (Some x) o e some = refl
 
 -- the item that moves is that of the last slot, where that is occupied
 pub last_moves : {T : Type 0} (old new : List (Option T)) (last hole : ℕ) → EndsOccupied old → MovesLast old new last hole → last ≡ length old - 1

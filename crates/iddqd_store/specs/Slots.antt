@@ -1,6 +1,6 @@
 -- How the slots of an `ItemStore` are stored, and the chain of the vacant ones. No public clause cites this file.
 use Rattle.std.specs.Prelude.{◌≡◌, ◌≢◌, ℕ, ◌^◌, ◌<◌, ◌≤◌, List, map, length, Option, Some, None, is_some, count_by, slice_index_or, if◌then◌else◌, ◌==◌}
-use Rattle.iddqd_store.specs.Store.{MovesLast}
+use Rattle.iddqd_store.specs.Store.{MovesLast, items_present}
 use Rattle.iddqd_store.specs.declared.item_store.chain.Slot.{Slot}
 use Rattle.iddqd_store.specs.declared.item_store.chain.Slot.TheVariants.{Vacant, Occupied}
 
@@ -22,6 +22,10 @@ module _ {T : Type 0} where
   -- the item of each slot
   abbrev pub items_of : List (Slot T) → List (Option T)
   items_of es = map item_of es
+
+  -- the items of these slots, in their order
+  abbrev pub items_held : List (Slot T) → List T
+  items_held es = items_present (items_of es)
 
   -- the item of the last slot moves to the vacant one
   abbrev pub MovesItem : List (Slot T) → List (Slot T) → (last hole : ℕ) → Type 0

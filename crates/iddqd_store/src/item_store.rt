@@ -134,6 +134,18 @@ impl<T> ItemStore<T> {
         }
     }
 
+    /// Returns the item of an occupied slot.
+    #[inline]
+    pub fn item(&self, slot: u32) -> &T
+        requires { IsOccupied self.now slot }
+        ensures { item_at self.now slot ≡ Some result.now }
+    {
+        match &self.slots[slot as usize] {
+            Slot::Occupied(item) => item,
+            Slot::Vacant(_) => unreachable!(),
+        }
+    }
+
     /// Returns the first occupied slot from this number on with its item, or `None` if there is none. It looks at
     /// each slot up to that one once.
     #[inline]

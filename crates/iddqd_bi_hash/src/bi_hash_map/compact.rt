@@ -59,7 +59,7 @@ fn move_last<T: BiHashItem, S: BuildHasher>(
     ensures cut { EndsOccupied store.new.slots }
 {
     let last = store.slots() - 1;
-    let item = store.get(last).unwrap();
+    let item = store.item(last);
     let hash1 = hasher.hash_one(item.key1());
     let hash2 = hasher.hash_one(item.key2());
     if let Some((_, hole)) = store.last_into_hole() {

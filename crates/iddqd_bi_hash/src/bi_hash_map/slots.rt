@@ -39,7 +39,7 @@ impl<T, S> BiHashMap<T, S> {
         requires { IsOccupied self.now slot }
         ensures { item_of_slot self.now.slots self.now.items slot ≡ Some result.now }
     {
-        self.store.get(slot).unwrap()
+        self.store.item(slot)
     }
 
     // Returns the item of the slot, for writing.

@@ -53,7 +53,7 @@ fn move_last<T: IdHashItem, S: BuildHasher>(
     ensures cut { EndsOccupied store.new.slots }
 {
     let last = store.slots() - 1;
-    let hash = hasher.hash_one(store.get(last).unwrap().key());
+    let hash = hasher.hash_one(store.item(last).key());
     if let Some((_, hole)) = store.last_into_hole() {
         index.rename(hash, last, hole);
     }

@@ -46,7 +46,7 @@ impl<T: IdHashItem, S: BuildHasher> IdHashMap<T, S> {
     {
         let hash = self.hasher.hash_one(query);
         let slot = self.index.find(&self.store, hash, query, steps)?;
-        self.store.get(slot)
+        Some(self.store.item(slot))
     }
 
     /// Returns true if the query finds an item, by as many comparisons as `get`. Hashes the query once. Does not

@@ -20,7 +20,7 @@ impl<T, S> IdHashMap<T, S> {
         requires { IsSome (item_of_slot self.now.slots self.now.items slot) }
         ensures { item_of_slot self.now.slots self.now.items slot ≡ Some result.now }
     {
-        self.store.get(slot).unwrap()
+        self.store.item(slot)
     }
 
     // Returns the item of the slot, for writing.

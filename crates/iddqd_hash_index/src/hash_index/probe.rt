@@ -36,7 +36,7 @@ fn find_at<T, K: KeyOf<T>, Q: Equivalent<K::Key>>(
         let cell = &cells[LANES * at + lane];
         let slot = cell.slot();
         if cell.hash() == hash {
-            let item = store.get(slot).unwrap();
+            let item = store.item(slot);
             if steps.equal(query, K::key_of(item)) {
                 return Some(slot);
             }

@@ -56,7 +56,7 @@ fn place_of<T: IdOrdItem>(store: &ItemStore<T>, index: &OrdIndex, slot: u32) -> 
     requires occupied { IsOccupied store.now slot }
     ensures { slice_get index.now.slots result ≡ Some slot }
 {
-    let item = store.get(slot).unwrap();
+    let item = store.item(slot);
     match index.find(store, item.key(), &mut Steps::new()) {
         Ok(place) => place,
         Err(_) => unreachable!(),

@@ -29,7 +29,7 @@ impl<T: IdOrdItem> IdOrdMap<T> {
         ensures never_resets { steps.old ≤ steps.new }
     {
         let slot = self.index.get(&self.store, query, steps)?;
-        self.store.get(slot)
+        Some(self.store.item(slot))
     }
 
     /// Returns true if the query finds an item, by as many comparisons as `get`. Does not allocate.

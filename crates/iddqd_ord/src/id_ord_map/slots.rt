@@ -19,7 +19,7 @@ impl<T> IdOrdMap<T> {
         requires { IsSome (item_in_slot self.now slot) }
         ensures { item_in_slot self.now slot ≡ Some result.now }
     {
-        self.store.get(slot).unwrap()
+        self.store.item(slot)
     }
 
     // Returns the item of the slot, for writing.

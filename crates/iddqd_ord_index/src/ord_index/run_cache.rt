@@ -7,7 +7,7 @@ use arrayvec::ArrayVec;
 use std::marker::Model;
 
 // How many slots a cache has room for.
-const RUN: usize = 16;
+const RUN: usize = 64;
 
 /// Some slots that stand side by side in a list, and the position of the first.
 #[derive(Drop)]
@@ -148,6 +148,13 @@ fn fill(slots: &mut ArrayVec<u32, RUN>, mut walk: LeafWalk<'_>)
     ensures more { length slots.old.items ≤ length slots.new.items }
 {
     'fill: while slots.len() < RUN {
+        let run = walk.take_run(RUN - slots.len());
+        let Ok(()) = slots.try_extend_from_slice(run) else {
+            unreachable!()
+        };
+        if slots.len() == RUN {
+            return;
+        }
         match walk.next() {
             Some(slot) => slots.push(slot),
             None => return,

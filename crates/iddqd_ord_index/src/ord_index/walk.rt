@@ -70,12 +70,21 @@ fn step<'a>(root: &'a Node, leaves: &mut LeafWalk<'a>, at: u32) -> u32
 {
     match leaves.next() {
         Some(slot) => slot,
-        None => {
-            let (slot, behind) = descend(root, at);
-            *leaves = behind;
-            slot
-        }
+        None => step_down(root, leaves, at),
     }
+}
+
+// Goes down to the position: returns its slot, and lets the leaves go on behind it. A function of its own, since the
+// compiler clears the room for what a descent returns at the head of the function that it stands in.
+#[inline]
+fn step_down<'a>(root: &'a Node, leaves: &mut LeafWalk<'a>, at: u32) -> u32
+    requires in_list { at < length root.now.slots }
+    ensures slot { result ≡ slice_index root.now.slots at }
+    ensures there { BeginsWith leaves.new (drop (at + 1) root.now.slots) }
+{
+    let (slot, behind) = descend(root, at);
+    *leaves = behind;
+    slot
 }
 
 // Returns the slot at the position, and a walk that goes on behind it. By value, so that the caller's walk can stay in registers.
@@ -100,12 +109,20 @@ fn step_back<'a>(root: &'a Node, leaves: &mut LeafWalkBack<'a>, at: u32) -> u32
 {
     match leaves.next() {
         Some(slot) => slot,
-        None => {
-            let (slot, before) = descend_back(root, at);
-            *leaves = before;
-            slot
-        }
+        None => step_down_back(root, leaves, at),
     }
+}
+
+// Goes down to the position: returns its slot, and lets the leaves end before it. Apart for the same reason.
+#[inline]
+fn step_down_back<'a>(root: &'a Node, leaves: &mut LeafWalkBack<'a>, at: u32) -> u32
+    requires in_list { at < length root.now.slots }
+    ensures slot { result ≡ slice_index root.now.slots at }
+    ensures there { EndsWith leaves.new (take at root.now.slots) }
+{
+    let (slot, before) = descend_back(root, at);
+    *leaves = before;
+    slot
 }
 
 // Returns the slot at the position, and a walk that goes on before it.

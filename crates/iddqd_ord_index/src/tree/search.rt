@@ -27,7 +27,7 @@ pub fn search<T: IdOrdItem, Q: Comparable<T::Key>>(
     let mut high = slots.len();
     while low < high {
         let middle = low + (high - low) / 2;
-        let item = store.get(slots[middle]).unwrap();
+        let item = store.item(slots[middle]);
         match steps.compare(query, item.key()) {
             Ordering::Equal => return Ok(middle),
             Ordering::Greater => low = middle + 1,

@@ -1,5 +1,6 @@
 //! A walk over the items of a store, by slot number. Contracts see the items to come.
-ghost use Rattle.std.specs.Prelude.{◌≡◌};
+ghost use Rattle.std.specs.Prelude.{◌≡◌, [], ◌∷◌, IfSome, IfNone};
+ghost use Rattle.iddqd_store.specs.Slots.{items_held};
 ghost use Rattle.std.specs.Iterator.{YieldsFirstRef, item_count};
 
 use super::ItemStore;
@@ -15,12 +16,11 @@ pub struct Items<'a, T> {
 
 impl<'a, T> Model for Items<'a, T> {
     ghost use Rattle.std.specs.Prelude.{List};
-    ghost use Rattle.iddqd_store.specs.Slots.{items_of};
-    ghost use Rattle.iddqd_store.specs.Store.{items_present};
+    ghost use Rattle.iddqd_store.specs.Slots.{items_held};
 
     ghost Value = { List T };
 
-    ghost view = { λ it. items_present (items_of it.slots.now) };
+    ghost view = { λ it. items_held it.slots.now };
 }
 
 impl<T> ItemStore<T> {
@@ -46,12 +46,44 @@ impl<'a, T> Iterator for Items<'a, T> {
 
     #[inline]
     fn next(&mut self) -> Option<&'a T> {
-        'next: while let Some((slot, behind)) = self.slots.split_first() {
+        let (slot, behind) = self.slots.split_first()?;
+        if let Slot::Occupied(item) = slot {
             self.slots = behind;
-            if let Slot::Occupied(item) = slot {
-                return Some(item);
-            }
+            return Some(item);
         }
-        None
+        self.skip_vacant(behind)
     }
+}
+
+impl<'a, T> Items<'a, T> {
+    ghost use Rattle.iddqd_store.specs.Slots.{items_held};
+
+    // Goes on at these slots. A function of its own, since the compiler clears the room for what `first_occupied`
+    // returns at the head of the function that it stands in.
+    #[inline]
+    fn skip_vacant(&mut self, slots: &'a [Slot<T>]) -> Option<&'a T>
+        ensures item { IfSome result (λ item. items_held slots.now ≡ item.now ∷ self.new) }
+        ensures none { IfNone result (items_held slots.now ≡ []) }
+        ensures unchanged { IfNone result (self.new ≡ self.old) }
+    {
+        let (item, behind) = first_occupied(slots)?;
+        self.slots = behind;
+        Some(item)
+    }
+}
+
+// Returns the first item of these slots, and the slots behind it.
+#[inline(never)]
+fn first_occupied<T>(slots: &[Slot<T>]) -> Option<(&T, &[Slot<T>])>
+    ensures found { IfSome result (λ f. items_held slots.now ≡ f.0.now ∷ items_held f.1.now) }
+    ensures none { IfNone result (items_held slots.now ≡ []) }
+{
+    let mut rest = slots;
+    'next: while let Some((slot, behind)) = rest.split_first() {
+        rest = behind;
+        if let Slot::Occupied(item) = slot {
+            return Some((item, behind));
+        }
+    }
+    None
 }

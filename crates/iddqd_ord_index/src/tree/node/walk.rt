@@ -1,5 +1,5 @@
 //! A walk goes along the leaves below one node, and takes up that node's own slots between them.
-ghost use Rattle.std.specs.Prelude.{◌≡◌, ◌<◌, [], ◌∷◌, drop, length, slice_index_or, IfNone, IfSome};
+ghost use Rattle.std.specs.Prelude.{◌≡◌, ◌<◌, ◌≤◌, [], ◌∷◌, ◌++◌, drop, length, slice_index_or, IfNone, IfSome};
 ghost use Rattle.iddqd_ord_index.specs.Nodes.{subtrees, AreLeaves};
 ghost use Rattle.iddqd_ord_index.specs.Runs.{BeginsWith};
 ghost use Rattle.iddqd_ord_index.specs.Shape.{unused};
@@ -39,6 +39,17 @@ impl<'a> LeafWalk<'a> {
             slots: &[],
             leaves: &[],
         }
+    }
+
+    // Returns the slots that are left of one leaf, but at most so many, and goes on behind them.
+    #[inline]
+    pub(crate) fn take_run(&mut self, most: usize) -> &'a [u32]
+        ensures taken { self.old ≡ result.now ++ self.new }
+        ensures fits { length result.now ≤ most }
+    {
+        let (run, behind) = self.run.split_at(self.run.len().min(most));
+        self.run = behind;
+        run
     }
 
     // Returns the next slot, or `None` if there is none.

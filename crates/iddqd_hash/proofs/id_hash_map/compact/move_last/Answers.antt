@@ -1,4 +1,4 @@
-use Rattle.std.proofs.Common.{ℕ, ◌≡◌, ◌-◌, ◌∙◌, Some, refl, sym, ap, subst, option_copied, rules, IsPermutation}
+use Rattle.std.proofs.Common.{ℕ, ◌≡◌, ◌-◌, ◌∙◌, Some, refl, sym, ap, subst, rules, IsPermutation}
 use Rattle.std.proofs.lemmas.List.Sorted.{IsPermutation-refl}
 use Rattle.std.specs.List.{Contains}
 use Rattle.iddqd_hash_index.specs.HashPairs.{HasInstead, HashPairs}
@@ -26,14 +26,14 @@ under g store index hasher keyed = keyed_under g.T.IdHashItem.key g.T.Key.Partia
 
 pub rename-requires-clause-present : goal.rename-requires-clause-present
 rename-requires-clause-present g c =
-    let x = c.unwrap.result.now in
-    let there : item_at c.args.store.now (c.slots-last.result - 1) ≡ Some x = sym c.get.ensures ∙ ap option_copied c.unwrap.ensures in
+    let x = c.item.result.now in
+    let there : item_at c.args.store.now (c.slots-last.result - 1) ≡ Some x = c.item.ensures in
     let told : tell g c.args.hasher.now x ≡ c.hash_one-hash.result = ap (λ k. hash_under g.S.BuildHasher g.S.Hasher.Hasher c.args.hasher.now (g.T.Key.Hash.hash_input k)) (sym c.key.ensures) ∙ sym c.hash_one-hash.ensures in
     subst (λ h. Contains c.args.index.now.pairs (h, c.slots-last.result - 1)) told
     (last_listed (tell g c.args.hasher.now) c.args.store.now c.args.index.now.pairs c.requires.paired (under g c.args.store.now c.args.index.now c.args.hasher.now c.requires.keyed) (c.slots-last.result - 1) x there)
 
-there : (g : Over) (c : goal.After-rename g) → item_at c.args.store.now (c.slots-last.result - 1) ≡ Some c.unwrap.result.now
-there g c = sym c.get.ensures ∙ ap option_copied c.unwrap.ensures
+there : (g : Over) (c : goal.After-rename g) → item_at c.args.store.now (c.slots-last.result - 1) ≡ Some c.item.result.now
+there g c = c.item.ensures
 
 moves : (g : Over) (c : goal.After-rename g) → MovesLast c.args.store.now.slots c.last_into_hole.new.self.slots (c.slots-last.result - 1) c.in-Some.hole
 moves g c =
@@ -42,7 +42,7 @@ moves g c =
     let same = last_moves old.slots new.slots c.in-Some.field-0-0 c.in-Some.hole c.requires.cut c.in-Some.ensures.moves ∙ ap (λ n. n - 1) (sym c.slots-last.ensures.slots) in
     subst (λ s. MovesLast old.slots new.slots s c.in-Some.hole) same c.in-Some.ensures.moves
 
-instead : (g : Over) (c : goal.After-rename g) → HasInstead c.args.index.now.pairs c.rename.new.self.pairs (tell g c.args.hasher.now c.unwrap.result.now, c.slots-last.result - 1) (tell g c.args.hasher.now c.unwrap.result.now, c.in-Some.hole)
+instead : (g : Over) (c : goal.After-rename g) → HasInstead c.args.index.now.pairs c.rename.new.self.pairs (tell g c.args.hasher.now c.item.result.now, c.slots-last.result - 1) (tell g c.args.hasher.now c.item.result.now, c.in-Some.hole)
 instead g c =
     let told = ap (λ k. hash_under g.S.BuildHasher g.S.Hasher.Hasher c.args.hasher.now (g.T.Key.Hash.hash_input k)) (sym c.key.ensures) ∙ sym c.hash_one-hash.ensures in
     subst (λ h. HasInstead c.args.index.now.pairs c.rename.new.self.pairs (h, c.slots-last.result - 1) (h, c.in-Some.hole)) (sym told) c.rename.ensures.pairs
@@ -50,13 +50,13 @@ instead g c =
 pub returns-in-Some-clause-paired : goal.returns-in-Some-clause-paired
 returns-in-Some-clause-paired g c =
     let moved = c.last_into_hole in
-    moved_paired (tell g c.args.hasher.now) c.args.store.now moved.new.self c.args.index.now.pairs c.rename.new.self.pairs c.requires.paired (under g c.args.store.now c.args.index.now c.args.hasher.now c.requires.keyed) (c.slots-last.result - 1) c.in-Some.hole c.unwrap.result.now (there g c) (moves g c) (instead g c) moved.ensures.len moved.ensures.capacity moved.ensures.limit
+    moved_paired (tell g c.args.hasher.now) c.args.store.now moved.new.self c.args.index.now.pairs c.rename.new.self.pairs c.requires.paired (under g c.args.store.now c.args.index.now c.args.hasher.now c.requires.keyed) (c.slots-last.result - 1) c.in-Some.hole c.item.result.now (there g c) (moves g c) (instead g c) moved.ensures.len moved.ensures.capacity moved.ensures.limit
 
 pub returns-in-Some-clause-moves : goal.returns-in-Some-clause-moves
 returns-in-Some-clause-moves g c =
     let moved = c.last_into_hole.ensures in
     record {
-      items = moved_items (tell g c.args.hasher.now) c.args.store.now c.last_into_hole.new.self c.args.index.now.pairs c.rename.new.self.pairs c.requires.paired (under g c.args.store.now c.args.index.now c.args.hasher.now c.requires.keyed) (c.slots-last.result - 1) c.in-Some.hole c.unwrap.result.now (there g c) (moves g c);
+      items = moved_items (tell g c.args.hasher.now) c.args.store.now c.last_into_hole.new.self c.args.index.now.pairs c.rename.new.self.pairs c.requires.paired (under g c.args.store.now c.args.index.now c.args.hasher.now c.requires.keyed) (c.slots-last.result - 1) c.in-Some.hole c.item.result.now (there g c) (moves g c);
       len = moved.len;
       spare = c.rename.ensures.spare;
       bounds = record { capacity = moved.capacity; limit = moved.limit };
@@ -72,7 +72,7 @@ returns-in-Some-clause-keyed g c =
     let items = (returns-in-Some-clause-moves g c).items in
     make_keyed key g.T.Key.PartialEq.eq g.T.Key.Hash.hash_input (hash_under g.S.BuildHasher g.S.Hasher.Hasher) hasher moved.new.self c.rename.new.self
     (differ_moved key g.met.T.Key.Eq.laws (items_in old) (items_in moved.new.self) items c.requires.keyed.differ)
-    (moved_under (tell g hasher) old moved.new.self c.args.index.now.pairs c.rename.new.self.pairs c.requires.paired (under g old c.args.index.now hasher c.requires.keyed) (c.slots-last.result - 1) c.in-Some.hole c.unwrap.result.now (there g c) (moves g c) (instead g c) moved.ensures.len moved.ensures.capacity moved.ensures.limit)
+    (moved_under (tell g hasher) old moved.new.self c.args.index.now.pairs c.rename.new.self.pairs c.requires.paired (under g old c.args.index.now hasher c.requires.keyed) (c.slots-last.result - 1) c.in-Some.hole c.item.result.now (there g c) (moves g c) (instead g c) moved.ensures.len moved.ensures.capacity moved.ensures.limit)
 
 pub returns-in_default-clause-keyed : goal.returns-in_default-clause-keyed
 unfolding IsKeyed

@@ -1,14 +1,11 @@
-use Rattle.std.proofs.Common.{◌≡◌, ℕ, ◌+◌, ◌*◌, length, true, option_copied, sym, ap, subst, ◌∙◌, arith}
-use Rattle.std.specs.List.{Contains}
-use Rattle.std.specs.Option.{IsSome, IsSomeAnd}
-use borrow.Author.Rules.{rules}
+use Rattle.std.proofs.Common.{◌≡◌, ℕ, ◌+◌, ◌*◌, length, true, sym, ap, subst, ◌∙◌, arith}
+use Rattle.std.specs.Option.{IsSomeAnd}
 use Rattle.std.proofs.lemmas.Bool.{true≢false}
-use Rattle.iddqd_hash_index.specs.Groups.{hash_at, slot_at, tag_at, pair_at, pairs_of}
+use Rattle.iddqd_hash_index.specs.Groups.{hash_at, slot_at, tag_at, pair_at}
 use Rattle.iddqd_store.specs.Store.{item_at}
 use Rattle.iddqd_hash_index.proofs.LaneLemmas.{LanesLeft-all, LanesLeft-next}
 use Rattle.iddqd_hash_index.proofs.FindLemmas.{cell_tag, listed, Compared-none, Compared-wider, Compared-one, IsVisited-wider, IsVisited-lane, IsVisited-new}
-use Rattle.iddqd_hash_index.proofs.hash_index.probe.find_at.Given.{Over}
-use Rattle.iddqd_hash_index.proofs.hash_index.probe.find_at.Goals.{After-get, then-hash+else-equal, else-hash}
+use Rattle.iddqd_hash_index.proofs.hash_index.probe.find_at.Goals.{then-hash+else-equal, else-hash}
 use Rattle.iddqd_hash_index.proofs.hash_index.probe.find_at.Goals as goal
 
 pub search-init : goal.search-init
@@ -18,23 +15,18 @@ search-init g c = record {
   never_resets = omega arith;
 }
 
-contained : (g : Over) (c : After-get g) → Contains (pairs_of c.args.groups.now c.args.cells.now) (c.args.hash, c.slot-slot.result)
-contained g c =
+pub item-item-requires : goal.item-item-requires
+item-item-requires g c =
     let hit = c.search.invariant.left.only c.in-Some.lane c.in-Some.ensures.some in
     let some = c.tag.ensures.some in
-    listed _ _ c.args.at c.in-Some.lane _ _ c.requires.within hit.0 (λ z. omega (arith, hit.1, c.tag.ensures.value)) (sym c.hash.ensures ∙ c.if-hash.true) c.slot-slot.ensures
-
-pub unwrap-item-requires : goal.unwrap-item-requires
-unwrap-item-requires g c =
-    let some : IsSome (item_at c.args.store.now c.slot-slot.result) = c.requires.occupied _ (contained g c) in
-    search (rules, some)
+    c.requires.occupied _ (listed _ _ c.args.at c.in-Some.lane _ _ c.requires.within hit.0 (λ z. omega (arith, hit.1, c.tag.ensures.value)) (sym c.hash.ensures ∙ c.if-hash.true) c.slot-slot.ensures)
 
 pub returns-then-equal-clause-found : goal.returns-then-equal-clause-found
 returns-then-equal-clause-found g c =
     let hit = c.search.invariant.left.only c.in-Some.lane c.in-Some.ensures.some in
     let some = c.tag.ensures.some in
     let there = listed _ _ c.args.at c.in-Some.lane _ _ c.requires.within hit.0 (λ z. omega (arith, hit.1, c.tag.ensures.value)) (sym c.hash.ensures ∙ c.if-hash.true) c.slot-slot.ensures in
-    let held = ap option_copied (sym c.unwrap-item.ensures) ∙ c.get.ensures in (
+    let held = sym c.item-item.ensures in (
       there,
       subst (λ o. IsSomeAnd o (λ x. g.Q.Equivalent.equivalent c.args.query.now (g.K.KeyOf.key x) ≡ true)) held
           (ap (g.Q.Equivalent.equivalent c.args.query.now) (sym c.key_of.ensures) ∙ sym c.equal.ensures.value ∙ c.if-equal.true),
@@ -65,7 +57,7 @@ search-preserved g c =
     elim c.if-hash.branch [
       | then-hash+else-equal w ↦ record {
         left = LanesLeft-next _ _ Missed _ _ _ left c.search.invariant.left (λ _ passes.
-            let held = sym (ap option_copied (sym w.unwrap-item.ensures) ∙ w.get.ensures ∙ ap (item_at c.args.store.now) c.slot-slot.ensures) in
+            let held = sym (sym w.item-item.ensures ∙ ap (item_at c.args.store.now) c.slot-slot.ensures) in
             let passed = subst (λ o. IsSomeAnd o (λ x. g.Q.Equivalent.equivalent c.args.query.now (g.K.KeyOf.key x) ≡ true)) held passes in
             absurd (true≢false (sym passed ∙ ap (g.Q.Equivalent.equivalent c.args.query.now) (sym w.key_of.ensures) ∙ sym w.equal.ensures.value ∙ w.if-equal.false)));
         compared = Compared-one (12 * length gs) (tag_at gs) (pair_at c.args.cells.now) c.args.hash _ _ _ _ c.search.invariant.compared

@@ -1,17 +1,16 @@
-use Rattle.std.proofs.Common.{◌∙◌, sym, ap, option_copied}
+use Rattle.std.proofs.Common.{◌∙◌, sym, ap}
 use Rattle.iddqd_store.specs.SlotItems.{item_of_slot}
-use Rattle.iddqd_store.proofs.StoreLemmas.{some_lent}
 use Rattle.iddqd_ord.proofs.GetMutLemmas.{here, item_in_slot}
 use Rattle.iddqd_ord.proofs.id_ord_map.IdOrdMap.item_in_slot.Goals as goal
 
-pub unwrap-requires : goal.unwrap-requires
-unwrap-requires g c =
+pub item-requires : goal.item-requires
+item-requires g c =
     let m = c.self.inside in
-    some_lent c.get.result _ c.get.ensures (here m.store m.index.slots c.args.slot c.self.invariant (rw (← c.self.view_is) at c.requires))
+    here m.store m.index.slots c.args.slot c.self.invariant (rw (← c.self.view_is) at c.requires)
 
 pub returns : goal.returns
 returns g c =
     let m = c.self.inside in
     ap (λ v. item_of_slot v.slots v.items c.args.slot) (sym c.self.view_is)
     ∙ item_in_slot m.store m.index.slots c.args.slot c.self.invariant.occupied (rw (← c.self.view_is) at c.requires)
-    ∙ sym c.get.ensures ∙ ap option_copied c.unwrap.ensures
+    ∙ c.item.ensures

@@ -8,4 +8,4 @@ invariant-fill l = record {
 }
 
 abbrev pub decreases-fill : goal.decreases-fill
-decreases-fill l = 16 - length l.slots.items
+decreases-fill l = 64 - length l.slots.items

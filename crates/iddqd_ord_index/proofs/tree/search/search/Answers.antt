@@ -1,5 +1,4 @@
-use Rattle.std.proofs.Common.{◌≡◌, ◌+◌, ◌-◌, ◌/◌, ◌<◌, ◌∙◌, length, get_or, arith, sym, ap, Some, Less, Equal, Greater}
-use Rattle.std.specs.Option.{option_copied}
+use Rattle.std.proofs.Common.{◌≡◌, ◌+◌, ◌-◌, ◌/◌, ◌<◌, ◌∙◌, length, get_or, arith, ap, Some, Less, Equal, Greater}
 use Rattle.iddqd_store.specs.Store.{item_at}
 use Rattle.iddqd_ord_index.specs.Standing.{slot_standing, standing}
 use Rattle.iddqd_ord_index.proofs.DigitLemmas.{digits-fewer, digits_mono}
@@ -23,8 +22,8 @@ returns-in-Equal-clause-place g c =
     let within : middle < length c.args.slots.now = omega (arith, c.loop-low.invariant.within) in
     let compare = g.Q.Comparable.compare c.args.query.now in
     let key = g.T.IdOrdItem.key in
-    let item = c.unwrap-item.result.now in
-    let read : item_at c.args.store.now (get_or c.args.slots.now middle 0) ≡ Some item = sym c.get.ensures ∙ ap option_copied c.unwrap-item.ensures in
+    let item = c.item-item.result.now in
+    let read : item_at c.args.store.now (get_or c.args.slots.now middle 0) ≡ Some item = c.item-item.ensures in
     let answer : compare (key item) ≡ Equal = cc in
     (within, ap (standing key compare) read ∙ answer)
 
@@ -39,8 +38,8 @@ loop-low-preserved-in-Greater g c =
     let within : middle < length c.args.slots.now = omega (arith, c.loop-low.invariant.within) in
     let compare = g.Q.Comparable.compare c.args.query.now in
     let key = g.T.IdOrdItem.key in
-    let item = c.unwrap-item.result.now in
-    let read : item_at c.args.store.now (get_or c.args.slots.now middle 0) ≡ Some item = sym c.get.ensures ∙ ap option_copied c.unwrap-item.ensures in
+    let item = c.item-item.result.now in
+    let read : item_at c.args.store.now (get_or c.args.slots.now middle 0) ≡ Some item = c.item-item.ensures in
     let answer : compare (key item) ≡ Greater = cc in
     record {
       ordered = omega arith;
@@ -60,8 +59,8 @@ loop-low-preserved g c =
     let within : middle < length c.args.slots.now = omega (arith, c.loop-low.invariant.within) in
     let compare = g.Q.Comparable.compare c.args.query.now in
     let key = g.T.IdOrdItem.key in
-    let item = c.unwrap-item.result.now in
-    let read : item_at c.args.store.now (get_or c.args.slots.now middle 0) ≡ Some item = sym c.get.ensures ∙ ap option_copied c.unwrap-item.ensures in
+    let item = c.item-item.result.now in
+    let read : item_at c.args.store.now (get_or c.args.slots.now middle 0) ≡ Some item = c.item-item.ensures in
     let answer : compare (key item) ≡ Less = cc in
     record {
       ordered = omega arith;
