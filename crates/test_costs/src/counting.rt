@@ -1,11 +1,11 @@
 //! A key that counts its own comparisons shows the number that `Steps` shows, so no comparison goes past it.
 use crate::checks::check;
+use crate::counted::{Outcome, find, put, take};
 use iddqd::{IdHashItem, IdHashMap, IdOrdItem};
 use std::alloc::{AllocError, Global};
 use std::cell::Cell;
 use std::hash::{BuildHasher, BuildHasherDefault, FoldHasher};
 use std::test::Fail;
-use test_support::counted::Outcome;
 use test_support::counting::{CountingKey, Tallied};
 use test_support::hashers::ZeroHasher;
 use test_support::maps::{Hashed, Ordered, UnderTest, in_order};
@@ -42,8 +42,8 @@ fn is_true(outcome: Outcome, wanted: bool, compared: &Cell<u32>) -> bool {
 // Whether each insertion has counted truly, and each of a duplicate.
 fn are_put<T: IdOrdItem + Copy>(map: &mut Ordered<T>, items: &[T], compared: &Cell<u32>) -> bool {
     for item in items {
-        let is_put = is_true(map.put(*item), true, compared);
-        if !is_put || !is_true(map.put(*item), false, compared) {
+        let is_put = is_true(put(map, *item), true, compared);
+        if !is_put || !is_true(put(map, *item), false, compared) {
             return false;
         }
     }
@@ -58,8 +58,8 @@ fn are_taken<T: IdOrdItem + Copy>(
     compared: &Cell<u32>,
 ) -> bool {
     for item in items {
-        let is_found = is_true(map.find(item.key()), are_there, compared);
-        if !is_found || !is_true(map.take(item.key()), are_there, compared) {
+        let is_found = is_true(find(map, item.key()), are_there, compared);
+        if !is_found || !is_true(take(map, item.key()), are_there, compared) {
             return false;
         }
     }
@@ -105,7 +105,7 @@ fn are_found<T: IdHashItem, S: BuildHasher>(
     compared: &Cell<u32>,
 ) -> bool {
     for item in items {
-        if !is_true(map.find(item.key()), are_there, compared) {
+        if !is_true(find(map, item.key()), are_there, compared) {
             return false;
         }
     }

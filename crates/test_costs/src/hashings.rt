@@ -14,7 +14,6 @@ use std::test::Fail;
 use test_support::bulk::{Bulk, Hinted};
 use test_support::counting::{Fed, HashedKey};
 use test_support::maps::{Added, Copying, Hashed, UnderTest, by_hash};
-use test_support::plain::Plain;
 use test_support::walks::Walked;
 
 // What the keys count: how often they are hashed, and compared.
@@ -294,7 +293,7 @@ fn hashes_none<T: IdHashItem + Copy + Drop + PartialEq>(
     map.visit_all();
     check(
         rt,
-        map.reserve(100).is_ok() && map.reserve_or_tell(1000).is_ok(),
+        map.reserve(100).is_ok() && map.try_reserve(1000).is_ok(),
     );
     check(rt, counts.hashings() == 0);
     let (_, left) = map.written(20, |_| {});

@@ -7,6 +7,8 @@ mod alike;
 #[cfg(test)]
 mod checks;
 #[cfg(test)]
+mod counted;
+#[cfg(test)]
 mod counting;
 #[cfg(test)]
 mod hashings;

@@ -13,18 +13,17 @@ use test_support::bulk::{Bulk, Hinted};
 use test_support::counting::{CountingKey, Tallied};
 use test_support::hashers::ZeroHasher;
 use test_support::maps::{Added, Copying, Hashed, Ordered, UnderTest, by_hash, in_order};
-use test_support::plain::Plain;
 use test_support::walks::Walked;
 
 // The comparisons of one search for the key.
-fn searched<T: Copy, K, M: Plain<T, K>>(map: &M, key: &K, compared: &Cell<u32>) -> u32 {
+fn searched<T: Copy, K, M: Copying<T, K>>(map: &M, key: &K, compared: &Cell<u32>) -> u32 {
     let (_, steps) = map.get_counted(key);
     compared.set(0);
     steps
 }
 
 // A lookup of the key compares as often as one search.
-fn looks<T: Copy, K, M: Plain<T, K>>(
+fn looks<T: Copy, K, M: Copying<T, K>>(
     rt: &impl Abort,
     map: &M,
     key: &K,
@@ -39,7 +38,7 @@ fn looks<T: Copy, K, M: Plain<T, K>>(
 }
 
 // So do a duplicate, a replacement, a removal, and insertions of the key that is absent then.
-fn comes_and_goes<'a, M: Plain<Tallied<'a>, CountingKey<'a>>>(
+fn comes_and_goes<'a, M: Copying<Tallied<'a>, CountingKey<'a>>>(
     rt: &impl Abort,
     map: &mut M,
     item: Tallied<'a>,
@@ -60,7 +59,7 @@ fn comes_and_goes<'a, M: Plain<Tallied<'a>, CountingKey<'a>>>(
     check(rt, since(compared) == once);
 }
 
-fn goes<T: Copy + Drop, K, M: Plain<T, K>>(
+fn goes<T: Copy + Drop, K, M: Copying<T, K>>(
     rt: &impl Abort,
     map: &mut M,
     key: &K,
@@ -71,7 +70,7 @@ fn goes<T: Copy + Drop, K, M: Plain<T, K>>(
     check(rt, since(compared) == once);
 }
 
-fn calls_of_each<'a, M: Plain<Tallied<'a>, CountingKey<'a>> + Drop>(
+fn calls_of_each<'a, M: Copying<Tallied<'a>, CountingKey<'a>> + Drop>(
     rt: &impl Abort,
     mut map: M,
     items: &[Tallied<'a>],
@@ -115,7 +114,7 @@ fn by_zero<'a>(alloc: Global) -> ByZero<'a> {
 }
 
 // A map of the items, the comparisons of one search for the key in it, and no comparison counted since.
-fn built<'a, M: Plain<Tallied<'a>, CountingKey<'a>> + Bulk<Tallied<'a>>>(
+fn built<'a, M: Copying<Tallied<'a>, CountingKey<'a>> + Bulk<Tallied<'a>>>(
     alloc: Global,
     items: &[Tallied<'a>],
     key: &CountingKey<'a>,
@@ -127,7 +126,7 @@ fn built<'a, M: Plain<Tallied<'a>, CountingKey<'a>> + Bulk<Tallied<'a>>>(
 }
 
 // A guard, an entry, and what is called on it compare as often as one search; an insertion by an entry searches so often.
-fn by_guard_and_entry<'a, M: Plain<Tallied<'a>, CountingKey<'a>> + Bulk<Tallied<'a>> + Drop>(
+fn by_guard_and_entry<'a, M: Copying<Tallied<'a>, CountingKey<'a>> + Bulk<Tallied<'a>> + Drop>(
     rt: &impl Abort,
     alloc: Global,
     items: &[Tallied<'a>],
@@ -150,7 +149,7 @@ fn by_guard_and_entry<'a, M: Plain<Tallied<'a>, CountingKey<'a>> + Bulk<Tallied<
     Ok(())
 }
 
-fn guards_and_entries<'a, M: Plain<Tallied<'a>, CountingKey<'a>> + Bulk<Tallied<'a>> + Drop>(
+fn guards_and_entries<'a, M: Copying<Tallied<'a>, CountingKey<'a>> + Bulk<Tallied<'a>> + Drop>(
     rt: &impl Abort,
     alloc: Global,
     vacant_searches: u32,
@@ -188,7 +187,7 @@ fn hash_guards_and_entries_search_once(rt: HostRuntime) -> Result<(), Fail> {
 }
 
 // Walks and room compare no keys.
-fn compares_none<'a, M: Plain<Tallied<'a>, CountingKey<'a>> + Walked<Tallied<'a>>>(
+fn compares_none<'a, M: Copying<Tallied<'a>, CountingKey<'a>> + Walked<Tallied<'a>>>(
     rt: &impl Abort,
     mut map: M,
     items: &[Tallied<'a>],
@@ -221,7 +220,7 @@ fn walks_and_room_compare_none(rt: HostRuntime) -> Result<(), Fail> {
 }
 
 // The first of fifty items is taken out, so that the last one moves into its slot.
-fn shrinks<'a, M: Plain<Tallied<'a>, CountingKey<'a>> + Drop>(
+fn shrinks<'a, M: Copying<Tallied<'a>, CountingKey<'a>> + Drop>(
     rt: &impl Abort,
     mut map: M,
     items: &[Tallied<'a>],
@@ -335,7 +334,7 @@ fn bounds_search_once(rt: HostRuntime) -> Result<(), Fail> {
 }
 
 // How often the items are compared as they are inserted one by one.
-fn one_by_one<'a, M: Plain<Tallied<'a>, CountingKey<'a>> + Drop>(
+fn one_by_one<'a, M: Copying<Tallied<'a>, CountingKey<'a>> + Drop>(
     mut map: M,
     items: &[Tallied<'a>],
     compared: &Cell<u32>,
@@ -348,7 +347,7 @@ fn one_by_one<'a, M: Plain<Tallied<'a>, CountingKey<'a>> + Drop>(
 }
 
 // The calls that take many items compare as often as that many insertions.
-fn takes_many<'a, M: Plain<Tallied<'a>, CountingKey<'a>> + Bulk<Tallied<'a>> + Drop>(
+fn takes_many<'a, M: Copying<Tallied<'a>, CountingKey<'a>> + Bulk<Tallied<'a>> + Drop>(
     rt: &impl Abort,
     alloc: Global,
     mut map: M,

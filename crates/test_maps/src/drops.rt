@@ -2,15 +2,15 @@
 ghost use Rattle.iddqd.specs.Contents.{Ascends};
 
 use crate::checks::check;
+use crate::tickets::{Dropping, Ticket};
 use iddqd::errors::{DuplicateItem, FromIterError};
 use iddqd::{IdOrdItem, IdOrdMap};
 use std::alloc::{AllocError, Global};
 use std::cell::Cell;
 use std::process::Abort;
 use std::test::Fail;
-use test_support::bulk::Bulk;
+use test_support::bulk::{Announced, Bulk};
 use test_support::maps::{Hashed, Ordered, UnderTest, by_hash, in_order};
-use test_support::tickets::{Announced, Dropping, Ticket};
 use test_support::walks::Walked;
 
 // The items of the numbers from one to below another.
@@ -103,7 +103,7 @@ fn keeps_even<'a, M: UnderTest<Ticket<'a>, u32> + Dropping<'a> + Drop>(
     dropped: &'a Cell<u32>,
 ) {
     check(rt, go_in(&mut map, 9, dropped));
-    map.keep_even();
+    let map = map.keep_even();
     check(rt, dropped.get() == 4);
     drop(map);
     check(rt, dropped.get() == 9);

@@ -1,5 +1,6 @@
 //! Rows of positions, ranges and walks from the back, each against a plain list.
 use crate::checks::check;
+use crate::tickets::Ticket;
 use iddqd::Text;
 use std::alloc::{AllocError, Global};
 use std::cell::Cell;
@@ -9,7 +10,6 @@ use std::test::Fail;
 use test_support::caseless::{Caseless, Coarse, item_of};
 use test_support::items::{Numbered, Titled};
 use test_support::maps::{Ordered, UnderTest, in_order};
-use test_support::tickets::Ticket;
 
 fn numbered(number: u32) -> Numbered {
     Numbered {

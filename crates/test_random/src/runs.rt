@@ -13,11 +13,9 @@ use std::hash::BuildHasherDefault;
 use std::process::Abort;
 use std::test::Fail;
 use test_support::caseless::{Caseless, Coarse};
-use test_support::entered::Entered;
-use test_support::guards::{Copied, Probed};
+use test_support::coarse::{CoarseMap, Copied};
 use test_support::hashers::ZeroHasher;
 use test_support::maps::{Copying, Hashed, Ordered, UnderTest, by_hash};
-use test_support::respelled::Respelled;
 
 /// What is called.
 #[derive(Clone, Copy, Debug)]
@@ -79,13 +77,7 @@ fn drawn_call(draws: &mut Draws) -> Call {
 }
 
 // What takes every call.
-trait Callable: Copying<Coarse, Caseless>
-    + Probed
-    + Copied
-    + Entered
-    + Respelled
-    + Written
-    + Drop {}
+trait Callable: CoarseMap + Copied + Written + Drop {}
 
 impl Callable for Ordered<Coarse> {}
 
@@ -343,7 +335,7 @@ fn calls_of_random_hashes(rt: HostRuntime) -> Result<(), Fail> {
 }
 
 // Maps that are made of many items, each compared with its list.
-fn make_many<M: Copying<Coarse, Caseless> + Probed + test_support::bulk::Bulk<Coarse> + Drop>(
+fn make_many<M: CoarseMap + test_support::bulk::Bulk<Coarse> + Drop>(
     rt: &impl Abort,
     alloc: Global,
     seed: u64,

@@ -4,7 +4,7 @@ use crate::plain::is_same;
 use std::alloc::{AllocError, Global};
 use std::hash::BuildHasher;
 use test_support::caseless::{Caseless, Coarse};
-use test_support::guards::Copied;
+use test_support::coarse::Copied;
 use test_support::maps::{Copying, Hashed, Ordered, UnderTest};
 use test_support::walks::Walked;
 

@@ -3,7 +3,7 @@ use crate::words::tell;
 use std::alloc::Global;
 use std::test::Fail;
 use test_support::caseless::{Caseless, Coarse, item_of, spelled};
-use test_support::entered::{Entered, Put};
+use test_support::coarse::{CoarseMap, Put};
 use test_support::heap::{arm, is_met};
 use test_support::maps::{Copying, Ordered, UnderTest, by_hash, in_order};
 
@@ -23,11 +23,11 @@ enum Call {
 }
 
 // Where the call is `insert_entry`, the item is taken out at once.
-impl<M: Entered> Tried<M> for Call {
+impl<M: CoarseMap> Tried<M> for Call {
     fn put(self, map: &mut M, item: Coarse) -> Put {
         let mut asked = 0;
         match self {
-            Call::Insert => map.put_vacant(*b"xyz", item),
+            Call::Insert => map.put_vacant(&Caseless(*b"xyz"), item),
             Call::InsertEntry => map.put_and_remove(item),
             Call::OrInsert => map.double_or_put(item),
             Call::OrInsertWith => map.find_or_put(item, &mut asked),

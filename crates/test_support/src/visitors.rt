@@ -55,22 +55,20 @@ pub trait Visited {
     fn retain_mut(&mut self, visitor: &mut Change);
 }
 
-impl Visited for Ordered<Numbered> {
-    fn visit(&mut self, number: u32, visitor: &mut Change) -> Option<bool> {
-        self.map.visit(&number, visitor)
-    }
+macro_rules! visited {
+    ($map:ty) => {
+        impl Visited for $map {
+            fn visit(&mut self, number: u32, visitor: &mut Change) -> Option<bool> {
+                self.map.visit(&number, visitor)
+            }
 
-    fn retain_mut(&mut self, visitor: &mut Change) {
-        self.map.retain_mut(visitor);
-    }
+            fn retain_mut(&mut self, visitor: &mut Change) {
+                self.map.retain_mut(visitor);
+            }
+        }
+    };
 }
 
-impl Visited for Hashed<Numbered> {
-    fn visit(&mut self, number: u32, visitor: &mut Change) -> Option<bool> {
-        self.map.visit(&number, visitor)
-    }
+visited!(Ordered<Numbered>);
 
-    fn retain_mut(&mut self, visitor: &mut Change) {
-        self.map.retain_mut(visitor);
-    }
-}
+visited!(Hashed<Numbered>);
