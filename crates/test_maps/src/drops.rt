@@ -28,7 +28,7 @@ fn tickets(
 }
 
 // Whether those numbers are inserted, and none is dropped.
-fn go_in<'a, M: UnderTest<Ticket<'a>, u32>>(map: &mut M, end: u32, dropped: &'a Cell<u32>) -> bool {
+fn go_in<'a, M: Dropping<'a>>(map: &mut M, end: u32, dropped: &'a Cell<u32>) -> bool {
     for number in 0..end {
         if !map.is_put(Ticket { number, dropped }) {
             return false;
@@ -37,11 +37,7 @@ fn go_in<'a, M: UnderTest<Ticket<'a>, u32>>(map: &mut M, end: u32, dropped: &'a 
     dropped.get() == 0
 }
 
-fn clears<'a, M: UnderTest<Ticket<'a>, u32> + Drop>(
-    rt: &impl Abort,
-    mut map: M,
-    dropped: &'a Cell<u32>,
-) {
+fn clears<'a, M: Dropping<'a>>(rt: &impl Abort, mut map: M, dropped: &'a Cell<u32>) {
     check(rt, go_in(&mut map, 5, dropped));
     map.clear();
     check(rt, dropped.get() == 5);
@@ -57,11 +53,7 @@ fn cleared(rt: HostRuntime) {
 }
 
 // One is taken out before.
-fn goes<'a, M: UnderTest<Ticket<'a>, u32> + Drop>(
-    rt: &impl Abort,
-    mut map: M,
-    dropped: &'a Cell<u32>,
-) {
+fn goes<'a, M: Dropping<'a>>(rt: &impl Abort, mut map: M, dropped: &'a Cell<u32>) {
     check(rt, go_in(&mut map, 30, dropped));
     drop(map.remove(&7));
     check(rt, dropped.get() == 1);
@@ -78,11 +70,7 @@ fn removed_refused_and_dropped_with_the_map(rt: HostRuntime) {
     goes(&rt, by_hash(rt.alloc()), &hashed);
 }
 
-fn retains<'a, M: UnderTest<Ticket<'a>, u32> + Drop>(
-    rt: &impl Abort,
-    mut map: M,
-    dropped: &'a Cell<u32>,
-) {
+fn retains<'a, M: Dropping<'a>>(rt: &impl Abort, mut map: M, dropped: &'a Cell<u32>) {
     check(rt, go_in(&mut map, 9, dropped));
     map.retain(|item| item.number % 3 == 0);
     check(rt, dropped.get() == 6);
@@ -97,11 +85,7 @@ fn retained(rt: HostRuntime) {
     retains(&rt, by_hash(rt.alloc()), &hashed);
 }
 
-fn keeps_even<'a, M: UnderTest<Ticket<'a>, u32> + Dropping<'a> + Drop>(
-    rt: &impl Abort,
-    mut map: M,
-    dropped: &'a Cell<u32>,
-) {
+fn keeps_even<'a, M: Dropping<'a>>(rt: &impl Abort, mut map: M, dropped: &'a Cell<u32>) {
     check(rt, go_in(&mut map, 9, dropped));
     let map = map.keep_even();
     check(rt, dropped.get() == 4);
@@ -117,7 +101,7 @@ fn retained_by_a_visitor(rt: HostRuntime) {
 }
 
 // Three of the five that come are there.
-fn extends<'a, M: UnderTest<Ticket<'a>, u32> + Drop>(
+fn extends<'a, M: Dropping<'a>>(
     rt: &impl Abort,
     mut map: M,
     coming: Vec<Ticket<'a>>,
@@ -140,11 +124,7 @@ fn replaced_by_extend(rt: HostRuntime) -> Result<(), Fail> {
     Ok(())
 }
 
-fn overwrites<'a, M: UnderTest<Ticket<'a>, u32> + Drop>(
-    rt: &impl Abort,
-    mut map: M,
-    dropped: &'a Cell<u32>,
-) {
+fn overwrites<'a, M: Dropping<'a>>(rt: &impl Abort, mut map: M, dropped: &'a Cell<u32>) {
     check(rt, go_in(&mut map, 3, dropped));
     drop(map.overwrite(Ticket { number: 1, dropped }));
     check(rt, dropped.get() == 1);
@@ -161,11 +141,7 @@ fn overwritten(rt: HostRuntime) {
     overwrites(&rt, by_hash(rt.alloc()), &hashed);
 }
 
-fn replaces<'a, M: UnderTest<Ticket<'a>, u32> + Dropping<'a>>(
-    rt: &impl Abort,
-    mut map: M,
-    dropped: &'a Cell<u32>,
-) {
+fn replaces<'a, M: Dropping<'a>>(rt: &impl Abort, mut map: M, dropped: &'a Cell<u32>) {
     check(rt, go_in(&mut map, 3, dropped));
     check(rt, map.replace_by_entry(Ticket { number: 1, dropped }));
     check(rt, dropped.get() == 4);
@@ -178,7 +154,7 @@ fn replaced_by_an_entry(rt: HostRuntime) {
     replaces(&rt, by_hash(rt.alloc()), &hashed);
 }
 
-fn finds_or_puts<'a, M: UnderTest<Ticket<'a>, u32> + Dropping<'a>>(
+fn finds_or_puts<'a, M: Dropping<'a>>(
     rt: &impl Abort,
     mut map: M,
     number: u32,
@@ -222,11 +198,7 @@ fn shown_by_an_occupied_entry(rt: HostRuntime) {
     check(&rt, shows(map, again) && dropped.get() == 2);
 }
 
-fn removes<'a, M: UnderTest<Ticket<'a>, u32> + Dropping<'a>>(
-    rt: &impl Abort,
-    mut map: M,
-    dropped: &'a Cell<u32>,
-) {
+fn removes<'a, M: Dropping<'a>>(rt: &impl Abort, mut map: M, dropped: &'a Cell<u32>) {
     check(rt, go_in(&mut map, 3, dropped));
     check(rt, map.remove_by_entry(0));
     check(rt, dropped.get() == 3);
@@ -239,11 +211,7 @@ fn removed_by_an_entry(rt: HostRuntime) {
     removes(&rt, by_hash(rt.alloc()), &hashed);
 }
 
-fn walks<'a, M: UnderTest<Ticket<'a>, u32> + Dropping<'a> + Drop>(
-    rt: &impl Abort,
-    mut map: M,
-    dropped: &'a Cell<u32>,
-) {
+fn walks<'a, M: Dropping<'a>>(rt: &impl Abort, mut map: M, dropped: &'a Cell<u32>) {
     check(rt, go_in(&mut map, 30, dropped));
     check(rt, map.walk_part(10) == 10);
     check(rt, dropped.get() == 30);

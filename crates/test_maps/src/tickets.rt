@@ -1,7 +1,7 @@
 //! Items that count how often one is dropped, and what a row asks of a map of either kind that drops them.
 use iddqd::{IdHashItem, IdOrdItem, Visit, id_hash_map, id_ord_map};
 use std::cell::Cell;
-use test_support::maps::{Hashed, Ordered};
+use test_support::maps::{Hashed, Ordered, UnderTest};
 
 /// A number, and the cell that counts each drop of such an item.
 pub struct Ticket<'a> {
@@ -52,7 +52,7 @@ impl<'a> Visit<Ticket<'a>> for KeepsEven {
 
 /// A map of either kind, by its calls that drop items beside those that rows ask by keys. Whether an entry was of the
 /// kind that the call needs.
-pub trait Dropping<'a>: Sized {
+pub(crate) trait Dropping<'a>: UnderTest<Ticket<'a>, u32> + Drop {
     /// `retain_mut`, which keeps the items of even numbers.
     fn keep_even(self) -> Self;
 
