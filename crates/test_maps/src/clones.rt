@@ -21,7 +21,7 @@ fn is_apart<M: CoarseMap>(rt: &impl Abort, map: &M, twin: &mut M) {
     check(rt, twin.capacity() == 3);
     check(rt, twin.write_by_reborrow(&Caseless(*b"foo"), 7).is_some());
     check(rt, !twin.equals(map));
-    let found = map.get(&Caseless(*b"foo")).map(spelled);
+    let found = map.spelled_at(*b"foo");
     check(rt, found == Some((*b"foo", 42)));
 }
 

@@ -10,8 +10,7 @@ use std::cell::Cell;
 use std::process::Abort;
 use std::test::Fail;
 use test_support::bulk::{Announced, Bulk};
-use test_support::maps::{Hashed, Ordered, UnderTest, by_hash, in_order};
-use test_support::walks::Walked;
+use test_support::maps::{Hashed, Ordered, by_hash, in_order};
 
 // The items of the numbers from one to below another.
 fn tickets(

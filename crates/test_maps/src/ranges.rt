@@ -356,10 +356,6 @@ fn titled(alloc: Global, name: &str, value: u32) -> Result<Titled, AllocError> {
     })
 }
 
-fn count_texts(map: &Ordered<Titled>, low: Bound<&Text<'_>>, high: Bound<&Text<'_>>) -> usize {
-    map.count_between((low, high)).0
-}
-
 // Fills the map with four items.
 fn put_titles(rt: &impl Abort, alloc: Global, map: &mut Ordered<Titled>) -> Result<(), AllocError> {
     for (name, value) in [("pear", 4), ("apple", 1), ("fig", 2), ("melon", 3)] {
@@ -369,22 +365,14 @@ fn put_titles(rt: &impl Abort, alloc: Global, map: &mut Ordered<Titled>) -> Resu
 }
 
 fn are_counted(rt: &impl Abort, map: &Ordered<Titled>, low: &Text<'_>, high: &Text<'_>) {
-    check(
-        rt,
-        count_texts(map, Bound::Included(low), Bound::Included(high)) == 2,
-    );
-    check(
-        rt,
-        count_texts(map, Bound::Included(low), Bound::Excluded(high)) == 1,
-    );
-    check(
-        rt,
-        count_texts(map, Bound::Excluded(high), Bound::Unbounded) == 1,
-    );
-    check(
-        rt,
-        count_texts(map, Bound::Included(high), Bound::Included(low)) == 0,
-    );
+    for (from, to, count) in [
+        (Bound::Included(low), Bound::Included(high), 2),
+        (Bound::Included(low), Bound::Excluded(high), 1),
+        (Bound::Excluded(high), Bound::Unbounded, 1),
+        (Bound::Included(high), Bound::Included(low), 0),
+    ] {
+        check(rt, map.count_between((from, to)).0 == count);
+    }
 }
 
 fn value_of(item: Option<&Titled>) -> Option<u32> {
@@ -392,14 +380,11 @@ fn value_of(item: Option<&Titled>) -> Option<u32> {
 }
 
 fn are_found(rt: &impl Abort, map: &Ordered<Titled>, low: &Text<'_>, high: &Text<'_>) {
-    check(
-        rt,
-        value_of(map.lower_bound(Bound::Included(low))) == Some(2),
+    let (first, last) = (
+        map.lower_bound(Bound::Included(low)),
+        map.upper_bound(Bound::Excluded(high)),
     );
-    check(
-        rt,
-        value_of(map.upper_bound(Bound::Excluded(high))) == Some(2),
-    );
+    check(rt, value_of(first) == Some(2) && value_of(last) == Some(2));
     check(rt, map.index_of(high).0 == Ok(2));
     check(rt, map.index_of(&Text("n")).0 == Err(3));
 }

@@ -4,9 +4,8 @@ use crate::plain::{Plain, is_same};
 use std::alloc::AllocError;
 use test_support::caseless::{Caseless, Coarse, spelled};
 use test_support::coarse::CoarseMap;
-use test_support::maps::{Copying, UnderTest};
 
-pub(crate) fn insert<M: Copying<Coarse, Caseless>>(
+pub(crate) fn insert<M: CoarseMap>(
     map: &mut M,
     plain: &mut Plain,
     draws: &mut Draws,
@@ -15,7 +14,7 @@ pub(crate) fn insert<M: Copying<Coarse, Caseless>>(
     plain.inserts(item, map.insert(item))
 }
 
-pub(crate) fn overwrite<M: UnderTest<Coarse, Caseless>>(
+pub(crate) fn overwrite<M: CoarseMap>(
     map: &mut M,
     plain: &mut Plain,
     draws: &mut Draws,
@@ -36,11 +35,7 @@ pub(crate) fn overwrite<M: UnderTest<Coarse, Caseless>>(
     }
 }
 
-pub(crate) fn remove<M: UnderTest<Coarse, Caseless>>(
-    map: &mut M,
-    plain: &mut Plain,
-    draws: &mut Draws,
-) -> bool {
+pub(crate) fn remove<M: CoarseMap>(map: &mut M, plain: &mut Plain, draws: &mut Draws) -> bool {
     let name = draws.name();
     is_same(map.remove(&name), plain.take(&name))
 }
@@ -96,11 +91,7 @@ pub(crate) fn respell<M: CoarseMap>(map: &mut M, plain: &mut Plain, draws: &mut 
     }
 }
 
-pub(crate) fn retain<M: UnderTest<Coarse, Caseless>>(
-    map: &mut M,
-    plain: &mut Plain,
-    draws: &mut Draws,
-) -> bool {
+pub(crate) fn retain<M: CoarseMap>(map: &mut M, plain: &mut Plain, draws: &mut Draws) -> bool {
     let (part, rest) = (draws.below(8).saturating_add(3), draws.below(3));
     let before = plain.len();
     plain
@@ -210,11 +201,7 @@ pub(crate) fn reserve<M: CoarseMap>(map: &mut M, plain: &Plain, draws: &mut Draw
     }
 }
 
-pub(crate) fn shrink<M: UnderTest<Coarse, Caseless>>(
-    map: &mut M,
-    plain: &mut Plain,
-    draws: &mut Draws,
-) -> bool {
+pub(crate) fn shrink<M: CoarseMap>(map: &mut M, plain: &mut Plain, draws: &mut Draws) -> bool {
     let before = map.capacity();
     plain.vacant = 0;
     if draws.coin() {
@@ -224,7 +211,7 @@ pub(crate) fn shrink<M: UnderTest<Coarse, Caseless>>(
     map.shrink_to(min).is_ok() && map.capacity() <= before && map.capacity() >= min.min(before)
 }
 
-pub(crate) fn clear<M: UnderTest<Coarse, Caseless>>(map: &mut M, plain: &mut Plain) -> bool {
+pub(crate) fn clear<M: CoarseMap>(map: &mut M, plain: &mut Plain) -> bool {
     map.clear();
     plain.items.clear();
     plain.vacant = 0;
@@ -242,7 +229,7 @@ fn are_listed(plain: &Plain, walked: &[Coarse]) -> bool {
 }
 
 // Whether the map finds each item of the list.
-fn are_found<M: UnderTest<Coarse, Caseless>>(map: &M, plain: &Plain) -> bool {
+fn are_found<M: CoarseMap>(map: &M, plain: &Plain) -> bool {
     for item in plain.items.iter() {
         if map.get(&item.name).map(spelled) != Some(spelled(item)) {
             return false;

@@ -5,9 +5,8 @@ use crate::plain::{Plain, is_same};
 use iddqd::errors::{DuplicateItem, FromIterError};
 use std::alloc::{AllocError, Global};
 use test_support::bulk::Bulk;
-use test_support::caseless::{Caseless, Coarse};
+use test_support::caseless::Coarse;
 use test_support::coarse::{CoarseMap, Copied};
-use test_support::maps::{Copying, UnderTest};
 
 // Some items, of which some have equal names.
 pub(crate) fn drawn(alloc: Global, draws: &mut Draws) -> Result<Vec<Coarse>, AllocError> {
@@ -39,7 +38,7 @@ fn overwrite_all(plain: &mut Plain, items: &[Coarse]) -> Result<Option<Coarse>, 
     Ok(None)
 }
 
-pub(crate) fn extend<M: UnderTest<Coarse, Caseless>>(
+pub(crate) fn extend<M: CoarseMap>(
     alloc: Global,
     map: &mut M,
     plain: &mut Plain,

@@ -12,10 +12,10 @@ use std::collections::hash_map::RandomState;
 use std::hash::BuildHasherDefault;
 use std::process::Abort;
 use std::test::Fail;
-use test_support::caseless::{Caseless, Coarse};
+use test_support::caseless::Coarse;
 use test_support::coarse::{CoarseMap, Copied};
 use test_support::hashers::ZeroHasher;
-use test_support::maps::{Copying, Hashed, Ordered, UnderTest, by_hash};
+use test_support::maps::{Copying, Hashed, Ordered, by_hash};
 
 /// What is called.
 #[derive(Clone, Copy, Debug)]
@@ -251,52 +251,58 @@ fn run_ordered(rt: &impl Abort, alloc: Global, run: Run) -> Result<(), AllocErro
 }
 
 // Runs of one kind, that differ in their seeds.
-fn of_seed(seed: u64, calls: u32, letters: u32, limit: u32) -> Run {
+fn of_kind(calls: u32, letters: u32, limit: u32) -> Run {
     Run {
-        seed,
+        seed: 0,
         calls,
         letters,
         limit,
     }
 }
 
-// The run, once it is printed what it is made of.
-fn announced(rt: &impl Print, run: Run) -> Result<Run, Fail> {
+// The run of the seed, once it is printed what it is made of.
+fn announced(rt: &impl Print, seed: u64, run: Run) -> Result<Run, Fail> {
+    let run = Run { seed, ..run };
     println!(rt; "{run:?}")?;
     Ok(run)
 }
 
-#[test]
-fn ordered_calls(rt: HostRuntime) -> Result<(), Fail> {
-    for seed in [11, 12, 13] {
-        let run = announced(&rt, of_seed(seed, CALLS, 3, MAX_ITEMS))?;
-        run_ordered(&rt, rt.alloc(), run)?;
+fn run_seeds(
+    rt: &(impl Abort + Print),
+    alloc: Global,
+    seeds: &[u64],
+    run: Run,
+) -> Result<(), Fail> {
+    for seed in seeds {
+        run_ordered(rt, alloc, announced(rt, *seed, run)?)?;
     }
     Ok(())
+}
+
+#[test]
+fn ordered_calls(rt: HostRuntime) -> Result<(), Fail> {
+    run_seeds(&rt, rt.alloc(), &[11, 12, 13], of_kind(CALLS, 3, MAX_ITEMS))
 }
 
 #[test]
 fn ordered_calls_of_many_names(rt: HostRuntime) -> Result<(), Fail> {
-    for seed in [21, 22] {
-        let run = announced(&rt, of_seed(seed, MANY_CALLS, 7, MAX_ITEMS))?;
-        run_ordered(&rt, rt.alloc(), run)?;
-    }
-    Ok(())
+    run_seeds(
+        &rt,
+        rt.alloc(),
+        &[21, 22],
+        of_kind(MANY_CALLS, 7, MAX_ITEMS),
+    )
 }
 
 #[test]
 fn ordered_calls_at_the_limit(rt: HostRuntime) -> Result<(), Fail> {
-    for seed in [31, 32] {
-        let run = announced(&rt, of_seed(seed, CALLS, 3, 14))?;
-        run_ordered(&rt, rt.alloc(), run)?;
-    }
-    Ok(())
+    run_seeds(&rt, rt.alloc(), &[31, 32], of_kind(CALLS, 3, 14))
 }
 
 #[test]
 fn hash_calls(rt: HostRuntime) -> Result<(), Fail> {
     for seed in [41, 42] {
-        let run = announced(&rt, of_seed(seed, MANY_CALLS, 7, MAX_ITEMS))?;
+        let run = announced(&rt, seed, of_kind(MANY_CALLS, 7, MAX_ITEMS))?;
         run_default(&rt, rt.alloc(), run, by_hash(rt.alloc()))?;
     }
     Ok(())
@@ -305,7 +311,7 @@ fn hash_calls(rt: HostRuntime) -> Result<(), Fail> {
 #[test]
 fn hash_calls_at_the_limit(rt: HostRuntime) -> Result<(), Fail> {
     for seed in [51, 52] {
-        let run = announced(&rt, of_seed(seed, CALLS, 3, 14))?;
+        let run = announced(&rt, seed, of_kind(CALLS, 3, 14))?;
         let hasher = iddqd::DefaultHashBuilder::new();
         let map = Hashed::new(IdHashMap::with_limit(rt.alloc(), 14, hasher));
         run_default(&rt, rt.alloc(), run, map)?;
@@ -316,7 +322,7 @@ fn hash_calls_at_the_limit(rt: HostRuntime) -> Result<(), Fail> {
 #[test]
 fn calls_of_equal_hashes(rt: HostRuntime) -> Result<(), Fail> {
     for seed in [61, 62, 63] {
-        let run = announced(&rt, of_seed(seed, CALLS, 3, MAX_ITEMS))?;
+        let run = announced(&rt, seed, of_kind(CALLS, 3, MAX_ITEMS))?;
         let hasher: BuildHasherDefault<ZeroHasher> = BuildHasherDefault::new();
         let map = Hashed::new(IdHashMap::with_hasher(rt.alloc(), hasher));
         run_hashed(&rt, rt.alloc(), run, map)?;
@@ -327,7 +333,7 @@ fn calls_of_equal_hashes(rt: HostRuntime) -> Result<(), Fail> {
 #[test]
 fn calls_of_random_hashes(rt: HostRuntime) -> Result<(), Fail> {
     for seed in [71, 72] {
-        let run = announced(&rt, of_seed(seed, CALLS, 7, MAX_ITEMS))?;
+        let run = announced(&rt, seed, of_kind(CALLS, 7, MAX_ITEMS))?;
         let map = Hashed::new(IdHashMap::with_hasher(rt.alloc(), RandomState::new(&rt)?));
         run_hashed(&rt, rt.alloc(), run, map)?;
     }

@@ -58,9 +58,9 @@ const NAMES: [[u8; 3]; 9] = [
 ];
 
 // Whether the map is sound and has these names, each with the value 5, and no other.
-fn holds<M: UnderTest<Coarse, Caseless>>(map: &M, names: &[[u8; 3]]) -> bool {
+fn holds<M: CoarseMap>(map: &M, names: &[[u8; 3]]) -> bool {
     for name in names {
-        if map.get(&Caseless(*name)).map(spelled) != Some((*name, 5)) {
+        if map.spelled_at(*name) != Some((*name, 5)) {
             return false;
         }
     }
@@ -102,7 +102,7 @@ fn is_back(answer: &Put) -> bool {
 
 // Fills the map with this many names, so that no slot is vacant. Then it tries the insertion of a new one with a
 // request refused: the word for what was seen.
-fn insertion<M: Copying<Coarse, Caseless>>(
+fn insertion<M: CoarseMap>(
     alloc: Global,
     map: &mut M,
     call: impl Tried<M>,

@@ -1,6 +1,6 @@
 //! What rows and random lists ask of a map of either kind whose keys are equal in any case: by its numbers, guards and
 //! entries, and by whole writes of an item of an equal key, which is spelled in another way.
-use crate::caseless::{Caseless, Coarse};
+use crate::caseless::{Caseless, Coarse, spelled};
 use crate::hashers::ZeroHasher;
 use crate::maps::{Copying, Hashed, Ordered};
 use iddqd::errors::TryReserveError;
@@ -66,6 +66,11 @@ impl Put {
 /// A map of either kind with keys that are equal in any case. What lends returns a copy. If the entry is not of the
 /// kind needed, or if memory was refused, a call that returns no `Put` returns `None` or false.
 pub trait CoarseMap: Copying<Coarse, Caseless> {
+    /// `get`: the spelling and the value.
+    fn spelled_at(&self, name: [u8; 3]) -> Option<([u8; 3], u32)> {
+        self.get(&Caseless(name)).map(spelled)
+    }
+
     /// `limit`.
     fn limit(&self) -> u32;
 
