@@ -155,14 +155,8 @@ pub(crate) fn write_copy<M: CoarseMap + Copied>(map: &M, plain: &Plain, draws: &
     let old = plain.find(&name);
     match (copy.write_by_entry(&name, value), old) {
         (Some((read, shown)), Some(item)) => {
-            is_same(Some(read), old)
-                && is_same(
-                    Some(shown),
-                    Some(Coarse {
-                        name: item.name,
-                        value,
-                    }),
-                )
+            let written = Coarse { value, ..item };
+            is_same(Some(read), old) && is_same(Some(shown), Some(written))
         }
         (None, None) => true,
         _ => false,

@@ -134,9 +134,9 @@ fn run_hashed<M: Callable>(
     rt: &impl Abort,
     alloc: Global,
     run: Run,
-    map: M,
+    mut map: M,
 ) -> Result<(), AllocError> {
-    let (mut map, mut plain) = (map, Plain::new(alloc, run.limit));
+    let mut plain = Plain::new(alloc, run.limit);
     let mut draws = Draws::new(run.seed, run.letters);
     for number in 0..run.calls {
         let call = drawn_call(&mut draws);
@@ -153,16 +153,6 @@ fn run_hashed<M: Callable>(
         );
     }
     Ok(())
-}
-
-// The same over the default hasher.
-fn run_default(
-    rt: &impl Abort,
-    alloc: Global,
-    run: Run,
-    map: Hashed<Coarse>,
-) -> Result<(), AllocError> {
-    run_hashed(rt, alloc, run, map)
 }
 
 /// What is called of an ordered map.
@@ -303,7 +293,7 @@ fn ordered_calls_at_the_limit(rt: HostRuntime) -> Result<(), Fail> {
 fn hash_calls(rt: HostRuntime) -> Result<(), Fail> {
     for seed in [41, 42] {
         let run = announced(&rt, seed, of_kind(MANY_CALLS, 7, MAX_ITEMS))?;
-        run_default(&rt, rt.alloc(), run, by_hash(rt.alloc()))?;
+        run_hashed(&rt, rt.alloc(), run, by_hash::<Coarse>(rt.alloc()))?;
     }
     Ok(())
 }
@@ -313,8 +303,8 @@ fn hash_calls_at_the_limit(rt: HostRuntime) -> Result<(), Fail> {
     for seed in [51, 52] {
         let run = announced(&rt, seed, of_kind(CALLS, 3, 14))?;
         let hasher = iddqd::DefaultHashBuilder::new();
-        let map = Hashed::new(IdHashMap::with_limit(rt.alloc(), 14, hasher));
-        run_default(&rt, rt.alloc(), run, map)?;
+        let map = Hashed::new(IdHashMap::<Coarse>::with_limit(rt.alloc(), 14, hasher));
+        run_hashed(&rt, rt.alloc(), run, map)?;
     }
     Ok(())
 }
