@@ -6,7 +6,7 @@ ghost use Rattle.iddqd.specs.IdHashMap.{HashItems, IsKeyed};
 ghost use Rattle.iddqd.specs.Hashing.{hash_under};
 ghost use Rattle.iddqd.specs.Holding.{Holding};
 
-use crate::visitors::Untouched;
+use crate::visitors::{Dropped, Untouched};
 use iddqd::errors::{
     DuplicateItem, ExtendError, ExtendUniqueError, InsertError, Refused, TryReserveError,
 };
@@ -341,6 +341,9 @@ pub trait Copying<T, K>: UnderTest<T, K> {
     /// `retain_mut`, which keeps each item.
     fn visit_all(&mut self);
 
+    /// `retain_mut`, which keeps none.
+    fn drop_all(&mut self);
+
     /// `get_mut`, and the guard is spent. Whether there was one.
     fn spend(self, key: &K) -> bool;
 
@@ -353,6 +356,12 @@ pub trait Copying<T, K>: UnderTest<T, K> {
 
     /// `entry` of the item's key and `and_modify`, and `insert_entry` where it is vacant. Whether nothing was refused.
     fn modify_or_put(self, item: T) -> bool;
+
+    /// `or_insert` of the item's entry, and the guard is spent. Whether nothing was refused.
+    fn use_or_insert(self, item: T) -> bool;
+
+    /// `or_insert_with` of the item's entry, and the guard shows the item. Whether nothing was refused.
+    fn use_or_insert_with(self, item: T) -> bool;
 }
 
 macro_rules! copying {
@@ -382,6 +391,10 @@ macro_rules! copying {
 
             fn visit_all(&mut self) {
                 self.map.retain_mut(&mut Untouched);
+            }
+
+            fn drop_all(&mut self) {
+                self.map.retain_mut(&mut Dropped);
             }
 
             fn spend(self, key: &T::Key) -> bool {
@@ -423,6 +436,28 @@ macro_rules! copying {
                 match map.entry(item.key()).and_modify(&mut Untouched) {
                     $entries::Entry::Occupied(_) => true,
                     $entries::Entry::Vacant(entry) => entry.insert_entry(item).is_ok(),
+                }
+            }
+
+            fn use_or_insert(self, item: T) -> bool {
+                let mut map = self.map;
+                match map.entry(item.key()).or_insert(item) {
+                    Ok(lent) => {
+                        lent.finish();
+                        true
+                    }
+                    Err(_refused) => false,
+                }
+            }
+
+            fn use_or_insert_with(self, item: T) -> bool {
+                let mut map = self.map;
+                match map.entry(item.key()).or_insert_with(|| item) {
+                    Ok(lent) => {
+                        let _ = lent.into_ref();
+                        true
+                    }
+                    Err(_refused) => false,
                 }
             }
         }

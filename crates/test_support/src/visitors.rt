@@ -1,5 +1,5 @@
 //! Visitors of the rows.
-ghost use Rattle.std.specs.Prelude.{true};
+ghost use Rattle.std.specs.Prelude.{false, true};
 
 use crate::items::Numbered;
 use crate::maps::{Hashed, Ordered};
@@ -15,6 +15,18 @@ impl<T> Visit<T> for Untouched {
 
     fn visit(&mut self, _item: &mut T) -> bool {
         true
+    }
+}
+
+/// Leaves each item as it is, and keeps none.
+#[derive(Clone, Copy)]
+pub struct Dropped;
+
+impl<T> Visit<T> for Dropped {
+    ghost visits = { λ visitor item. (visitor, item, false) };
+
+    fn visit(&mut self, _item: &mut T) -> bool {
+        false
     }
 }
 
