@@ -1,14 +1,14 @@
 //! Rows of writes that spell a key anew, of guards lent once more, of equal hashes, and of walks that end early.
 use crate::checks::check;
+use crate::counted::find;
 use iddqd::{IdHashMap, IdOrdMap};
 use std::hash::BuildHasherDefault;
 use std::process::Abort;
 use test_support::caseless::{Caseless, Coarse, item_of, spelled};
-use test_support::guards::{Copied, Probed};
+use test_support::coarse::{CoarseMap, Copied};
 use test_support::hashers::ZeroHasher;
 use test_support::items::Numbered;
-use test_support::maps::{Copying, Hashed, Inserted, UnderTest, by_hash, in_order};
-use test_support::respelled::Respelled;
+use test_support::maps::{Hashed, Inserted, UnderTest, by_hash, in_order};
 use test_support::walks::Walked;
 
 // The map with bar 1 and Foo 2.
@@ -21,16 +21,13 @@ fn of_bar_and_foo<M: UnderTest<Coarse, Caseless> + Drop>(rt: &impl Abort, mut ma
 }
 
 // Another item of FOO is a duplicate of fOO 7, and bar is as it was.
-fn is_respelled<M: Copying<Coarse, Caseless> + Drop>(rt: &impl Abort, mut map: M) -> M {
+fn is_respelled<M: CoarseMap + Drop>(rt: &impl Abort, mut map: M) -> M {
     let existing = match map.insert(item_of(*b"FOO", 9)) {
         Inserted::Duplicate(_, existing) => existing,
         Inserted::Done | Inserted::Refused(_, _) => None,
     };
     check(rt, existing.as_ref().map(spelled) == Some((*b"fOO", 7)));
-    check(
-        rt,
-        map.get(&Caseless(*b"BAR")).map(spelled) == Some((*b"bar", 1)),
-    );
+    check(rt, map.spelled_at(*b"BAR") == Some((*b"bar", 1)));
     check(rt, map.len() == 2);
     map
 }
@@ -40,25 +37,25 @@ const RESPELLED: Coarse = Coarse {
     value: 7,
 };
 
-fn by_guard<M: Copying<Coarse, Caseless> + Respelled + Drop>(rt: &impl Abort, map: M) -> M {
+fn by_guard<M: CoarseMap + Drop>(rt: &impl Abort, map: M) -> M {
     let mut map = of_bar_and_foo(rt, map);
     check(rt, map.respell_by_guard(&Caseless(*b"FOO"), RESPELLED));
     is_respelled(rt, map)
 }
 
-fn by_entry<M: Copying<Coarse, Caseless> + Respelled + Drop>(rt: &impl Abort, map: M) -> M {
+fn by_entry<M: CoarseMap + Drop>(rt: &impl Abort, map: M) -> M {
     let mut map = of_bar_and_foo(rt, map);
     check(rt, map.respell_by_entry(&Caseless(*b"FOO"), RESPELLED));
     is_respelled(rt, map)
 }
 
-fn by_visitor<M: Copying<Coarse, Caseless> + Respelled + Drop>(rt: &impl Abort, map: M) -> M {
+fn by_visitor<M: CoarseMap + Drop>(rt: &impl Abort, map: M) -> M {
     let mut map = of_bar_and_foo(rt, map);
     map.respell_by_visitor(RESPELLED);
     is_respelled(rt, map)
 }
 
-fn by_walk<M: Copying<Coarse, Caseless> + Respelled + Drop>(rt: &impl Abort, map: M) -> M {
+fn by_walk<M: CoarseMap + Drop>(rt: &impl Abort, map: M) -> M {
     let mut map = of_bar_and_foo(rt, map);
     check(rt, map.respell_by_walk(RESPELLED));
     is_respelled(rt, map)
@@ -117,7 +114,7 @@ fn numbered(number: u32, value: u32) -> Numbered {
 }
 
 // The inner loan writes 5: the guard reads it then, and shows it once it is spent.
-fn reads_and_shows<M: UnderTest<Coarse, Caseless> + Probed + Drop>(rt: &impl Abort, map: M) {
+fn reads_and_shows<M: CoarseMap + Drop>(rt: &impl Abort, map: M) {
     let mut map = of_bar_and_foo(rt, map);
     let by_guard = map.write_by_reborrow(&Caseless(*b"Foo"), 5);
     let five = (*b"Foo", 5);
@@ -133,10 +130,7 @@ fn reborrow(rt: HostRuntime) {
     reads_and_shows(&rt, by_hash(rt.alloc()));
 }
 
-fn equals_its_clone<M: UnderTest<Coarse, Caseless> + Copied + Probed + Drop>(
-    rt: &impl Abort,
-    map: M,
-) {
+fn equals_its_clone<M: CoarseMap + Copied + Drop>(rt: &impl Abort, map: M) {
     let mut map = of_bar_and_foo(rt, map);
     let copy = map.copied();
     check(rt, map.spend_unwritten(&Caseless(*b"Foo")));
@@ -174,7 +168,7 @@ fn equal_hashes_shrunk(rt: HostRuntime) {
     check(&rt, map.shrink_to_fit().is_ok() && map.is_compact());
     put_fifty(&rt, &mut map, 0);
     for number in 0..100 {
-        let found = map.find(&number);
+        let found = find(&map, &number);
         check(&rt, found.is_done && found.steps <= 100);
     }
 }

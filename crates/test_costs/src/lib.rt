@@ -5,11 +5,15 @@
 #[cfg(test)]
 mod alike;
 #[cfg(test)]
+mod bounds;
+#[cfg(test)]
+mod calls;
+#[cfg(test)]
 mod checks;
 #[cfg(test)]
-mod counting;
+mod counted;
 #[cfg(test)]
-mod hashings;
+mod counting;
 #[cfg(test)]
 mod hints;
 #[cfg(test)]
@@ -17,9 +21,11 @@ mod hostile;
 #[cfg(test)]
 mod many;
 #[cfg(test)]
-mod numbers;
+mod many_items;
 #[cfg(test)]
-mod plain;
+mod meter;
+#[cfg(test)]
+mod numbers;
 #[cfg(test)]
 mod rows;
 #[cfg(test)]

@@ -1,5 +1,6 @@
 //! The most comparisons of a call, by how many items there are.
 use crate::checks::check;
+use crate::counted::{find, put, take};
 use crate::numbers::{are_numbers_put, numbered};
 use iddqd::IdHashMap;
 use std::alloc::Global;
@@ -14,8 +15,8 @@ use test_support::maps::{Hashed, Ordered, UnderTest, in_order};
 fn most_of_each(map: &mut Ordered<Numbered>, count: u32) -> Option<u32> {
     let mut most = 0;
     for number in 0..count {
-        let found = map.find(&number);
-        let taken = map.take(&number);
+        let found = find(map, &number);
+        let taken = take(map, &number);
         if !found.is_done || !taken.is_done || !map.is_put(numbered(number)) {
             return None;
         }
@@ -28,9 +29,9 @@ fn most_of_each(map: &mut Ordered<Numbered>, count: u32) -> Option<u32> {
 fn most_steps(alloc: Global, count: u32) -> Option<u32> {
     let mut map = in_order(alloc);
     let is_full = are_numbers_put(&mut map, 0, count);
-    let absent = map.find(&count);
+    let absent = find(&map, &count);
     let most = most_of_each(&mut map, count)?;
-    let put = map.put(numbered(count));
+    let put = put(&mut map, numbered(count));
     (is_full && put.is_done).then_some(most.max(absent.steps).max(put.steps))
 }
 
@@ -59,8 +60,8 @@ fn equal_hashes(rt: HostRuntime) {
     let mut map = Hashed::new(IdHashMap::with_hasher(rt.alloc(), hasher));
     check(&rt, are_numbers_put(&mut map, 0, 100));
     for number in 0..100 {
-        check(&rt, map.find(&number).is_done);
+        check(&rt, find(&map, &number).is_done);
     }
-    let absent = map.find(&100);
+    let absent = find(&map, &100);
     check(&rt, !absent.is_done && absent.steps <= 100);
 }

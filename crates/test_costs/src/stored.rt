@@ -2,8 +2,7 @@
 use crate::checks::check;
 use iddqd::IdHashItem;
 use std::alloc::Global;
-use std::cell::Cell;
-use test_support::counting::{Fed, HashedKey};
+use test_support::counting::{Counts, Tallied};
 use test_support::maps::{UnderTest, by_hash};
 
 const IDS: [u32; 25] = [
@@ -15,7 +14,7 @@ fn makes_room_unhashed<T: IdHashItem + Copy, F: Fn(&T) -> bool>(
     alloc: Global,
     items: &[T],
     keep: F,
-    hashed: &Cell<u32>,
+    counts: &Counts,
 ) -> bool
     requires { F.IsAlwaysCallable keep }
 {
@@ -26,26 +25,17 @@ fn makes_room_unhashed<T: IdHashItem + Copy, F: Fn(&T) -> bool>(
         }
     }
     map.retain(keep);
-    if map.len() != 9 || hashed.get() < 25 {
+    if map.len() != 9 || counts.since().0 < 25 {
         return false;
     }
-    hashed.set(0);
-    map.reserve(10).is_ok() && map.reserve(1000).is_ok() && hashed.get() == 0
+    map.reserve(10).is_ok() && map.reserve(1000).is_ok() && counts.since().0 == 0
 }
 
 #[test]
 fn stored_hashes(rt: HostRuntime) {
-    let (hashed, compared) = (Cell::new(0), Cell::new(0));
-    let items = IDS.map(|number| Fed {
-        key: HashedKey {
-            number,
-            hashed: &hashed,
-            compared: &compared,
-        },
-    });
-    let keep = |item: &Fed<'_>| item.key.number % 2 == 1 && item.key.number % 3 != 0;
-    check(
-        &rt,
-        makes_room_unhashed(rt.alloc(), items.as_slice(), keep, &hashed),
-    );
+    let counts = Counts::default();
+    let items = IDS.map(|number| counts.item(number));
+    let keep = |item: &Tallied<'_>| item.key.number % 2 == 1 && item.key.number % 3 != 0;
+    let is_so = makes_room_unhashed(rt.alloc(), items.as_slice(), keep, &counts);
+    check(&rt, is_so);
 }

@@ -1,5 +1,6 @@
 //! Ordered maps of many items, in and out in several orders.
 use crate::checks::check;
+use crate::counted::{find, take};
 use crate::numbers::{are_numbers_put, numbered};
 use std::alloc::Global;
 use test_support::items::Numbered;
@@ -27,7 +28,7 @@ fn filled(alloc: Global, factor: u32) -> Ordered<Numbered> {
 // Whether the walk has the numbers from one to below another, in order.
 fn walks(map: &Ordered<Numbered>, first: u32, end: u32) -> bool {
     let mut next = first;
-    for item in map.iter() {
+    for item in map.map().iter() {
         if item.number != next {
             return false;
         }
@@ -40,7 +41,7 @@ fn walks(map: &Ordered<Numbered>, first: u32, end: u32) -> bool {
 fn ascending(map: &Ordered<Numbered>) -> Option<u32> {
     let mut least = 0;
     let mut count = 0u32;
-    for item in map.iter() {
+    for item in map.map().iter() {
         if item.number < least {
             return None;
         }
@@ -53,7 +54,7 @@ fn ascending(map: &Ordered<Numbered>) -> Option<u32> {
 // Whether each of the numbers is found within this many steps.
 fn are_found(map: &Ordered<Numbered>, most: u32) -> bool {
     for number in 1..1009 {
-        let found = map.find(&number);
+        let found = find(map, &number);
         if !found.is_done || found.steps > most {
             return false;
         }
@@ -75,7 +76,7 @@ fn three_orders(rt: HostRuntime) {
 fn are_taken(map: &mut Ordered<Numbered>, first: u32, end: u32) -> bool {
     for place in first..end {
         let most = bound(map.len());
-        let taken = map.take(&number_at(place, 11));
+        let taken = take(map, &number_at(place, 11));
         if !taken.is_done || taken.steps > most {
             return false;
         }

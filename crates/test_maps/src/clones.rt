@@ -3,7 +3,7 @@ use crate::checks::check;
 use std::process::Abort;
 use std::test::Fail;
 use test_support::caseless::{Caseless, Coarse, item_of, spelled};
-use test_support::guards::{Copied, Probed};
+use test_support::coarse::{CoarseMap, Copied};
 use test_support::maps::{UnderTest, by_hash, in_order};
 
 // Two items and a vacant slot, and room for more.
@@ -16,18 +16,18 @@ fn fill<M: UnderTest<Coarse, Caseless>>(rt: &impl Abort, map: &mut M) {
 }
 
 // A clone equals its source, has room for no more than its slots, and what is written into it the source does not show.
-fn is_apart<M: UnderTest<Coarse, Caseless> + Probed>(rt: &impl Abort, map: &M, twin: &mut M) {
+fn is_apart<M: CoarseMap>(rt: &impl Abort, map: &M, twin: &mut M) {
     check(rt, twin.equals(map));
     check(rt, twin.capacity() == 3);
     check(rt, twin.write_by_reborrow(&Caseless(*b"foo"), 7).is_some());
     check(rt, !twin.equals(map));
-    let found = map.get(&Caseless(*b"foo")).map(spelled);
+    let found = map.spelled_at(*b"foo");
     check(rt, found == Some((*b"foo", 42)));
 }
 
 fn cloned<M>(rt: &impl Abort, map: &mut M) -> Result<(), Fail>
 where
-    M: UnderTest<Coarse, Caseless> + Copied + Probed + Drop,
+    M: CoarseMap + Copied + Drop,
 {
     fill(rt, map);
     let Ok(mut twin) = map.copied() else {

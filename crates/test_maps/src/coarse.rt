@@ -5,6 +5,7 @@ use std::alloc::{AllocError, Global};
 use std::process::Abort;
 use std::test::Fail;
 use test_support::caseless::{Caseless, Coarse, item_of, spelled};
+use test_support::coarse::CoarseMap;
 use test_support::maps::{Commanded, UnderTest, by_hash, in_order};
 use test_support::visitors::Untouched;
 
@@ -17,16 +18,13 @@ fn replaced_by<M: UnderTest<Coarse, Caseless>>(
     Some(old.as_ref().map(spelled))
 }
 
-fn overwrites<M: UnderTest<Coarse, Caseless> + Drop>(rt: &impl Abort, mut map: M) {
+fn overwrites<M: CoarseMap + Drop>(rt: &impl Abort, mut map: M) {
     check(rt, replaced_by(&mut map, item_of(*b"Foo", 1)) == Some(None));
     check(
         rt,
         replaced_by(&mut map, item_of(*b"FOO", 2)) == Some(Some((*b"Foo", 1))),
     );
-    check(
-        rt,
-        map.get(&Caseless(*b"foo")).map(spelled) == Some((*b"FOO", 2)),
-    );
+    check(rt, map.spelled_at(*b"foo") == Some((*b"FOO", 2)));
     check(rt, map.len() == 1);
 }
 

@@ -6,7 +6,7 @@ use iddqd::{DefaultHashBuilder, IdHashMap, IdOrdMap};
 use std::alloc::{AllocError, Global};
 use std::process::Abort;
 use std::test::Fail;
-use test_support::bulk::{Bulk, Liar, Unannounced, is_not_taken_in};
+use test_support::bulk::{Announced, Bulk, Liar, is_not_taken_in};
 use test_support::items::{Named, Wide};
 use test_support::maps::{Added, Copying, Hashed, Ordered, UnderTest, by_hash, in_order};
 
@@ -224,7 +224,7 @@ fn extend_unique_repeats(rt: HostRuntime) -> Result<(), Fail> {
 // What a map that has foo returns for items that are not announced; the last one comes first.
 fn unannounced<M: Copying<Named, [u8; 3]>>(map: &mut M, items: Vec<Named>) -> Option<Added<Named>> {
     if map.is_put(FOO) {
-        Some(map.add_each(Unannounced::new(items)))
+        Some(map.add_each(Announced::new(items, 0)))
     } else {
         None
     }

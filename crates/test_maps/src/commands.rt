@@ -15,25 +15,29 @@ use test_support::items::{Named, Numbered, Wide};
 use test_support::maps::{Commanded, Hashed, Ordered, UnderTest, by_hash, in_order};
 use test_support::visitors::Untouched;
 
-/// Whether there was memory for the commands, and the map gives these replies to them.
-fn answers_with<T: Clone + PartialEq + Drop, K: Drop, M: Commanded<T, K> + Drop>(
+type Commands<T, K> = Result<Vec<Command<T, K, Untouched>>, AllocError>;
+
+// There was memory for the commands, and the map gives these replies to them.
+fn replies_are<T: Clone + PartialEq + Drop, K: Drop>(
+    rt: &impl Abort,
     alloc: Global,
-    mut map: M,
-    commands: Result<Vec<Command<T, K, Untouched>>, AllocError>,
+    mut map: impl Commanded<T, K> + Drop,
+    commands: Commands<T, K>,
     expected: &[Reply<T>],
-) -> bool
+)
     requires clones { ClonesAreEqual T.is_clone }
 {
-    let Ok(commands) = commands else {
-        return false;
+    let replies = match commands {
+        Ok(commands) => map.run(alloc, commands).ok(),
+        Err(_) => None,
     };
-    match map.run(alloc, commands) {
-        Ok(replies) => replies.as_slice() == expected,
-        Err(_) => false,
-    }
+    check(
+        rt,
+        matches!(replies, Some(replies) if replies.as_slice() == expected),
+    );
 }
 
-fn named_commands(alloc: Global) -> Result<Vec<Command<Named, [u8; 3], Untouched>>, AllocError> {
+fn named_commands(alloc: Global) -> Commands<Named, [u8; 3]> {
     Ok(Vec::from_array(
         alloc,
         [
@@ -75,19 +79,17 @@ fn named_replies() -> [Reply<Named>; 11] {
 fn insert_unique_by_commands(rt: HostRuntime) {
     let alloc = rt.alloc();
     let expected = named_replies();
-    let ordered = in_order(alloc);
-    check(
+    replies_are(
         &rt,
-        answers_with(alloc, ordered, named_commands(alloc), &expected),
+        alloc,
+        in_order(alloc),
+        named_commands(alloc),
+        &expected,
     );
-    let hashed = by_hash(alloc);
-    check(
-        &rt,
-        answers_with(alloc, hashed, named_commands(alloc), &expected),
-    );
+    replies_are(&rt, alloc, by_hash(alloc), named_commands(alloc), &expected);
 }
 
-fn wide_commands(alloc: Global) -> Result<Vec<Command<Wide, u8, Untouched>>, AllocError> {
+fn wide_commands(alloc: Global) -> Commands<Wide, u8> {
     Ok(Vec::from_array(
         alloc,
         [
@@ -129,19 +131,11 @@ fn wide_replies() -> [Reply<Wide>; 7] {
 fn duplicate_chain_by_commands(rt: HostRuntime) {
     let alloc = rt.alloc();
     let expected = wide_replies();
-    let ordered = in_order(alloc);
-    check(
-        &rt,
-        answers_with(alloc, ordered, wide_commands(alloc), &expected),
-    );
-    let hashed = by_hash(alloc);
-    check(
-        &rt,
-        answers_with(alloc, hashed, wide_commands(alloc), &expected),
-    );
+    replies_are(&rt, alloc, in_order(alloc), wide_commands(alloc), &expected);
+    replies_are(&rt, alloc, by_hash(alloc), wide_commands(alloc), &expected);
 }
 
-fn room_commands(alloc: Global) -> Result<Vec<Command<Named, [u8; 3], Untouched>>, AllocError> {
+fn room_commands(alloc: Global) -> Commands<Named, [u8; 3]> {
     Ok(Vec::from_array(alloc, [Command::Reserve(3), Command::Shrink])?)
 }
 
@@ -149,25 +143,15 @@ fn room_commands(alloc: Global) -> Result<Vec<Command<Named, [u8; 3], Untouched>
 fn reserve_and_shrink_by_commands(rt: HostRuntime) {
     let alloc = rt.alloc();
     let expected = [Reply::Done, Reply::Done];
-    let ordered = in_order(alloc);
-    check(
-        &rt,
-        answers_with(alloc, ordered, room_commands(alloc), &expected),
-    );
-    let hashed = by_hash(alloc);
-    check(
-        &rt,
-        answers_with(alloc, hashed, room_commands(alloc), &expected),
-    );
+    replies_are(&rt, alloc, in_order(alloc), room_commands(alloc), &expected);
+    replies_are(&rt, alloc, by_hash(alloc), room_commands(alloc), &expected);
 }
 
 fn named(name: [u8; 3], value: u32) -> Named {
     Named { name, value }
 }
 
-fn extending_commands(
-    alloc: Global,
-) -> Result<Vec<Command<Named, [u8; 3], Untouched>>, AllocError> {
+fn extending_commands(alloc: Global) -> Commands<Named, [u8; 3]> {
     Ok(Vec::from_array(
         alloc,
         [
@@ -192,19 +176,23 @@ fn extend_unique_by_commands(rt: HostRuntime) {
         Reply::Extended(0),
         Reply::Length(3),
     ];
-    let ordered = in_order(alloc);
-    check(
+    replies_are(
         &rt,
-        answers_with(alloc, ordered, extending_commands(alloc), &expected),
+        alloc,
+        in_order(alloc),
+        extending_commands(alloc),
+        &expected,
     );
-    let hashed = by_hash(alloc);
-    check(
+    replies_are(
         &rt,
-        answers_with(alloc, hashed, extending_commands(alloc), &expected),
+        alloc,
+        by_hash(alloc),
+        extending_commands(alloc),
+        &expected,
     );
 }
 
-fn full_commands(alloc: Global) -> Result<Vec<Command<Named, [u8; 3], Untouched>>, AllocError> {
+fn full_commands(alloc: Global) -> Commands<Named, [u8; 3]> {
     let (a, b, c) = (named(*b"a  ", 1), named(*b"b  ", 2), named(*b"c  ", 3));
     Ok(Vec::from_array(
         alloc,
@@ -236,15 +224,9 @@ fn extend_unique_commands(rt: HostRuntime) {
         Reply::Length(2),
     ];
     let ordered = Ordered::new(IdOrdMap::with_limit(alloc, 2));
-    check(
-        &rt,
-        answers_with(alloc, ordered, full_commands(alloc), &expected),
-    );
+    replies_are(&rt, alloc, ordered, full_commands(alloc), &expected);
     let hashed = Hashed::new(IdHashMap::with_limit(alloc, 2, DefaultHashBuilder::new()));
-    check(
-        &rt,
-        answers_with(alloc, hashed, full_commands(alloc), &expected),
-    );
+    replies_are(&rt, alloc, hashed, full_commands(alloc), &expected);
 }
 
 // Writes to each item how many it has seen before, and keeps the first ones, this many.
@@ -335,27 +317,30 @@ fn hash_retain_mut_by_commands(rt: HostRuntime) -> Result<(), Fail> {
     Ok(())
 }
 
-// Whether there was memory for the commands, and the map, with room for none, says that each is done. The room then.
-fn room_after<M: UnderTest<Named, [u8; 3]> + Commanded<Named, [u8; 3]> + Drop>(
+// There was memory for the commands, the map, with room for none, does each, and has this room then.
+fn room_is<M: UnderTest<Named, [u8; 3]> + Commanded<Named, [u8; 3]> + Drop>(
+    rt: &impl Abort,
     alloc: Global,
     mut map: M,
-    commands: Result<Vec<Command<Named, [u8; 3], Untouched>>, AllocError>,
-) -> Option<usize> {
-    let replies = map.run(alloc, commands.ok()?).ok()?;
+    commands: Commands<Named, [u8; 3]>,
+    room: usize,
+) -> Result<(), Fail> {
+    let replies = map
+        .run(alloc, commands?)
+        .map_err(|_| "the commands are not done")?;
     for reply in replies.as_slice() {
-        if !matches!(reply, Reply::Done | Reply::Inserted) {
-            return None;
-        }
+        check(rt, matches!(reply, Reply::Done | Reply::Inserted));
     }
-    Some(map.capacity())
+    check(rt, map.capacity() == room);
+    Ok(())
 }
 
-fn reserving(alloc: Global) -> Result<Vec<Command<Named, [u8; 3], Untouched>>, AllocError> {
+fn reserving(alloc: Global) -> Commands<Named, [u8; 3]> {
     Ok(Vec::from_array(alloc, [Command::Reserve(100)])?)
 }
 
 // The room of a hundred, with one item in it, is given back but for that of the item.
-fn shrinking(alloc: Global) -> Result<Vec<Command<Named, [u8; 3], Untouched>>, AllocError> {
+fn shrinking(alloc: Global) -> Commands<Named, [u8; 3]> {
     Ok(Vec::from_array(
         alloc,
         [
@@ -367,22 +352,10 @@ fn shrinking(alloc: Global) -> Result<Vec<Command<Named, [u8; 3], Untouched>>, A
 }
 
 #[test]
-fn room_by_commands(rt: HostRuntime) {
+fn room_by_commands(rt: HostRuntime) -> Result<(), Fail> {
     let alloc = rt.alloc();
-    check(
-        &rt,
-        room_after(alloc, in_order(alloc), reserving(alloc)) == Some(100),
-    );
-    check(
-        &rt,
-        room_after(alloc, in_order(alloc), shrinking(alloc)) == Some(1),
-    );
-    check(
-        &rt,
-        room_after(alloc, by_hash(alloc), reserving(alloc)) == Some(100),
-    );
-    check(
-        &rt,
-        room_after(alloc, by_hash(alloc), shrinking(alloc)) == Some(1),
-    );
+    room_is(&rt, alloc, in_order(alloc), reserving(alloc), 100)?;
+    room_is(&rt, alloc, in_order(alloc), shrinking(alloc), 1)?;
+    room_is(&rt, alloc, by_hash(alloc), reserving(alloc), 100)?;
+    room_is(&rt, alloc, by_hash(alloc), shrinking(alloc), 1)
 }

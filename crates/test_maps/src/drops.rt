@@ -2,16 +2,15 @@
 ghost use Rattle.iddqd.specs.Contents.{Ascends};
 
 use crate::checks::check;
+use crate::tickets::{Dropping, Ticket};
 use iddqd::errors::{DuplicateItem, FromIterError};
 use iddqd::{IdOrdItem, IdOrdMap};
 use std::alloc::{AllocError, Global};
 use std::cell::Cell;
 use std::process::Abort;
 use std::test::Fail;
-use test_support::bulk::Bulk;
-use test_support::maps::{Hashed, Ordered, UnderTest, by_hash, in_order};
-use test_support::tickets::{Announced, Dropping, Ticket};
-use test_support::walks::Walked;
+use test_support::bulk::{Announced, Bulk};
+use test_support::maps::{Hashed, Ordered, by_hash, in_order};
 
 // The items of the numbers from one to below another.
 fn tickets(
@@ -28,7 +27,7 @@ fn tickets(
 }
 
 // Whether those numbers are inserted, and none is dropped.
-fn go_in<'a, M: UnderTest<Ticket<'a>, u32>>(map: &mut M, end: u32, dropped: &'a Cell<u32>) -> bool {
+fn go_in<'a, M: Dropping<'a>>(map: &mut M, end: u32, dropped: &'a Cell<u32>) -> bool {
     for number in 0..end {
         if !map.is_put(Ticket { number, dropped }) {
             return false;
@@ -37,11 +36,7 @@ fn go_in<'a, M: UnderTest<Ticket<'a>, u32>>(map: &mut M, end: u32, dropped: &'a 
     dropped.get() == 0
 }
 
-fn clears<'a, M: UnderTest<Ticket<'a>, u32> + Drop>(
-    rt: &impl Abort,
-    mut map: M,
-    dropped: &'a Cell<u32>,
-) {
+fn clears<'a, M: Dropping<'a>>(rt: &impl Abort, mut map: M, dropped: &'a Cell<u32>) {
     check(rt, go_in(&mut map, 5, dropped));
     map.clear();
     check(rt, dropped.get() == 5);
@@ -57,11 +52,7 @@ fn cleared(rt: HostRuntime) {
 }
 
 // One is taken out before.
-fn goes<'a, M: UnderTest<Ticket<'a>, u32> + Drop>(
-    rt: &impl Abort,
-    mut map: M,
-    dropped: &'a Cell<u32>,
-) {
+fn goes<'a, M: Dropping<'a>>(rt: &impl Abort, mut map: M, dropped: &'a Cell<u32>) {
     check(rt, go_in(&mut map, 30, dropped));
     drop(map.remove(&7));
     check(rt, dropped.get() == 1);
@@ -78,11 +69,7 @@ fn removed_refused_and_dropped_with_the_map(rt: HostRuntime) {
     goes(&rt, by_hash(rt.alloc()), &hashed);
 }
 
-fn retains<'a, M: UnderTest<Ticket<'a>, u32> + Drop>(
-    rt: &impl Abort,
-    mut map: M,
-    dropped: &'a Cell<u32>,
-) {
+fn retains<'a, M: Dropping<'a>>(rt: &impl Abort, mut map: M, dropped: &'a Cell<u32>) {
     check(rt, go_in(&mut map, 9, dropped));
     map.retain(|item| item.number % 3 == 0);
     check(rt, dropped.get() == 6);
@@ -97,13 +84,9 @@ fn retained(rt: HostRuntime) {
     retains(&rt, by_hash(rt.alloc()), &hashed);
 }
 
-fn keeps_even<'a, M: UnderTest<Ticket<'a>, u32> + Dropping<'a> + Drop>(
-    rt: &impl Abort,
-    mut map: M,
-    dropped: &'a Cell<u32>,
-) {
+fn keeps_even<'a, M: Dropping<'a>>(rt: &impl Abort, mut map: M, dropped: &'a Cell<u32>) {
     check(rt, go_in(&mut map, 9, dropped));
-    map.keep_even();
+    let map = map.keep_even();
     check(rt, dropped.get() == 4);
     drop(map);
     check(rt, dropped.get() == 9);
@@ -117,7 +100,7 @@ fn retained_by_a_visitor(rt: HostRuntime) {
 }
 
 // Three of the five that come are there.
-fn extends<'a, M: UnderTest<Ticket<'a>, u32> + Drop>(
+fn extends<'a, M: Dropping<'a>>(
     rt: &impl Abort,
     mut map: M,
     coming: Vec<Ticket<'a>>,
@@ -140,11 +123,7 @@ fn replaced_by_extend(rt: HostRuntime) -> Result<(), Fail> {
     Ok(())
 }
 
-fn overwrites<'a, M: UnderTest<Ticket<'a>, u32> + Drop>(
-    rt: &impl Abort,
-    mut map: M,
-    dropped: &'a Cell<u32>,
-) {
+fn overwrites<'a, M: Dropping<'a>>(rt: &impl Abort, mut map: M, dropped: &'a Cell<u32>) {
     check(rt, go_in(&mut map, 3, dropped));
     drop(map.overwrite(Ticket { number: 1, dropped }));
     check(rt, dropped.get() == 1);
@@ -161,11 +140,7 @@ fn overwritten(rt: HostRuntime) {
     overwrites(&rt, by_hash(rt.alloc()), &hashed);
 }
 
-fn replaces<'a, M: UnderTest<Ticket<'a>, u32> + Dropping<'a>>(
-    rt: &impl Abort,
-    mut map: M,
-    dropped: &'a Cell<u32>,
-) {
+fn replaces<'a, M: Dropping<'a>>(rt: &impl Abort, mut map: M, dropped: &'a Cell<u32>) {
     check(rt, go_in(&mut map, 3, dropped));
     check(rt, map.replace_by_entry(Ticket { number: 1, dropped }));
     check(rt, dropped.get() == 4);
@@ -178,7 +153,7 @@ fn replaced_by_an_entry(rt: HostRuntime) {
     replaces(&rt, by_hash(rt.alloc()), &hashed);
 }
 
-fn finds_or_puts<'a, M: UnderTest<Ticket<'a>, u32> + Dropping<'a>>(
+fn finds_or_puts<'a, M: Dropping<'a>>(
     rt: &impl Abort,
     mut map: M,
     number: u32,
@@ -222,11 +197,7 @@ fn shown_by_an_occupied_entry(rt: HostRuntime) {
     check(&rt, shows(map, again) && dropped.get() == 2);
 }
 
-fn removes<'a, M: UnderTest<Ticket<'a>, u32> + Dropping<'a>>(
-    rt: &impl Abort,
-    mut map: M,
-    dropped: &'a Cell<u32>,
-) {
+fn removes<'a, M: Dropping<'a>>(rt: &impl Abort, mut map: M, dropped: &'a Cell<u32>) {
     check(rt, go_in(&mut map, 3, dropped));
     check(rt, map.remove_by_entry(0));
     check(rt, dropped.get() == 3);
@@ -239,11 +210,7 @@ fn removed_by_an_entry(rt: HostRuntime) {
     removes(&rt, by_hash(rt.alloc()), &hashed);
 }
 
-fn walks<'a, M: UnderTest<Ticket<'a>, u32> + Dropping<'a> + Drop>(
-    rt: &impl Abort,
-    mut map: M,
-    dropped: &'a Cell<u32>,
-) {
+fn walks<'a, M: Dropping<'a>>(rt: &impl Abort, mut map: M, dropped: &'a Cell<u32>) {
     check(rt, go_in(&mut map, 30, dropped));
     check(rt, map.walk_part(10) == 10);
     check(rt, dropped.get() == 30);

@@ -1,20 +1,19 @@
 //! Rows of entries.
 use crate::checks::check;
 use std::process::Abort;
-use test_support::caseless::{Caseless, Coarse, item_of, spelled};
-use test_support::entered::Entered;
+use test_support::caseless::{Caseless, item_of, spelled};
+use test_support::coarse::CoarseMap;
 use test_support::maps::{UnderTest, by_hash, in_order};
 
-fn foo_by_entry<M: UnderTest<Coarse, Caseless> + Entered + Drop>(rt: &impl Abort, mut map: M) {
-    let foo = map.insert_vacant(*b"foo", item_of(*b"foo", 42));
+fn foo_by_entry<M: CoarseMap + Drop>(rt: &impl Abort, mut map: M) {
+    let foo = map
+        .put_vacant(&Caseless(*b"foo"), item_of(*b"foo", 42))
+        .shown();
     check(rt, foo.map(|item| item.value) == Some(42));
-    check(rt, map.write(*b"foo", 99));
-    check(
-        rt,
-        map.get(&Caseless(*b"foo")).map(spelled) == Some((*b"foo", 99)),
-    );
+    check(rt, map.write(&Caseless(*b"foo"), 99));
+    check(rt, map.spelled_at(*b"foo") == Some((*b"foo", 99)));
     let mut asked = 0;
-    let found = map.find_or_make(item_of(*b"foo", 7), &mut asked);
+    let found = map.find_or_put(item_of(*b"foo", 7), &mut asked).shown();
     check(rt, found.map(|item| item.value) == Some(99));
     check(rt, asked == 0);
 }
@@ -25,44 +24,30 @@ fn entry(rt: HostRuntime) {
     foo_by_entry(&rt, by_hash(rt.alloc()));
 }
 
-fn written_by_entries<M: UnderTest<Coarse, Caseless> + Entered>(rt: &impl Abort, map: &mut M) {
-    let doubled = map.double_or_insert(item_of(*b"foo", 0));
-    check(
-        rt,
-        (doubled.as_ref().map(spelled), map.len()) == (Some((*b"foo", 84)), 1),
-    );
+fn written_by_entries<M: CoarseMap>(rt: &impl Abort, map: &mut M) {
+    let doubled = map.double_or_put(item_of(*b"foo", 0)).shown();
+    check(rt, doubled.as_ref().map(spelled) == Some((*b"foo", 84)));
+    check(rt, map.len() == 1);
     check(rt, map.insert_and_write(item_of(*b"bar", 5), 6));
-    check(
-        rt,
-        map.get(&Caseless(*b"bar")).map(spelled) == Some((*b"bar", 6)),
-    );
-    let gone = map.insert_and_remove(item_of(*b"baz", 1));
-    check(
-        rt,
-        (gone.as_ref().map(spelled), map.len()) == (Some((*b"baz", 1)), 2),
-    );
+    check(rt, map.spelled_at(*b"bar") == Some((*b"bar", 6)));
+    let gone = map.put_and_remove(item_of(*b"baz", 1)).shown();
+    check(rt, gone.as_ref().map(spelled) == Some((*b"baz", 1)));
+    check(rt, map.len() == 2);
 }
 
-fn put_by_entries<M: UnderTest<Coarse, Caseless> + Entered>(rt: &impl Abort, map: &mut M) {
+fn put_by_entries<M: CoarseMap>(rt: &impl Abort, map: &mut M) {
     let old = map.insert_occupied(item_of(*b"FOO", 7));
     check(rt, old.as_ref().map(spelled) == Some((*b"foo", 84)));
-    check(
-        rt,
-        map.get(&Caseless(*b"foo")).map(spelled) == Some((*b"FOO", 7)),
-    );
-    let new = map.insert_vacant(*b"qux", item_of(*b"aaa", 3));
+    check(rt, map.spelled_at(*b"foo") == Some((*b"FOO", 7)));
+    let new = map
+        .put_vacant(&Caseless(*b"qux"), item_of(*b"aaa", 3))
+        .shown();
     check(rt, new.as_ref().map(spelled) == Some((*b"aaa", 3)));
-    check(
-        rt,
-        map.get(&Caseless(*b"aaa")).map(spelled) == Some((*b"aaa", 3)),
-    );
+    check(rt, map.spelled_at(*b"aaa") == Some((*b"aaa", 3)));
     check(rt, map.get(&Caseless(*b"qux")).is_none());
 }
 
-fn coarse_entries<M: UnderTest<Coarse, Caseless> + Entered + Drop>(
-    rt: &impl Abort,
-    mut map: M,
-) -> M {
+fn coarse_entries<M: CoarseMap + Drop>(rt: &impl Abort, mut map: M) -> M {
     check(rt, map.is_put(item_of(*b"foo", 42)));
     written_by_entries(rt, &mut map);
     put_by_entries(rt, &mut map);

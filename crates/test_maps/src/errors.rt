@@ -40,16 +40,12 @@ fn owned_duplicates(rt: HostRuntime) -> Result<(), Fail> {
 #[test]
 fn duplicates_in_a_list(rt: HostRuntime) -> Result<(), Fail> {
     let alloc = rt.alloc();
-    let three = DuplicateItem::internal_new(5, Few::Three(5, 6, 7));
-    check(
-        &rt,
-        three.to_string(alloc)?.as_str() == "new item: 5 conflicts with existing: [5, 6, 7]",
-    );
-    let two = DuplicateItem::internal_new('n', Few::Two('a', 'b'));
-    check(
-        &rt,
-        two.to_string(alloc)?.as_str() == "new item: 'n' conflicts with existing: ['a', 'b']",
-    );
+    let three = DuplicateItem::internal_new(5, Few::Three(5, 6, 7)).to_string(alloc)?;
+    let text = "new item: 5 conflicts with existing: [5, 6, 7]";
+    check(&rt, three.as_str() == text);
+    let two = DuplicateItem::internal_new('n', Few::Two('a', 'b')).to_string(alloc)?;
+    let text = "new item: 'n' conflicts with existing: ['a', 'b']";
+    check(&rt, two.as_str() == text);
     Ok(())
 }
 
@@ -94,16 +90,8 @@ fn refusals_for_debugging(rt: HostRuntime) -> Result<(), Fail> {
 #[test]
 fn text_of_vacant_slots(rt: HostRuntime) -> Result<(), Fail> {
     let mut map = IdOrdMap::new(rt.alloc());
-    check(
-        &rt,
-        is_put(
-            &mut map,
-            Numbered {
-                number: 1,
-                value: 1,
-            },
-        ),
-    );
+    let (number, value) = (1, 1);
+    check(&rt, is_put(&mut map, Numbered { number, value }));
     check(&rt, map.remove(&1).is_some());
     let Err(error) = map.validate(ValidateCompact::Compact) else {
         return Err(Fail::from("a slot is vacant"));

@@ -33,4 +33,6 @@ mod ranges;
 #[cfg(test)]
 mod texts;
 #[cfg(test)]
+mod tickets;
+#[cfg(test)]
 mod visits;

@@ -1,5 +1,6 @@
 //! Rows of positions, ranges and walks from the back, each against a plain list.
 use crate::checks::check;
+use crate::tickets::Ticket;
 use iddqd::Text;
 use std::alloc::{AllocError, Global};
 use std::cell::Cell;
@@ -9,7 +10,6 @@ use std::test::Fail;
 use test_support::caseless::{Caseless, Coarse, item_of};
 use test_support::items::{Numbered, Titled};
 use test_support::maps::{Ordered, UnderTest, in_order};
-use test_support::tickets::Ticket;
 
 fn numbered(number: u32) -> Numbered {
     Numbered {
@@ -23,7 +23,7 @@ fn even(half: u32) -> Numbered {
 }
 
 // The even numbers below twice the count, inserted at one end or the other in turn.
-fn evens(alloc: Global, count: u32) -> Option<Ordered<Numbered>> {
+fn evens(alloc: Global, count: u32) -> Result<Ordered<Numbered>, Fail> {
     let mut map = in_order(alloc);
     for number in 0..count {
         let placed = if number % 2 == 0 {
@@ -32,10 +32,10 @@ fn evens(alloc: Global, count: u32) -> Option<Ordered<Numbered>> {
             count.wrapping_sub(number).wrapping_sub(count % 2)
         };
         if !map.is_put(numbered(placed.wrapping_mul(2))) {
-            return None;
+            return Err(Fail::from("not filled"));
         }
     }
-    Some(map)
+    Ok(map)
 }
 
 // Whether the number lies between the bounds.
@@ -108,26 +108,18 @@ fn has_between(
         && steps <= most_of(low, count).wrapping_add(most_of(high, count))
 }
 
-// Whether the first item from the bound on is that of the plain list.
-fn has_lower_bound(
+// Whether the first item from the lower bound on, and the last one before the upper, are those of the plain list.
+fn has_bounds(
     alloc: Global,
     map: &Ordered<Numbered>,
     count: u32,
     low: Bound<&u32>,
-) -> Result<bool, AllocError> {
-    let from = listed(alloc, count, low, Bound::Unbounded)?;
-    Ok(map.lower_bound(low) == from.as_slice().first())
-}
-
-// Whether the last item before the bound is that of the plain list.
-fn has_upper_bound(
-    alloc: Global,
-    map: &Ordered<Numbered>,
-    count: u32,
     high: Bound<&u32>,
 ) -> Result<bool, AllocError> {
+    let from = listed(alloc, count, low, Bound::Unbounded)?;
     let to = listed(alloc, count, Bound::Unbounded, high)?;
-    Ok(map.upper_bound(high) == to.as_slice().last())
+    let is_first = map.lower_bound(low) == from.as_slice().first();
+    Ok(is_first && map.upper_bound(high) == to.as_slice().last())
 }
 
 // Whether the range between the bounds is that of the plain list, and so are the items at either bound.
@@ -138,8 +130,7 @@ fn is_range(
     low: Bound<&u32>,
     high: Bound<&u32>,
 ) -> Result<bool, AllocError> {
-    let has_ends = has_lower_bound(alloc, map, count, low)?
-        && has_upper_bound(alloc, map, count, high)?;
+    let has_ends = has_bounds(alloc, map, count, low, high)?;
     let items = listed(alloc, count, low, high)?;
     Ok(has_ends && has_between(map, count, (low, high), items.as_slice()))
 }
@@ -182,11 +173,9 @@ fn are_ranges_between(
 }
 
 // The same over a map of this many even numbers.
-fn are_ranges(alloc: Global, count: u32, points: u32, step: u32) -> Result<bool, AllocError> {
-    match evens(alloc, count) {
-        Some(map) => are_ranges_between(alloc, &map, count, (points, step)),
-        None => Ok(false),
-    }
+fn are_ranges(alloc: Global, count: u32, points: u32, step: u32) -> Result<bool, Fail> {
+    let map = evens(alloc, count)?;
+    Ok(are_ranges_between(alloc, &map, count, (points, step))?)
 }
 
 #[test]
@@ -223,9 +212,7 @@ fn are_positions(map: &Ordered<Numbered>, count: u32) -> bool {
 
 fn positions_among(rt: &impl Abort, alloc: Global, count: u32) -> Result<(), Fail> {
     let items = listed(alloc, count, Bound::Unbounded, Bound::Unbounded)?;
-    let Some(map) = evens(alloc, count) else {
-        return Err(Fail::from("not filled"));
-    };
+    let map = evens(alloc, count)?;
     check(rt, are_positions(&map, count));
     check(rt, map.has_items(items.as_slice()));
     Ok(())
@@ -243,9 +230,7 @@ fn positions(rt: HostRuntime) -> Result<(), Fail> {
 // Whether a walk that ends the map gives its items from both ends in turn.
 #[test]
 fn owned_walk_from_both_ends(rt: HostRuntime) -> Result<(), Fail> {
-    let Some(map) = evens(rt.alloc(), 40) else {
-        return Err(Fail::from("not filled"));
-    };
+    let map = evens(rt.alloc(), 40)?;
     let mut walk = map.into_map().into_iter();
     for half in 0..20 {
         check(&rt, walk.next() == Some(even(half)));
@@ -264,9 +249,7 @@ fn owned_walk_from_both_ends(rt: HostRuntime) -> Result<(), Fail> {
 // Whether the removals by position leave the others in order.
 #[test]
 fn removals_by_position(rt: HostRuntime) -> Result<(), Fail> {
-    let Some(mut map) = evens(rt.alloc(), 5) else {
-        return Err(Fail::from("not filled"));
-    };
+    let mut map = evens(rt.alloc(), 5)?;
     check(
         &rt,
         map.remove_index(5).is_none() && map.take_index(5).is_none(),
@@ -301,17 +284,15 @@ fn is_removed(
     count: u32,
     low: Bound<&u32>,
     high: Bound<&u32>,
-) -> Result<bool, AllocError> {
+) -> Result<bool, Fail> {
     let mut left = listed(alloc, count, Bound::Unbounded, Bound::Unbounded)?;
     left.retain(|item| !lies(item.number, low, high));
-    match evens(alloc, count) {
-        Some(mut map) => Ok(leaves(&mut map, count, (low, high), left.as_slice())),
-        None => Ok(false),
-    }
+    let mut map = evens(alloc, count)?;
+    Ok(leaves(&mut map, count, (low, high), left.as_slice()))
 }
 
 // Whether that holds of both numbers with bounds of each kind.
-fn are_removed_at(alloc: Global, count: u32, low: u32, high: u32) -> Result<bool, AllocError> {
+fn are_removed_at(alloc: Global, count: u32, low: u32, high: u32) -> Result<bool, Fail> {
     for kind in 0..3 {
         for other in 0..3 {
             let (from, to) = (bound(&low, kind), bound(&high, other));
@@ -324,7 +305,7 @@ fn are_removed_at(alloc: Global, count: u32, low: u32, high: u32) -> Result<bool
 }
 
 // Whether that holds of each pair of this many numbers, a step apart.
-fn are_removed(alloc: Global, count: u32, points: u32, step: u32) -> Result<bool, AllocError> {
+fn are_removed(alloc: Global, count: u32, points: u32, step: u32) -> Result<bool, Fail> {
     for one in 0..points {
         for other in 0..points {
             let (low, high) = (one.wrapping_mul(step), other.wrapping_mul(step));
@@ -375,10 +356,6 @@ fn titled(alloc: Global, name: &str, value: u32) -> Result<Titled, AllocError> {
     })
 }
 
-fn count_texts(map: &Ordered<Titled>, low: Bound<&Text<'_>>, high: Bound<&Text<'_>>) -> usize {
-    map.count_between((low, high)).0
-}
-
 // Fills the map with four items.
 fn put_titles(rt: &impl Abort, alloc: Global, map: &mut Ordered<Titled>) -> Result<(), AllocError> {
     for (name, value) in [("pear", 4), ("apple", 1), ("fig", 2), ("melon", 3)] {
@@ -388,22 +365,14 @@ fn put_titles(rt: &impl Abort, alloc: Global, map: &mut Ordered<Titled>) -> Resu
 }
 
 fn are_counted(rt: &impl Abort, map: &Ordered<Titled>, low: &Text<'_>, high: &Text<'_>) {
-    check(
-        rt,
-        count_texts(map, Bound::Included(low), Bound::Included(high)) == 2,
-    );
-    check(
-        rt,
-        count_texts(map, Bound::Included(low), Bound::Excluded(high)) == 1,
-    );
-    check(
-        rt,
-        count_texts(map, Bound::Excluded(high), Bound::Unbounded) == 1,
-    );
-    check(
-        rt,
-        count_texts(map, Bound::Included(high), Bound::Included(low)) == 0,
-    );
+    for (from, to, count) in [
+        (Bound::Included(low), Bound::Included(high), 2),
+        (Bound::Included(low), Bound::Excluded(high), 1),
+        (Bound::Excluded(high), Bound::Unbounded, 1),
+        (Bound::Included(high), Bound::Included(low), 0),
+    ] {
+        check(rt, map.count_between((from, to)).0 == count);
+    }
 }
 
 fn value_of(item: Option<&Titled>) -> Option<u32> {
@@ -411,14 +380,11 @@ fn value_of(item: Option<&Titled>) -> Option<u32> {
 }
 
 fn are_found(rt: &impl Abort, map: &Ordered<Titled>, low: &Text<'_>, high: &Text<'_>) {
-    check(
-        rt,
-        value_of(map.lower_bound(Bound::Included(low))) == Some(2),
+    let (first, last) = (
+        map.lower_bound(Bound::Included(low)),
+        map.upper_bound(Bound::Excluded(high)),
     );
-    check(
-        rt,
-        value_of(map.upper_bound(Bound::Excluded(high))) == Some(2),
-    );
+    check(rt, value_of(first) == Some(2) && value_of(last) == Some(2));
     check(rt, map.index_of(high).0 == Ok(2));
     check(rt, map.index_of(&Text("n")).0 == Err(3));
 }

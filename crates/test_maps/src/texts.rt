@@ -160,14 +160,9 @@ fn guards_for_debugging(rt: HostRuntime) {
 fn walks_for_debugging(rt: HostRuntime) {
     let alloc = rt.alloc();
     let walk = "IterMut { .. }";
-    check(
-        &rt,
-        is_debugged(alloc, &two_in_order(alloc).iter_mut(), walk),
-    );
-    check(
-        &rt,
-        is_debugged(alloc, &one_by_hash(alloc).iter_mut(), walk),
-    );
+    let (mut ordered, mut hashed) = (two_in_order(alloc), one_by_hash(alloc));
+    check(&rt, is_debugged(alloc, &ordered.iter_mut(), walk));
+    check(&rt, is_debugged(alloc, &hashed.iter_mut(), walk));
 }
 
 fn refused(item: u32) -> Refused<u32> {

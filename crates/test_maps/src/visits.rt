@@ -59,10 +59,10 @@ fn visiting_commands(alloc: Global) -> Result<Vec<Command<Numbered, u32, Change>
 
 // A visit that writes 0 and returns false removes nothing.
 fn visited_by_command<M: KeyedMap<Item = Numbered, Key = u32>>(
+    rt: &impl Abort,
     alloc: Global,
     map: &mut M,
-    commands: Vec<Command<Numbered, u32, Change>>,
-) -> bool
+) -> Result<(), Fail>
     requires keyed { M.keyed map.old }
     requires keeps_keys { VisitsKeepKeys M.key nat_eq changed }
 {
@@ -73,31 +73,19 @@ fn visited_by_command<M: KeyedMap<Item = Numbered, Key = u32>>(
         Reply::Visited(false),
         Reply::Found(numbered(1, 0)),
     ];
-    match run(alloc, map, commands) {
-        Ok(replies) => replies.as_slice() == expected.as_slice(),
-        Err(_) => false,
-    }
+    let replies = run(alloc, map, visiting_commands(alloc)?).map_err(|_| "the run stopped")?;
+    check(rt, replies.as_slice() == expected.as_slice());
+    Ok(())
 }
 
 #[test]
 fn visitor(rt: HostRuntime) -> Result<(), Fail> {
     let alloc = rt.alloc();
-    check(
-        &rt,
-        odd_of_three(&rt, in_order(alloc)) == Change::KeepOdd(123),
-    );
+    let seen = odd_of_three(&rt, in_order(alloc));
+    check(&rt, seen == Change::KeepOdd(123));
     let _ = odd_of_three(&rt, by_hash(alloc));
-    let commands = visiting_commands(alloc)?;
-    check(
-        &rt,
-        visited_by_command(alloc, &mut IdOrdMap::new(alloc), commands),
-    );
-    let commands = visiting_commands(alloc)?;
-    check(
-        &rt,
-        visited_by_command(alloc, &mut IdHashMap::new(alloc), commands),
-    );
-    Ok(())
+    visited_by_command(&rt, alloc, &mut IdOrdMap::new(alloc))?;
+    visited_by_command(&rt, alloc, &mut IdHashMap::new(alloc))
 }
 
 // The names that were asked about, in the vector that has room for them, once the greater values were kept.
@@ -146,49 +134,28 @@ fn of_foo_and_bar<M: UnderTest<Named, [u8; 3]> + Drop>(rt: &impl Abort, mut map:
 }
 
 // The values of foo and bar, and how many items the walk had left, once it has doubled this many.
-fn doubled_in_order(
-    rt: &impl Abort,
-    alloc: Global,
-    most: usize,
-) -> (Option<u32>, Option<u32>, usize) {
-    let map = of_foo_and_bar(rt, in_order(alloc));
-    let (map, left) = map.written(most, double);
-    (value_in!(map, b"foo"), value_in!(map, b"bar"), left)
-}
-
-fn doubled_by_hash(
-    rt: &impl Abort,
-    alloc: Global,
-    most: usize,
-) -> (Option<u32>, Option<u32>, usize) {
-    let map = of_foo_and_bar(rt, by_hash(alloc));
-    let (map, left) = map.written(most, double);
-    (value_in!(map, b"foo"), value_in!(map, b"bar"), left)
+macro_rules! doubled {
+    ($rt:ident, $map:expr, $most:literal) => {{
+        let (map, left) = of_foo_and_bar(&$rt, $map).written($most, double);
+        (value_in!(map, b"foo"), value_in!(map, b"bar"), left)
+    }};
 }
 
 #[test]
 fn writing_walk(rt: HostRuntime) {
-    check(
-        &rt,
-        doubled_in_order(&rt, rt.alloc(), 3) == (Some(84), Some(40), 0),
-    );
-    check(
-        &rt,
-        doubled_by_hash(&rt, rt.alloc(), 3) == (Some(84), Some(40), 0),
-    );
+    let ordered = doubled!(rt, in_order(rt.alloc()), 3);
+    check(&rt, ordered == (Some(84), Some(40), 0));
+    let hashed = doubled!(rt, by_hash(rt.alloc()), 3);
+    check(&rt, hashed == (Some(84), Some(40), 0));
 }
 
 #[test]
 fn writing_walk_of_one_item(rt: HostRuntime) {
-    check(
-        &rt,
-        doubled_in_order(&rt, rt.alloc(), 1) == (Some(42), Some(40), 1),
-    );
-    let told = doubled_by_hash(&rt, rt.alloc(), 1);
-    check(
-        &rt,
-        told == (Some(84), Some(20), 1) || told == (Some(42), Some(40), 1),
-    );
+    let ordered = doubled!(rt, in_order(rt.alloc()), 1);
+    check(&rt, ordered == (Some(42), Some(40), 1));
+    let told = doubled!(rt, by_hash(rt.alloc()), 1);
+    let (foo, bar) = ((Some(84), Some(20), 1), (Some(42), Some(40), 1));
+    check(&rt, told == foo || told == bar);
 }
 
 fn nine_left<M: UnderTest<Numbered, u32> + Drop>(rt: &impl Abort, mut map: M) {

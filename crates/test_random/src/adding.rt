@@ -4,8 +4,9 @@ use crate::many::{announced, drawn};
 use crate::plain::{Plain, is_same};
 use iddqd::errors::TryReserveError;
 use std::alloc::{AllocError, Global};
-use test_support::caseless::{Caseless, Coarse};
-use test_support::maps::{Added, Copying, UnderTest};
+use test_support::caseless::Coarse;
+use test_support::coarse::CoarseMap;
+use test_support::maps::Added;
 
 // Puts the items into the list up to the first whose name is there, or that finds it full.
 fn put_all(plain: &mut Plain, items: &[Coarse]) -> Result<Added<Coarse>, AllocError> {
@@ -26,7 +27,7 @@ fn full(item: Option<Coarse>) -> Added<Coarse> {
     Added::Stopped(item, TryReserveError::capacity_overflow())
 }
 
-pub(crate) fn extend_unique<M: Copying<Coarse, Caseless>>(
+pub(crate) fn extend_unique<M: CoarseMap>(
     alloc: Global,
     map: &mut M,
     plain: &mut Plain,

@@ -3,12 +3,9 @@ use crate::draws::Draws;
 use crate::plain::{Plain, is_same};
 use std::alloc::AllocError;
 use test_support::caseless::{Caseless, Coarse, spelled};
-use test_support::entered::Entered;
-use test_support::guards::Probed;
-use test_support::maps::{Copying, UnderTest};
-use test_support::respelled::Respelled;
+use test_support::coarse::CoarseMap;
 
-pub(crate) fn insert<M: Copying<Coarse, Caseless>>(
+pub(crate) fn insert<M: CoarseMap>(
     map: &mut M,
     plain: &mut Plain,
     draws: &mut Draws,
@@ -17,7 +14,7 @@ pub(crate) fn insert<M: Copying<Coarse, Caseless>>(
     plain.inserts(item, map.insert(item))
 }
 
-pub(crate) fn overwrite<M: UnderTest<Coarse, Caseless>>(
+pub(crate) fn overwrite<M: CoarseMap>(
     map: &mut M,
     plain: &mut Plain,
     draws: &mut Draws,
@@ -38,16 +35,12 @@ pub(crate) fn overwrite<M: UnderTest<Coarse, Caseless>>(
     }
 }
 
-pub(crate) fn remove<M: UnderTest<Coarse, Caseless>>(
-    map: &mut M,
-    plain: &mut Plain,
-    draws: &mut Draws,
-) -> bool {
+pub(crate) fn remove<M: CoarseMap>(map: &mut M, plain: &mut Plain, draws: &mut Draws) -> bool {
     let name = draws.name();
     is_same(map.remove(&name), plain.take(&name))
 }
 
-pub(crate) fn remove_by_entry<M: Probed>(
+pub(crate) fn remove_by_entry<M: CoarseMap>(
     map: &mut M,
     plain: &mut Plain,
     draws: &mut Draws,
@@ -57,11 +50,7 @@ pub(crate) fn remove_by_entry<M: Probed>(
 }
 
 // A lookup, whose comparisons are counted too, among this many items at most.
-pub(crate) fn find<M: UnderTest<Coarse, Caseless> + Probed>(
-    map: &M,
-    plain: &Plain,
-    name: &Caseless,
-) -> bool {
+pub(crate) fn find<M: CoarseMap>(map: &M, plain: &Plain, name: &Caseless) -> bool {
     let item = plain.find(name);
     let (counted, steps) = map.get_counted(name);
     is_same(map.get(name).copied(), item)
@@ -70,16 +59,12 @@ pub(crate) fn find<M: UnderTest<Coarse, Caseless> + Probed>(
         && steps as usize <= plain.len().saturating_add(4)
 }
 
-pub(crate) fn write<M: UnderTest<Coarse, Caseless> + Entered + Probed>(
-    map: &mut M,
-    plain: &mut Plain,
-    draws: &mut Draws,
-) -> bool {
+pub(crate) fn write<M: CoarseMap>(map: &mut M, plain: &mut Plain, draws: &mut Draws) -> bool {
     let (name, value) = (draws.name(), draws.below(1000));
     let old = plain.find(&name);
     plain.write(&name, value);
     if draws.coin() {
-        return map.write(name.0, value) == old.is_some();
+        return map.write(&name, value) == old.is_some();
     }
     match map.write_by_reborrow(&name, value) {
         Some((before, read, shown)) => {
@@ -92,11 +77,7 @@ pub(crate) fn write<M: UnderTest<Coarse, Caseless> + Entered + Probed>(
     }
 }
 
-pub(crate) fn respell<M: UnderTest<Coarse, Caseless> + Respelled>(
-    map: &mut M,
-    plain: &mut Plain,
-    draws: &mut Draws,
-) -> bool {
+pub(crate) fn respell<M: CoarseMap>(map: &mut M, plain: &mut Plain, draws: &mut Draws) -> bool {
     let item = draws.item();
     let is_there = plain.find(&item.name).is_some();
     plain.replace(item);
@@ -110,11 +91,7 @@ pub(crate) fn respell<M: UnderTest<Coarse, Caseless> + Respelled>(
     }
 }
 
-pub(crate) fn retain<M: UnderTest<Coarse, Caseless>>(
-    map: &mut M,
-    plain: &mut Plain,
-    draws: &mut Draws,
-) -> bool {
+pub(crate) fn retain<M: CoarseMap>(map: &mut M, plain: &mut Plain, draws: &mut Draws) -> bool {
     let (part, rest) = (draws.below(8).saturating_add(3), draws.below(3));
     let before = plain.len();
     plain
@@ -126,7 +103,7 @@ pub(crate) fn retain<M: UnderTest<Coarse, Caseless>>(
     true
 }
 
-pub(crate) fn insert_by_entry<M: UnderTest<Coarse, Caseless> + Entered>(
+pub(crate) fn insert_by_entry<M: CoarseMap>(
     map: &mut M,
     plain: &mut Plain,
     draws: &mut Draws,
@@ -134,13 +111,13 @@ pub(crate) fn insert_by_entry<M: UnderTest<Coarse, Caseless> + Entered>(
     let item = draws.item();
     let fits = plain.find(&item.name).is_none() && !plain.is_full();
     if draws.coin() {
-        let inserted = map.insert_vacant(item.name.0, item);
+        let inserted = map.put_vacant(&item.name, item).shown();
         if fits {
             plain.put(item)?;
         }
         return Ok(is_same(inserted, fits.then_some(item)));
     }
-    let gone = map.insert_and_remove(item);
+    let gone = map.put_and_remove(item).shown();
     if fits {
         // its slot is vacant then
         plain.vacant = plain.vacant.max(1);
@@ -148,7 +125,7 @@ pub(crate) fn insert_by_entry<M: UnderTest<Coarse, Caseless> + Entered>(
     Ok(is_same(gone, fits.then_some(item)))
 }
 
-pub(crate) fn replace_by_entry<M: UnderTest<Coarse, Caseless> + Entered>(
+pub(crate) fn replace_by_entry<M: CoarseMap>(
     map: &mut M,
     plain: &mut Plain,
     draws: &mut Draws,
@@ -169,7 +146,7 @@ pub(crate) fn shown(plain: &mut Plain, item: Coarse) -> Result<Option<Coarse>, A
     Ok(old)
 }
 
-pub(crate) fn find_or_make<M: UnderTest<Coarse, Caseless> + Entered>(
+pub(crate) fn find_or_make<M: CoarseMap>(
     map: &mut M,
     plain: &mut Plain,
     draws: &mut Draws,
@@ -178,12 +155,12 @@ pub(crate) fn find_or_make<M: UnderTest<Coarse, Caseless> + Entered>(
     let was_there = plain.find(&item.name).is_some();
     let expected = shown(plain, item)?;
     let mut asked = 0;
-    let answer = map.find_or_make(item, &mut asked);
+    let answer = map.find_or_put(item, &mut asked).shown();
     // refused, the closure was asked, and its item dropped
     Ok(is_same(answer, expected) && (asked == 0) == was_there)
 }
 
-pub(crate) fn double_or_insert<M: UnderTest<Coarse, Caseless> + Entered>(
+pub(crate) fn double_or_insert<M: CoarseMap>(
     map: &mut M,
     plain: &mut Plain,
     draws: &mut Draws,
@@ -193,10 +170,10 @@ pub(crate) fn double_or_insert<M: UnderTest<Coarse, Caseless> + Entered>(
         plain.write(&item.name, old.value.wrapping_mul(2));
     }
     let expected = shown(plain, item)?;
-    Ok(is_same(map.double_or_insert(item), expected))
+    Ok(is_same(map.double_or_put(item).shown(), expected))
 }
 
-pub(crate) fn insert_and_write<M: UnderTest<Coarse, Caseless> + Entered>(
+pub(crate) fn insert_and_write<M: CoarseMap>(
     map: &mut M,
     plain: &mut Plain,
     draws: &mut Draws,
@@ -207,11 +184,7 @@ pub(crate) fn insert_and_write<M: UnderTest<Coarse, Caseless> + Entered>(
     Ok(map.insert_and_write(item, value) == is_in)
 }
 
-pub(crate) fn reserve<M: UnderTest<Coarse, Caseless> + Probed>(
-    map: &mut M,
-    plain: &Plain,
-    draws: &mut Draws,
-) -> bool {
+pub(crate) fn reserve<M: CoarseMap>(map: &mut M, plain: &Plain, draws: &mut Draws) -> bool {
     let additional = draws.below(40) as usize;
     let fits = plain.has_room(additional);
     let answer = if draws.coin() {
@@ -222,17 +195,13 @@ pub(crate) fn reserve<M: UnderTest<Coarse, Caseless> + Probed>(
     match answer {
         Ok(()) => {
             fits && map.capacity() >= plain.len().saturating_add(additional)
-                && map.spare().unwrap_or(additional) >= additional
+                && map.room() >= additional
         }
         Err(error) => !fits && error.is_capacity_overflow(),
     }
 }
 
-pub(crate) fn shrink<M: UnderTest<Coarse, Caseless>>(
-    map: &mut M,
-    plain: &mut Plain,
-    draws: &mut Draws,
-) -> bool {
+pub(crate) fn shrink<M: CoarseMap>(map: &mut M, plain: &mut Plain, draws: &mut Draws) -> bool {
     let before = map.capacity();
     plain.vacant = 0;
     if draws.coin() {
@@ -242,7 +211,7 @@ pub(crate) fn shrink<M: UnderTest<Coarse, Caseless>>(
     map.shrink_to(min).is_ok() && map.capacity() <= before && map.capacity() >= min.min(before)
 }
 
-pub(crate) fn clear<M: UnderTest<Coarse, Caseless>>(map: &mut M, plain: &mut Plain) -> bool {
+pub(crate) fn clear<M: CoarseMap>(map: &mut M, plain: &mut Plain) -> bool {
     map.clear();
     plain.items.clear();
     plain.vacant = 0;
@@ -260,7 +229,7 @@ fn are_listed(plain: &Plain, walked: &[Coarse]) -> bool {
 }
 
 // Whether the map finds each item of the list.
-fn are_found<M: UnderTest<Coarse, Caseless>>(map: &M, plain: &Plain) -> bool {
+fn are_found<M: CoarseMap>(map: &M, plain: &Plain) -> bool {
     for item in plain.items.iter() {
         if map.get(&item.name).map(spelled) != Some(spelled(item)) {
             return false;
@@ -270,11 +239,7 @@ fn are_found<M: UnderTest<Coarse, Caseless>>(map: &M, plain: &Plain) -> bool {
 }
 
 // Whether the map holds just what the list does, by what it finds and by its walk, and tells the numbers of the list.
-pub(crate) fn holds_the_same<M: UnderTest<Coarse, Caseless> + Probed>(
-    map: &M,
-    plain: &Plain,
-    walked: &[Coarse],
-) -> bool {
+pub(crate) fn holds_the_same<M: CoarseMap>(map: &M, plain: &Plain, walked: &[Coarse]) -> bool {
     let count = plain.len();
     are_listed(plain, walked)
         && are_found(map, plain)

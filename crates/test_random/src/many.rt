@@ -5,9 +5,8 @@ use crate::plain::{Plain, is_same};
 use iddqd::errors::{DuplicateItem, FromIterError};
 use std::alloc::{AllocError, Global};
 use test_support::bulk::Bulk;
-use test_support::caseless::{Caseless, Coarse};
-use test_support::guards::{Copied, Probed};
-use test_support::maps::{Copying, UnderTest};
+use test_support::caseless::Coarse;
+use test_support::coarse::{CoarseMap, Copied};
 
 // Some items, of which some have equal names.
 pub(crate) fn drawn(alloc: Global, draws: &mut Draws) -> Result<Vec<Coarse>, AllocError> {
@@ -39,7 +38,7 @@ fn overwrite_all(plain: &mut Plain, items: &[Coarse]) -> Result<Option<Coarse>, 
     Ok(None)
 }
 
-pub(crate) fn extend<M: UnderTest<Coarse, Caseless>>(
+pub(crate) fn extend<M: CoarseMap>(
     alloc: Global,
     map: &mut M,
     plain: &mut Plain,
@@ -76,7 +75,7 @@ fn first_repeat(
 }
 
 // A map of its own that is made of many items.
-pub(crate) fn collect<M: Copying<Coarse, Caseless> + Bulk<Coarse> + Probed + Drop>(
+pub(crate) fn collect<M: CoarseMap + Bulk<Coarse> + Drop>(
     alloc: Global,
     draws: &mut Draws,
 ) -> Result<bool, AllocError> {
@@ -91,7 +90,7 @@ pub(crate) fn collect<M: Copying<Coarse, Caseless> + Bulk<Coarse> + Probed + Dro
 }
 
 // The same of different items, or the first repeat.
-pub(crate) fn collect_unique<M: Copying<Coarse, Caseless> + Bulk<Coarse> + Probed + Drop>(
+pub(crate) fn collect_unique<M: CoarseMap + Bulk<Coarse> + Drop>(
     alloc: Global,
     draws: &mut Draws,
 ) -> Result<bool, AllocError> {
@@ -119,7 +118,7 @@ fn is_told(both: &DuplicateItem<Coarse>, repeat: Option<(Coarse, Coarse)>) -> bo
 }
 
 // A clone holds the same, equals the map as long as it is not written, and lets its items out.
-pub(crate) fn copy<M: UnderTest<Coarse, Caseless> + Copied + Probed + Drop>(
+pub(crate) fn copy<M: CoarseMap + Copied + Drop>(
     alloc: Global,
     map: &M,
     plain: &Plain,
@@ -134,7 +133,7 @@ pub(crate) fn copy<M: UnderTest<Coarse, Caseless> + Copied + Probed + Drop>(
 }
 
 // Whether the copy equals the map just as long as it is not written; then what was written is undone.
-fn equals_unwritten<M: Probed>(map: &M, copy: &mut M, plain: &Plain, draws: &mut Draws) -> bool {
+fn equals_unwritten<M: CoarseMap>(map: &M, copy: &mut M, plain: &Plain, draws: &mut Draws) -> bool {
     let is_equal = map.equals(copy) && copy.equals(map);
     let (name, value) = (draws.name(), draws.below(1000));
     let old = plain.find(&name);
@@ -148,11 +147,7 @@ fn equals_unwritten<M: Probed>(map: &M, copy: &mut M, plain: &Plain, draws: &mut
 }
 
 // An entry of a clone reads the item there, and shows what it wrote.
-pub(crate) fn write_copy<M: UnderTest<Coarse, Caseless> + Copied + Probed>(
-    map: &M,
-    plain: &Plain,
-    draws: &mut Draws,
-) -> bool {
+pub(crate) fn write_copy<M: CoarseMap + Copied>(map: &M, plain: &Plain, draws: &mut Draws) -> bool {
     let Ok(copy) = map.copied() else {
         return false;
     };
@@ -160,14 +155,8 @@ pub(crate) fn write_copy<M: UnderTest<Coarse, Caseless> + Copied + Probed>(
     let old = plain.find(&name);
     match (copy.write_by_entry(&name, value), old) {
         (Some((read, shown)), Some(item)) => {
-            is_same(Some(read), old)
-                && is_same(
-                    Some(shown),
-                    Some(Coarse {
-                        name: item.name,
-                        value,
-                    }),
-                )
+            let written = Coarse { value, ..item };
+            is_same(Some(read), old) && is_same(Some(shown), Some(written))
         }
         (None, None) => true,
         _ => false,

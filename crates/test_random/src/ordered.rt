@@ -14,7 +14,8 @@ pub(crate) fn bound(count: usize) -> u32 {
 
 // The ends are those of the list.
 pub(crate) fn ends(map: &Ordered<Coarse>, plain: &Plain) -> bool {
-    is_same(map.first(), plain.first()) && is_same(map.last(), plain.last())
+    is_same(map.map().first().copied(), plain.first())
+        && is_same(map.map().last().copied(), plain.last())
 }
 
 pub(crate) fn pop(map: &mut Ordered<Coarse>, plain: &mut Plain, draws: &mut Draws) -> bool {
@@ -67,11 +68,11 @@ pub(crate) fn show_or_insert(
     let item = draws.item();
     let expected = calls::shown(plain, item)?;
     let answer = if draws.coin() {
-        map.show_or_insert(item)
+        map.show_or_put(item)
     } else {
-        map.show_or_make(item)
+        map.show_or_put_made(item)
     };
-    Ok(is_same(answer, expected))
+    Ok(is_same(answer.shown(), expected))
 }
 
 pub(crate) fn show_inserted(
@@ -86,7 +87,7 @@ pub(crate) fn show_inserted(
     } else {
         None
     };
-    Ok(is_same(map.show_inserted(item), expected))
+    Ok(is_same(map.put_shown(item).shown(), expected))
 }
 
 // The names ascend.

@@ -7,8 +7,9 @@ use std::alloc::{AllocError, Global};
 use std::process::Abort;
 use std::test::Fail;
 use test_support::caseless::{Caseless, Coarse, spelled};
+use test_support::coarse::CoarseMap;
 use test_support::heap::{arm, is_met};
-use test_support::maps::{Copying, Inserted, UnderTest, by_hash, in_order};
+use test_support::maps::{Inserted, by_hash, in_order};
 
 /// How a call went.
 #[derive(Clone, Copy, PartialEq, Eq)]
@@ -37,7 +38,7 @@ fn refusal(plain: &Plain, item: Coarse, back: Coarse, error: TryReserveError) ->
     }
 }
 
-fn insert<M: Copying<Coarse, Caseless>>(
+fn insert<M: CoarseMap>(
     map: &mut M,
     plain: &mut Plain,
     item: Coarse,
@@ -48,7 +49,7 @@ fn insert<M: Copying<Coarse, Caseless>>(
     }
 }
 
-fn overwrite<M: UnderTest<Coarse, Caseless>>(
+fn overwrite<M: CoarseMap>(
     map: &mut M,
     plain: &mut Plain,
     item: Coarse,
@@ -63,11 +64,7 @@ fn overwrite<M: UnderTest<Coarse, Caseless>>(
     }
 }
 
-fn remove<M: UnderTest<Coarse, Caseless>>(
-    map: &mut M,
-    plain: &mut Plain,
-    name: &Caseless,
-) -> Outcome {
+fn remove<M: CoarseMap>(map: &mut M, plain: &mut Plain, name: &Caseless) -> Outcome {
     judged(is_same(map.remove(name), plain.take(name)))
 }
 
@@ -81,7 +78,7 @@ fn told(answer: Result<(), TryReserveError>) -> Outcome {
 }
 
 // Whether each item of the list is found, and no more are there. It asks for no memory.
-fn finds_all<M: UnderTest<Coarse, Caseless>>(map: &M, plain: &Plain) -> bool {
+fn finds_all<M: CoarseMap>(map: &M, plain: &Plain) -> bool {
     for item in plain.items.iter() {
         if map.get(&item.name).map(spelled) != Some(spelled(item)) {
             return false;
@@ -110,7 +107,7 @@ fn drawn_call(draws: &mut Draws) -> Call {
     }
 }
 
-fn made<M: Copying<Coarse, Caseless>>(
+fn made<M: CoarseMap>(
     map: &mut M,
     plain: &mut Plain,
     draws: &mut Draws,
@@ -129,7 +126,7 @@ fn made<M: Copying<Coarse, Caseless>>(
 }
 
 // How many of the calls were refused. The list has its room from the beginning.
-fn refusals<M: Copying<Coarse, Caseless>>(
+fn refusals<M: CoarseMap>(
     rt: &impl Abort,
     alloc: Global,
     map: &mut M,

@@ -12,12 +12,10 @@ use std::collections::hash_map::RandomState;
 use std::hash::BuildHasherDefault;
 use std::process::Abort;
 use std::test::Fail;
-use test_support::caseless::{Caseless, Coarse};
-use test_support::entered::Entered;
-use test_support::guards::{Copied, Probed};
+use test_support::caseless::Coarse;
+use test_support::coarse::{CoarseMap, Copied};
 use test_support::hashers::ZeroHasher;
-use test_support::maps::{Copying, Hashed, Ordered, UnderTest, by_hash};
-use test_support::respelled::Respelled;
+use test_support::maps::{Copying, Hashed, Ordered, by_hash};
 
 /// What is called.
 #[derive(Clone, Copy, Debug)]
@@ -79,13 +77,7 @@ fn drawn_call(draws: &mut Draws) -> Call {
 }
 
 // What takes every call.
-trait Callable: Copying<Coarse, Caseless>
-    + Probed
-    + Copied
-    + Entered
-    + Respelled
-    + Written
-    + Drop {}
+trait Callable: CoarseMap + Copied + Written + Drop {}
 
 impl Callable for Ordered<Coarse> {}
 
@@ -142,9 +134,9 @@ fn run_hashed<M: Callable>(
     rt: &impl Abort,
     alloc: Global,
     run: Run,
-    map: M,
+    mut map: M,
 ) -> Result<(), AllocError> {
-    let (mut map, mut plain) = (map, Plain::new(alloc, run.limit));
+    let mut plain = Plain::new(alloc, run.limit);
     let mut draws = Draws::new(run.seed, run.letters);
     for number in 0..run.calls {
         let call = drawn_call(&mut draws);
@@ -161,16 +153,6 @@ fn run_hashed<M: Callable>(
         );
     }
     Ok(())
-}
-
-// The same over the default hasher.
-fn run_default(
-    rt: &impl Abort,
-    alloc: Global,
-    run: Run,
-    map: Hashed<Coarse>,
-) -> Result<(), AllocError> {
-    run_hashed(rt, alloc, run, map)
 }
 
 /// What is called of an ordered map.
@@ -259,53 +241,59 @@ fn run_ordered(rt: &impl Abort, alloc: Global, run: Run) -> Result<(), AllocErro
 }
 
 // Runs of one kind, that differ in their seeds.
-fn of_seed(seed: u64, calls: u32, letters: u32, limit: u32) -> Run {
+fn of_kind(calls: u32, letters: u32, limit: u32) -> Run {
     Run {
-        seed,
+        seed: 0,
         calls,
         letters,
         limit,
     }
 }
 
-// The run, once it is printed what it is made of.
-fn announced(rt: &impl Print, run: Run) -> Result<Run, Fail> {
+// The run of the seed, once it is printed what it is made of.
+fn announced(rt: &impl Print, seed: u64, run: Run) -> Result<Run, Fail> {
+    let run = Run { seed, ..run };
     println!(rt; "{run:?}")?;
     Ok(run)
 }
 
-#[test]
-fn ordered_calls(rt: HostRuntime) -> Result<(), Fail> {
-    for seed in [11, 12, 13] {
-        let run = announced(&rt, of_seed(seed, CALLS, 3, MAX_ITEMS))?;
-        run_ordered(&rt, rt.alloc(), run)?;
+fn run_seeds(
+    rt: &(impl Abort + Print),
+    alloc: Global,
+    seeds: &[u64],
+    run: Run,
+) -> Result<(), Fail> {
+    for seed in seeds {
+        run_ordered(rt, alloc, announced(rt, *seed, run)?)?;
     }
     Ok(())
+}
+
+#[test]
+fn ordered_calls(rt: HostRuntime) -> Result<(), Fail> {
+    run_seeds(&rt, rt.alloc(), &[11, 12, 13], of_kind(CALLS, 3, MAX_ITEMS))
 }
 
 #[test]
 fn ordered_calls_of_many_names(rt: HostRuntime) -> Result<(), Fail> {
-    for seed in [21, 22] {
-        let run = announced(&rt, of_seed(seed, MANY_CALLS, 7, MAX_ITEMS))?;
-        run_ordered(&rt, rt.alloc(), run)?;
-    }
-    Ok(())
+    run_seeds(
+        &rt,
+        rt.alloc(),
+        &[21, 22],
+        of_kind(MANY_CALLS, 7, MAX_ITEMS),
+    )
 }
 
 #[test]
 fn ordered_calls_at_the_limit(rt: HostRuntime) -> Result<(), Fail> {
-    for seed in [31, 32] {
-        let run = announced(&rt, of_seed(seed, CALLS, 3, 14))?;
-        run_ordered(&rt, rt.alloc(), run)?;
-    }
-    Ok(())
+    run_seeds(&rt, rt.alloc(), &[31, 32], of_kind(CALLS, 3, 14))
 }
 
 #[test]
 fn hash_calls(rt: HostRuntime) -> Result<(), Fail> {
     for seed in [41, 42] {
-        let run = announced(&rt, of_seed(seed, MANY_CALLS, 7, MAX_ITEMS))?;
-        run_default(&rt, rt.alloc(), run, by_hash(rt.alloc()))?;
+        let run = announced(&rt, seed, of_kind(MANY_CALLS, 7, MAX_ITEMS))?;
+        run_hashed(&rt, rt.alloc(), run, by_hash::<Coarse>(rt.alloc()))?;
     }
     Ok(())
 }
@@ -313,10 +301,10 @@ fn hash_calls(rt: HostRuntime) -> Result<(), Fail> {
 #[test]
 fn hash_calls_at_the_limit(rt: HostRuntime) -> Result<(), Fail> {
     for seed in [51, 52] {
-        let run = announced(&rt, of_seed(seed, CALLS, 3, 14))?;
+        let run = announced(&rt, seed, of_kind(CALLS, 3, 14))?;
         let hasher = iddqd::DefaultHashBuilder::new();
-        let map = Hashed::new(IdHashMap::with_limit(rt.alloc(), 14, hasher));
-        run_default(&rt, rt.alloc(), run, map)?;
+        let map = Hashed::new(IdHashMap::<Coarse>::with_limit(rt.alloc(), 14, hasher));
+        run_hashed(&rt, rt.alloc(), run, map)?;
     }
     Ok(())
 }
@@ -324,7 +312,7 @@ fn hash_calls_at_the_limit(rt: HostRuntime) -> Result<(), Fail> {
 #[test]
 fn calls_of_equal_hashes(rt: HostRuntime) -> Result<(), Fail> {
     for seed in [61, 62, 63] {
-        let run = announced(&rt, of_seed(seed, CALLS, 3, MAX_ITEMS))?;
+        let run = announced(&rt, seed, of_kind(CALLS, 3, MAX_ITEMS))?;
         let hasher: BuildHasherDefault<ZeroHasher> = BuildHasherDefault::new();
         let map = Hashed::new(IdHashMap::with_hasher(rt.alloc(), hasher));
         run_hashed(&rt, rt.alloc(), run, map)?;
@@ -335,7 +323,7 @@ fn calls_of_equal_hashes(rt: HostRuntime) -> Result<(), Fail> {
 #[test]
 fn calls_of_random_hashes(rt: HostRuntime) -> Result<(), Fail> {
     for seed in [71, 72] {
-        let run = announced(&rt, of_seed(seed, CALLS, 7, MAX_ITEMS))?;
+        let run = announced(&rt, seed, of_kind(CALLS, 7, MAX_ITEMS))?;
         let map = Hashed::new(IdHashMap::with_hasher(rt.alloc(), RandomState::new(&rt)?));
         run_hashed(&rt, rt.alloc(), run, map)?;
     }
@@ -343,7 +331,7 @@ fn calls_of_random_hashes(rt: HostRuntime) -> Result<(), Fail> {
 }
 
 // Maps that are made of many items, each compared with its list.
-fn make_many<M: Copying<Coarse, Caseless> + Probed + test_support::bulk::Bulk<Coarse> + Drop>(
+fn make_many<M: CoarseMap + test_support::bulk::Bulk<Coarse> + Drop>(
     rt: &impl Abort,
     alloc: Global,
     seed: u64,

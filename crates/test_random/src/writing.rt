@@ -3,9 +3,9 @@ use crate::draws::Draws;
 use crate::plain::is_same;
 use std::alloc::{AllocError, Global};
 use std::hash::BuildHasher;
-use test_support::caseless::{Caseless, Coarse};
-use test_support::guards::Copied;
-use test_support::maps::{Copying, Hashed, Ordered, UnderTest};
+use test_support::caseless::Coarse;
+use test_support::coarse::{CoarseMap, Copied};
+use test_support::maps::{Hashed, Ordered};
 use test_support::walks::Walked;
 
 /// A map of either kind that a walk writes.
@@ -14,33 +14,34 @@ pub(crate) trait Written: Sized {
     fn raised(self, alloc: Global, most: usize) -> Result<(Vec<Coarse>, usize), AllocError>;
 }
 
-impl Written for Ordered<Coarse> {
-    fn raised(self, alloc: Global, most: usize) -> Result<(Vec<Coarse>, usize), AllocError> {
-        let (map, left) = self.written(most, raise);
-        let mut items = Vec::with_capacity(alloc, map.len())?;
-        for item in map {
-            items.push(item)?;
+macro_rules! written {
+    ([$($generics:tt)*] $map:ty) => {
+        impl<$($generics)*> Written for $map {
+            fn raised(
+                self,
+                alloc: Global,
+                most: usize,
+            ) -> Result<(Vec<Coarse>, usize), AllocError> {
+                let (map, left) = self.written(most, raise);
+                let mut items = Vec::with_capacity(alloc, map.len())?;
+                for item in map {
+                    items.push(item)?;
+                }
+                Ok((items, left))
+            }
         }
-        Ok((items, left))
-    }
+    };
 }
 
-impl<S: BuildHasher + Drop> Written for Hashed<Coarse, S> {
-    fn raised(self, alloc: Global, most: usize) -> Result<(Vec<Coarse>, usize), AllocError> {
-        let (map, left) = self.written(most, raise);
-        let mut items = Vec::with_capacity(alloc, map.len())?;
-        for item in map {
-            items.push(item)?;
-        }
-        Ok((items, left))
-    }
-}
+written!([] Ordered<Coarse>);
+
+written!([S: BuildHasher + Drop] Hashed<Coarse, S>);
 
 fn raise(item: &mut Coarse) {
     item.value = item.value.wrapping_add(1);
 }
 
-pub(crate) fn write_first<M: Copying<Coarse, Caseless> + Copied + Written + Drop>(
+pub(crate) fn write_first<M: CoarseMap + Copied + Written + Drop>(
     alloc: Global,
     map: &M,
     draws: &mut Draws,

@@ -3,7 +3,7 @@ use crate::words::tell;
 use std::alloc::Global;
 use std::test::Fail;
 use test_support::caseless::{Caseless, Coarse, item_of, spelled};
-use test_support::entered::{Entered, Put};
+use test_support::coarse::{CoarseMap, Put};
 use test_support::heap::{arm, is_met};
 use test_support::maps::{Copying, Ordered, UnderTest, by_hash, in_order};
 
@@ -23,11 +23,11 @@ enum Call {
 }
 
 // Where the call is `insert_entry`, the item is taken out at once.
-impl<M: Entered> Tried<M> for Call {
+impl<M: CoarseMap> Tried<M> for Call {
     fn put(self, map: &mut M, item: Coarse) -> Put {
         let mut asked = 0;
         match self {
-            Call::Insert => map.put_vacant(*b"xyz", item),
+            Call::Insert => map.put_vacant(&Caseless(*b"xyz"), item),
             Call::InsertEntry => map.put_and_remove(item),
             Call::OrInsert => map.double_or_put(item),
             Call::OrInsertWith => map.find_or_put(item, &mut asked),
@@ -58,9 +58,9 @@ const NAMES: [[u8; 3]; 9] = [
 ];
 
 // Whether the map is sound and has these names, each with the value 5, and no other.
-fn holds<M: UnderTest<Coarse, Caseless>>(map: &M, names: &[[u8; 3]]) -> bool {
+fn holds<M: CoarseMap>(map: &M, names: &[[u8; 3]]) -> bool {
     for name in names {
-        if map.get(&Caseless(*name)).map(spelled) != Some((*name, 5)) {
+        if map.spelled_at(*name) != Some((*name, 5)) {
             return false;
         }
     }
@@ -102,7 +102,7 @@ fn is_back(answer: &Put) -> bool {
 
 // Fills the map with this many names, so that no slot is vacant. Then it tries the insertion of a new one with a
 // request refused: the word for what was seen.
-fn insertion<M: Copying<Coarse, Caseless>>(
+fn insertion<M: CoarseMap>(
     alloc: Global,
     map: &mut M,
     call: impl Tried<M>,

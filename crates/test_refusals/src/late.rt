@@ -3,19 +3,19 @@ use crate::words::tell;
 use iddqd::errors::{ExtendError, FromIterError, TryReserveError};
 use std::alloc::{AllocError, Global};
 use std::test::Fail;
-use test_support::bulk::{Bulk, Unannounced};
+use test_support::bulk::{Announced, Bulk};
 use test_support::heap::{arm, is_met};
 use test_support::kept::Kept;
 use test_support::maps::{UnderTest, by_hash, in_order};
 
 // Twenty items, from the name 19 on down.
-fn twenty(alloc: Global) -> Result<Unannounced<Kept>, AllocError> {
+fn twenty(alloc: Global) -> Result<Announced<Kept>, AllocError> {
     let mut items = Vec::new(alloc);
     for name in 0..20u32 {
         let value = Box::new(alloc, name)?;
         items.push(Kept { name, value })?;
     }
-    Ok(Unannounced::new(items))
+    Ok(Announced::new(items, 0))
 }
 
 // Whether memory was refused, of a call that took this many items. `None` if it did what it should not.
@@ -29,7 +29,7 @@ fn is_refused(outcome: Result<usize, Option<TryReserveError>>) -> Option<bool> {
 
 fn collect<M: UnderTest<Kept, u32> + Bulk<Kept> + Drop>(
     alloc: Global,
-    items: Unannounced<Kept>,
+    items: Announced<Kept>,
 ) -> Option<bool> {
     is_refused(match M::collected(alloc, items) {
         Ok(map) => Ok(map.len()),
@@ -47,7 +47,7 @@ fn error_of(stopped: FromIterError<Kept>) -> Option<TryReserveError> {
 
 fn collect_unique<M: UnderTest<Kept, u32> + Bulk<Kept> + Drop>(
     alloc: Global,
-    items: Unannounced<Kept>,
+    items: Announced<Kept>,
 ) -> Option<bool> {
     let made = M::collected_unique(alloc, items);
     is_refused(match made.map_err(|stopped| error_of(stopped)) {
@@ -57,7 +57,7 @@ fn collect_unique<M: UnderTest<Kept, u32> + Bulk<Kept> + Drop>(
 }
 
 // The refused item comes back, and those before it are in.
-fn extend<M: UnderTest<Kept, u32>>(map: &mut M, items: Unannounced<Kept>) -> Option<bool> {
+fn extend<M: UnderTest<Kept, u32>>(map: &mut M, items: Announced<Kept>) -> Option<bool> {
     let outcome = map.extend(items);
     is_refused(match outcome {
         Ok(()) => Ok(map.len()),

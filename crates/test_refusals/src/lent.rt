@@ -5,13 +5,12 @@ use std::alloc::Global;
 use std::test::Fail;
 use test_support::heap::{arm, is_met};
 use test_support::items::Numbered;
-use test_support::maps::{Ordered, UnderTest, by_hash, in_order};
-use test_support::plain::Plain;
+use test_support::maps::{Copying, Ordered, by_hash, in_order};
 use test_support::visitors::{Change, Visited};
 
 // Fills the map with numbers, visits them, one by `get_mut` and one by its entry. Whether that went well, and met a
 // request.
-fn visits<M: Plain<Numbered, u32> + Visited + Drop>(
+fn visits<M: Copying<Numbered, u32> + Visited + Drop>(
     alloc: Global,
     mut map: M,
 ) -> Result<(bool, bool), Fail> {

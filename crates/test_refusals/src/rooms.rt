@@ -28,7 +28,7 @@ struct ByTryReserve;
 
 impl Reserving<Hashed<Numbered>> for ByTryReserve {
     fn reserve(self, map: &mut Hashed<Numbered>) -> Result<(), TryReserveError> {
-        map.reserve_or_tell(1000)
+        map.try_reserve(1000)
     }
 }
 

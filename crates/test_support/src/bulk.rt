@@ -29,49 +29,35 @@ pub trait Bulk<T>: Sized {
         requires ends { IsFinite U.into_iter_gives U.IntoIter.can_next U.IntoIter.remaining items };
 }
 
-impl<T: IdOrdItem> Bulk<T> for Ordered<T> {
-    fn collected<U: IntoIterator<Item = T>>(
-        alloc: Global,
-        items: U,
-    ) -> Result<Ordered<T>, TryReserveError>
-    where
-        T: Drop,
-    {
-        Ok(Ordered::new(IdOrdMap::from_iter(alloc, items)?))
-    }
+macro_rules! bulk {
+    ([$($generics:tt)*] $under_test:ty, $map:ident) => {
+        impl<$($generics)*> Bulk<T> for $under_test {
+            fn collected<U: IntoIterator<Item = T>>(
+                alloc: Global,
+                items: U,
+            ) -> Result<Self, TryReserveError>
+            where
+                T: Drop,
+            {
+                Ok(Self::new($map::from_iter(alloc, items)?))
+            }
 
-    fn collected_unique<U: IntoIterator<Item = T>>(
-        alloc: Global,
-        items: U,
-    ) -> Result<Ordered<T>, FromIterError<T>>
-    where
-        T: Drop,
-    {
-        Ok(Ordered::new(IdOrdMap::from_iter_unique(alloc, items)?))
-    }
+            fn collected_unique<U: IntoIterator<Item = T>>(
+                alloc: Global,
+                items: U,
+            ) -> Result<Self, FromIterError<T>>
+            where
+                T: Drop,
+            {
+                Ok(Self::new($map::from_iter_unique(alloc, items)?))
+            }
+        }
+    };
 }
 
-impl<T: IdHashItem, S: BuildHasher + Default + Drop> Bulk<T> for Hashed<T, S> {
-    fn collected<U: IntoIterator<Item = T>>(
-        alloc: Global,
-        items: U,
-    ) -> Result<Hashed<T, S>, TryReserveError>
-    where
-        T: Drop,
-    {
-        Ok(Hashed::new(IdHashMap::from_iter(alloc, items)?))
-    }
+bulk!([T: IdOrdItem] Ordered<T>, IdOrdMap);
 
-    fn collected_unique<U: IntoIterator<Item = T>>(
-        alloc: Global,
-        items: U,
-    ) -> Result<Hashed<T, S>, FromIterError<T>>
-    where
-        T: Drop,
-    {
-        Ok(Hashed::new(IdHashMap::from_iter_unique(alloc, items)?))
-    }
-}
+bulk!([T: IdHashItem, S: BuildHasher + Default + Drop] Hashed<T, S>, IdHashMap);
 
 /// An iterator that announces items, has none, and counts how often it is asked.
 #[derive(Drop)]
@@ -127,33 +113,38 @@ pub fn is_not_taken_in<M: UnderTest<Named, [u8; 3]>>(map: &mut M) -> bool {
     refused && liar.asked() == 0
 }
 
-/// An iterator over a vector's items, from the last one on. It announces none at least, and far more than there are at most.
+/// Gives a vector's items, from the last one on. It announces that this many are to come at least, and at most far more
+/// than there are.
 #[derive(Drop)]
-pub struct Unannounced<T> {
+pub struct Announced<T> {
     items: Vec<T>,
+    least: usize,
 }
 
-impl<T> Unannounced<T> {
-    /// One over these items.
-    pub fn new(items: Vec<T>) -> Unannounced<T> {
-        Unannounced { items }
+impl<T> Announced<T> {
+    /// Before the first item.
+    pub fn new(items: Vec<T>, least: usize) -> Announced<T> {
+        Announced { items, least }
     }
 }
 
-impl<T: Drop> Iterator for Unannounced<T> {
+impl<T: Drop> Iterator for Announced<T> {
     type Item = T;
 
-    ghost use Rattle.std.specs.Prelude.{length};
+    ghost use Rattle.std.specs.Prelude.{◌+◌, length};
     ghost use Rattle.std.specs.Iterator.{at_most};
 
-    ghost remaining = { λ u. at_most (length u.items.items) };
+    ghost remaining = { λ announced. at_most (announced.least + length announced.items.items) };
 
     fn next(&mut self) -> Option<T> {
         self.items.pop()
     }
 
     fn size_hint(&self) -> (usize, Option<usize>) {
-        (0, Some(self.items.len().max(1 << 40)))
+        match self.least.checked_add(self.items.len()) {
+            Some(most) => (self.least, Some(most.max(1 << 40))),
+            None => (self.least, None),
+        }
     }
 }
 

@@ -2,21 +2,15 @@
 #![tactic(auto)]
 
 pub mod bulk;
+pub mod coarse;
 pub mod copied;
-pub mod counted;
 pub mod counting;
-pub mod entered;
-pub mod first_last;
-pub mod guards;
 pub mod hashers;
 pub mod heap;
 pub mod items;
 pub mod maps;
 pub mod nine;
-pub mod plain;
-pub mod ranges;
-pub mod respelled;
-pub mod tickets;
+pub mod ordered;
 pub mod visitors;
 pub mod walks;
 

@@ -6,12 +6,15 @@ ghost use Rattle.iddqd.specs.IdHashMap.{HashItems, IsKeyed};
 ghost use Rattle.iddqd.specs.Hashing.{hash_under};
 ghost use Rattle.iddqd.specs.Holding.{Holding};
 
-use crate::visitors::Untouched;
+use crate::visitors::{Dropped, Untouched};
 use iddqd::errors::{
     DuplicateItem, ExtendError, ExtendUniqueError, InsertError, Refused, TryReserveError,
 };
 use iddqd::internal::ValidateCompact;
-use iddqd::{DefaultHashBuilder, IdHashItem, IdHashMap, IdOrdItem, IdOrdMap, Keyed, Steps, Text};
+use iddqd::{
+    DefaultHashBuilder, IdHashItem, IdHashMap, IdOrdItem, IdOrdMap, Keyed, Steps, Text,
+    id_hash_map, id_ord_map,
+};
 use idtable_commands::{Command, KeyedMap, Reply, RunStop, run};
 use std::alloc::{AllocError, Global};
 use std::hash::BuildHasher;
@@ -118,7 +121,9 @@ impl<T: IdOrdItem> Ordered<T> {
     }
 
     /// The map itself.
-    pub fn into_map(self) -> IdOrdMap<T> {
+    pub fn into_map(self) -> IdOrdMap<T>
+        ensures keyed { Ascends T.key T.Key.cmp result.items }
+    {
         self.map
     }
 }
@@ -139,17 +144,14 @@ impl<T: IdHashItem, S: BuildHasher> Hashed<T, S> {
     }
 
     /// The map itself.
-    pub fn into_map(self) -> IdHashMap<T, S> {
+    pub fn into_map(self) -> IdHashMap<T, S>
+        ensures keyed { ⟦<IdHashMap<T, S> as Keyed>⟧.keyed result }
+    {
         self.map
-    }
-
-    /// `try_reserve`, which an ordered map lacks.
-    pub fn reserve_or_tell(&mut self, additional: usize) -> Result<(), TryReserveError> {
-        self.map.try_reserve(additional)
     }
 }
 
-/// A map of either kind under test, with items `T` of keys `K`.
+/// A map of either kind under test, with items `T` of keys `K`. A call without a comment is the map's of that name.
 pub trait UnderTest<T, K>: Sized {
     /// Whether `insert_unique` inserts the item.
     fn is_put(&mut self, item: T) -> bool
@@ -159,13 +161,11 @@ pub trait UnderTest<T, K>: Sized {
     /// `insert_overwrite`.
     fn overwrite(&mut self, item: T) -> Result<Option<T>, Refused<T>>;
 
-    /// `extend`.
     fn extend<U: IntoIterator<Item = T>>(&mut self, items: U) -> Result<(), ExtendError<T>>
     where
         T: Drop,
         requires ends { IsFinite U.into_iter_gives U.IntoIter.can_next U.IntoIter.remaining items };
 
-    /// `get`, which lends the item.
     fn get(&self, key: &K) -> Option<&T>;
 
     /// `contains_key`.
@@ -174,21 +174,17 @@ pub trait UnderTest<T, K>: Sized {
     /// `get_counted`, and how many comparisons it took.
     fn get_counted(&self, key: &K) -> (Option<&T>, u32);
 
-    /// `remove`.
     fn remove(&mut self, key: &K) -> Option<T>;
 
-    /// `retain`.
     fn retain<F: FnMut(&T) -> bool>(&mut self, keep: F)
     where
         T: Drop,
         requires { F.IsAlwaysCallable keep };
 
-    /// `clear`.
     fn clear(&mut self)
     where
         T: Drop;
 
-    /// `len`.
     fn len(&self) -> usize;
 
     /// Whether `iter` has these items, in this order.
@@ -196,22 +192,20 @@ pub trait UnderTest<T, K>: Sized {
     where
         T: PartialEq;
 
-    /// `reserve`.
     fn reserve(&mut self, additional: usize) -> Result<(), TryReserveError>;
 
-    /// `shrink_to`.
+    /// `try_reserve`, or `reserve` where there is no such call.
+    fn try_reserve(&mut self, additional: usize) -> Result<(), TryReserveError>;
+
     fn shrink_to(&mut self, min: usize) -> Result<(), TryReserveError>;
 
-    /// `shrink_to_fit`.
     fn shrink_to_fit(&mut self) -> Result<(), TryReserveError>;
 
     /// How many items fit, by the numbers that the map shows.
     fn room(&self) -> usize;
 
-    /// `capacity`.
     fn capacity(&self) -> usize;
 
-    /// `vacant`.
     fn vacant(&self) -> u32;
 
     /// Whether `validate` finds no error, where slots may be vacant.
@@ -221,197 +215,115 @@ pub trait UnderTest<T, K>: Sized {
     fn is_compact(&self) -> bool;
 }
 
-impl<T: IdOrdItem> UnderTest<T, T::Key> for Ordered<T> {
-    fn is_put(&mut self, item: T) -> bool
-    where
-        T: Drop,
-    {
-        self.map.insert_unique(item).is_ok()
-    }
+macro_rules! under_test {
+    ([$($generics:tt)*] $map:ty, $try_reserve:ident, $room:ident) => {
+        impl<$($generics)*> UnderTest<T, T::Key> for $map {
+            fn is_put(&mut self, item: T) -> bool
+            where
+                T: Drop,
+            {
+                self.map.insert_unique(item).is_ok()
+            }
 
-    fn overwrite(&mut self, item: T) -> Result<Option<T>, Refused<T>> {
-        self.map.insert_overwrite(item)
-    }
+            fn overwrite(&mut self, item: T) -> Result<Option<T>, Refused<T>> {
+                self.map.insert_overwrite(item)
+            }
 
-    fn extend<U: IntoIterator<Item = T>>(&mut self, items: U) -> Result<(), ExtendError<T>>
-    where
-        T: Drop,
-    {
-        self.map.extend(items)
-    }
+            fn extend<U: IntoIterator<Item = T>>(&mut self, items: U) -> Result<(), ExtendError<T>>
+            where
+                T: Drop,
+            {
+                self.map.extend(items)
+            }
 
-    fn get(&self, key: &T::Key) -> Option<&T> {
-        self.map.get(key)
-    }
+            fn get(&self, key: &T::Key) -> Option<&T> {
+                self.map.get(key)
+            }
 
-    fn contains(&self, key: &T::Key) -> bool {
-        self.map.contains_key(key)
-    }
+            fn contains(&self, key: &T::Key) -> bool {
+                self.map.contains_key(key)
+            }
 
-    fn get_counted(&self, key: &T::Key) -> (Option<&T>, u32) {
-        let mut steps = Steps::new();
-        let found = self.map.get_counted(key, &mut steps);
-        (found, steps.count())
-    }
+            fn get_counted(&self, key: &T::Key) -> (Option<&T>, u32) {
+                let mut steps = Steps::new();
+                let found = self.map.get_counted(key, &mut steps);
+                (found, steps.count())
+            }
 
-    fn remove(&mut self, key: &T::Key) -> Option<T> {
-        self.map.remove(key)
-    }
+            fn remove(&mut self, key: &T::Key) -> Option<T> {
+                self.map.remove(key)
+            }
 
-    fn retain<F: FnMut(&T) -> bool>(&mut self, keep: F)
-    where
-        T: Drop,
-    {
-        self.map.retain(keep)
-    }
+            fn retain<F: FnMut(&T) -> bool>(&mut self, keep: F)
+            where
+                T: Drop,
+            {
+                self.map.retain(keep)
+            }
 
-    fn clear(&mut self)
-    where
-        T: Drop,
-    {
-        self.map.clear()
-    }
+            fn clear(&mut self)
+            where
+                T: Drop,
+            {
+                self.map.clear()
+            }
 
-    fn len(&self) -> usize {
-        self.map.len()
-    }
+            fn len(&self) -> usize {
+                self.map.len()
+            }
 
-    fn lists(&self, items: &[T]) -> bool
-    where
-        T: PartialEq,
-    {
-        self.map.iter().eq(items)
-    }
+            fn lists(&self, items: &[T]) -> bool
+            where
+                T: PartialEq,
+            {
+                self.map.iter().eq(items)
+            }
 
-    fn reserve(&mut self, additional: usize) -> Result<(), TryReserveError> {
-        self.map.reserve(additional)
-    }
+            fn reserve(&mut self, additional: usize) -> Result<(), TryReserveError> {
+                self.map.reserve(additional)
+            }
 
-    fn shrink_to(&mut self, min: usize) -> Result<(), TryReserveError> {
-        self.map.shrink_to(min)
-    }
+            fn try_reserve(&mut self, additional: usize) -> Result<(), TryReserveError> {
+                self.map.$try_reserve(additional)
+            }
 
-    fn shrink_to_fit(&mut self) -> Result<(), TryReserveError> {
-        self.map.shrink_to_fit()
-    }
+            fn shrink_to(&mut self, min: usize) -> Result<(), TryReserveError> {
+                self.map.shrink_to(min)
+            }
 
-    fn room(&self) -> usize {
-        self.map.capacity()
-    }
+            fn shrink_to_fit(&mut self) -> Result<(), TryReserveError> {
+                self.map.shrink_to_fit()
+            }
 
-    fn capacity(&self) -> usize {
-        self.map.capacity()
-    }
+            fn room(&self) -> usize {
+                self.map.$room()
+            }
 
-    fn vacant(&self) -> u32 {
-        self.map.vacant()
-    }
+            fn capacity(&self) -> usize {
+                self.map.capacity()
+            }
 
-    fn is_sound(&self) -> bool {
-        self.map.validate(ValidateCompact::NonCompact).is_ok()
-    }
+            fn vacant(&self) -> u32 {
+                self.map.vacant()
+            }
 
-    fn is_compact(&self) -> bool {
-        self.map.validate(ValidateCompact::Compact).is_ok()
-    }
+            fn is_sound(&self) -> bool {
+                self.map.validate(ValidateCompact::NonCompact).is_ok()
+            }
+
+            fn is_compact(&self) -> bool {
+                self.map.validate(ValidateCompact::Compact).is_ok()
+            }
+        }
+    };
 }
 
-impl<T: IdHashItem, S: BuildHasher> UnderTest<T, T::Key> for Hashed<T, S> {
-    fn is_put(&mut self, item: T) -> bool
-    where
-        T: Drop,
-    {
-        self.map.insert_unique(item).is_ok()
-    }
+under_test!([T: IdOrdItem] Ordered<T>, reserve, capacity);
 
-    fn overwrite(&mut self, item: T) -> Result<Option<T>, Refused<T>> {
-        self.map.insert_overwrite(item)
-    }
+under_test!([T: IdHashItem, S: BuildHasher] Hashed<T, S>, try_reserve, spare);
 
-    fn extend<U: IntoIterator<Item = T>>(&mut self, items: U) -> Result<(), ExtendError<T>>
-    where
-        T: Drop,
-    {
-        self.map.extend(items)
-    }
-
-    fn get(&self, key: &T::Key) -> Option<&T> {
-        self.map.get(key)
-    }
-
-    fn contains(&self, key: &T::Key) -> bool {
-        self.map.contains_key(key)
-    }
-
-    fn get_counted(&self, key: &T::Key) -> (Option<&T>, u32) {
-        let mut steps = Steps::new();
-        let found = self.map.get_counted(key, &mut steps);
-        (found, steps.count())
-    }
-
-    fn remove(&mut self, key: &T::Key) -> Option<T> {
-        self.map.remove(key)
-    }
-
-    fn retain<F: FnMut(&T) -> bool>(&mut self, keep: F)
-    where
-        T: Drop,
-    {
-        self.map.retain(keep)
-    }
-
-    fn clear(&mut self)
-    where
-        T: Drop,
-    {
-        self.map.clear()
-    }
-
-    fn len(&self) -> usize {
-        self.map.len()
-    }
-
-    fn lists(&self, items: &[T]) -> bool
-    where
-        T: PartialEq,
-    {
-        self.map.iter().eq(items)
-    }
-
-    fn reserve(&mut self, additional: usize) -> Result<(), TryReserveError> {
-        self.map.reserve(additional)
-    }
-
-    fn shrink_to(&mut self, min: usize) -> Result<(), TryReserveError> {
-        self.map.shrink_to(min)
-    }
-
-    fn shrink_to_fit(&mut self) -> Result<(), TryReserveError> {
-        self.map.shrink_to_fit()
-    }
-
-    fn room(&self) -> usize {
-        self.map.spare()
-    }
-
-    fn capacity(&self) -> usize {
-        self.map.capacity()
-    }
-
-    fn vacant(&self) -> u32 {
-        self.map.vacant()
-    }
-
-    fn is_sound(&self) -> bool {
-        self.map.validate(ValidateCompact::NonCompact).is_ok()
-    }
-
-    fn is_compact(&self) -> bool {
-        self.map.validate(ValidateCompact::Compact).is_ok()
-    }
-}
-
-/// A map of either kind under test, whose items are copied where a call lends or takes some.
+/// A map of either kind under test, whose items are copied where a call lends or takes some. A call that takes the map
+/// drops it then.
 pub trait Copying<T, K>: UnderTest<T, K> {
     /// `insert_unique`.
     fn insert(&mut self, item: T) -> Inserted<T>;
@@ -422,47 +334,139 @@ pub trait Copying<T, K>: UnderTest<T, K> {
 
     /// The items of `iter`.
     fn listed(&self, alloc: Global) -> Result<Vec<T>, AllocError>;
+
+    /// How many items `iter` shows.
+    fn walk(&self) -> usize;
+
+    /// `retain_mut`, which keeps each item.
+    fn visit_all(&mut self);
+
+    /// `retain_mut`, which keeps none.
+    fn drop_all(&mut self);
+
+    /// `get_mut`, and the guard is spent. Whether there was one.
+    fn spend(self, key: &K) -> bool;
+
+    /// `entry`. Whether it is occupied.
+    fn enter(self, key: &K) -> bool;
+
+    /// `entry` of the item's key, and `insert` where it is vacant, `insert` and `remove` where it is occupied. Whether
+    /// nothing was refused.
+    fn use_entry(self, item: T) -> bool;
+
+    /// `entry` of the item's key and `and_modify`, and `insert_entry` where it is vacant. Whether nothing was refused.
+    fn modify_or_put(self, item: T) -> bool;
+
+    /// `or_insert` of the item's entry, and the guard is spent. Whether nothing was refused.
+    fn use_or_insert(self, item: T) -> bool;
+
+    /// `or_insert_with` of the item's entry, and the guard shows the item. Whether nothing was refused.
+    fn use_or_insert_with(self, item: T) -> bool;
 }
 
-impl<T: IdOrdItem + Copy + Drop> Copying<T, T::Key> for Ordered<T> {
-    fn insert(&mut self, item: T) -> Inserted<T> {
-        match self.map.insert_unique(item) {
-            Ok(()) => Inserted::Done,
-            Err(error) => kept_out(error),
-        }
-    }
+macro_rules! copying {
+    ([$($generics:tt)*] $map:ty, $entries:ident) => {
+        impl<$($generics)*> Copying<T, T::Key> for $map {
+            fn insert(&mut self, item: T) -> Inserted<T> {
+                match self.map.insert_unique(item) {
+                    Ok(()) => Inserted::Done,
+                    Err(error) => kept_out(error),
+                }
+            }
 
-    fn add_each<U: IntoIterator<Item = T>>(&mut self, items: U) -> Added<T> {
-        match self.map.extend_unique(items) {
-            Ok(()) => Added::All,
-            Err(error) => stopped(error),
-        }
-    }
+            fn add_each<U: IntoIterator<Item = T>>(&mut self, items: U) -> Added<T> {
+                match self.map.extend_unique(items) {
+                    Ok(()) => Added::All,
+                    Err(error) => stopped(error),
+                }
+            }
 
-    fn listed(&self, alloc: Global) -> Result<Vec<T>, AllocError> {
-        self.map.iter().copied().collect(alloc)
-    }
+            fn listed(&self, alloc: Global) -> Result<Vec<T>, AllocError> {
+                self.map.iter().copied().collect(alloc)
+            }
+
+            fn walk(&self) -> usize {
+                self.map.iter().count()
+            }
+
+            fn visit_all(&mut self) {
+                self.map.retain_mut(&mut Untouched);
+            }
+
+            fn drop_all(&mut self) {
+                self.map.retain_mut(&mut Dropped);
+            }
+
+            fn spend(self, key: &T::Key) -> bool {
+                let mut map = self.map;
+                match map.get_mut(key) {
+                    Some(lent) => {
+                        lent.finish();
+                        true
+                    }
+                    None => false,
+                }
+            }
+
+            fn enter(self, key: &T::Key) -> bool {
+                let mut map = self.map;
+                matches!(map.entry(key), $entries::Entry::Occupied(_))
+            }
+
+            fn use_entry(self, item: T) -> bool {
+                let mut map = self.map;
+                match map.entry(item.key()) {
+                    $entries::Entry::Occupied(mut entry) => {
+                        drop(entry.insert(item));
+                        drop(entry.remove());
+                        true
+                    }
+                    $entries::Entry::Vacant(entry) => match entry.insert(item) {
+                        Ok(lent) => {
+                            lent.finish();
+                            true
+                        }
+                        Err(_refused) => false,
+                    },
+                }
+            }
+
+            fn modify_or_put(self, item: T) -> bool {
+                let mut map = self.map;
+                match map.entry(item.key()).and_modify(&mut Untouched) {
+                    $entries::Entry::Occupied(_) => true,
+                    $entries::Entry::Vacant(entry) => entry.insert_entry(item).is_ok(),
+                }
+            }
+
+            fn use_or_insert(self, item: T) -> bool {
+                let mut map = self.map;
+                match map.entry(item.key()).or_insert(item) {
+                    Ok(lent) => {
+                        lent.finish();
+                        true
+                    }
+                    Err(_refused) => false,
+                }
+            }
+
+            fn use_or_insert_with(self, item: T) -> bool {
+                let mut map = self.map;
+                match map.entry(item.key()).or_insert_with(|| item) {
+                    Ok(lent) => {
+                        let _ = lent.into_ref();
+                        true
+                    }
+                    Err(_refused) => false,
+                }
+            }
+        }
+    };
 }
 
-impl<T: IdHashItem + Copy + Drop, S: BuildHasher> Copying<T, T::Key> for Hashed<T, S> {
-    fn insert(&mut self, item: T) -> Inserted<T> {
-        match self.map.insert_unique(item) {
-            Ok(()) => Inserted::Done,
-            Err(error) => kept_out(error),
-        }
-    }
+copying!([T: IdOrdItem + Copy + Drop] Ordered<T>, id_ord_map);
 
-    fn add_each<U: IntoIterator<Item = T>>(&mut self, items: U) -> Added<T> {
-        match self.map.extend_unique(items) {
-            Ok(()) => Added::All,
-            Err(error) => stopped(error),
-        }
-    }
-
-    fn listed(&self, alloc: Global) -> Result<Vec<T>, AllocError> {
-        self.map.iter().copied().collect(alloc)
-    }
-}
+copying!([T: IdHashItem + Copy + Drop, S: BuildHasher + Drop] Hashed<T, S>, id_hash_map);
 
 /// What a row asks of a map of either kind by commands, none of which visits.
 pub trait Commanded<T: Clone, K> {
@@ -505,16 +509,6 @@ where
     }
 }
 
-/// Whether the item is inserted, if no item of its key exists, and the map is keyed as before.
-pub fn is_put<M: KeyedMap>(map: &mut M, item: M::Item) -> bool
-where
-    M::Item: Drop,
-    requires { M.keyed map.old }
-    ensures { M.keyed map.new }
-{
-    map.insert_unique(item).is_ok()
-}
-
 /// What a row asks of a map of either kind by texts.
 pub trait AskedByText {
     /// What the map holds.
@@ -530,34 +524,36 @@ pub trait AskedByText {
     fn take_out(&mut self, name: &str) -> Option<Self::Item>;
 }
 
-impl<T: IdOrdItem<Key = String>> AskedByText for Ordered<T> {
-    type Item = T;
+macro_rules! asked_by_text {
+    ([$($generics:tt)*] $map:ty) => {
+        impl<$($generics)*> AskedByText for $map {
+            type Item = T;
 
-    fn find(&self, name: &str) -> Option<&T> {
-        self.map.get(&Text(name))
-    }
+            fn find(&self, name: &str) -> Option<&T> {
+                self.map.get(&Text(name))
+            }
 
-    fn has_name(&self, name: &str) -> bool {
-        self.map.contains_key(&Text(name))
-    }
+            fn has_name(&self, name: &str) -> bool {
+                self.map.contains_key(&Text(name))
+            }
 
-    fn take_out(&mut self, name: &str) -> Option<T> {
-        self.map.remove(&Text(name))
-    }
+            fn take_out(&mut self, name: &str) -> Option<T> {
+                self.map.remove(&Text(name))
+            }
+        }
+    };
 }
 
-impl<T: IdHashItem<Key = String>> AskedByText for Hashed<T> {
-    type Item = T;
+asked_by_text!([T: IdOrdItem<Key = String>] Ordered<T>);
 
-    fn find(&self, name: &str) -> Option<&T> {
-        self.map.get(&Text(name))
-    }
+asked_by_text!([T: IdHashItem<Key = String>] Hashed<T>);
 
-    fn has_name(&self, name: &str) -> bool {
-        self.map.contains_key(&Text(name))
-    }
-
-    fn take_out(&mut self, name: &str) -> Option<T> {
-        self.map.remove(&Text(name))
-    }
+/// Whether the item is inserted, if no item of its key exists, and the map is keyed as before.
+pub fn is_put<M: KeyedMap>(map: &mut M, item: M::Item) -> bool
+where
+    M::Item: Drop,
+    requires { M.keyed map.old }
+    ensures { M.keyed map.new }
+{
+    map.insert_unique(item).is_ok()
 }

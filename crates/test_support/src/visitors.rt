@@ -1,5 +1,5 @@
 //! Visitors of the rows.
-ghost use Rattle.std.specs.Prelude.{true};
+ghost use Rattle.std.specs.Prelude.{false, true};
 
 use crate::items::Numbered;
 use crate::maps::{Hashed, Ordered};
@@ -15,6 +15,18 @@ impl<T> Visit<T> for Untouched {
 
     fn visit(&mut self, _item: &mut T) -> bool {
         true
+    }
+}
+
+/// Leaves each item as it is, and keeps none.
+#[derive(Clone, Copy)]
+pub struct Dropped;
+
+impl<T> Visit<T> for Dropped {
+    ghost visits = { λ visitor item. (visitor, item, false) };
+
+    fn visit(&mut self, _item: &mut T) -> bool {
+        false
     }
 }
 
@@ -55,22 +67,20 @@ pub trait Visited {
     fn retain_mut(&mut self, visitor: &mut Change);
 }
 
-impl Visited for Ordered<Numbered> {
-    fn visit(&mut self, number: u32, visitor: &mut Change) -> Option<bool> {
-        self.map.visit(&number, visitor)
-    }
+macro_rules! visited {
+    ($map:ty) => {
+        impl Visited for $map {
+            fn visit(&mut self, number: u32, visitor: &mut Change) -> Option<bool> {
+                self.map.visit(&number, visitor)
+            }
 
-    fn retain_mut(&mut self, visitor: &mut Change) {
-        self.map.retain_mut(visitor);
-    }
+            fn retain_mut(&mut self, visitor: &mut Change) {
+                self.map.retain_mut(visitor);
+            }
+        }
+    };
 }
 
-impl Visited for Hashed<Numbered> {
-    fn visit(&mut self, number: u32, visitor: &mut Change) -> Option<bool> {
-        self.map.visit(&number, visitor)
-    }
+visited!(Ordered<Numbered>);
 
-    fn retain_mut(&mut self, visitor: &mut Change) {
-        self.map.retain_mut(visitor);
-    }
-}
+visited!(Hashed<Numbered>);

@@ -14,34 +14,26 @@ pub trait Walked<T> {
         requires { F.IsAlwaysCallable write };
 }
 
-impl<T: IdOrdItem> Walked<T> for Ordered<T> {
-    type Map = IdOrdMap<T>;
+macro_rules! walked {
+    ([$($generics:tt)*] $under_test:ty, $map:ty) => {
+        impl<$($generics)*> Walked<T> for $under_test {
+            type Map = $map;
 
-    fn written<F: Fn(&mut T)>(self, most: usize, write: F) -> (IdOrdMap<T>, usize) {
-        let mut map = self.map;
-        let mut walk = map.iter_mut();
-        for _ in 0..most {
-            if let Some(item) = walk.next() {
-                write(item);
+            fn written<F: Fn(&mut T)>(self, most: usize, write: F) -> ($map, usize) {
+                let mut map = self.map;
+                let mut walk = map.iter_mut();
+                for _ in 0..most {
+                    if let Some(item) = walk.next() {
+                        write(item);
+                    }
+                }
+                let left = walk.len();
+                (map, left)
             }
         }
-        let left = walk.len();
-        (map, left)
-    }
+    };
 }
 
-impl<T: IdHashItem, S: BuildHasher> Walked<T> for Hashed<T, S> {
-    type Map = IdHashMap<T, S>;
+walked!([T: IdOrdItem] Ordered<T>, IdOrdMap<T>);
 
-    fn written<F: Fn(&mut T)>(self, most: usize, write: F) -> (IdHashMap<T, S>, usize) {
-        let mut map = self.map;
-        let mut walk = map.iter_mut();
-        for _ in 0..most {
-            if let Some(item) = walk.next() {
-                write(item);
-            }
-        }
-        let left = walk.len();
-        (map, left)
-    }
-}
+walked!([T: IdHashItem, S: BuildHasher] Hashed<T, S>, IdHashMap<T, S>);

@@ -1,6 +1,8 @@
-//! What tests ask of an ordered map by positions, between bounds and from the back.
-use crate::maps::Ordered;
-use iddqd::id_ord_map::Iter;
+//! What tests ask of an ordered map alone: at its ends, by positions, between bounds, and by what shows an item.
+use crate::caseless::Coarse;
+use crate::coarse::Put;
+use crate::maps::{Inserted, Ordered, kept_out};
+use iddqd::id_ord_map::{Entry, Iter};
 use iddqd::{Comparable, IdOrdItem, Steps};
 use std::ops::Bound;
 use std::slice;
@@ -9,6 +11,33 @@ use std::slice;
 pub type Bounds<'a, Q> = (Bound<&'a Q>, Bound<&'a Q>);
 
 impl<T: IdOrdItem> Ordered<T> {
+    /// `pop_first`.
+    pub fn pop_first(&mut self) -> Option<T> {
+        self.map.pop_first()
+    }
+
+    /// `pop_last`.
+    pub fn pop_last(&mut self) -> Option<T> {
+        self.map.pop_last()
+    }
+
+    /// `first_entry`, and `remove` of it.
+    pub fn remove_first(&mut self) -> Option<T> {
+        Some(self.map.first_entry()?.remove())
+    }
+
+    /// `last_entry`, and `remove` of it.
+    pub fn remove_last(&mut self) -> Option<T> {
+        Some(self.map.last_entry()?.remove())
+    }
+
+    /// `remove_counted`, and how many comparisons it took.
+    pub fn remove_counted(&mut self, key: &T::Key) -> (Option<T>, u32) {
+        let mut steps = Steps::new();
+        let gone = self.map.remove_counted(key, &mut steps);
+        (gone, steps.count())
+    }
+
     /// `get_index`.
     pub fn get_index(&self, index: usize) -> Option<&T> {
         self.map.get_index(index)
@@ -89,6 +118,73 @@ impl<T: IdOrdItem + PartialEq> Ordered<T> {
             Err(_) => false,
         };
         from_clone && self.map.iter().rev().eq(items.iter().rev()) && meets(walk, items.iter())
+    }
+}
+
+impl<T: IdOrdItem + Copy> Ordered<T> {
+    /// `insert_unique_counted`, with what is lent copied, and how many comparisons it took.
+    pub fn insert_counted(&mut self, item: T) -> (Inserted<T>, u32) {
+        let mut steps = Steps::new();
+        let inserted = match self.map.insert_unique_counted(item, &mut steps) {
+            Ok(()) => Inserted::Done,
+            Err(error) => kept_out(error),
+        };
+        (inserted, steps.count())
+    }
+
+    /// `get_index_mut`, and the guard is spent. Whether there was one. The map is dropped then.
+    pub fn spend_index(self, index: usize) -> bool
+    where
+        T: Drop,
+    {
+        let mut map = self.map;
+        match map.get_index_mut(index) {
+            Some(lent) => {
+                lent.finish();
+                true
+            }
+            None => false,
+        }
+    }
+
+    /// `first`, `last`, `pop_first` and `pop_last`: whether each found an item.
+    pub fn use_ends(&mut self) -> bool
+    where
+        T: Drop,
+    {
+        self.map.first().is_some()
+            && self.map.last().is_some()
+            && self.map.pop_first().is_some()
+            && self.map.pop_last().is_some()
+    }
+}
+
+impl Ordered<Coarse> {
+    /// `insert_ref` where no item of the name is there.
+    pub fn put_shown(&mut self, item: Coarse) -> Put {
+        match self.map.entry(&item.name) {
+            Entry::Vacant(entry) => match entry.insert_ref(item) {
+                Ok(shown) => Put::Shown(*shown),
+                Err(refused) => Put::Refused(refused.item, refused.error),
+            },
+            Entry::Occupied(_) => Put::OtherKind,
+        }
+    }
+
+    /// `or_insert_ref`.
+    pub fn show_or_put(&mut self, item: Coarse) -> Put {
+        match self.map.entry(&item.name).or_insert_ref(item) {
+            Ok(shown) => Put::Shown(*shown),
+            Err(refused) => Put::Refused(refused.item, refused.error),
+        }
+    }
+
+    /// `or_insert_with_ref`.
+    pub fn show_or_put_made(&mut self, item: Coarse) -> Put {
+        match self.map.entry(&item.name).or_insert_with_ref(|| item) {
+            Ok(shown) => Put::Shown(*shown),
+            Err(refused) => Put::Refused(refused.item, refused.error),
+        }
     }
 }
 

@@ -1,0 +1,351 @@
+//! What rows and random lists ask of a map of either kind whose keys are equal in any case: by its numbers, guards and
+//! entries, and by whole writes of an item of an equal key, which is spelled in another way.
+use crate::caseless::{Caseless, Coarse, spelled};
+use crate::hashers::ZeroHasher;
+use crate::maps::{Copying, Hashed, Ordered};
+use iddqd::errors::TryReserveError;
+use iddqd::internal::ValidateCompact;
+use iddqd::{Visit, id_hash_map, id_ord_map};
+use std::alloc::{AllocError, Global};
+use std::collections::hash_map::RandomState;
+use std::hash::{BuildHasher, BuildHasherDefault};
+use test_coarse::writes::{hash_put, hash_put_in_walk, put, put_in_walk};
+
+/// Doubles the value, and returns false.
+#[derive(Clone, Copy)]
+pub struct DoublesAndDenies;
+
+impl Visit<Coarse> for DoublesAndDenies {
+    ghost use Rattle.std.specs.Prelude.{◌*◌, ◌%◌, ◌^◌, false};
+
+    ghost visits = { λ visitor item. (visitor, record item { value = item.value * 2 % 2 ^ 32 }, false) };
+
+    fn visit(&mut self, item: &mut Coarse) -> bool {
+        item.value = item.value.wrapping_mul(2);
+        false
+    }
+}
+
+/// Puts its item in the place of each whose key is equal, and keeps all.
+#[derive(Clone, Copy)]
+pub struct Respells(pub Coarse);
+
+impl Visit<Coarse> for Respells {
+    ghost use Rattle.std.specs.Prelude.{true};
+    ghost use Rattle.test_support.specs.Respelled.{respelled};
+
+    ghost visits = { λ visitor item. (visitor, respelled visitor.0 item, true) };
+
+    fn visit(&mut self, item: &mut Coarse) -> bool {
+        if item.name == self.0.name {
+            *item = self.0;
+        }
+        true
+    }
+}
+
+/// What an insertion by an entry returns: the item that it shows, or the refused one and why. `None` if the entry
+/// is not of the kind that it needs.
+#[derive(Drop)]
+pub enum Put {
+    Shown(Coarse),
+    Refused(Coarse, TryReserveError),
+    OtherKind,
+}
+
+impl Put {
+    /// The item that is shown, if one is.
+    pub fn shown(self) -> Option<Coarse> {
+        match self {
+            Put::Shown(item) => Some(item),
+            _ => None,
+        }
+    }
+}
+
+/// A map of either kind with keys that are equal in any case. What lends returns a copy. If the entry is not of the
+/// kind needed, or if memory was refused, a call that returns no `Put` returns `None` or false.
+pub trait CoarseMap: Copying<Coarse, Caseless> {
+    /// `get`: the spelling and the value.
+    fn spelled_at(&self, name: [u8; 3]) -> Option<([u8; 3], u32)> {
+        self.get(&Caseless(name)).map(spelled)
+    }
+
+    /// `limit`.
+    fn limit(&self) -> u32;
+
+    /// Whether `validate` and `validate_structural` return the same: an error exactly if slots are vacant and none
+    /// may be.
+    fn is_valid(&self) -> bool;
+
+    /// The items of `into_iter`.
+    fn walked_out(self, alloc: Global) -> Result<Vec<Coarse>, AllocError>;
+
+    /// `==` or `eq`.
+    fn equals(&self, other: &Self) -> bool;
+
+    /// Writes by a guard that is lent once more. It returns the old item, what the guard reads once that loan is
+    /// over, and what it shows once it is spent.
+    fn write_by_reborrow(
+        &mut self,
+        name: &Caseless,
+        value: u32,
+    ) -> Option<(Coarse, Coarse, Coarse)>;
+
+    /// Spends a guard that wrote nothing. Whether the name is there.
+    fn spend_unwritten(&mut self, name: &Caseless) -> bool;
+
+    /// Reads and writes by the entry of a map that is dropped then: the old item, and what the entry shows.
+    fn write_by_entry(self, name: &Caseless, value: u32) -> Option<(Coarse, Coarse)>;
+
+    /// `remove` of the entry.
+    fn remove_by_entry(&mut self, name: &Caseless) -> Option<Coarse>;
+
+    /// `insert` of a vacant entry, of an item whose key no other has.
+    fn put_vacant(&mut self, asked: &Caseless, item: Coarse) -> Put;
+
+    /// `insert_entry` of a vacant entry, and `remove` of the entry that it returns.
+    fn put_and_remove(&mut self, item: Coarse) -> Put;
+
+    /// `insert` of an occupied entry: the old item.
+    fn insert_occupied(&mut self, item: Coarse) -> Option<Coarse>;
+
+    /// Writes a value through the guard of an occupied entry.
+    fn write(&mut self, name: &Caseless, value: u32) -> bool;
+
+    /// `and_modify`, doubling and answering false, and then `or_insert`.
+    fn double_or_put(&mut self, item: Coarse) -> Put;
+
+    /// `or_insert`, written through the guard that is lent.
+    fn insert_and_write(&mut self, item: Coarse, value: u32) -> bool;
+
+    /// `or_insert_with`, which counts how often it is asked for the item.
+    fn find_or_put(&mut self, item: Coarse, asked: &mut u32) -> Put;
+
+    /// Writes the item whole, through the guard that `get_mut` lends. False if no item has the key.
+    fn respell_by_guard(&mut self, asked: &Caseless, item: Coarse) -> bool;
+
+    /// The same by `and_modify` of the entry.
+    fn respell_by_entry(&mut self, asked: &Caseless, item: Coarse) -> bool;
+
+    /// By `retain_mut`.
+    fn respell_by_visitor(&mut self, item: Coarse);
+
+    /// By a walk that lends items for writing.
+    fn respell_by_walk(&mut self, item: Coarse) -> bool;
+}
+
+macro_rules! coarse_map {
+    (
+        #[$writes:meta]
+        #[$respells:meta]
+        $([$($generics:tt)*] $map:ty, $module:ident, $put:ident, $put_in_walk:ident;)*
+    ) => {
+        $(impl<$($generics)*> CoarseMap for $map {
+            fn limit(&self) -> u32 {
+                self.map.limit()
+            }
+
+            fn is_valid(&self) -> bool {
+                let map = &self.map;
+                let is_compact = map.vacant() == 0;
+                map.validate(ValidateCompact::NonCompact).is_ok()
+                    && map.validate_structural(ValidateCompact::NonCompact).is_ok()
+                    && map.validate(ValidateCompact::Compact).is_ok() == is_compact
+                    && map.validate_structural(ValidateCompact::Compact).is_ok() == is_compact
+            }
+
+            fn walked_out(self, alloc: Global) -> Result<Vec<Coarse>, AllocError> {
+                self.map.into_iter().collect(alloc)
+            }
+
+            fn equals(&self, other: &Self) -> bool {
+                self.map.eq(&other.map)
+            }
+
+            #[$writes]
+            fn write_by_reborrow(
+                &mut self,
+                name: &Caseless,
+                value: u32,
+            ) -> Option<(Coarse, Coarse, Coarse)> {
+                let mut outer = self.map.get_mut(name)?;
+                let old = *outer;
+                let inner = outer.reborrow();
+                inner.value = value;
+                let read = *outer;
+                let shown = outer.into_ref();
+                Some((old, read, *shown))
+            }
+
+            #[$writes]
+            fn spend_unwritten(&mut self, name: &Caseless) -> bool {
+                match self.map.get_mut(name) {
+                    Some(lent) => {
+                        lent.finish();
+                        true
+                    }
+                    None => false,
+                }
+            }
+
+            fn write_by_entry(self, name: &Caseless, value: u32) -> Option<(Coarse, Coarse)> {
+                let mut map = self.map;
+                match map.entry(name) {
+                    $module::Entry::Occupied(mut entry) => {
+                        let old = *entry.get();
+                        entry.get_mut().value = value;
+                        let shown = entry.into_ref();
+                        Some((old, *shown))
+                    }
+                    $module::Entry::Vacant(_) => None,
+                }
+            }
+
+            fn remove_by_entry(&mut self, name: &Caseless) -> Option<Coarse> {
+                match self.map.entry(name) {
+                    $module::Entry::Occupied(entry) => Some(entry.remove()),
+                    $module::Entry::Vacant(_) => None,
+                }
+            }
+
+            fn put_vacant(&mut self, asked: &Caseless, item: Coarse) -> Put {
+                if self.map.contains_key(&item.name) {
+                    return Put::OtherKind;
+                }
+                match self.map.entry(asked) {
+                    $module::Entry::Vacant(entry) => match entry.insert(item) {
+                        Ok(lent) => {
+                            let shown = lent.into_ref();
+                            Put::Shown(*shown)
+                        }
+                        Err(refused) => Put::Refused(refused.item, refused.error),
+                    },
+                    $module::Entry::Occupied(_) => Put::OtherKind,
+                }
+            }
+
+            fn put_and_remove(&mut self, item: Coarse) -> Put {
+                match self.map.entry(&item.name) {
+                    $module::Entry::Vacant(entry) => match entry.insert_entry(item) {
+                        Ok(entry) => Put::Shown(entry.remove()),
+                        Err(refused) => Put::Refused(refused.item, refused.error),
+                    },
+                    $module::Entry::Occupied(_) => Put::OtherKind,
+                }
+            }
+
+            fn insert_occupied(&mut self, item: Coarse) -> Option<Coarse> {
+                match self.map.entry(&item.name) {
+                    $module::Entry::Occupied(mut entry) => Some(entry.insert(item)),
+                    $module::Entry::Vacant(_) => None,
+                }
+            }
+
+            #[$writes]
+            fn write(&mut self, name: &Caseless, value: u32) -> bool {
+                match self.map.entry(name) {
+                    $module::Entry::Occupied(entry) => {
+                        let mut lent = entry.into_mut();
+                        lent.value = value;
+                        lent.finish();
+                        true
+                    }
+                    $module::Entry::Vacant(_) => false,
+                }
+            }
+
+            fn double_or_put(&mut self, item: Coarse) -> Put {
+                let entry = self.map.entry(&item.name).and_modify(&mut DoublesAndDenies);
+                match entry.or_insert(item) {
+                    Ok(lent) => {
+                        let shown = lent.into_ref();
+                        Put::Shown(*shown)
+                    }
+                    Err(refused) => Put::Refused(refused.item, refused.error),
+                }
+            }
+
+            #[$writes]
+            fn insert_and_write(&mut self, item: Coarse, value: u32) -> bool {
+                match self.map.entry(&item.name).or_insert(item) {
+                    Ok(mut lent) => {
+                        lent.value = value;
+                        lent.finish();
+                        true
+                    }
+                    Err(_) => false,
+                }
+            }
+
+            fn find_or_put(&mut self, item: Coarse, asked: &mut u32) -> Put {
+                let make = || {
+                    *asked = asked.saturating_add(1);
+                    item
+                };
+                match self.map.entry(&item.name).or_insert_with(make) {
+                    Ok(lent) => {
+                        let shown = lent.into_ref();
+                        Put::Shown(*shown)
+                    }
+                    Err(refused) => Put::Refused(refused.item, refused.error),
+                }
+            }
+
+            fn respell_by_guard(&mut self, asked: &Caseless, item: Coarse) -> bool {
+                if !matches!(self.map.get(asked), Some(found) if found.name == item.name) {
+                    return false;
+                }
+                $put(&mut self.map, asked, item);
+                true
+            }
+
+            #[$respells]
+            fn respell_by_entry(&mut self, asked: &Caseless, item: Coarse) -> bool {
+                match self.map.entry(asked).and_modify(&mut Respells(item)) {
+                    $module::Entry::Occupied(_) => true,
+                    $module::Entry::Vacant(_) => false,
+                }
+            }
+
+            #[$respells]
+            fn respell_by_visitor(&mut self, item: Coarse) {
+                self.map.retain_mut(&mut Respells(item));
+            }
+
+            fn respell_by_walk(&mut self, item: Coarse) -> bool {
+                $put_in_walk(&mut self.map, item)
+            }
+        })*
+    };
+}
+
+coarse_map!(
+    #[tactic(auto, using(iddqd::proofs::GuardLemmas::same_key_kept))]
+    #[tactic(auto, using(crate::proofs::RespelledLemmas::respelled_keeps_key))]
+    [] Ordered<Coarse>, id_ord_map, put, put_in_walk;
+    [S: BuildHasher + Drop] Hashed<Coarse, S>, id_hash_map, hash_put, hash_put_in_walk;
+);
+
+/// A map of either kind that is copied.
+pub trait Copied: Sized {
+    /// `clone`.
+    fn copied(&self) -> Result<Self, TryReserveError>;
+}
+
+macro_rules! copied {
+    ($($map:ty),*) => {
+        $(impl Copied for $map {
+            fn copied(&self) -> Result<$map, TryReserveError> {
+                Ok(Self::new(self.map.clone()?))
+            }
+        })*
+    };
+}
+
+copied!(
+    Ordered<Coarse>,
+    Hashed<Coarse>,
+    Hashed<Coarse, BuildHasherDefault<ZeroHasher>>,
+    Hashed<Coarse, RandomState>
+);
