@@ -10,8 +10,9 @@ use iddqd_store::Refused;
 use std::hash::BuildHasher;
 
 impl<'a, T: BiHashItem, S: BuildHasher> Entry<'a, T, S> {
-    /// Inserts the item if the entry is vacant, or else drops it, and returns what the entry lends: a guard for the one
-    /// item, or the entry of two items, or of one that has one of the keys. It inserts as `VacantEntry::insert` does.
+    /// Inserts the item if the entry is vacant, or else drops it, and returns a guard for the entry's item. If the entry
+    /// has items and none has both keys, it returns the entry. It inserts as `VacantEntry::insert` does. The guard has to
+    /// be spent.
     /// Match the refusal by a name, as in `Err(_refused)`. Beside a guard that is moved out of `Ok`, `Err(_)` gets no
     /// proof, if the items are not `Copy`.
     pub fn or_insert(self, item: T) -> Result<OccupiedEntryMut<'a, T, S>, Refused<T>>

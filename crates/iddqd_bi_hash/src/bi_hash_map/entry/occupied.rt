@@ -58,8 +58,8 @@ impl<'a, T: BiHashItem, S: BuildHasher> OccupiedEntry<'a, T, S> {
         self.map.item_in_slot_mut(slot)
     }
 
-    /// Returns a guard for the item that has both keys, as long as the map is borrowed, or else the entry. The guard has
-    /// to be spent.
+    /// Returns a guard for the item, as long as the map is borrowed. If no item has both keys, it returns the entry. The
+    /// guard has to be spent.
     #[inline]
     pub fn into_mut(self) -> OccupiedEntryMut<'a, T, S>
         requires keyed { ⟦<Map<T, S> as Keyed>⟧.keyed (entry_map (Occupied self)) }
