@@ -5,7 +5,6 @@ pub mod WritingWalk
 pub use Rattle.iddqd_hash_parts.specs.HashItems
 pub use Rattle.iddqd_hash_parts.specs.SlotOrder
 pub use Rattle.iddqd_hash_parts.specs.StoreAndIndex
-pub use Rattle.iddqd_hash_parts.specs.Walked
 pub use Rattle.iddqd_store.specs.Adding
 pub use Rattle.iddqd_store.specs.Collecting
 pub use Rattle.iddqd_store.specs.Contents

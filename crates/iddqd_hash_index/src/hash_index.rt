@@ -7,14 +7,14 @@ mod probe;
 mod probe_sequence;
 mod regroup;
 
-ghost use Rattle.std.specs.Prelude.{◌≡◌, ℕ, ◌+◌, ◌-◌, ◌<◌, ◌≤◌, [], length, max, OnOk, OnErr, IfOk, IfErr, Contains};
+ghost use Rattle.std.specs.Prelude.{◌≡◌, ℕ, ◌+◌, ◌-◌, ◌<◌, ◌≤◌, [], length, max, OnOk, OnErr, OnSome, IfOk, IfErr, IfNone, IfSome, Contains};
 ghost use Rattle.std.specs.Prelude.{min as least};
 ghost use Rattle.iddqd_hash_index.specs.HashPairs.{SamePairs, AreOccupied, Doubles, Finds, GivesRoomBack, HasOneMore, HasInstead, Lacks, index_room, of_hash, of_slot};
 ghost use Rattle.iddqd_hash_index.specs.Groups.{room_for};
 ghost use Rattle.iddqd_store.specs.Refusal.{memory_refused};
 
 use cell::Cell;
-use change::{place, rename_in, take};
+use change::{free_at, place, rename_in, take};
 use group::Group;
 use iddqd_store::{Equivalent, IdHashItem, ItemStore, KeyOf, Steps, TryReserveError};
 pub use own_key::OwnKey;
@@ -199,14 +199,10 @@ impl HashIndex {
         ensures steps { steps.new ≤ steps.old + of_hash self.now.pairs hash }
         ensures never_resets { steps.old ≤ steps.new }
     {
-        find_among::<T, K, Q>(
-            self.groups.as_slice(),
-            self.cells.as_slice(),
-            store,
-            hash,
-            query,
-            steps,
-        )
+        let groups = self.groups.as_slice();
+        let cells = self.cells.as_slice();
+        let (_, _, found) = find_among::<T, K, Q>(groups, cells, store, hash, query, steps)?;
+        Some(found)
     }
 
     /// Adds the pair, whose slot no other pair has. There must be room, as `try_reserve(1)` makes it. It walks from
@@ -241,6 +237,37 @@ impl HashIndex {
             slot,
         );
         self.len -= 1;
+    }
+
+    /// Removes the pair that `find_by_key` finds, and returns its slot. If there is none, it returns `None` and changes
+    /// nothing. It makes as many comparisons, and does not allocate.
+    #[inline]
+    pub fn remove_by_key<T, K: KeyOf<T>, Q: Equivalent<K::Key>>(
+        &mut self,
+        store: &ItemStore<T>,
+        hash: u64,
+        query: &Q,
+        steps: &mut Steps,
+    ) -> Option<u32>
+        requires occupied { AreOccupied store.now self.old.pairs hash }
+
+        // what is removed
+        ensures found { Finds K.key (Q.equivalent query.now) store.now self.old.pairs hash result }
+        ensures absent { Lacks K.key (Q.equivalent query.now) store.now self.old.pairs hash result }
+        ensures pairs { IfSome result (λ slot. HasOneMore self.new.pairs self.old.pairs (hash, slot)) }
+        ensures spare { OnSome result (self.old.spare + 1 ≤ self.new.spare) }
+        ensures unchanged { IfNone result (self.new ≡ self.old) }
+
+        // what it costs
+        ensures steps { steps.new ≤ steps.old + of_hash self.old.pairs hash }
+        ensures never_resets { steps.old ≤ steps.new }
+    {
+        let groups = self.groups.as_slice();
+        let cells = self.cells.as_slice();
+        let (at, lane, _) = find_among::<T, K, Q>(groups, cells, store, hash, query, steps)?;
+        let slot = free_at(self.groups.as_mut_slice(), cells, hash, at, lane);
+        self.len -= 1;
+        Some(slot)
     }
 
     /// Gives the pair, which must be there, a new slot that no other pair has. It walks from the home of the hash

@@ -11,4 +11,3 @@ pub mod SlotFoundLemmas
 pub mod SlotItemLemmas
 pub mod SlotsFoundLemmas
 pub mod StoreAndIndexLemmas
-pub mod WalkedLemmas

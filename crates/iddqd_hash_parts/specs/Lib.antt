@@ -3,4 +3,3 @@ pub mod HashItems
 pub mod SlotOrder
 pub mod SlotsFound
 pub mod StoreAndIndex
-pub mod Walked

@@ -6,6 +6,7 @@
 --     spare_in store index      how many new items fit without memory: in the index, in the store, and within the limit
 --     room_in store index      how many items fit in all
 --     KeepsBounds, GrowsRoom, MovesItems      what the private calls leave
+--     RemovesPaired      an item and its pair are removed
 --     PairsOccupied      the index lists exactly the occupied slots, and the items fit
 --     AreHashed, IsSlotFound, IsOnlySlot      what a search requires, and what it returns
 --     AreListedUnder tell store pairs      each item's slot is listed with the hash that is told of the item
@@ -14,9 +15,9 @@ use Rattle.std.specs.Prelude.{◌≡◌, ◌↔◌, ℕ, ◌+◌, ◌-◌, ◌�
 use Rattle.std.proofs.Common.{suc}
 use Rattle.std.specs.List.{sum_by}
 use Rattle.std.specs.Option.{option_and_then}
-use Rattle.iddqd_hash_index.specs.HashPairs.{HashPairs, SamePairs, of_slot}
+use Rattle.iddqd_hash_index.specs.HashPairs.{HasOneMore, HashPairs, SamePairs, of_slot}
 use Rattle.iddqd_store.specs.Contents.{find_item}
-use Rattle.iddqd_store.specs.Store.{Store, item_at, items_present, store_len, vacant}
+use Rattle.iddqd_store.specs.Store.{Store, Updates, item_at, items_present, store_len, vacant}
 use Rattle.iddqd_hash_parts.specs.HashItems.{HashItems}
 
 -- each slot is listed once, so the sum is its one hash
@@ -83,19 +84,30 @@ module _ {T : Type 0} where
     pub pairs : SamePairs index.pairs grown.pairs
     pub spare : index.spare ≤ grown.spare
 
-  -- items have moved from slot to slot
-  pub record MovesItems (old new : Store T) (index moved : HashPairs) : Type 0 where
-    pub items : IsPermutation (items_in old) (items_in new)
-    pub len : store_len new ≡ store_len old
-    pub spare : moved.spare ≡ index.spare
-    pub bounds : KeepsBounds old new
-
   -- a slot is listed once if it is occupied, and else not; the items fit the capacity and the limit
   pub record PairsOccupied (store : Store T) (pairs : List (ℕ × ℕ)) : Type 0 where
     pub each_once : (n : ℕ) → of_slot pairs n ≡ (if is_some (item_at store n) then 1 else 0)
     pub counted : length pairs ≡ store_len store
     pub in_memory : store_len store ≤ store.capacity
     pub in_limit : store_len store ≤ store.limit
+
+  -- the item left its slot, and the index the slot's pair
+  pub record RemovesPaired (old new : Store T) (index left : HashPairs) (hash slot : ℕ) (x : T) : Type 0 where
+    pub item : item_at old slot ≡ Some x
+    pub updates : Updates old new slot None
+    pub pairs : HasOneMore left.pairs index.pairs (hash, slot)
+    pub len : store_len new + 1 ≡ store_len old
+    pub vacant : vacant new ≡ vacant old + 1
+    pub paired : PairsOccupied new left.pairs
+    pub spare : index.spare + 1 ≤ left.spare
+    pub bounds : KeepsBounds old new
+
+  -- items have moved from slot to slot
+  pub record MovesItems (old new : Store T) (index moved : HashPairs) : Type 0 where
+    pub items : IsPermutation (items_in old) (items_in new)
+    pub len : store_len new ≡ store_len old
+    pub spare : moved.spare ≡ index.spare
+    pub bounds : KeepsBounds old new
 
   -- each item whose key passes the test is listed with this hash
   abbrev pub AreHashed : {K : Type 0} → (T → K) → (K → Bool) → Store T → List (ℕ × ℕ) → ℕ → Type 0

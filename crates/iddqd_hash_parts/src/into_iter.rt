@@ -3,7 +3,7 @@ ghost use Rattle.std.specs.Prelude.{◌≡◌, length, IfSome};
 ghost use Rattle.std.specs.Iterator.{UpTo, YieldsFirst, at_most, item_count};
 ghost use Rattle.std.specs.Iterator.SizeHint.{IsWithinCount};
 
-use iddqd_store::ItemStore;
+use iddqd_store::{IntoItems, ItemStore};
 use std::iter::FusedIterator;
 use std::marker::Model;
 
@@ -11,22 +11,19 @@ use std::marker::Model;
 /// that it has not returned.
 #[derive(Drop)]
 pub struct IntoIter<T> {
-    // The items to come.
-    store: ItemStore<T>,
-    // The slot to go on from.
-    next: u32,
+    items: IntoItems<T>,
+    // The number of items to come.
+    left: usize,
 }
 
 impl<T> Model for IntoIter<T> {
-    ghost use Rattle.std.specs.Prelude.{List};
-    ghost use Rattle.iddqd_hash_parts.specs.StoreAndIndex.{items_in};
-    ghost use Rattle.iddqd_store.specs.Store.{AreVacant};
+    ghost use Rattle.std.specs.Prelude.{◌≡◌, List, length};
 
     ghost Value = { List T };
 
-    ghost view = { λ it. items_in it.store };
+    ghost view = { λ it. it.items };
 
-    ghost invariant = { λ it. AreVacant it.store 0 it.next };
+    ghost invariant = { λ it. it.left ≡ length it.items };
 }
 
 impl<T> IntoIter<T> {
@@ -37,7 +34,10 @@ impl<T> IntoIter<T> {
     pub fn over(store: ItemStore<T>) -> Self
         ensures { result ≡ items_in store }
     {
-        IntoIter { store, next: 0 }
+        IntoIter {
+            left: store.len(),
+            items: store.into_items(),
+        }
     }
 }
 
@@ -48,13 +48,11 @@ impl<T: Drop> Iterator for IntoIter<T> {
 
     ghost remaining = { item_count (λ rest. rest) };
 
+    #[inline]
     fn next(&mut self) -> Option<T> {
-        if self.store.len() == 0 {
-            return None;
-        }
-        let (slot, _) = self.store.next_occupied(self.next)?;
-        self.next = slot + 1;
-        Some(self.store.remove(slot))
+        let item = self.items.next()?;
+        self.left -= 1;
+        Some(item)
     }
 
     fn size_hint(&self) -> (usize, Option<usize>)
@@ -62,14 +60,13 @@ impl<T: Drop> Iterator for IntoIter<T> {
         ensures lower { IsWithinCount result.0 (at_most (length self.now)) }
         ensures upper { IfSome result.1 (UpTo (at_most (length self.now))) }
     {
-        let len = self.len();
-        (len, Some(len))
+        (self.left, Some(self.left))
     }
 }
 
 impl<T: Drop> ExactSizeIterator for IntoIter<T> {
     fn len(&self) -> usize {
-        self.store.len()
+        self.left
     }
 }
 

@@ -1,11 +1,11 @@
 //! Calls that look into a store and an index together, or change both. Only the search looks at keys.
-ghost use Rattle.std.specs.Prelude.{◌≡◌, ◌+◌, ◌-◌, ◌<◌, ◌≤◌, length, IfErr, IfSome, OnOk, OnErr, Some, None, Contains};
+ghost use Rattle.std.specs.Prelude.{◌≡◌, ◌+◌, ◌-◌, ◌<◌, ◌≤◌, length, option_map, IfErr, IfNone, IfSome, OnOk, OnErr, Some, None, Contains};
 ghost use Rattle.std.specs.Prelude.{min as least};
-ghost use Rattle.iddqd_store.specs.Contents.{NoTwoAkin};
+ghost use Rattle.iddqd_store.specs.Contents.{NoTwoAkin, find_item};
 ghost use Rattle.iddqd_hash_index.specs.HashPairs.{HasOneMore, SamePairs};
 ghost use Rattle.iddqd_store.specs.Refusal.{IsKindOf, memory_refused, refusal_kind};
 ghost use Rattle.iddqd_store.specs.Store.{item_at, store_len, vacant, HasRoomFor, Updates};
-ghost use Rattle.iddqd_hash_parts.specs.StoreAndIndex.{AreHashed, GrowsRoom, IsOnlySlot, IsSlotFound, KeepsBounds, PairsOccupied, items_in, room_in, spare_in};
+ghost use Rattle.iddqd_hash_parts.specs.StoreAndIndex.{AreHashed, GrowsRoom, IsOnlySlot, IsSlotFound, KeepsBounds, PairsOccupied, RemovesPaired, items_in, room_in, spare_in};
 
 use iddqd_hash_index::HashIndex;
 use iddqd_store::{Equivalent, ItemStore, KeyOf, Steps, TryReserveError};
@@ -166,6 +166,31 @@ pub fn remove_from_both<T>(
 {
     index.remove(hash, slot);
     store.remove(slot)
+}
+
+/// Removes the item that the query finds by the key that `K` names, and returns its slot and the item. It compares as
+/// `find_slot` does. If there is none, it returns `None` and changes nothing. Does not allocate.
+#[inline]
+pub fn remove_found<T, K: KeyOf<T>, Q: Equivalent<K::Key>>(
+    store: &mut ItemStore<T>,
+    index: &mut HashIndex,
+    hash: u64,
+    query: &Q,
+) -> Option<(u32, T)>
+    requires paired { PairsOccupied store.old index.old.pairs }
+    requires differ { NoTwoAkin K.key K.Key.eq (items_in store.old) }
+    requires stored { AreHashed K.key (Q.equivalent query.now) store.old index.old.pairs hash }
+
+    // what is removed
+    ensures found { option_map (λ r. r.1) result ≡ find_item K.key (Q.equivalent query.now) (items_in store.old) }
+    ensures removed { IfSome result (λ r. RemovesPaired store.old store.new index.old index.new hash r.0 r.1) }
+
+    // if there is none
+    ensures store { IfNone result (store.new ≡ store.old) }
+    ensures index { IfNone result (index.new ≡ index.old) }
+{
+    let slot = index.remove_by_key::<T, K, Q>(store, hash, query, &mut Steps::new())?;
+    Some((slot, store.remove(slot)))
 }
 
 /// Puts the item in place of the slot's item, which it returns. The index stays. Does not allocate.

@@ -41,11 +41,11 @@ module _ {T : Type 0} where
   ]
 
   -- the links at a slot, after a write of its next or its previous
-  pub links_at-next : (es : List (Slot T)) (at : ℕ) (d : Slot T) (g : Links) (p n v : ℕ) → at < length es → get_or es at d ≡ Vacant g → links_at es at ≡ Some (p, n) → links_at (set es at (Vacant (record { previous = g.previous; next = v }))) at ≡ Some (p, v)
+  pub links_at-next : (es : List (Slot T)) (at : ℕ) (d : Slot T) (g : Links) (p n v : ℕ) → at < length es → get_or es at d ≡ Vacant g → links_at es at ≡ Some (p, n) → links_at (set es at (Vacant (record g { next = v }))) at ≡ Some (p, v)
   links_at-next es at d g p n v within read was =
       links_at-set_same es at _ within ∙ ap (λ q. Some (q, v)) (same_links (links_at es at) g.previous g.next p n (links_at-read es at d _ within read) was).0
 
-  pub links_at-previous : (es : List (Slot T)) (at : ℕ) (d : Slot T) (g : Links) (p n v : ℕ) → at < length es → get_or es at d ≡ Vacant g → links_at es at ≡ Some (p, n) → links_at (set es at (Vacant (record { previous = v; next = g.next }))) at ≡ Some (v, n)
+  pub links_at-previous : (es : List (Slot T)) (at : ℕ) (d : Slot T) (g : Links) (p n v : ℕ) → at < length es → get_or es at d ≡ Vacant g → links_at es at ≡ Some (p, n) → links_at (set es at (Vacant (record g { previous = v }))) at ≡ Some (v, n)
   links_at-previous es at d g p n v within read was =
       links_at-set_same es at _ within ∙ ap (λ m. Some (v, m)) (same_links (links_at es at) g.previous g.next p n (links_at-read es at d _ within read) was).1
 

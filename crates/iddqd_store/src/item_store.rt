@@ -1,5 +1,6 @@
 //! Items in numbered slots. A vacant slot is used again.
 mod chain;
+mod into_items;
 mod moves;
 mod next;
 mod room;
@@ -11,6 +12,7 @@ ghost use Rattle.iddqd_store.specs.Store.{item_at, AreVacant, IsFirstOccupied, I
 
 use crate::errors::TryReserveError;
 use chain::{NO_SLOT, Slot, fill_first, vacate};
+pub use into_items::IntoItems;
 use moves::{cut_vacant, move_last};
 use std::alloc::{AllocError, Global};
 use std::marker::Model;

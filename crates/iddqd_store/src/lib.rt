@@ -20,7 +20,7 @@ pub use errors::{
 };
 pub use gives::Gives;
 pub use hints::room_to_reserve;
-pub use item_store::{ItemStore, Items, MAX_ITEMS};
+pub use item_store::{IntoItems, ItemStore, Items, MAX_ITEMS};
 pub use items::{IdHashItem, IdOrdItem, KeyOf};
 pub use not_inserted::NotInserted;
 pub use queries::{Comparable, Equivalent};

@@ -2,9 +2,11 @@
 ghost use Rattle.std.specs.Prelude.{◌≡◌};
 
 use crate::checks::check;
-use iddqd_hash_index::HashIndex;
+use crate::ord_index::Asked;
+use iddqd_hash_index::{HashIndex, OwnKey};
 use iddqd_store::{IdHashItem, ItemStore, Steps, TryReserveError};
 use std::alloc::Global;
+use std::cell::Cell;
 use std::marker::Model;
 use std::process::Abort;
 use std::test::Fail;
@@ -82,6 +84,29 @@ impl CoinMap {
         Some(slot)
     }
 
+    // The same by one search, and whether its steps are the comparisons that it makes.
+    fn take_by(&mut self, hash: u64, year: u32) -> (Option<u32>, bool) {
+        let compared = Cell::new(0);
+        let query = Asked {
+            year,
+            compared: &compared,
+        };
+        let mut steps = Steps::new();
+        let slot = self
+            .index
+            .remove_by_key::<Coin, OwnKey, Asked<'_>>(&self.store, hash, &query, &mut steps);
+        (slot, steps.count() == compared.get())
+    }
+
+    // By a search and a removal if the year is even, and else by one search.
+    fn take_in_turns(&mut self, hash: u64, year: u32) -> Option<u32> {
+        if year % 2 == 0 {
+            self.take(hash, year)
+        } else {
+            self.take_by(hash, year).0
+        }
+    }
+
     // The new slot of a coin of the same year.
     fn rename_year(&mut self, rt: &impl Abort, hash: u64, year: u32) -> Option<u32> {
         let old = self
@@ -124,7 +149,7 @@ fn exchange(rt: &impl Abort, mint: &mut CoinMap, there: &mut [bool], step: u32) 
     check(rt, step < 10_000);
     for n in 0..10_000u32 {
         let year = n * step % 10_000;
-        let slot = mint.take(hash_of(year), year);
+        let slot = mint.take_in_turns(hash_of(year), year);
         check(rt, slot.is_some() == there[year as usize]);
         if slot.is_none() {
             mint.put(rt, hash_of(year), year);
@@ -196,6 +221,23 @@ fn pairs(rt: HostRuntime) {
     check(&rt, mint.finds(7, 1810, Some(3), 2));
     check(&rt, mint.take(7, 1830) == Some(2));
     check(&rt, mint.finds(7, 1830, None, 1));
+}
+
+#[test]
+fn pairs_removed_by_key(rt: HostRuntime) {
+    let mut mint = CoinMap::new(rt.alloc());
+    for (hash, year) in [(7, 1810), (8, 1820), (7, 1830)] {
+        mint.put(&rt, hash, year);
+    }
+    check(&rt, mint.take_by(7, 1820) == (None, true));
+    check(&rt, mint.finds(7, 1810, Some(0), 2));
+    check(&rt, mint.finds(8, 1820, Some(1), 1));
+    check(&rt, mint.take_by(7, 1830) == (Some(2), true));
+    check(&rt, mint.take_by(7, 1830) == (None, true));
+    check(&rt, mint.finds(7, 1810, Some(0), 1));
+    check(&rt, mint.take_by(8, 1820) == (Some(1), true));
+    check(&rt, mint.take_by(7, 1810) == (Some(0), true));
+    check(&rt, mint.index.len() == 0);
 }
 
 fn puts_a_hundred(rt: &impl Abort, mint: &mut CoinMap) {

@@ -34,9 +34,9 @@ impl IdOrdItem for Coin {
 
 // A year that counts its comparisons.
 #[derive(Clone, Copy)]
-struct Asked<'a> {
-    year: u32,
-    compared: &'a Cell<u32>,
+pub(crate) struct Asked<'a> {
+    pub(crate) year: u32,
+    pub(crate) compared: &'a Cell<u32>,
 }
 
 impl Equivalent<u32> for Asked<'_> {

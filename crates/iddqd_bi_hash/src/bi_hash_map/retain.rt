@@ -28,8 +28,8 @@ impl<T: BiHashItem, S: BuildHasher> BiHashMap<T, S> {
         ensures stays { BiStays ⟦<Self as Keyed>⟧.keyed self.old self.new }
     {
         let mut next = 0;
-        while let Some(slot) = self.slot_from(next) {
-            if !keep(self.item_in_slot(slot)) {
+        while let Some((slot, item)) = self.item_from(next) {
+            if !keep(item) {
                 self.take_slot(slot);
             }
             next = slot + 1;

@@ -5,7 +5,7 @@ ghost use Rattle.iddqd_store.specs.Holding.{Removes};
 
 use super::{IdHashMap, Keyed};
 use iddqd_hash_index::OwnKey;
-use iddqd_hash_parts::{find_slot, remove_from_both};
+use iddqd_hash_parts::remove_found;
 use iddqd_store::{Equivalent, IdHashItem, Steps};
 use std::hash::{BuildHasher, Hash};
 
@@ -77,7 +77,12 @@ impl<T: IdHashItem, S: BuildHasher> IdHashMap<T, S> {
         ensures stays { HashStays ⟦<Self as Keyed>⟧.keyed self.old self.new }
     {
         let hash = self.hasher.hash_one(query);
-        let slot = find_slot::<T, OwnKey, Q>(&self.store, &self.index, hash, query)?;
-        Some(remove_from_both(&mut self.store, &mut self.index, hash, slot))
+        let (_, item) = remove_found::<T, OwnKey, Q>(
+            &mut self.store,
+            &mut self.index,
+            hash,
+            query,
+        )?;
+        Some(item)
     }
 }

@@ -6,7 +6,7 @@ ghost use Rattle.iddqd_store.specs.SlotItems.{HaveSlots, item_of_slot};
 ghost use Rattle.iddqd_hash_parts.specs.SlotOrder.{AreBelow, AreRising, IsNext};
 
 use super::{IdHashMap, Keyed};
-use iddqd_hash_parts::{remove_from_both, slot_from};
+use iddqd_hash_parts::{item_from, remove_from_both, slot_from};
 use iddqd_store::IdHashItem;
 use std::hash::BuildHasher;
 
@@ -33,7 +33,25 @@ impl<T, S> IdHashMap<T, S> {
         self.store.get_mut(slot)
     }
 
-    // Returns the first slot from this number on that has an item. Looks at each slot up to that one.
+    // Returns the first slot from this number on that has an item, with the item. Looks at each slot up to that one.
+    pub(super) fn item_from(&self, from: u32) -> Option<(u32, &T)>
+        // if a slot has an item
+        ensures there { IfSome result (λ found. IsNext self.now.slots from found.0) }
+        ensures item { IfSome result (λ found. item_of_slot self.now.slots self.now.items found.0 ≡ Some found.1.now) }
+        ensures fits { IfSome result (λ found. found.0 < u32.MAX) }
+
+        // if none has
+        ensures none { IfNone result (AreBelow self.now.slots from) }
+
+        // either way
+        ensures rises { AreRising self.now.slots }
+        ensures spare_fits { SpareFits self.now }
+        ensures own { HaveSlots self.now.slots self.now.items }
+    {
+        item_from(&self.store, from)
+    }
+
+    // As `item_from`, without the item.
     pub(super) fn slot_from(&self, from: u32) -> Option<u32>
         // if a slot has an item
         ensures there { IfSome result (IsNext self.now.slots from) }

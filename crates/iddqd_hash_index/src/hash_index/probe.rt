@@ -1,14 +1,14 @@
 //! The walk for the item that a query stands for.
-ghost use Rattle.std.specs.Prelude.{◌≡◌, ◌+◌, ◌*◌, ◌<◌, ◌≤◌, length};
-ghost use Rattle.iddqd_hash_index.specs.Groups.{pairs_of, ComparedAt, FindsIn, IsPlaced, LacksAt, LacksIn};
-ghost use Rattle.iddqd_hash_index.specs.HashPairs.{AreOccupied, of_hash};
+ghost use Rattle.std.specs.Prelude.{◌≡◌, ◌+◌, ◌*◌, ◌<◌, ◌≤◌, length, IfNone, IfSome};
+ghost use Rattle.iddqd_hash_index.specs.Groups.{pairs_of, ComparedAt, HoldsPair, IsPlaced, LacksAt, LacksIn};
+ghost use Rattle.iddqd_hash_index.specs.HashPairs.{AreOccupied, HoldsMatch, of_hash};
 
 use super::cell::Cell;
 use super::group::{Group, LANES};
 use super::probe_sequence::{after, home, tag};
 use iddqd_store::{Equivalent, ItemStore, KeyOf, Steps};
 
-// The slot in this group whose item has the query's key. It compares keys at lanes of exactly this hash.
+// The lane in this group whose item has the query's key, and its slot. It compares keys at lanes of exactly this hash.
 #[inline]
 fn find_at<T, K: KeyOf<T>, Q: Equivalent<K::Key>>(
     groups: &[Group],
@@ -18,14 +18,15 @@ fn find_at<T, K: KeyOf<T>, Q: Equivalent<K::Key>>(
     hash: u64,
     query: &Q,
     steps: &mut Steps,
-) -> Option<u32>
+) -> Option<(usize, u32)>
     requires within { at < length groups.now }
     requires long { length cells.now ≡ LANES * length groups.now }
     requires occupied { AreOccupied store.now (pairs_of groups.now cells.now) hash }
 
     // what it finds
-    ensures found { FindsIn groups.now cells.now hash K.key (Q.equivalent query.now) store.now result }
-    ensures missed { LacksAt groups.now cells.now hash K.key (Q.equivalent query.now) store.now at result }
+    ensures lane { IfSome result (λ f. HoldsPair groups.now cells.now hash at f.0 f.1) }
+    ensures found { IfSome result (λ f. HoldsMatch store.now (λ x. Q.equivalent query.now (K.key x)) f.1) }
+    ensures missed { IfNone result (LacksAt groups.now cells.now hash K.key (Q.equivalent query.now) store.now at) }
 
     // what it costs
     ensures compared { ComparedAt groups.now cells.now hash at steps.old steps.new }
@@ -38,7 +39,7 @@ fn find_at<T, K: KeyOf<T>, Q: Equivalent<K::Key>>(
         if cell.hash() == hash {
             let item = store.item(slot);
             if steps.equal(query, K::key_of(item)) {
-                return Some(slot);
+                return Some((lane, slot));
             }
         }
         lanes = lanes.without(lane);
@@ -46,7 +47,8 @@ fn find_at<T, K: KeyOf<T>, Q: Equivalent<K::Key>>(
     None
 }
 
-// The slot whose item has the query's key. It compares keys at pairs of exactly this hash, and goes round once at most.
+// The group, lane and slot of the pair whose item has the query's key. It compares keys at pairs of exactly this hash,
+// and goes round once at most.
 #[inline]
 pub(super) fn find_among<T, K: KeyOf<T>, Q: Equivalent<K::Key>>(
     groups: &[Group],
@@ -55,14 +57,15 @@ pub(super) fn find_among<T, K: KeyOf<T>, Q: Equivalent<K::Key>>(
     hash: u64,
     query: &Q,
     steps: &mut Steps,
-) -> Option<u32>
+) -> Option<(usize, usize, u32)>
     requires long { length cells.now ≡ LANES * length groups.now }
     requires placed { IsPlaced groups.now cells.now }
     requires occupied { AreOccupied store.now (pairs_of groups.now cells.now) hash }
 
     // what it finds
-    ensures found { FindsIn groups.now cells.now hash K.key (Q.equivalent query.now) store.now result }
-    ensures absent { LacksIn groups.now cells.now hash K.key (Q.equivalent query.now) store.now result }
+    ensures lane { IfSome result (λ f. HoldsPair groups.now cells.now hash f.0 f.1 f.2) }
+    ensures found { IfSome result (λ f. HoldsMatch store.now (λ x. Q.equivalent query.now (K.key x)) f.2) }
+    ensures absent { IfNone result (LacksIn groups.now cells.now hash K.key (Q.equivalent query.now) store.now) }
 
     // what it costs
     ensures steps { steps.new ≤ steps.old + of_hash (pairs_of groups.now cells.now) hash }
@@ -74,8 +77,9 @@ pub(super) fn find_among<T, K: KeyOf<T>, Q: Equivalent<K::Key>>(
     }
     let mut at = home(hash, count);
     'walk: for step in 0..count {
-        if let Some(slot) = find_at::<T, K, Q>(groups, cells, at, store, hash, query, steps) {
-            return Some(slot);
+        let found = find_at::<T, K, Q>(groups, cells, at, store, hash, query, steps);
+        if let Some((lane, slot)) = found {
+            return Some((at, lane, slot));
         }
         if groups[at].has_no_overflow() {
             return None;

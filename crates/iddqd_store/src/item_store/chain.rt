@@ -20,6 +20,8 @@ pub(super) enum Slot<T> {
 pub(super) struct Links {
     previous: u32,
     next: u32,
+    // Puts the links where an item of eight-byte alignment begins. A slot is then copied in whole words.
+    align: [u64; 0],
 }
 
 impl<T: Clone> Clone for Slot<T> {
@@ -150,6 +152,7 @@ pub(super) fn vacate<T>(slots: &mut [Slot<T>], first: u32, at: u32) -> T
     let links = Links {
         previous: NO_SLOT,
         next: first,
+        align: [],
     };
     match mem::replace(&mut slots[at as usize], Slot::Vacant(links)) {
         Slot::Occupied(item) => {

@@ -6,7 +6,7 @@ use Rattle.std.proofs.lemmas.Option.{slice_get_within}
 use Rattle.iddqd_store.proofs.VisitLemmas.{IsAsked, asked_dropped, asked_end, asked_kept}
 use Rattle.iddqd_store.proofs.WrittenLemmas.{place_read}
 use Rattle.iddqd_hash_parts.specs.SlotOrder.{slots_below}
-use Rattle.iddqd_hash_parts.proofs.RisingLemmas.{below_gone, below_next, below_zero, there_listed}
+use Rattle.iddqd_hash_parts.proofs.RisingLemmas.{below_gone, below_next, below_zero}
 use Rattle.iddqd_bi_hash.proofs.bi_hash_map.BiHashMap.retain.Goals.{then-not-keep, else-not-keep}
 use Rattle.iddqd_bi_hash.proofs.bi_hash_map.BiHashMap.retain.Goals as goal
 
@@ -24,11 +24,6 @@ loop-slot-init g c =
       keyed = c.requires.keyed;
     }
 
-pub item_in_slot-requires : goal.item_in_slot-requires
-item_in_slot-requires g c =
-    let m = c.loop-slot.self in
-    there_listed m.slots (slots_below c.loop-slot.next m.slots) c.in-Some.slot c.in-Some.ensures.there m.items c.in-Some.ensures.own
-
 pub loop-slot-preserved : goal.loop-slot-preserved
 loop-slot-preserved g c =
     let l = c.loop-slot in
@@ -37,7 +32,7 @@ loop-slot-preserved g c =
     let at = slots_below l.next m.slots in
     let found = c.in-Some.ensures in
     let R = CalledAt g.F.FnMut in
-    let there : slice_get m.items at ≡ Some c.item_in_slot.result.now = sym (place_read m.slots m.items at slot found.own found.there).item ∙ c.item_in_slot.ensures in
+    let there : slice_get m.items at ≡ Some c.in-Some.item.now = sym (place_read m.slots m.items at slot found.own found.there).item ∙ found.item in
     let within = slice_get_within m.items at _ there in
     let fewer = length-remove m.items at within in
     elim c.if-not-keep.branch [
@@ -91,4 +86,4 @@ loop-slot-smaller g c =
 pub returns-clause-filtered : goal.returns-clause-filtered
 returns-clause-filtered g c =
     let l = c.loop-slot in
-    asked_end (CalledAt g.F.FnMut) c.args.keep c.args.self.now.items l.keep l.self.items (slots_below l.next l.self.slots) (omega (arith, c.slot_from.ensures.own.as_many, c.in_default.ensures.none)) l.invariant.asked
+    asked_end (CalledAt g.F.FnMut) c.args.keep c.args.self.now.items l.keep l.self.items (slots_below l.next l.self.slots) (omega (arith, c.item_from.ensures.own.as_many, c.in_default.ensures.none)) l.invariant.asked

@@ -16,10 +16,10 @@ walk-init g c = record {
 }
 
 pub returns-in-Some-clause-steps : goal.returns-in-Some-clause-steps
-returns-in-Some-clause-steps g c = Compared-le _ _ _ _ _ _ _ (Compared-group _ _ _ _ _ _ _ _ _ _ (c.walk.invariant.here c.walk-test.true) c.walk.invariant.compared c.find_at.ensures.compared)
+returns-in-Some-clause-steps g c = Compared-le _ _ _ _ _ _ _ (Compared-group _ _ _ _ _ _ _ _ _ _ (c.walk.invariant.here c.walk-test.true) c.walk.invariant.compared c.find_at-found.ensures.compared)
 
 pub returns-then-has_no_overflow-clause-steps : goal.returns-then-has_no_overflow-clause-steps
-returns-then-has_no_overflow-clause-steps g c = Compared-le _ _ _ _ _ _ _ (Compared-group _ _ _ _ _ _ _ _ _ _ (c.walk.invariant.here c.walk-test.true) c.walk.invariant.compared c.find_at.ensures.compared)
+returns-then-has_no_overflow-clause-steps g c = Compared-le _ _ _ _ _ _ _ (Compared-group _ _ _ _ _ _ _ _ _ _ (c.walk.invariant.here c.walk-test.true) c.walk.invariant.compared c.find_at-found.ensures.compared)
 
 pub returns-then-has_no_overflow-clause-absent : goal.returns-then-has_no_overflow-clause-absent
 returns-then-has_no_overflow-clause-absent g c = λ slot found.
@@ -35,8 +35,8 @@ walk-preserved g c =
       here = λ more. c.after-at.ensures.step (home_of (length c.args.groups.now) c.args.hash) (home_of-lt _ c.args.hash (omega arith))
           (λ e. let last = subst (λ a. steps_to (length c.args.groups.now) a c.walk.at + 1 ≡ length c.args.groups.now) e c.after-at.ensures.last in omega arith) ∙ ap (λ n. n + 1) here;
       missed = AllMissed-more _ _ _ (λ s. IsSomeAnd (item_at c.args.store.now s) (λ x. g.Q.Equivalent.equivalent c.args.query.now (g.K.KeyOf.key x) ≡ true)) c.requires.placed c.walk.at c.walk.step within here c.walk.invariant.missed c.in_default.ensures.missed;
-      compared = Compared-group _ _ _ _ _ _ _ _ _ _ here c.walk.invariant.compared c.find_at.ensures.compared;
-      never_resets = omega (arith, c.walk.invariant.never_resets, c.find_at.ensures.never_resets);
+      compared = Compared-group _ _ _ _ _ _ _ _ _ _ here c.walk.invariant.compared c.find_at-found.ensures.compared;
+      never_resets = omega (arith, c.walk.invariant.never_resets, c.find_at-found.ensures.never_resets);
     }
 
 pub returns-clause-absent : goal.returns-clause-absent

@@ -21,16 +21,22 @@ item-item-requires g c =
     let some = c.tag.ensures.some in
     c.requires.occupied _ (listed _ _ c.args.at c.in-Some.lane _ _ c.requires.within hit.0 (λ z. omega (arith, hit.1, c.tag.ensures.value)) (sym c.hash.ensures ∙ c.if-hash.true) c.slot-slot.ensures)
 
-pub returns-then-equal-clause-found : goal.returns-then-equal-clause-found
-returns-then-equal-clause-found g c =
+pub returns-then-equal-clause-lane : goal.returns-then-equal-clause-lane
+returns-then-equal-clause-lane g c =
     let hit = c.search.invariant.left.only c.in-Some.lane c.in-Some.ensures.some in
     let some = c.tag.ensures.some in
-    let there = listed _ _ c.args.at c.in-Some.lane _ _ c.requires.within hit.0 (λ z. omega (arith, hit.1, c.tag.ensures.value)) (sym c.hash.ensures ∙ c.if-hash.true) c.slot-slot.ensures in
-    let held = sym c.item-item.ensures in (
-      there,
-      subst (λ o. IsSomeAnd o (λ x. g.Q.Equivalent.equivalent c.args.query.now (g.K.KeyOf.key x) ≡ true)) held
-          (ap (g.Q.Equivalent.equivalent c.args.query.now) (sym c.key_of.ensures) ∙ sym c.equal.ensures.value ∙ c.if-equal.true),
-    )
+    record {
+      within = c.requires.within;
+      small = hit.0;
+      taken = λ z. omega (arith, hit.1, c.tag.ensures.value);
+      has_hash = sym c.hash.ensures ∙ c.if-hash.true;
+      has_slot = c.slot-slot.ensures;
+    }
+
+pub returns-then-equal-clause-found : goal.returns-then-equal-clause-found
+returns-then-equal-clause-found g c =
+    subst (λ o. IsSomeAnd o (λ x. g.Q.Equivalent.equivalent c.args.query.now (g.K.KeyOf.key x) ≡ true)) (sym c.item-item.ensures)
+    (ap (g.Q.Equivalent.equivalent c.args.query.now) (sym c.key_of.ensures) ∙ sym c.equal.ensures.value ∙ c.if-equal.true)
 
 pub returns-then-equal-clause-compared : goal.returns-then-equal-clause-compared
 returns-then-equal-clause-compared g c =

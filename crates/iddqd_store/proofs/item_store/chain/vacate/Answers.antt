@@ -1,4 +1,4 @@
-use Rattle.std.proofs.Common.{◌∙◌, set, arith}
+use Rattle.std.proofs.Common.{◌∙◌, [], set, arith}
 use Rattle.std.proofs.lemmas.Grind.{common_steps}
 use Rattle.std.proofs.lemmas.List.{map-set}
 use Rattle.iddqd_store.specs.declared.item_store.chain.Slot.TheVariants.{Vacant}
@@ -13,7 +13,7 @@ set_previous-requires g c =
 
 pub returns-clause-items : goal.returns-clause-items
 returns-clause-items g c =
-    c.set_previous.ensures.items ∙ rw c.replace.ensures.after (map-set item_of c.args.slots.now c.args.at (Vacant (record { previous = no_slot; next = c.args.first })))
+    c.set_previous.ensures.items ∙ rw c.replace.ensures.after (map-set item_of c.args.slots.now c.args.at (Vacant (record { previous = no_slot; next = c.args.first; align = [] })))
 
 pub returns-clause-chained : goal.returns-clause-chained
 returns-clause-chained g c =
@@ -23,7 +23,7 @@ returns-clause-chained g c =
     let occupied = c.requires.occupied in
     let es₁ = set es at c.replace.new.dest in
     put_by_write (links_at es₁) (links_at c.set_previous.new.slots) first at
-    (rw c.replace.ensures.after (links_at-set_same es at (Vacant (record { previous = no_slot; next = first })) (item_within es at occupied)))
+    (rw c.replace.ensures.after (links_at-set_same es at (Vacant (record { previous = no_slot; next = first; align = [] })) (item_within es at occupied)))
     (rw c.replace.ensures.after (IsChained-along (links_at es) _ first (links-vacated es at _ (item_no_links es at occupied)) c.requires.chained))
     (λ e. omega arith) c.set_previous.ensures.links c.set_previous.ensures.others
 

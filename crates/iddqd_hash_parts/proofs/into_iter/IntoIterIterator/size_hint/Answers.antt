@@ -1,6 +1,0 @@
--- For speed alone: the prover finds these proofs by itself, but later.
-use Rattle.std.proofs.Common.{rules}
-use Rattle.iddqd_hash_parts.proofs.into_iter.IntoIterIterator.size_hint.Goals as goal
-
-pub returns-clause-exact : goal.returns-clause-exact
-returns-clause-exact g c = search rules
