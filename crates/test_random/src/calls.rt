@@ -111,13 +111,13 @@ pub(crate) fn insert_by_entry<M: CoarseMap>(
     let item = draws.item();
     let fits = plain.find(&item.name).is_none() && !plain.is_full();
     if draws.coin() {
-        let inserted = map.put_vacant(&item.name, item).shown();
+        let inserted = map.put_vacant(&item.name, item).unwrap_or(None);
         if fits {
             plain.put(item)?;
         }
         return Ok(is_same(inserted, fits.then_some(item)));
     }
-    let gone = map.put_and_remove(item).shown();
+    let gone = map.put_and_remove(item).unwrap_or(None);
     if fits {
         // its slot is vacant then
         plain.vacant = plain.vacant.max(1);
@@ -155,7 +155,7 @@ pub(crate) fn find_or_make<M: CoarseMap>(
     let was_there = plain.find(&item.name).is_some();
     let expected = shown(plain, item)?;
     let mut asked = 0;
-    let answer = map.find_or_put(item, &mut asked).shown();
+    let answer = map.find_or_put(item, &mut asked).unwrap_or(None);
     // refused, the closure was asked, and its item dropped
     Ok(is_same(answer, expected) && (asked == 0) == was_there)
 }
@@ -170,7 +170,7 @@ pub(crate) fn double_or_insert<M: CoarseMap>(
         plain.write(&item.name, old.value.wrapping_mul(2));
     }
     let expected = shown(plain, item)?;
-    Ok(is_same(map.double_or_put(item).shown(), expected))
+    Ok(is_same(map.double_or_put(item).unwrap_or(None), expected))
 }
 
 pub(crate) fn insert_and_write<M: CoarseMap>(

@@ -72,7 +72,7 @@ pub(crate) fn show_or_insert(
     } else {
         map.show_or_put_made(item)
     };
-    Ok(is_same(answer.shown(), expected))
+    Ok(is_same(answer.unwrap_or(None), expected))
 }
 
 pub(crate) fn show_inserted(
@@ -87,7 +87,7 @@ pub(crate) fn show_inserted(
     } else {
         None
     };
-    Ok(is_same(map.put_shown(item).shown(), expected))
+    Ok(is_same(map.put_shown(item).unwrap_or(None), expected))
 }
 
 // The names ascend.

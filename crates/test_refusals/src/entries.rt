@@ -87,7 +87,7 @@ fn new_item() -> Coarse {
 // Whether the new item is shown.
 fn is_shown(answer: &Put) -> bool {
     match answer {
-        Put::Shown(item) => spelled(item) == NEW,
+        Ok(Some(item)) => spelled(item) == NEW,
         _ => false,
     }
 }
@@ -95,7 +95,7 @@ fn is_shown(answer: &Put) -> bool {
 // Whether the new item was returned since memory was refused.
 fn is_back(answer: &Put) -> bool {
     match answer {
-        Put::Refused(item, error) => spelled(item) == NEW && !error.is_capacity_overflow(),
+        Err(refused) => spelled(&refused.item) == NEW && !refused.error.is_capacity_overflow(),
         _ => false,
     }
 }

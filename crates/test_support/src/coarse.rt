@@ -3,7 +3,7 @@
 use crate::caseless::{Caseless, Coarse, spelled};
 use crate::hashers::ZeroHasher;
 use crate::maps::{Copying, Hashed, Ordered};
-use iddqd::errors::TryReserveError;
+use iddqd::errors::{Refused, TryReserveError};
 use iddqd::internal::ValidateCompact;
 use iddqd::{Visit, id_hash_map, id_ord_map};
 use std::alloc::{AllocError, Global};
@@ -44,24 +44,9 @@ impl Visit<Coarse> for Respells {
     }
 }
 
-/// What an insertion by an entry returns: the item that it shows, or the refused one and why. `None` if the entry
-/// is not of the kind that it needs.
-#[derive(Drop)]
-pub enum Put {
-    Shown(Coarse),
-    Refused(Coarse, TryReserveError),
-    OtherKind,
-}
-
-impl Put {
-    /// The item that is shown, if one is.
-    pub fn shown(self) -> Option<Coarse> {
-        match self {
-            Put::Shown(item) => Some(item),
-            _ => None,
-        }
-    }
-}
+/// The item that an insertion by an entry shows, `None` if the entry is not of the kind that it needs, or the refused
+/// one.
+pub type Put = Result<Option<Coarse>, Refused<Coarse>>;
 
 /// A map of either kind with keys that are equal in any case. What lends returns a copy. If the entry is not of the
 /// kind needed, or if memory was refused, a call that returns no `Put` returns `None` or false.
@@ -211,28 +196,20 @@ macro_rules! coarse_map {
 
             fn put_vacant(&mut self, asked: &Caseless, item: Coarse) -> Put {
                 if self.map.contains_key(&item.name) {
-                    return Put::OtherKind;
+                    return Ok(None);
                 }
-                match self.map.entry(asked) {
-                    $module::Entry::Vacant(entry) => match entry.insert(item) {
-                        Ok(lent) => {
-                            let shown = lent.into_ref();
-                            Put::Shown(*shown)
-                        }
-                        Err(refused) => Put::Refused(refused.item, refused.error),
-                    },
-                    $module::Entry::Occupied(_) => Put::OtherKind,
-                }
+                let $module::Entry::Vacant(entry) = self.map.entry(asked) else {
+                    return Ok(None);
+                };
+                let shown = entry.insert(item)?.into_ref();
+                Ok(Some(*shown))
             }
 
             fn put_and_remove(&mut self, item: Coarse) -> Put {
-                match self.map.entry(&item.name) {
-                    $module::Entry::Vacant(entry) => match entry.insert_entry(item) {
-                        Ok(entry) => Put::Shown(entry.remove()),
-                        Err(refused) => Put::Refused(refused.item, refused.error),
-                    },
-                    $module::Entry::Occupied(_) => Put::OtherKind,
-                }
+                let $module::Entry::Vacant(entry) = self.map.entry(&item.name) else {
+                    return Ok(None);
+                };
+                Ok(Some(entry.insert_entry(item)?.remove()))
             }
 
             fn insert_occupied(&mut self, item: Coarse) -> Option<Coarse> {
@@ -244,38 +221,29 @@ macro_rules! coarse_map {
 
             #[$writes]
             fn write(&mut self, name: &Caseless, value: u32) -> bool {
-                match self.map.entry(name) {
-                    $module::Entry::Occupied(entry) => {
-                        let mut lent = entry.into_mut();
-                        lent.value = value;
-                        lent.finish();
-                        true
-                    }
-                    $module::Entry::Vacant(_) => false,
-                }
+                let $module::Entry::Occupied(entry) = self.map.entry(name) else {
+                    return false;
+                };
+                let mut lent = entry.into_mut();
+                lent.value = value;
+                lent.finish();
+                true
             }
 
             fn double_or_put(&mut self, item: Coarse) -> Put {
                 let entry = self.map.entry(&item.name).and_modify(&mut DoublesAndDenies);
-                match entry.or_insert(item) {
-                    Ok(lent) => {
-                        let shown = lent.into_ref();
-                        Put::Shown(*shown)
-                    }
-                    Err(refused) => Put::Refused(refused.item, refused.error),
-                }
+                let shown = entry.or_insert(item)?.into_ref();
+                Ok(Some(*shown))
             }
 
             #[$writes]
             fn insert_and_write(&mut self, item: Coarse, value: u32) -> bool {
-                match self.map.entry(&item.name).or_insert(item) {
-                    Ok(mut lent) => {
-                        lent.value = value;
-                        lent.finish();
-                        true
-                    }
-                    Err(_) => false,
-                }
+                let Ok(mut lent) = self.map.entry(&item.name).or_insert(item) else {
+                    return false;
+                };
+                lent.value = value;
+                lent.finish();
+                true
             }
 
             fn find_or_put(&mut self, item: Coarse, asked: &mut u32) -> Put {
@@ -283,13 +251,8 @@ macro_rules! coarse_map {
                     *asked = asked.saturating_add(1);
                     item
                 };
-                match self.map.entry(&item.name).or_insert_with(make) {
-                    Ok(lent) => {
-                        let shown = lent.into_ref();
-                        Put::Shown(*shown)
-                    }
-                    Err(refused) => Put::Refused(refused.item, refused.error),
-                }
+                let shown = self.map.entry(&item.name).or_insert_with(make)?.into_ref();
+                Ok(Some(*shown))
             }
 
             fn respell_by_guard(&mut self, asked: &Caseless, item: Coarse) -> bool {

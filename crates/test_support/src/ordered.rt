@@ -162,29 +162,21 @@ impl<T: IdOrdItem + Copy> Ordered<T> {
 impl Ordered<Coarse> {
     /// `insert_ref` where no item of the name is there.
     pub fn put_shown(&mut self, item: Coarse) -> Put {
-        match self.map.entry(&item.name) {
-            Entry::Vacant(entry) => match entry.insert_ref(item) {
-                Ok(shown) => Put::Shown(*shown),
-                Err(refused) => Put::Refused(refused.item, refused.error),
-            },
-            Entry::Occupied(_) => Put::OtherKind,
-        }
+        let Entry::Vacant(entry) = self.map.entry(&item.name) else {
+            return Ok(None);
+        };
+        Ok(Some(*entry.insert_ref(item)?))
     }
 
     /// `or_insert_ref`.
     pub fn show_or_put(&mut self, item: Coarse) -> Put {
-        match self.map.entry(&item.name).or_insert_ref(item) {
-            Ok(shown) => Put::Shown(*shown),
-            Err(refused) => Put::Refused(refused.item, refused.error),
-        }
+        Ok(Some(*self.map.entry(&item.name).or_insert_ref(item)?))
     }
 
     /// `or_insert_with_ref`.
     pub fn show_or_put_made(&mut self, item: Coarse) -> Put {
-        match self.map.entry(&item.name).or_insert_with_ref(|| item) {
-            Ok(shown) => Put::Shown(*shown),
-            Err(refused) => Put::Refused(refused.item, refused.error),
-        }
+        let shown = self.map.entry(&item.name).or_insert_with_ref(|| item)?;
+        Ok(Some(*shown))
     }
 }
 
