@@ -66,15 +66,6 @@ fn a_copy_has_the_hasher(rt: HostRuntime) {
     finds_twenty(&rt, &all);
 }
 
-// A map of these hosts.
-fn of(rt: &impl Abort, alloc: Global, hosts: &[Host]) -> Hosts {
-    let mut all = Hosts::new(alloc);
-    for each in hosts {
-        check(rt, all.is_put(*each));
-    }
-    all
-}
-
 // Whether the maps are equal, which each of them says.
 fn are_equal(rt: &impl Abort, one: &Hosts, other: &Hosts) -> bool {
     let is_equal = one.eq(other);
@@ -85,7 +76,7 @@ fn are_equal(rt: &impl Abort, one: &Hosts, other: &Hosts) -> bool {
 #[test]
 fn equal_in_another_order(rt: HostRuntime) {
     let one = Hosts::with_gaps(&rt, rt.alloc());
-    let other = of(&rt, rt.alloc(), &[host(5), host(0), host(3), host(2)]);
+    let other = Hosts::of(&rt, rt.alloc(), &[host(5), host(0), host(3), host(2)]);
     check(&rt, are_equal(&rt, &one, &other));
     check(&rt, are_equal(&rt, &one, &one));
     let (none, void) = (Hosts::new(rt.alloc()), Hosts::new(rt.alloc()));
@@ -94,8 +85,8 @@ fn equal_in_another_order(rt: HostRuntime) {
 
 // A map of the hosts 1 and 2, and one of these, are unequal.
 fn differs(rt: &impl Abort, alloc: Global, hosts: &[Host]) {
-    let one = of(rt, alloc, &[host(1), host(2)]);
-    check(rt, !are_equal(rt, &one, &of(rt, alloc, hosts)));
+    let one = Hosts::of(rt, alloc, &[host(1), host(2)]);
+    check(rt, !are_equal(rt, &one, &Hosts::of(rt, alloc, hosts)));
 }
 
 #[test]

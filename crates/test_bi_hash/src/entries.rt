@@ -1,42 +1,30 @@
 //! Entries: what they find, and what they insert, replace and remove.
-use crate::held::{Held, Hosts, check, host, host_of};
+use crate::held::{Held, Hosts, Met, check, host, host_of, met, shown};
 use crate::hosts::Host;
 use iddqd_bi_hash::bi_hash_map::Entry;
-use iddqd_bi_hash::{BiHashMap, Few, Keyed};
-
-// One or two hosts, in their order.
-type Hits = (Option<Host>, Option<Host>);
-
-fn hits(few: &Few<Host>) -> Hits {
-    (few.get(0).copied(), few.get(1).copied())
-}
 
 impl Held<Host> {
     // The hosts that the entry of the two keys has, and whether it is one that has both.
-    fn found(&mut self, number: u32, address: u64) -> Option<(Hits, bool)> {
+    fn found(&mut self, number: u32, address: u64) -> Option<(Met, bool)> {
         match self.map.entry(&number, &address) {
             Entry::Vacant(_) => None,
-            Entry::Occupied(entry) => {
-                let items = entry.items();
-                let hits = (items.get(0).map(|it| **it), items.get(1).map(|it| **it));
-                Some((hits, entry.is_unique()))
-            }
+            Entry::Occupied(entry) => Some((shown(&entry.items()), entry.is_unique())),
         }
     }
 
     // Removes the hosts of the entry.
-    fn taken(&mut self, number: u32, address: u64) -> Option<Hits> {
+    fn taken(&mut self, number: u32, address: u64) -> Option<Met> {
         match self.map.entry(&number, &address) {
             Entry::Vacant(_) => None,
-            Entry::Occupied(entry) => Some(hits(&entry.remove())),
+            Entry::Occupied(entry) => Some(met(&entry.remove())),
         }
     }
 
     // Replaces the hosts of the new one's entry by it.
-    fn replaced(&mut self, new: Host) -> Option<Hits> {
+    fn replaced(&mut self, new: Host) -> Option<Met> {
         match self.map.entry(&new.number, &new.address) {
             Entry::Vacant(_) => None,
-            Entry::Occupied(entry) => Some(hits(&entry.insert(new))),
+            Entry::Occupied(entry) => Some(met(&entry.insert(new))),
         }
     }
 
@@ -54,41 +42,39 @@ impl Held<Host> {
             Entry::Vacant(_) => false,
         }
     }
-}
 
-// Inserts the host as an entry, and removes it by that again. It is `None` if it was not inserted.
-fn passed_through(map: &mut BiHashMap<Host>, new: Host) -> Option<Host>
-    requires keyed { ⟦<BiHashMap<Host> as Keyed>⟧.keyed map.old }
-    ensures keyed { ⟦<BiHashMap<Host> as Keyed>⟧.keyed map.new }
-{
-    match map.entry(&new.number, &new.address) {
-        Entry::Vacant(entry) => match entry.insert_entry(new) {
-            Ok(added) => {
-                let back = added.remove();
-                back.get(0).copied()
-            }
-            Err(_refused) => None,
-        },
-        Entry::Occupied(_) => None,
+    // Inserts the host as a vacant entry, and returns whether it was inserted.
+    fn is_inserted(&mut self, new: Host) -> bool {
+        match self.map.entry(&new.number, &new.address) {
+            Entry::Vacant(entry) => match entry.insert(new) {
+                Ok(added) => {
+                    added.finish();
+                    true
+                }
+                Err(_refused) => false,
+            },
+            Entry::Occupied(_) => false,
+        }
+    }
+
+    // Inserts the host as an entry, and removes it by that again. It is `None` if it was not inserted.
+    fn passed_through(&mut self, new: Host) -> Option<Met> {
+        match self.map.entry(&new.number, &new.address) {
+            Entry::Vacant(entry) => match entry.insert_entry(new) {
+                Ok(added) => Some(met(&added.remove())),
+                Err(_refused) => None,
+            },
+            Entry::Occupied(_) => None,
+        }
     }
 }
 
 // With memory at hand a vacant entry inserts.
 #[test]
 fn a_vacant_entry_inserts(rt: HostRuntime) {
-    let mut map: BiHashMap<Host> = BiHashMap::new(rt.alloc());
-    let new = host(1);
-    let is_in = match map.entry(&new.number, &new.address) {
-        Entry::Vacant(entry) => match entry.insert(new) {
-            Ok(added) => {
-                added.finish();
-                true
-            }
-            Err(_refused) => false,
-        },
-        Entry::Occupied(_) => false,
-    };
-    check(&rt, is_in && map.len() == 1);
+    let mut all = Hosts::new(rt.alloc());
+    check(&rt, all.is_inserted(host(1)));
+    check(&rt, all.holds(&[host(1)]));
 }
 
 // The keys of one host, of two, of one alone, and of none.
@@ -122,8 +108,11 @@ fn an_entry_of_two_is_replaced(rt: HostRuntime) {
 #[test]
 fn an_inserted_entry_has_the_item(rt: HostRuntime) {
     let mut all = Hosts::below(&rt, rt.alloc(), 2);
-    check(&rt, passed_through(&mut all.map, host(2)) == Some(host(2)));
-    check(&rt, passed_through(&mut all.map, host(1)).is_none());
+    check(
+        &rt,
+        all.passed_through(host(2)) == Some((Some(host(2)), None)),
+    );
+    check(&rt, all.passed_through(host(1)).is_none());
     check(&rt, all.holds(&[host(0), host(1)]));
 }
 
@@ -135,6 +124,5 @@ fn a_unique_entry_is_written(rt: HostRuntime) {
     check(&rt, !all.is_loaded(1, 102, 8));
     check(&rt, !all.is_loaded(9, 102, 8));
     check(&rt, !all.is_loaded(9, 109, 8));
-    let written = Host { load: 7, ..host(1) };
-    check(&rt, all.holds(&[host(0), written, host(2)]));
+    check(&rt, all.holds(&[host(0), host_of(1, 101, 7), host(2)]));
 }

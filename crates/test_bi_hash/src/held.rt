@@ -7,10 +7,10 @@ ghost use Rattle.iddqd_bi_hash.specs.BiHashItems.{BiHashItems, IsKeyedByBoth};
 
 use crate::hosts::Host;
 use iddqd_bi_hash::{
-    BiHashItem, BiHashMap, DefaultHashBuilder, ExtendError, Few, FromIterError, Keyed, Refused,
-    TryReserveError, ValidateCompact,
+    BiHashItem, BiHashMap, DefaultHashBuilder, ExtendError, ExtendUniqueError, Few, FromIterError,
+    InsertError, Keyed, Refused, TryReserveError, ValidateCompact,
 };
-use std::alloc::{AllocError, Global};
+use std::alloc::Global;
 use std::hash::BuildHasher;
 use std::marker::Model;
 use std::process::Abort;
@@ -36,12 +36,35 @@ pub(crate) fn host(number: u32) -> Host {
 }
 
 /// The hosts of the numbers from the first to before the end.
-pub(crate) fn hosts_between(alloc: Global, first: u32, end: u32) -> Result<Vec<Host>, AllocError> {
+pub(crate) fn hosts_between(rt: &impl Abort, alloc: Global, first: u32, end: u32) -> Vec<Host> {
     let mut hosts = Vec::new(alloc);
     for number in first..end {
-        hosts.push(host(number))?;
+        check(rt, hosts.push(host(number)).is_ok());
     }
-    Ok(hosts)
+    hosts
+}
+
+/// Whether a call inserts new items alone, or in place of those that have their keys.
+#[derive(Clone, Copy)]
+pub(crate) enum Call {
+    Unique,
+    Overwrite,
+}
+
+/// The one or two hosts that have a key of another, in the order in which they are shown.
+pub(crate) type Met = (Option<Host>, Option<Host>);
+
+/// These hosts.
+pub(crate) fn met(few: &Few<Host>) -> Met {
+    (few.get(0).copied(), few.get(1).copied())
+}
+
+/// The hosts that are shown.
+pub(crate) fn shown(few: &Few<&Host>) -> Met {
+    match few {
+        Few::One(one) => (Some(**one), None),
+        Few::Two(one, other) | Few::Three(one, other, _) => (Some(**one), Some(**other)),
+    }
 }
 
 /// A map that is keyed.
@@ -265,6 +288,15 @@ impl Held<Host> {
         Held::over(BiHashMap::with_limit(alloc, limit, Default::default()))
     }
 
+    /// A map of these hosts, inserted in this order.
+    pub(crate) fn of(rt: &impl Abort, alloc: Global, hosts: &[Host]) -> Hosts {
+        let mut all = Hosts::new(alloc);
+        for each in hosts {
+            check(rt, all.is_put(*each));
+        }
+        all
+    }
+
     /// `from_iter` of hosts of which this many are announced.
     pub(crate) fn from_iter(
         alloc: Global,
@@ -289,6 +321,55 @@ impl Held<Host> {
                 Ok(Held::new(alloc))
             }
         }
+    }
+
+    /// `insert_unique` or `insert_overwrite`: the hosts that are in the way, or replaced.
+    pub(crate) fn insert(&mut self, call: Call, new: Host) -> Result<Met, Refused<Host>> {
+        match call {
+            Call::Unique => match self.map.insert_unique(new) {
+                Ok(()) => Ok((None, None)),
+                Err(InsertError::Duplicate(both)) => Ok(shown(both.duplicates())),
+                Err(InsertError::Refused(refused)) => Err(refused),
+            },
+            Call::Overwrite => match self.map.insert_overwrite(new) {
+                Ok(Some(replaced)) => Ok(met(&replaced)),
+                Ok(None) => Ok((None, None)),
+                Err(refused) => Err(refused),
+            },
+        }
+    }
+
+    /// Whether the insertion of the host meets these.
+    pub(crate) fn meets(&mut self, call: Call, new: Host, wanted: Met) -> bool {
+        match self.insert(call, new) {
+            Ok(met) => met == wanted,
+            Err(_refused) => false,
+        }
+    }
+
+    /// `extend_unique` or `extend` by hosts of which this many are announced. What stops it: the host that is refused, and
+    /// whether that is by the limit.
+    pub(crate) fn stopped(
+        &mut self,
+        call: Call,
+        hosts: &[Host],
+        hint: usize,
+    ) -> Option<(Option<Host>, bool)> {
+        let coming = Hinted::new(hosts, hint);
+        let stopped = match call {
+            Call::Overwrite => self.map.extend(coming).err()?,
+            Call::Unique => match self.map.extend_unique(coming) {
+                Ok(()) => return None,
+                Err(ExtendUniqueError::Refused(stopped)) => stopped,
+                Err(ExtendUniqueError::Duplicate(_)) => return Some((None, false)),
+            },
+        };
+        Some((stopped.item, stopped.error.is_capacity_overflow()))
+    }
+
+    /// Whether the map has room for so many hosts, and not for too many.
+    pub(crate) fn has_room(&self, least: usize, too_many: usize) -> bool {
+        self.map.capacity() >= least && self.map.capacity() < too_many
     }
 
     /// `clone`.
