@@ -54,7 +54,7 @@ fn those_there_are_replaced(rt: HostRuntime) {
 #[test]
 fn from_iter(rt: HostRuntime) {
     for hint in [0, 6] {
-        let made = Hosts::from_iter(rt.alloc(), &coming(), hint);
+        let made = Hosts::collected(&rt, rt.alloc(), Call::Overwrite, &coming(), hint);
         are_replaced(&rt, &made.expect(&rt, "memory"));
     }
 }
@@ -112,7 +112,7 @@ fn a_lying_hint_is_refused(rt: HostRuntime) {
     let stopped = all.stopped(Call::Overwrite, &[host(2)], usize::MAX);
     check(&rt, stopped == Some((None, true)));
     check(&rt, all.holds(&[host(1)]));
-    match Hosts::from_iter(rt.alloc(), &[host(2)], usize::MAX) {
+    match Hosts::collected(&rt, rt.alloc(), Call::Overwrite, &[host(2)], usize::MAX) {
         Ok(_all) => check(&rt, false),
         Err(error) => check(&rt, error.is_capacity_overflow()),
     }

@@ -61,18 +61,6 @@ fn remove(hosts: &mut BiHashMap<Host>, address: u64) -> Option<Host>
 
 /// A write through a guard that leaves both keys leaves the map keyed.
 #[tactic(auto, using(iddqd_bi_hash::proofs::GuardLemmas::both_keys_kept))]
-fn set_load(hosts: &mut BiHashMap<Host>, number: u32, load: u32)
-    requires keyed { ⟦<BiHashMap<Host> as Keyed>⟧.keyed hosts.old }
-    ensures keyed { ⟦<BiHashMap<Host> as Keyed>⟧.keyed hosts.new }
-{
-    if let Some(mut host) = hosts.get1_mut(&number) {
-        host.load = load;
-        host.finish();
-    }
-}
-
-/// The same by both keys, and a lookup after it.
-#[tactic(auto, using(iddqd_bi_hash::proofs::GuardLemmas::both_keys_kept))]
 fn set_load_of_both(hosts: &mut BiHashMap<Host>, number: u32, address: u64, load: u32) -> bool
     requires keyed { ⟦<BiHashMap<Host> as Keyed>⟧.keyed hosts.old }
 {

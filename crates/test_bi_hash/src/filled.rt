@@ -41,7 +41,7 @@ fn from_iter(rt: HostRuntime) {
 // What an iterator announces is reserved, even if it gives nothing.
 #[test]
 fn announced_room(rt: HostRuntime) {
-    let made = Hosts::from_iter_unique(&rt, rt.alloc(), &[], 100);
+    let made = Hosts::collected(&rt, rt.alloc(), Call::Unique, &[], 100);
     check(&rt, made.is_ok_and(|all| all.map.spare() >= 100));
 }
 

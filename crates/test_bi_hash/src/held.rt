@@ -297,29 +297,25 @@ impl Held<Host> {
         all
     }
 
-    /// `from_iter` of hosts of which this many are announced.
-    pub(crate) fn from_iter(
-        alloc: Global,
-        hosts: &[Host],
-        hint: usize,
-    ) -> Result<Hosts, TryReserveError> {
-        Ok(Held::over(BiHashMap::from_iter(alloc, Hinted::new(hosts, hint))?))
-    }
-
-    /// `from_iter_unique` of hosts with no repeat, of which this many are announced.
-    pub(crate) fn from_iter_unique(
+    /// `from_iter_unique` of hosts with no repeat, or `from_iter`. This many are announced.
+    pub(crate) fn collected(
         rt: &impl Abort,
         alloc: Global,
+        call: Call,
         hosts: &[Host],
         hint: usize,
     ) -> Result<Hosts, TryReserveError> {
-        match BiHashMap::from_iter_unique(alloc, Hinted::new(hosts, hint)) {
-            Ok(map) => Ok(Held::over(map)),
-            Err(FromIterError::Refused(error)) => Err(error),
-            Err(FromIterError::Duplicate(_)) => {
-                check(rt, false);
-                Ok(Held::new(alloc))
-            }
+        let coming = Hinted::new(hosts, hint);
+        match call {
+            Call::Overwrite => Ok(Held::over(BiHashMap::from_iter(alloc, coming)?)),
+            Call::Unique => match BiHashMap::from_iter_unique(alloc, coming) {
+                Ok(map) => Ok(Held::over(map)),
+                Err(FromIterError::Refused(error)) => Err(error),
+                Err(FromIterError::Duplicate(_)) => {
+                    check(rt, false);
+                    Ok(Held::new(alloc))
+                }
+            },
         }
     }
 

@@ -133,28 +133,14 @@ pub(crate) fn is_unmade(rt: &impl Abort, made: Result<Hosts, TryReserveError>, c
     }
 }
 
-// `from_iter_unique` or `from_iter` of the hosts, of which this many are announced.
-fn collected(
-    rt: &impl Abort,
-    alloc: Global,
-    call: Call,
-    hosts: &[Host],
-    hint: usize,
-) -> Result<Hosts, TryReserveError> {
-    match call {
-        Call::Unique => Hosts::from_iter_unique(rt, alloc, hosts, hint),
-        Call::Overwrite => Hosts::from_iter(alloc, hosts, hint),
-    }
-}
-
 /// Makes two maps of the hosts below this number, of which none is announced, and then all are: whether either was
 /// refused memory.
 pub(crate) fn made_twice(rt: &impl Abort, alloc: Global, call: Call, count: u32) -> (bool, bool) {
     let hosts = hosts_between(rt, alloc, 0, count);
     arm(alloc);
-    let one = collected(rt, alloc, call, hosts.as_slice(), 0);
+    let one = Hosts::collected(rt, alloc, call, hosts.as_slice(), 0);
     let one = is_unmade(rt, one, count);
-    let other = collected(rt, alloc, call, hosts.as_slice(), hosts.len());
+    let other = Hosts::collected(rt, alloc, call, hosts.as_slice(), hosts.len());
     let other = is_unmade(rt, other, count);
     check(rt, !has_leaked(alloc));
     (one, other)
