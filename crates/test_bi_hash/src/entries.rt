@@ -43,20 +43,6 @@ impl Held<Host> {
         }
     }
 
-    // Inserts the host as a vacant entry, and returns whether it was inserted.
-    fn is_inserted(&mut self, new: Host) -> bool {
-        match self.map.entry(&new.number, &new.address) {
-            Entry::Vacant(entry) => match entry.insert(new) {
-                Ok(added) => {
-                    added.finish();
-                    true
-                }
-                Err(_refused) => false,
-            },
-            Entry::Occupied(_) => false,
-        }
-    }
-
     // Inserts the host as an entry, and removes it by that again. It is `None` if it was not inserted.
     fn passed_through(&mut self, new: Host) -> Option<Met> {
         match self.map.entry(&new.number, &new.address) {
@@ -69,12 +55,26 @@ impl Held<Host> {
     }
 }
 
+// Whether a vacant entry inserts the host.
+fn is_inserted(all: Hosts, new: Host) -> bool {
+    let mut map = all.map;
+    let is_in = match map.entry(&new.number, &new.address) {
+        Entry::Vacant(entry) => match entry.insert(new) {
+            Ok(added) => {
+                added.finish();
+                true
+            }
+            Err(_refused) => false,
+        },
+        Entry::Occupied(_) => false,
+    };
+    is_in && map.len() == 1
+}
+
 // With memory at hand a vacant entry inserts.
 #[test]
 fn a_vacant_entry_inserts(rt: HostRuntime) {
-    let mut all = Hosts::new(rt.alloc());
-    check(&rt, all.is_inserted(host(1)));
-    check(&rt, all.holds(&[host(1)]));
+    check(&rt, is_inserted(Hosts::new(rt.alloc()), host(1)));
 }
 
 // The keys of one host, of two, of one alone, and of none.

@@ -12,7 +12,7 @@ use iddqd_bi_hash::{
 };
 use std::alloc::Global;
 use std::hash::BuildHasher;
-use std::marker::Model;
+use std::marker::{Model, PhantomData};
 use std::process::Abort;
 use test_support::bulk::Hinted;
 
@@ -67,10 +67,12 @@ pub(crate) fn shown(few: &Few<&Host>) -> Met {
     }
 }
 
-/// A map that is keyed.
+/// A map that is keyed. It names the keys' types for the borrow checker, which else does not cover keys that hold
+/// references.
 #[derive(Drop)]
 pub(crate) struct Held<T: BiHashItem, S: BuildHasher = DefaultHashBuilder> {
     pub(crate) map: BiHashMap<T, S>,
+    keys: PhantomData<(T::K1, T::K2)>,
 }
 
 impl<T: BiHashItem, S: BuildHasher> Model for Held<T, S> {
@@ -96,7 +98,10 @@ impl<T: BiHashItem + Drop, S: BuildHasher> Held<T, S> {
     pub(crate) fn over(map: BiHashMap<T, S>) -> Held<T, S>
         requires keyed { ⟦<BiHashMap<T, S> as Keyed>⟧.keyed map }
     {
-        Held { map }
+        Held {
+            map,
+            keys: PhantomData,
+        }
     }
 
     /// Whether `insert_unique` inserts the item.

@@ -62,7 +62,6 @@ fn keys_for_debugging(rt: HostRuntime) {
 }
 
 // Writes a load, and shows the guard, before it is spent and after.
-#[tactic(auto, using(iddqd_bi_hash::proofs::GuardLemmas::both_keys_kept))]
 fn is_guard(alloc: Global, hosts: Hosts, number: u32, expected: &str) -> bool {
     let mut map = hosts.map;
     match map.get1_mut(&number) {
