@@ -4,7 +4,6 @@ ghost use Rattle.test_bi_hash.specs.Hosts.{of_address, of_number};
 
 use crate::hosts::Host;
 use iddqd_bi_hash::{BiHashMap, InsertError, Keyed};
-use std::alloc::Global;
 use std::collections::hash_map::RandomState;
 
 /// After an insertion both keys find the item.
@@ -32,19 +31,6 @@ fn in_the_way(hosts: &mut BiHashMap<Host>, host: Host) -> usize
         Ok(()) => 0,
         Err(InsertError::Duplicate(both)) => both.duplicates().len(),
         Err(InsertError::Refused(_refused)) => 0,
-    }
-}
-
-/// A host is found by its address, and goes by its number.
-fn load_of_removed(alloc: Global, host: Host, number: u32, address: u64) -> Option<u32> {
-    let mut hosts = BiHashMap::new(alloc);
-    match hosts.insert_unique(host) {
-        Ok(()) => {
-            let known = hosts.get2(&address).is_some();
-            let gone = hosts.remove1(&number)?;
-            if known { Some(gone.load) } else { None }
-        }
-        Err(_error) => None,
     }
 }
 

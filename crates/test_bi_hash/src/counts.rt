@@ -1,6 +1,6 @@
 //! How often each call compares and hashes the keys.
 use crate::held::{Held, check};
-use crate::tallies::{Counted, Tallies};
+use crate::tallies::{Call, Counted, Counts, Tallies};
 use iddqd_bi_hash::BiHashMap;
 use std::alloc::Global;
 use std::hash::BuildHasherDefault;
@@ -9,67 +9,112 @@ use std::test::Fail;
 use test_support::bulk::Hinted;
 use test_support::hashers::ZeroHasher;
 
+// The calls on a map of the items (1, 2), (2, 4) and (3, 6) do so, and count so.
+fn tell_each(rt: &impl Abort, alloc: Global, calls: &[(Call, bool, Counts)]) {
+    let tallies = Tallies::default();
+    let mut all = tallies.three(rt, alloc);
+    tallies.tell_each(rt, &mut all, calls);
+}
+
 #[test]
 fn lookups(rt: HostRuntime) {
-    let tallies = Tallies::default();
-    let all = tallies.three(&rt, rt.alloc());
-    let (one, other) = (tallies.first.key(2), tallies.second.key(4));
-    tallies.tell(&rt, all.get1(&one).is_some(), (1, 1, 0, 0));
-    tallies.tell(&rt, all.contains_key1(&one), (1, 1, 0, 0));
-    tallies.tell(&rt, all.get2(&other).is_some(), (0, 0, 1, 1));
-    tallies.tell(&rt, all.contains_key2(&other), (0, 0, 1, 1));
-    tallies.tell(&rt, all.get_unique(&one, &other).is_some(), (1, 1, 1, 0));
-    tallies.tell(&rt, all.contains_key_unique(&one, &other), (1, 1, 1, 0));
-    let is_missed = all.get_unique(&tallies.first.key(9), &other).is_none();
-    tallies.tell(&rt, is_missed, (0, 1, 0, 0));
+    let calls = [
+        (Call::Get1(2), true, (1, 1, 0, 0)),
+        (Call::Contains1(2), true, (1, 1, 0, 0)),
+        (Call::Get2(4), true, (0, 0, 1, 1)),
+        (Call::Contains2(4), true, (0, 0, 1, 1)),
+        (Call::GetBoth(2, 4), true, (1, 1, 1, 0)),
+        (Call::ContainsBoth(2, 4), true, (1, 1, 1, 0)),
+        (Call::GetBoth(9, 4), false, (0, 1, 0, 0)),
+    ];
+    tell_each(&rt, rt.alloc(), &calls);
+}
+
+fn lends1(all: Held<Counted<'_>>, tallies: &Tallies) -> bool {
+    let mut map = all.map;
+    match map.get1_mut(&tallies.first.key(2)) {
+        Some(guard) => {
+            guard.finish();
+            true
+        }
+        None => false,
+    }
+}
+
+fn lends2(all: Held<Counted<'_>>, tallies: &Tallies) -> bool {
+    let mut map = all.map;
+    match map.get2_mut(&tallies.second.key(4)) {
+        Some(guard) => {
+            guard.finish();
+            true
+        }
+        None => false,
+    }
+}
+
+fn lends_unique(all: Held<Counted<'_>>, tallies: &Tallies) -> bool {
+    let mut map = all.map;
+    match map.get_mut_unique(&tallies.first.key(2), &tallies.second.key(4)) {
+        Some(guard) => {
+            guard.finish();
+            true
+        }
+        None => false,
+    }
 }
 
 #[test]
 fn guards(rt: HostRuntime) {
     let tallies = Tallies::default();
-    let (one, other) = (tallies.first.key(2), tallies.second.key(4));
-    let is_lent = tallies.three(&rt, rt.alloc()).map.get1_mut(&one).is_some();
+    let is_lent = lends1(tallies.three(&rt, rt.alloc()), &tallies);
     tallies.tell(&rt, is_lent, (1, 1, 0, 0));
-    let is_lent = tallies
-        .three(&rt, rt.alloc())
-        .map
-        .get2_mut(&other)
-        .is_some();
+    let is_lent = lends2(tallies.three(&rt, rt.alloc()), &tallies);
     tallies.tell(&rt, is_lent, (0, 0, 1, 1));
-    let mut map = tallies.three(&rt, rt.alloc()).map;
-    let is_lent = map.get_mut_unique(&one, &other).is_some();
+    let is_lent = lends_unique(tallies.three(&rt, rt.alloc()), &tallies);
     tallies.tell(&rt, is_lent, (1, 1, 1, 0));
 }
 
 // The key of the other kind is hashed once, since the other index lists the item by it.
 #[test]
 fn removals(rt: HostRuntime) {
-    let tallies = Tallies::default();
-    let mut all = tallies.three(&rt, rt.alloc());
-    let (one, wrong) = (tallies.first.key(1), tallies.second.key(4));
-    tallies.tell(&rt, all.remove1(&one).is_some(), (1, 1, 0, 1));
-    tallies.tell(&rt, all.remove1(&one).is_none(), (0, 1, 0, 0));
-    tallies.tell(&rt, all.remove2(&wrong).is_some(), (0, 1, 1, 1));
-    let (one, other) = (tallies.first.key(3), tallies.second.key(6));
-    tallies.tell(&rt, all.remove_unique(&one, &wrong).is_none(), (1, 1, 1, 0));
-    tallies.tell(&rt, all.remove_unique(&one, &other).is_some(), (1, 1, 1, 1));
+    let calls = [
+        (Call::Remove1(1), true, (1, 1, 0, 1)),
+        (Call::Remove1(1), false, (0, 1, 0, 0)),
+        (Call::Remove2(4), true, (0, 1, 1, 1)),
+        (Call::RemoveBoth(3, 4), false, (1, 1, 1, 0)),
+        (Call::RemoveBoth(3, 6), true, (1, 1, 1, 1)),
+    ];
+    tell_each(&rt, rt.alloc(), &calls);
 }
 
 // Each key of the new item is hashed once, and the other key of each item that goes.
 #[test]
 fn insertions(rt: HostRuntime) {
+    let calls = [
+        (Call::Insert(1, 4), false, (1, 1, 1, 1)),
+        (Call::Overwrite(4, 8), true, (0, 1, 0, 1)),
+        (Call::Overwrite(4, 8), true, (1, 1, 0, 2)),
+        (Call::Overwrite(9, 8), true, (0, 2, 1, 1)),
+        (Call::Overwrite(1, 4), true, (1, 2, 1, 2)),
+    ];
+    tell_each(&rt, rt.alloc(), &calls);
+}
+
+// With every hash equal, a search for a key that is absent compares each item's key once, and no key of the other kind.
+#[test]
+fn equal_hashes(rt: HostRuntime) {
     let tallies = Tallies::default();
-    let mut all = tallies.three(&rt, rt.alloc());
-    tallies.tell(&rt, !all.is_put(tallies.item(1, 4)), (1, 1, 1, 1));
-    for (one, other, wanted) in [
-        (4, 8, (0, 1, 0, 1)),
-        (4, 8, (1, 1, 0, 2)),
-        (9, 8, (0, 2, 1, 1)),
-        (1, 4, (1, 2, 1, 2)),
-    ] {
-        let is_in = all.insert_overwrite(tallies.item(one, other)).is_ok();
-        tallies.tell(&rt, is_in, wanted);
-    }
+    let hasher: BuildHasherDefault<ZeroHasher> = BuildHasherDefault::new();
+    let mut all = Held::over(BiHashMap::with_hasher(rt.alloc(), hasher));
+    let calls = [
+        (Call::Insert(1, 2), true, (0, 1, 0, 1)),
+        (Call::Insert(2, 4), true, (1, 1, 1, 1)),
+        (Call::Insert(3, 6), true, (2, 1, 2, 1)),
+        (Call::Contains1(9), false, (3, 1, 0, 0)),
+        (Call::Contains2(9), false, (0, 0, 3, 1)),
+        (Call::Insert(5, 10), true, (3, 1, 3, 1)),
+    ];
+    tallies.tell_each(&rt, &mut all, &calls);
 }
 
 // A map that `from_iter_unique` makes of the items, of which none is announced.
@@ -101,28 +146,16 @@ fn many(rt: HostRuntime) -> Result<(), Fail> {
     Ok(())
 }
 
+// Whether `from_iter_unique` makes a map of the items.
+fn is_collected(alloc: Global, items: &[Counted<'_>]) -> bool {
+    BiHashMap::<Counted>::from_iter_unique(alloc, Hinted::new(items, 0)).is_ok()
+}
+
 // At the repeat, the third, both earlier items go.
 #[test]
 fn collected(rt: HostRuntime) {
     let tallies = Tallies::default();
     let items = [tallies.item(1, 2), tallies.item(2, 4), tallies.item(1, 4)];
-    let is_made = unique(rt.alloc(), &items[..2]).is_some();
-    tallies.tell(&rt, is_made, (0, 2, 0, 2));
-    let is_refused = unique(rt.alloc(), &items).is_none();
-    tallies.tell(&rt, is_refused, (1, 4, 1, 4));
-}
-
-// With every hash equal, a search for a key that is absent compares each item's key once, and no key of the other kind.
-#[test]
-fn equal_hashes(rt: HostRuntime) {
-    let tallies = Tallies::default();
-    let hasher: BuildHasherDefault<ZeroHasher> = BuildHasherDefault::new();
-    let mut all = Held::over(BiHashMap::with_hasher(rt.alloc(), hasher));
-    check(&rt, all.is_put(tallies.item(1, 2)));
-    tallies.tell(&rt, all.is_put(tallies.item(2, 4)), (1, 2, 1, 2));
-    tallies.tell(&rt, all.is_put(tallies.item(3, 6)), (2, 1, 2, 1));
-    let (one, other) = (tallies.first.key(9), tallies.second.key(9));
-    tallies.tell(&rt, !all.contains_key1(&one), (3, 1, 0, 0));
-    tallies.tell(&rt, !all.contains_key2(&other), (0, 0, 3, 1));
-    tallies.tell(&rt, all.is_put(tallies.item(5, 10)), (3, 1, 3, 1));
+    tallies.tell(&rt, is_collected(rt.alloc(), &items[..2]), (0, 2, 0, 2));
+    tallies.tell(&rt, !is_collected(rt.alloc(), &items), (1, 4, 1, 4));
 }

@@ -194,6 +194,16 @@ impl<T: BiHashItem + Drop, S: BuildHasher> Held<T, S> {
         self.map.eq(&other.map)
     }
 
+    /// How many keys of each kind the walks over keys show.
+    pub(crate) fn key_counts(&self) -> (usize, usize) {
+        (self.map.keys1().count(), self.map.keys2().count())
+    }
+
+    /// Whether `validate_structural` finds no error.
+    pub(crate) fn is_sound(&self, compact: ValidateCompact) -> bool {
+        self.map.validate_structural(compact).is_ok()
+    }
+
     /// Whether `validate` finds no error, where no slot may be vacant.
     pub(crate) fn is_compact(&self) -> bool {
         self.map.validate(ValidateCompact::Compact).is_ok()

@@ -3,6 +3,7 @@ use crate::held::{Hosts, check, host_of as host, left};
 use crate::hosts::Host;
 use iddqd_bi_hash::{ValidateCompact, Visit};
 use std::cell::Cell;
+use std::process::Abort;
 use test_support::heap::{arm, is_met};
 
 #[test]
@@ -19,17 +20,18 @@ fn keys_in_the_order_of_iter(rt: HostRuntime) {
     check(&rt, all.holds(&left()));
 }
 
+// Four keys are announced, and then three.
+fn announces<T: Drop>(rt: &impl Abort, mut keys: impl Iterator<Item = T>) {
+    check(rt, keys.size_hint() == (4, Some(4)));
+    check(rt, keys.next().is_some());
+    check(rt, keys.size_hint() == (3, Some(3)));
+}
+
 #[test]
 fn keys_announce_how_many_come(rt: HostRuntime) {
     let all = Hosts::with_gaps(&rt, rt.alloc());
-    let mut numbers = all.map.keys1();
-    check(&rt, numbers.size_hint() == (4, Some(4)));
-    check(&rt, numbers.next().is_some());
-    check(&rt, numbers.size_hint() == (3, Some(3)));
-    let mut addresses = all.map.keys2();
-    check(&rt, addresses.size_hint() == (4, Some(4)));
-    check(&rt, addresses.next().is_some());
-    check(&rt, addresses.size_hint() == (3, Some(3)));
+    announces(&rt, all.map.keys1());
+    announces(&rt, all.map.keys2());
 }
 
 // What is written is read by both keys.
@@ -89,10 +91,6 @@ impl Hosts {
         self.map.retain_mut(visitor);
         asked.get()
     }
-
-    fn is_sound(&self, compact: ValidateCompact) -> bool {
-        self.map.validate_structural(compact).is_ok()
-    }
 }
 
 // What a visit wrote is read by both keys, and what goes is found by neither.
@@ -128,8 +126,7 @@ fn walked_without_memory(rt: HostRuntime) {
     let other = Hosts::with_gaps(&rt, rt.alloc());
     arm(rt.alloc());
     check(&rt, all.eq(&other));
-    check(&rt, all.map.keys1().count() == 4);
-    check(&rt, all.map.keys2().count() == 4);
+    check(&rt, all.key_counts() == (4, 4));
     check(&rt, !all.is_sound(ValidateCompact::Compact));
     check(&rt, all.raise_four() == 4);
     check(&rt, !all.eq(&other));

@@ -21,14 +21,6 @@ impl<'a> Visit<Counted<'a>> for KeepsAboveOne {
 }
 
 impl<'a> Held<Counted<'a>> {
-    // Whether `iter_mut` lends three items.
-    fn lends_three(&mut self) -> bool {
-        let mut walk = self.map.iter_mut();
-        let is_first = walk.next().is_some();
-        let is_second = walk.next().is_some();
-        is_first && is_second && walk.next().is_some() && walk.next().is_none()
-    }
-
     // How many items are left by `retain_mut`.
     fn keep_above_one(&mut self) -> usize {
         self.map.retain_mut(&mut KeepsAboveOne);
@@ -44,16 +36,26 @@ impl<'a> Held<Counted<'a>> {
     }
 }
 
+// Whether `iter_mut` lends three items.
+fn lends_three(all: Held<Counted<'_>>) -> bool {
+    let mut map = all.map;
+    let mut walk = map.iter_mut();
+    let is_first = walk.next().is_some();
+    let is_second = walk.next().is_some();
+    is_first && is_second && walk.next().is_some() && walk.next().is_none()
+}
+
 // Walks and checks of the structure.
 #[test]
 fn walks(rt: HostRuntime) {
     let tallies = Tallies::default();
-    let mut all = tallies.three(&rt, rt.alloc());
-    check(&rt, all.map.keys1().count() == 3);
-    check(&rt, all.map.keys2().count() == 3);
-    let checked = all.map.validate_structural(ValidateCompact::Compact);
-    tallies.tell(&rt, checked.is_ok(), (0, 0, 0, 0));
-    tallies.tell(&rt, all.lends_three(), (0, 0, 0, 0));
+    let all = tallies.three(&rt, rt.alloc());
+    check(
+        &rt,
+        all.key_counts() == (3, 3) && all.is_sound(ValidateCompact::Compact),
+    );
+    tallies.tell(&rt, true, (0, 0, 0, 0));
+    tallies.tell(&rt, lends_three(all), (0, 0, 0, 0));
 }
 
 // Both keys of the one that goes are hashed, and then those of the one that moves into its slot.
