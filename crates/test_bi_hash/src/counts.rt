@@ -30,7 +30,7 @@ fn lookups(rt: HostRuntime) {
     tell_each(&rt, rt.alloc(), &calls);
 }
 
-fn lends1(all: Held<Counted<'_>>, tallies: &Tallies) -> bool {
+fn lends1<'a>(all: Held<Counted<'a>>, tallies: &'a Tallies) -> bool {
     let mut map = all.map;
     match map.get1_mut(&tallies.first.key(2)) {
         Some(guard) => {
@@ -41,7 +41,7 @@ fn lends1(all: Held<Counted<'_>>, tallies: &Tallies) -> bool {
     }
 }
 
-fn lends2(all: Held<Counted<'_>>, tallies: &Tallies) -> bool {
+fn lends2<'a>(all: Held<Counted<'a>>, tallies: &'a Tallies) -> bool {
     let mut map = all.map;
     match map.get2_mut(&tallies.second.key(4)) {
         Some(guard) => {
@@ -52,7 +52,7 @@ fn lends2(all: Held<Counted<'_>>, tallies: &Tallies) -> bool {
     }
 }
 
-fn lends_unique(all: Held<Counted<'_>>, tallies: &Tallies) -> bool {
+fn lends_unique<'a>(all: Held<Counted<'a>>, tallies: &'a Tallies) -> bool {
     let mut map = all.map;
     match map.get_mut_unique(&tallies.first.key(2), &tallies.second.key(4)) {
         Some(guard) => {

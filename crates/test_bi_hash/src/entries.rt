@@ -2,6 +2,7 @@
 use crate::held::{Held, Hosts, Met, check, host, host_of, met, shown};
 use crate::hosts::Host;
 use iddqd_bi_hash::bi_hash_map::Entry;
+use iddqd_bi_hash::{BiHashMap, Keyed};
 
 impl Held<Host> {
     // The hosts that the entry of the two keys has, and whether it is one that has both.
@@ -42,16 +43,22 @@ impl Held<Host> {
             Entry::Vacant(_) => false,
         }
     }
+}
 
-    // Inserts the host as an entry, and removes it by that again. It is `None` if it was not inserted.
-    fn passed_through(&mut self, new: Host) -> Option<Met> {
-        match self.map.entry(&new.number, &new.address) {
-            Entry::Vacant(entry) => match entry.insert_entry(new) {
-                Ok(added) => Some(met(&added.remove())),
-                Err(_refused) => None,
-            },
-            Entry::Occupied(_) => None,
-        }
+// Inserts the host as an entry, and removes it by that again. It is `None` if it was not inserted.
+fn passed_through(map: &mut BiHashMap<Host>, new: Host) -> Option<Host>
+    requires keyed { ⟦<BiHashMap<Host> as Keyed>⟧.keyed map.old }
+    ensures keyed { ⟦<BiHashMap<Host> as Keyed>⟧.keyed map.new }
+{
+    match map.entry(&new.number, &new.address) {
+        Entry::Vacant(entry) => match entry.insert_entry(new) {
+            Ok(added) => {
+                let back = added.remove();
+                back.get(0).copied()
+            }
+            Err(_refused) => None,
+        },
+        Entry::Occupied(_) => None,
     }
 }
 
@@ -82,11 +89,15 @@ fn a_vacant_entry_inserts(rt: HostRuntime) {
 fn entries_find_one_or_two(rt: HostRuntime) {
     let mut all = Hosts::below(&rt, rt.alloc(), 3);
     let (one, other) = (Some(host(1)), Some(host(2)));
-    check(&rt, all.found(1, 101) == Some(((one, None), true)));
-    check(&rt, all.found(1, 102) == Some(((one, other), false)));
-    check(&rt, all.found(2, 101) == Some(((other, one), false)));
-    check(&rt, all.found(9, 102) == Some(((other, None), false)));
-    check(&rt, all.found(9, 109).is_none());
+    for (number, address, found) in [
+        (1, 101, Some(((one, None), true))),
+        (1, 102, Some(((one, other), false))),
+        (2, 101, Some(((other, one), false))),
+        (9, 102, Some(((other, None), false))),
+        (9, 109, None),
+    ] {
+        check(&rt, all.found(number, address) == found);
+    }
     check(&rt, all.holds_below(3));
     check(&rt, all.taken(2, 101) == Some((other, one)));
     check(&rt, all.taken(2, 101).is_none());
@@ -108,11 +119,8 @@ fn an_entry_of_two_is_replaced(rt: HostRuntime) {
 #[test]
 fn an_inserted_entry_has_the_item(rt: HostRuntime) {
     let mut all = Hosts::below(&rt, rt.alloc(), 2);
-    check(
-        &rt,
-        all.passed_through(host(2)) == Some((Some(host(2)), None)),
-    );
-    check(&rt, all.passed_through(host(1)).is_none());
+    check(&rt, passed_through(&mut all.map, host(2)) == Some(host(2)));
+    check(&rt, passed_through(&mut all.map, host(1)).is_none());
     check(&rt, all.holds(&[host(0), host(1)]));
 }
 
@@ -121,8 +129,8 @@ fn an_inserted_entry_has_the_item(rt: HostRuntime) {
 fn a_unique_entry_is_written(rt: HostRuntime) {
     let mut all = Hosts::below(&rt, rt.alloc(), 3);
     check(&rt, all.is_loaded(1, 101, 7));
-    check(&rt, !all.is_loaded(1, 102, 8));
-    check(&rt, !all.is_loaded(9, 102, 8));
-    check(&rt, !all.is_loaded(9, 109, 8));
+    for (number, address) in [(1, 102), (9, 102), (9, 109)] {
+        check(&rt, !all.is_loaded(number, address, 8));
+    }
     check(&rt, all.holds(&[host(0), host_of(1, 101, 7), host(2)]));
 }

@@ -51,6 +51,21 @@ pub(crate) enum Call {
     Overwrite,
 }
 
+/// A call on a map of hosts, by numbers, addresses and loads.
+#[derive(Clone, Copy)]
+pub(crate) enum Step {
+    Contains1(u32),
+    Contains2(u64),
+    ContainsBoth(u32, u64),
+    Insert(Host),
+    Remove1(u32),
+    Remove2(u64),
+    RemoveBoth(u32, u64),
+    Set1(u32, u32),
+    Set2(u64, u32),
+    SetBoth(u32, u64, u32),
+}
+
 /// The one or two hosts that have a key of another, in the order in which they are shown.
 pub(crate) type Met = (Option<Host>, Option<Host>);
 
@@ -378,6 +393,36 @@ impl Held<Host> {
         Some((stopped.item, stopped.error.is_capacity_overflow()))
     }
 
+    // Whether the call finds, inserts, removes or writes a host.
+    fn does(&mut self, step: Step) -> bool {
+        match step {
+            Step::Contains1(number) => self.contains_key1(&number),
+            Step::Contains2(address) => self.contains_key2(&address),
+            Step::ContainsBoth(number, address) => self.contains_key_unique(&number, &address),
+            Step::Insert(new) => self.is_put(new),
+            Step::Remove1(number) => self.remove1(&number).is_some(),
+            Step::Remove2(address) => self.remove2(&address).is_some(),
+            Step::RemoveBoth(number, address) => self.remove_unique(&number, &address).is_some(),
+            Step::Set1(number, load) => self.set_by_number(number, load),
+            Step::Set2(address, load) => self.set_by_address(address, load),
+            Step::SetBoth(number, address, load) => self.set_by_both(number, address, load),
+        }
+    }
+
+    /// Each call does so.
+    pub(crate) fn do_each(&mut self, rt: &impl Abort, steps: &[Step]) {
+        for step in steps {
+            check(rt, self.does(*step));
+        }
+    }
+
+    /// No call does so.
+    pub(crate) fn do_none(&mut self, rt: &impl Abort, steps: &[Step]) {
+        for step in steps {
+            check(rt, !self.does(*step));
+        }
+    }
+
     /// Whether the map has room for so many hosts, and not for too many.
     pub(crate) fn has_room(&self, least: usize, too_many: usize) -> bool {
         self.map.capacity() >= least && self.map.capacity() < too_many
@@ -393,27 +438,35 @@ impl Held<Host> {
         raise_four(&mut self.map)
     }
 
-    /// Writes the load of the host of the number.
+    // Writes the load of the host of the number, and returns whether there is one.
     #[tactic(auto, using(iddqd_bi_hash::proofs::GuardLemmas::both_keys_kept))]
-    pub(crate) fn set_by_number(&mut self, number: u32, load: u32) {
-        if let Some(mut host) = self.map.get1_mut(&number) {
-            host.load = load;
-            host.finish();
+    fn set_by_number(&mut self, number: u32, load: u32) -> bool {
+        match self.map.get1_mut(&number) {
+            Some(mut host) => {
+                host.load = load;
+                host.finish();
+                true
+            }
+            None => false,
         }
     }
 
-    /// Writes the load of the host of the address.
+    // Writes the load of the host of the address, and returns whether there is one.
     #[tactic(auto, using(iddqd_bi_hash::proofs::GuardLemmas::both_keys_kept))]
-    pub(crate) fn set_by_address(&mut self, address: u64, load: u32) {
-        if let Some(mut host) = self.map.get2_mut(&address) {
-            host.load = load;
-            host.finish();
+    fn set_by_address(&mut self, address: u64, load: u32) -> bool {
+        match self.map.get2_mut(&address) {
+            Some(mut host) => {
+                host.load = load;
+                host.finish();
+                true
+            }
+            None => false,
         }
     }
 
-    /// Writes the load of the host that has both, and returns whether there is one.
+    // Writes the load of the host that has both, and returns whether there is one.
     #[tactic(auto, using(iddqd_bi_hash::proofs::GuardLemmas::both_keys_kept))]
-    pub(crate) fn set_by_both(&mut self, number: u32, address: u64, load: u32) -> bool {
+    fn set_by_both(&mut self, number: u32, address: u64, load: u32) -> bool {
         match self.map.get_mut_unique(&number, &address) {
             Some(mut host) => {
                 host.load = load;

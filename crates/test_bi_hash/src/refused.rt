@@ -1,5 +1,5 @@
 //! Calls with requests for memory refused: which hosts are in then.
-use crate::held::{Call, Hosts, check, host, host_of, hosts_between};
+use crate::held::{Call, Hosts, Step, check, host, host_of, hosts_between};
 use crate::hosts::Host;
 use iddqd_bi_hash::{BiHashMap, DefaultHashBuilder, FromIterError, TryReserveError};
 use std::alloc::Global;
@@ -188,13 +188,17 @@ fn looked_up_without_memory(rt: HostRuntime) {
     let mut all = Hosts::below(&rt, rt.alloc(), 9);
     arm(rt.alloc());
     check(&rt, all.holds_below(9));
-    check(&rt, all.contains_key1(&1) && all.contains_key2(&101));
-    check(&rt, all.contains_key_unique(&1, &101));
-    all.set_by_number(1, 5);
-    all.set_by_address(102, 5);
-    check(&rt, all.set_by_both(3, 103, 5));
-    check(&rt, all.remove1(&1).is_some());
-    check(&rt, all.remove_unique(&2, &102).is_some());
+    let steps = [
+        Step::Contains1(1),
+        Step::Contains2(101),
+        Step::ContainsBoth(1, 101),
+        Step::Set1(1, 5),
+        Step::Set2(102, 5),
+        Step::SetBoth(3, 103, 5),
+        Step::Remove1(1),
+        Step::RemoveBoth(2, 102),
+    ];
+    all.do_each(&rt, &steps);
     all.retain(|there| there.load < 6);
     check(&rt, all.map.len() == 4);
     all.clear();

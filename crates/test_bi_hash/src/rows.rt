@@ -1,5 +1,5 @@
 //! Worked examples on few hosts, some slots vacant.
-use crate::held::{Call, Hosts, check, host, host_of};
+use crate::held::{Call, Hosts, Step, check, host, host_of};
 use crate::hosts::Host;
 use iddqd_bi_hash::ValidateCompact;
 use std::alloc::Global;
@@ -27,8 +27,7 @@ fn lookups(rt: HostRuntime) {
     check(&rt, all.map.len() == 3);
     check(&rt, load(all.get1(&4)) == 4);
     check(&rt, load(all.get2(&104)) == 4);
-    check(&rt, !all.contains_key1(&2));
-    check(&rt, !all.contains_key2(&103));
+    check(&rt, !all.contains_key1(&2) && !all.contains_key2(&103));
     check(&rt, all.get_unique(&4, &104).is_some());
     check(&rt, all.get_unique(&4, &105).is_none());
     check(&rt, all.contains_key_unique(&5, &105));
@@ -100,24 +99,32 @@ fn room_and_limit(rt: HostRuntime) {
 #[test]
 fn guards_and_visits(rt: HostRuntime) {
     let mut all = hosts(&rt, rt.alloc());
-    all.set_by_number(4, 40);
-    all.set_by_address(105, 50);
-    check(&rt, all.set_by_both(1, 101, 10));
-    check(&rt, !all.set_by_both(1, 105, 10));
+    let steps = [
+        Step::Set1(4, 40),
+        Step::Set2(105, 50),
+        Step::SetBoth(1, 101, 10),
+    ];
+    all.do_each(&rt, &steps);
+    all.do_none(&rt, &[Step::SetBoth(1, 105, 10)]);
     check(&rt, load(all.get2(&104)) == 40);
     check(&rt, load(all.get1(&5)) == 50);
     check(&rt, load(all.get1(&1)) == 10);
+    visit(&rt, all);
+}
+
+// The host whose load is 50 leaves.
+fn visit(rt: &impl Abort, mut all: Hosts) {
     let asked = Cell::new(0u32);
     all.retain(|there| {
         asked.set(asked.get().saturating_add(1));
         there.load < 50
     });
-    check(&rt, asked.get() == 3);
-    check(&rt, all.map.len() == 2 && !all.contains_key2(&105));
-    check(&rt, all.map.validate(ValidateCompact::NonCompact).is_ok());
+    check(rt, asked.get() == 3);
+    check(rt, all.map.len() == 2 && !all.contains_key2(&105));
+    check(rt, all.map.validate(ValidateCompact::NonCompact).is_ok());
     let mut loads = 0;
     for there in all.map {
         loads = there.load.saturating_add(loads);
     }
-    check(&rt, loads == 50);
+    check(rt, loads == 50);
 }

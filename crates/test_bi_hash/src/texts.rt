@@ -68,7 +68,8 @@ fn is_guard(alloc: Global, hosts: Hosts, number: u32, expected: &str) -> bool {
         Some(mut found) => {
             found.load = 9;
             let is_before = is_debugged(alloc, &found, expected);
-            is_before && is_debugged(alloc, &found.into_ref(), expected)
+            let found = found.into_ref();
+            is_before && is_debugged(alloc, &found, expected)
         }
         None => false,
     }

@@ -1,22 +1,34 @@
 //! Walks over keys, walks that write, visits, and checks of the structure, some slots vacant.
-use crate::held::{Hosts, check, host_of as host, left};
+use crate::held::{Hosts, Step, check, host_of as host, left};
 use crate::hosts::Host;
 use iddqd_bi_hash::{ValidateCompact, Visit};
 use std::cell::Cell;
 use std::process::Abort;
 use test_support::heap::{arm, is_met};
 
+fn numbers_in_order(rt: &impl Abort, all: &Hosts) {
+    let mut numbers = all.map.keys1();
+    check(rt, numbers.len() == 4);
+    for host in all.map.iter() {
+        check(rt, numbers.next() == Some(&host.number));
+    }
+    check(rt, numbers.next().is_none());
+}
+
+fn addresses_in_order(rt: &impl Abort, all: &Hosts) {
+    let mut addresses = all.map.keys2();
+    check(rt, addresses.len() == 4);
+    for host in all.map.iter() {
+        check(rt, addresses.next() == Some(&host.address));
+    }
+    check(rt, addresses.next().is_none());
+}
+
 #[test]
 fn keys_in_the_order_of_iter(rt: HostRuntime) {
     let all = Hosts::with_gaps(&rt, rt.alloc());
-    let mut numbers = all.map.keys1();
-    let mut addresses = all.map.keys2();
-    check(&rt, numbers.len() == 4 && addresses.len() == 4);
-    for host in all.map.iter() {
-        check(&rt, numbers.next() == Some(&host.number));
-        check(&rt, addresses.next() == Some(&host.address));
-    }
-    check(&rt, numbers.next().is_none() && addresses.next().is_none());
+    numbers_in_order(&rt, &all);
+    addresses_in_order(&rt, &all);
     check(&rt, all.holds(&left()));
 }
 
@@ -100,11 +112,16 @@ fn each_host_is_visited_once(rt: HostRuntime) {
     check(&rt, all.keep_even() == 4);
     let (zero, two) = (host(0, 100, 7), host(2, 102, 7));
     check(&rt, all.holds(&[zero, two]));
-    check(&rt, !all.contains_key1(&3) && !all.contains_key2(&103));
-    check(&rt, !all.contains_key1(&5) && !all.contains_key2(&105));
+    let gone = [
+        Step::Contains1(3),
+        Step::Contains2(103),
+        Step::Contains1(5),
+        Step::Contains2(105),
+    ];
+    all.do_none(&rt, &gone);
     check(&rt, all.map.vacant() == 4);
     let (nine, five) = (host(9, 103, 9), host(5, 109, 5));
-    check(&rt, all.is_put(nine) && all.is_put(five));
+    all.do_each(&rt, &[Step::Insert(nine), Step::Insert(five)]);
     check(&rt, all.holds(&[zero, two, nine, five]));
 }
 
