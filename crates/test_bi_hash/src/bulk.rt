@@ -1,5 +1,5 @@
 //! Many hosts at once, each of which replaces those that have one of its keys; and hints.
-use crate::held::{Call, Hosts, check, host, host_of};
+use crate::held::{Hosts, Way, check, host, host_of};
 use crate::hosts::Host;
 use std::process::Abort;
 
@@ -25,7 +25,7 @@ fn are_replaced(rt: &impl Abort, all: &Hosts) {
 
 // `extend` by the hosts, of which this many are announced, succeeds.
 fn extend(rt: &impl Abort, all: &mut Hosts, hosts: &[Host], hint: usize) {
-    check(rt, all.stopped(Call::Overwrite, hosts, hint).is_none());
+    check(rt, all.stopped(Way::Overwrite, hosts, hint).is_none());
 }
 
 #[test]
@@ -54,7 +54,7 @@ fn those_there_are_replaced(rt: HostRuntime) {
 #[test]
 fn from_iter(rt: HostRuntime) {
     for hint in [0, 6] {
-        let made = Hosts::collected(&rt, rt.alloc(), Call::Overwrite, &coming(), hint);
+        let made = Hosts::collected(&rt, rt.alloc(), Way::Overwrite, &coming(), hint);
         are_replaced(&rt, &made.expect(&rt, "memory"));
     }
 }
@@ -65,14 +65,14 @@ fn extend_to_the_limit(rt: HostRuntime) {
     let mut all = Hosts::with_limit(rt.alloc(), 2);
     let last = host_of(1, 102, 5);
     let coming = [host(1), host(2), host_of(1, 103, 3), host(4), last];
-    let stopped = all.stopped(Call::Overwrite, &coming, 0);
+    let stopped = all.stopped(Way::Overwrite, &coming, 0);
     check(&rt, stopped == Some((Some(host(4)), true)));
     check(&rt, all.holds(&[host(2), host_of(1, 103, 3)]));
 }
 
 // What an announcement of this many is refused, of which none is there: nothing, or the announcement.
 fn is_too_many(rt: &impl Abort, all: &mut Hosts, hint: usize) -> bool {
-    let stopped = all.stopped(Call::Overwrite, &[], hint);
+    let stopped = all.stopped(Way::Overwrite, &[], hint);
     check(rt, stopped.is_none() || stopped == Some((None, true)));
     stopped.is_some()
 }
@@ -90,29 +90,29 @@ fn hints_at_the_limit(rt: HostRuntime) {
 }
 
 /// Room for what is announced is there, whatever comes: for all of it in an empty map, for half in a map with hosts.
-pub(crate) fn hints_reserve(rt: &impl Abort, mut all: Hosts, call: Call) {
+pub(crate) fn hints_reserve(rt: &impl Abort, mut all: Hosts, way: Way) {
     check(rt, all.reserve(4).is_ok());
-    check(rt, all.stopped(call, &[], 100).is_none());
+    check(rt, all.stopped(way, &[], 100).is_none());
     check(rt, all.map.spare() >= 100);
     check(rt, all.is_put(host(1)));
-    check(rt, all.stopped(call, &[], 2001).is_none());
+    check(rt, all.stopped(way, &[], 2001).is_none());
     check(rt, all.map.spare() >= 1001);
     check(rt, all.holds(&[host(1)]));
 }
 
 #[test]
 fn hints_are_reserved(rt: HostRuntime) {
-    hints_reserve(&rt, Hosts::new(rt.alloc()), Call::Overwrite);
+    hints_reserve(&rt, Hosts::new(rt.alloc()), Way::Overwrite);
 }
 
 // A wrong hint costs a refusal before a host is asked for.
 #[test]
 fn a_lying_hint_is_refused(rt: HostRuntime) {
     let mut all = Hosts::of(&rt, rt.alloc(), &[host(1)]);
-    let stopped = all.stopped(Call::Overwrite, &[host(2)], usize::MAX);
+    let stopped = all.stopped(Way::Overwrite, &[host(2)], usize::MAX);
     check(&rt, stopped == Some((None, true)));
     check(&rt, all.holds(&[host(1)]));
-    match Hosts::collected(&rt, rt.alloc(), Call::Overwrite, &[host(2)], usize::MAX) {
+    match Hosts::collected(&rt, rt.alloc(), Way::Overwrite, &[host(2)], usize::MAX) {
         Ok(_all) => check(&rt, false),
         Err(error) => check(&rt, error.is_capacity_overflow()),
     }

@@ -1,5 +1,5 @@
 //! Copies of a map, and equality of two.
-use crate::held::{Held, Hosts, Step, check, host, host_of, left};
+use crate::held::{Held, Hosts, check, host, host_of, left};
 use crate::hosts::Host;
 use iddqd_bi_hash::BiHashMap;
 use std::alloc::Global;
@@ -10,9 +10,11 @@ use test_support::hashers::{FewBits, Varying};
 fn part_ways(rt: &impl Abort, mut all: Hosts, mut copy: Hosts) {
     check(rt, copy.holds(&left()) && copy.map.vacant() == 2);
     check(rt, are_equal(rt, &all, &copy));
-    copy.do_each(rt, &[Step::Remove1(2), Step::Set1(5, 50)]);
+    check(rt, copy.remove1(&2) == Some(host(2)));
+    check(rt, copy.set_by_number(5, 50));
     check(rt, all.holds(&left()));
-    all.do_each(rt, &[Step::Remove2(100), Step::Insert(host(7))]);
+    check(rt, all.remove2(&100) == Some(host(0)));
+    check(rt, all.is_put(host(7)));
     check(rt, copy.holds(&[host(0), host(3), host_of(5, 105, 50)]));
     check(rt, !all.eq(&copy));
     drop_copy(rt, &all, copy);

@@ -1,6 +1,6 @@
 //! Many hosts at once, none of which may have a key of another.
 use crate::bulk::hints_reserve;
-use crate::held::{Call, Hosts, Met, check, host, host_of, shown};
+use crate::held::{Hosts, Met, Way, check, host, host_of, shown};
 use crate::hosts::Host;
 use crate::rows::hosts;
 use iddqd_bi_hash::ExtendUniqueError;
@@ -111,14 +111,14 @@ fn stopped_by_the_limit(rt: HostRuntime) {
 
 #[test]
 fn hints_are_reserved(rt: HostRuntime) {
-    hints_reserve(&rt, Hosts::new(rt.alloc()), Call::Unique);
+    hints_reserve(&rt, Hosts::new(rt.alloc()), Way::Unique);
 }
 
 // A hint past the limit is refused before a host is asked for.
 #[test]
 fn a_hint_past_the_limit_is_refused(rt: HostRuntime) {
     let mut all = hosts(&rt, rt.alloc());
-    let stopped = all.stopped(Call::Unique, &[host(6)], usize::MAX);
+    let stopped = all.stopped(Way::Unique, &[host(6)], usize::MAX);
     check(&rt, stopped == Some((None, true)));
     check(&rt, all.holds(&[host(1), host(4), host(5)]));
 }

@@ -1,7 +1,7 @@
 //! Calls that allocate succeed while memory is at hand: with some hundred hosts the store and both indexes grow often.
 ghost use Rattle.std.specs.Prelude.{IfOk};
 
-use crate::held::{Call, Held, Hosts, check, host, hosts_between};
+use crate::held::{Held, Hosts, Way, check, host, hosts_between};
 use crate::hosts::Host;
 use crate::refused::{is_unmade, made_twice, put_all};
 use iddqd_bi_hash::{BiHashMap, DefaultHashBuilder, Keyed, TryReserveError};
@@ -11,37 +11,37 @@ use test_support::bulk::Hinted;
 const COUNT: u32 = 300;
 
 // Inserts the hosts one after the other.
-fn fill(rt: &impl Abort, all: &mut Hosts, call: Call) {
-    check(rt, put_all(rt, all, call, COUNT) == 0);
+fn fill(rt: &impl Abort, all: &mut Hosts, way: Way) {
+    check(rt, put_all(rt, all, way, COUNT) == 0);
     check(rt, all.holds_below(COUNT));
 }
 
 #[test]
 fn inserted(rt: HostRuntime) {
-    fill(&rt, &mut Held::new(rt.alloc()), Call::Unique);
+    fill(&rt, &mut Held::new(rt.alloc()), Way::Unique);
 }
 
 #[test]
 fn overwritten(rt: HostRuntime) {
-    fill(&rt, &mut Held::new(rt.alloc()), Call::Overwrite);
+    fill(&rt, &mut Held::new(rt.alloc()), Way::Overwrite);
 }
 
 #[test]
 fn collected(rt: HostRuntime) {
-    let made = made_twice(&rt, rt.alloc(), Call::Unique, COUNT);
+    let made = made_twice(&rt, rt.alloc(), Way::Unique, COUNT);
     check(&rt, made == (false, false));
 }
 
 #[test]
 fn from_iter(rt: HostRuntime) {
-    let made = made_twice(&rt, rt.alloc(), Call::Overwrite, COUNT);
+    let made = made_twice(&rt, rt.alloc(), Way::Overwrite, COUNT);
     check(&rt, made == (false, false));
 }
 
 // What an iterator announces is reserved, even if it gives nothing.
 #[test]
 fn announced_room(rt: HostRuntime) {
-    let made = Hosts::collected(&rt, rt.alloc(), Call::Unique, &[], 100);
+    let made = Hosts::collected(&rt, rt.alloc(), Way::Unique, &[], 100);
     check(&rt, made.is_ok_and(|all| all.map.spare() >= 100));
 }
 
@@ -49,7 +49,7 @@ fn fill_made(rt: &impl Abort, made: Result<BiHashMap<Host>, TryReserveError>)
     requires keyed { IfOk made ⟦<BiHashMap<Host> as Keyed>⟧.keyed }
 {
     let map = made.expect(rt, "memory");
-    fill(rt, &mut Held::over(map), Call::Unique);
+    fill(rt, &mut Held::over(map), Way::Unique);
 }
 
 #[test]
@@ -93,7 +93,7 @@ fn cloned(rt: HostRuntime) {
 fn shrunk(rt: HostRuntime) {
     let mut all = Hosts::new(rt.alloc());
     check(&rt, all.reserve(2000).is_ok());
-    fill(&rt, &mut all, Call::Unique);
+    fill(&rt, &mut all, Way::Unique);
     check(&rt, all.shrink_to(1000).is_ok());
     check(&rt, all.has_room(1000, 2000) && all.map.spare() >= 700);
     check(&rt, all.holds_below(COUNT));

@@ -46,24 +46,23 @@ pub(crate) fn hosts_between(rt: &impl Abort, alloc: Global, first: u32, end: u32
 
 /// Whether a call inserts new items alone, or in place of those that have their keys.
 #[derive(Clone, Copy)]
-pub(crate) enum Call {
+pub(crate) enum Way {
     Unique,
     Overwrite,
 }
 
-/// A call on a map of hosts, by numbers, addresses and loads.
+/// A call by either key or by both.
 #[derive(Clone, Copy)]
-pub(crate) enum Step {
-    Contains1(u32),
-    Contains2(u64),
-    ContainsBoth(u32, u64),
-    Insert(Host),
-    Remove1(u32),
-    Remove2(u64),
-    RemoveBoth(u32, u64),
-    Set1(u32, u32),
-    Set2(u64, u32),
-    SetBoth(u32, u64, u32),
+pub(crate) enum Call {
+    Get1,
+    Get2,
+    GetBoth,
+    Contains1,
+    Contains2,
+    ContainsBoth,
+    Remove1,
+    Remove2,
+    RemoveBoth,
 }
 
 /// The one or two hosts that have a key of another, in the order in which they are shown.
@@ -180,6 +179,21 @@ impl<T: BiHashItem + Drop, S: BuildHasher> Held<T, S> {
         self.map.remove_unique(one, other)
     }
 
+    /// Whether the call finds an item by the keys.
+    pub(crate) fn finds(&mut self, call: Call, one: &T::K1, other: &T::K2) -> bool {
+        match call {
+            Call::Get1 => self.get1(one).is_some(),
+            Call::Get2 => self.get2(other).is_some(),
+            Call::GetBoth => self.get_unique(one, other).is_some(),
+            Call::Contains1 => self.contains_key1(one),
+            Call::Contains2 => self.contains_key2(other),
+            Call::ContainsBoth => self.contains_key_unique(one, other),
+            Call::Remove1 => self.remove1(one).is_some(),
+            Call::Remove2 => self.remove2(other).is_some(),
+            Call::RemoveBoth => self.remove_unique(one, other).is_some(),
+        }
+    }
+
     pub(crate) fn retain<F: FnMut(&T) -> bool>(&mut self, keep: F)
         requires { F.IsAlwaysCallable keep }
     {
@@ -234,7 +248,7 @@ impl<S: BuildHasher> Held<Host, S> {
     }
 
     // Whether each key of the host finds it.
-    fn finds(&self, wanted: Host) -> bool {
+    fn has_host(&self, wanted: Host) -> bool {
         self.get1(&wanted.number).copied() == Some(wanted)
             && self.get2(&wanted.address).copied() == Some(wanted)
     }
@@ -247,7 +261,7 @@ impl<S: BuildHasher> Held<Host, S> {
     /// Whether each host of a number below this one is found by both keys, and the map has no other.
     pub(crate) fn holds_below(&self, count: u32) -> bool {
         for number in 0..count {
-            if !self.finds(host(number)) {
+            if !self.has_host(host(number)) {
                 return false;
             }
         }
@@ -257,7 +271,7 @@ impl<S: BuildHasher> Held<Host, S> {
     /// Whether each of the hosts is found by both keys, and the map has no other.
     pub(crate) fn holds(&self, hosts: &[Host]) -> bool {
         for wanted in hosts {
-            if !self.finds(*wanted) {
+            if !self.has_host(*wanted) {
                 return false;
             }
         }
@@ -331,14 +345,14 @@ impl Held<Host> {
     pub(crate) fn collected(
         rt: &impl Abort,
         alloc: Global,
-        call: Call,
+        way: Way,
         hosts: &[Host],
         hint: usize,
     ) -> Result<Hosts, TryReserveError> {
         let coming = Hinted::new(hosts, hint);
-        match call {
-            Call::Overwrite => Ok(Held::over(BiHashMap::from_iter(alloc, coming)?)),
-            Call::Unique => match BiHashMap::from_iter_unique(alloc, coming) {
+        match way {
+            Way::Overwrite => Ok(Held::over(BiHashMap::from_iter(alloc, coming)?)),
+            Way::Unique => match BiHashMap::from_iter_unique(alloc, coming) {
                 Ok(map) => Ok(Held::over(map)),
                 Err(FromIterError::Refused(error)) => Err(error),
                 Err(FromIterError::Duplicate(_)) => {
@@ -350,14 +364,14 @@ impl Held<Host> {
     }
 
     /// `insert_unique` or `insert_overwrite`: the hosts that are in the way, or replaced.
-    pub(crate) fn insert(&mut self, call: Call, new: Host) -> Result<Met, Refused<Host>> {
-        match call {
-            Call::Unique => match self.map.insert_unique(new) {
+    pub(crate) fn insert(&mut self, way: Way, new: Host) -> Result<Met, Refused<Host>> {
+        match way {
+            Way::Unique => match self.map.insert_unique(new) {
                 Ok(()) => Ok((None, None)),
                 Err(InsertError::Duplicate(both)) => Ok(shown(both.duplicates())),
                 Err(InsertError::Refused(refused)) => Err(refused),
             },
-            Call::Overwrite => match self.map.insert_overwrite(new) {
+            Way::Overwrite => match self.map.insert_overwrite(new) {
                 Ok(Some(replaced)) => Ok(met(&replaced)),
                 Ok(None) => Ok((None, None)),
                 Err(refused) => Err(refused),
@@ -366,8 +380,8 @@ impl Held<Host> {
     }
 
     /// Whether the insertion of the host meets these.
-    pub(crate) fn meets(&mut self, call: Call, new: Host, wanted: Met) -> bool {
-        match self.insert(call, new) {
+    pub(crate) fn meets(&mut self, way: Way, new: Host, wanted: Met) -> bool {
+        match self.insert(way, new) {
             Ok(met) => met == wanted,
             Err(_refused) => false,
         }
@@ -377,14 +391,14 @@ impl Held<Host> {
     /// whether that is by the limit.
     pub(crate) fn stopped(
         &mut self,
-        call: Call,
+        way: Way,
         hosts: &[Host],
         hint: usize,
     ) -> Option<(Option<Host>, bool)> {
         let coming = Hinted::new(hosts, hint);
-        let stopped = match call {
-            Call::Overwrite => self.map.extend(coming).err()?,
-            Call::Unique => match self.map.extend_unique(coming) {
+        let stopped = match way {
+            Way::Overwrite => self.map.extend(coming).err()?,
+            Way::Unique => match self.map.extend_unique(coming) {
                 Ok(()) => return None,
                 Err(ExtendUniqueError::Refused(stopped)) => stopped,
                 Err(ExtendUniqueError::Duplicate(_)) => return Some((None, false)),
@@ -393,33 +407,15 @@ impl Held<Host> {
         Some((stopped.item, stopped.error.is_capacity_overflow()))
     }
 
-    // Whether the call finds, inserts, removes or writes a host.
-    fn does(&mut self, step: Step) -> bool {
-        match step {
-            Step::Contains1(number) => self.contains_key1(&number),
-            Step::Contains2(address) => self.contains_key2(&address),
-            Step::ContainsBoth(number, address) => self.contains_key_unique(&number, &address),
-            Step::Insert(new) => self.is_put(new),
-            Step::Remove1(number) => self.remove1(&number).is_some(),
-            Step::Remove2(address) => self.remove2(&address).is_some(),
-            Step::RemoveBoth(number, address) => self.remove_unique(&number, &address).is_some(),
-            Step::Set1(number, load) => self.set_by_number(number, load),
-            Step::Set2(address, load) => self.set_by_address(address, load),
-            Step::SetBoth(number, address, load) => self.set_by_both(number, address, load),
-        }
-    }
-
-    /// Each call does so.
-    pub(crate) fn do_each(&mut self, rt: &impl Abort, steps: &[Step]) {
-        for step in steps {
-            check(rt, self.does(*step));
-        }
-    }
-
-    /// No call does so.
-    pub(crate) fn do_none(&mut self, rt: &impl Abort, steps: &[Step]) {
-        for step in steps {
-            check(rt, !self.does(*step));
+    /// Each of the calls, by a number and an address, finds a host or not.
+    pub(crate) fn find_each(
+        &mut self,
+        rt: &impl Abort,
+        calls: &[(Call, u32, u64)],
+        are_found: bool,
+    ) {
+        for call in calls {
+            check(rt, self.finds(call.0, &call.1, &call.2) == are_found);
         }
     }
 
@@ -438,9 +434,9 @@ impl Held<Host> {
         raise_four(&mut self.map)
     }
 
-    // Writes the load of the host of the number, and returns whether there is one.
+    /// Writes the load of the host of the number, and returns whether there is one.
     #[tactic(auto, using(iddqd_bi_hash::proofs::GuardLemmas::both_keys_kept))]
-    fn set_by_number(&mut self, number: u32, load: u32) -> bool {
+    pub(crate) fn set_by_number(&mut self, number: u32, load: u32) -> bool {
         match self.map.get1_mut(&number) {
             Some(mut host) => {
                 host.load = load;
@@ -451,9 +447,9 @@ impl Held<Host> {
         }
     }
 
-    // Writes the load of the host of the address, and returns whether there is one.
+    /// Writes the load of the host of the address, and returns whether there is one.
     #[tactic(auto, using(iddqd_bi_hash::proofs::GuardLemmas::both_keys_kept))]
-    fn set_by_address(&mut self, address: u64, load: u32) -> bool {
+    pub(crate) fn set_by_address(&mut self, address: u64, load: u32) -> bool {
         match self.map.get2_mut(&address) {
             Some(mut host) => {
                 host.load = load;
@@ -464,9 +460,9 @@ impl Held<Host> {
         }
     }
 
-    // Writes the load of the host that has both, and returns whether there is one.
+    /// Writes the load of the host that has both, and returns whether there is one.
     #[tactic(auto, using(iddqd_bi_hash::proofs::GuardLemmas::both_keys_kept))]
-    fn set_by_both(&mut self, number: u32, address: u64, load: u32) -> bool {
+    pub(crate) fn set_by_both(&mut self, number: u32, address: u64, load: u32) -> bool {
         match self.map.get_mut_unique(&number, &address) {
             Some(mut host) => {
                 host.load = load;

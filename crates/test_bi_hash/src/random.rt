@@ -1,5 +1,5 @@
 //! Long random runs of calls, against a plain list.
-use crate::held::{Call, Hosts, Met, check, host_of};
+use crate::held::{Hosts, Met, Way, check, host_of};
 use crate::hosts::Host;
 use std::alloc::Global;
 use std::process::Abort;
@@ -77,7 +77,7 @@ impl Pair {
     // Inserts the host into both if no host has one of its keys. Those that have one are shown in either order.
     fn insert(&mut self, rt: &impl Abort, host: Host) {
         let (one, other) = self.met(host);
-        match self.hosts.insert(Call::Unique, host) {
+        match self.hosts.insert(Way::Unique, host) {
             Ok(met) => check(rt, met == (one, other) || met == (other, one)),
             Err(_) => check(rt, false),
         }
@@ -89,7 +89,7 @@ impl Pair {
     // Inserts the host into both in place of those that have one of its keys.
     fn overwrite(&mut self, rt: &impl Abort, host: Host) {
         let met = self.met(host);
-        check(rt, self.hosts.meets(Call::Overwrite, host, met));
+        check(rt, self.hosts.meets(Way::Overwrite, host, met));
         self.put(rt, host);
     }
 
@@ -122,10 +122,7 @@ impl Pair {
 
     // Inserts three hosts into both, one after the other, in place of those that have one of the keys.
     fn extend(&mut self, rt: &impl Abort, coming: [Host; 3]) {
-        check(
-            rt,
-            self.hosts.stopped(Call::Overwrite, &coming, 3).is_none(),
-        );
+        check(rt, self.hosts.stopped(Way::Overwrite, &coming, 3).is_none());
         for host in coming {
             self.put(rt, host);
         }

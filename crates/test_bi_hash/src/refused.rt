@@ -1,5 +1,5 @@
 //! Calls with requests for memory refused: which hosts are in then.
-use crate::held::{Call, Hosts, Step, check, host, host_of, hosts_between};
+use crate::held::{Call, Hosts, Way, check, host, host_of, hosts_between};
 use crate::hosts::Host;
 use iddqd_bi_hash::{BiHashMap, DefaultHashBuilder, FromIterError, TryReserveError};
 use std::alloc::Global;
@@ -9,8 +9,8 @@ use test_support::bulk::Hinted;
 use test_support::heap::{arm, has_leaked, is_met};
 
 // Whether the insertion of the host of this number, whose keys are new, is refused memory. It is returned then.
-fn is_refused(rt: &impl Abort, all: &mut Hosts, call: Call, number: u32) -> bool {
-    match all.insert(call, host(number)) {
+fn is_refused(rt: &impl Abort, all: &mut Hosts, way: Way, number: u32) -> bool {
+    match all.insert(way, host(number)) {
         Ok(met) => {
             check(rt, met == (None, None));
             false
@@ -25,22 +25,22 @@ fn is_refused(rt: &impl Abort, all: &mut Hosts, call: Call, number: u32) -> bool
 
 /// Inserts as many hosts, each again if it is refused: how many are refused. A refusal leaves the others, and no room of
 /// the refused one.
-pub(crate) fn put_all(rt: &impl Abort, all: &mut Hosts, call: Call, count: u32) -> u32 {
+pub(crate) fn put_all(rt: &impl Abort, all: &mut Hosts, way: Way, count: u32) -> u32 {
     let mut refused = 0u32;
     for number in 0..count {
-        if is_refused(rt, all, call, number) {
+        if is_refused(rt, all, way, number) {
             refused = refused.saturating_add(1);
             check(rt, all.holds_below(number));
-            check(rt, !is_refused(rt, all, call, number));
+            check(rt, !is_refused(rt, all, way, number));
         }
     }
     refused
 }
 
-fn put_fourteen(rt: &(impl Abort + Print), alloc: Global, call: Call) {
+fn put_fourteen(rt: &(impl Abort + Print), alloc: Global, way: Way) {
     let mut all = Hosts::new(alloc);
     arm(alloc);
-    let refused = put_all(rt, &mut all, call, 14);
+    let refused = put_all(rt, &mut all, way, 14);
     let is_met = is_met(alloc);
     check(rt, refused == u32::from(is_met));
     check(rt, all.holds_below(14));
@@ -49,12 +49,12 @@ fn put_fourteen(rt: &(impl Abort + Print), alloc: Global, call: Call) {
 
 #[test]
 fn insert_unique(rt: HostRuntime) {
-    put_fourteen(&rt, rt.alloc(), Call::Unique);
+    put_fourteen(&rt, rt.alloc(), Way::Unique);
 }
 
 #[test]
 fn insert_overwrite(rt: HostRuntime) {
-    put_fourteen(&rt, rt.alloc(), Call::Overwrite);
+    put_fourteen(&rt, rt.alloc(), Way::Overwrite);
 }
 
 // After a reservation as many hosts are inserted without a request.
@@ -63,7 +63,7 @@ fn reservation_holds(rt: HostRuntime) {
     let mut all = Hosts::new(rt.alloc());
     check(&rt, all.reserve(14).is_ok());
     arm(rt.alloc());
-    let refused = put_all(&rt, &mut all, Call::Unique, 14);
+    let refused = put_all(&rt, &mut all, Way::Unique, 14);
     check(&rt, !is_met(rt.alloc()) && refused == 0);
 }
 
@@ -74,7 +74,7 @@ fn replaced_without_memory(rt: HostRuntime) {
     arm(rt.alloc());
     check(&rt, !all.is_put(host(3)));
     let both = (Some(host(1)), Some(host(2)));
-    check(&rt, all.meets(Call::Overwrite, host_of(1, 102, 9), both));
+    check(&rt, all.meets(Way::Overwrite, host_of(1, 102, 9), both));
     check(&rt, all.remove2(&102) == Some(host_of(1, 102, 9)));
     check(&rt, !is_met(rt.alloc()));
     check(&rt, all.map.len() == 2);
@@ -135,12 +135,12 @@ pub(crate) fn is_unmade(rt: &impl Abort, made: Result<Hosts, TryReserveError>, c
 
 /// Makes two maps of the hosts below this number, of which none is announced, and then all are: whether either was
 /// refused memory.
-pub(crate) fn made_twice(rt: &impl Abort, alloc: Global, call: Call, count: u32) -> (bool, bool) {
+pub(crate) fn made_twice(rt: &impl Abort, alloc: Global, way: Way, count: u32) -> (bool, bool) {
     let hosts = hosts_between(rt, alloc, 0, count);
     arm(alloc);
-    let one = Hosts::collected(rt, alloc, call, hosts.as_slice(), 0);
+    let one = Hosts::collected(rt, alloc, way, hosts.as_slice(), 0);
     let one = is_unmade(rt, one, count);
-    let other = Hosts::collected(rt, alloc, call, hosts.as_slice(), hosts.len());
+    let other = Hosts::collected(rt, alloc, way, hosts.as_slice(), hosts.len());
     let other = is_unmade(rt, other, count);
     check(rt, !has_leaked(alloc));
     (one, other)
@@ -148,7 +148,7 @@ pub(crate) fn made_twice(rt: &impl Abort, alloc: Global, call: Call, count: u32)
 
 #[test]
 fn from_iter_unique(rt: HostRuntime) {
-    let refused = made_twice(&rt, rt.alloc(), Call::Unique, 20);
+    let refused = made_twice(&rt, rt.alloc(), Way::Unique, 20);
     tell_refused(&rt, is_met(rt.alloc()), refused);
 }
 
@@ -173,7 +173,7 @@ fn full_map(rt: HostRuntime) {
     all.fill(&rt, 9);
     arm(rt.alloc());
     check(&rt, !all.is_put(host(9)));
-    match all.insert(Call::Overwrite, host(9)) {
+    match all.insert(Way::Overwrite, host(9)) {
         Err(refused) => check(&rt, refused.error.is_capacity_overflow()),
         Ok(_) => check(&rt, false),
     }
@@ -188,17 +188,16 @@ fn looked_up_without_memory(rt: HostRuntime) {
     let mut all = Hosts::below(&rt, rt.alloc(), 9);
     arm(rt.alloc());
     check(&rt, all.holds_below(9));
-    let steps = [
-        Step::Contains1(1),
-        Step::Contains2(101),
-        Step::ContainsBoth(1, 101),
-        Step::Set1(1, 5),
-        Step::Set2(102, 5),
-        Step::SetBoth(3, 103, 5),
-        Step::Remove1(1),
-        Step::RemoveBoth(2, 102),
+    check(&rt, all.set_by_number(1, 5) && all.set_by_address(102, 5));
+    check(&rt, all.set_by_both(3, 103, 5));
+    let calls = [
+        (Call::Contains1, 1, 101),
+        (Call::Contains2, 1, 101),
+        (Call::ContainsBoth, 1, 101),
+        (Call::Remove1, 1, 101),
+        (Call::RemoveBoth, 2, 102),
     ];
-    all.do_each(&rt, &steps);
+    all.find_each(&rt, &calls, true);
     all.retain(|there| there.load < 6);
     check(&rt, all.map.len() == 4);
     all.clear();
@@ -207,7 +206,7 @@ fn looked_up_without_memory(rt: HostRuntime) {
 }
 
 fn fill_and_drop(rt: &impl Abort, mut all: Hosts) {
-    check(rt, put_all(rt, &mut all, Call::Unique, 14) <= 1);
+    check(rt, put_all(rt, &mut all, Way::Unique, 14) <= 1);
 }
 
 // Whatever was refused, no block is held once the map is dropped.

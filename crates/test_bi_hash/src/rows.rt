@@ -1,5 +1,5 @@
 //! Worked examples on few hosts, some slots vacant.
-use crate::held::{Call, Hosts, Step, check, host, host_of};
+use crate::held::{Hosts, Way, check, host, host_of};
 use crate::hosts::Host;
 use iddqd_bi_hash::ValidateCompact;
 use std::alloc::Global;
@@ -47,11 +47,11 @@ fn met_by_one_key_or_both(rt: HostRuntime) {
     ] {
         check(
             &rt,
-            all.meets(Call::Unique, host_of(number, address, 9), met),
+            all.meets(Way::Unique, host_of(number, address, 9), met),
         );
     }
     check(&rt, all.map.len() == 3);
-    check(&rt, all.meets(Call::Unique, host_of(9, 9, 9), (None, None)));
+    check(&rt, all.meets(Way::Unique, host_of(9, 9, 9), (None, None)));
     check(&rt, all.map.len() == 4);
 }
 
@@ -61,11 +61,11 @@ fn one_or_two_overwritten(rt: HostRuntime) {
     let (one, other) = (host_of(4, 101, 9), host_of(4, 101, 10));
     check(
         &rt,
-        all.meets(Call::Overwrite, one, (Some(host(4)), Some(host(1)))),
+        all.meets(Way::Overwrite, one, (Some(host(4)), Some(host(1)))),
     );
     check(&rt, all.map.len() == 2);
-    check(&rt, all.meets(Call::Overwrite, other, (Some(one), None)));
-    check(&rt, all.meets(Call::Overwrite, host(7), (None, None)));
+    check(&rt, all.meets(Way::Overwrite, other, (Some(one), None)));
+    check(&rt, all.meets(Way::Overwrite, host(7), (None, None)));
     check(&rt, all.map.len() == 3);
     check(&rt, all.remove_unique(&4, &107).is_none());
     check(&rt, all.remove_unique(&4, &101) == Some(other));
@@ -74,7 +74,7 @@ fn one_or_two_overwritten(rt: HostRuntime) {
 // The second host is one too many.
 fn full_of_one(rt: &impl Abort, mut few: Hosts) {
     check(rt, few.is_put(host_of(1, 1, 1)));
-    match few.insert(Call::Unique, host_of(2, 2, 2)) {
+    match few.insert(Way::Unique, host_of(2, 2, 2)) {
         Err(refused) => {
             check(rt, refused.error.is_capacity_overflow());
             check(rt, refused.item == host_of(2, 2, 2));
@@ -82,7 +82,7 @@ fn full_of_one(rt: &impl Abort, mut few: Hosts) {
         Ok(_) => check(rt, false),
     }
     let replaced = (Some(host_of(1, 1, 1)), None);
-    check(rt, few.meets(Call::Overwrite, host_of(1, 2, 3), replaced));
+    check(rt, few.meets(Way::Overwrite, host_of(1, 2, 3), replaced));
 }
 
 #[test]
@@ -99,13 +99,9 @@ fn room_and_limit(rt: HostRuntime) {
 #[test]
 fn guards_and_visits(rt: HostRuntime) {
     let mut all = hosts(&rt, rt.alloc());
-    let steps = [
-        Step::Set1(4, 40),
-        Step::Set2(105, 50),
-        Step::SetBoth(1, 101, 10),
-    ];
-    all.do_each(&rt, &steps);
-    all.do_none(&rt, &[Step::SetBoth(1, 105, 10)]);
+    check(&rt, all.set_by_number(4, 40) && all.set_by_address(105, 50));
+    check(&rt, all.set_by_both(1, 101, 10));
+    check(&rt, !all.set_by_both(1, 105, 10));
     check(&rt, load(all.get2(&104)) == 40);
     check(&rt, load(all.get1(&5)) == 50);
     check(&rt, load(all.get1(&1)) == 10);

@@ -1,5 +1,5 @@
 //! Copies, shrinks and calls on many hosts with requests for memory refused: which hosts are in then.
-use crate::held::{Call, Hosts, check, host, hosts_between};
+use crate::held::{Hosts, Way, check, host, hosts_between};
 use crate::refused::{is_unmade, made_twice, tell, tell_refused};
 use std::alloc::Global;
 use std::io::Print;
@@ -19,11 +19,11 @@ fn clone(rt: HostRuntime) {
 
 // The word for what the insertion of the hosts 5 to 24 into a map of the hosts below five comes to. If a host is refused,
 // it is returned, and those before it are in.
-fn extend_by_twenty(rt: &(impl Abort + Print), alloc: Global, call: Call, hint: usize) {
+fn extend_by_twenty(rt: &(impl Abort + Print), alloc: Global, way: Way, hint: usize) {
     let hosts = hosts_between(rt, alloc, 5, 25);
     let mut all = Hosts::below(rt, alloc, 5);
     arm(alloc);
-    let stopped = all.stopped(call, hosts.as_slice(), hint);
+    let stopped = all.stopped(way, hosts.as_slice(), hint);
     let is_met = is_met(alloc);
     check(rt, stopped.is_some() == is_met && !has_leaked(alloc));
     let word = match stopped {
@@ -46,27 +46,27 @@ fn extend_by_twenty(rt: &(impl Abort + Print), alloc: Global, call: Call, hint: 
 
 #[test]
 fn extend(rt: HostRuntime) {
-    extend_by_twenty(&rt, rt.alloc(), Call::Overwrite, 20);
+    extend_by_twenty(&rt, rt.alloc(), Way::Overwrite, 20);
 }
 
 #[test]
 fn extend_unannounced(rt: HostRuntime) {
-    extend_by_twenty(&rt, rt.alloc(), Call::Overwrite, 0);
+    extend_by_twenty(&rt, rt.alloc(), Way::Overwrite, 0);
 }
 
 #[test]
 fn extend_unique(rt: HostRuntime) {
-    extend_by_twenty(&rt, rt.alloc(), Call::Unique, 20);
+    extend_by_twenty(&rt, rt.alloc(), Way::Unique, 20);
 }
 
 #[test]
 fn extend_unique_unannounced(rt: HostRuntime) {
-    extend_by_twenty(&rt, rt.alloc(), Call::Unique, 0);
+    extend_by_twenty(&rt, rt.alloc(), Way::Unique, 0);
 }
 
 #[test]
 fn from_iter(rt: HostRuntime) {
-    let refused = made_twice(&rt, rt.alloc(), Call::Overwrite, 20);
+    let refused = made_twice(&rt, rt.alloc(), Way::Overwrite, 20);
     tell_refused(&rt, is_met(rt.alloc()), refused);
 }
 

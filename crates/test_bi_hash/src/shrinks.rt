@@ -1,5 +1,5 @@
 //! What a shrink leaves.
-use crate::held::{Hosts, Step, check, host, left};
+use crate::held::{Hosts, check, host, left};
 use std::alloc::Global;
 use std::process::Abort;
 
@@ -52,11 +52,11 @@ fn changed_after_it(rt: HostRuntime) {
     let mut all = Hosts::with_gaps(&rt, rt.alloc());
     check(&rt, all.shrink_to_fit().is_ok());
     let [first, second, third, last] = left();
-    all.do_none(&rt, &[Step::Insert(last)]);
+    check(&rt, !all.is_put(last));
     check(&rt, all.remove1(&last.number) == Some(last));
     check(&rt, all.remove2(&third.address) == Some(third));
     check(&rt, all.holds(&[first, second]));
-    all.do_each(&rt, &[Step::Insert(last), Step::Insert(third)]);
+    check(&rt, all.is_put(last) && all.is_put(third));
     check(&rt, all.holds(&left()));
 }
 

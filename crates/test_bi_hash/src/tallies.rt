@@ -1,5 +1,5 @@
 //! Items whose two keys count how often they are compared and hashed.
-use crate::held::{Held, check};
+use crate::held::{Call, Held, check};
 use iddqd_bi_hash::BiHashItem;
 use std::alloc::{AllocError, Global};
 use std::cell::Cell;
@@ -30,22 +30,6 @@ impl<'a> BiHashItem for Counted<'a> {
     fn key2(&self) -> &HashedKey<'a> {
         &self.other
     }
-}
-
-/// A call, with the numbers of the keys that it is asked for or that its item has.
-#[derive(Clone, Copy)]
-pub(crate) enum Call {
-    Get1(u32),
-    Get2(u32),
-    GetBoth(u32, u32),
-    Contains1(u32),
-    Contains2(u32),
-    ContainsBoth(u32, u32),
-    Remove1(u32),
-    Remove2(u32),
-    RemoveBoth(u32, u32),
-    Insert(u32, u32),
-    Overwrite(u32, u32),
 }
 
 /// How often first keys were compared and hashed, and second keys.
@@ -109,42 +93,17 @@ impl Tallies {
         all
     }
 
-    // Whether the call finds, removes or inserts an item.
-    fn call<'a, S: BuildHasher>(&'a self, all: &mut Held<Counted<'a>, S>, call: Call) -> bool {
-        let (first, second) = (&self.first, &self.second);
-        match call {
-            Call::Get1(one) => all.get1(&first.key(one)).is_some(),
-            Call::Get2(other) => all.get2(&second.key(other)).is_some(),
-            Call::GetBoth(one, other) => {
-                all.get_unique(&first.key(one), &second.key(other))
-                    .is_some()
-            }
-            Call::Contains1(one) => all.contains_key1(&first.key(one)),
-            Call::Contains2(other) => all.contains_key2(&second.key(other)),
-            Call::ContainsBoth(one, other) => {
-                all.contains_key_unique(&first.key(one), &second.key(other))
-            }
-            Call::Remove1(one) => all.remove1(&first.key(one)).is_some(),
-            Call::Remove2(other) => all.remove2(&second.key(other)).is_some(),
-            Call::RemoveBoth(one, other) => {
-                all.remove_unique(&first.key(one), &second.key(other))
-                    .is_some()
-            }
-            Call::Insert(one, other) => all.is_put(self.item(one, other)),
-            Call::Overwrite(one, other) => all.insert_overwrite(self.item(one, other)).is_ok(),
-        }
-    }
-
-    /// Makes each call, and looks whether it did so and counted so.
+    /// Makes each call by keys of these numbers, and looks whether it finds an item and keys counted so.
     pub(crate) fn tell_each<'a, S: BuildHasher>(
         &'a self,
         rt: &impl Abort,
         all: &mut Held<Counted<'a>, S>,
-        calls: &[(Call, bool, Counts)],
+        calls: &[(Call, (u32, u32), bool, Counts)],
     ) {
         for row in calls {
-            let (call, is_done, counts) = *row;
-            self.tell(rt, self.call(all, call) == is_done, counts);
+            let (call, keys, is_found, counts) = *row;
+            let (one, other) = (self.first.key(keys.0), self.second.key(keys.1));
+            self.tell(rt, all.finds(call, &one, &other) == is_found, counts);
         }
     }
 

@@ -1,5 +1,5 @@
 //! Walks over keys, walks that write, visits, and checks of the structure, some slots vacant.
-use crate::held::{Hosts, Step, check, host_of as host, left};
+use crate::held::{Call, Hosts, check, host_of as host, left};
 use crate::hosts::Host;
 use iddqd_bi_hash::{ValidateCompact, Visit};
 use std::cell::Cell;
@@ -113,15 +113,15 @@ fn each_host_is_visited_once(rt: HostRuntime) {
     let (zero, two) = (host(0, 100, 7), host(2, 102, 7));
     check(&rt, all.holds(&[zero, two]));
     let gone = [
-        Step::Contains1(3),
-        Step::Contains2(103),
-        Step::Contains1(5),
-        Step::Contains2(105),
+        (Call::Contains1, 3, 103),
+        (Call::Contains2, 3, 103),
+        (Call::Contains1, 5, 105),
+        (Call::Contains2, 5, 105),
     ];
-    all.do_none(&rt, &gone);
+    all.find_each(&rt, &gone, false);
     check(&rt, all.map.vacant() == 4);
     let (nine, five) = (host(9, 103, 9), host(5, 109, 5));
-    all.do_each(&rt, &[Step::Insert(nine), Step::Insert(five)]);
+    check(&rt, all.is_put(nine) && all.is_put(five));
     check(&rt, all.holds(&[zero, two, nine, five]));
 }
 
