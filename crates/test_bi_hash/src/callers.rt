@@ -4,7 +4,6 @@ ghost use Rattle.test_bi_hash.specs.Hosts.{of_address, of_number};
 
 use crate::hosts::Host;
 use iddqd_bi_hash::{BiHashMap, InsertError, Keyed};
-use std::alloc::Global;
 use std::collections::hash_map::RandomState;
 
 /// After an insertion both keys find the item.
@@ -35,19 +34,6 @@ fn in_the_way(hosts: &mut BiHashMap<Host>, host: Host) -> usize
     }
 }
 
-/// A host is found by its address, and goes by its number.
-fn load_of_removed(alloc: Global, host: Host, number: u32, address: u64) -> Option<u32> {
-    let mut hosts = BiHashMap::new(alloc);
-    match hosts.insert_unique(host) {
-        Ok(()) => {
-            let known = hosts.get2(&address).is_some();
-            let gone = hosts.remove1(&number)?;
-            if known { Some(gone.load) } else { None }
-        }
-        Err(_error) => None,
-    }
-}
-
 /// What is removed by its address is found no more by that.
 #[tactic(auto, using(iddqd_bi_hash::proofs::ChangeLemmas::after_changes))]
 fn remove(hosts: &mut BiHashMap<Host>, address: u64) -> Option<Host>
@@ -60,18 +46,6 @@ fn remove(hosts: &mut BiHashMap<Host>, address: u64) -> Option<Host>
 }
 
 /// A write through a guard that leaves both keys leaves the map keyed.
-#[tactic(auto, using(iddqd_bi_hash::proofs::GuardLemmas::both_keys_kept))]
-fn set_load(hosts: &mut BiHashMap<Host>, number: u32, load: u32)
-    requires keyed { ⟦<BiHashMap<Host> as Keyed>⟧.keyed hosts.old }
-    ensures keyed { ⟦<BiHashMap<Host> as Keyed>⟧.keyed hosts.new }
-{
-    if let Some(mut host) = hosts.get1_mut(&number) {
-        host.load = load;
-        host.finish();
-    }
-}
-
-/// The same by both keys, and a lookup after it.
 #[tactic(auto, using(iddqd_bi_hash::proofs::GuardLemmas::both_keys_kept))]
 fn set_load_of_both(hosts: &mut BiHashMap<Host>, number: u32, address: u64, load: u32) -> bool
     requires keyed { ⟦<BiHashMap<Host> as Keyed>⟧.keyed hosts.old }

@@ -11,12 +11,17 @@ fn part_ways(rt: &impl Abort, mut all: Hosts, mut copy: Hosts) {
     check(rt, copy.holds(&left()) && copy.map.vacant() == 2);
     check(rt, are_equal(rt, &all, &copy));
     check(rt, copy.remove1(&2) == Some(host(2)));
-    copy.set_by_number(5, 50);
+    check(rt, copy.set_by_number(5, 50));
     check(rt, all.holds(&left()));
     check(rt, all.remove2(&100) == Some(host(0)));
     check(rt, all.is_put(host(7)));
     check(rt, copy.holds(&[host(0), host(3), host_of(5, 105, 50)]));
     check(rt, !all.eq(&copy));
+    drop_copy(rt, &all, copy);
+}
+
+// The hosts of the map stay as the copy is cleared, and dropped.
+fn drop_copy(rt: &impl Abort, all: &Hosts, mut copy: Hosts) {
     let changed = [host(2), host(3), host(5), host(7)];
     check(rt, all.holds(&changed));
     copy.clear();
@@ -66,15 +71,6 @@ fn a_copy_has_the_hasher(rt: HostRuntime) {
     finds_twenty(&rt, &all);
 }
 
-// A map of these hosts.
-fn of(rt: &impl Abort, alloc: Global, hosts: &[Host]) -> Hosts {
-    let mut all = Hosts::new(alloc);
-    for each in hosts {
-        check(rt, all.is_put(*each));
-    }
-    all
-}
-
 // Whether the maps are equal, which each of them says.
 fn are_equal(rt: &impl Abort, one: &Hosts, other: &Hosts) -> bool {
     let is_equal = one.eq(other);
@@ -85,7 +81,7 @@ fn are_equal(rt: &impl Abort, one: &Hosts, other: &Hosts) -> bool {
 #[test]
 fn equal_in_another_order(rt: HostRuntime) {
     let one = Hosts::with_gaps(&rt, rt.alloc());
-    let other = of(&rt, rt.alloc(), &[host(5), host(0), host(3), host(2)]);
+    let other = Hosts::of(&rt, rt.alloc(), &[host(5), host(0), host(3), host(2)]);
     check(&rt, are_equal(&rt, &one, &other));
     check(&rt, are_equal(&rt, &one, &one));
     let (none, void) = (Hosts::new(rt.alloc()), Hosts::new(rt.alloc()));
@@ -94,8 +90,8 @@ fn equal_in_another_order(rt: HostRuntime) {
 
 // A map of the hosts 1 and 2, and one of these, are unequal.
 fn differs(rt: &impl Abort, alloc: Global, hosts: &[Host]) {
-    let one = of(rt, alloc, &[host(1), host(2)]);
-    check(rt, !are_equal(rt, &one, &of(rt, alloc, hosts)));
+    let one = Hosts::of(rt, alloc, &[host(1), host(2)]);
+    check(rt, !are_equal(rt, &one, &Hosts::of(rt, alloc, hosts)));
 }
 
 #[test]

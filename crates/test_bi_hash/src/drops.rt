@@ -4,7 +4,6 @@ use iddqd_bi_hash::{BiHashItem, BiHashMap, Visit};
 use std::alloc::{AllocError, Global};
 use std::cell::Cell;
 use std::process::Abort;
-use std::test::Fail;
 
 // Two keys, and the cell that counts each drop of such an item.
 struct Ticket<'a> {
@@ -83,12 +82,16 @@ fn below<'a>(rt: &impl Abort, alloc: Global, end: u32, dropped: &'a Cell<u32>) -
 
 // Items of these keys.
 fn tickets<'a>(
+    rt: &impl Abort,
     alloc: Global,
     all_keys: [(u32, u32); 3],
     dropped: &'a Cell<u32>,
-) -> Result<Vec<Ticket<'a>>, AllocError> {
-    let [one, two, three] = all_keys.map(|keys| Ticket { keys, dropped });
-    Ok(Vec::from_array(alloc, [one, two, three])?)
+) -> Vec<Ticket<'a>> {
+    let mut tickets = Vec::new(alloc);
+    for keys in all_keys {
+        check(rt, tickets.push(Ticket { keys, dropped }).is_ok());
+    }
+    tickets
 }
 
 // The second and the third item have a key of the first.
@@ -117,34 +120,31 @@ fn retained_by_a_visitor(rt: HostRuntime) {
 
 // One item displaces two, one displaces one, and one displaces none.
 #[test]
-fn displaced_by_extend(rt: HostRuntime) -> Result<(), Fail> {
+fn displaced_by_extend(rt: HostRuntime) {
     let dropped = Cell::new(0);
     let mut all = below(&rt, rt.alloc(), 3, &dropped);
-    let items = tickets(rt.alloc(), [(0, 1), (5, 5), (2, 7)], &dropped)?;
+    let items = tickets(&rt, rt.alloc(), [(0, 1), (5, 5), (2, 7)], &dropped);
     check(&rt, all.extend(items).is_ok());
     drop_all(&rt, all, &dropped, (3, 3, 6));
-    Ok(())
 }
 
 // The first is displaced by the second, and the other two are dropped with the map.
 #[test]
-fn displaced_by_from_iter(rt: HostRuntime) -> Result<(), Fail> {
+fn displaced_by_from_iter(rt: HostRuntime) {
     let dropped = Cell::new(0);
-    let items = tickets(rt.alloc(), REPEATED, &dropped)?;
+    let items = tickets(&rt, rt.alloc(), REPEATED, &dropped);
     let map = BiHashMap::from_iter(rt.alloc(), items).expect(&rt, "memory");
     drop_all(&rt, Held::over(map), &dropped, (1, 2, 3));
-    Ok(())
 }
 
 // The repeat is dropped with the error, and the item behind it with the iterator.
 #[test]
-fn refused_by_extend_unique(rt: HostRuntime) -> Result<(), Fail> {
+fn refused_by_extend_unique(rt: HostRuntime) {
     let dropped = Cell::new(0);
     let mut all = below(&rt, rt.alloc(), 3, &dropped);
-    let items = tickets(rt.alloc(), REPEATED, &dropped)?;
+    let items = tickets(&rt, rt.alloc(), REPEATED, &dropped);
     check(&rt, !all.is_extended(items));
     drop_all(&rt, all, &dropped, (2, 4, 6));
-    Ok(())
 }
 
 // What is cleared of a clone is its own.

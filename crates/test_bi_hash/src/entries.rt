@@ -1,42 +1,31 @@
 //! Entries: what they find, and what they insert, replace and remove.
-use crate::held::{Held, Hosts, check, host, host_of};
+use crate::held::{Held, Hosts, Met, check, host, host_of, met, shown};
 use crate::hosts::Host;
 use iddqd_bi_hash::bi_hash_map::Entry;
-use iddqd_bi_hash::{BiHashMap, Few, Keyed};
-
-// One or two hosts, in their order.
-type Hits = (Option<Host>, Option<Host>);
-
-fn hits(few: &Few<Host>) -> Hits {
-    (few.get(0).copied(), few.get(1).copied())
-}
+use iddqd_bi_hash::{BiHashMap, Keyed};
 
 impl Held<Host> {
     // The hosts that the entry of the two keys has, and whether it is one that has both.
-    fn found(&mut self, number: u32, address: u64) -> Option<(Hits, bool)> {
+    fn found(&mut self, number: u32, address: u64) -> Option<(Met, bool)> {
         match self.map.entry(&number, &address) {
             Entry::Vacant(_) => None,
-            Entry::Occupied(entry) => {
-                let items = entry.items();
-                let hits = (items.get(0).map(|it| **it), items.get(1).map(|it| **it));
-                Some((hits, entry.is_unique()))
-            }
+            Entry::Occupied(entry) => Some((shown(&entry.items()), entry.is_unique())),
         }
     }
 
     // Removes the hosts of the entry.
-    fn taken(&mut self, number: u32, address: u64) -> Option<Hits> {
+    fn taken(&mut self, number: u32, address: u64) -> Option<Met> {
         match self.map.entry(&number, &address) {
             Entry::Vacant(_) => None,
-            Entry::Occupied(entry) => Some(hits(&entry.remove())),
+            Entry::Occupied(entry) => Some(met(&entry.remove())),
         }
     }
 
     // Replaces the hosts of the new one's entry by it.
-    fn replaced(&mut self, new: Host) -> Option<Hits> {
+    fn replaced(&mut self, new: Host) -> Option<Met> {
         match self.map.entry(&new.number, &new.address) {
             Entry::Vacant(_) => None,
-            Entry::Occupied(entry) => Some(hits(&entry.insert(new))),
+            Entry::Occupied(entry) => Some(met(&entry.insert(new))),
         }
     }
 
@@ -73,11 +62,9 @@ fn passed_through(map: &mut BiHashMap<Host>, new: Host) -> Option<Host>
     }
 }
 
-// With memory at hand a vacant entry inserts.
-#[test]
-fn a_vacant_entry_inserts(rt: HostRuntime) {
-    let mut map: BiHashMap<Host> = BiHashMap::new(rt.alloc());
-    let new = host(1);
+// Whether a vacant entry inserts the host.
+fn is_inserted(all: Hosts, new: Host) -> bool {
+    let mut map = all.map;
     let is_in = match map.entry(&new.number, &new.address) {
         Entry::Vacant(entry) => match entry.insert(new) {
             Ok(added) => {
@@ -88,7 +75,13 @@ fn a_vacant_entry_inserts(rt: HostRuntime) {
         },
         Entry::Occupied(_) => false,
     };
-    check(&rt, is_in && map.len() == 1);
+    is_in && map.len() == 1
+}
+
+// With memory at hand a vacant entry inserts.
+#[test]
+fn a_vacant_entry_inserts(rt: HostRuntime) {
+    check(&rt, is_inserted(Hosts::new(rt.alloc()), host(1)));
 }
 
 // The keys of one host, of two, of one alone, and of none.
@@ -96,11 +89,15 @@ fn a_vacant_entry_inserts(rt: HostRuntime) {
 fn entries_find_one_or_two(rt: HostRuntime) {
     let mut all = Hosts::below(&rt, rt.alloc(), 3);
     let (one, other) = (Some(host(1)), Some(host(2)));
-    check(&rt, all.found(1, 101) == Some(((one, None), true)));
-    check(&rt, all.found(1, 102) == Some(((one, other), false)));
-    check(&rt, all.found(2, 101) == Some(((other, one), false)));
-    check(&rt, all.found(9, 102) == Some(((other, None), false)));
-    check(&rt, all.found(9, 109).is_none());
+    for (number, address, found) in [
+        (1, 101, Some(((one, None), true))),
+        (1, 102, Some(((one, other), false))),
+        (2, 101, Some(((other, one), false))),
+        (9, 102, Some(((other, None), false))),
+        (9, 109, None),
+    ] {
+        check(&rt, all.found(number, address) == found);
+    }
     check(&rt, all.holds_below(3));
     check(&rt, all.taken(2, 101) == Some((other, one)));
     check(&rt, all.taken(2, 101).is_none());
@@ -132,9 +129,8 @@ fn an_inserted_entry_has_the_item(rt: HostRuntime) {
 fn a_unique_entry_is_written(rt: HostRuntime) {
     let mut all = Hosts::below(&rt, rt.alloc(), 3);
     check(&rt, all.is_loaded(1, 101, 7));
-    check(&rt, !all.is_loaded(1, 102, 8));
-    check(&rt, !all.is_loaded(9, 102, 8));
-    check(&rt, !all.is_loaded(9, 109, 8));
-    let written = Host { load: 7, ..host(1) };
-    check(&rt, all.holds(&[host(0), written, host(2)]));
+    for (number, address) in [(1, 102), (9, 102), (9, 109)] {
+        check(&rt, !all.is_loaded(number, address, 8));
+    }
+    check(&rt, all.holds(&[host(0), host_of(1, 101, 7), host(2)]));
 }

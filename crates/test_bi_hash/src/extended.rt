@@ -1,139 +1,124 @@
 //! Many hosts at once, none of which may have a key of another.
-use crate::held::{Hosts, check, host_of as host};
+use crate::bulk::hints_reserve;
+use crate::held::{Hosts, Met, Way, check, host, host_of, shown};
 use crate::hosts::Host;
 use crate::rows::hosts;
-use iddqd_bi_hash::{ExtendUniqueError, Few};
+use iddqd_bi_hash::ExtendUniqueError;
 use std::process::Abort;
 use test_support::bulk::Hinted;
 
-// The new host that is returned, and those that are shown in its way, in order.
-type Shown = (Option<Host>, Option<Host>, Option<Host>);
-
-// What ends the insertion of the hosts. A refusal by the limit shows the refused host alone.
-fn halted(all: &mut Hosts, coming: &[Host], hint: usize) -> Shown {
+// What ends the insertion of the hosts: the one that is returned, and those in its way. A refusal by the limit shows the
+// refused host alone.
+fn halted(all: &mut Hosts, coming: &[Host], hint: usize) -> (Option<Host>, Met) {
     match all.map.extend_unique(Hinted::new(coming, hint)) {
-        Ok(()) => (None, None, None),
         Err(ExtendUniqueError::Duplicate(both)) => {
-            let new = *both.new_item();
-            match both.duplicates() {
-                Few::One(a) => (Some(new), Some(**a), None),
-                Few::Two(a, b) | Few::Three(a, b, _) => (Some(new), Some(**a), Some(**b)),
-            }
+            (Some(*both.new_item()), shown(both.duplicates()))
         }
         Err(ExtendUniqueError::Refused(stopped)) if stopped.error.is_capacity_overflow() => {
-            (stopped.item, None, None)
+            (stopped.item, (None, None))
         }
-        Err(ExtendUniqueError::Refused(_)) => (None, None, None),
+        Ok(()) | Err(ExtendUniqueError::Refused(_)) => (None, (None, None)),
     }
 }
 
-// The first of these ends the insertion of the hosts: the others have its keys, or there is no room.
+// The host ends the insertion of these: the others have its keys, or there is no room. Then the map has those that are
+// left.
 fn stops(
     rt: &impl Abort,
     all: &mut Hosts,
     coming: &[Host],
-    shown: (Host, Option<Host>, Option<Host>),
+    new: Host,
+    in_its_way: Met,
+    left: &[Host],
 ) {
-    let (new, one, other) = shown;
-    check(rt, halted(all, coming, 0) == (Some(new), one, other));
-}
-
-// Those that are there before.
-fn there() -> [Host; 3] {
-    [host(1, 101, 1), host(4, 104, 4), host(5, 105, 5)]
-}
-
-// Those that come.
-fn new_ones() -> [Host; 3] {
-    [host(6, 106, 6), host(7, 107, 7), host(8, 108, 8)]
+    check(rt, halted(all, coming, 0) == (Some(new), in_its_way));
+    check(rt, all.holds(left));
 }
 
 #[test]
 fn all_are_new(rt: HostRuntime) {
     let mut all = hosts(&rt, rt.alloc());
-    let ([one, four, five], [six, seven, _]) = (there(), new_ones());
-    check(&rt, all.is_extended(Hinted::new(&[six, seven], 0)));
-    check(&rt, all.holds(&[one, four, five, six, seven]));
+    check(&rt, all.is_extended(Hinted::new(&[host(6), host(7)], 0)));
+    check(
+        &rt,
+        all.holds(&[host(1), host(4), host(5), host(6), host(7)]),
+    );
 }
 
 // The one before the repeat stays, and the one after it does not come in.
 #[test]
 fn stopped_by_one_there(rt: HostRuntime) {
     let mut all = hosts(&rt, rt.alloc());
-    let ([one, four, five], [six, seven, _]) = (there(), new_ones());
-    let new = host(4, 109, 9);
-    stops(&rt, &mut all, &[six, new, seven], (new, Some(four), None));
-    check(&rt, all.holds(&[one, four, five, six]));
-    let new = host(9, 105, 9);
-    stops(&rt, &mut all, &[new, seven], (new, Some(five), None));
-    check(&rt, all.holds(&[one, four, five, six]));
-    let new = host(1, 101, 9);
-    stops(&rt, &mut all, &[new], (new, Some(one), None));
-    check(&rt, all.holds(&[one, four, five, six]));
+    let left = [host(1), host(4), host(5), host(6)];
+    let new = host_of(4, 109, 9);
+    stops(
+        &rt,
+        &mut all,
+        &[host(6), new, host(7)],
+        new,
+        (Some(host(4)), None),
+        &left,
+    );
+    let new = host_of(9, 105, 9);
+    stops(
+        &rt,
+        &mut all,
+        &[new, host(7)],
+        new,
+        (Some(host(5)), None),
+        &left,
+    );
+    let new = host_of(1, 101, 9);
+    stops(&rt, &mut all, &[new], new, (Some(host(1)), None), &left);
 }
 
 #[test]
 fn stopped_by_one_that_came_before(rt: HostRuntime) {
     let mut all = hosts(&rt, rt.alloc());
-    let ([one, four, five], [six, seven, eight]) = (there(), new_ones());
-    let new = host(9, 106, 9);
-    let shown = halted(&mut all, &[six, seven, new, eight], 4);
-    check(&rt, shown == (Some(new), Some(six), None));
-    check(&rt, all.holds(&[one, four, five, six, seven]));
+    let new = host_of(9, 106, 9);
+    let halt = halted(&mut all, &[host(6), host(7), new, host(8)], 4);
+    check(&rt, halt == (Some(new), (Some(host(6)), None)));
+    check(
+        &rt,
+        all.holds(&[host(1), host(4), host(5), host(6), host(7)]),
+    );
 }
 
 // That of the first key comes first, whichever slot it is in.
 #[test]
 fn stopped_by_two(rt: HostRuntime) {
     let mut all = hosts(&rt, rt.alloc());
-    let ([one, four, five], [six, _, _]) = (there(), new_ones());
-    let new = host(4, 105, 9);
-    stops(&rt, &mut all, &[new], (new, Some(four), Some(five)));
-    let new = host(5, 104, 9);
-    stops(&rt, &mut all, &[new], (new, Some(five), Some(four)));
-    check(&rt, all.holds(&there()));
-    let new = host(6, 101, 9);
-    stops(&rt, &mut all, &[six, new], (new, Some(six), Some(one)));
-    check(&rt, all.holds(&[one, four, five, six]));
+    let (one, four, five, six) = (Some(host(1)), Some(host(4)), Some(host(5)), Some(host(6)));
+    let left = [host(1), host(4), host(5), host(6)];
+    let new = host_of(4, 105, 9);
+    stops(&rt, &mut all, &[new], new, (four, five), &left[..3]);
+    let new = host_of(5, 104, 9);
+    stops(&rt, &mut all, &[new], new, (five, four), &left[..3]);
+    let new = host_of(6, 101, 9);
+    stops(&rt, &mut all, &[host(6), new], new, (six, one), &left);
 }
 
 // A repeat is told before a full map. The first host without room is returned, and those before it stay.
 #[test]
 fn stopped_by_the_limit(rt: HostRuntime) {
     let mut all = Hosts::with_limit(rt.alloc(), 2);
-    let (one, two) = (host(1, 101, 1), host(2, 102, 2));
-    let (new, last) = (host(3, 103, 3), host(4, 104, 4));
-    stops(&rt, &mut all, &[one, two, new, last], (new, None, None));
-    check(&rt, all.holds(&[one, two]));
-    let new = host(9, 102, 9);
-    stops(&rt, &mut all, &[new], (new, Some(two), None));
-    check(&rt, all.holds(&[one, two]));
+    let left = [host(1), host(2)];
+    let coming = [host(1), host(2), host(3), host(4)];
+    stops(&rt, &mut all, &coming, host(3), (None, None), &left);
+    let new = host_of(9, 102, 9);
+    stops(&rt, &mut all, &[new], new, (Some(host(2)), None), &left);
 }
 
-// An empty map reserves for all that is announced, and a map with hosts for half of that, rounded up.
 #[test]
 fn hints_are_reserved(rt: HostRuntime) {
-    let mut all = Hosts::new(rt.alloc());
-    check(&rt, all.reserve(4).is_ok());
-    check(&rt, all.is_extended(Hinted::new(&[], 100)));
-    check(&rt, all.map.spare() >= 100);
-    check(&rt, all.is_put(host(1, 101, 1)));
-    check(&rt, all.is_extended(Hinted::new(&[], 2001)));
-    check(&rt, all.map.spare() >= 1001);
-    check(&rt, all.holds(&[host(1, 101, 1)]));
+    hints_reserve(&rt, Hosts::new(rt.alloc()), Way::Unique);
 }
 
 // A hint past the limit is refused before a host is asked for.
 #[test]
 fn a_hint_past_the_limit_is_refused(rt: HostRuntime) {
     let mut all = hosts(&rt, rt.alloc());
-    let coming = [host(6, 106, 6)];
-    match all.map.extend_unique(Hinted::new(&coming, usize::MAX)) {
-        Err(ExtendUniqueError::Refused(stopped)) => {
-            check(&rt, stopped.item.is_none());
-            check(&rt, stopped.error.is_capacity_overflow());
-        }
-        Ok(()) | Err(ExtendUniqueError::Duplicate(_)) => check(&rt, false),
-    }
-    check(&rt, all.holds(&there()));
+    let stopped = all.stopped(Way::Unique, &[host(6)], usize::MAX);
+    check(&rt, stopped == Some((None, true)));
+    check(&rt, all.holds(&[host(1), host(4), host(5)]));
 }

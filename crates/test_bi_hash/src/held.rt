@@ -7,12 +7,12 @@ ghost use Rattle.iddqd_bi_hash.specs.BiHashItems.{BiHashItems, IsKeyedByBoth};
 
 use crate::hosts::Host;
 use iddqd_bi_hash::{
-    BiHashItem, BiHashMap, DefaultHashBuilder, ExtendError, Few, FromIterError, Keyed, Refused,
-    TryReserveError, ValidateCompact,
+    BiHashItem, BiHashMap, DefaultHashBuilder, ExtendError, ExtendUniqueError, Few, FromIterError,
+    InsertError, Keyed, Refused, TryReserveError, ValidateCompact,
 };
-use std::alloc::{AllocError, Global};
+use std::alloc::Global;
 use std::hash::BuildHasher;
-use std::marker::Model;
+use std::marker::{Model, PhantomData};
 use std::process::Abort;
 use test_support::bulk::Hinted;
 
@@ -36,18 +36,57 @@ pub(crate) fn host(number: u32) -> Host {
 }
 
 /// The hosts of the numbers from the first to before the end.
-pub(crate) fn hosts_between(alloc: Global, first: u32, end: u32) -> Result<Vec<Host>, AllocError> {
+pub(crate) fn hosts_between(rt: &impl Abort, alloc: Global, first: u32, end: u32) -> Vec<Host> {
     let mut hosts = Vec::new(alloc);
     for number in first..end {
-        hosts.push(host(number))?;
+        check(rt, hosts.push(host(number)).is_ok());
     }
-    Ok(hosts)
+    hosts
 }
 
-/// A map that is keyed.
+/// Whether a call inserts new items alone, or in place of those that have their keys.
+#[derive(Clone, Copy)]
+pub(crate) enum Way {
+    Unique,
+    Overwrite,
+}
+
+/// A call by either key or by both.
+#[derive(Clone, Copy)]
+pub(crate) enum Call {
+    Get1,
+    Get2,
+    GetBoth,
+    Contains1,
+    Contains2,
+    ContainsBoth,
+    Remove1,
+    Remove2,
+    RemoveBoth,
+}
+
+/// The one or two hosts that have a key of another, in the order in which they are shown.
+pub(crate) type Met = (Option<Host>, Option<Host>);
+
+/// These hosts.
+pub(crate) fn met(few: &Few<Host>) -> Met {
+    (few.get(0).copied(), few.get(1).copied())
+}
+
+/// The hosts that are shown.
+pub(crate) fn shown(few: &Few<&Host>) -> Met {
+    match few {
+        Few::One(one) => (Some(**one), None),
+        Few::Two(one, other) | Few::Three(one, other, _) => (Some(**one), Some(**other)),
+    }
+}
+
+/// A map that is keyed. It names the keys' types for the borrow checker, which else does not cover keys that hold
+/// references.
 #[derive(Drop)]
 pub(crate) struct Held<T: BiHashItem, S: BuildHasher = DefaultHashBuilder> {
     pub(crate) map: BiHashMap<T, S>,
+    keys: PhantomData<(T::K1, T::K2)>,
 }
 
 impl<T: BiHashItem, S: BuildHasher> Model for Held<T, S> {
@@ -73,7 +112,10 @@ impl<T: BiHashItem + Drop, S: BuildHasher> Held<T, S> {
     pub(crate) fn over(map: BiHashMap<T, S>) -> Held<T, S>
         requires keyed { ⟦<BiHashMap<T, S> as Keyed>⟧.keyed map }
     {
-        Held { map }
+        Held {
+            map,
+            keys: PhantomData,
+        }
     }
 
     /// Whether `insert_unique` inserts the item.
@@ -137,6 +179,21 @@ impl<T: BiHashItem + Drop, S: BuildHasher> Held<T, S> {
         self.map.remove_unique(one, other)
     }
 
+    /// Whether the call finds an item by the keys.
+    pub(crate) fn finds(&mut self, call: Call, one: &T::K1, other: &T::K2) -> bool {
+        match call {
+            Call::Get1 => self.get1(one).is_some(),
+            Call::Get2 => self.get2(other).is_some(),
+            Call::GetBoth => self.get_unique(one, other).is_some(),
+            Call::Contains1 => self.contains_key1(one),
+            Call::Contains2 => self.contains_key2(other),
+            Call::ContainsBoth => self.contains_key_unique(one, other),
+            Call::Remove1 => self.remove1(one).is_some(),
+            Call::Remove2 => self.remove2(other).is_some(),
+            Call::RemoveBoth => self.remove_unique(one, other).is_some(),
+        }
+    }
+
     pub(crate) fn retain<F: FnMut(&T) -> bool>(&mut self, keep: F)
         requires { F.IsAlwaysCallable keep }
     {
@@ -166,6 +223,16 @@ impl<T: BiHashItem + Drop, S: BuildHasher> Held<T, S> {
         self.map.eq(&other.map)
     }
 
+    /// How many keys of each kind the walks over keys show.
+    pub(crate) fn key_counts(&self) -> (usize, usize) {
+        (self.map.keys1().count(), self.map.keys2().count())
+    }
+
+    /// Whether `validate_structural` finds no error.
+    pub(crate) fn is_sound(&self, compact: ValidateCompact) -> bool {
+        self.map.validate_structural(compact).is_ok()
+    }
+
     /// Whether `validate` finds no error, where no slot may be vacant.
     pub(crate) fn is_compact(&self) -> bool {
         self.map.validate(ValidateCompact::Compact).is_ok()
@@ -181,7 +248,7 @@ impl<S: BuildHasher> Held<Host, S> {
     }
 
     // Whether each key of the host finds it.
-    fn finds(&self, wanted: Host) -> bool {
+    fn has_host(&self, wanted: Host) -> bool {
         self.get1(&wanted.number).copied() == Some(wanted)
             && self.get2(&wanted.address).copied() == Some(wanted)
     }
@@ -194,7 +261,7 @@ impl<S: BuildHasher> Held<Host, S> {
     /// Whether each host of a number below this one is found by both keys, and the map has no other.
     pub(crate) fn holds_below(&self, count: u32) -> bool {
         for number in 0..count {
-            if !self.finds(host(number)) {
+            if !self.has_host(host(number)) {
                 return false;
             }
         }
@@ -204,7 +271,7 @@ impl<S: BuildHasher> Held<Host, S> {
     /// Whether each of the hosts is found by both keys, and the map has no other.
     pub(crate) fn holds(&self, hosts: &[Host]) -> bool {
         for wanted in hosts {
-            if !self.finds(*wanted) {
+            if !self.has_host(*wanted) {
                 return false;
             }
         }
@@ -265,30 +332,96 @@ impl Held<Host> {
         Held::over(BiHashMap::with_limit(alloc, limit, Default::default()))
     }
 
-    /// `from_iter` of hosts of which this many are announced.
-    pub(crate) fn from_iter(
-        alloc: Global,
-        hosts: &[Host],
-        hint: usize,
-    ) -> Result<Hosts, TryReserveError> {
-        Ok(Held::over(BiHashMap::from_iter(alloc, Hinted::new(hosts, hint))?))
+    /// A map of these hosts, inserted in this order.
+    pub(crate) fn of(rt: &impl Abort, alloc: Global, hosts: &[Host]) -> Hosts {
+        let mut all = Hosts::new(alloc);
+        for each in hosts {
+            check(rt, all.is_put(*each));
+        }
+        all
     }
 
-    /// `from_iter_unique` of hosts with no repeat, of which this many are announced.
-    pub(crate) fn from_iter_unique(
+    /// `from_iter_unique` of hosts with no repeat, or `from_iter`. This many are announced.
+    pub(crate) fn collected(
         rt: &impl Abort,
         alloc: Global,
+        way: Way,
         hosts: &[Host],
         hint: usize,
     ) -> Result<Hosts, TryReserveError> {
-        match BiHashMap::from_iter_unique(alloc, Hinted::new(hosts, hint)) {
-            Ok(map) => Ok(Held::over(map)),
-            Err(FromIterError::Refused(error)) => Err(error),
-            Err(FromIterError::Duplicate(_)) => {
-                check(rt, false);
-                Ok(Held::new(alloc))
-            }
+        let coming = Hinted::new(hosts, hint);
+        match way {
+            Way::Overwrite => Ok(Held::over(BiHashMap::from_iter(alloc, coming)?)),
+            Way::Unique => match BiHashMap::from_iter_unique(alloc, coming) {
+                Ok(map) => Ok(Held::over(map)),
+                Err(FromIterError::Refused(error)) => Err(error),
+                Err(FromIterError::Duplicate(_)) => {
+                    check(rt, false);
+                    Ok(Held::new(alloc))
+                }
+            },
         }
+    }
+
+    /// `insert_unique` or `insert_overwrite`: the hosts that are in the way, or replaced.
+    pub(crate) fn insert(&mut self, way: Way, new: Host) -> Result<Met, Refused<Host>> {
+        match way {
+            Way::Unique => match self.map.insert_unique(new) {
+                Ok(()) => Ok((None, None)),
+                Err(InsertError::Duplicate(both)) => Ok(shown(both.duplicates())),
+                Err(InsertError::Refused(refused)) => Err(refused),
+            },
+            Way::Overwrite => match self.map.insert_overwrite(new) {
+                Ok(Some(replaced)) => Ok(met(&replaced)),
+                Ok(None) => Ok((None, None)),
+                Err(refused) => Err(refused),
+            },
+        }
+    }
+
+    /// Whether the insertion of the host meets these.
+    pub(crate) fn meets(&mut self, way: Way, new: Host, wanted: Met) -> bool {
+        match self.insert(way, new) {
+            Ok(met) => met == wanted,
+            Err(_refused) => false,
+        }
+    }
+
+    /// `extend_unique` or `extend` by hosts of which this many are announced. What stops it: the host that is refused, and
+    /// whether that is by the limit.
+    pub(crate) fn stopped(
+        &mut self,
+        way: Way,
+        hosts: &[Host],
+        hint: usize,
+    ) -> Option<(Option<Host>, bool)> {
+        let coming = Hinted::new(hosts, hint);
+        let stopped = match way {
+            Way::Overwrite => self.map.extend(coming).err()?,
+            Way::Unique => match self.map.extend_unique(coming) {
+                Ok(()) => return None,
+                Err(ExtendUniqueError::Refused(stopped)) => stopped,
+                Err(ExtendUniqueError::Duplicate(_)) => return Some((None, false)),
+            },
+        };
+        Some((stopped.item, stopped.error.is_capacity_overflow()))
+    }
+
+    /// Each of the calls, by a number and an address, finds a host or not.
+    pub(crate) fn find_each(
+        &mut self,
+        rt: &impl Abort,
+        calls: &[(Call, u32, u64)],
+        are_found: bool,
+    ) {
+        for call in calls {
+            check(rt, self.finds(call.0, &call.1, &call.2) == are_found);
+        }
+    }
+
+    /// Whether the map has room for so many hosts, and not for too many.
+    pub(crate) fn has_room(&self, least: usize, too_many: usize) -> bool {
+        self.map.capacity() >= least && self.map.capacity() < too_many
     }
 
     /// `clone`.
@@ -301,21 +434,29 @@ impl Held<Host> {
         raise_four(&mut self.map)
     }
 
-    /// Writes the load of the host of the number.
+    /// Writes the load of the host of the number, and returns whether there is one.
     #[tactic(auto, using(iddqd_bi_hash::proofs::GuardLemmas::both_keys_kept))]
-    pub(crate) fn set_by_number(&mut self, number: u32, load: u32) {
-        if let Some(mut host) = self.map.get1_mut(&number) {
-            host.load = load;
-            host.finish();
+    pub(crate) fn set_by_number(&mut self, number: u32, load: u32) -> bool {
+        match self.map.get1_mut(&number) {
+            Some(mut host) => {
+                host.load = load;
+                host.finish();
+                true
+            }
+            None => false,
         }
     }
 
-    /// Writes the load of the host of the address.
+    /// Writes the load of the host of the address, and returns whether there is one.
     #[tactic(auto, using(iddqd_bi_hash::proofs::GuardLemmas::both_keys_kept))]
-    pub(crate) fn set_by_address(&mut self, address: u64, load: u32) {
-        if let Some(mut host) = self.map.get2_mut(&address) {
-            host.load = load;
-            host.finish();
+    pub(crate) fn set_by_address(&mut self, address: u64, load: u32) -> bool {
+        match self.map.get2_mut(&address) {
+            Some(mut host) => {
+                host.load = load;
+                host.finish();
+                true
+            }
+            None => false,
         }
     }
 

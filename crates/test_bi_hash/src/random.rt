@@ -1,10 +1,8 @@
 //! Long random runs of calls, against a plain list.
-use crate::held::{Hosts, check, host_of};
+use crate::held::{Hosts, Met, Way, check, host_of};
 use crate::hosts::Host;
-use iddqd_bi_hash::{Few, InsertError};
 use std::alloc::Global;
 use std::process::Abort;
-use test_support::bulk::Hinted;
 
 // A generator by shifts (Marsaglia's of 64 bits).
 #[derive(Drop)]
@@ -55,10 +53,14 @@ impl Pair {
         hosts.find(|host| host.address == address).copied()
     }
 
-    // Puts the host into the list in place of those that have one of its keys.
-    fn put(&mut self, rt: &impl Abort, host: Host) {
-        self.drop_met(host);
-        check(rt, self.plain.push(host).is_ok());
+    // The list's hosts that have a key of this one, that of the number first.
+    fn met(&self, new: Host) -> Met {
+        let (one, other) = (self.by_number(new.number), self.by_address(new.address));
+        match one {
+            None => (other, None),
+            Some(_) if other == one => (one, None),
+            Some(_) => (one, other),
+        }
     }
 
     // Drops the list's hosts that have one of the keys.
@@ -66,51 +68,29 @@ impl Pair {
         self.plain.retain(|host| host.number != met.number && host.address != met.address);
     }
 
-    // How many hosts of the list have one of the keys.
-    fn count_met(&self, met: Host) -> usize {
-        let hosts = self.plain.iter();
-        hosts
-            .filter(|host| host.number == met.number || host.address == met.address)
-            .count()
+    // Puts the host into the list in place of those that have one of its keys.
+    fn put(&mut self, rt: &impl Abort, host: Host) {
+        self.drop_met(host);
+        check(rt, self.plain.push(host).is_ok());
     }
 
-    // Inserts the host into both if no host has one of its keys.
+    // Inserts the host into both if no host has one of its keys. Those that have one are shown in either order.
     fn insert(&mut self, rt: &impl Abort, host: Host) {
-        let met = self.count_met(host);
-        match self.hosts.map.insert_unique(host) {
-            Ok(()) => {
-                check(rt, met == 0);
-                check(rt, self.plain.push(host).is_ok());
-            }
-            Err(InsertError::Duplicate(both)) => check(rt, both.duplicates().len() == met),
-            Err(InsertError::Refused(_)) => check(rt, false),
+        let (one, other) = self.met(host);
+        match self.hosts.insert(Way::Unique, host) {
+            Ok(met) => check(rt, met == (one, other) || met == (other, one)),
+            Err(_) => check(rt, false),
         }
-    }
-
-    // Whether the hosts that came back are those of the list, that of the first key first.
-    fn came_back(&self, host: Host, back: Option<Few<Host>>) -> bool {
-        let one = self.by_number(host.number);
-        let other = self
-            .by_address(host.address)
-            .filter(|there| there.number != host.number);
-        match back {
-            None => one.is_none() && other.is_none(),
-            Some(Few::One(a)) if one.is_some() => one == Some(a) && other.is_none(),
-            Some(Few::One(a)) => other == Some(a),
-            Some(Few::Two(a, b)) => one == Some(a) && other == Some(b),
-            Some(Few::Three(_, _, _)) => false,
+        if one.is_none() {
+            check(rt, self.plain.push(host).is_ok());
         }
     }
 
     // Inserts the host into both in place of those that have one of its keys.
     fn overwrite(&mut self, rt: &impl Abort, host: Host) {
-        match self.hosts.insert_overwrite(host) {
-            Ok(back) => {
-                check(rt, self.came_back(host, back));
-                self.put(rt, host);
-            }
-            Err(_) => check(rt, false),
-        }
+        let met = self.met(host);
+        check(rt, self.hosts.meets(Way::Overwrite, host, met));
+        self.put(rt, host);
     }
 
     // Removes by either key.
@@ -142,7 +122,7 @@ impl Pair {
 
     // Inserts three hosts into both, one after the other, in place of those that have one of the keys.
     fn extend(&mut self, rt: &impl Abort, coming: [Host; 3]) {
-        check(rt, self.hosts.extend(Hinted::new(&coming, 3)).is_ok());
+        check(rt, self.hosts.stopped(Way::Overwrite, &coming, 3).is_none());
         for host in coming {
             self.put(rt, host);
         }
@@ -176,21 +156,22 @@ impl Pair {
     }
 }
 
+// So many calls, drawn from the first kinds.
+fn calls(rt: &impl Abort, alloc: Global, state: u64, count: u32, kinds: u32) {
+    let mut pair = Pair::new(rt, alloc);
+    let mut draws = Draws { state };
+    for _ in 0..count {
+        pair.call(rt, &mut draws, kinds);
+    }
+}
+
 #[test]
 fn many_calls(rt: HostRuntime) {
-    let mut pair = Pair::new(&rt, rt.alloc());
-    let mut draws = Draws { state: 77 };
-    for _ in 0..2000 {
-        pair.call(&rt, &mut draws, 3);
-    }
+    calls(&rt, rt.alloc(), 77, 2000, 3);
 }
 
 // The same with calls on many hosts among them.
 #[test]
 fn calls_on_many(rt: HostRuntime) {
-    let mut pair = Pair::new(&rt, rt.alloc());
-    let mut draws = Draws { state: 99 };
-    for _ in 0..1000 {
-        pair.call(&rt, &mut draws, 6);
-    }
+    calls(&rt, rt.alloc(), 99, 1000, 6);
 }

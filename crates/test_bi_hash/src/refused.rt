@@ -1,87 +1,60 @@
 //! Calls with requests for memory refused: which hosts are in then.
-use crate::filled::is_unmade;
-use crate::held::{Hosts, check, host, host_of, hosts_between};
+use crate::held::{Call, Hosts, Way, check, host, host_of, hosts_between};
 use crate::hosts::Host;
-use iddqd_bi_hash::{BiHashMap, DefaultHashBuilder, FromIterError, InsertError, Refused};
+use iddqd_bi_hash::{BiHashMap, DefaultHashBuilder, FromIterError, TryReserveError};
 use std::alloc::Global;
 use std::io::Print;
 use std::process::Abort;
-use std::test::Fail;
 use test_support::bulk::Hinted;
 use test_support::heap::{arm, has_leaked, is_met};
 
-// The call that inserts.
-#[derive(Clone, Copy)]
-enum Call {
-    Unique,
-    Overwrite,
-}
-
-// Inserts the host of this number, whose keys are new, and returns the refusal.
-fn refusal(rt: &impl Abort, all: &mut Hosts, call: Call, number: u32) -> Option<Refused<Host>> {
-    match call {
-        Call::Unique => match all.map.insert_unique(host(number)) {
-            Ok(()) => None,
-            Err(InsertError::Refused(refused)) => Some(refused),
-            Err(InsertError::Duplicate(_)) => {
-                check(rt, false);
-                None
-            }
-        },
-        Call::Overwrite => match all.insert_overwrite(host(number)) {
-            Ok(back) => {
-                check(rt, back.is_none());
-                None
-            }
-            Err(refused) => Some(refused),
-        },
-    }
-}
-
-// Whether the insertion is refused memory. Its item is returned then.
-fn is_refused(rt: &impl Abort, all: &mut Hosts, call: Call, number: u32) -> bool {
-    match refusal(rt, all, call, number) {
-        None => false,
-        Some(refused) => {
-            check(rt, refused.item.number == number);
+// Whether the insertion of the host of this number, whose keys are new, is refused memory. It is returned then.
+fn is_refused(rt: &impl Abort, all: &mut Hosts, way: Way, number: u32) -> bool {
+    match all.insert(way, host(number)) {
+        Ok(met) => {
+            check(rt, met == (None, None));
+            false
+        }
+        Err(refused) => {
+            check(rt, refused.item == host(number));
             check(rt, !refused.error.is_capacity_overflow());
             true
         }
     }
 }
 
-// Inserts as many hosts, each again if it is refused: how many are refused. A refusal leaves the others, and no room of
-// the refused one.
-fn put_all(rt: &impl Abort, all: &mut Hosts, call: Call, count: u32) -> u32 {
+/// Inserts as many hosts, each again if it is refused: how many are refused. A refusal leaves the others, and no room of
+/// the refused one.
+pub(crate) fn put_all(rt: &impl Abort, all: &mut Hosts, way: Way, count: u32) -> u32 {
     let mut refused = 0u32;
     for number in 0..count {
-        if is_refused(rt, all, call, number) {
+        if is_refused(rt, all, way, number) {
             refused = refused.saturating_add(1);
             check(rt, all.holds_below(number));
-            check(rt, !is_refused(rt, all, call, number));
+            check(rt, !is_refused(rt, all, way, number));
         }
     }
     refused
 }
 
-fn put_fourteen(rt: &impl Abort, alloc: Global, call: Call) -> &'static str {
+fn put_fourteen(rt: &(impl Abort + Print), alloc: Global, way: Way) {
     let mut all = Hosts::new(alloc);
     arm(alloc);
-    let refused = put_all(rt, &mut all, call, 14);
+    let refused = put_all(rt, &mut all, way, 14);
     let is_met = is_met(alloc);
     check(rt, refused == u32::from(is_met));
     check(rt, all.holds_below(14));
-    if is_met { "item_refused" } else { "all_in" }
+    tell(rt, if is_met { "item_refused" } else { "all_in" });
 }
 
 #[test]
-fn insert_unique(rt: HostRuntime) -> Result<(), Fail> {
-    tell(&rt, put_fourteen(&rt, rt.alloc(), Call::Unique))
+fn insert_unique(rt: HostRuntime) {
+    put_fourteen(&rt, rt.alloc(), Way::Unique);
 }
 
 #[test]
-fn insert_overwrite(rt: HostRuntime) -> Result<(), Fail> {
-    tell(&rt, put_fourteen(&rt, rt.alloc(), Call::Overwrite))
+fn insert_overwrite(rt: HostRuntime) {
+    put_fourteen(&rt, rt.alloc(), Way::Overwrite);
 }
 
 // After a reservation as many hosts are inserted without a request.
@@ -90,7 +63,7 @@ fn reservation_holds(rt: HostRuntime) {
     let mut all = Hosts::new(rt.alloc());
     check(&rt, all.reserve(14).is_ok());
     arm(rt.alloc());
-    let refused = put_all(&rt, &mut all, Call::Unique, 14);
+    let refused = put_all(&rt, &mut all, Way::Unique, 14);
     check(&rt, !is_met(rt.alloc()) && refused == 0);
 }
 
@@ -100,62 +73,83 @@ fn replaced_without_memory(rt: HostRuntime) {
     let mut all = Hosts::below(&rt, rt.alloc(), 4);
     arm(rt.alloc());
     check(&rt, !all.is_put(host(3)));
-    let back = all.insert_overwrite(host_of(1, 102, 9));
-    check(&rt, back.is_ok_and(|back| back.is_some()));
-    let gone = all.remove2(&102);
-    check(&rt, gone.is_some_and(|gone| gone.load == 9));
+    let both = (Some(host(1)), Some(host(2)));
+    check(&rt, all.meets(Way::Overwrite, host_of(1, 102, 9), both));
+    check(&rt, all.remove2(&102) == Some(host_of(1, 102, 9)));
     check(&rt, !is_met(rt.alloc()));
     check(&rt, all.map.len() == 2);
 }
 
 /// Prints the word for what a test saw.
-pub(crate) fn tell(rt: &impl Print, word: &str) -> Result<(), Fail> {
-    println!(rt; "{}", word)?;
-    Ok(())
+pub(crate) fn tell(rt: &(impl Abort + Print), word: &str) {
+    check(rt, println!(rt; "{}", word).is_ok());
 }
 
-/// The word of the call that was refused, if one was; exactly then a refusal was met.
-pub(crate) fn word(rt: &impl Abort, is_met: bool, one: bool, other: bool) -> &'static str {
-    check(rt, is_met == (one || other) && !(one && other));
-    if one {
-        "first_refused"
-    } else if other {
-        "second_refused"
-    } else {
-        "none_refused"
-    }
+/// Prints which of two calls was refused, if one was; exactly then a refusal was met.
+pub(crate) fn tell_refused(rt: &(impl Abort + Print), is_met: bool, refused: (bool, bool)) {
+    check(rt, is_met == (refused.0 || refused.1));
+    check(rt, !(refused.0 && refused.1));
+    tell(
+        rt,
+        match refused {
+            (true, _) => "first_refused",
+            (_, true) => "second_refused",
+            _ => "none_refused",
+        },
+    );
 }
 
 #[test]
-fn reservations(rt: HostRuntime) -> Result<(), Fail> {
+fn reservations(rt: HostRuntime) {
     let mut all = Hosts::below(&rt, rt.alloc(), 4);
     arm(rt.alloc());
     let one = all.reserve(100).is_err();
     let other = all.map.try_reserve(300).is_err();
     let is_met = is_met(rt.alloc());
     check(&rt, all.holds_below(4));
-    tell(&rt, word(&rt, is_met, one, other))
+    tell_refused(&rt, is_met, (one, other));
 }
 
 #[test]
-fn made_with_room(rt: HostRuntime) -> Result<(), Fail> {
+fn made_with_room(rt: HostRuntime) {
     let hasher = DefaultHashBuilder::new();
     arm(rt.alloc());
     let one = BiHashMap::<Host>::with_capacity(rt.alloc(), 100).is_err();
     let other = BiHashMap::<Host>::with_capacity_and_hasher(rt.alloc(), 100, hasher).is_err();
-    tell(&rt, word(&rt, is_met(rt.alloc()), one, other))
+    tell_refused(&rt, is_met(rt.alloc()), (one, other));
 }
 
-// Twenty hosts, of which none is announced, and then all are.
+/// Whether no map of the hosts below this number was made because memory was refused.
+pub(crate) fn is_unmade(rt: &impl Abort, made: Result<Hosts, TryReserveError>, count: u32) -> bool {
+    match made {
+        Ok(all) => {
+            check(rt, all.holds_below(count));
+            false
+        }
+        Err(error) => {
+            check(rt, !error.is_capacity_overflow());
+            true
+        }
+    }
+}
+
+/// Makes two maps of the hosts below this number, of which none is announced, and then all are: whether either was
+/// refused memory.
+pub(crate) fn made_twice(rt: &impl Abort, alloc: Global, way: Way, count: u32) -> (bool, bool) {
+    let hosts = hosts_between(rt, alloc, 0, count);
+    arm(alloc);
+    let one = Hosts::collected(rt, alloc, way, hosts.as_slice(), 0);
+    let one = is_unmade(rt, one, count);
+    let other = Hosts::collected(rt, alloc, way, hosts.as_slice(), hosts.len());
+    let other = is_unmade(rt, other, count);
+    check(rt, !has_leaked(alloc));
+    (one, other)
+}
+
 #[test]
-fn from_iter_unique(rt: HostRuntime) -> Result<(), Fail> {
-    let hosts = hosts_between(rt.alloc(), 0, 20)?;
-    arm(rt.alloc());
-    let made = Hosts::from_iter_unique(&rt, rt.alloc(), hosts.as_slice(), 0);
-    let one = is_unmade(&rt, made, 20);
-    let made = Hosts::from_iter_unique(&rt, rt.alloc(), hosts.as_slice(), 20);
-    let other = is_unmade(&rt, made, 20);
-    tell(&rt, word(&rt, is_met(rt.alloc()), one, other))
+fn from_iter_unique(rt: HostRuntime) {
+    let refused = made_twice(&rt, rt.alloc(), Way::Unique, 20);
+    tell_refused(&rt, is_met(rt.alloc()), refused);
 }
 
 // More than the limit are announced: none is asked for, and no memory.
@@ -179,7 +173,7 @@ fn full_map(rt: HostRuntime) {
     all.fill(&rt, 9);
     arm(rt.alloc());
     check(&rt, !all.is_put(host(9)));
-    match all.insert_overwrite(host(9)) {
+    match all.insert(Way::Overwrite, host(9)) {
         Err(refused) => check(&rt, refused.error.is_capacity_overflow()),
         Ok(_) => check(&rt, false),
     }
@@ -194,13 +188,16 @@ fn looked_up_without_memory(rt: HostRuntime) {
     let mut all = Hosts::below(&rt, rt.alloc(), 9);
     arm(rt.alloc());
     check(&rt, all.holds_below(9));
-    check(&rt, all.contains_key1(&1) && all.contains_key2(&101));
-    check(&rt, all.contains_key_unique(&1, &101));
-    all.set_by_number(1, 5);
-    all.set_by_address(102, 5);
+    check(&rt, all.set_by_number(1, 5) && all.set_by_address(102, 5));
     check(&rt, all.set_by_both(3, 103, 5));
-    check(&rt, all.remove1(&1).is_some());
-    check(&rt, all.remove_unique(&2, &102).is_some());
+    let calls = [
+        (Call::Contains1, 1, 101),
+        (Call::Contains2, 1, 101),
+        (Call::ContainsBoth, 1, 101),
+        (Call::Remove1, 1, 101),
+        (Call::RemoveBoth, 2, 102),
+    ];
+    all.find_each(&rt, &calls, true);
     all.retain(|there| there.load < 6);
     check(&rt, all.map.len() == 4);
     all.clear();
@@ -209,16 +206,16 @@ fn looked_up_without_memory(rt: HostRuntime) {
 }
 
 fn fill_and_drop(rt: &impl Abort, mut all: Hosts) {
-    check(rt, put_all(rt, &mut all, Call::Unique, 14) <= 1);
+    check(rt, put_all(rt, &mut all, Way::Unique, 14) <= 1);
 }
 
 // Whatever was refused, no block is held once the map is dropped.
 #[test]
-fn map_dropped(rt: HostRuntime) -> Result<(), Fail> {
+fn map_dropped(rt: HostRuntime) {
     let all = Hosts::new(rt.alloc());
     arm(rt.alloc());
     fill_and_drop(&rt, all);
     let is_met = is_met(rt.alloc());
     check(&rt, !has_leaked(rt.alloc()));
-    tell(&rt, if is_met { "none_held" } else { "all_in" })
+    tell(&rt, if is_met { "none_held" } else { "all_in" });
 }

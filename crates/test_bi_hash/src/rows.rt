@@ -1,33 +1,19 @@
 //! Worked examples on few hosts, some slots vacant.
-use crate::held::{Hosts, check, host_of as host};
+use crate::held::{Hosts, Way, check, host, host_of};
 use crate::hosts::Host;
-use iddqd_bi_hash::{Few, InsertError, ValidateCompact};
+use iddqd_bi_hash::ValidateCompact;
 use std::alloc::Global;
 use std::cell::Cell;
 use std::process::Abort;
 
 /// Hosts 1 to 3, of which 2 and 3 leave, so that slots are vacant; 4 and 5 come.
 pub(crate) fn hosts(rt: &impl Abort, alloc: Global) -> Hosts {
-    let mut all = Hosts::new(alloc);
-    check(rt, all.is_put(host(1, 101, 1)));
-    check(rt, all.is_put(host(2, 102, 2)));
-    check(rt, all.is_put(host(3, 103, 3)));
+    let mut all = Hosts::of(rt, alloc, &[host(1), host(2), host(3)]);
     check(rt, all.remove2(&102).is_some());
     check(rt, all.remove1(&3).is_some());
-    check(rt, all.is_put(host(4, 104, 4)));
-    check(rt, all.is_put(host(5, 105, 5)));
+    check(rt, all.is_put(host(4)));
+    check(rt, all.is_put(host(5)));
     all
-}
-
-// The loads of the hosts that are in the way, in the order in which they are shown; 0 for none.
-fn in_the_way(all: &mut Hosts, new: Host) -> (u32, u32) {
-    match all.map.insert_unique(new) {
-        Err(InsertError::Duplicate(both)) => match both.duplicates() {
-            Few::One(a) => (a.load, 0),
-            Few::Two(a, b) | Few::Three(a, b, _) => (a.load, b.load),
-        },
-        _ => (0, 0),
-    }
 }
 
 // The load of the host that is found, or 0.
@@ -41,8 +27,7 @@ fn lookups(rt: HostRuntime) {
     check(&rt, all.map.len() == 3);
     check(&rt, load(all.get1(&4)) == 4);
     check(&rt, load(all.get2(&104)) == 4);
-    check(&rt, !all.contains_key1(&2));
-    check(&rt, !all.contains_key2(&103));
+    check(&rt, !all.contains_key1(&2) && !all.contains_key2(&103));
     check(&rt, all.get_unique(&4, &104).is_some());
     check(&rt, all.get_unique(&4, &105).is_none());
     check(&rt, all.contains_key_unique(&5, &105));
@@ -52,53 +37,52 @@ fn lookups(rt: HostRuntime) {
 #[test]
 fn met_by_one_key_or_both(rt: HostRuntime) {
     let mut all = hosts(&rt, rt.alloc());
-    for (number, address, loads) in [
-        (4, 1, (4, 0)),
-        (9, 105, (5, 0)),
-        (1, 101, (1, 0)),
-        (4, 101, (1, 4)),
-        (1, 104, (1, 4)),
+    let (one, four, five) = (Some(host(1)), Some(host(4)), Some(host(5)));
+    for (number, address, met) in [
+        (4, 1, (four, None)),
+        (9, 105, (five, None)),
+        (1, 101, (one, None)),
+        (4, 101, (one, four)),
+        (1, 104, (one, four)),
     ] {
-        let new = host(number, address, 9);
-        check(&rt, in_the_way(&mut all, new) == loads);
+        check(
+            &rt,
+            all.meets(Way::Unique, host_of(number, address, 9), met),
+        );
     }
     check(&rt, all.map.len() == 3);
-    check(&rt, in_the_way(&mut all, host(9, 9, 9)) == (0, 0));
+    check(&rt, all.meets(Way::Unique, host_of(9, 9, 9), (None, None)));
     check(&rt, all.map.len() == 4);
 }
 
 #[test]
 fn one_or_two_overwritten(rt: HostRuntime) {
     let mut all = hosts(&rt, rt.alloc());
-    match all.insert_overwrite(host(4, 101, 9)) {
-        Ok(Some(Few::Two(a, b))) => check(&rt, (a.load, b.load) == (4, 1)),
-        _ => check(&rt, false),
-    }
+    let (one, other) = (host_of(4, 101, 9), host_of(4, 101, 10));
+    check(
+        &rt,
+        all.meets(Way::Overwrite, one, (Some(host(4)), Some(host(1)))),
+    );
     check(&rt, all.map.len() == 2);
-    match all.insert_overwrite(host(4, 101, 10)) {
-        Ok(Some(Few::One(a))) => check(&rt, a.load == 9),
-        _ => check(&rt, false),
-    }
-    let back = all.insert_overwrite(host(7, 107, 7));
-    check(&rt, matches!(back, Ok(None)));
+    check(&rt, all.meets(Way::Overwrite, other, (Some(one), None)));
+    check(&rt, all.meets(Way::Overwrite, host(7), (None, None)));
     check(&rt, all.map.len() == 3);
     check(&rt, all.remove_unique(&4, &107).is_none());
-    let gone = all.remove_unique(&4, &101);
-    check(&rt, load(gone.as_ref()) == 10);
+    check(&rt, all.remove_unique(&4, &101) == Some(other));
 }
 
 // The second host is one too many.
 fn full_of_one(rt: &impl Abort, mut few: Hosts) {
-    check(rt, few.is_put(host(1, 1, 1)));
-    match few.map.insert_unique(host(2, 2, 2)) {
-        Err(InsertError::Refused(refused)) => {
+    check(rt, few.is_put(host_of(1, 1, 1)));
+    match few.insert(Way::Unique, host_of(2, 2, 2)) {
+        Err(refused) => {
             check(rt, refused.error.is_capacity_overflow());
-            check(rt, refused.item.load == 2);
+            check(rt, refused.item == host_of(2, 2, 2));
         }
-        _ => check(rt, false),
+        Ok(_) => check(rt, false),
     }
-    let back = few.insert_overwrite(host(1, 2, 3));
-    check(rt, matches!(back, Ok(Some(Few::One(_)))));
+    let replaced = (Some(host_of(1, 1, 1)), None);
+    check(rt, few.meets(Way::Overwrite, host_of(1, 2, 3), replaced));
 }
 
 #[test]
@@ -115,24 +99,28 @@ fn room_and_limit(rt: HostRuntime) {
 #[test]
 fn guards_and_visits(rt: HostRuntime) {
     let mut all = hosts(&rt, rt.alloc());
-    all.set_by_number(4, 40);
-    all.set_by_address(105, 50);
+    check(&rt, all.set_by_number(4, 40) && all.set_by_address(105, 50));
     check(&rt, all.set_by_both(1, 101, 10));
     check(&rt, !all.set_by_both(1, 105, 10));
     check(&rt, load(all.get2(&104)) == 40);
     check(&rt, load(all.get1(&5)) == 50);
     check(&rt, load(all.get1(&1)) == 10);
+    visit(&rt, all);
+}
+
+// The host whose load is 50 leaves.
+fn visit(rt: &impl Abort, mut all: Hosts) {
     let asked = Cell::new(0u32);
     all.retain(|there| {
         asked.set(asked.get().saturating_add(1));
         there.load < 50
     });
-    check(&rt, asked.get() == 3);
-    check(&rt, all.map.len() == 2 && !all.contains_key2(&105));
-    check(&rt, all.map.validate(ValidateCompact::NonCompact).is_ok());
+    check(rt, asked.get() == 3);
+    check(rt, all.map.len() == 2 && !all.contains_key2(&105));
+    check(rt, all.map.validate(ValidateCompact::NonCompact).is_ok());
     let mut loads = 0;
     for there in all.map {
         loads = there.load.saturating_add(loads);
     }
-    check(&rt, loads == 50);
+    check(rt, loads == 50);
 }

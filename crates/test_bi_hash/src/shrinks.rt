@@ -23,8 +23,7 @@ fn to_fit(rt: HostRuntime) {
     let mut all = with_room(&rt, rt.alloc());
     check(&rt, all.shrink_to_fit().is_ok());
     closed_up(&rt, &all);
-    check(&rt, all.map.capacity() >= 4 && all.map.capacity() < 50);
-    check(&rt, all.map.spare() < 50);
+    check(&rt, all.has_room(4, 50) && all.map.spare() < 50);
 }
 
 // Room stays for twenty in all.
@@ -33,7 +32,7 @@ fn to_some(rt: HostRuntime) {
     let mut all = with_room(&rt, rt.alloc());
     check(&rt, all.shrink_to(20).is_ok());
     closed_up(&rt, &all);
-    check(&rt, all.map.capacity() >= 20 && all.map.capacity() < 50);
+    check(&rt, all.has_room(20, 50));
     check(&rt, all.map.spare() >= 16 && all.map.spare() < 50);
 }
 

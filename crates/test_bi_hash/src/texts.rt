@@ -2,24 +2,26 @@
 use crate::held::{Hosts, check, host_of};
 use std::alloc::Global;
 use std::fmt::Debug;
+use std::process::Abort;
 
 // Whether it is written so.
 fn is_debugged(alloc: Global, value: &impl Debug, expected: &str) -> bool {
     format!(in alloc; "{value:?}").is_ok_and(|text| text.as_str() == expected)
 }
 
+// Whether two items are written, in either order.
+fn is_either(alloc: Global, value: &impl Debug, rising: &str, falling: &str) -> bool {
+    is_debugged(alloc, value, rising) || is_debugged(alloc, value, falling)
+}
+
 // A map of one host.
-fn one(alloc: Global) -> Hosts {
-    let mut hosts = Hosts::new(alloc);
-    let _ = hosts.insert_overwrite(host_of(1, 101, 7));
-    hosts
+fn one(rt: &impl Abort, alloc: Global) -> Hosts {
+    Hosts::of(rt, alloc, &[host_of(1, 101, 7)])
 }
 
 // A map of two.
-fn two(alloc: Global) -> Hosts {
-    let mut hosts = one(alloc);
-    let _ = hosts.insert_overwrite(host_of(2, 102, 8));
-    hosts
+fn two(rt: &impl Abort, alloc: Global) -> Hosts {
+    Hosts::of(rt, alloc, &[host_of(1, 101, 7), host_of(2, 102, 8)])
 }
 
 // A set of the items.
@@ -28,12 +30,7 @@ fn map_for_debugging(rt: HostRuntime) {
     let alloc = rt.alloc();
     check(&rt, is_debugged(alloc, &Hosts::new(alloc).map, "{}"));
     let items = "{Host { number: 1, address: 101, load: 7 }}";
-    check(&rt, is_debugged(alloc, &one(alloc).map, items));
-}
-
-// Whether two items are written, in either order.
-fn is_either(alloc: Global, value: &impl Debug, rising: &str, falling: &str) -> bool {
-    is_debugged(alloc, value, rising) || is_debugged(alloc, value, falling)
+    check(&rt, is_debugged(alloc, &one(&rt, alloc).map, items));
 }
 
 #[test]
@@ -42,8 +39,8 @@ fn two_hosts_for_debugging(rt: HostRuntime) {
         "{Host { number: 1, address: 101, load: 7 }, Host { number: 2, address: 102, load: 8 }}";
     let falling =
         "{Host { number: 2, address: 102, load: 8 }, Host { number: 1, address: 101, load: 7 }}";
-    let alloc = rt.alloc();
-    check(&rt, is_either(alloc, &two(alloc).map, rising, falling));
+    let hosts = two(&rt, rt.alloc());
+    check(&rt, is_either(rt.alloc(), &hosts.map, rising, falling));
 }
 
 // Both keys beside each item.
@@ -53,26 +50,21 @@ fn keys_for_debugging(rt: HostRuntime) {
     let none = Hosts::new(alloc);
     check(&rt, is_debugged(alloc, &none.map.debug_with_keys(), "{}"));
     let keyed = "{(1, 101): Host { number: 1, address: 101, load: 7 }}";
-    let written = one(alloc);
-    check(
-        &rt,
-        is_debugged(alloc, &written.map.debug_with_keys(), keyed),
-    );
+    let hosts = one(&rt, alloc);
+    check(&rt, is_debugged(alloc, &hosts.map.debug_with_keys(), keyed));
     let rising =
         "{(1, 101): Host { number: 1, address: 101, load: 7 }, (2, 102): Host { number: 2, address: 102, load: 8 }}";
     let falling =
         "{(2, 102): Host { number: 2, address: 102, load: 8 }, (1, 101): Host { number: 1, address: 101, load: 7 }}";
-    let written = two(alloc);
-    check(
-        &rt,
-        is_either(alloc, &written.map.debug_with_keys(), rising, falling),
-    );
+    let hosts = two(&rt, alloc);
+    let shown = hosts.map.debug_with_keys();
+    check(&rt, is_either(alloc, &shown, rising, falling));
 }
 
 // Writes a load, and shows the guard, before it is spent and after.
-#[tactic(auto, using(iddqd_bi_hash::proofs::GuardLemmas::both_keys_kept))]
-fn is_guard(alloc: Global, number: u32, expected: &str) -> bool {
-    match one(alloc).map.get1_mut(&number) {
+fn is_guard(alloc: Global, hosts: Hosts, number: u32, expected: &str) -> bool {
+    let mut map = hosts.map;
+    match map.get1_mut(&number) {
         Some(mut found) => {
             found.load = 9;
             let is_before = is_debugged(alloc, &found, expected);
@@ -87,13 +79,15 @@ fn is_guard(alloc: Global, number: u32, expected: &str) -> bool {
 #[test]
 fn guards_for_debugging(rt: HostRuntime) {
     let text = "Host { number: 1, address: 101, load: 9 }";
-    check(&rt, is_guard(rt.alloc(), 1, text));
-    check(&rt, !is_guard(rt.alloc(), 2, text));
+    check(&rt, is_guard(rt.alloc(), one(&rt, rt.alloc()), 1, text));
+    check(&rt, !is_guard(rt.alloc(), one(&rt, rt.alloc()), 2, text));
 }
 
 #[test]
 fn writing_walk_for_debugging(rt: HostRuntime) {
-    let alloc = rt.alloc();
-    let mut map = one(alloc).map;
-    check(&rt, is_debugged(alloc, &map.iter_mut(), "IterMut { .. }"));
+    let mut map = one(&rt, rt.alloc()).map;
+    check(
+        &rt,
+        is_debugged(rt.alloc(), &map.iter_mut(), "IterMut { .. }"),
+    );
 }

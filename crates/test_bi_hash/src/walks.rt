@@ -1,35 +1,49 @@
 //! Walks over keys, walks that write, visits, and checks of the structure, some slots vacant.
-use crate::held::{Hosts, check, host_of as host, left};
+use crate::held::{Call, Hosts, check, host_of as host, left};
 use crate::hosts::Host;
 use iddqd_bi_hash::{ValidateCompact, Visit};
 use std::cell::Cell;
+use std::process::Abort;
 use test_support::heap::{arm, is_met};
+
+fn numbers_in_order(rt: &impl Abort, all: &Hosts) {
+    let mut numbers = all.map.keys1();
+    check(rt, numbers.len() == 4);
+    for host in all.map.iter() {
+        check(rt, numbers.next() == Some(&host.number));
+    }
+    check(rt, numbers.next().is_none());
+}
+
+fn addresses_in_order(rt: &impl Abort, all: &Hosts) {
+    let mut addresses = all.map.keys2();
+    check(rt, addresses.len() == 4);
+    for host in all.map.iter() {
+        check(rt, addresses.next() == Some(&host.address));
+    }
+    check(rt, addresses.next().is_none());
+}
 
 #[test]
 fn keys_in_the_order_of_iter(rt: HostRuntime) {
     let all = Hosts::with_gaps(&rt, rt.alloc());
-    let mut numbers = all.map.keys1();
-    let mut addresses = all.map.keys2();
-    check(&rt, numbers.len() == 4 && addresses.len() == 4);
-    for host in all.map.iter() {
-        check(&rt, numbers.next() == Some(&host.number));
-        check(&rt, addresses.next() == Some(&host.address));
-    }
-    check(&rt, numbers.next().is_none() && addresses.next().is_none());
+    numbers_in_order(&rt, &all);
+    addresses_in_order(&rt, &all);
     check(&rt, all.holds(&left()));
+}
+
+// Four keys are announced, and then three.
+fn announces<T: Drop>(rt: &impl Abort, mut keys: impl Iterator<Item = T>) {
+    check(rt, keys.size_hint() == (4, Some(4)));
+    check(rt, keys.next().is_some());
+    check(rt, keys.size_hint() == (3, Some(3)));
 }
 
 #[test]
 fn keys_announce_how_many_come(rt: HostRuntime) {
     let all = Hosts::with_gaps(&rt, rt.alloc());
-    let mut numbers = all.map.keys1();
-    check(&rt, numbers.size_hint() == (4, Some(4)));
-    check(&rt, numbers.next().is_some());
-    check(&rt, numbers.size_hint() == (3, Some(3)));
-    let mut addresses = all.map.keys2();
-    check(&rt, addresses.size_hint() == (4, Some(4)));
-    check(&rt, addresses.next().is_some());
-    check(&rt, addresses.size_hint() == (3, Some(3)));
+    announces(&rt, all.map.keys1());
+    announces(&rt, all.map.keys2());
 }
 
 // What is written is read by both keys.
@@ -89,10 +103,6 @@ impl Hosts {
         self.map.retain_mut(visitor);
         asked.get()
     }
-
-    fn is_sound(&self, compact: ValidateCompact) -> bool {
-        self.map.validate_structural(compact).is_ok()
-    }
 }
 
 // What a visit wrote is read by both keys, and what goes is found by neither.
@@ -102,8 +112,13 @@ fn each_host_is_visited_once(rt: HostRuntime) {
     check(&rt, all.keep_even() == 4);
     let (zero, two) = (host(0, 100, 7), host(2, 102, 7));
     check(&rt, all.holds(&[zero, two]));
-    check(&rt, !all.contains_key1(&3) && !all.contains_key2(&103));
-    check(&rt, !all.contains_key1(&5) && !all.contains_key2(&105));
+    let gone = [
+        (Call::Contains1, 3, 103),
+        (Call::Contains2, 3, 103),
+        (Call::Contains1, 5, 105),
+        (Call::Contains2, 5, 105),
+    ];
+    all.find_each(&rt, &gone, false);
     check(&rt, all.map.vacant() == 4);
     let (nine, five) = (host(9, 103, 9), host(5, 109, 5));
     check(&rt, all.is_put(nine) && all.is_put(five));
@@ -128,8 +143,7 @@ fn walked_without_memory(rt: HostRuntime) {
     let other = Hosts::with_gaps(&rt, rt.alloc());
     arm(rt.alloc());
     check(&rt, all.eq(&other));
-    check(&rt, all.map.keys1().count() == 4);
-    check(&rt, all.map.keys2().count() == 4);
+    check(&rt, all.key_counts() == (4, 4));
     check(&rt, !all.is_sound(ValidateCompact::Compact));
     check(&rt, all.raise_four() == 4);
     check(&rt, !all.eq(&other));
