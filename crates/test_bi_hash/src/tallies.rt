@@ -2,61 +2,37 @@
 use crate::held::{Call, Held, check};
 use iddqd_bi_hash::BiHashItem;
 use std::alloc::{AllocError, Global};
-use std::cell::Cell;
 use std::hash::BuildHasher;
 use std::process::Abort;
-use test_support::counting::HashedKey;
+use test_support::counting::{CountingKey, Counts as Tally};
 
 /// An item of two such keys. Its `==` compares the first keys, and then the second ones if those are equal.
 #[derive(Clone, Copy, PartialEq, Eq)]
 pub(crate) struct Counted<'a> {
-    pub(crate) one: HashedKey<'a>,
-    pub(crate) other: HashedKey<'a>,
+    pub(crate) one: CountingKey<'a>,
+    pub(crate) other: CountingKey<'a>,
 }
 
 impl<'a> BiHashItem for Counted<'a> {
-    type K1 = HashedKey<'a>;
+    type K1 = CountingKey<'a>;
 
-    type K2 = HashedKey<'a>;
+    type K2 = CountingKey<'a>;
 
     ghost key1 = { λ item. item.one };
 
     ghost key2 = { λ item. item.other };
 
-    fn key1(&self) -> &HashedKey<'a> {
+    fn key1(&self) -> &CountingKey<'a> {
         &self.one
     }
 
-    fn key2(&self) -> &HashedKey<'a> {
+    fn key2(&self) -> &CountingKey<'a> {
         &self.other
     }
 }
 
 /// How often first keys were compared and hashed, and second keys.
 pub(crate) type Counts = (u32, u32, u32, u32);
-
-/// How often keys were compared and hashed.
-#[derive(Default, Drop)]
-pub(crate) struct Tally {
-    compared: Cell<u32>,
-    hashed: Cell<u32>,
-}
-
-impl Tally {
-    /// A key of this number.
-    pub(crate) fn key(&self, number: u32) -> HashedKey<'_> {
-        HashedKey {
-            number,
-            hashed: &self.hashed,
-            compared: &self.compared,
-        }
-    }
-
-    // How often keys were compared and hashed since this was asked last.
-    fn since(&self) -> (u32, u32) {
-        (self.compared.replace(0), self.hashed.replace(0))
-    }
-}
 
 /// What the first keys count, and what the second ones do.
 #[derive(Default, Drop)]
@@ -111,6 +87,6 @@ impl Tallies {
     pub(crate) fn tell(&self, rt: &impl Abort, is_done: bool, wanted: Counts) {
         check(rt, is_done);
         let (first, second) = (self.first.since(), self.second.since());
-        check(rt, (first.0, first.1, second.0, second.1) == wanted);
+        check(rt, (first.1, first.0, second.1, second.0) == wanted);
     }
 }
