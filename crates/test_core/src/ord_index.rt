@@ -1,5 +1,5 @@
 //! The ordered index over a store of coins, against a plain list of the years in order.
-ghost use Rattle.std.specs.Prelude.{◌≡◌, ◌≤◌, length, nat_eq};
+ghost use Rattle.std.specs.Prelude.{◌≡◌, nat_eq};
 ghost use Rattle.std.specs.Cmp.{nat_eq_equiv};
 ghost use Rattle.std.specs.Cmp.Rules.{comparing};
 ghost use Rattle.std.specs.Ordering.{nat_cmp};
@@ -298,18 +298,6 @@ fn is_coin(store: &ItemStore<Coin>, slot: Option<u32>, year: u32) -> bool {
     }
 }
 
-// The place of the first year in the list that is not below this one.
-fn place_in(years: &[u32], year: u32) -> usize
-    ensures { result ≤ length years.now }
-{
-    for (at, there) in years.iter().enumerate() {
-        if *there >= year {
-            return at;
-        }
-    }
-    years.len()
-}
-
 // Each call that changes nothing returns what the list does. The years are below 1,010.
 fn same(rt: &impl Abort, coins: &Coins, years: &[u32]) {
     check(rt, coins.index.len() as usize == years.len());
@@ -324,9 +312,11 @@ fn same(rt: &impl Abort, coins: &Coins, years: &[u32]) {
 
 // Each lookup of the year returns what the list does.
 fn same_of(rt: &impl Abort, coins: &Coins, years: &[u32], year: u32) {
-    let at = place_in(years, year);
-    let is_there = years.get(at) == Some(&year);
-    let next = if is_there { at + 1 } else { at };
+    let (at, is_there) = match years.binary_search(&year) {
+        Ok(at) => (at, true),
+        Err(at) => (at, false),
+    };
+    let next = at.wrapping_add(usize::from(is_there));
     check(rt, coins.found(year) == is_there.then_some(year));
     check(rt, coins.after(year) == years.get(next).copied());
     check(rt, coins.is_found_at(year, at, is_there));
@@ -339,21 +329,22 @@ fn exchange(
     years: &mut Vec<u32>,
     step: u32,
 ) -> Result<(), AllocError> {
-    check(rt, step < 10_000);
-    for n in 1..600 {
-        let year = n * step % 1009;
-        let at = place_in(years.as_slice(), year);
-        if years.as_slice().get(at) == Some(&year) {
-            let taken = if n % 2 == 0 {
-                coins.take(year)
-            } else {
-                coins.take_by(year)
-            };
-            check(rt, taken == Some(years.remove(at)));
-        } else {
-            check(rt, coins.take_by(year).is_none());
-            check(rt, coins.put_by(year) && !coins.put_by(year));
-            years.insert(at, year)?;
+    for n in 1..600u32 {
+        let year = n.wrapping_mul(step) % 1009;
+        match years.as_slice().binary_search(&year) {
+            Ok(at) => {
+                let taken = if n % 2 == 0 {
+                    coins.take(year)
+                } else {
+                    coins.take_by(year)
+                };
+                check(rt, taken == Some(years.remove(at)));
+            }
+            Err(at) => {
+                check(rt, coins.take_by(year).is_none());
+                check(rt, coins.put_by(year) && !coins.put_by(year));
+                years.insert(at, year)?;
+            }
         }
         if n % 150 == 0 {
             same(rt, coins, years.as_slice());
@@ -376,15 +367,15 @@ fn coins_come_and_go(rt: HostRuntime) -> Result<(), Fail> {
 
 // The even years below a thousand, in an order that mixes them.
 fn fill(rt: &impl Abort, coins: &mut Coins) {
-    for n in 0..500 {
-        check(rt, coins.put(n * 7 % 500 * 2));
+    for n in 0..500u32 {
+        check(rt, coins.put((n.wrapping_mul(7) % 500).wrapping_mul(2)));
     }
 }
 
 fn even_years(alloc: Global) -> Result<Vec<u32>, AllocError> {
     let mut years = Vec::new(alloc);
-    for n in 0..500 {
-        years.push(n * 2)?;
+    for n in 0..500u32 {
+        years.push(n.wrapping_mul(2))?;
     }
     Ok(years)
 }
@@ -424,9 +415,10 @@ fn coins_leave_at_the_ends(rt: HostRuntime) -> Result<(), Fail> {
 
 // Each coin is another of its year.
 fn rename_all(rt: &impl Abort, coins: &mut Coins) {
-    for n in 0..500 {
-        check(rt, coins.rename_year(n * 2));
-        check(rt, !coins.rename_year(n * 2 + 1));
+    for n in 0..500u32 {
+        let year = n.wrapping_mul(2);
+        check(rt, coins.rename_year(year));
+        check(rt, !coins.rename_year(year.wrapping_add(1)));
     }
 }
 

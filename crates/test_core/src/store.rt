@@ -16,6 +16,23 @@ fn goes_into(store: &mut ItemStore<u32>, item: u32, slot: u32) -> bool {
     insert(store, item) == Ok(slot)
 }
 
+// Removes the item of the slot, if it has one.
+fn taken(store: &mut ItemStore<u32>, slot: u32) -> Option<u32> {
+    store.get(slot)?;
+    Some(store.remove(slot))
+}
+
+// Puts the item in the place of that of the slot, if it has one: by `replace`, or by `get_mut`.
+fn replaced(store: &mut ItemStore<u32>, slot: u32, item: u32) -> Option<u32> {
+    store.get(slot)?;
+    Some(store.replace(slot, item))
+}
+
+fn written(store: &mut ItemStore<u32>, slot: u32, item: u32) -> Option<u32> {
+    store.get(slot)?;
+    Some(mem::replace(store.get_mut(slot), item))
+}
+
 // Whether the limit refuses room for this many.
 fn is_past_limit(store: &mut ItemStore<u32>, count: usize) -> bool {
     store.try_reserve(count) == Err(TryReserveError::capacity_overflow())
@@ -43,9 +60,15 @@ fn assert_holds(rt: &impl Abort, store: &ItemStore<u32>, list: &[Option<u32>]) {
     let items = list.iter().filter(|slot| slot.is_some()).count();
     check(rt, store.slots() as usize == list.len());
     check(rt, store.len() == items);
-    check(rt, store.vacant() as usize + items == list.len());
+    check(
+        rt,
+        (store.vacant() as usize).wrapping_add(items) == list.len(),
+    );
     for slot in 0..store.slots() {
-        check(rt, store.get(slot).copied() == list[slot as usize]);
+        check(
+            rt,
+            list.get(slot as usize) == Some(&store.get(slot).copied()),
+        );
         check(rt, next_of(store, slot) == next_in(list, slot));
     }
     check(rt, store.get(store.slots()).copied() == None);
@@ -67,31 +90,26 @@ fn assert_walk(rt: &impl Abort, store: &ItemStore<u32>, list: &[Option<u32>]) {
 // Four items are inserted, and the slot of one that is removed is used again.
 fn fills_and_uses_again(rt: &impl Abort, store: &mut ItemStore<u32>) {
     assert_holds(rt, store, &[]);
-    for slot in 0..4 {
-        check(rt, goes_into(store, 10 + slot, slot));
+    for slot in 0..4u32 {
+        check(rt, goes_into(store, slot.wrapping_add(10), slot));
     }
     assert_holds(rt, store, &[Some(10), Some(11), Some(12), Some(13)]);
-    check(rt, store.get(1).is_some());
-    check(rt, store.remove(1) == 11);
+    check(rt, taken(store, 1) == Some(11));
     assert_holds(rt, store, &[Some(10), None, Some(12), Some(13)]);
     check(rt, goes_into(store, 14, 1));
     assert_holds(rt, store, &[Some(10), Some(14), Some(12), Some(13)]);
 }
 
 fn writes(rt: &impl Abort, store: &mut ItemStore<u32>) {
-    check(rt, store.get(2).is_some());
-    check(rt, store.replace(2, 15) == 12);
-    check(rt, store.get(3).is_some());
-    check(rt, mem::replace(store.get_mut(3), 16) == 13);
+    check(rt, replaced(store, 2, 15) == Some(12));
+    check(rt, written(store, 3, 16) == Some(13));
     assert_holds(rt, store, &[Some(10), Some(14), Some(15), Some(16)]);
 }
 
 // The last slot is vacant too: it is cut off, and the item before it moves.
 fn closes_up(rt: &impl Abort, store: &mut ItemStore<u32>) {
-    check(rt, store.get(3).is_some());
-    check(rt, store.remove(3) == 16);
-    check(rt, store.get(0).is_some());
-    check(rt, store.remove(0) == 10);
+    check(rt, taken(store, 3) == Some(16));
+    check(rt, taken(store, 0) == Some(10));
     assert_holds(rt, store, &[None, Some(14), Some(15), None]);
     check(rt, store.last_into_hole() == Some((2, 0)));
     assert_holds(rt, store, &[Some(15), Some(14)]);
@@ -140,8 +158,7 @@ fn reserves_up_to_the_limit(rt: HostRuntime) {
 fn leaves_one(rt: &impl Abort, store: &mut ItemStore<u32>) {
     check(rt, goes_into(store, 10, 0));
     check(rt, goes_into(store, 11, 1));
-    check(rt, store.get(0).is_some());
-    check(rt, store.remove(0) == 10);
+    check(rt, taken(store, 0) == Some(10));
 }
 
 fn takes_one_more(rt: &impl Abort, copy: &mut ItemStore<u32>) {
@@ -195,14 +212,12 @@ fn goes_into_next(store: &mut ItemStore<u32>, item: u32, slot: u32) -> bool {
 fn names_slots(rt: &impl Abort, store: &mut ItemStore<u32>) {
     check(rt, store.next_slot() == None);
     check(rt, store.try_reserve(3).is_ok());
-    for slot in 0..3 {
-        check(rt, goes_into_next(store, 10 + slot, slot));
+    for slot in 0..3u32 {
+        check(rt, goes_into_next(store, slot.wrapping_add(10), slot));
     }
     check(rt, store.next_slot() == None);
-    check(rt, store.get(0).is_some());
-    check(rt, store.remove(0) == 10);
-    check(rt, store.get(1).is_some());
-    check(rt, store.remove(1) == 11);
+    check(rt, taken(store, 0) == Some(10));
+    check(rt, taken(store, 1) == Some(11));
     check(rt, goes_into_next(store, 13, 1));
     assert_holds(rt, store, &[None, Some(13), Some(12)]);
     check(rt, goes_into_next(store, 14, 0));
