@@ -444,26 +444,35 @@ pub trait Commanded<T: Clone, K> {
         requires clones { ClonesAreEqual T.is_clone };
 }
 
-macro_rules! commanded {
-    ([$($generics:tt)*] $map:ty) => {
-        impl<$($generics)*> Commanded<T, T::Key> for $map
-        where
-            T::Key: Drop,
-        {
-            fn run(
-                &mut self,
-                alloc: Global,
-                commands: Vec<Command<T, T::Key, Untouched>>,
-            ) -> Result<Vec<Reply<T>>, RunStop<T, T::Key, Untouched>> {
-                run(alloc, &mut self.map, commands)
-            }
-        }
-    };
+impl<T: IdOrdItem + Clone> Commanded<T, T::Key> for Ordered<T>
+where
+    T::Key: Drop,
+{
+    fn run(
+        &mut self,
+        alloc: Global,
+        commands: Vec<Command<T, T::Key, Untouched>>,
+    ) -> Result<Vec<Reply<T>>, RunStop<T, T::Key, Untouched>>
+        requires clones { ClonesAreEqual T.is_clone }
+    {
+        run(alloc, &mut self.map, commands)
+    }
 }
 
-commanded!([T: IdOrdItem + Clone] Ordered<T>);
-
-commanded!([T: IdHashItem + Clone, S: BuildHasher] Hashed<T, S>);
+impl<T: IdHashItem + Clone, S: BuildHasher> Commanded<T, T::Key> for Hashed<T, S>
+where
+    T::Key: Drop,
+{
+    fn run(
+        &mut self,
+        alloc: Global,
+        commands: Vec<Command<T, T::Key, Untouched>>,
+    ) -> Result<Vec<Reply<T>>, RunStop<T, T::Key, Untouched>>
+        requires clones { ClonesAreEqual T.is_clone }
+    {
+        run(alloc, &mut self.map, commands)
+    }
+}
 
 /// What a row asks of a map of either kind by texts.
 pub trait AskedByText {
