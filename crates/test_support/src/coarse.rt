@@ -1,5 +1,5 @@
-//! What rows and random lists ask of a map of either kind whose keys are equal in any case: by its numbers, guards and
-//! entries, and by whole writes of an item of an equal key, which is spelled in another way.
+//! What rows and random lists ask of a map of either kind whose keys are equal in any case. They ask by its numbers,
+//! guards and entries, and write whole an item of an equal key, which is spelled in another way.
 use crate::caseless::{Caseless, Coarse, spelled};
 use crate::hashers::ZeroHasher;
 use crate::maps::{Copying, Hashed, Ordered};
