@@ -8,7 +8,7 @@ use test_support::caseless::{Caseless, Coarse, item_of, spelled};
 use test_support::coarse::{CoarseMap, Copied};
 use test_support::hashers::ZeroHasher;
 use test_support::items::Numbered;
-use test_support::maps::{Copying, Hashed, Inserted, UnderTest, by_hash, in_order};
+use test_support::maps::{Hashed, Inserted, UnderTest, by_hash, in_order};
 use test_support::walks::Walked;
 
 // The map with bar 1 and Foo 2.
@@ -21,7 +21,7 @@ fn of_bar_and_foo<M: UnderTest<Coarse, Caseless> + Drop>(rt: &impl Abort, mut ma
 }
 
 // Another item of FOO is a duplicate of fOO 7, and bar is as it was.
-fn is_respelled<M: Copying<Coarse, Caseless> + Drop>(rt: &impl Abort, mut map: M) -> M {
+fn is_respelled<M: CoarseMap + Drop>(rt: &impl Abort, mut map: M) -> M {
     let existing = match map.insert(item_of(*b"FOO", 9)) {
         Inserted::Duplicate(_, existing) => existing,
         Inserted::Done | Inserted::Refused(_, _) => None,
