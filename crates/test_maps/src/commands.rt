@@ -17,24 +17,21 @@ use test_support::visitors::Untouched;
 
 type Commands<T, K> = Result<Vec<Command<T, K, Untouched>>, AllocError>;
 
-// There was memory for the commands, and the map gives these replies to them.
+// The map gives these replies to the commands.
 fn replies_are<T: Clone + PartialEq + Drop, K: Drop>(
     rt: &impl Abort,
     alloc: Global,
     mut map: impl Commanded<T, K> + Drop,
     commands: Commands<T, K>,
     expected: &[Reply<T>],
-)
+) -> Result<(), Fail>
     requires clones { ClonesAreEqual T.is_clone }
 {
-    let replies = match commands {
-        Ok(commands) => map.run(alloc, commands).ok(),
-        Err(_) => None,
-    };
-    check(
-        rt,
-        matches!(replies, Some(replies) if replies.as_slice() == expected),
-    );
+    let replies = map
+        .run(alloc, commands?)
+        .map_err(|_| "the commands are not done")?;
+    check(rt, replies.as_slice() == expected);
+    Ok(())
 }
 
 fn named_commands(alloc: Global) -> Commands<Named, [u8; 3]> {
@@ -76,7 +73,7 @@ fn named_replies() -> [Reply<Named>; 11] {
 }
 
 #[test]
-fn insert_unique_by_commands(rt: HostRuntime) {
+fn insert_unique_by_commands(rt: HostRuntime) -> Result<(), Fail> {
     let alloc = rt.alloc();
     let expected = named_replies();
     replies_are(
@@ -85,8 +82,8 @@ fn insert_unique_by_commands(rt: HostRuntime) {
         in_order(alloc),
         named_commands(alloc),
         &expected,
-    );
-    replies_are(&rt, alloc, by_hash(alloc), named_commands(alloc), &expected);
+    )?;
+    replies_are(&rt, alloc, by_hash(alloc), named_commands(alloc), &expected)
 }
 
 fn wide_commands(alloc: Global) -> Commands<Wide, u8> {
@@ -128,11 +125,11 @@ fn wide_replies() -> [Reply<Wide>; 7] {
 }
 
 #[test]
-fn duplicate_chain_by_commands(rt: HostRuntime) {
+fn duplicate_chain_by_commands(rt: HostRuntime) -> Result<(), Fail> {
     let alloc = rt.alloc();
     let expected = wide_replies();
-    replies_are(&rt, alloc, in_order(alloc), wide_commands(alloc), &expected);
-    replies_are(&rt, alloc, by_hash(alloc), wide_commands(alloc), &expected);
+    replies_are(&rt, alloc, in_order(alloc), wide_commands(alloc), &expected)?;
+    replies_are(&rt, alloc, by_hash(alloc), wide_commands(alloc), &expected)
 }
 
 fn room_commands(alloc: Global) -> Commands<Named, [u8; 3]> {
@@ -140,11 +137,11 @@ fn room_commands(alloc: Global) -> Commands<Named, [u8; 3]> {
 }
 
 #[test]
-fn reserve_and_shrink_by_commands(rt: HostRuntime) {
+fn reserve_and_shrink_by_commands(rt: HostRuntime) -> Result<(), Fail> {
     let alloc = rt.alloc();
     let expected = [Reply::Done, Reply::Done];
-    replies_are(&rt, alloc, in_order(alloc), room_commands(alloc), &expected);
-    replies_are(&rt, alloc, by_hash(alloc), room_commands(alloc), &expected);
+    replies_are(&rt, alloc, in_order(alloc), room_commands(alloc), &expected)?;
+    replies_are(&rt, alloc, by_hash(alloc), room_commands(alloc), &expected)
 }
 
 fn named(name: [u8; 3], value: u32) -> Named {
@@ -164,7 +161,7 @@ fn extending_commands(alloc: Global) -> Commands<Named, [u8; 3]> {
 }
 
 #[test]
-fn extend_unique_by_commands(rt: HostRuntime) {
+fn extend_unique_by_commands(rt: HostRuntime) -> Result<(), Fail> {
     let alloc = rt.alloc();
     let expected = [
         Reply::Extended(2),
@@ -182,14 +179,14 @@ fn extend_unique_by_commands(rt: HostRuntime) {
         in_order(alloc),
         extending_commands(alloc),
         &expected,
-    );
+    )?;
     replies_are(
         &rt,
         alloc,
         by_hash(alloc),
         extending_commands(alloc),
         &expected,
-    );
+    )
 }
 
 fn full_commands(alloc: Global) -> Commands<Named, [u8; 3]> {
@@ -206,7 +203,7 @@ fn full_commands(alloc: Global) -> Commands<Named, [u8; 3]> {
 }
 
 #[test]
-fn extend_unique_commands(rt: HostRuntime) {
+fn extend_unique_commands(rt: HostRuntime) -> Result<(), Fail> {
     let alloc = rt.alloc();
     let error = TryReserveError::capacity_overflow();
     let expected = [
@@ -224,9 +221,9 @@ fn extend_unique_commands(rt: HostRuntime) {
         Reply::Length(2),
     ];
     let ordered = Ordered::new(IdOrdMap::with_limit(alloc, 2));
-    replies_are(&rt, alloc, ordered, full_commands(alloc), &expected);
+    replies_are(&rt, alloc, ordered, full_commands(alloc), &expected)?;
     let hashed = Hashed::new(IdHashMap::with_limit(alloc, 2, DefaultHashBuilder::new()));
-    replies_are(&rt, alloc, hashed, full_commands(alloc), &expected);
+    replies_are(&rt, alloc, hashed, full_commands(alloc), &expected)
 }
 
 // Writes to each item how many it has seen before, and keeps the first ones, this many.

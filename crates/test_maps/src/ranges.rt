@@ -364,7 +364,7 @@ fn put_titles(rt: &impl Abort, alloc: Global, map: &mut Ordered<Titled>) -> Resu
     Ok(())
 }
 
-fn are_counted(rt: &impl Abort, map: &Ordered<Titled>, low: &Text<'_>, high: &Text<'_>) {
+fn are_counted<'a>(rt: &impl Abort, map: &Ordered<Titled>, low: &'a Text<'a>, high: &'a Text<'a>) {
     for (from, to, count) in [
         (Bound::Included(low), Bound::Included(high), 2),
         (Bound::Included(low), Bound::Excluded(high), 1),
