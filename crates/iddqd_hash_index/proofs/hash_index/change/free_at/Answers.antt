@@ -1,4 +1,4 @@
-use Rattle.std.proofs.Common.{◌≡◌, ◌≢◌, ℕ, ◌+◌, ◌*◌, ◌<◌, length, set, refl, sym, subst, ◌∙◌, arith}
+use Rattle.std.proofs.Common.{◌≡◌, ◌≢◌, ◌+◌, ◌*◌, ◌<◌, length, set, refl, sym, subst, ◌∙◌, arith}
 use Rattle.std.proofs.lemmas.List.{length-set}
 use Rattle.iddqd_hash_index.specs.Lanes.{tag_in}
 use Rattle.iddqd_hash_index.specs.Groups.{home_of, steps_to, group_at, pairs_of, slot_at, IsPlaced, IsTakeWalk}
