@@ -19,16 +19,18 @@ fn or_insert(map: &mut BiHashMap<Host>, new: Host, load: u32) -> Lent
     ensures keyed { ⟦<BiHashMap<Host> as Keyed>⟧.keyed map.new }
 {
     match map.entry(&new.number, &new.address).or_insert(new) {
-        Ok(OccupiedEntryMut::Unique(mut lent)) => {
-            let shown = *lent;
-            lent.load = load;
-            lent.finish();
-            Lent::ByGuard(shown)
-        }
-        Ok(OccupiedEntryMut::NonUnique(entry)) => {
-            let items = entry.items();
-            Lent::Entry(items.get(0).map(|it| **it), items.get(1).map(|it| **it))
-        }
+        Ok(lent) => match lent {
+            OccupiedEntryMut::Unique(mut one) => {
+                let shown = *one;
+                one.load = load;
+                one.finish();
+                Lent::ByGuard(shown)
+            }
+            OccupiedEntryMut::NonUnique(entry) => {
+                let items = entry.items();
+                Lent::Entry(items.get(0).map(|it| **it), items.get(1).map(|it| **it))
+            }
+        },
         Err(_refused) => Lent::Refused,
     }
 }
@@ -44,12 +46,14 @@ fn or_insert_with(map: &mut BiHashMap<Host>, new: Host, asked: &mut u32) -> Opti
         new
     };
     match map.entry(&new.number, &new.address).or_insert_with(make) {
-        Ok(OccupiedEntryMut::Unique(lent)) => {
-            let shown = *lent;
-            lent.finish();
-            Some(shown)
-        }
-        Ok(OccupiedEntryMut::NonUnique(_)) => None,
+        Ok(lent) => match lent {
+            OccupiedEntryMut::Unique(one) => {
+                let shown = *one;
+                one.finish();
+                Some(shown)
+            }
+            OccupiedEntryMut::NonUnique(_) => None,
+        },
         Err(_refused) => None,
     }
 }

@@ -4,7 +4,7 @@ use Rattle.std.specs.Str.{bytes_eq}
 use Rattle.std.specs.String.{string_eq}
 use Rattle.std.specs.declared.alloc.Global.{Global}
 use Rattle.iddqd_bi_hash.specs.Contents.{find_item}
-use Rattle.iddqd_bi_hash.specs.TwoKeys.{find_by_both}
+use Rattle.iddqd_bi_hash.specs.TwoKeys.{find_by_both, items_found}
 use Rattle.test_callers.specs.declared.bi_accounts.Account.{Account}
 
 abbrev pub of_number : ℕ → List Account → Option Account
@@ -18,6 +18,10 @@ of_email email all = find_item (λ a. a.email) (string_eq email) all
 
 abbrev pub of_both : ℕ → List ℕ → List Account → Option Account
 of_both number text all = find_by_both (λ a. a.number) (λ a. a.email) (λ k. number == k) (λ k. bytes_eq text (string_bytes k)) all
+
+-- the accounts that have the number or the address
+abbrev pub items_of : ℕ → String Global → List Account → List Account
+items_of number email all = items_found (λ a. a.number) (λ a. a.email) (nat_eq number) (string_eq email) all
 
 abbrev pub with_email : String Global → Account → Account
 with_email email a = record a { email = email }
