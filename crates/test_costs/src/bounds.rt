@@ -1,28 +1,32 @@
 //! The calls of an ordered map alone: a position and a bound cost one search, the ends of the map none.
 use crate::checks::check;
 use crate::meter::Meter;
+use iddqd::IdOrdItem;
 use std::ops::Bound;
 use std::process::Abort;
 use std::test::Fail;
-use test_support::counting::{CountingKey, Counts, Tallied};
+use test_support::counting::Counts;
 use test_support::maps::{Ordered, UnderTest};
+
+fn ends<T: IdOrdItem + Copy + Drop>(rt: &impl Abort, mut map: Ordered<T>, meter: Meter<'_>) {
+    meter.tell(rt, map.use_ends(), (0, 0));
+}
 
 #[test]
 fn ends_compare_none(rt: HostRuntime) -> Result<(), Fail> {
     let counts = Counts::default();
     let meter = Meter::of_order(&counts);
     let items = counts.items(rt.alloc(), 0, 50)?;
-    let mut map: Ordered<Tallied<'_>> = meter.map_of(rt.alloc(), items.as_slice())?;
-    meter.tell(&rt, map.use_ends(), (0, 0));
+    ends(&rt, meter.map_of(rt.alloc(), items.as_slice())?, meter);
     Ok(())
 }
 
 // A position is found by one search, as the steps say, and so is each bound.
-fn finds_bounds<'a>(
+fn finds_bounds<T: IdOrdItem + Copy + Drop>(
     rt: &impl Abort,
-    map: &Ordered<Tallied<'a>>,
-    key: &CountingKey<'a>,
-    meter: Meter<'a>,
+    map: &Ordered<T>,
+    key: &T::Key,
+    meter: Meter<'_>,
 ) {
     let once = meter.once(rt, map, key);
     let (_, steps) = map.index_of(key);
@@ -40,19 +44,36 @@ fn finds_bounds<'a>(
 }
 
 // Both bounds of a range are, and the removal of a range compares no more.
-fn finds_ranges<'a>(
+fn finds_ranges<T: IdOrdItem + Copy + Drop>(
     rt: &impl Abort,
-    map: &mut Ordered<Tallied<'a>>,
-    (low, high): (CountingKey<'a>, CountingKey<'a>),
-    meter: Meter<'a>,
+    map: &mut Ordered<T>,
+    low: &T::Key,
+    high: &T::Key,
+    meter: Meter<'_>,
 ) {
-    let (_, of_low) = meter.once(rt, map, &low);
-    let (_, of_high) = meter.once(rt, map, &high);
+    let (_, of_low) = meter.once(rt, map, low);
+    let (_, of_high) = meter.once(rt, map, high);
     let both = of_low.saturating_add(of_high);
-    let between = (Bound::Included(&low), Bound::Excluded(&high));
+    let between = (Bound::Included(low), Bound::Excluded(high));
     let (_, steps) = map.count_between(between);
     meter.tell(rt, steps == both, (0, both));
     meter.tell(rt, map.remove_range(between) == 3, (0, both));
+}
+
+fn bounds<T: IdOrdItem + Copy + Drop>(
+    rt: &impl Abort,
+    mut map: Ordered<T>,
+    items: &[T],
+    absent: &[T],
+    meter: Meter<'_>,
+) {
+    check(rt, items.len() == 50 && absent.len() == 50);
+    for at in 0..50 {
+        finds_bounds(rt, &map, items[at].key(), meter);
+        finds_bounds(rt, &map, absent[at].key(), meter);
+    }
+    finds_ranges(rt, &mut map, items[7].key(), items[10].key(), meter);
+    finds_ranges(rt, &mut map, absent[20].key(), absent[23].key(), meter);
 }
 
 #[test]
@@ -60,11 +81,8 @@ fn bounds_search_once(rt: HostRuntime) -> Result<(), Fail> {
     let counts = Counts::default();
     let meter = Meter::of_order(&counts);
     let items = counts.items(rt.alloc(), 0, 50)?;
-    let mut map: Ordered<Tallied<'_>> = meter.map_of(rt.alloc(), items.as_slice())?;
-    for number in 0..100 {
-        finds_bounds(&rt, &map, &counts.key(number), meter);
-    }
-    finds_ranges(&rt, &mut map, (counts.key(14), counts.key(20)), meter);
-    finds_ranges(&rt, &mut map, (counts.key(41), counts.key(47)), meter);
+    let absent = counts.items(rt.alloc(), 1, 50)?;
+    let (there, others) = (items.as_slice(), absent.as_slice());
+    bounds(&rt, meter.map_of(rt.alloc(), there)?, there, others, meter);
     Ok(())
 }

@@ -4,7 +4,7 @@ use iddqd::errors::TryReserveError;
 use std::alloc::Global;
 use std::process::Abort;
 use test_support::bulk::{Bulk, Hinted};
-use test_support::counting::{CountingKey, Counts, Tallied};
+use test_support::counting::{Counts, Tallied};
 use test_support::maps::Copying;
 
 /// Hashings, and comparisons.
@@ -47,11 +47,11 @@ impl<'a> Meter<'a> {
     }
 
     /// The cost of one search for the key, as `get_counted` tells it.
-    pub(crate) fn once<M: Copying<Tallied<'a>, CountingKey<'a>>>(
+    pub(crate) fn once<T: Copy, K, M: Copying<T, K>>(
         self,
         rt: &impl Abort,
         map: &M,
-        key: &CountingKey<'a>,
+        key: &K,
     ) -> Cost {
         let _ = self.counts.since();
         let (_, steps) = map.get_counted(key);
