@@ -69,56 +69,94 @@ pub(crate) trait Dropping<'a>: UnderTest<Ticket<'a>, u32> + Drop {
     fn find_or_put(self, item: Ticket<'a>) -> bool;
 }
 
-macro_rules! dropping {
-    ($map:ty, $module:ident) => {
-        impl<'a> Dropping<'a> for $map {
-            fn keep_even(self) -> Self {
-                let mut map = self.into_map();
-                map.retain_mut(&mut KeepsEven);
-                Self::new(map)
-            }
+impl<'a> Dropping<'a> for Ordered<Ticket<'a>> {
+    fn keep_even(self) -> Self {
+        let mut map = self.into_map();
+        map.retain_mut(&mut KeepsEven);
+        Self::new(map)
+    }
 
-            fn walk_part(self, most: usize) -> usize {
-                self.into_map().into_iter().take(most).count()
-            }
+    fn walk_part(self, most: usize) -> usize {
+        self.into_map().into_iter().take(most).count()
+    }
 
-            fn replace_by_entry(self, item: Ticket<'a>) -> bool {
-                let mut map = self.into_map();
-                match map.entry(&item.number) {
-                    $module::Entry::Occupied(mut entry) => {
-                        drop(entry.insert(item));
-                        true
-                    }
-                    $module::Entry::Vacant(_) => false,
-                }
+    fn replace_by_entry(self, item: Ticket<'a>) -> bool {
+        let mut map = self.into_map();
+        match map.entry(&item.number) {
+            id_ord_map::Entry::Occupied(mut entry) => {
+                drop(entry.insert(item));
+                true
             }
-
-            fn remove_by_entry(self, number: u32) -> bool {
-                let mut map = self.into_map();
-                match map.entry(&number) {
-                    $module::Entry::Occupied(entry) => {
-                        drop(entry.remove());
-                        true
-                    }
-                    $module::Entry::Vacant(_) => false,
-                }
-            }
-
-            fn find_or_put(self, item: Ticket<'a>) -> bool {
-                let mut map = self.into_map();
-                let number = item.number;
-                match map.entry(&number).or_insert(item) {
-                    Ok(lent) => {
-                        lent.finish();
-                        true
-                    }
-                    Err(_refused) => false,
-                }
-            }
+            id_ord_map::Entry::Vacant(_) => false,
         }
-    };
+    }
+
+    fn remove_by_entry(self, number: u32) -> bool {
+        let mut map = self.into_map();
+        match map.entry(&number) {
+            id_ord_map::Entry::Occupied(entry) => {
+                drop(entry.remove());
+                true
+            }
+            id_ord_map::Entry::Vacant(_) => false,
+        }
+    }
+
+    fn find_or_put(self, item: Ticket<'a>) -> bool {
+        let mut map = self.into_map();
+        let number = item.number;
+        match map.entry(&number).or_insert(item) {
+            Ok(lent) => {
+                lent.finish();
+                true
+            }
+            Err(_refused) => false,
+        }
+    }
 }
 
-dropping!(Ordered<Ticket<'a>>, id_ord_map);
+impl<'a> Dropping<'a> for Hashed<Ticket<'a>> {
+    fn keep_even(self) -> Self {
+        let mut map = self.into_map();
+        map.retain_mut(&mut KeepsEven);
+        Self::new(map)
+    }
 
-dropping!(Hashed<Ticket<'a>>, id_hash_map);
+    fn walk_part(self, most: usize) -> usize {
+        self.into_map().into_iter().take(most).count()
+    }
+
+    fn replace_by_entry(self, item: Ticket<'a>) -> bool {
+        let mut map = self.into_map();
+        match map.entry(&item.number) {
+            id_hash_map::Entry::Occupied(mut entry) => {
+                drop(entry.insert(item));
+                true
+            }
+            id_hash_map::Entry::Vacant(_) => false,
+        }
+    }
+
+    fn remove_by_entry(self, number: u32) -> bool {
+        let mut map = self.into_map();
+        match map.entry(&number) {
+            id_hash_map::Entry::Occupied(entry) => {
+                drop(entry.remove());
+                true
+            }
+            id_hash_map::Entry::Vacant(_) => false,
+        }
+    }
+
+    fn find_or_put(self, item: Ticket<'a>) -> bool {
+        let mut map = self.into_map();
+        let number = item.number;
+        match map.entry(&number).or_insert(item) {
+            Ok(lent) => {
+                lent.finish();
+                true
+            }
+            Err(_refused) => false,
+        }
+    }
+}

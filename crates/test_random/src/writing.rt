@@ -14,28 +14,27 @@ pub(crate) trait Written: Sized {
     fn raised(self, alloc: Global, most: usize) -> Result<(Vec<Coarse>, usize), AllocError>;
 }
 
-macro_rules! written {
-    ([$($generics:tt)*] $map:ty) => {
-        impl<$($generics)*> Written for $map {
-            fn raised(
-                self,
-                alloc: Global,
-                most: usize,
-            ) -> Result<(Vec<Coarse>, usize), AllocError> {
-                let (map, left) = self.written(most, raise);
-                let mut items = Vec::with_capacity(alloc, map.len())?;
-                for item in map {
-                    items.push(item)?;
-                }
-                Ok((items, left))
-            }
+impl<> Written for Ordered<Coarse> {
+    fn raised(self, alloc: Global, most: usize) -> Result<(Vec<Coarse>, usize), AllocError> {
+        let (map, left) = self.written(most, raise);
+        let mut items = Vec::with_capacity(alloc, map.len())?;
+        for item in map {
+            items.push(item)?;
         }
-    };
+        Ok((items, left))
+    }
 }
 
-written!([] Ordered<Coarse>);
-
-written!([S: BuildHasher + Drop] Hashed<Coarse, S>);
+impl<S: BuildHasher + Drop> Written for Hashed<Coarse, S> {
+    fn raised(self, alloc: Global, most: usize) -> Result<(Vec<Coarse>, usize), AllocError> {
+        let (map, left) = self.written(most, raise);
+        let mut items = Vec::with_capacity(alloc, map.len())?;
+        for item in map {
+            items.push(item)?;
+        }
+        Ok((items, left))
+    }
+}
 
 fn raise(item: &mut Coarse) {
     item.value = item.value.wrapping_add(1);

@@ -29,35 +29,49 @@ pub trait Bulk<T>: Sized {
         requires ends { IsFinite U.into_iter_gives U.IntoIter.can_next U.IntoIter.remaining items };
 }
 
-macro_rules! bulk {
-    ([$($generics:tt)*] $under_test:ty, $map:ident) => {
-        impl<$($generics)*> Bulk<T> for $under_test {
-            fn collected<U: IntoIterator<Item = T>>(
-                alloc: Global,
-                items: U,
-            ) -> Result<Self, TryReserveError>
-            where
-                T: Drop,
-            {
-                Ok(Self::new($map::from_iter(alloc, items)?))
-            }
+impl<T: IdOrdItem> Bulk<T> for Ordered<T> {
+    fn collected<U: IntoIterator<Item = T>>(
+        alloc: Global,
+        items: U,
+    ) -> Result<Self, TryReserveError>
+    where
+        T: Drop,
+    {
+        Ok(Self::new(IdOrdMap::from_iter(alloc, items)?))
+    }
 
-            fn collected_unique<U: IntoIterator<Item = T>>(
-                alloc: Global,
-                items: U,
-            ) -> Result<Self, FromIterError<T>>
-            where
-                T: Drop,
-            {
-                Ok(Self::new($map::from_iter_unique(alloc, items)?))
-            }
-        }
-    };
+    fn collected_unique<U: IntoIterator<Item = T>>(
+        alloc: Global,
+        items: U,
+    ) -> Result<Self, FromIterError<T>>
+    where
+        T: Drop,
+    {
+        Ok(Self::new(IdOrdMap::from_iter_unique(alloc, items)?))
+    }
 }
 
-bulk!([T: IdOrdItem] Ordered<T>, IdOrdMap);
+impl<T: IdHashItem, S: BuildHasher + Default + Drop> Bulk<T> for Hashed<T, S> {
+    fn collected<U: IntoIterator<Item = T>>(
+        alloc: Global,
+        items: U,
+    ) -> Result<Self, TryReserveError>
+    where
+        T: Drop,
+    {
+        Ok(Self::new(IdHashMap::from_iter(alloc, items)?))
+    }
 
-bulk!([T: IdHashItem, S: BuildHasher + Default + Drop] Hashed<T, S>, IdHashMap);
+    fn collected_unique<U: IntoIterator<Item = T>>(
+        alloc: Global,
+        items: U,
+    ) -> Result<Self, FromIterError<T>>
+    where
+        T: Drop,
+    {
+        Ok(Self::new(IdHashMap::from_iter_unique(alloc, items)?))
+    }
+}
 
 /// An iterator that announces items, has none, and counts how often it is asked.
 #[derive(Drop)]

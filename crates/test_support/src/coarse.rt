@@ -120,175 +120,315 @@ pub trait CoarseMap: Copying<Coarse, Caseless> {
     fn respell_by_walk(&mut self, item: Coarse) -> bool;
 }
 
-macro_rules! coarse_map {
-    (
-        #[$writes:meta]
-        #[$respells:meta]
-        $([$($generics:tt)*] $map:ty, $module:ident, $put:ident, $put_in_walk:ident;)*
-    ) => {
-        $(impl<$($generics)*> CoarseMap for $map {
-            fn limit(&self) -> u32 {
-                self.map.limit()
-            }
+impl CoarseMap for Ordered<Coarse> {
+    fn limit(&self) -> u32 {
+        self.map.limit()
+    }
 
-            fn is_valid(&self) -> bool {
-                let map = &self.map;
-                let is_compact = map.vacant() == 0;
-                map.validate(ValidateCompact::NonCompact).is_ok()
-                    && map.validate_structural(ValidateCompact::NonCompact).is_ok()
-                    && map.validate(ValidateCompact::Compact).is_ok() == is_compact
-                    && map.validate_structural(ValidateCompact::Compact).is_ok() == is_compact
-            }
+    fn is_valid(&self) -> bool {
+        let map = &self.map;
+        let is_compact = map.vacant() == 0;
+        map.validate(ValidateCompact::NonCompact).is_ok()
+            && map.validate_structural(ValidateCompact::NonCompact).is_ok()
+            && map.validate(ValidateCompact::Compact).is_ok() == is_compact
+            && map.validate_structural(ValidateCompact::Compact).is_ok() == is_compact
+    }
 
-            fn walked_out(self, alloc: Global) -> Result<Vec<Coarse>, AllocError> {
-                self.map.into_iter().collect(alloc)
-            }
+    fn walked_out(self, alloc: Global) -> Result<Vec<Coarse>, AllocError> {
+        self.map.into_iter().collect(alloc)
+    }
 
-            fn equals(&self, other: &Self) -> bool {
-                self.map.eq(&other.map)
-            }
+    fn equals(&self, other: &Self) -> bool {
+        self.map.eq(&other.map)
+    }
 
-            #[$writes]
-            fn write_by_reborrow(
-                &mut self,
-                name: &Caseless,
-                value: u32,
-            ) -> Option<(Coarse, Coarse, Coarse)> {
-                let mut outer = self.map.get_mut(name)?;
-                let old = *outer;
-                let inner = outer.reborrow();
-                inner.value = value;
-                let read = *outer;
-                let shown = outer.into_ref();
-                Some((old, read, *shown))
-            }
+    #[tactic(auto, using(iddqd::proofs::GuardLemmas::same_key_kept))]
+    fn write_by_reborrow(
+        &mut self,
+        name: &Caseless,
+        value: u32,
+    ) -> Option<(Coarse, Coarse, Coarse)> {
+        let mut outer = self.map.get_mut(name)?;
+        let old = *outer;
+        let inner = outer.reborrow();
+        inner.value = value;
+        let read = *outer;
+        let shown = outer.into_ref();
+        Some((old, read, *shown))
+    }
 
-            #[$writes]
-            fn spend_unwritten(&mut self, name: &Caseless) -> bool {
-                match self.map.get_mut(name) {
-                    Some(lent) => {
-                        lent.finish();
-                        true
-                    }
-                    None => false,
-                }
-            }
-
-            fn write_by_entry(self, name: &Caseless, value: u32) -> Option<(Coarse, Coarse)> {
-                let mut map = self.map;
-                match map.entry(name) {
-                    $module::Entry::Occupied(mut entry) => {
-                        let old = *entry.get();
-                        entry.get_mut().value = value;
-                        let shown = entry.into_ref();
-                        Some((old, *shown))
-                    }
-                    $module::Entry::Vacant(_) => None,
-                }
-            }
-
-            fn remove_by_entry(&mut self, name: &Caseless) -> Option<Coarse> {
-                match self.map.entry(name) {
-                    $module::Entry::Occupied(entry) => Some(entry.remove()),
-                    $module::Entry::Vacant(_) => None,
-                }
-            }
-
-            fn put_vacant(&mut self, asked: &Caseless, item: Coarse) -> Put {
-                if self.map.contains_key(&item.name) {
-                    return Ok(None);
-                }
-                let $module::Entry::Vacant(entry) = self.map.entry(asked) else {
-                    return Ok(None);
-                };
-                let shown = entry.insert(item)?.into_ref();
-                Ok(Some(*shown))
-            }
-
-            fn put_and_remove(&mut self, item: Coarse) -> Put {
-                let $module::Entry::Vacant(entry) = self.map.entry(&item.name) else {
-                    return Ok(None);
-                };
-                Ok(Some(entry.insert_entry(item)?.remove()))
-            }
-
-            fn insert_occupied(&mut self, item: Coarse) -> Option<Coarse> {
-                match self.map.entry(&item.name) {
-                    $module::Entry::Occupied(mut entry) => Some(entry.insert(item)),
-                    $module::Entry::Vacant(_) => None,
-                }
-            }
-
-            #[$writes]
-            fn write(&mut self, name: &Caseless, value: u32) -> bool {
-                let $module::Entry::Occupied(entry) = self.map.entry(name) else {
-                    return false;
-                };
-                let mut lent = entry.into_mut();
-                lent.value = value;
+    #[tactic(auto, using(iddqd::proofs::GuardLemmas::same_key_kept))]
+    fn spend_unwritten(&mut self, name: &Caseless) -> bool {
+        match self.map.get_mut(name) {
+            Some(lent) => {
                 lent.finish();
                 true
             }
+            None => false,
+        }
+    }
 
-            fn double_or_put(&mut self, item: Coarse) -> Put {
-                let entry = self.map.entry(&item.name).and_modify(&mut DoublesAndDenies);
-                let shown = entry.or_insert(item)?.into_ref();
-                Ok(Some(*shown))
+    fn write_by_entry(self, name: &Caseless, value: u32) -> Option<(Coarse, Coarse)> {
+        let mut map = self.map;
+        match map.entry(name) {
+            id_ord_map::Entry::Occupied(mut entry) => {
+                let old = *entry.get();
+                entry.get_mut().value = value;
+                let shown = entry.into_ref();
+                Some((old, *shown))
             }
+            id_ord_map::Entry::Vacant(_) => None,
+        }
+    }
 
-            #[$writes]
-            fn insert_and_write(&mut self, item: Coarse, value: u32) -> bool {
-                let Ok(mut lent) = self.map.entry(&item.name).or_insert(item) else {
-                    return false;
-                };
-                lent.value = value;
-                lent.finish();
-                true
-            }
+    fn remove_by_entry(&mut self, name: &Caseless) -> Option<Coarse> {
+        match self.map.entry(name) {
+            id_ord_map::Entry::Occupied(entry) => Some(entry.remove()),
+            id_ord_map::Entry::Vacant(_) => None,
+        }
+    }
 
-            fn find_or_put(&mut self, item: Coarse, asked: &mut u32) -> Put {
-                let make = || {
-                    *asked = asked.saturating_add(1);
-                    item
-                };
-                let shown = self.map.entry(&item.name).or_insert_with(make)?.into_ref();
-                Ok(Some(*shown))
-            }
+    fn put_vacant(&mut self, asked: &Caseless, item: Coarse) -> Put {
+        if self.map.contains_key(&item.name) {
+            return Ok(None);
+        }
+        let id_ord_map::Entry::Vacant(entry) = self.map.entry(asked) else {
+            return Ok(None);
+        };
+        let shown = entry.insert(item)?.into_ref();
+        Ok(Some(*shown))
+    }
 
-            fn respell_by_guard(&mut self, asked: &Caseless, item: Coarse) -> bool {
-                if !matches!(self.map.get(asked), Some(found) if found.name == item.name) {
-                    return false;
-                }
-                $put(&mut self.map, asked, item);
-                true
-            }
+    fn put_and_remove(&mut self, item: Coarse) -> Put {
+        let id_ord_map::Entry::Vacant(entry) = self.map.entry(&item.name) else {
+            return Ok(None);
+        };
+        Ok(Some(entry.insert_entry(item)?.remove()))
+    }
 
-            #[$respells]
-            fn respell_by_entry(&mut self, asked: &Caseless, item: Coarse) -> bool {
-                match self.map.entry(asked).and_modify(&mut Respells(item)) {
-                    $module::Entry::Occupied(_) => true,
-                    $module::Entry::Vacant(_) => false,
-                }
-            }
+    fn insert_occupied(&mut self, item: Coarse) -> Option<Coarse> {
+        match self.map.entry(&item.name) {
+            id_ord_map::Entry::Occupied(mut entry) => Some(entry.insert(item)),
+            id_ord_map::Entry::Vacant(_) => None,
+        }
+    }
 
-            #[$respells]
-            fn respell_by_visitor(&mut self, item: Coarse) {
-                self.map.retain_mut(&mut Respells(item));
-            }
+    #[tactic(auto, using(iddqd::proofs::GuardLemmas::same_key_kept))]
+    fn write(&mut self, name: &Caseless, value: u32) -> bool {
+        let id_ord_map::Entry::Occupied(entry) = self.map.entry(name) else {
+            return false;
+        };
+        let mut lent = entry.into_mut();
+        lent.value = value;
+        lent.finish();
+        true
+    }
 
-            fn respell_by_walk(&mut self, item: Coarse) -> bool {
-                $put_in_walk(&mut self.map, item)
-            }
-        })*
-    };
+    fn double_or_put(&mut self, item: Coarse) -> Put {
+        let entry = self.map.entry(&item.name).and_modify(&mut DoublesAndDenies);
+        let shown = entry.or_insert(item)?.into_ref();
+        Ok(Some(*shown))
+    }
+
+    #[tactic(auto, using(iddqd::proofs::GuardLemmas::same_key_kept))]
+    fn insert_and_write(&mut self, item: Coarse, value: u32) -> bool {
+        let Ok(mut lent) = self.map.entry(&item.name).or_insert(item) else {
+            return false;
+        };
+        lent.value = value;
+        lent.finish();
+        true
+    }
+
+    fn find_or_put(&mut self, item: Coarse, asked: &mut u32) -> Put {
+        let make = || {
+            *asked = asked.saturating_add(1);
+            item
+        };
+        let shown = self.map.entry(&item.name).or_insert_with(make)?.into_ref();
+        Ok(Some(*shown))
+    }
+
+    fn respell_by_guard(&mut self, asked: &Caseless, item: Coarse) -> bool {
+        if !matches!(self.map.get(asked), Some(found) if found.name == item.name) {
+            return false;
+        }
+        put(&mut self.map, asked, item);
+        true
+    }
+
+    #[tactic(auto, using(crate::proofs::RespelledLemmas::respelled_keeps_key))]
+    fn respell_by_entry(&mut self, asked: &Caseless, item: Coarse) -> bool {
+        match self.map.entry(asked).and_modify(&mut Respells(item)) {
+            id_ord_map::Entry::Occupied(_) => true,
+            id_ord_map::Entry::Vacant(_) => false,
+        }
+    }
+
+    #[tactic(auto, using(crate::proofs::RespelledLemmas::respelled_keeps_key))]
+    fn respell_by_visitor(&mut self, item: Coarse) {
+        self.map.retain_mut(&mut Respells(item));
+    }
+
+    fn respell_by_walk(&mut self, item: Coarse) -> bool {
+        put_in_walk(&mut self.map, item)
+    }
 }
 
-coarse_map!(
+impl<S: BuildHasher + Drop> CoarseMap for Hashed<Coarse, S> {
+    fn limit(&self) -> u32 {
+        self.map.limit()
+    }
+
+    fn is_valid(&self) -> bool {
+        let map = &self.map;
+        let is_compact = map.vacant() == 0;
+        map.validate(ValidateCompact::NonCompact).is_ok()
+            && map.validate_structural(ValidateCompact::NonCompact).is_ok()
+            && map.validate(ValidateCompact::Compact).is_ok() == is_compact
+            && map.validate_structural(ValidateCompact::Compact).is_ok() == is_compact
+    }
+
+    fn walked_out(self, alloc: Global) -> Result<Vec<Coarse>, AllocError> {
+        self.map.into_iter().collect(alloc)
+    }
+
+    fn equals(&self, other: &Self) -> bool {
+        self.map.eq(&other.map)
+    }
+
     #[tactic(auto, using(iddqd::proofs::GuardLemmas::same_key_kept))]
+    fn write_by_reborrow(
+        &mut self,
+        name: &Caseless,
+        value: u32,
+    ) -> Option<(Coarse, Coarse, Coarse)> {
+        let mut outer = self.map.get_mut(name)?;
+        let old = *outer;
+        let inner = outer.reborrow();
+        inner.value = value;
+        let read = *outer;
+        let shown = outer.into_ref();
+        Some((old, read, *shown))
+    }
+
+    #[tactic(auto, using(iddqd::proofs::GuardLemmas::same_key_kept))]
+    fn spend_unwritten(&mut self, name: &Caseless) -> bool {
+        match self.map.get_mut(name) {
+            Some(lent) => {
+                lent.finish();
+                true
+            }
+            None => false,
+        }
+    }
+
+    fn write_by_entry(self, name: &Caseless, value: u32) -> Option<(Coarse, Coarse)> {
+        let mut map = self.map;
+        match map.entry(name) {
+            id_hash_map::Entry::Occupied(mut entry) => {
+                let old = *entry.get();
+                entry.get_mut().value = value;
+                let shown = entry.into_ref();
+                Some((old, *shown))
+            }
+            id_hash_map::Entry::Vacant(_) => None,
+        }
+    }
+
+    fn remove_by_entry(&mut self, name: &Caseless) -> Option<Coarse> {
+        match self.map.entry(name) {
+            id_hash_map::Entry::Occupied(entry) => Some(entry.remove()),
+            id_hash_map::Entry::Vacant(_) => None,
+        }
+    }
+
+    fn put_vacant(&mut self, asked: &Caseless, item: Coarse) -> Put {
+        if self.map.contains_key(&item.name) {
+            return Ok(None);
+        }
+        let id_hash_map::Entry::Vacant(entry) = self.map.entry(asked) else {
+            return Ok(None);
+        };
+        let shown = entry.insert(item)?.into_ref();
+        Ok(Some(*shown))
+    }
+
+    fn put_and_remove(&mut self, item: Coarse) -> Put {
+        let id_hash_map::Entry::Vacant(entry) = self.map.entry(&item.name) else {
+            return Ok(None);
+        };
+        Ok(Some(entry.insert_entry(item)?.remove()))
+    }
+
+    fn insert_occupied(&mut self, item: Coarse) -> Option<Coarse> {
+        match self.map.entry(&item.name) {
+            id_hash_map::Entry::Occupied(mut entry) => Some(entry.insert(item)),
+            id_hash_map::Entry::Vacant(_) => None,
+        }
+    }
+
+    #[tactic(auto, using(iddqd::proofs::GuardLemmas::same_key_kept))]
+    fn write(&mut self, name: &Caseless, value: u32) -> bool {
+        let id_hash_map::Entry::Occupied(entry) = self.map.entry(name) else {
+            return false;
+        };
+        let mut lent = entry.into_mut();
+        lent.value = value;
+        lent.finish();
+        true
+    }
+
+    fn double_or_put(&mut self, item: Coarse) -> Put {
+        let entry = self.map.entry(&item.name).and_modify(&mut DoublesAndDenies);
+        let shown = entry.or_insert(item)?.into_ref();
+        Ok(Some(*shown))
+    }
+
+    #[tactic(auto, using(iddqd::proofs::GuardLemmas::same_key_kept))]
+    fn insert_and_write(&mut self, item: Coarse, value: u32) -> bool {
+        let Ok(mut lent) = self.map.entry(&item.name).or_insert(item) else {
+            return false;
+        };
+        lent.value = value;
+        lent.finish();
+        true
+    }
+
+    fn find_or_put(&mut self, item: Coarse, asked: &mut u32) -> Put {
+        let make = || {
+            *asked = asked.saturating_add(1);
+            item
+        };
+        let shown = self.map.entry(&item.name).or_insert_with(make)?.into_ref();
+        Ok(Some(*shown))
+    }
+
+    fn respell_by_guard(&mut self, asked: &Caseless, item: Coarse) -> bool {
+        if !matches!(self.map.get(asked), Some(found) if found.name == item.name) {
+            return false;
+        }
+        hash_put(&mut self.map, asked, item);
+        true
+    }
+
     #[tactic(auto, using(crate::proofs::RespelledLemmas::respelled_keeps_key))]
-    [] Ordered<Coarse>, id_ord_map, put, put_in_walk;
-    [S: BuildHasher + Drop] Hashed<Coarse, S>, id_hash_map, hash_put, hash_put_in_walk;
-);
+    fn respell_by_entry(&mut self, asked: &Caseless, item: Coarse) -> bool {
+        match self.map.entry(asked).and_modify(&mut Respells(item)) {
+            id_hash_map::Entry::Occupied(_) => true,
+            id_hash_map::Entry::Vacant(_) => false,
+        }
+    }
+
+    #[tactic(auto, using(crate::proofs::RespelledLemmas::respelled_keeps_key))]
+    fn respell_by_visitor(&mut self, item: Coarse) {
+        self.map.retain_mut(&mut Respells(item));
+    }
+
+    fn respell_by_walk(&mut self, item: Coarse) -> bool {
+        hash_put_in_walk(&mut self.map, item)
+    }
+}
 
 /// A map of either kind that is copied.
 pub trait Copied: Sized {
@@ -296,19 +436,26 @@ pub trait Copied: Sized {
     fn copied(&self) -> Result<Self, TryReserveError>;
 }
 
-macro_rules! copied {
-    ($($map:ty),*) => {
-        $(impl Copied for $map {
-            fn copied(&self) -> Result<$map, TryReserveError> {
-                Ok(Self::new(self.map.clone()?))
-            }
-        })*
-    };
+impl Copied for Ordered<Coarse> {
+    fn copied(&self) -> Result<Self, TryReserveError> {
+        Ok(Self::new(self.map.clone()?))
+    }
 }
 
-copied!(
-    Ordered<Coarse>,
-    Hashed<Coarse>,
-    Hashed<Coarse, BuildHasherDefault<ZeroHasher>>,
-    Hashed<Coarse, RandomState>
-);
+impl Copied for Hashed<Coarse> {
+    fn copied(&self) -> Result<Self, TryReserveError> {
+        Ok(Self::new(self.map.clone()?))
+    }
+}
+
+impl Copied for Hashed<Coarse, BuildHasherDefault<ZeroHasher>> {
+    fn copied(&self) -> Result<Self, TryReserveError> {
+        Ok(Self::new(self.map.clone()?))
+    }
+}
+
+impl Copied for Hashed<Coarse, RandomState> {
+    fn copied(&self) -> Result<Self, TryReserveError> {
+        Ok(Self::new(self.map.clone()?))
+    }
+}

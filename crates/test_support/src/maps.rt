@@ -215,112 +215,203 @@ pub trait UnderTest<T, K>: Sized {
     fn is_compact(&self) -> bool;
 }
 
-macro_rules! under_test {
-    ([$($generics:tt)*] $map:ty, $try_reserve:ident, $room:ident) => {
-        impl<$($generics)*> UnderTest<T, T::Key> for $map {
-            fn is_put(&mut self, item: T) -> bool
-            where
-                T: Drop,
-            {
-                self.map.insert_unique(item).is_ok()
-            }
+impl<T: IdOrdItem> UnderTest<T, T::Key> for Ordered<T> {
+    fn is_put(&mut self, item: T) -> bool
+    where
+        T: Drop,
+    {
+        self.map.insert_unique(item).is_ok()
+    }
 
-            fn overwrite(&mut self, item: T) -> Result<Option<T>, Refused<T>> {
-                self.map.insert_overwrite(item)
-            }
+    fn overwrite(&mut self, item: T) -> Result<Option<T>, Refused<T>> {
+        self.map.insert_overwrite(item)
+    }
 
-            fn extend<U: IntoIterator<Item = T>>(&mut self, items: U) -> Result<(), ExtendError<T>>
-            where
-                T: Drop,
-            {
-                self.map.extend(items)
-            }
+    fn extend<U: IntoIterator<Item = T>>(&mut self, items: U) -> Result<(), ExtendError<T>>
+    where
+        T: Drop,
+    {
+        self.map.extend(items)
+    }
 
-            fn get(&self, key: &T::Key) -> Option<&T> {
-                self.map.get(key)
-            }
+    fn get(&self, key: &T::Key) -> Option<&T> {
+        self.map.get(key)
+    }
 
-            fn contains(&self, key: &T::Key) -> bool {
-                self.map.contains_key(key)
-            }
+    fn contains(&self, key: &T::Key) -> bool {
+        self.map.contains_key(key)
+    }
 
-            fn get_counted(&self, key: &T::Key) -> (Option<&T>, u32) {
-                let mut steps = Steps::new();
-                let found = self.map.get_counted(key, &mut steps);
-                (found, steps.count())
-            }
+    fn get_counted(&self, key: &T::Key) -> (Option<&T>, u32) {
+        let mut steps = Steps::new();
+        let found = self.map.get_counted(key, &mut steps);
+        (found, steps.count())
+    }
 
-            fn remove(&mut self, key: &T::Key) -> Option<T> {
-                self.map.remove(key)
-            }
+    fn remove(&mut self, key: &T::Key) -> Option<T> {
+        self.map.remove(key)
+    }
 
-            fn retain<F: FnMut(&T) -> bool>(&mut self, keep: F)
-            where
-                T: Drop,
-            {
-                self.map.retain(keep)
-            }
+    fn retain<F: FnMut(&T) -> bool>(&mut self, keep: F)
+    where
+        T: Drop,
+    {
+        self.map.retain(keep)
+    }
 
-            fn clear(&mut self)
-            where
-                T: Drop,
-            {
-                self.map.clear()
-            }
+    fn clear(&mut self)
+    where
+        T: Drop,
+    {
+        self.map.clear()
+    }
 
-            fn len(&self) -> usize {
-                self.map.len()
-            }
+    fn len(&self) -> usize {
+        self.map.len()
+    }
 
-            fn lists(&self, items: &[T]) -> bool
-            where
-                T: PartialEq,
-            {
-                self.map.iter().eq(items)
-            }
+    fn lists(&self, items: &[T]) -> bool
+    where
+        T: PartialEq,
+    {
+        self.map.iter().eq(items)
+    }
 
-            fn reserve(&mut self, additional: usize) -> Result<(), TryReserveError> {
-                self.map.reserve(additional)
-            }
+    fn reserve(&mut self, additional: usize) -> Result<(), TryReserveError> {
+        self.map.reserve(additional)
+    }
 
-            fn try_reserve(&mut self, additional: usize) -> Result<(), TryReserveError> {
-                self.map.$try_reserve(additional)
-            }
+    fn try_reserve(&mut self, additional: usize) -> Result<(), TryReserveError> {
+        self.map.reserve(additional)
+    }
 
-            fn shrink_to(&mut self, min: usize) -> Result<(), TryReserveError> {
-                self.map.shrink_to(min)
-            }
+    fn shrink_to(&mut self, min: usize) -> Result<(), TryReserveError> {
+        self.map.shrink_to(min)
+    }
 
-            fn shrink_to_fit(&mut self) -> Result<(), TryReserveError> {
-                self.map.shrink_to_fit()
-            }
+    fn shrink_to_fit(&mut self) -> Result<(), TryReserveError> {
+        self.map.shrink_to_fit()
+    }
 
-            fn room(&self) -> usize {
-                self.map.$room()
-            }
+    fn room(&self) -> usize {
+        self.map.capacity()
+    }
 
-            fn capacity(&self) -> usize {
-                self.map.capacity()
-            }
+    fn capacity(&self) -> usize {
+        self.map.capacity()
+    }
 
-            fn vacant(&self) -> u32 {
-                self.map.vacant()
-            }
+    fn vacant(&self) -> u32 {
+        self.map.vacant()
+    }
 
-            fn is_sound(&self) -> bool {
-                self.map.validate(ValidateCompact::NonCompact).is_ok()
-            }
+    fn is_sound(&self) -> bool {
+        self.map.validate(ValidateCompact::NonCompact).is_ok()
+    }
 
-            fn is_compact(&self) -> bool {
-                self.map.validate(ValidateCompact::Compact).is_ok()
-            }
-        }
-    };
+    fn is_compact(&self) -> bool {
+        self.map.validate(ValidateCompact::Compact).is_ok()
+    }
 }
 
-under_test!([T: IdOrdItem] Ordered<T>, reserve, capacity);
+impl<T: IdHashItem, S: BuildHasher> UnderTest<T, T::Key> for Hashed<T, S> {
+    fn is_put(&mut self, item: T) -> bool
+    where
+        T: Drop,
+    {
+        self.map.insert_unique(item).is_ok()
+    }
 
-under_test!([T: IdHashItem, S: BuildHasher] Hashed<T, S>, try_reserve, spare);
+    fn overwrite(&mut self, item: T) -> Result<Option<T>, Refused<T>> {
+        self.map.insert_overwrite(item)
+    }
+
+    fn extend<U: IntoIterator<Item = T>>(&mut self, items: U) -> Result<(), ExtendError<T>>
+    where
+        T: Drop,
+    {
+        self.map.extend(items)
+    }
+
+    fn get(&self, key: &T::Key) -> Option<&T> {
+        self.map.get(key)
+    }
+
+    fn contains(&self, key: &T::Key) -> bool {
+        self.map.contains_key(key)
+    }
+
+    fn get_counted(&self, key: &T::Key) -> (Option<&T>, u32) {
+        let mut steps = Steps::new();
+        let found = self.map.get_counted(key, &mut steps);
+        (found, steps.count())
+    }
+
+    fn remove(&mut self, key: &T::Key) -> Option<T> {
+        self.map.remove(key)
+    }
+
+    fn retain<F: FnMut(&T) -> bool>(&mut self, keep: F)
+    where
+        T: Drop,
+    {
+        self.map.retain(keep)
+    }
+
+    fn clear(&mut self)
+    where
+        T: Drop,
+    {
+        self.map.clear()
+    }
+
+    fn len(&self) -> usize {
+        self.map.len()
+    }
+
+    fn lists(&self, items: &[T]) -> bool
+    where
+        T: PartialEq,
+    {
+        self.map.iter().eq(items)
+    }
+
+    fn reserve(&mut self, additional: usize) -> Result<(), TryReserveError> {
+        self.map.reserve(additional)
+    }
+
+    fn try_reserve(&mut self, additional: usize) -> Result<(), TryReserveError> {
+        self.map.try_reserve(additional)
+    }
+
+    fn shrink_to(&mut self, min: usize) -> Result<(), TryReserveError> {
+        self.map.shrink_to(min)
+    }
+
+    fn shrink_to_fit(&mut self) -> Result<(), TryReserveError> {
+        self.map.shrink_to_fit()
+    }
+
+    fn room(&self) -> usize {
+        self.map.spare()
+    }
+
+    fn capacity(&self) -> usize {
+        self.map.capacity()
+    }
+
+    fn vacant(&self) -> u32 {
+        self.map.vacant()
+    }
+
+    fn is_sound(&self) -> bool {
+        self.map.validate(ValidateCompact::NonCompact).is_ok()
+    }
+
+    fn is_compact(&self) -> bool {
+        self.map.validate(ValidateCompact::Compact).is_ok()
+    }
+}
 
 /// A map of either kind under test, whose items are copied where a call lends or takes some. A call that takes the map
 /// drops it then.
@@ -364,109 +455,197 @@ pub trait Copying<T, K>: UnderTest<T, K> {
     fn use_or_insert_with(self, item: T) -> bool;
 }
 
-macro_rules! copying {
-    ([$($generics:tt)*] $map:ty, $entries:ident) => {
-        impl<$($generics)*> Copying<T, T::Key> for $map {
-            fn insert(&mut self, item: T) -> Inserted<T> {
-                match self.map.insert_unique(item) {
-                    Ok(()) => Inserted::Done,
-                    Err(error) => kept_out(error),
-                }
-            }
-
-            fn add_each<U: IntoIterator<Item = T>>(&mut self, items: U) -> Added<T> {
-                match self.map.extend_unique(items) {
-                    Ok(()) => Added::All,
-                    Err(error) => stopped(error),
-                }
-            }
-
-            fn listed(&self, alloc: Global) -> Result<Vec<T>, AllocError> {
-                self.map.iter().copied().collect(alloc)
-            }
-
-            fn walk(&self) -> usize {
-                self.map.iter().count()
-            }
-
-            fn visit_all(&mut self) {
-                self.map.retain_mut(&mut Untouched);
-            }
-
-            fn drop_all(&mut self) {
-                self.map.retain_mut(&mut Dropped);
-            }
-
-            fn spend(self, key: &T::Key) -> bool {
-                let mut map = self.map;
-                match map.get_mut(key) {
-                    Some(lent) => {
-                        lent.finish();
-                        true
-                    }
-                    None => false,
-                }
-            }
-
-            fn enter(self, key: &T::Key) -> bool {
-                let mut map = self.map;
-                matches!(map.entry(key), $entries::Entry::Occupied(_))
-            }
-
-            fn use_entry(self, item: T) -> bool {
-                let mut map = self.map;
-                match map.entry(item.key()) {
-                    $entries::Entry::Occupied(mut entry) => {
-                        drop(entry.insert(item));
-                        drop(entry.remove());
-                        true
-                    }
-                    $entries::Entry::Vacant(entry) => match entry.insert(item) {
-                        Ok(lent) => {
-                            lent.finish();
-                            true
-                        }
-                        Err(_refused) => false,
-                    },
-                }
-            }
-
-            fn modify_or_put(self, item: T) -> bool {
-                let mut map = self.map;
-                match map.entry(item.key()).and_modify(&mut Untouched) {
-                    $entries::Entry::Occupied(_) => true,
-                    $entries::Entry::Vacant(entry) => entry.insert_entry(item).is_ok(),
-                }
-            }
-
-            fn use_or_insert(self, item: T) -> bool {
-                let mut map = self.map;
-                match map.entry(item.key()).or_insert(item) {
-                    Ok(lent) => {
-                        lent.finish();
-                        true
-                    }
-                    Err(_refused) => false,
-                }
-            }
-
-            fn use_or_insert_with(self, item: T) -> bool {
-                let mut map = self.map;
-                match map.entry(item.key()).or_insert_with(|| item) {
-                    Ok(lent) => {
-                        let _ = lent.into_ref();
-                        true
-                    }
-                    Err(_refused) => false,
-                }
-            }
+impl<T: IdOrdItem + Copy + Drop> Copying<T, T::Key> for Ordered<T> {
+    fn insert(&mut self, item: T) -> Inserted<T> {
+        match self.map.insert_unique(item) {
+            Ok(()) => Inserted::Done,
+            Err(error) => kept_out(error),
         }
-    };
+    }
+
+    fn add_each<U: IntoIterator<Item = T>>(&mut self, items: U) -> Added<T> {
+        match self.map.extend_unique(items) {
+            Ok(()) => Added::All,
+            Err(error) => stopped(error),
+        }
+    }
+
+    fn listed(&self, alloc: Global) -> Result<Vec<T>, AllocError> {
+        self.map.iter().copied().collect(alloc)
+    }
+
+    fn walk(&self) -> usize {
+        self.map.iter().count()
+    }
+
+    fn visit_all(&mut self) {
+        self.map.retain_mut(&mut Untouched);
+    }
+
+    fn drop_all(&mut self) {
+        self.map.retain_mut(&mut Dropped);
+    }
+
+    fn spend(self, key: &T::Key) -> bool {
+        let mut map = self.map;
+        match map.get_mut(key) {
+            Some(lent) => {
+                lent.finish();
+                true
+            }
+            None => false,
+        }
+    }
+
+    fn enter(self, key: &T::Key) -> bool {
+        let mut map = self.map;
+        matches!(map.entry(key), id_ord_map::Entry::Occupied(_))
+    }
+
+    fn use_entry(self, item: T) -> bool {
+        let mut map = self.map;
+        match map.entry(item.key()) {
+            id_ord_map::Entry::Occupied(mut entry) => {
+                drop(entry.insert(item));
+                drop(entry.remove());
+                true
+            }
+            id_ord_map::Entry::Vacant(entry) => match entry.insert(item) {
+                Ok(lent) => {
+                    lent.finish();
+                    true
+                }
+                Err(_refused) => false,
+            },
+        }
+    }
+
+    fn modify_or_put(self, item: T) -> bool {
+        let mut map = self.map;
+        match map.entry(item.key()).and_modify(&mut Untouched) {
+            id_ord_map::Entry::Occupied(_) => true,
+            id_ord_map::Entry::Vacant(entry) => entry.insert_entry(item).is_ok(),
+        }
+    }
+
+    fn use_or_insert(self, item: T) -> bool {
+        let mut map = self.map;
+        match map.entry(item.key()).or_insert(item) {
+            Ok(lent) => {
+                lent.finish();
+                true
+            }
+            Err(_refused) => false,
+        }
+    }
+
+    fn use_or_insert_with(self, item: T) -> bool {
+        let mut map = self.map;
+        match map.entry(item.key()).or_insert_with(|| item) {
+            Ok(lent) => {
+                let _ = lent.into_ref();
+                true
+            }
+            Err(_refused) => false,
+        }
+    }
 }
 
-copying!([T: IdOrdItem + Copy + Drop] Ordered<T>, id_ord_map);
+impl<T: IdHashItem + Copy + Drop, S: BuildHasher + Drop> Copying<T, T::Key> for Hashed<T, S> {
+    fn insert(&mut self, item: T) -> Inserted<T> {
+        match self.map.insert_unique(item) {
+            Ok(()) => Inserted::Done,
+            Err(error) => kept_out(error),
+        }
+    }
 
-copying!([T: IdHashItem + Copy + Drop, S: BuildHasher + Drop] Hashed<T, S>, id_hash_map);
+    fn add_each<U: IntoIterator<Item = T>>(&mut self, items: U) -> Added<T> {
+        match self.map.extend_unique(items) {
+            Ok(()) => Added::All,
+            Err(error) => stopped(error),
+        }
+    }
+
+    fn listed(&self, alloc: Global) -> Result<Vec<T>, AllocError> {
+        self.map.iter().copied().collect(alloc)
+    }
+
+    fn walk(&self) -> usize {
+        self.map.iter().count()
+    }
+
+    fn visit_all(&mut self) {
+        self.map.retain_mut(&mut Untouched);
+    }
+
+    fn drop_all(&mut self) {
+        self.map.retain_mut(&mut Dropped);
+    }
+
+    fn spend(self, key: &T::Key) -> bool {
+        let mut map = self.map;
+        match map.get_mut(key) {
+            Some(lent) => {
+                lent.finish();
+                true
+            }
+            None => false,
+        }
+    }
+
+    fn enter(self, key: &T::Key) -> bool {
+        let mut map = self.map;
+        matches!(map.entry(key), id_hash_map::Entry::Occupied(_))
+    }
+
+    fn use_entry(self, item: T) -> bool {
+        let mut map = self.map;
+        match map.entry(item.key()) {
+            id_hash_map::Entry::Occupied(mut entry) => {
+                drop(entry.insert(item));
+                drop(entry.remove());
+                true
+            }
+            id_hash_map::Entry::Vacant(entry) => match entry.insert(item) {
+                Ok(lent) => {
+                    lent.finish();
+                    true
+                }
+                Err(_refused) => false,
+            },
+        }
+    }
+
+    fn modify_or_put(self, item: T) -> bool {
+        let mut map = self.map;
+        match map.entry(item.key()).and_modify(&mut Untouched) {
+            id_hash_map::Entry::Occupied(_) => true,
+            id_hash_map::Entry::Vacant(entry) => entry.insert_entry(item).is_ok(),
+        }
+    }
+
+    fn use_or_insert(self, item: T) -> bool {
+        let mut map = self.map;
+        match map.entry(item.key()).or_insert(item) {
+            Ok(lent) => {
+                lent.finish();
+                true
+            }
+            Err(_refused) => false,
+        }
+    }
+
+    fn use_or_insert_with(self, item: T) -> bool {
+        let mut map = self.map;
+        match map.entry(item.key()).or_insert_with(|| item) {
+            Ok(lent) => {
+                let _ = lent.into_ref();
+                true
+            }
+            Err(_refused) => false,
+        }
+    }
+}
 
 /// What a row asks of a map of either kind by commands, none of which visits.
 pub trait Commanded<T: Clone, K> {
@@ -524,29 +703,37 @@ pub trait AskedByText {
     fn take_out(&mut self, name: &str) -> Option<Self::Item>;
 }
 
-macro_rules! asked_by_text {
-    ([$($generics:tt)*] $map:ty) => {
-        impl<$($generics)*> AskedByText for $map {
-            type Item = T;
+impl<T: IdOrdItem<Key = String>> AskedByText for Ordered<T> {
+    type Item = T;
 
-            fn find(&self, name: &str) -> Option<&T> {
-                self.map.get(&Text(name))
-            }
+    fn find(&self, name: &str) -> Option<&T> {
+        self.map.get(&Text(name))
+    }
 
-            fn has_name(&self, name: &str) -> bool {
-                self.map.contains_key(&Text(name))
-            }
+    fn has_name(&self, name: &str) -> bool {
+        self.map.contains_key(&Text(name))
+    }
 
-            fn take_out(&mut self, name: &str) -> Option<T> {
-                self.map.remove(&Text(name))
-            }
-        }
-    };
+    fn take_out(&mut self, name: &str) -> Option<T> {
+        self.map.remove(&Text(name))
+    }
 }
 
-asked_by_text!([T: IdOrdItem<Key = String>] Ordered<T>);
+impl<T: IdHashItem<Key = String>> AskedByText for Hashed<T> {
+    type Item = T;
 
-asked_by_text!([T: IdHashItem<Key = String>] Hashed<T>);
+    fn find(&self, name: &str) -> Option<&T> {
+        self.map.get(&Text(name))
+    }
+
+    fn has_name(&self, name: &str) -> bool {
+        self.map.contains_key(&Text(name))
+    }
+
+    fn take_out(&mut self, name: &str) -> Option<T> {
+        self.map.remove(&Text(name))
+    }
+}
 
 /// Whether the item is inserted, if no item of its key exists, and the map is keyed as before.
 pub fn is_put<M: KeyedMap>(map: &mut M, item: M::Item) -> bool

@@ -67,20 +67,22 @@ pub trait Visited {
     fn retain_mut(&mut self, visitor: &mut Change);
 }
 
-macro_rules! visited {
-    ($map:ty) => {
-        impl Visited for $map {
-            fn visit(&mut self, number: u32, visitor: &mut Change) -> Option<bool> {
-                self.map.visit(&number, visitor)
-            }
+impl Visited for Ordered<Numbered> {
+    fn visit(&mut self, number: u32, visitor: &mut Change) -> Option<bool> {
+        self.map.visit(&number, visitor)
+    }
 
-            fn retain_mut(&mut self, visitor: &mut Change) {
-                self.map.retain_mut(visitor);
-            }
-        }
-    };
+    fn retain_mut(&mut self, visitor: &mut Change) {
+        self.map.retain_mut(visitor);
+    }
 }
 
-visited!(Ordered<Numbered>);
+impl Visited for Hashed<Numbered> {
+    fn visit(&mut self, number: u32, visitor: &mut Change) -> Option<bool> {
+        self.map.visit(&number, visitor)
+    }
 
-visited!(Hashed<Numbered>);
+    fn retain_mut(&mut self, visitor: &mut Change) {
+        self.map.retain_mut(visitor);
+    }
+}

@@ -14,26 +14,34 @@ pub trait Walked<T> {
         requires { F.IsAlwaysCallable write };
 }
 
-macro_rules! walked {
-    ([$($generics:tt)*] $under_test:ty, $map:ty) => {
-        impl<$($generics)*> Walked<T> for $under_test {
-            type Map = $map;
+impl<T: IdOrdItem> Walked<T> for Ordered<T> {
+    type Map = IdOrdMap<T>;
 
-            fn written<F: Fn(&mut T)>(self, most: usize, write: F) -> ($map, usize) {
-                let mut map = self.map;
-                let mut walk = map.iter_mut();
-                for _ in 0..most {
-                    if let Some(item) = walk.next() {
-                        write(item);
-                    }
-                }
-                let left = walk.len();
-                (map, left)
+    fn written<F: Fn(&mut T)>(self, most: usize, write: F) -> (IdOrdMap<T>, usize) {
+        let mut map = self.map;
+        let mut walk = map.iter_mut();
+        for _ in 0..most {
+            if let Some(item) = walk.next() {
+                write(item);
             }
         }
-    };
+        let left = walk.len();
+        (map, left)
+    }
 }
 
-walked!([T: IdOrdItem] Ordered<T>, IdOrdMap<T>);
+impl<T: IdHashItem, S: BuildHasher> Walked<T> for Hashed<T, S> {
+    type Map = IdHashMap<T, S>;
 
-walked!([T: IdHashItem, S: BuildHasher] Hashed<T, S>, IdHashMap<T, S>);
+    fn written<F: Fn(&mut T)>(self, most: usize, write: F) -> (IdHashMap<T, S>, usize) {
+        let mut map = self.map;
+        let mut walk = map.iter_mut();
+        for _ in 0..most {
+            if let Some(item) = walk.next() {
+                write(item);
+            }
+        }
+        let left = walk.len();
+        (map, left)
+    }
+}
