@@ -15,7 +15,11 @@ fn show(difference: &Difference<&Setting>, out: &mut impl Write) -> io::Result<(
 }
 
 /// Writes a line for each name that has changed, and returns whether any has.
-pub fn show_all(before: &Settings, after: &Settings, out: &mut impl Write) -> io::Result<bool> {
+pub(crate) fn show_all(
+    before: &Settings,
+    after: &Settings,
+    out: &mut impl Write,
+) -> io::Result<bool> {
     let mut is_any = false;
     for difference in before.0.diff(&after.0) {
         if difference.is_changed() {

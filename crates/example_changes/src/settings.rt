@@ -40,7 +40,7 @@ impl Model for Settings {
 
 impl Settings {
     /// Reads the lines `name = value` of a text. Other lines are comments, and the last line of a name counts.
-    pub fn parse(alloc: Global, text: &str) -> io::Result<Settings> {
+    pub(crate) fn parse(alloc: Global, text: &str) -> io::Result<Settings> {
         let mut all = Settings(IdOrdMap::new(alloc));
         for line in text.lines() {
             if let Some((name, value)) = line.split_once('=') {
