@@ -1,7 +1,7 @@
 -- What a change of a branch does to the node's list.
-use Rattle.std.proofs.Common.{◌≡◌, ℕ, suc, zero, ◌+◌, ◌-◌, ◌<◌, List, [], ◌∷◌, ◌++◌, length, map, take, drop, set, get_or, refl, ap, sym, ◌∙◌, subst, arith, append_assoc, length-set, add-one, Option, Some, None}
+use Rattle.std.proofs.Common.{◌≡◌, ℕ, suc, zero, ◌+◌, ◌-◌, ◌<◌, List, [], ◌∷◌, ◌++◌, length, map, take, drop, set, get_or, refl, ap, sym, ◌∙◌, subst, arith, append_assoc, length-set, add-one, Option, Some}
 use Rattle.std.specs.List.{insert, All}
-use Rattle.std.proofs.lemmas.List.{length-map, length-take-le, map-set, set-set, take-set, take_more_set, drop-set-lt, get_or-set_same, set-append_left, set-append_right, set_at, drop_more, drop_all, drop-append-le}
+use Rattle.std.proofs.lemmas.List.{length-map, length-take-le, map-set, take-set, take_more_set, drop-set-lt, get_or-set_same, set-append_left, set-append_right, set_at, drop_more, drop_all, drop-append-le}
 use Rattle.std.proofs.Math.Seq.{drop-append-add}
 use Rattle.std.proofs.lemmas.List.Elements.{All-set}
 use Rattle.std.proofs.lemmas.List.Edits.{insert-append_left, insert-append_right}
@@ -110,28 +110,21 @@ module _ (ls : List (List ℕ)) (ss : List ℕ) (at i rest : ℕ) (branch_at : I
       ∙ (ap (λ l. pairs (take i ls) l ++ (get_or ls i [] ++ behind (drop (suc i) ls) (drop i (set ss i slot)))) (take-set ss i slot)
       ∙ (ap (λ l. before ++ (get_or ls i [] ++ l)) f ∙ sym x))
 
--- a branch that was taken out and put back
+-- a branch that was put in a cell in front
 module _ (os : List (Option Node)) (i : ℕ) (b : Node) (p : IsPacked os) (lt : i < length (items_present os)) where
-  put_back : set (set os i None) i (Some b) ≡ cells_of (set (items_present os) i b)
+  put_back : set os i (Some b) ≡ cells_of (set (items_present os) i b)
   put_back =
       let n = length-set (items_present os) i b in
       let m = length-map (items_present os) Some in
-      set-set os i None (Some b)
-      ∙ (ap (λ l. set l i (Some b)) p.cells
+      ap (λ l. set l i (Some b)) p.cells
       ∙ (set-append_left (map Some (items_present os)) _ i (Some b) (omega (arith, m, lt))
-      ∙ (rw (← map-set Some (items_present os) i b, n))))
+      ∙ (rw (← map-set Some (items_present os) i b, n)))
 
-  pub put_packed : IsPacked (set (set os i None) i (Some b))
+  pub put_packed : IsPacked (set os i (Some b))
   put_packed = packed_is _ (set (items_present os) i b) put_back (omega (arith, length-set (items_present os) i b, p.fits))
 
-  pub put_held : items_present (set (set os i None) i (Some b)) ≡ set (items_present os) i b
-  put_held = held_is _ (set (items_present os) i b) put_back
-
-  pub put_subtrees : subtrees (set (set os i None) i (Some b)) ≡ set (subtrees os) i b
-  put_subtrees = put_held
-
-  pub put_lists : lists (subtrees (set (set os i None) i (Some b))) ≡ set (lists (subtrees os)) i b.slots
-  put_lists = ap lists put_subtrees ∙ map-set (λ k. k.slots) (subtrees os) i b
+  pub put_subtrees : subtrees (set os i (Some b)) ≡ set (subtrees os) i b
+  put_subtrees = held_is _ (set (items_present os) i b) put_back
 
 pub levels_set : (ks : List Subtree) (i : ℕ) (k : Subtree) → k.height + 1 ≡ levels ks → levels (set ks i k) ≡ levels ks
 levels_set [] i k e = refl

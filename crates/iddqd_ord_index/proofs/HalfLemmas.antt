@@ -25,7 +25,7 @@ module _ {T : Type 0} (P : T → Type 0) where
   pub All-right : (xs ys : List T) → All P (xs ++ ys) → All P ys
   All-right xs ys a = subst (λ l. All P l) (drop_at xs ys (length xs) refl) (All-drop P (length xs) (xs ++ ys) a)
 
-  pub All-insert : (xs : List T) (i : ℕ) (x : T) → P x → All P xs → All P (insert xs i x)
+  All-insert : (xs : List T) (i : ℕ) (x : T) → P x → All P xs → All P (insert xs i x)
   All-insert xs i x p a = All-append P (take i xs) (x ∷ drop i xs) (All-take P i xs a) (All-cons P x (drop i xs) p (All-drop P i xs a))
 
 pub levels_of : (h : ℕ) (ts : List Subtree) → 0 < length ts → All (IsBranch h) ts → levels ts ≡ h

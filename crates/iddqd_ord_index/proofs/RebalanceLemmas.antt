@@ -1,183 +1,256 @@
--- A node of which two neighbours are rebalanced.
-use Rattle.std.proofs.Common.{◌≡◌, ℕ, suc, ◌+◌, ◌-◌, ◌<◌, ◌≤◌, List, [], ◌∷◌, ◌++◌, length, take, drop, set, get_or, refl, ap, sym, ◌∙◌, inl, inr, subst, arith, append_assoc, add-one, length-set, min}
-use Rattle.std.specs.List.{insert, remove, All}
-use Rattle.std.proofs.lemmas.Bool.{cases_lt}
-use Rattle.std.proofs.lemmas.List.{take-append-drop, length-take-le, take_at, drop_at, drop_more, take-set, drop-set-lt, get_or-set_same, get_or_default}
-use Rattle.std.proofs.lemmas.List.Edits.{length-insert, length-remove, get_or-remove_below, get_or-remove_above}
-use Rattle.iddqd_ord_index.specs.Shape.{Subtree, behind, in_order, starts, lists, levels, unused, IsBranch, IsForked}
-use Rattle.iddqd_ord_index.specs.Neighbours.{IsPair, IsNear, IsShort}
-use Rattle.iddqd_ord_index.proofs.BelowLemmas.{length-lists, list_at}
-use Rattle.iddqd_ord_index.proofs.HalfLemmas.{All-insert, forked_of, levels_of}
-use Rattle.iddqd_ord_index.proofs.PackedLemmas.{map-insert}
-use Rattle.iddqd_ord_index.proofs.InOrderLemmas.{pairs, in_order_at, starts_split, starts_drop}
+-- Two neighbours that are rebalanced in their cells.
+--     lower_is, upper_is      the nodes in two cells, each in its half
+--     two_packed, first_cell, shifted_cells      these cells set
+--     len_within, counts_then      the counts beside them
+--     merged_node, shifted_node      the node afterwards
+--     neighbours      the two are neighbours that may be rebalanced
+use Rattle.std.proofs.Common.{◌≡◌, ℕ, suc, ◌+◌, ◌-◌, ◌^◌, ◌<◌, ◌≤◌, List, [], ◌∷◌, ◌++◌, length, map, take, drop, set, get_or, refl, ap, sym, ◌∙◌, inl, inr, subst, arith, append_assoc, length-append, length-set, min, Option, Some}
+use Rattle.std.proofs.Common.{◌≢◌}
+use Rattle.std.specs.List.{remove, All}
+use Rattle.std.proofs.lemmas.Bool.{cases_eq, cases_lt}
+use Rattle.std.proofs.lemmas.Grind.{common_steps}
+use Rattle.std.proofs.lemmas.List.{length-take-le, take_more, take-set, take-set-le, drop_more, drop-set-lt, get_or-append-add, get_or_append_left, get_or-set_same, get_or_default, map-set, set_at, set-append_left, set-append_right}
+use Rattle.std.proofs.lemmas.List.Edits.{length-remove, get_or-remove_below, get_or-remove_above}
+use Rattle.iddqd_ord_index.specs.Cells.{IsPacked}
+use Rattle.iddqd_ord_index.specs.Neighbours.{AreNeighbours, IsMergedAt, IsNear, IsShifted, IsShiftedAt, IsShort}
+use Rattle.iddqd_ord_index.specs.Nodes.{subtrees}
+use Rattle.iddqd_ord_index.specs.Shape.{Subtree, behind, in_order, starts, lists, levels, unused, IsBranch}
+use Rattle.iddqd_ord_index.specs.declared.tree.node.Node.{Node}
+use Rattle.iddqd_ord_index.proofs.BelowLemmas.{length-lists, list_at, subtree_at}
+use Rattle.iddqd_ord_index.proofs.EditLemmas.{IsMade, put_packed, put_subtrees}
+use Rattle.iddqd_ord_index.proofs.HalfLemmas.{forked_of, levels_of}
+use Rattle.iddqd_ord_index.proofs.InOrderLemmas.{pairs, in_order_at, in_order_cut, starts_drop, starts_split}
+use Rattle.iddqd_ord_index.proofs.PackedLemmas.{map-remove}
+
+-- two branches that are set
+map_two : {B : Type 0} (f : Subtree → B) (ts : List Subtree) (j : ℕ) (lower upper : Subtree) → map f (set (set ts j lower) (j + 1) upper) ≡ set (set (map f ts) j (f lower)) (j + 1) (f upper)
+map_two f ts j lower upper = map-set f (set ts j lower) (j + 1) upper ∙ ap (λ l. set l (j + 1) (f upper)) (map-set f ts j lower)
+
+set_first : (ts : List Subtree) (j : ℕ) (lower upper : Subtree) → j + 1 < length ts → get_or (set (set ts j lower) (j + 1) upper) j unused ≡ lower
+set_first ts j lower upper within = grind (arith, common_steps)
+
+-- cells in two halves, with the last of the first and the first of the second set
+module _ (os front back : List (Option Node)) (j : ℕ) (packed : IsPacked os) (within : j + 1 < length (subtrees os)) (halves : os ≡ front ++ back) (n : length front ≡ j + 1) where
+  pub lower_is : (o : Option Node) (t : Node) → o ≡ get_or front j o → get_or front j o ≡ Some t → get_or (subtrees os) j unused ≡ t
+  lower_is o t at some =
+      subtree_at os j o t unused packed (omega (arith, within)) (at ∙ sym (ap (λ l. get_or l j o) halves ∙ get_or_append_left front back o j (omega arith))) (at ∙ some)
+
+  pub upper_is : (o : Option Node) (t : Node) → o ≡ get_or back 0 o → get_or back 0 o ≡ Some t → get_or (subtrees os) (j + 1) unused ≡ t
+  upper_is o t at some =
+      let k : j + 1 ≡ length front + 0 = omega arith in
+      subtree_at os (j + 1) o t unused packed within (at ∙ sym (ap (λ l. get_or l (j + 1) o) halves ∙ (ap (λ k. get_or (front ++ back) k o) k ∙ get_or-append-add front back 0 o))) (at ∙ some)
+
+  module _ (lower upper : Node) where
+    two_cells : set front j (Some lower) ++ set back 0 (Some upper) ≡ set (set os j (Some lower)) (j + 1) (Some upper)
+    two_cells =
+        let z : (j + 1) - (j + 1) ≡ 0 = omega arith in
+        let m = length-set front j (Some lower) in
+        rw (halves, set-append_left front back j (Some lower) (omega arith), set-append_right (set front j (Some lower)) back (j + 1) (j + 1) (Some upper) (m ∙ n) (omega arith), z) refl
+
+    first : IsPacked (set os j (Some lower))
+    first = put_packed os j lower packed (omega (arith, within))
+
+    second : j + 1 < length (subtrees (set os j (Some lower)))
+    second = omega (arith, within, ap length (put_subtrees os j lower packed (omega (arith, within))), length-set (subtrees os) j lower)
+
+    pub two_packed : IsPacked (set front j (Some lower) ++ set back 0 (Some upper))
+    two_packed = subst (λ l. IsPacked l) (sym two_cells) (put_packed (set os j (Some lower)) (j + 1) upper first second)
+
+    two_subtrees : subtrees (set front j (Some lower) ++ set back 0 (Some upper)) ≡ set (set (subtrees os) j lower) (j + 1) upper
+    two_subtrees =
+        ap subtrees two_cells ∙ (put_subtrees (set os j (Some lower)) (j + 1) upper first second ∙ ap (λ l. set l (j + 1) upper) (put_subtrees os j lower packed (omega (arith, within))))
+
+    pub first_cell : get_or (subtrees (set front j (Some lower) ++ set back 0 (Some upper))) j unused ≡ lower
+    first_cell = ap (λ l. get_or l j unused) two_subtrees ∙ set_first (subtrees os) j lower upper within
+
+    pub shifted_cells : (middle top : ℕ) (l u : Node) → get_or (subtrees os) j unused ≡ l → get_or (subtrees os) (j + 1) unused ≡ u → IsShifted l middle u lower top upper
+        → IsShiftedAt j middle (subtrees os) top (subtrees (set front j (Some lower) ++ set back 0 (Some upper)))
+    shifted_cells middle top l u a b s =
+        record { lower = lower; upper = upper; shifted = subst (λ x. IsShifted x middle (get_or (subtrees os) (j + 1) unused) lower top upper) (sym a) (subst (λ y. IsShifted l middle y lower top upper) (sym b) s); branches = two_subtrees }
+
+-- the sum of two neighbours' slots stays
+pub same_sum : (a b lower upper : Subtree) (middle top : ℕ) → IsShifted a middle b lower top upper → length a.slots + length b.slots ≡ length lower.slots + length upper.slots
+same_sum a b lower upper middle top s = omega (arith, ap length s.slots, length-append a.slots (middle ∷ b.slots), length-append lower.slots (top ∷ upper.slots))
+
+-- the numbers of slots below two branches between which one has moved
+module _ (ts us : List Subtree) (j middle top : ℕ) (s : IsShiftedAt j middle ts top us) (within : j + 1 < length ts) where
+  lower_then : get_or us j unused ≡ s.lower
+  lower_then = ap (λ l. get_or l j unused) s.branches ∙ set_first ts j s.lower s.upper within
+
+  module _ (first second len : ℕ) (f : first ≡ length (get_or ts j unused).slots) (g : second ≡ length (get_or ts (j + 1) unused).slots) (l : len ≡ length (get_or us j unused).slots) where
+    pub len_within : len ≤ first + second
+    len_within = omega (arith, same_sum _ _ _ _ _ _ s.shifted, ap (λ t. length t.slots) lower_then)
+
+    pub counts_then : (ns : List ℕ) → ns ≡ map (λ t. length t.slots) ts → set (set ns j len) (j + 1) (first + second - len) ≡ map (λ t. length t.slots) us
+    counts_then ns n =
+        let a : len ≡ length s.lower.slots = l ∙ ap (λ t. length t.slots) lower_then in
+        let b : first + second - len ≡ length s.upper.slots = omega (arith, same_sum _ _ _ _ _ _ s.shifted) in
+        rw (n, b, a) (sym (ap (λ l. map (λ t. length t.slots) l) s.branches ∙ map_two (λ t. length t.slots) ts j s.lower s.upper))
 
 -- the list at two neighbours
-two_at : (ls : List (List ℕ)) (ss : List ℕ) (j : ℕ) (l u : List ℕ) (d : ℕ) → length ls + 1 ≡ length ss → j < length ss
-    → in_order (insert (insert ls j u) j l) ss ≡ pairs (take j ls) (take j ss) ++ ((l ++ get_or ss j d ∷ u) ++ behind (drop j ls) (drop (suc j) ss))
-two_at ls ss j l u d n lt =
+two_at : (ls : List (List ℕ)) (ss : List ℕ) (j d : ℕ) → length ls ≡ length ss + 1 → j < length ss
+    → in_order ls ss ≡ pairs (take j ls) (take j ss) ++ ((get_or ls j [] ++ get_or ss j d ∷ get_or ls (j + 1) []) ++ behind (drop (j + 1 + 1) ls) (drop (j + 1) ss))
+two_at ls ss j d n lt =
+    let o : suc j ≡ j + 1 = omega arith in
+    let l : drop (suc j) ls ≡ get_or ls (j + 1) [] ∷ drop (j + 1 + 1) ls = ap (λ k. drop k ls) o ∙ drop_more ls (j + 1) [] (omega arith) in
+    let s : drop j ss ≡ get_or ss j d ∷ drop (j + 1) ss = drop_more ss j d lt in
+    in_order_cut ls ss j (omega arith) n ∙ rw (l, s, append_assoc) refl
+
+shifted_list : (ls : List (List ℕ)) (ss : List ℕ) (j : ℕ) (l u : List ℕ) (s t : ℕ) → length ls ≡ length ss + 1 → j < length ss → s ≡ get_or ss j s
+    → get_or ls j [] ++ s ∷ get_or ls (j + 1) [] ≡ l ++ t ∷ u
+    → in_order (set (set ls j l) (j + 1) u) (set ss j t) ≡ in_order ls ss
+shifted_list ls ss j l u s t n lt e h =
+    let ms = set (set ls j l) (j + 1) u in
+    let a : take j ms ≡ take j ls = grind (arith, common_steps, take-set-le, take-set) in
+    let b : get_or ms j [] ≡ l = grind (arith, common_steps) in
+    let c : get_or ms (j + 1) [] ≡ u = grind (arith, common_steps) in
+    let d : drop (j + 1 + 1) ms ≡ drop (j + 1 + 1) ls = grind (arith, common_steps, drop-set-lt) in
+    two_at ms (set ss j t) j s (grind (arith, common_steps)) (grind (arith, common_steps))
+    ∙ rw (a, b, c, d, take-set ss j t, get_or-set_same ss j t s lt, drop-set-lt (j + 1) ss j t (omega arith), ← h) (rw (← e) refl ∙ sym (two_at ls ss j s n lt))
+
+merged_list : (ls : List (List ℕ)) (ss : List ℕ) (j : ℕ) (l : List ℕ) (s : ℕ) → length ls ≡ length ss + 1 → j < length ss → s ≡ get_or ss j s
+    → l ≡ get_or ls j [] ++ s ∷ get_or ls (j + 1) []
+    → in_order (set (remove ls (j + 1)) j l) (remove ss j) ≡ in_order ls ss
+merged_list ls ss j l s n lt e h =
+    let o : suc (j + 1) ≡ j + 1 + 1 = omega arith in
+    let p : suc j ≡ j + 1 = omega arith in
     let m = length-take-le j ls (omega arith) in
-    let t : take j (insert ls j u) ≡ take j ls = take_at (take j ls) (u ∷ drop j ls) j m in
-    let r : drop j (insert ls j u) ≡ u ∷ drop j ls = drop_at (take j ls) (u ∷ drop j ls) j m in
-    let c : ss ≡ take j ss ++ get_or ss j d ∷ drop (suc j) ss = sym (take-append-drop j ss) ∙ ap (λ r. take j ss ++ r) (drop_more ss j d lt ∙ rw add-one refl) in
-    ap (λ x. in_order (x ++ l ∷ drop j (insert ls j u)) ss) t
-    ∙ (ap (λ x. in_order (take j ls ++ l ∷ x) ss) r
-    ∙ (ap (λ x. in_order (take j ls ++ l ∷ (u ∷ drop j ls)) x) c
-    ∙ (in_order_at (take j ls) l (u ∷ drop j ls) (take j ss) (get_or ss j d ∷ drop (suc j) ss) (m ∙ sym (length-take-le j ss (omega arith)))
-    ∙ ap (λ x. pairs (take j ls) (take j ss) ++ x) (sym (append_assoc l (get_or ss j d ∷ u) (behind (drop j ls) (drop (suc j) ss)))))))
+    let r : remove ls (j + 1) ≡ take j ls ++ get_or ls j [] ∷ drop (j + 1 + 1) ls = rw (take_more ls j [] (omega arith), append_assoc, o) refl in
+    ap (λ k. in_order (set k j l) (remove ss j)) r
+    ∙ rw (set_at (take j ls) (get_or ls j []) (drop (j + 1 + 1) ls) l j m, p)
+    (in_order_at (take j ls) l (drop (j + 1 + 1) ls) (take j ss) (drop (j + 1) ss) (m ∙ sym (length-take-le j ss (omega arith))) ∙ rw h (rw (← e) refl ∙ sym (two_at ls ss j s n lt)))
 
-pub shifted_list : (ls : List (List ℕ)) (ss : List ℕ) (j : ℕ) (l u l' u' : List ℕ) (s t : ℕ) → length ls + 1 ≡ length ss → j < length ss → s ≡ get_or ss j s
-    → l ++ s ∷ u ≡ l' ++ t ∷ u'
-    → in_order (insert (insert ls j u') j l') (set ss j t) ≡ in_order (insert (insert ls j u) j l) ss
-shifted_list ls ss j l u l' u' s t n lt e h =
-    let k = length-set ss j t in
-    two_at ls (set ss j t) j l' u' s (n ∙ sym k) (omega arith)
-    ∙ (rw (take-set ss j t, get_or-set_same ss j t s lt, drop-set-lt (suc j) ss j t (omega arith)) refl
-    ∙ (ap (λ x. pairs (take j ls) (take j ss) ++ (x ++ behind (drop j ls) (drop (suc j) ss))) (sym h ∙ ap (λ x. l ++ x ∷ u) e)
-    ∙ sym (two_at ls ss j l u s n lt)))
+-- what holds of an element, if one is set of which it holds
+set_holds : (P : Subtree → Type 0) (ts : List Subtree) (i k : ℕ) (t d : Subtree) → i < length ts → P t → (k ≢ i → P (get_or ts k d)) → P (get_or (set ts i t) k d)
+set_holds P ts i k t d lt here others =
+    elim (cases_eq k i) [
+      | inl at ↦ subst P (grind (arith, common_steps)) here
+      | inr off ↦ subst P (grind (arith, common_steps)) (others off)
+    ]
 
-pub merged_list : (ls : List (List ℕ)) (ss : List ℕ) (j : ℕ) (l u l' : List ℕ) (s : ℕ) → length ls + 1 ≡ length ss → j < length ss → s ≡ get_or ss j s
-    → l' ≡ l ++ s ∷ u
-    → in_order (insert ls j l') (remove ss j) ≡ in_order (insert (insert ls j u) j l) ss
-merged_list ls ss j l u l' s n lt e h =
-    in_order_at (take j ls) l' (drop j ls) (take j ss) (drop (suc j) ss) (length-take-le j ls (omega arith) ∙ sym (length-take-le j ss (omega arith)))
-    ∙ (ap (λ x. pairs (take j ls) (take j ss) ++ (x ++ behind (drop j ls) (drop (suc j) ss))) (h ∙ ap (λ x. l ++ x ∷ u) e)
-    ∙ sym (two_at ls ss j l u s n lt))
+-- the node that has two neighbours
+module _ (ts : List Subtree) (ss : List ℕ) (j s : ℕ) (n : AreNeighbours ts ss j) (e : s ≡ get_or ss j s) where
+  abbrev lower : Subtree
+  lower = get_or ts j unused
 
--- the same list with an element taken out and put back
-pub back_in : {T : Type 0} (xs : List T) (j : ℕ) (d x : T) → j < length xs → x ≡ get_or xs j d → insert (remove xs j) j x ≡ xs
-back_in xs j d x lt e =
-    let n = length-take-le j xs (omega arith) in
-    ap (λ l. l ++ x ∷ drop j (remove xs j)) (take_at (take j xs) (drop (suc j) xs) j n)
-    ∙ (ap (λ l. take j xs ++ x ∷ l) (drop_at (take j xs) (drop (suc j) xs) j n)
-    ∙ (ap (λ y. take j xs ++ y ∷ drop (suc j) xs) e
-    ∙ (ap (λ l. take j xs ++ l) (sym (drop_more xs j d lt ∙ rw add-one refl)) ∙ take-append-drop j xs)))
+  abbrev upper : Subtree
+  upper = get_or ts (j + 1) unused
 
--- two neighbours put in, or the one that they are now
-pub record IsRebalancedAt (h : ℕ) (ts : List Subtree) (ss all : List ℕ) : Type 0 where
-  pub forked : IsForked ts ss
-  pub height : levels ts ≡ h
-  pub list : in_order (lists ts) ss ≡ all
+  within : j < length ss
+  within = omega (arith, n.two.within, n.fork)
 
-module _ (h j s : ℕ) (ts : List Subtree) (ss : List ℕ) (l u : List ℕ) (all : All (IsBranch h) ts) (n : length ts + 1 ≡ length ss) (lt : j < length ss) (e : s ≡ get_or ss j s) where
-  pub rebalanced_two : (us : List Subtree) (l' u' : Subtree) (t : ℕ) → us ≡ insert (insert ts j u') j l' → IsBranch h l' → IsBranch h u' → l ++ s ∷ u ≡ l'.slots ++ t ∷ u'.slots
-      → IsRebalancedAt h us (set ss j t) (in_order (insert (insert (lists ts) j u) j l) ss)
-  rebalanced_two us l' u' t q a b k =
-      let m = length-lists ts in
-      let v = length-insert ts j u' (omega arith) in
-      let w = length-insert (insert ts j u') j l' (omega arith) in
-      let al : All (IsBranch h) us = subst (λ x. All (IsBranch h) x) (sym q) (All-insert (IsBranch h) (insert ts j u') j l' a (All-insert (IsBranch h) ts j u' b all)) in
-      let z : length us ≡ length (set ss j t) + 1 = omega (arith, ap length q, length-set ss j t) in
-      let f = forked_of h us (set ss j t) al z in
-      record {
-        forked = f;
-        height = levels_of h us (omega arith) al;
-        list = ap (λ x. in_order (lists x) (set ss j t)) q
-            ∙ (ap (λ x. in_order x (set ss j t)) (map-insert (λ t. t.slots) (insert ts j u') j l' ∙ ap (λ x. insert x j l'.slots) (map-insert (λ t. t.slots) ts j u'))
-            ∙ shifted_list (lists ts) ss j l u l'.slots u'.slots s t (omega arith) lt e k);
-      }
+  as_branch : (t : Subtree) → IsBranch (lower.height + 1) t → IsBranch (levels ts) t
+  as_branch t b = subst (λ h. IsBranch h t) n.height b
 
-  pub rebalanced_one : (us : List Subtree) (l' : Subtree) → us ≡ insert ts j l' → IsBranch h l' → l'.slots ≡ l ++ s ∷ u → IsRebalancedAt h us (remove ss j) (in_order (insert (insert (lists ts) j u) j l) ss)
-  rebalanced_one us l' q a k =
-      let m = length-lists ts in
-      let v = length-insert ts j l' (omega arith) in
-      let al : All (IsBranch h) us = subst (λ x. All (IsBranch h) x) (sym q) (All-insert (IsBranch h) ts j l' a all) in
-      let z : length us ≡ length (remove ss j) + 1 = omega (arith, ap length q, length-remove ss j lt) in
-      record {
-        forked = forked_of h us (remove ss j) al z;
-        height = levels_of h us (omega arith) al;
-        list = ap (λ x. in_order (lists x) (remove ss j)) q
-            ∙ (ap (λ x. in_order x (remove ss j)) (map-insert (λ t. t.slots) ts j l') ∙ merged_list (lists ts) ss j l u l'.slots s (omega arith) lt e k);
-      }
+  lower_list : lower.slots ≡ get_or (lists ts) j []
+  lower_list = sym (list_at ts j (omega (arith, n.two.within)))
 
--- two neighbours taken out, one of which is short
-pub record AreTaken (ts us : List Subtree) (ss : List ℕ) (j : ℕ) (lower upper : Subtree) : Type 0 where
-  pub all : All (IsBranch (lower.height + 1)) us
-  pub height : lower.height + 1 ≡ levels ts
-  pub fork : length us + 1 ≡ length ss
-  pub within : j < length ss
-  pub pair : IsPair lower upper
-  pub room : length lower.slots + length upper.slots + 2 ≤ starts (lists ts)
-  pub back : insert (insert (lists us) j upper.slots) j lower.slots ≡ lists ts
+  upper_list : upper.slots ≡ get_or (lists ts) (j + 1) []
+  upper_list = sym (list_at ts (j + 1) n.two.within)
 
-module _ (ts rs us : List Subtree) (ss : List ℕ) (i j : ℕ) (lower upper : Subtree) (near : IsNear ts ss i) (w : j ≡ min i (length ss - 1)) (er : rs ≡ remove ts j) (eu : us ≡ remove rs j)
-    (el : lower ≡ get_or ts j unused) (ep : upper ≡ get_or rs j unused) (short : (get_or ts i unused).width < 5) where
+  listed : length (lists ts) ≡ length ss + 1
+  listed = length-lists ts ∙ n.fork
+
+  all_set : (l u : Subtree) → IsBranch (levels ts) l → IsBranch (levels ts) u → All (IsBranch (levels ts)) (set (set ts j l) (j + 1) u)
+  all_set l u a b k d lt =
+      let q = length-set ts j l in
+      let r = length-set (set ts j l) (j + 1) u in
+      set_holds (IsBranch (levels ts)) (set ts j l) (j + 1) k u d (omega (arith, n.two.within)) b
+      (λ away. set_holds (IsBranch (levels ts)) ts j k l d (omega (arith, n.two.within)) a
+      (λ off. subst (λ x. IsBranch (levels ts) x) (sym (get_or_default ts k d unused (omega arith))) (n.others k (omega arith) off away)))
+
+  all_merged : (l : Subtree) → IsBranch (levels ts) l → All (IsBranch (levels ts)) (set (remove ts (j + 1)) j l)
+  all_merged l a k d lt =
+      let q = length-remove ts (j + 1) n.two.within in
+      let r = length-set (remove ts (j + 1)) j l in
+      set_holds (IsBranch (levels ts)) (remove ts (j + 1)) j k l d (omega (arith, n.two.within)) a
+      (λ off. elim (cases_lt k (j + 1)) [
+        | inl below ↦ (
+            subst (λ x. IsBranch (levels ts) x) (grind (arith, common_steps, get_or-remove_below, get_or_default))
+            (n.others k (omega arith) off (λ z. omega (arith, z)))
+            )
+        | inr above ↦ (
+            subst (λ x. IsBranch (levels ts) x) (grind (arith, common_steps, get_or-remove_above, get_or_default))
+            (n.others (k + 1) (omega arith) (λ z. omega (arith, z)) (λ z. omega (arith, z)))
+            )
+      ])
+
+  made_of : (us : List Subtree) (ss' : List ℕ) → All (IsBranch (levels ts)) us → length us ≡ length ss' + 1 → in_order (lists us) ss' ≡ in_order (lists ts) ss → IsMade ts us ss' (in_order (lists ts) ss)
+  made_of us ss' a m l = record { forked = forked_of (levels ts) us ss' a m; height = levels_of (levels ts) us (omega arith) a; list = l }
+
+  pub shifted_node : (us : List Subtree) (t : ℕ) → IsShiftedAt j s ts t us → IsMade ts us (set ss j t) (in_order (lists ts) ss)
+  shifted_node us t m =
+      let b = m.shifted in
+      let q = length-set ts j m.lower in
+      let r = length-set (set ts j m.lower) (j + 1) m.upper in
+      let x : lists us ≡ set (set (lists ts) j m.lower.slots) (j + 1) m.upper.slots = ap lists m.branches ∙ map_two (λ t. t.slots) ts j m.lower m.upper in
+      let h : get_or (lists ts) j [] ++ s ∷ get_or (lists ts) (j + 1) [] ≡ m.lower.slots ++ t ∷ m.upper.slots =
+      ap (λ l. l ++ s ∷ get_or (lists ts) (j + 1) []) (sym lower_list) ∙ (ap (λ l. lower.slots ++ s ∷ l) (sym upper_list) ∙ b.slots) in
+      made_of us (set ss j t)
+      (subst (λ l. All (IsBranch (levels ts)) l) (sym m.branches) (all_set m.lower m.upper (as_branch m.lower b.lower_branch) (as_branch m.upper b.upper_branch)))
+      (omega (arith, ap length m.branches, length-set ss j t, n.fork))
+      (ap (λ l. in_order l (set ss j t)) x ∙ shifted_list (lists ts) ss j m.lower.slots m.upper.slots s t listed within e h)
+
+  pub merged_node : (us : List Subtree) → IsMergedAt j s ts us → IsMade ts us (remove ss j) (in_order (lists ts) ss)
+  merged_node us m =
+      let q = length-remove ts (j + 1) n.two.within in
+      let r = length-set (remove ts (j + 1)) j m.lower in
+      let x : lists us ≡ set (remove (lists ts) (j + 1)) j m.lower.slots =
+      ap lists m.branches ∙ (map-set (λ t. t.slots) (remove ts (j + 1)) j m.lower ∙ ap (λ l. set l j m.lower.slots) (map-remove (λ t. t.slots) ts (j + 1))) in
+      let h : m.lower.slots ≡ get_or (lists ts) j [] ++ s ∷ get_or (lists ts) (j + 1) [] =
+      m.merged.slots ∙ (ap (λ l. l ++ s ∷ upper.slots) lower_list ∙ ap (λ l. get_or (lists ts) j [] ++ s ∷ l) upper_list) in
+      made_of us (remove ss j)
+      (subst (λ l. All (IsBranch (levels ts)) l) (sym m.branches) (all_merged m.lower (as_branch m.lower m.merged.lower_branch)))
+      (omega (arith, ap length m.branches, length-remove ss j within, n.fork))
+      (ap (λ l. in_order l (remove ss j)) x ∙ merged_list (lists ts) ss j m.lower.slots s listed within e h)
+
+-- a branch that is a slot short, with the neighbour with which it is rebalanced
+module _ (ts : List Subtree) (ss : List ℕ) (i j : ℕ) (near : IsNear ts ss i) (w : j ≡ min i (length ss - 1)) (short : (get_or ts i unused).width < 5) where
   place : j + 1 < length ts
   place = omega (arith, near.branch, near.fork, near.some)
 
-  upper_is : upper ≡ get_or ts (j + 1) unused
-  upper_is = ep ∙ (ap (λ l. get_or l j unused) er ∙ get_or-remove_above ts j unused j (omega arith) (omega (arith, place)))
-
-  us_is : us ≡ remove (remove ts j) j
-  us_is = eu ∙ ap (λ l. remove l j) er
-
-  length_left : length us + 2 ≡ length ts
-  length_left =
-      let a = length-remove ts j (omega (arith, place)) in
-      let b = ap length us_is in
-      omega (arith, length-remove (remove ts j) j (omega (arith, place)))
-
-  others : All (IsBranch (levels ts)) us
-  others = subst (λ l. All (IsBranch (levels ts)) l) (sym us_is) left
-    where
-      left : All (IsBranch (levels ts)) (remove (remove ts j) j)
-      left k d lt =
-          let r = length-remove ts j (omega (arith, place)) in
-          let m = length-remove (remove ts j) j (omega (arith, place)) in
-          elim (cases_lt k j) [
-            | inl below ↦ (
-                subst (λ x. IsBranch (levels ts) x)
-                (sym (get_or-remove_below (remove ts j) j d k below (omega (arith, place)) ∙ (get_or-remove_below ts j d k below (omega (arith, place)) ∙ get_or_default ts k d unused (omega (arith, place)))))
-                (near.others k (omega (arith, place)) (λ z. omega (arith, near.branch, near.fork)))
-                )
-            | inr above ↦ (
-                subst (λ x. IsBranch (levels ts) x)
-                (sym (get_or-remove_above (remove ts j) j d k above (omega (arith, place)) ∙ (get_or-remove_above ts j d (k + 1) (omega arith) (omega (arith, place)) ∙ get_or_default ts (k + 1 + 1) d unused (omega arith))))
-                (near.others (k + 1 + 1) (omega arith) (λ z. omega (arith, near.branch, near.fork)))
-                )
-          ]
-
   abbrev both : Type 0
-  both = (lower.height + 1 ≡ levels ts) × (upper.height + 1 ≡ levels ts) × (min lower.width upper.width ≡ 4) × (9 ≤ lower.width + upper.width)
+  both = ((get_or ts j unused).height + 1 ≡ levels ts) × ((get_or ts (j + 1) unused).height + 1 ≡ levels ts) × (min (get_or ts j unused).width (get_or ts (j + 1) unused).width ≡ 4) × (9 ≤ (get_or ts j unused).width + (get_or ts (j + 1) unused).width)
 
   widths : both
   widths =
       elim (cases_lt i (length ss)) [
         | inl lt ↦ (
-            let e : i ≡ j = omega arith in
-            let v : get_or ts i unused ≡ lower = ap (λ m. get_or ts m unused) e ∙ sym el in
+            let v : get_or ts i unused ≡ get_or ts j unused = ap (λ m. get_or ts m unused) (omega arith) in
             let s = subst (λ x. IsShort (levels ts) x) v near.short in
-            let o = subst (λ x. IsBranch (levels ts) x) (sym upper_is) (near.others (j + 1) (omega (arith, place)) (λ z. omega arith)) in
-            let q : lower.width < 5 = subst (λ x. x.width < 5) v short in
+            let o = near.others (j + 1) place (λ z. omega arith) in
+            let q : (get_or ts j unused).width < 5 = subst (λ x. x.width < 5) v short in
             (s.height, o.height, omega (arith, s.wide, o.wide), omega (arith, s.wide, o.wide))
             )
         | inr ge ↦ (
-            let e : i ≡ j + 1 = omega (arith, near.branch, near.fork, near.some) in
-            let v : get_or ts i unused ≡ upper = ap (λ m. get_or ts m unused) e ∙ sym upper_is in
+            let v : get_or ts i unused ≡ get_or ts (j + 1) unused = ap (λ m. get_or ts m unused) (omega (arith, near.branch, near.fork, near.some)) in
             let s = subst (λ x. IsShort (levels ts) x) v near.short in
-            let o = subst (λ x. IsBranch (levels ts) x) (sym el) (near.others j (omega (arith, place)) (λ z. omega arith)) in
-            let q : upper.width < 5 = subst (λ x. x.width < 5) v short in
+            let o = near.others j (omega (arith, place)) (λ z. omega arith) in
+            let q : (get_or ts (j + 1) unused).width < 5 = subst (λ x. x.width < 5) v short in
             (o.height, s.height, omega (arith, s.wide, o.wide), omega (arith, s.wide, o.wide))
             )
       ]
 
-  pub taken : AreTaken ts us ss j lower upper
-  taken =
+  pub neighbours : starts (lists ts) ≤ 2 ^ 32 → AreNeighbours ts ss j
+  neighbours room =
       let b = widths in
       let n = length-lists ts in
-      let x : length (get_or (lists ts) j []) ≡ length lower.slots = ap length (list_at ts j (omega (arith, place))) ∙ ap (λ t. length t.slots) (sym el) in
-      let y : length (get_or (lists ts) (j + 1) []) ≡ length upper.slots = ap length (list_at ts (j + 1) place) ∙ ap (λ t. length t.slots) (sym upper_is) in
       let p = starts_drop (lists ts) j (omega (arith, place)) in
       let q = starts_drop (lists ts) (j + 1) (omega (arith, place)) in
-      let r = length-remove ts j (omega (arith, place)) in
-      let u : insert (remove (remove ts j) j) j upper ≡ remove ts j = back_in (remove ts j) j unused upper (omega (arith, place)) (ep ∙ ap (λ l. get_or l j unused) er) in
-      let k : insert (insert us j upper) j lower ≡ ts =
-      ap (λ l. insert (insert l j upper) j lower) us_is ∙ (ap (λ l. insert l j lower) u ∙ back_in ts j unused lower (omega (arith, place)) el) in
       record {
-        all = subst (λ h. All (IsBranch h) us) (sym b.0) others;
+        two = record {
+          within = place;
+          pair = record { height = omega (arith, b.0, b.1); short = b.2; other = b.3 };
+          room = omega (arith, starts_split (lists ts) j, ap length (list_at ts j (omega (arith, place))), ap length (list_at ts (j + 1) place));
+        };
+        fork = near.fork;
         height = b.0;
-        fork = omega (arith, length_left, near.fork);
-        within = omega (arith, near.branch, near.fork, near.some);
-        pair = record { height = omega (arith, b.0, b.1); short = b.2; other = b.3 };
-        room = omega (arith, starts_split (lists ts) j);
-        back = ap (λ l. insert l j lower.slots) (sym (map-insert (λ t. t.slots) us j upper)) ∙ (sym (map-insert (λ t. t.slots) (insert us j upper) j lower) ∙ ap lists k);
+        others = λ k lt off away. near.others k lt (off_both k lt off away);
       }
+    where
+      off_both : (k : ℕ) → k < length ts → k ≢ j → k ≢ j + 1 → k ≡ i → ⊥
+      off_both k lt off away z =
+          elim (cases_lt i (length ss)) [
+            | inl below ↦ off (omega arith)
+            | inr above ↦ away (omega (arith, near.branch, near.fork, near.some))
+          ]

@@ -1,5 +1,5 @@
 -- Two neighbours of which one is a slot short, and what they are when they are rebalanced. No public clause cites this module.
-use Rattle.std.specs.Prelude.{◌≡◌, ℕ, ◌+◌, ◌-◌, ◌*◌, ◌<◌, ◌≤◌, min, nat_lt, if◌then◌else◌, List, ◌∷◌, ◌++◌, length, slice_index_or}
+use Rattle.std.specs.Prelude.{◌≡◌, ℕ, ◌+◌, ◌-◌, ◌*◌, ◌^◌, ◌<◌, ◌≤◌, min, nat_lt, if◌then◌else◌, List, ◌∷◌, ◌++◌, length, remove, slice_index_or, slice_set}
 use Rattle.std.proofs.Common.{◌≢◌}
 use Rattle.iddqd_ord_index.specs.Changes.{Stock}
 use Rattle.iddqd_ord_index.specs.Shape.{Subtree, IsDense, IsBranch, least_slots, levels, unused}
@@ -35,6 +35,29 @@ pub record IsShifted (a : Subtree) (middle : ℕ) (b lower : Subtree) (top : ℕ
   pub lower_branch : IsBranch (a.height + 1) lower
   pub upper_branch : IsBranch (a.height + 1) upper
 
+-- the j-th branch and the next are such a pair, and their slots can be counted
+pub record ArePair (ts : List Subtree) (j : ℕ) : Type 0 where
+  pub within : j + 1 < length ts
+  pub pair : IsPair (slice_index_or ts j unused) (slice_index_or ts (j + 1) unused)
+  pub room : length (slice_index_or ts j unused).slots + length (slice_index_or ts (j + 1) unused).slots + 1 < 2 ^ 32
+
+-- how many slots of their own the j-th branch and the next have
+abbrev pub pair_width : List Subtree → ℕ → ℕ
+pair_width ts j = (slice_index_or ts j unused).width + (slice_index_or ts (j + 1) unused).width
+
+-- the j-th branch and the next were merged in the place of the j-th
+pub record IsMergedAt (j middle : ℕ) (ts us : List Subtree) : Type 0 where
+  pub lower : Subtree
+  pub merged : IsMerged (slice_index_or ts j unused) middle (slice_index_or ts (j + 1) unused) lower
+  pub branches : us ≡ slice_set (remove ts (j + 1)) j lower
+
+-- a slot has moved between the j-th branch and the next
+pub record IsShiftedAt (j middle : ℕ) (ts : List Subtree) (top : ℕ) (us : List Subtree) : Type 0 where
+  pub lower : Subtree
+  pub upper : Subtree
+  pub shifted : IsShifted (slice_index_or ts j unused) middle (slice_index_or ts (j + 1) unused) lower top upper
+  pub branches : us ≡ slice_set (slice_set ts j lower) (j + 1) upper
+
 -- a branch of a node of height h that may be a slot short
 pub record IsShort (h : ℕ) (t : Subtree) : Type 0 where
   pub height : t.height + 1 ≡ h
@@ -48,6 +71,13 @@ pub record IsNear (ts : List Subtree) (ss : List ℕ) (i : ℕ) : Type 0 where
   pub some : 0 < length ss
   pub short : IsShort (levels ts) (slice_index_or ts i unused)
   pub others : (k : ℕ) → k < length ts → k ≢ i → IsBranch (levels ts) (slice_index_or ts k unused)
+
+-- the branches and slots of a node, but that the j-th branch and the next are such a pair
+pub record AreNeighbours (ts : List Subtree) (ss : List ℕ) (j : ℕ) : Type 0 where
+  pub two : ArePair ts j
+  pub fork : length ts ≡ length ss + 1
+  pub height : (slice_index_or ts j unused).height + 1 ≡ levels ts
+  pub others : (k : ℕ) → k < length ts → k ≢ j → k ≢ j + 1 → IsBranch (levels ts) (slice_index_or ts k unused)
 
 -- an unused block is kept as long as it is wanted
 abbrev pub given_back : Stock → Stock

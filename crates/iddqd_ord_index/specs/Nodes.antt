@@ -88,14 +88,6 @@ slots_of bs ss = in_order (lists (below bs)) ss.items
 abbrev pub slots_with : Branches → ArrayVec ℕ → ℕ → ℕ → Subtree → List ℕ
 slots_with bs ss i middle upper = in_order (insert (lists (below bs)) (i + 1) upper.slots) (insert ss.items i middle)
 
--- the same with two branches more at place j
-abbrev pub slots_with_pair : Branches → ArrayVec ℕ → ℕ → Subtree → Subtree → List ℕ
-slots_with_pair bs ss j lower upper = in_order (insert (insert (lists (below bs)) j upper.slots) j lower.slots) ss.items
-
--- two branches were put in at place j, or what they are once they are rebalanced
-abbrev pub InsertsPair : ℕ → Subtree → Subtree → Branches → ArrayVec ℕ → Branches → ArrayVec ℕ → Type 0
-InsertsPair j lower upper bs ss cs ts = slots_of cs ts ≡ slots_with_pair bs ss j lower upper
-
 -- the branches with one more behind the i-th
 abbrev pub below_with : Branches → ℕ → Subtree → List Subtree
 below_with bs i t = insert (below bs) (i + 1) t

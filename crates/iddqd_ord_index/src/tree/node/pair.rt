@@ -1,8 +1,9 @@
 //! Two neighbours of which one is a slot short: both are merged, or one borrows from the other.
-ghost use Rattle.std.specs.Prelude.{◌≡◌, ◌+◌, ◌<◌, ◌≤◌, ◌++◌, length, take, drop, IfSome, IsSome};
-ghost use Rattle.iddqd_ord_index.specs.Neighbours.{all_slots, IsAsHigh, IsMerged, IsNarrower, IsPair, IsShifted, IsWider};
-ghost use Rattle.iddqd_ord_index.specs.Nodes.{below, AreBranches, HasBlock, IsBare};
-ghost use Rattle.iddqd_ord_index.specs.Shape.{IsDense};
+ghost use Rattle.std.specs.Prelude.{◌≡◌, ◌+◌, ◌<◌, ◌≤◌, ◌++◌, length, take, drop, slice_index_or, IfSome, IsSome};
+ghost use Rattle.iddqd_ord_index.specs.Cells.{IsPacked};
+ghost use Rattle.iddqd_ord_index.specs.Neighbours.{all_slots, pair_width, ArePair, IsAsHigh, IsMerged, IsMergedAt, IsNarrower, IsPair, IsShifted, IsShiftedAt, IsWider};
+ghost use Rattle.iddqd_ord_index.specs.Nodes.{below, subtrees, AreBranches, HasBlock, IsBare};
+ghost use Rattle.iddqd_ord_index.specs.Shape.{unused, IsDense};
 
 use super::{Block, Branches, MOST_BRANCHES, Node};
 use crate::tree::slots::MOST_SLOTS;
@@ -51,7 +52,7 @@ fn move_last(lower: &mut Branches, len: usize, upper: &mut Branches)
 
 impl Node {
     // Moves all of `upper` behind `middle` into the node, and returns the block of `upper`, which only a leaf lacks.
-    pub(super) fn merge(&mut self, middle: u32, mut upper: Node) -> Option<Box<Block>>
+    fn merge(&mut self, middle: u32, mut upper: Node) -> Option<Box<Block>>
         requires pair { IsPair self.old upper }
         requires fits { self.old.width + upper.width < MOST_SLOTS }
 
@@ -108,7 +109,7 @@ impl Node {
     }
 
     // Moves a slot from the wider of two neighbours to the narrower one. Returns the slot between them.
-    pub(super) fn shift(&mut self, middle: u32, upper: &mut Node) -> u32
+    fn shift(&mut self, middle: u32, upper: &mut Node) -> u32
         requires pair { IsPair self.old upper.old }
         requires many { MOST_SLOTS ≤ self.old.width + upper.old.width }
         ensures { IsShifted self.old middle upper.old self.new result upper.new }
@@ -117,5 +118,80 @@ impl Node {
             return self.borrow_first(middle, upper);
         }
         self.lend_last(middle, upper)
+    }
+}
+
+// Moves a slot from the wider of the nodes in cell j and the next to the narrower one. Returns the slot between them,
+// and how many slots the lower one has then.
+fn shift_cells(nodes: &mut [Option<Node>], j: usize, middle: u32) -> (u32, u32)
+    requires packed { IsPacked nodes.old }
+    requires pair { ArePair (subtrees nodes.old) j }
+    requires many { MOST_SLOTS ≤ pair_width (subtrees nodes.old) j }
+
+    // afterwards
+    ensures packed { IsPacked nodes.new }
+    ensures shifted { IsShiftedAt j middle (subtrees nodes.old) result.0 (subtrees nodes.new) }
+    ensures len { result.1 ≡ length (slice_index_or (subtrees nodes.new) j unused).slots }
+{
+    let (front, back) = nodes.split_at_mut(j + 1);
+    let Some(lower) = &mut front[j] else {
+        unreachable!()
+    };
+    let Some(upper) = &mut back[0] else {
+        unreachable!()
+    };
+    let top = lower.shift(middle, upper);
+    (top, lower.len())
+}
+
+impl Branches {
+    // Merges the j-th branch and the next in the cell of the j-th, with the slot between them. Returns the block of the
+    // next, which only a leaf lacks.
+    pub(super) fn merge_at(&mut self, j: usize, middle: u32) -> Option<Box<Block>>
+        requires branches { AreBranches self.old }
+        requires pair { ArePair (below self.old) j }
+        requires fits { pair_width (below self.old) j < MOST_SLOTS }
+
+        // the branches
+        ensures branches { AreBranches self.new }
+        ensures merged { IsMergedAt j middle (below self.old) (below self.new) }
+
+        // the block
+        ensures bare { IfSome result (λ block. IsBare block.value) }
+        ensures some { 1 < (slice_index_or (below self.old) j unused).height → IsSome result }
+    {
+        let (upper, more) = self.remove(j + 1);
+        let len = self.count(j);
+        let Some(block) = &mut self.block else {
+            unreachable!()
+        };
+        let nodes: &mut [Option<Node>] = &mut block.nodes;
+        let Some(lower) = &mut nodes[j] else {
+            unreachable!()
+        };
+        let bare = lower.merge(middle, upper);
+        self.set_count(j, len + more + 1);
+        bare
+    }
+
+    // Moves a slot from the wider of the j-th branch and the next to the narrower one, in their cells. Returns the slot
+    // between them.
+    pub(super) fn shift_at(&mut self, j: usize, middle: u32) -> u32
+        requires branches { AreBranches self.old }
+        requires pair { ArePair (below self.old) j }
+        requires many { MOST_SLOTS ≤ pair_width (below self.old) j }
+
+        // afterwards
+        ensures branches { AreBranches self.new }
+        ensures shifted { IsShiftedAt j middle (below self.old) result (below self.new) }
+    {
+        let total = self.count(j) + self.count(j + 1);
+        let Some(block) = &mut self.block else {
+            unreachable!()
+        };
+        let (top, len) = shift_cells(&mut block.nodes, j, middle);
+        self.set_count(j, len);
+        self.set_count(j + 1, total - len);
+        top
     }
 }

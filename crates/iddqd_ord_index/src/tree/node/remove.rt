@@ -1,60 +1,41 @@
 //! Removal: a branch that is a slot short is rebalanced with a neighbour.
-ghost use Rattle.std.specs.Prelude.{◌≡◌, ◌+◌, ◌-◌, ◌^◌, ◌<◌, ◌≤◌, All, min, length, insert, remove, slice_index, slice_set, slice_index_or, IfSome, IsSome};
+ghost use Rattle.std.specs.Prelude.{◌≡◌, ◌+◌, ◌-◌, ◌^◌, ◌<◌, ◌≤◌, length, remove, slice_index, slice_set, slice_index_or, IfSome, IsSome};
 ghost use Rattle.iddqd_ord_index.specs.Changes.{GivesBack, IsReplaced, IsSameOrOneLess, IsShorter};
-ghost use Rattle.iddqd_ord_index.specs.Neighbours.{IsPair, IsNear, MayGiveBack};
-ghost use Rattle.iddqd_ord_index.specs.Nodes.{below, slots_of, AreBranches, HasBlock, InsertsPair, IsBare};
-ghost use Rattle.iddqd_ord_index.specs.Shape.{levels, lists, starts, unused, in_order, IsBranch, IsDense, IsForked};
+ghost use Rattle.iddqd_ord_index.specs.Neighbours.{AreNeighbours, IsNear, MayGiveBack};
+ghost use Rattle.iddqd_ord_index.specs.Nodes.{below, slots_of, AreBranches, IsBare};
+ghost use Rattle.iddqd_ord_index.specs.Shape.{levels, lists, starts, unused, IsDense, IsForked};
 
 use super::{Block, Branches, LEAST_SLOTS, Node};
 use crate::tree::pool::BlockPool;
 use crate::tree::slots::{MOST_SLOTS, Slots};
 
-// Rebalances the neighbours `lower` and `upper`, which have `total` slots. It puts them, or the one that they are now,
-// in as the j-th branch and the next.
-fn rebalance_at(
-    slots: &mut Slots,
-    branches: &mut Branches,
-    j: usize,
-    mut lower: Node,
-    mut upper: Node,
-    total: u32,
-    pool: &mut BlockPool,
-)
+// Rebalances the j-th branch and the next, of which one is a slot short, where they stand.
+fn rebalance_at(slots: &mut Slots, branches: &mut Branches, j: usize, pool: &mut BlockPool)
     requires branches { AreBranches branches.old }
-    requires block { HasBlock branches.old }
-    requires all { All (IsBranch (lower.height + 1)) (below branches.old) }
-    requires fork { length (below branches.old) + 1 ≡ length slots.old.items }
-    requires in_bounds { j < length slots.old.items }
-    requires pair { IsPair lower upper }
-    requires total { total ≡ length lower.slots + length upper.slots }
-    requires room { total + 1 < 2 ^ 32 }
+    requires pair { AreNeighbours (below branches.old) slots.old.items j }
 
     // the branches
     ensures branches { AreBranches branches.new }
     ensures forked { IsForked (below branches.new) slots.new.items }
-    ensures levels { levels (below branches.new) ≡ lower.height + 1 }
+    ensures levels { levels (below branches.new) ≡ levels (below branches.old) }
 
     // the slots
-    ensures slots { InsertsPair j lower upper branches.old slots.old branches.new slots.new }
+    ensures slots { slots_of branches.new slots.new ≡ slots_of branches.old slots.old }
     ensures width { IsSameOrOneLess (length slots.old.items) (length slots.new.items) }
 
     // the unused blocks
     ensures kept { length slots.new.items ≡ length slots.old.items → pool.new ≡ pool.old }
-    ensures gives_back { IsShorter slots.old slots.new → MayGiveBack (lower.height + 1) pool.old pool.new }
+    ensures gives_back { IsShorter slots.old slots.new → MayGiveBack (levels (below branches.old)) pool.old pool.new }
 {
     let middle = slots.as_slice()[j];
-    if lower.width() + upper.width() < MOST_SLOTS {
+    if branches.get(j).width() + branches.get(j + 1).width() < MOST_SLOTS {
         slots.remove(j);
-        let block = lower.merge(middle, upper);
-        branches.insert(j, lower, total + 1);
+        let block = branches.merge_at(j, middle);
         pool.give_back(block);
         return;
     }
-    let top = lower.shift(middle, &mut upper);
-    let count = lower.len();
+    let top = branches.shift_at(j, middle);
     slots.replace(j, top);
-    branches.insert(j, upper, total - count);
-    branches.insert(j, lower, count);
 }
 
 // Rebalances the i-th branch, whose node has this many slots of its own, if it is one short.
@@ -88,17 +69,7 @@ pub(super) fn rebalance(
         return;
     }
     let j = i.min(slots.len() - 1);
-    let (lower, lower_count) = branches.remove(j);
-    let (upper, upper_count) = branches.remove(j);
-    rebalance_at(
-        slots,
-        branches,
-        j,
-        lower,
-        upper,
-        lower_count + upper_count,
-        pool,
-    );
+    rebalance_at(slots, branches, j, pool);
 }
 
 // Returns the slot that leaves its node if position `rest` of the i-th branch, which had `len` slots, is removed.
