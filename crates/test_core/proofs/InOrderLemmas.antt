@@ -1,7 +1,7 @@
 -- An index and a store stay in order as slots come and go.
 use Rattle.std.proofs.Common.{◌≡◌, ◌≢◌, ℕ, suc, ◌-◌, List, [], ◌++◌, length, map, take, set, Option, Some, None, Err, Ok, is_some, sym, ap, ◌∙◌, subst, arith, true≢false}
 use Rattle.std.proofs.lemmas.List.{append-nil, drop_all, length-map}
-use Rattle.std.proofs.lemmas.List.Elements.{All-append, All-take, All-drop, All-set}
+use Rattle.std.proofs.lemmas.List.Elements.{All-append, All-cons, All-take, All-drop, All-set}
 use Rattle.std.specs.List.{All, Contains, insert, remove}
 use Rattle.std.specs.List.Sorted.{IsStrictlySortedBy}
 use Rattle.std.specs.declared.cmp.Ordering.{Ordering}
@@ -12,7 +12,6 @@ use Rattle.iddqd_ord_index.specs.Search.{IsPlaceAmong}
 use Rattle.iddqd_store.specs.Contents.{Ascends}
 use Rattle.iddqd_store.specs.Store.{Store, item_at, IsOccupied, Updates}
 use Rattle.iddqd_store.proofs.KeepsLemmas.{ascends_insert, ascends_remove, ascends_set}
-use Rattle.iddqd_ord_index.proofs.HalfLemmas.{All-insert}
 use Rattle.iddqd_ord_index.proofs.ListedLemmas.{listed-added, listed-remove, listed-same, listed-set}
 use Rattle.test_core.specs.InOrder.{InOrder}
 
@@ -38,8 +37,9 @@ module _ {T K : Type 0} (key : T → K) (cmp : K → K → Ordering) where
   pub in_order_added : IsTotalOrder cmp → (old new : Store T) (slots : List ℕ) (slot i : ℕ) (x : T) → InOrder key cmp old slots → item_at old slot ≡ None
       → Updates old new slot (Some x) → IsPlaceAmong (cmp (key x)) (map key (listed_items old slots)) (Err i) → InOrder key cmp new (insert slots i slot)
   in_order_added total old new slots slot i x o vacant u at =
+      let more = still old new slots slot x o.occupied vacant u in
       record {
-        occupied = All-insert (IsOccupied new) slots i slot (ap is_some u.changed) (still old new slots slot x o.occupied vacant u);
+        occupied = All-append (IsOccupied new) (take i slots) _ (All-take (IsOccupied new) i slots more) (All-cons (IsOccupied new) slot _ (ap is_some u.changed) (All-drop (IsOccupied new) i slots more));
         ascending = subst (Ascends key cmp) (sym (listed-added old new slots i slot x o.occupied vacant u.changed u.others)) (ascends_insert key total x (listed_items old slots) i o.ascending at.0 at.1 at.2);
       }
 
