@@ -1,6 +1,5 @@
 //! Copies of a map, and equality of two.
-use crate::held::{Held, Hosts, check, host, host_of, left};
-use crate::hosts::Host;
+use crate::held::{By, Held, Host, Hosts, NONE, Step, Way, check, host, host_of, left};
 use iddqd_bi_hash::BiHashMap;
 use std::alloc::Global;
 use std::process::Abort;
@@ -10,11 +9,11 @@ use test_support::hashers::{FewBits, Varying};
 fn part_ways(rt: &impl Abort, mut all: Hosts, mut copy: Hosts) {
     check(rt, copy.holds(&left()) && copy.map.vacant() == 2);
     check(rt, are_equal(rt, &all, &copy));
-    check(rt, copy.remove1(&2) == Some(host(2)));
-    check(rt, copy.set_by_number(5, 50));
-    check(rt, all.holds(&left()));
-    check(rt, all.remove2(&100) == Some(host(0)));
-    check(rt, all.is_put(host(7)));
+    let gone = Step::Remove(By::First, 2, 0, Some(host(2)));
+    copy.run(rt, &[gone, Step::Load(By::First, 5, 0, 50, true)]);
+    let gone = Step::Remove(By::Second, 0, 100, Some(host(0)));
+    let new = Step::Insert(Way::Unique, host(7), NONE);
+    all.run(rt, &[Step::Holds(&left()), gone, new]);
     check(rt, copy.holds(&[host(0), host(3), host_of(5, 105, 50)]));
     check(rt, !all.eq(&copy));
     drop_copy(rt, &all, copy);
@@ -43,7 +42,7 @@ fn a_copy_has_the_limit(rt: HostRuntime) {
     all.fill(&rt, 2);
     let mut copy = all.copied().expect(&rt, "memory");
     check(&rt, copy.map.limit() == 2 && copy.holds_below(2));
-    check(&rt, !copy.is_put(host(2)));
+    copy.run(&rt, &[Step::Refuse(Way::Unique, host(2))]);
     check(&rt, copy.holds_below(2));
 }
 
@@ -51,13 +50,10 @@ fn a_copy_has_the_limit(rt: HostRuntime) {
 fn a_copy_of_none(rt: HostRuntime) {
     let all = Hosts::new(rt.alloc());
     let mut copy = all.copied().expect(&rt, "memory");
-    check(&rt, copy.holds(&[]) && copy.map.limit() > 2);
-    check(&rt, copy.is_put(host(3)) && copy.holds(&[host(3)]));
+    check(&rt, copy.map.limit() > 2);
+    let new = Step::Insert(Way::Unique, host(3), NONE);
+    copy.run(&rt, &[Step::Holds(&[]), new, Step::Holds(&[host(3)])]);
     check(&rt, all.holds(&[]));
-}
-
-fn finds_twenty(rt: &impl Abort, all: &Held<Host, FewBits>) {
-    check(rt, all.holds_below(20) && !all.contains_key1(&20));
 }
 
 // The hosts are found under the hasher of the copy, which tells few hashes apart.
@@ -66,9 +62,11 @@ fn a_copy_has_the_hasher(rt: HostRuntime) {
     let hasher = FewBits::new(Varying::High);
     let mut all = Held::over(BiHashMap::with_hasher(rt.alloc(), hasher));
     all.fill(&rt, 20);
-    let copy = all.map.clone().expect(&rt, "memory");
-    finds_twenty(&rt, &Held::over(copy));
-    finds_twenty(&rt, &all);
+    let copy = Held::over(all.map.clone().expect(&rt, "memory"));
+    for each in [&copy, &all] {
+        let is_found = each.contains(By::First, &20, &0);
+        check(&rt, !is_found && each.holds_below(20));
+    }
 }
 
 // Whether the maps are equal, which each of them says.
@@ -82,10 +80,10 @@ fn are_equal(rt: &impl Abort, one: &Hosts, other: &Hosts) -> bool {
 fn equal_in_another_order(rt: HostRuntime) {
     let one = Hosts::with_gaps(&rt, rt.alloc());
     let other = Hosts::of(&rt, rt.alloc(), &[host(5), host(0), host(3), host(2)]);
-    check(&rt, are_equal(&rt, &one, &other));
-    check(&rt, are_equal(&rt, &one, &one));
     let (none, void) = (Hosts::new(rt.alloc()), Hosts::new(rt.alloc()));
-    check(&rt, are_equal(&rt, &none, &void));
+    for (one, other) in [(&one, &other), (&one, &one), (&none, &void)] {
+        check(&rt, are_equal(&rt, one, other));
+    }
 }
 
 // A map of the hosts 1 and 2, and one of these, are unequal.
@@ -101,10 +99,14 @@ fn unequal_by_a_value(rt: HostRuntime) {
 
 #[test]
 fn unequal_by_a_key(rt: HostRuntime) {
-    differs(&rt, rt.alloc(), &[host(1), host_of(3, 102, 2)]);
-    differs(&rt, rt.alloc(), &[host(1), host_of(2, 103, 2)]);
     let crossed = [host_of(1, 102, 1), host_of(2, 101, 2)];
-    differs(&rt, rt.alloc(), &crossed);
+    for hosts in [
+        [host(1), host_of(3, 102, 2)],
+        [host(1), host_of(2, 103, 2)],
+        crossed,
+    ] {
+        differs(&rt, rt.alloc(), &hosts);
+    }
 }
 
 #[test]

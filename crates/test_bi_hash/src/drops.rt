@@ -1,5 +1,5 @@
 //! Each item that a map of two keys drops is dropped once.
-use crate::held::{Held, check};
+use crate::held::{Held, Way, check};
 use iddqd_bi_hash::{BiHashItem, BiHashMap, Visit};
 use std::alloc::{AllocError, Global};
 use std::cell::Cell;
@@ -63,12 +63,6 @@ impl<'a> Visit<Ticket<'a>> for KeepsEven {
     }
 }
 
-impl<'a> Held<Ticket<'a>> {
-    fn keep_even(&mut self) {
-        self.map.retain_mut(&mut KeepsEven);
-    }
-}
-
 // The items of equal keys below this number.
 fn below<'a>(rt: &impl Abort, alloc: Global, end: u32, dropped: &'a Cell<u32>) -> Held<Ticket<'a>> {
     let mut all = Held::new(alloc);
@@ -80,11 +74,20 @@ fn below<'a>(rt: &impl Abort, alloc: Global, end: u32, dropped: &'a Cell<u32>) -
     all
 }
 
+// Of nine such items those of even keys.
+fn even<'a>(rt: &impl Abort, alloc: Global, dropped: &'a Cell<u32>) -> Held<Ticket<'a>> {
+    let mut all = below(rt, alloc, 9, dropped);
+    all.map.retain_mut(&mut KeepsEven);
+    all
+}
+
+type Keys = [(u32, u32); 3];
+
 // Items of these keys.
 fn tickets<'a>(
     rt: &impl Abort,
     alloc: Global,
-    all_keys: [(u32, u32); 3],
+    all_keys: Keys,
     dropped: &'a Cell<u32>,
 ) -> Vec<Ticket<'a>> {
     let mut tickets = Vec::new(alloc);
@@ -95,15 +98,12 @@ fn tickets<'a>(
 }
 
 // The second and the third item have a key of the first.
-const REPEATED: [(u32, u32); 3] = [(7, 7), (7, 8), (9, 7)];
+const REPEATED: Keys = [(7, 7), (7, 8), (9, 7)];
+
+type Wanted = (u32, usize, u32);
 
 // So many items were dropped, the map has so many, and so many were dropped once it is.
-fn drop_all(
-    rt: &impl Abort,
-    all: Held<Ticket<'_>>,
-    dropped: &Cell<u32>,
-    wanted: (u32, usize, u32),
-) {
+fn drop_all(rt: &impl Abort, all: Held<Ticket<'_>>, dropped: &Cell<u32>, wanted: Wanted) {
     let (before, length, after) = wanted;
     check(rt, dropped.get() == before && all.map.len() == length);
     drop(all);
@@ -113,19 +113,24 @@ fn drop_all(
 #[test]
 fn retained_by_a_visitor(rt: HostRuntime) {
     let dropped = Cell::new(0);
-    let mut all = below(&rt, rt.alloc(), 9, &dropped);
-    all.keep_even();
-    drop_all(&rt, all, &dropped, (4, 5, 9));
+    drop_all(&rt, even(&rt, rt.alloc(), &dropped), &dropped, (4, 5, 9));
+}
+
+// Inserts items of these keys into a map of three.
+fn extend(rt: &impl Abort, alloc: Global, way: Way, all_keys: Keys, wanted: Wanted) {
+    let dropped = Cell::new(0);
+    let mut all = below(rt, alloc, 3, &dropped);
+    let items = tickets(rt, alloc, all_keys, &dropped);
+    let is_repeated = matches!(way, Way::Unique).then_some(true);
+    check(rt, all.meets_repeat(way, items) == is_repeated);
+    drop_all(rt, all, &dropped, wanted);
 }
 
 // One item displaces two, one displaces one, and one displaces none.
 #[test]
 fn displaced_by_extend(rt: HostRuntime) {
-    let dropped = Cell::new(0);
-    let mut all = below(&rt, rt.alloc(), 3, &dropped);
-    let items = tickets(&rt, rt.alloc(), [(0, 1), (5, 5), (2, 7)], &dropped);
-    check(&rt, all.extend(items).is_ok());
-    drop_all(&rt, all, &dropped, (3, 3, 6));
+    let all_keys = [(0, 1), (5, 5), (2, 7)];
+    extend(&rt, rt.alloc(), Way::Overwrite, all_keys, (3, 3, 6));
 }
 
 // The first is displaced by the second, and the other two are dropped with the map.
@@ -140,11 +145,15 @@ fn displaced_by_from_iter(rt: HostRuntime) {
 // The repeat is dropped with the error, and the item behind it with the iterator.
 #[test]
 fn refused_by_extend_unique(rt: HostRuntime) {
-    let dropped = Cell::new(0);
-    let mut all = below(&rt, rt.alloc(), 3, &dropped);
-    let items = tickets(&rt, rt.alloc(), REPEATED, &dropped);
-    check(&rt, !all.is_extended(items));
-    drop_all(&rt, all, &dropped, (2, 4, 6));
+    extend(&rt, rt.alloc(), Way::Unique, REPEATED, (2, 4, 6));
+}
+
+// A copy of five items, which is cleared.
+fn clear_copy(rt: &impl Abort, all: &Held<Ticket<'_>>, dropped: &Cell<u32>) {
+    let mut copy = Held::over(all.map.clone().expect(rt, "memory"));
+    check(rt, copy.map.len() == 5 && dropped.get() == 0);
+    copy.clear();
+    drop_all(rt, copy, dropped, (5, 0, 5));
 }
 
 // What is cleared of a clone is its own.
@@ -152,11 +161,7 @@ fn refused_by_extend_unique(rt: HostRuntime) {
 fn cleared_clone(rt: HostRuntime) {
     let dropped = Cell::new(0);
     let all = below(&rt, rt.alloc(), 5, &dropped);
-    let mut copy = all.map.clone().expect(&rt, "memory");
-    check(&rt, copy.len() == 5 && dropped.get() == 0);
-    copy.clear();
-    check(&rt, copy.len() == 0 && dropped.get() == 5);
-    drop(copy);
+    clear_copy(&rt, &all, &dropped);
     drop_all(&rt, all, &dropped, (5, 5, 10));
 }
 
@@ -164,8 +169,7 @@ fn cleared_clone(rt: HostRuntime) {
 #[test]
 fn moved_by_a_shrink(rt: HostRuntime) {
     let dropped = Cell::new(0);
-    let mut all = below(&rt, rt.alloc(), 9, &dropped);
-    all.keep_even();
-    check(&rt, all.shrink_to_fit().is_ok());
+    let mut all = even(&rt, rt.alloc(), &dropped);
+    check(&rt, all.shrink(None).is_ok());
     drop_all(&rt, all, &dropped, (4, 5, 9));
 }

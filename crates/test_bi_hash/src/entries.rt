@@ -1,46 +1,46 @@
 //! Entries: what they find, and what they insert, replace and remove.
-use crate::held::{Held, Hosts, Met, check, host, host_of, met, shown};
-use crate::hosts::Host;
+use crate::held::{Held, Host, Hosts, Met, check, host, host_of, met, shown};
 use iddqd_bi_hash::bi_hash_map::Entry;
 use iddqd_bi_hash::{BiHashMap, Keyed};
+use std::process::Abort;
+
+// What is done with the hosts of an entry.
+#[derive(Clone, Copy)]
+enum Use {
+    Show,
+    Remove,
+    Replace,
+    // Writes the load of the host that has both keys.
+    Load,
+}
 
 impl Held<Host> {
-    // The hosts that the entry of the two keys has, and whether it is one that has both.
-    fn found(&mut self, number: u32, address: u64) -> Option<(Met, bool)> {
-        match self.map.entry(&number, &address) {
-            Entry::Vacant(_) => None,
-            Entry::Occupied(entry) => Some((shown(&entry.items()), entry.is_unique())),
-        }
-    }
-
-    // Removes the hosts of the entry.
-    fn taken(&mut self, number: u32, address: u64) -> Option<Met> {
-        match self.map.entry(&number, &address) {
-            Entry::Vacant(_) => None,
-            Entry::Occupied(entry) => Some(met(&entry.remove())),
-        }
-    }
-
-    // Replaces the hosts of the new one's entry by it.
-    fn replaced(&mut self, new: Host) -> Option<Met> {
+    // Does this with the entry of the host's keys: the hosts that it has, and whether it is one that has both. It is
+    // `None` if the entry is vacant.
+    #[tactic(auto, using(iddqd_bi_hash::proofs::GuardLemmas::both_keys_kept))]
+    fn entered(&mut self, what: Use, new: Host) -> Option<(Met, bool)> {
         match self.map.entry(&new.number, &new.address) {
             Entry::Vacant(_) => None,
-            Entry::Occupied(entry) => Some(met(&entry.insert(new))),
+            Entry::Occupied(mut entry) => {
+                let is_unique = entry.is_unique();
+                let hosts = match what {
+                    Use::Remove => met(&entry.remove()),
+                    Use::Replace => met(&entry.insert(new)),
+                    Use::Load if is_unique => {
+                        entry.get_mut().load = new.load;
+                        (Some(new), None)
+                    }
+                    Use::Show | Use::Load => shown(&entry.items()),
+                };
+                Some((hosts, is_unique))
+            }
         }
     }
 
-    // Writes the load of the host that has both keys, and returns whether there is one.
-    #[tactic(auto, using(iddqd_bi_hash::proofs::GuardLemmas::both_keys_kept))]
-    fn is_loaded(&mut self, number: u32, address: u64, load: u32) -> bool {
-        match self.map.entry(&number, &address) {
-            Entry::Occupied(mut entry) => {
-                if !entry.is_unique() {
-                    return false;
-                }
-                entry.get_mut().load = load;
-                true
-            }
-            Entry::Vacant(_) => false,
+    // Does this with the entry of each host, and looks whether it has these.
+    fn enter(&mut self, rt: &impl Abort, rows: &[(Use, Host, Option<(Met, bool)>)]) {
+        for (what, new, wanted) in rows {
+            check(rt, self.entered(*what, *new) == *wanted);
         }
     }
 }
@@ -52,10 +52,7 @@ fn passed_through(map: &mut BiHashMap<Host>, new: Host) -> Option<Host>
 {
     match map.entry(&new.number, &new.address) {
         Entry::Vacant(entry) => match entry.insert_entry(new) {
-            Ok(added) => {
-                let back = added.remove();
-                back.get(0).copied()
-            }
+            Ok(added) => added.remove().get(0).copied(),
             Err(_refused) => None,
         },
         Entry::Occupied(_) => None,
@@ -89,18 +86,20 @@ fn a_vacant_entry_inserts(rt: HostRuntime) {
 fn entries_find_one_or_two(rt: HostRuntime) {
     let mut all = Hosts::below(&rt, rt.alloc(), 3);
     let (one, other) = (Some(host(1)), Some(host(2)));
-    for (number, address, found) in [
-        (1, 101, Some(((one, None), true))),
-        (1, 102, Some(((one, other), false))),
-        (2, 101, Some(((other, one), false))),
-        (9, 102, Some(((other, None), false))),
-        (9, 109, None),
-    ] {
-        check(&rt, all.found(number, address) == found);
-    }
+    let rows = [
+        (Use::Show, host_of(1, 101, 0), Some(((one, None), true))),
+        (Use::Show, host_of(1, 102, 0), Some(((one, other), false))),
+        (Use::Show, host_of(2, 101, 0), Some(((other, one), false))),
+        (Use::Show, host_of(9, 102, 0), Some(((other, None), false))),
+        (Use::Show, host_of(9, 109, 0), None),
+    ];
+    all.enter(&rt, &rows);
     check(&rt, all.holds_below(3));
-    check(&rt, all.taken(2, 101) == Some((other, one)));
-    check(&rt, all.taken(2, 101).is_none());
+    let rows = [
+        (Use::Remove, host_of(2, 101, 0), Some(((other, one), false))),
+        (Use::Remove, host_of(2, 101, 0), None),
+    ];
+    all.enter(&rt, &rows);
     check(&rt, all.holds(&[host(0)]));
 }
 
@@ -110,17 +109,21 @@ fn an_entry_of_two_is_replaced(rt: HostRuntime) {
     let mut all = Hosts::below(&rt, rt.alloc(), 3);
     let new = host_of(2, 101, 9);
     let both = (Some(host(2)), Some(host(1)));
-    check(&rt, all.replaced(new) == Some(both));
+    let rows = [
+        (Use::Replace, new, Some((both, false))),
+        (Use::Show, new, Some(((Some(new), None), true))),
+    ];
+    all.enter(&rt, &rows);
     check(&rt, all.holds(&[host(0), new]));
-    check(&rt, all.found(2, 101) == Some(((Some(new), None), true)));
 }
 
 // With memory at hand a vacant entry becomes the new item's, and its removal leaves the others.
 #[test]
 fn an_inserted_entry_has_the_item(rt: HostRuntime) {
     let mut all = Hosts::below(&rt, rt.alloc(), 2);
-    check(&rt, passed_through(&mut all.map, host(2)) == Some(host(2)));
-    check(&rt, passed_through(&mut all.map, host(1)).is_none());
+    for (new, back) in [(host(2), Some(host(2))), (host(1), None)] {
+        check(&rt, passed_through(&mut all.map, new) == back);
+    }
     check(&rt, all.holds(&[host(0), host(1)]));
 }
 
@@ -128,9 +131,17 @@ fn an_inserted_entry_has_the_item(rt: HostRuntime) {
 #[test]
 fn a_unique_entry_is_written(rt: HostRuntime) {
     let mut all = Hosts::below(&rt, rt.alloc(), 3);
-    check(&rt, all.is_loaded(1, 101, 7));
-    for (number, address) in [(1, 102), (9, 102), (9, 109)] {
-        check(&rt, !all.is_loaded(number, address, 8));
-    }
-    check(&rt, all.holds(&[host(0), host_of(1, 101, 7), host(2)]));
+    let (written, other) = (host_of(1, 101, 7), Some(host(2)));
+    let rows = [
+        (Use::Load, written, Some(((Some(written), None), true))),
+        (
+            Use::Load,
+            host_of(1, 102, 8),
+            Some(((Some(written), other), false)),
+        ),
+        (Use::Load, host_of(9, 102, 8), Some(((other, None), false))),
+        (Use::Load, host_of(9, 109, 8), None),
+    ];
+    all.enter(&rt, &rows);
+    check(&rt, all.holds(&[host(0), written, host(2)]));
 }

@@ -1,48 +1,18 @@
 //! Many hosts at once, none of which may have a key of another.
 use crate::bulk::hints_reserve;
-use crate::held::{Hosts, Met, Way, check, host, host_of, shown};
-use crate::hosts::Host;
+use crate::held::{Host, Hosts, Met, NONE, Step, TOO_MANY, Way, host, host_of};
 use crate::rows::hosts;
-use iddqd_bi_hash::ExtendUniqueError;
-use std::process::Abort;
-use test_support::bulk::Hinted;
 
-// What ends the insertion of the hosts: the one that is returned, and those in its way. A refusal by the limit shows the
-// refused host alone.
-fn halted(all: &mut Hosts, coming: &[Host], hint: usize) -> (Option<Host>, Met) {
-    match all.map.extend_unique(Hinted::new(coming, hint)) {
-        Err(ExtendUniqueError::Duplicate(both)) => {
-            (Some(*both.new_item()), shown(both.duplicates()))
-        }
-        Err(ExtendUniqueError::Refused(stopped)) if stopped.error.is_capacity_overflow() => {
-            (stopped.item, (None, None))
-        }
-        Ok(()) | Err(ExtendUniqueError::Refused(_)) => (None, (None, None)),
-    }
-}
-
-// The host ends the insertion of these: the others have its keys, or there is no room. Then the map has those that are
-// left.
-fn stops(
-    rt: &impl Abort,
-    all: &mut Hosts,
-    coming: &[Host],
-    new: Host,
-    in_its_way: Met,
-    left: &[Host],
-) {
-    check(rt, halted(all, coming, 0) == (Some(new), in_its_way));
-    check(rt, all.holds(left));
+// `extend_unique` by the hosts, which a repeat of these ends.
+fn repeats(hosts: &[Host], new: Host, in_its_way: Met) -> Step<'_> {
+    Step::Extend(Way::Unique, hosts, 0, Some((Some(new), in_its_way, false)))
 }
 
 #[test]
 fn all_are_new(rt: HostRuntime) {
-    let mut all = hosts(&rt, rt.alloc());
-    check(&rt, all.is_extended(Hinted::new(&[host(6), host(7)], 0)));
-    check(
-        &rt,
-        all.holds(&[host(1), host(4), host(5), host(6), host(7)]),
-    );
+    let left = [host(1), host(4), host(5), host(6), host(7)];
+    let extend = Step::Extend(Way::Unique, &left[3..], 0, None);
+    hosts(&rt, rt.alloc()).run(&rt, &[extend, Step::Holds(&left)]);
 }
 
 // The one before the repeat stays, and the one after it does not come in.
@@ -50,38 +20,25 @@ fn all_are_new(rt: HostRuntime) {
 fn stopped_by_one_there(rt: HostRuntime) {
     let mut all = hosts(&rt, rt.alloc());
     let left = [host(1), host(4), host(5), host(6)];
-    let new = host_of(4, 109, 9);
-    stops(
-        &rt,
-        &mut all,
-        &[host(6), new, host(7)],
-        new,
-        (Some(host(4)), None),
-        &left,
-    );
-    let new = host_of(9, 105, 9);
-    stops(
-        &rt,
-        &mut all,
-        &[new, host(7)],
-        new,
-        (Some(host(5)), None),
-        &left,
-    );
-    let new = host_of(1, 101, 9);
-    stops(&rt, &mut all, &[new], new, (Some(host(1)), None), &left);
+    let (one, other, both) = (host_of(4, 109, 9), host_of(9, 105, 9), host_of(1, 101, 9));
+    for (coming, new, there) in [
+        (&[host(6), one, host(7)][..], one, host(4)),
+        (&[other, host(7)], other, host(5)),
+        (&[both], both, host(1)),
+    ] {
+        let repeat = repeats(coming, new, (Some(there), None));
+        all.run(&rt, &[repeat, Step::Holds(&left)]);
+    }
 }
 
 #[test]
 fn stopped_by_one_that_came_before(rt: HostRuntime) {
-    let mut all = hosts(&rt, rt.alloc());
+    let left = [host(1), host(4), host(5), host(6), host(7)];
     let new = host_of(9, 106, 9);
-    let halt = halted(&mut all, &[host(6), host(7), new, host(8)], 4);
-    check(&rt, halt == (Some(new), (Some(host(6)), None)));
-    check(
-        &rt,
-        all.holds(&[host(1), host(4), host(5), host(6), host(7)]),
-    );
+    let coming = [host(6), host(7), new, host(8)];
+    let stop = Some((Some(new), (Some(host(6)), None), false));
+    let extend = Step::Extend(Way::Unique, &coming, 4, stop);
+    hosts(&rt, rt.alloc()).run(&rt, &[extend, Step::Holds(&left)]);
 }
 
 // That of the first key comes first, whichever slot it is in.
@@ -90,23 +47,26 @@ fn stopped_by_two(rt: HostRuntime) {
     let mut all = hosts(&rt, rt.alloc());
     let (one, four, five, six) = (Some(host(1)), Some(host(4)), Some(host(5)), Some(host(6)));
     let left = [host(1), host(4), host(5), host(6)];
-    let new = host_of(4, 105, 9);
-    stops(&rt, &mut all, &[new], new, (four, five), &left[..3]);
-    let new = host_of(5, 104, 9);
-    stops(&rt, &mut all, &[new], new, (five, four), &left[..3]);
-    let new = host_of(6, 101, 9);
-    stops(&rt, &mut all, &[host(6), new], new, (six, one), &left);
+    let (new, turned, last) = (host_of(4, 105, 9), host_of(5, 104, 9), host_of(6, 101, 9));
+    for (coming, new, met, count) in [
+        (&[new][..], new, (four, five), 3),
+        (&[turned], turned, (five, four), 3),
+        (&[host(6), last], last, (six, one), 4),
+    ] {
+        let left = Step::Holds(&left[..count]);
+        all.run(&rt, &[repeats(coming, new, met), left]);
+    }
 }
 
 // A repeat is told before a full map. The first host without room is returned, and those before it stay.
 #[test]
 fn stopped_by_the_limit(rt: HostRuntime) {
-    let mut all = Hosts::with_limit(rt.alloc(), 2);
-    let left = [host(1), host(2)];
     let coming = [host(1), host(2), host(3), host(4)];
-    stops(&rt, &mut all, &coming, host(3), (None, None), &left);
-    let new = host_of(9, 102, 9);
-    stops(&rt, &mut all, &[new], new, (Some(host(2)), None), &left);
+    let stop = Some((Some(host(3)), NONE, true));
+    let (new, left) = ([host_of(9, 102, 9)], Step::Holds(&coming[..2]));
+    let repeat = repeats(&new, host_of(9, 102, 9), (Some(host(2)), None));
+    let extend = Step::Extend(Way::Unique, &coming, 0, stop);
+    Hosts::with_limit(rt.alloc(), 2).run(&rt, &[extend, left, repeat, left]);
 }
 
 #[test]
@@ -117,8 +77,7 @@ fn hints_are_reserved(rt: HostRuntime) {
 // A hint past the limit is refused before a host is asked for.
 #[test]
 fn a_hint_past_the_limit_is_refused(rt: HostRuntime) {
-    let mut all = hosts(&rt, rt.alloc());
-    let stopped = all.stopped(Way::Unique, &[host(6)], usize::MAX);
-    check(&rt, stopped == Some((None, true)));
-    check(&rt, all.holds(&[host(1), host(4), host(5)]));
+    let (coming, left) = ([host(6)], [host(1), host(4), host(5)]);
+    let extend = Step::Extend(Way::Unique, &coming, usize::MAX, TOO_MANY);
+    hosts(&rt, rt.alloc()).run(&rt, &[extend, Step::Holds(&left)]);
 }

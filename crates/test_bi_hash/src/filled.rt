@@ -1,10 +1,10 @@
 //! Calls that allocate succeed while memory is at hand: with some hundred hosts the store and both indexes grow often.
 ghost use Rattle.std.specs.Prelude.{IfOk};
 
-use crate::held::{Held, Hosts, Way, check, host, hosts_between};
-use crate::hosts::Host;
+use crate::held::{Held, Host, Hosts, Way, check, host, hosts_between};
 use crate::refused::{is_unmade, made_twice, put_all};
 use iddqd_bi_hash::{BiHashMap, DefaultHashBuilder, Keyed, TryReserveError};
+use std::alloc::Global;
 use std::process::Abort;
 use test_support::bulk::Hinted;
 
@@ -41,15 +41,16 @@ fn from_iter(rt: HostRuntime) {
 // What an iterator announces is reserved, even if it gives nothing.
 #[test]
 fn announced_room(rt: HostRuntime) {
-    let made = Hosts::collected(&rt, rt.alloc(), Way::Unique, &[], 100);
+    let made = Hosts::collected(rt.alloc(), Way::Unique, &[], 100);
     check(&rt, made.is_ok_and(|all| all.map.spare() >= 100));
 }
 
 fn fill_made(rt: &impl Abort, made: Result<BiHashMap<Host>, TryReserveError>)
     requires keyed { IfOk made ⟦<BiHashMap<Host> as Keyed>⟧.keyed }
 {
-    let map = made.expect(rt, "memory");
-    fill(rt, &mut Held::over(map), Way::Unique);
+    let mut all = Held::over(made.expect(rt, "memory"));
+    check(rt, put_all(rt, &mut all, Way::Unique, COUNT) == 0);
+    check(rt, all.holds_below(COUNT));
 }
 
 #[test]
@@ -60,25 +61,28 @@ fn made_with_room(rt: HostRuntime) {
     fill_made(&rt, made);
 }
 
+// `extend` or `extend_unique` by the hosts, of which none is announced, and then all.
+fn extend(rt: &impl Abort, alloc: Global, way: Way, mut all: Hosts) {
+    let hosts = hosts_between(rt, alloc, 0, COUNT);
+    let coming = Hinted::new(hosts.as_slice(), 0);
+    check(rt, all.meets_repeat(way, coming).is_none());
+    check(rt, all.holds_below(COUNT));
+    if let Way::Unique = way {
+        all.clear();
+    }
+    check(rt, all.meets_repeat(way, hosts).is_none());
+    check(rt, all.holds_below(COUNT));
+}
+
 #[test]
 fn extended(rt: HostRuntime) {
-    let hosts = hosts_between(&rt, rt.alloc(), 0, COUNT);
-    let mut all = Hosts::of(&rt, rt.alloc(), &[host(7)]);
-    check(&rt, all.extend(Hinted::new(hosts.as_slice(), 0)).is_ok());
-    check(&rt, all.holds_below(COUNT));
-    check(&rt, all.extend(hosts).is_ok());
-    check(&rt, all.holds_below(COUNT));
+    let all = Hosts::of(&rt, rt.alloc(), &[host(7)]);
+    extend(&rt, rt.alloc(), Way::Overwrite, all);
 }
 
 #[test]
 fn extended_by_new_ones(rt: HostRuntime) {
-    let hosts = hosts_between(&rt, rt.alloc(), 0, COUNT);
-    let mut all = Hosts::new(rt.alloc());
-    check(&rt, all.is_extended(Hinted::new(hosts.as_slice(), 0)));
-    check(&rt, all.holds_below(COUNT));
-    all.clear();
-    check(&rt, all.is_extended(hosts));
-    check(&rt, all.holds_below(COUNT));
+    extend(&rt, rt.alloc(), Way::Unique, Hosts::new(rt.alloc()));
 }
 
 #[test]
@@ -88,15 +92,19 @@ fn cloned(rt: HostRuntime) {
     check(&rt, all.holds_below(COUNT));
 }
 
+fn shrink(rt: &impl Abort, all: &mut Hosts) {
+    check(rt, all.reserve(2000).is_ok());
+    check(rt, put_all(rt, all, Way::Unique, COUNT) == 0);
+    check(rt, all.holds_below(COUNT));
+    check(rt, all.shrink(Some(1000)).is_ok());
+    check(rt, all.has_room(1000, 2000) && all.map.spare() >= 700);
+    check(rt, all.holds_below(COUNT));
+    check(rt, all.shrink(None).is_ok());
+    check(rt, all.has_room(300, 1000) && all.holds_below(COUNT));
+}
+
 // The first hosts stay, and room for them.
 #[test]
 fn shrunk(rt: HostRuntime) {
-    let mut all = Hosts::new(rt.alloc());
-    check(&rt, all.reserve(2000).is_ok());
-    fill(&rt, &mut all, Way::Unique);
-    check(&rt, all.shrink_to(1000).is_ok());
-    check(&rt, all.has_room(1000, 2000) && all.map.spare() >= 700);
-    check(&rt, all.holds_below(COUNT));
-    check(&rt, all.shrink_to_fit().is_ok());
-    check(&rt, all.has_room(300, 1000) && all.holds_below(COUNT));
+    shrink(&rt, &mut Hosts::new(rt.alloc()));
 }

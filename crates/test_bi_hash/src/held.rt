@@ -5,10 +5,10 @@ ghost use Rattle.std.specs.Iterator.{IsFiniteIterable as IsFinite};
 ghost use Rattle.iddqd_bi_hash.specs.Hashing.{hash_under};
 ghost use Rattle.iddqd_bi_hash.specs.BiHashItems.{BiHashItems, IsKeyedByBoth};
 
-use crate::hosts::Host;
+pub(crate) use crate::hosts::Host;
 use iddqd_bi_hash::{
-    BiHashItem, BiHashMap, DefaultHashBuilder, ExtendError, ExtendUniqueError, Few, FromIterError,
-    InsertError, Keyed, Refused, TryReserveError, ValidateCompact,
+    BiHashItem, BiHashMap, DefaultHashBuilder, ExtendUniqueError, Few, FromIterError, InsertError,
+    Keyed, Refused, TryReserveError, ValidateCompact,
 };
 use std::alloc::Global;
 use std::hash::BuildHasher;
@@ -32,7 +32,7 @@ pub(crate) fn host_of(number: u32, address: u64, load: u32) -> Host {
 
 /// The host of this number under test.
 pub(crate) fn host(number: u32) -> Host {
-    host_of(number, number as u64 + 100, number)
+    host_of(number, u64::from(number).wrapping_add(100), number)
 }
 
 /// The hosts of the numbers from the first to before the end.
@@ -51,22 +51,45 @@ pub(crate) enum Way {
     Overwrite,
 }
 
-/// A call by either key or by both.
+/// By which key a call finds an item, or by both.
 #[derive(Clone, Copy)]
-pub(crate) enum Call {
-    Get1,
-    Get2,
-    GetBoth,
-    Contains1,
-    Contains2,
-    ContainsBoth,
-    Remove1,
-    Remove2,
-    RemoveBoth,
+pub(crate) enum By {
+    First,
+    Second,
+    Both,
 }
 
 /// The one or two hosts that have a key of another, in the order in which they are shown.
 pub(crate) type Met = (Option<Host>, Option<Host>);
+
+/// No host.
+pub(crate) const NONE: Met = (None, None);
+
+/// What stops the insertion of many hosts: the one that is returned, those in its way, and whether that is the limit.
+pub(crate) type Stop = (Option<Host>, Met, bool);
+
+/// Too many hosts are announced.
+pub(crate) const TOO_MANY: Option<Stop> = Some((None, NONE, true));
+
+/// A call on a map of hosts and what it has to return, or what the map has to hold.
+#[derive(Clone, Copy)]
+pub(crate) enum Step<'a> {
+    /// An insertion, and the hosts that it meets.
+    Insert(Way, Host, Met),
+    /// An insertion that the limit refuses, and that returns the host.
+    Refuse(Way, Host),
+    /// An insertion of many, of which this many are announced, and what stops it.
+    Extend(Way, &'a [Host], usize, Option<Stop>),
+    Get(By, u32, u64, Option<Host>),
+    Contains(By, u32, u64, bool),
+    Remove(By, u32, u64, Option<Host>),
+    /// Writes this load by a guard, and whether one is lent.
+    Load(By, u32, u64, u32, bool),
+    /// Adds one to the loads of four hosts, and how many are lent.
+    Raise(u32),
+    /// The map has these and no other.
+    Holds(&'a [Host]),
+}
 
 /// These hosts.
 pub(crate) fn met(few: &Few<Host>) -> Met {
@@ -78,6 +101,20 @@ pub(crate) fn shown(few: &Few<&Host>) -> Met {
     match few {
         Few::One(one) => (Some(**one), None),
         Few::Two(one, other) | Few::Three(one, other, _) => (Some(**one), Some(**other)),
+    }
+}
+
+/// An item whose load can be written, if it has one.
+pub(crate) trait Load: BiHashItem {
+    /// Writes the load, and leaves both keys.
+    fn set_load(&mut self, load: u32)
+        ensures first { Self.key1 self.new ≡ Self.key1 self.old }
+        ensures second { Self.key2 self.new ≡ Self.key2 self.old };
+}
+
+impl Load for Host {
+    fn set_load(&mut self, load: u32) {
+        self.load = load;
     }
 }
 
@@ -100,10 +137,42 @@ impl<T: BiHashItem, S: BuildHasher> Model for Held<T, S> {
 /// A map of hosts.
 pub(crate) type Hosts = Held<Host>;
 
+/// A map that is made, or why none is.
+pub(crate) type Made<T> = Result<Held<T>, FromIterError<T>>;
+
 impl<T: BiHashItem + Drop> Held<T> {
     pub(crate) fn new(alloc: Global) -> Held<T> {
         Held::over(BiHashMap::new(alloc))
     }
+
+    /// `from_iter` or `from_iter_unique` of the items, of which this many are announced.
+    pub(crate) fn collected(alloc: Global, way: Way, items: &[T], hint: usize) -> Made<T>
+    where
+        T: Copy,
+    {
+        let coming = Hinted::new(items, hint);
+        match way {
+            Way::Overwrite => match BiHashMap::from_iter(alloc, coming) {
+                Ok(map) => Ok(Held::over(map)),
+                Err(error) => Err(FromIterError::Refused(error)),
+            },
+            Way::Unique => Ok(Held::over(BiHashMap::from_iter_unique(alloc, coming)?)),
+        }
+    }
+}
+
+// Writes the load by the guard, and returns whether there is one.
+macro_rules! write_load {
+    ($lent:expr, $load:expr) => {
+        match $lent {
+            Some(mut item) => {
+                item.set_load($load);
+                item.finish();
+                true
+            }
+            None => false,
+        }
+    };
 }
 
 // Each call without a comment is the map's of this name.
@@ -127,70 +196,61 @@ impl<T: BiHashItem + Drop, S: BuildHasher> Held<T, S> {
         self.map.insert_overwrite(item)
     }
 
-    pub(crate) fn extend<U: IntoIterator<Item = T>>(
+    /// Whether a repeat ends `extend` or `extend_unique`, and not a refusal. It is `None` if all items are in.
+    pub(crate) fn meets_repeat<U: IntoIterator<Item = T>>(
         &mut self,
+        way: Way,
         items: U,
-    ) -> Result<(), ExtendError<T>>
+    ) -> Option<bool>
         requires ends { IsFinite U.into_iter_gives U.IntoIter.can_next U.IntoIter.remaining items }
     {
-        self.map.extend(items)
+        match way {
+            Way::Overwrite => self.map.extend(items).is_err().then_some(false),
+            Way::Unique => match self.map.extend_unique(items) {
+                Ok(()) => None,
+                Err(ExtendUniqueError::Duplicate(_)) => Some(true),
+                Err(ExtendUniqueError::Refused(_)) => Some(false),
+            },
+        }
     }
 
-    /// Whether `extend_unique` inserts each of the items.
-    pub(crate) fn is_extended<U: IntoIterator<Item = T>>(&mut self, items: U) -> bool
-        requires ends { IsFinite U.into_iter_gives U.IntoIter.can_next U.IntoIter.remaining items }
+    /// `get1`, `get2` or `get_unique`.
+    pub(crate) fn get(&self, by: By, one: &T::K1, other: &T::K2) -> Option<&T> {
+        match by {
+            By::First => self.map.get1(one),
+            By::Second => self.map.get2(other),
+            By::Both => self.map.get_unique(one, other),
+        }
+    }
+
+    /// `contains_key1`, `contains_key2` or `contains_key_unique`.
+    pub(crate) fn contains(&self, by: By, one: &T::K1, other: &T::K2) -> bool {
+        match by {
+            By::First => self.map.contains_key1(one),
+            By::Second => self.map.contains_key2(other),
+            By::Both => self.map.contains_key_unique(one, other),
+        }
+    }
+
+    /// `remove1`, `remove2` or `remove_unique`.
+    pub(crate) fn remove(&mut self, by: By, one: &T::K1, other: &T::K2) -> Option<T> {
+        match by {
+            By::First => self.map.remove1(one),
+            By::Second => self.map.remove2(other),
+            By::Both => self.map.remove_unique(one, other),
+        }
+    }
+
+    /// Writes the load of the item that `get1_mut`, `get2_mut` or `get_mut_unique` lends. Returns whether there is one.
+    #[tactic(auto, using(iddqd_bi_hash::proofs::GuardLemmas::both_keys_kept))]
+    pub(crate) fn load(&mut self, by: By, one: &T::K1, other: &T::K2, load: u32) -> bool
+    where
+        T: Load,
     {
-        self.map.extend_unique(items).is_ok()
-    }
-
-    pub(crate) fn get1(&self, key: &T::K1) -> Option<&T> {
-        self.map.get1(key)
-    }
-
-    pub(crate) fn get2(&self, key: &T::K2) -> Option<&T> {
-        self.map.get2(key)
-    }
-
-    pub(crate) fn get_unique(&self, one: &T::K1, other: &T::K2) -> Option<&T> {
-        self.map.get_unique(one, other)
-    }
-
-    pub(crate) fn contains_key1(&self, key: &T::K1) -> bool {
-        self.map.contains_key1(key)
-    }
-
-    pub(crate) fn contains_key2(&self, key: &T::K2) -> bool {
-        self.map.contains_key2(key)
-    }
-
-    pub(crate) fn contains_key_unique(&self, one: &T::K1, other: &T::K2) -> bool {
-        self.map.contains_key_unique(one, other)
-    }
-
-    pub(crate) fn remove1(&mut self, key: &T::K1) -> Option<T> {
-        self.map.remove1(key)
-    }
-
-    pub(crate) fn remove2(&mut self, key: &T::K2) -> Option<T> {
-        self.map.remove2(key)
-    }
-
-    pub(crate) fn remove_unique(&mut self, one: &T::K1, other: &T::K2) -> Option<T> {
-        self.map.remove_unique(one, other)
-    }
-
-    /// Whether the call finds an item by the keys.
-    pub(crate) fn finds(&mut self, call: Call, one: &T::K1, other: &T::K2) -> bool {
-        match call {
-            Call::Get1 => self.get1(one).is_some(),
-            Call::Get2 => self.get2(other).is_some(),
-            Call::GetBoth => self.get_unique(one, other).is_some(),
-            Call::Contains1 => self.contains_key1(one),
-            Call::Contains2 => self.contains_key2(other),
-            Call::ContainsBoth => self.contains_key_unique(one, other),
-            Call::Remove1 => self.remove1(one).is_some(),
-            Call::Remove2 => self.remove2(other).is_some(),
-            Call::RemoveBoth => self.remove_unique(one, other).is_some(),
+        match by {
+            By::First => write_load!(self.map.get1_mut(one), load),
+            By::Second => write_load!(self.map.get2_mut(other), load),
+            By::Both => write_load!(self.map.get_mut_unique(one, other), load),
         }
     }
 
@@ -208,12 +268,12 @@ impl<T: BiHashItem + Drop, S: BuildHasher> Held<T, S> {
         self.map.reserve(additional)
     }
 
-    pub(crate) fn shrink_to(&mut self, min: usize) -> Result<(), TryReserveError> {
-        self.map.shrink_to(min)
-    }
-
-    pub(crate) fn shrink_to_fit(&mut self) -> Result<(), TryReserveError> {
-        self.map.shrink_to_fit()
+    /// `shrink_to`, or `shrink_to_fit`.
+    pub(crate) fn shrink(&mut self, min: Option<usize>) -> Result<(), TryReserveError> {
+        match min {
+            Some(min) => self.map.shrink_to(min),
+            None => self.map.shrink_to_fit(),
+        }
     }
 
     pub(crate) fn eq(&self, other: &Held<T, S>) -> bool
@@ -249,8 +309,8 @@ impl<S: BuildHasher> Held<Host, S> {
 
     // Whether each key of the host finds it.
     fn has_host(&self, wanted: Host) -> bool {
-        self.get1(&wanted.number).copied() == Some(wanted)
-            && self.get2(&wanted.address).copied() == Some(wanted)
+        self.map.get1(&wanted.number).copied() == Some(wanted)
+            && self.map.get2(&wanted.address).copied() == Some(wanted)
     }
 
     // Whether so many hosts are counted.
@@ -321,9 +381,10 @@ impl Held<Host> {
 
     /// The hosts 0 to 5, of which 1 and 4 leave, so that slots are vacant.
     pub(crate) fn with_gaps(rt: &impl Abort, alloc: Global) -> Hosts {
-        let mut all = Hosts::below(rt, alloc, 6);
-        check(rt, all.remove1(&1).is_some());
-        check(rt, all.remove2(&104).is_some());
+        let hosts = [host(0), host(1), host(2), host(3), host(4), host(5)];
+        let mut all = Hosts::of(rt, alloc, &hosts);
+        check(rt, all.remove(By::First, &1, &0).is_some());
+        check(rt, all.remove(By::Second, &0, &104).is_some());
         all
     }
 
@@ -341,81 +402,60 @@ impl Held<Host> {
         all
     }
 
-    /// `from_iter_unique` of hosts with no repeat, or `from_iter`. This many are announced.
-    pub(crate) fn collected(
-        rt: &impl Abort,
-        alloc: Global,
-        way: Way,
-        hosts: &[Host],
-        hint: usize,
-    ) -> Result<Hosts, TryReserveError> {
-        let coming = Hinted::new(hosts, hint);
-        match way {
-            Way::Overwrite => Ok(Held::over(BiHashMap::from_iter(alloc, coming)?)),
-            Way::Unique => match BiHashMap::from_iter_unique(alloc, coming) {
-                Ok(map) => Ok(Held::over(map)),
-                Err(FromIterError::Refused(error)) => Err(error),
-                Err(FromIterError::Duplicate(_)) => {
-                    check(rt, false);
-                    Ok(Held::new(alloc))
-                }
-            },
-        }
-    }
-
     /// `insert_unique` or `insert_overwrite`: the hosts that are in the way, or replaced.
     pub(crate) fn insert(&mut self, way: Way, new: Host) -> Result<Met, Refused<Host>> {
         match way {
             Way::Unique => match self.map.insert_unique(new) {
-                Ok(()) => Ok((None, None)),
+                Ok(()) => Ok(NONE),
                 Err(InsertError::Duplicate(both)) => Ok(shown(both.duplicates())),
                 Err(InsertError::Refused(refused)) => Err(refused),
             },
             Way::Overwrite => match self.map.insert_overwrite(new) {
                 Ok(Some(replaced)) => Ok(met(&replaced)),
-                Ok(None) => Ok((None, None)),
+                Ok(None) => Ok(NONE),
                 Err(refused) => Err(refused),
             },
         }
     }
 
-    /// Whether the insertion of the host meets these.
-    pub(crate) fn meets(&mut self, way: Way, new: Host, wanted: Met) -> bool {
-        match self.insert(way, new) {
-            Ok(met) => met == wanted,
-            Err(_refused) => false,
-        }
-    }
-
-    /// `extend_unique` or `extend` by hosts of which this many are announced. What stops it: the host that is refused, and
-    /// whether that is by the limit.
-    pub(crate) fn stopped(
-        &mut self,
-        way: Way,
-        hosts: &[Host],
-        hint: usize,
-    ) -> Option<(Option<Host>, bool)> {
+    /// `extend_unique` or `extend` by hosts of which this many are announced: what stops it.
+    pub(crate) fn stopped(&mut self, way: Way, hosts: &[Host], hint: usize) -> Option<Stop> {
         let coming = Hinted::new(hosts, hint);
         let stopped = match way {
             Way::Overwrite => self.map.extend(coming).err()?,
             Way::Unique => match self.map.extend_unique(coming) {
                 Ok(()) => return None,
                 Err(ExtendUniqueError::Refused(stopped)) => stopped,
-                Err(ExtendUniqueError::Duplicate(_)) => return Some((None, false)),
+                Err(ExtendUniqueError::Duplicate(both)) => {
+                    return Some((Some(*both.new_item()), shown(both.duplicates()), false));
+                }
             },
         };
-        Some((stopped.item, stopped.error.is_capacity_overflow()))
+        Some((stopped.item, NONE, stopped.error.is_capacity_overflow()))
     }
 
-    /// Each of the calls, by a number and an address, finds a host or not.
-    pub(crate) fn find_each(
-        &mut self,
-        rt: &impl Abort,
-        calls: &[(Call, u32, u64)],
-        are_found: bool,
-    ) {
-        for call in calls {
-            check(rt, self.finds(call.0, &call.1, &call.2) == are_found);
+    /// Takes each of the steps, which has to do as it says.
+    pub(crate) fn run(&mut self, rt: &impl Abort, steps: &[Step<'_>]) {
+        for step in steps {
+            let is_so = match *step {
+                Step::Insert(way, new, wanted) => {
+                    self.insert(way, new).is_ok_and(|met| met == wanted)
+                }
+                Step::Refuse(way, new) => match self.insert(way, new) {
+                    Ok(_) => false,
+                    Err(refused) => refused.item == new && refused.error.is_capacity_overflow(),
+                },
+                Step::Extend(way, hosts, hint, stop) => self.stopped(way, hosts, hint) == stop,
+                Step::Get(by, one, other, found) => self.get(by, &one, &other).copied() == found,
+                Step::Contains(by, one, other, is_in) => self.contains(by, &one, &other) == is_in,
+                Step::Remove(by, one, other, gone) => self.remove(by, &one, &other) == gone,
+                Step::Load(by, one, other, load, is_lent) => {
+                    self.load(by, &one, &other, load) == is_lent
+                }
+                Step::Raise(lent) => raise_four(&mut self.map) == lent,
+                Step::Holds(hosts) => self.holds(hosts),
+            };
+            check(rt, is_so);
         }
     }
 
@@ -425,51 +465,10 @@ impl Held<Host> {
     }
 
     /// `clone`.
-    pub(crate) fn copied(&self) -> Result<Hosts, TryReserveError> {
-        Ok(Held::over(self.map.clone()?))
-    }
-
-    /// Adds one to the loads of the first four hosts that `iter_mut` lends, and returns how many it lends, four at most.
-    pub(crate) fn raise_four(&mut self) -> u32 {
-        raise_four(&mut self.map)
-    }
-
-    /// Writes the load of the host of the number, and returns whether there is one.
-    #[tactic(auto, using(iddqd_bi_hash::proofs::GuardLemmas::both_keys_kept))]
-    pub(crate) fn set_by_number(&mut self, number: u32, load: u32) -> bool {
-        match self.map.get1_mut(&number) {
-            Some(mut host) => {
-                host.load = load;
-                host.finish();
-                true
-            }
-            None => false,
-        }
-    }
-
-    /// Writes the load of the host of the address, and returns whether there is one.
-    #[tactic(auto, using(iddqd_bi_hash::proofs::GuardLemmas::both_keys_kept))]
-    pub(crate) fn set_by_address(&mut self, address: u64, load: u32) -> bool {
-        match self.map.get2_mut(&address) {
-            Some(mut host) => {
-                host.load = load;
-                host.finish();
-                true
-            }
-            None => false,
-        }
-    }
-
-    /// Writes the load of the host that has both, and returns whether there is one.
-    #[tactic(auto, using(iddqd_bi_hash::proofs::GuardLemmas::both_keys_kept))]
-    pub(crate) fn set_by_both(&mut self, number: u32, address: u64, load: u32) -> bool {
-        match self.map.get_mut_unique(&number, &address) {
-            Some(mut host) => {
-                host.load = load;
-                host.finish();
-                true
-            }
-            None => false,
+    pub(crate) fn copied(&self) -> Made<Host> {
+        match self.map.clone() {
+            Ok(map) => Ok(Held::over(map)),
+            Err(error) => Err(FromIterError::Refused(error)),
         }
     }
 }

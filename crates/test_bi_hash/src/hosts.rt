@@ -3,13 +3,13 @@ use iddqd_bi_hash::BiHashItem;
 
 /// A host, which its number tells from others, and its address.
 #[derive(Clone, Copy, Debug, Drop, PartialEq, Eq)]
-pub struct Host {
+pub(crate) struct Host {
     /// The first key.
-    pub number: u32,
+    pub(crate) number: u32,
     /// The second key.
-    pub address: u64,
+    pub(crate) address: u64,
     /// What is known of it.
-    pub load: u32,
+    pub(crate) load: u32,
 }
 
 impl BiHashItem for Host {

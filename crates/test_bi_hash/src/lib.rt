@@ -1,10 +1,9 @@
-//! What callers of a map of two keys learn, and what no clause of it says. That is that each call succeeds with memory
-//! at hand, and long runs of calls.
+//! What no clause of a map of two keys says: that each call succeeds with memory at hand, what it costs, and long runs of
+//! calls.
 #![tactic(auto)]
 
 #[cfg(test)]
 mod bulk;
-mod callers;
 #[cfg(test)]
 mod copies;
 #[cfg(test)]
@@ -19,7 +18,8 @@ mod extended;
 mod filled;
 #[cfg(test)]
 mod held;
-pub mod hosts;
+#[cfg(test)]
+mod hosts;
 #[cfg(test)]
 mod or_insert;
 #[cfg(test)]

@@ -1,41 +1,30 @@
 //! `or_insert` and `or_insert_with`: what an entry of no host, of one, and of two lends.
-use crate::held::{Hosts, check, host, host_of};
-use crate::hosts::Host;
+use crate::held::{Host, Hosts, Met, check, host, host_of, shown};
 use iddqd_bi_hash::bi_hash_map::OccupiedEntryMut;
 use iddqd_bi_hash::{BiHashMap, Keyed};
 
-// What was lent: a host as a guard showed it before a write, or what an entry of two hosts has, or of one of one key.
-#[derive(Drop, PartialEq, Eq)]
-enum Lent {
-    ByGuard(Host),
-    Entry(Option<Host>, Option<Host>),
-    Refused,
-}
-
-// Writes the load by the guard that is lent, if one is.
+// The hosts that are lent, before a write, and whether that is by a guard, which writes the load. It is `None` if memory
+// is refused.
 #[tactic(auto, using(iddqd_bi_hash::proofs::GuardLemmas::both_keys_kept))]
-fn or_insert(map: &mut BiHashMap<Host>, new: Host, load: u32) -> Lent
+fn or_insert(map: &mut BiHashMap<Host>, new: Host, load: u32) -> Option<(Met, bool)>
     requires keyed { ⟦<BiHashMap<Host> as Keyed>⟧.keyed map.old }
     ensures keyed { ⟦<BiHashMap<Host> as Keyed>⟧.keyed map.new }
 {
     match map.entry(&new.number, &new.address).or_insert(new) {
         Ok(lent) => match lent {
             OccupiedEntryMut::Unique(mut one) => {
-                let shown = *one;
+                let before = *one;
                 one.load = load;
                 one.finish();
-                Lent::ByGuard(shown)
+                Some(((Some(before), None), true))
             }
-            OccupiedEntryMut::NonUnique(entry) => {
-                let items = entry.items();
-                Lent::Entry(items.get(0).map(|it| **it), items.get(1).map(|it| **it))
-            }
+            OccupiedEntryMut::NonUnique(entry) => Some((shown(&entry.items()), false)),
         },
-        Err(_refused) => Lent::Refused,
+        Err(_refused) => None,
     }
 }
 
-// The same by `or_insert_with`, which counts how often it asks for the host.
+// The host that a guard lends by `or_insert_with`. It counts how often that asks for the host.
 #[tactic(auto, using(iddqd_bi_hash::proofs::GuardLemmas::both_keys_kept))]
 fn or_insert_with(map: &mut BiHashMap<Host>, new: Host, asked: &mut u32) -> Option<Host>
     requires keyed { ⟦<BiHashMap<Host> as Keyed>⟧.keyed map.old }
@@ -62,20 +51,16 @@ fn or_insert_with(map: &mut BiHashMap<Host>, new: Host, asked: &mut u32) -> Opti
 #[test]
 fn an_entry_inserts_if_vacant(rt: HostRuntime) {
     let mut all = Hosts::below(&rt, rt.alloc(), 3);
-    let written = Host { load: 8, ..host(1) };
-    check(
-        &rt,
-        or_insert(&mut all.map, host(3), 7) == Lent::ByGuard(host(3)),
-    );
-    check(
-        &rt,
-        or_insert(&mut all.map, host_of(1, 101, 9), 8) == Lent::ByGuard(host(1)),
-    );
-    let two = Lent::Entry(Some(written), Some(host(2)));
-    check(&rt, or_insert(&mut all.map, host_of(1, 102, 9), 9) == two);
-    let one = Lent::Entry(Some(host(2)), None);
-    check(&rt, or_insert(&mut all.map, host_of(9, 102, 9), 9) == one);
-    let last = Host { load: 7, ..host(3) };
+    let (written, two) = (host_of(1, 101, 8), Some(host(2)));
+    for (new, load, lent) in [
+        (host(3), 7, ((Some(host(3)), None), true)),
+        (host_of(1, 101, 9), 8, ((Some(host(1)), None), true)),
+        (host_of(1, 102, 9), 9, ((Some(written), two), false)),
+        (host_of(9, 102, 9), 9, ((two, None), false)),
+    ] {
+        check(&rt, or_insert(&mut all.map, new, load) == Some(lent));
+    }
+    let last = host_of(3, 103, 7);
     check(&rt, all.holds(&[host(0), written, host(2), last]));
 }
 
@@ -84,18 +69,12 @@ fn an_entry_inserts_if_vacant(rt: HostRuntime) {
 fn a_host_is_made_if_vacant(rt: HostRuntime) {
     let mut all = Hosts::below(&rt, rt.alloc(), 3);
     let mut asked = 0;
-    check(
-        &rt,
-        or_insert_with(&mut all.map, host_of(1, 101, 9), &mut asked) == Some(host(1)),
-    );
-    check(
-        &rt,
-        or_insert_with(&mut all.map, host_of(1, 102, 9), &mut asked).is_none(),
-    );
-    check(&rt, asked == 0 && all.holds_below(3));
-    check(
-        &rt,
-        or_insert_with(&mut all.map, host(3), &mut asked) == Some(host(3)),
-    );
-    check(&rt, asked == 1 && all.holds_below(4));
+    for (new, lent, count, length) in [
+        (host_of(1, 101, 9), Some(host(1)), 0, 3),
+        (host_of(1, 102, 9), None, 0, 3),
+        (host(3), Some(host(3)), 1, 4),
+    ] {
+        check(&rt, or_insert_with(&mut all.map, new, &mut asked) == lent);
+        check(&rt, asked == count && all.holds_below(length));
+    }
 }

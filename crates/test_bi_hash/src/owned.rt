@@ -1,6 +1,5 @@
 //! Items that own memory. `tools/sweep` looks that none of it is held as a test ends.
-use crate::held::{Held, check, host, host_of};
-use crate::hosts::Host;
+use crate::held::{By, Held, Host, check, host, host_of};
 use iddqd_bi_hash::BiHashMap;
 use std::alloc::Global;
 use std::process::Abort;
@@ -19,25 +18,33 @@ fn dozen(rt: &impl Abort, alloc: Global) -> Held<Box<Host>> {
     all
 }
 
+// Removes three by a key or by both, offers one that repeats, and keeps those of numbers below ten.
+fn remove(rt: &impl Abort, alloc: Global, all: &mut Held<Box<Host>>) {
+    for (by, number, address) in [(By::First, 1, 0), (By::Second, 0, 102), (By::Both, 3, 103)] {
+        check(rt, all.remove(by, &number, &address).is_some());
+    }
+    check(rt, !all.is_put(boxed(rt, alloc, host(4))));
+    all.retain(|there| there.number < 10);
+    check(rt, all.map.len() == 7);
+}
+
 #[test]
 fn removed(rt: HostRuntime) {
-    let mut all = dozen(&rt, rt.alloc());
-    check(&rt, all.remove1(&1).is_some());
-    check(&rt, all.remove2(&102).is_some());
-    check(&rt, all.remove_unique(&3, &103).is_some());
-    check(&rt, !all.is_put(boxed(&rt, rt.alloc(), host(4))));
-    all.retain(|there| there.number < 10);
-    check(&rt, all.map.len() == 7);
+    remove(&rt, rt.alloc(), &mut dozen(&rt, rt.alloc()));
+}
+
+// Puts one in the place of two, and again into the map without items.
+fn overwrite(rt: &impl Abort, alloc: Global, all: &mut Held<Box<Host>>) {
+    let both = host_of(1, 102, 3);
+    check(rt, all.insert_overwrite(boxed(rt, alloc, both)).is_ok());
+    check(rt, all.map.len() == 11);
+    all.clear();
+    check(rt, all.is_put(boxed(rt, alloc, both)));
 }
 
 #[test]
 fn overwritten(rt: HostRuntime) {
-    let mut all = dozen(&rt, rt.alloc());
-    let both = host_of(1, 102, 3);
-    let back = all.insert_overwrite(boxed(&rt, rt.alloc(), both));
-    check(&rt, back.is_ok() && all.map.len() == 11);
-    all.clear();
-    check(&rt, all.is_put(boxed(&rt, rt.alloc(), both)));
+    overwrite(&rt, rt.alloc(), &mut dozen(&rt, rt.alloc()));
 }
 
 #[test]

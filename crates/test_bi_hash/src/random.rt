@@ -1,6 +1,5 @@
 //! Long random runs of calls, against a plain list.
-use crate::held::{Hosts, Met, Way, check, host_of};
-use crate::hosts::Host;
+use crate::held::{By, Host, Hosts, Way, check, host_of};
 use std::alloc::Global;
 use std::process::Abort;
 
@@ -21,7 +20,7 @@ impl Draws {
     }
 
     fn host(&mut self) -> Host {
-        let (number, address) = (self.below(12), self.below(12) as u64);
+        let (number, address) = (self.below(12), u64::from(self.below(12)));
         host_of(number, address, self.below(1000))
     }
 }
@@ -53,16 +52,6 @@ impl Pair {
         hosts.find(|host| host.address == address).copied()
     }
 
-    // The list's hosts that have a key of this one, that of the number first.
-    fn met(&self, new: Host) -> Met {
-        let (one, other) = (self.by_number(new.number), self.by_address(new.address));
-        match one {
-            None => (other, None),
-            Some(_) if other == one => (one, None),
-            Some(_) => (one, other),
-        }
-    }
-
     // Drops the list's hosts that have one of the keys.
     fn drop_met(&mut self, met: Host) {
         self.plain.retain(|host| host.number != met.number && host.address != met.address);
@@ -74,34 +63,33 @@ impl Pair {
         check(rt, self.plain.push(host).is_ok());
     }
 
-    // Inserts the host into both if no host has one of its keys. Those that have one are shown in either order.
-    fn insert(&mut self, rt: &impl Abort, host: Host) {
-        let (one, other) = self.met(host);
-        match self.hosts.insert(Way::Unique, host) {
-            Ok(met) => check(rt, met == (one, other) || met == (other, one)),
+    // Inserts the host into both. The map shows those that have one of its keys, that of the number first. Of
+    // `insert_unique` either order is right.
+    fn insert(&mut self, rt: &impl Abort, way: Way, host: Host) {
+        let (by_number, by_address) = (self.by_number(host.number), self.by_address(host.address));
+        let (one, other) = match by_number {
+            None => (by_address, None),
+            Some(_) if by_address == by_number => (by_number, None),
+            Some(_) => (by_number, by_address),
+        };
+        let replaces = matches!(way, Way::Overwrite);
+        match self.hosts.insert(way, host) {
+            Ok(met) => check(rt, met == (one, other) || !replaces && met == (other, one)),
             Err(_) => check(rt, false),
         }
-        if one.is_none() {
-            check(rt, self.plain.push(host).is_ok());
+        if replaces || one.is_none() {
+            self.put(rt, host);
         }
-    }
-
-    // Inserts the host into both in place of those that have one of its keys.
-    fn overwrite(&mut self, rt: &impl Abort, host: Host) {
-        let met = self.met(host);
-        check(rt, self.hosts.meets(Way::Overwrite, host, met));
-        self.put(rt, host);
     }
 
     // Removes by either key.
     fn remove(&mut self, rt: &impl Abort, host: Host) {
-        let (gone, there) = if host.load % 2 == 0 {
-            let there = self.by_number(host.number);
-            (self.hosts.remove1(&host.number), there)
+        let (by, there) = if host.load % 2 == 0 {
+            (By::First, self.by_number(host.number))
         } else {
-            let there = self.by_address(host.address);
-            (self.hosts.remove2(&host.address), there)
+            (By::Second, self.by_address(host.address))
         };
+        let gone = self.hosts.remove(by, &host.number, &host.address);
         check(rt, gone == there);
         if let Some(gone) = there {
             self.drop_met(gone);
@@ -113,10 +101,11 @@ impl Pair {
         check(rt, hosts.map.len() == self.plain.len());
         check(rt, hosts.map.iter().count() == self.plain.len());
         for key in 0..12u32 {
-            let found = hosts.get1(&key).copied();
+            let address = u64::from(key);
+            let found = hosts.get(By::First, &key, &address).copied();
             check(rt, found == self.by_number(key));
-            let found = hosts.get2(&(key as u64)).copied();
-            check(rt, found == self.by_address(key as u64));
+            let found = hosts.get(By::Second, &key, &address).copied();
+            check(rt, found == self.by_address(address));
         }
     }
 
@@ -128,12 +117,6 @@ impl Pair {
         }
     }
 
-    // Closes up the slots.
-    fn close_up(&mut self, rt: &impl Abort) {
-        check(rt, self.hosts.shrink_to_fit().is_ok());
-        check(rt, self.hosts.map.vacant() == 0);
-    }
-
     // A copy is equal, and finds what the list does.
     fn copy(&self, rt: &impl Abort) {
         let copy = self.hosts.copied().expect(rt, "memory");
@@ -141,18 +124,10 @@ impl Pair {
         self.is_same(rt, &copy);
     }
 
-    // One call, drawn from the first kinds below.
-    fn call(&mut self, rt: &impl Abort, draws: &mut Draws, kinds: u32) {
-        let host = draws.host();
-        match draws.below(kinds) {
-            0 => self.insert(rt, host),
-            1 => self.overwrite(rt, host),
-            2 => self.remove(rt, host),
-            3 => self.extend(rt, [draws.host(), draws.host(), draws.host()]),
-            4 => self.close_up(rt),
-            _ => self.copy(rt),
-        }
-        self.is_same(rt, &self.hosts);
+    // Closes up the slots.
+    fn close_up(&mut self, rt: &impl Abort) {
+        check(rt, self.hosts.shrink(None).is_ok());
+        check(rt, self.hosts.map.vacant() == 0);
     }
 }
 
@@ -161,7 +136,16 @@ fn calls(rt: &impl Abort, alloc: Global, state: u64, count: u32, kinds: u32) {
     let mut pair = Pair::new(rt, alloc);
     let mut draws = Draws { state };
     for _ in 0..count {
-        pair.call(rt, &mut draws, kinds);
+        let host = draws.host();
+        match draws.below(kinds) {
+            0 => pair.insert(rt, Way::Unique, host),
+            1 => pair.insert(rt, Way::Overwrite, host),
+            2 => pair.remove(rt, host),
+            3 => pair.extend(rt, [draws.host(), draws.host(), draws.host()]),
+            4 => pair.close_up(rt),
+            _ => pair.copy(rt),
+        }
+        pair.is_same(rt, &pair.hosts);
     }
 }
 

@@ -1,40 +1,28 @@
 //! Calls with requests for memory refused: which hosts are in then.
-use crate::held::{Call, Hosts, Way, check, host, host_of, hosts_between};
-use crate::hosts::Host;
-use iddqd_bi_hash::{BiHashMap, DefaultHashBuilder, FromIterError, TryReserveError};
+use crate::held::{By, Host, Hosts, Made, NONE, Step, Way, check, host, host_of, hosts_between};
+use iddqd_bi_hash::{BiHashMap, DefaultHashBuilder, FromIterError};
 use std::alloc::Global;
 use std::io::Print;
 use std::process::Abort;
 use test_support::bulk::Hinted;
 use test_support::heap::{arm, has_leaked, is_met};
 
-// Whether the insertion of the host of this number, whose keys are new, is refused memory. It is returned then.
-fn is_refused(rt: &impl Abort, all: &mut Hosts, way: Way, number: u32) -> bool {
-    match all.insert(way, host(number)) {
-        Ok(met) => {
-            check(rt, met == (None, None));
-            false
-        }
-        Err(refused) => {
-            check(rt, refused.item == host(number));
-            check(rt, !refused.error.is_capacity_overflow());
-            true
-        }
-    }
-}
-
-/// Inserts as many hosts, each again if it is refused: how many are refused. A refusal leaves the others, and no room of
-/// the refused one.
+/// Inserts as many hosts, each again if it is refused: how many are refused. A refusal returns the host, leaves the
+/// others, and leaves no room of the refused one.
 pub(crate) fn put_all(rt: &impl Abort, all: &mut Hosts, way: Way, count: u32) -> u32 {
-    let mut refused = 0u32;
+    let mut refusals = 0u32;
     for number in 0..count {
-        if is_refused(rt, all, way, number) {
-            refused = refused.saturating_add(1);
+        let mut inserted = all.insert(way, host(number));
+        if let Err(refused) = inserted {
+            let is_limit = refused.error.is_capacity_overflow();
+            check(rt, refused.item == host(number) && !is_limit);
+            refusals = refusals.saturating_add(1);
             check(rt, all.holds_below(number));
-            check(rt, !is_refused(rt, all, way, number));
+            inserted = all.insert(way, host(number));
         }
+        check(rt, inserted.is_ok_and(|met| met == NONE));
     }
-    refused
+    refusals
 }
 
 fn put_fourteen(rt: &(impl Abort + Print), alloc: Global, way: Way) {
@@ -72,10 +60,13 @@ fn reservation_holds(rt: HostRuntime) {
 fn replaced_without_memory(rt: HostRuntime) {
     let mut all = Hosts::below(&rt, rt.alloc(), 4);
     arm(rt.alloc());
-    check(&rt, !all.is_put(host(3)));
-    let both = (Some(host(1)), Some(host(2)));
-    check(&rt, all.meets(Way::Overwrite, host_of(1, 102, 9), both));
-    check(&rt, all.remove2(&102) == Some(host_of(1, 102, 9)));
+    let (new, both) = (host_of(1, 102, 9), (Some(host(1)), Some(host(2))));
+    let steps = [
+        Step::Insert(Way::Unique, host(3), (Some(host(3)), None)),
+        Step::Insert(Way::Overwrite, new, both),
+        Step::Remove(By::Second, 0, 102, Some(new)),
+    ];
+    all.run(&rt, &steps);
     check(&rt, !is_met(rt.alloc()));
     check(&rt, all.map.len() == 2);
 }
@@ -89,14 +80,12 @@ pub(crate) fn tell(rt: &(impl Abort + Print), word: &str) {
 pub(crate) fn tell_refused(rt: &(impl Abort + Print), is_met: bool, refused: (bool, bool)) {
     check(rt, is_met == (refused.0 || refused.1));
     check(rt, !(refused.0 && refused.1));
-    tell(
-        rt,
-        match refused {
-            (true, _) => "first_refused",
-            (_, true) => "second_refused",
-            _ => "none_refused",
-        },
-    );
+    let word = match refused {
+        (true, _) => "first_refused",
+        (_, true) => "second_refused",
+        _ => "none_refused",
+    };
+    tell(rt, word);
 }
 
 #[test]
@@ -120,15 +109,19 @@ fn made_with_room(rt: HostRuntime) {
 }
 
 /// Whether no map of the hosts below this number was made because memory was refused.
-pub(crate) fn is_unmade(rt: &impl Abort, made: Result<Hosts, TryReserveError>, count: u32) -> bool {
+pub(crate) fn is_unmade(rt: &impl Abort, made: Made<Host>, count: u32) -> bool {
     match made {
         Ok(all) => {
             check(rt, all.holds_below(count));
             false
         }
-        Err(error) => {
+        Err(FromIterError::Refused(error)) => {
             check(rt, !error.is_capacity_overflow());
             true
+        }
+        Err(FromIterError::Duplicate(_)) => {
+            check(rt, false);
+            false
         }
     }
 }
@@ -138,10 +131,9 @@ pub(crate) fn is_unmade(rt: &impl Abort, made: Result<Hosts, TryReserveError>, c
 pub(crate) fn made_twice(rt: &impl Abort, alloc: Global, way: Way, count: u32) -> (bool, bool) {
     let hosts = hosts_between(rt, alloc, 0, count);
     arm(alloc);
-    let one = Hosts::collected(rt, alloc, way, hosts.as_slice(), 0);
-    let one = is_unmade(rt, one, count);
-    let other = Hosts::collected(rt, alloc, way, hosts.as_slice(), hosts.len());
-    let other = is_unmade(rt, other, count);
+    let hosts = hosts.as_slice();
+    let one = is_unmade(rt, Hosts::collected(alloc, way, hosts, 0), count);
+    let other = is_unmade(rt, Hosts::collected(alloc, way, hosts, hosts.len()), count);
     check(rt, !has_leaked(alloc));
     (one, other)
 }
@@ -172,10 +164,8 @@ fn full_map(rt: HostRuntime) {
     let mut all = Hosts::with_limit(rt.alloc(), 9);
     all.fill(&rt, 9);
     arm(rt.alloc());
-    check(&rt, !all.is_put(host(9)));
-    match all.insert(Way::Overwrite, host(9)) {
-        Err(refused) => check(&rt, refused.error.is_capacity_overflow()),
-        Ok(_) => check(&rt, false),
+    for way in [Way::Unique, Way::Overwrite] {
+        all.run(&rt, &[Step::Refuse(way, host(9))]);
     }
     check(&rt, all.reserve(1).is_err());
     check(&rt, !is_met(rt.alloc()));
@@ -188,16 +178,17 @@ fn looked_up_without_memory(rt: HostRuntime) {
     let mut all = Hosts::below(&rt, rt.alloc(), 9);
     arm(rt.alloc());
     check(&rt, all.holds_below(9));
-    check(&rt, all.set_by_number(1, 5) && all.set_by_address(102, 5));
-    check(&rt, all.set_by_both(3, 103, 5));
-    let calls = [
-        (Call::Contains1, 1, 101),
-        (Call::Contains2, 1, 101),
-        (Call::ContainsBoth, 1, 101),
-        (Call::Remove1, 1, 101),
-        (Call::RemoveBoth, 2, 102),
+    let steps = [
+        Step::Load(By::First, 1, 0, 5, true),
+        Step::Load(By::Second, 0, 102, 5, true),
+        Step::Load(By::Both, 3, 103, 5, true),
+        Step::Contains(By::First, 1, 0, true),
+        Step::Contains(By::Second, 0, 101, true),
+        Step::Contains(By::Both, 1, 101, true),
+        Step::Remove(By::First, 1, 0, Some(host_of(1, 101, 5))),
+        Step::Remove(By::Both, 2, 102, Some(host_of(2, 102, 5))),
     ];
-    all.find_each(&rt, &calls, true);
+    all.run(&rt, &steps);
     all.retain(|there| there.load < 6);
     check(&rt, all.map.len() == 4);
     all.clear();

@@ -1,6 +1,5 @@
 //! Worked examples on few hosts, some slots vacant.
-use crate::held::{Hosts, Way, check, host, host_of};
-use crate::hosts::Host;
+use crate::held::{By, Hosts, NONE, Step, Way, check, host, host_of};
 use iddqd_bi_hash::ValidateCompact;
 use std::alloc::Global;
 use std::cell::Cell;
@@ -9,80 +8,65 @@ use std::process::Abort;
 /// Hosts 1 to 3, of which 2 and 3 leave, so that slots are vacant; 4 and 5 come.
 pub(crate) fn hosts(rt: &impl Abort, alloc: Global) -> Hosts {
     let mut all = Hosts::of(rt, alloc, &[host(1), host(2), host(3)]);
-    check(rt, all.remove2(&102).is_some());
-    check(rt, all.remove1(&3).is_some());
-    check(rt, all.is_put(host(4)));
-    check(rt, all.is_put(host(5)));
+    for (by, number, address) in [(By::Second, 0, 102), (By::First, 3, 0)] {
+        check(rt, all.remove(by, &number, &address).is_some());
+    }
+    for number in 4..6 {
+        check(rt, all.is_put(host(number)));
+    }
     all
-}
-
-// The load of the host that is found, or 0.
-fn load(found: Option<&Host>) -> u32 {
-    found.map_or(0, |found| found.load)
 }
 
 #[test]
 fn lookups(rt: HostRuntime) {
-    let all = hosts(&rt, rt.alloc());
-    check(&rt, all.map.len() == 3);
-    check(&rt, load(all.get1(&4)) == 4);
-    check(&rt, load(all.get2(&104)) == 4);
-    check(&rt, !all.contains_key1(&2) && !all.contains_key2(&103));
-    check(&rt, all.get_unique(&4, &104).is_some());
-    check(&rt, all.get_unique(&4, &105).is_none());
-    check(&rt, all.contains_key_unique(&5, &105));
-    check(&rt, all.map.iter().count() == 3);
+    let there = [host(1), host(4), host(5)];
+    let steps = [
+        Step::Get(By::First, 4, 0, Some(host(4))),
+        Step::Get(By::Second, 0, 104, Some(host(4))),
+        Step::Contains(By::First, 2, 0, false),
+        Step::Contains(By::Second, 0, 103, false),
+        Step::Get(By::Both, 4, 104, Some(host(4))),
+        Step::Get(By::Both, 4, 105, None),
+        Step::Contains(By::Both, 5, 105, true),
+        Step::Holds(&there),
+    ];
+    hosts(&rt, rt.alloc()).run(&rt, &steps);
 }
 
 #[test]
 fn met_by_one_key_or_both(rt: HostRuntime) {
     let mut all = hosts(&rt, rt.alloc());
     let (one, four, five) = (Some(host(1)), Some(host(4)), Some(host(5)));
-    for (number, address, met) in [
-        (4, 1, (four, None)),
-        (9, 105, (five, None)),
-        (1, 101, (one, None)),
-        (4, 101, (one, four)),
-        (1, 104, (one, four)),
+    for (number, address, met, length) in [
+        (4, 1, (four, None), 3),
+        (9, 105, (five, None), 3),
+        (1, 101, (one, None), 3),
+        (4, 101, (one, four), 3),
+        (1, 104, (one, four), 3),
+        (9, 9, NONE, 4),
     ] {
-        check(
-            &rt,
-            all.meets(Way::Unique, host_of(number, address, 9), met),
-        );
+        let new = host_of(number, address, 9);
+        all.run(&rt, &[Step::Insert(Way::Unique, new, met)]);
+        check(&rt, all.map.len() == length);
     }
-    check(&rt, all.map.len() == 3);
-    check(&rt, all.meets(Way::Unique, host_of(9, 9, 9), (None, None)));
-    check(&rt, all.map.len() == 4);
 }
 
 #[test]
 fn one_or_two_overwritten(rt: HostRuntime) {
-    let mut all = hosts(&rt, rt.alloc());
     let (one, other) = (host_of(4, 101, 9), host_of(4, 101, 10));
-    check(
-        &rt,
-        all.meets(Way::Overwrite, one, (Some(host(4)), Some(host(1)))),
-    );
-    check(&rt, all.map.len() == 2);
-    check(&rt, all.meets(Way::Overwrite, other, (Some(one), None)));
-    check(&rt, all.meets(Way::Overwrite, host(7), (None, None)));
-    check(&rt, all.map.len() == 3);
-    check(&rt, all.remove_unique(&4, &107).is_none());
-    check(&rt, all.remove_unique(&4, &101) == Some(other));
-}
-
-// The second host is one too many.
-fn full_of_one(rt: &impl Abort, mut few: Hosts) {
-    check(rt, few.is_put(host_of(1, 1, 1)));
-    match few.insert(Way::Unique, host_of(2, 2, 2)) {
-        Err(refused) => {
-            check(rt, refused.error.is_capacity_overflow());
-            check(rt, refused.item == host_of(2, 2, 2));
-        }
-        Ok(_) => check(rt, false),
-    }
-    let replaced = (Some(host_of(1, 1, 1)), None);
-    check(rt, few.meets(Way::Overwrite, host_of(1, 2, 3), replaced));
+    let both = (Some(host(4)), Some(host(1)));
+    let mut all = hosts(&rt, rt.alloc());
+    all.run(&rt, &[Step::Insert(Way::Overwrite, one, both)]);
+    check(&rt, all.holds(&[one, host(5)]));
+    let there = [other, host(5), host(7)];
+    let steps = [
+        Step::Insert(Way::Overwrite, other, (Some(one), None)),
+        Step::Insert(Way::Overwrite, host(7), NONE),
+        Step::Holds(&there),
+        Step::Remove(By::Both, 4, 107, None),
+        Step::Remove(By::Both, 4, 101, Some(other)),
+    ];
+    all.run(&rt, &steps);
 }
 
 #[test]
@@ -93,18 +77,29 @@ fn room_and_limit(rt: HostRuntime) {
     check(&rt, all.map.try_reserve(2000).is_ok());
     all.clear();
     check(&rt, all.map.is_empty() && all.map.spare() >= 2000);
-    full_of_one(&rt, Hosts::with_limit(rt.alloc(), 1));
+    // the second host is one too many
+    let (one, new) = (host_of(1, 1, 1), host_of(1, 2, 3));
+    let steps = [
+        Step::Insert(Way::Unique, one, NONE),
+        Step::Refuse(Way::Unique, host_of(2, 2, 2)),
+        Step::Insert(Way::Overwrite, new, (Some(one), None)),
+    ];
+    Hosts::with_limit(rt.alloc(), 1).run(&rt, &steps);
 }
 
 #[test]
 fn guards_and_visits(rt: HostRuntime) {
     let mut all = hosts(&rt, rt.alloc());
-    check(&rt, all.set_by_number(4, 40) && all.set_by_address(105, 50));
-    check(&rt, all.set_by_both(1, 101, 10));
-    check(&rt, !all.set_by_both(1, 105, 10));
-    check(&rt, load(all.get2(&104)) == 40);
-    check(&rt, load(all.get1(&5)) == 50);
-    check(&rt, load(all.get1(&1)) == 10);
+    let steps = [
+        Step::Load(By::First, 4, 0, 40, true),
+        Step::Load(By::Second, 0, 105, 50, true),
+        Step::Load(By::Both, 1, 101, 10, true),
+        Step::Load(By::Both, 1, 105, 10, false),
+        Step::Get(By::Second, 0, 104, Some(host_of(4, 104, 40))),
+        Step::Get(By::First, 5, 0, Some(host_of(5, 105, 50))),
+        Step::Get(By::First, 1, 0, Some(host_of(1, 101, 10))),
+    ];
+    all.run(&rt, &steps);
     visit(&rt, all);
 }
 
@@ -116,7 +111,8 @@ fn visit(rt: &impl Abort, mut all: Hosts) {
         there.load < 50
     });
     check(rt, asked.get() == 3);
-    check(rt, all.map.len() == 2 && !all.contains_key2(&105));
+    check(rt, all.map.len() == 2);
+    check(rt, !all.contains(By::Second, &0, &105));
     check(rt, all.map.validate(ValidateCompact::NonCompact).is_ok());
     let mut loads = 0;
     for there in all.map {

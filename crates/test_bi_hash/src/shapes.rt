@@ -1,5 +1,5 @@
 //! Keys that are equal though spelled differently.
-use crate::held::{Held, check};
+use crate::held::{By, Held, check};
 use iddqd_bi_hash::{BiHashItem, Few};
 use test_support::caseless::Caseless;
 
@@ -40,18 +40,25 @@ fn spelled(station: &Station) -> ([u8; 3], u32) {
     (station.sign.0, station.frequency)
 }
 
+// The one item that the new one replaces.
+fn overwritten(all: &mut Held<Station>, new: Station) -> Option<([u8; 3], u32)> {
+    match all.insert_overwrite(new) {
+        Ok(Some(Few::One(back))) => Some(spelled(&back)),
+        _ => None,
+    }
+}
+
 // A key in another case is met, and an item that overwrites brings its spelling.
 #[test]
 fn coarse_first_key(rt: HostRuntime) {
     let mut all = Held::new(rt.alloc());
+    let (sign, other) = (Caseless(*b"aNN"), at(*b"Ann", 8));
     check(&rt, all.is_put(at(*b"ann", 7)));
     check(&rt, !all.is_put(at(*b"ANN", 8)));
-    let there = all.get1(&Caseless(*b"aNN")).map(spelled);
-    check(&rt, there == Some((*b"ann", 7)));
-    match all.insert_overwrite(at(*b"Ann", 8)) {
-        Ok(Some(Few::One(back))) => check(&rt, spelled(&back) == (*b"ann", 7)),
-        _ => check(&rt, false),
-    }
-    check(&rt, !all.contains_key2(&7));
-    check(&rt, all.get2(&8).map(spelled) == Some((*b"Ann", 8)));
+    let there = Some((*b"ann", 7));
+    check(&rt, all.get(By::First, &sign, &0).map(spelled) == there);
+    check(&rt, overwritten(&mut all, other) == there);
+    check(&rt, !all.contains(By::Second, &sign, &7));
+    let there = all.get(By::Second, &sign, &8).map(spelled);
+    check(&rt, there == Some((*b"Ann", 8)));
 }

@@ -1,5 +1,5 @@
 //! Copies, shrinks and calls on many hosts with requests for memory refused: which hosts are in then.
-use crate::held::{Hosts, Way, check, host, hosts_between};
+use crate::held::{Hosts, NONE, Way, check, host, hosts_between};
 use crate::refused::{is_unmade, made_twice, tell, tell_refused};
 use std::alloc::Global;
 use std::io::Print;
@@ -26,21 +26,15 @@ fn extend_by_twenty(rt: &(impl Abort + Print), alloc: Global, way: Way, hint: us
     let stopped = all.stopped(way, hosts.as_slice(), hint);
     let is_met = is_met(alloc);
     check(rt, stopped.is_some() == is_met && !has_leaked(alloc));
-    let word = match stopped {
-        None => {
-            check(rt, all.holds_below(25));
-            "all_in"
-        }
-        Some((None, is_limit)) => {
-            check(rt, !is_limit && all.holds_below(5));
-            "none_in"
-        }
-        Some((Some(item), is_limit)) => {
-            check(rt, !is_limit && item == host(item.number));
-            check(rt, item.number < 25 && all.holds_below(item.number));
-            "item_back"
-        }
+    let (item, count, word) = match stopped {
+        None => (None, 25, "all_in"),
+        Some((None, ..)) => (None, 5, "none_in"),
+        Some((Some(item), ..)) => (Some(host(item.number)), item.number, "item_back"),
     };
+    let is_refusal = stopped == Some((item, NONE, false));
+    check(rt, stopped.is_none() || is_refusal);
+    check(rt, item.is_none() || count < 25);
+    check(rt, all.holds_below(count));
     tell(rt, word);
 }
 
@@ -76,28 +70,20 @@ fn shrink(rt: &(impl Abort + Print), alloc: Global, min: Option<usize>) {
     let mut all = Hosts::below(rt, alloc, 40);
     all.retain(|there| there.number % 8 == 7);
     arm(alloc);
-    let shrunk = match min {
-        None => all.shrink_to_fit(),
-        Some(min) => all.shrink_to(min),
-    };
+    let shrunk = all.shrink(min);
     let is_met = is_met(alloc);
     check(rt, !has_leaked(alloc));
-    check(
-        rt,
-        all.holds(&[host(7), host(15), host(23), host(31), host(39)]),
-    );
-    check(rt, all.is_compact());
-    tell(
-        rt,
-        match shrunk {
-            Ok(()) if is_met => "shrunk_without",
-            Ok(()) => "shrunk",
-            Err(error) => {
-                check(rt, is_met && !error.is_capacity_overflow());
-                "shrink_refused"
-            }
-        },
-    );
+    let left = [host(7), host(15), host(23), host(31), host(39)];
+    check(rt, all.holds(&left) && all.is_compact());
+    let word = match shrunk {
+        Ok(()) if is_met => "shrunk_without",
+        Ok(()) => "shrunk",
+        Err(error) => {
+            check(rt, is_met && !error.is_capacity_overflow());
+            "shrink_refused"
+        }
+    };
+    tell(rt, word);
 }
 
 #[test]

@@ -1,13 +1,7 @@
 //! What a shrink leaves.
-use crate::held::{Hosts, check, host, left};
+use crate::held::{By, Hosts, NONE, Step, Way, check, host, left};
 use std::alloc::Global;
 use std::process::Abort;
-
-// The hosts that are left are there, and no slot is vacant.
-fn closed_up(rt: &impl Abort, all: &Hosts) {
-    check(rt, all.holds(&left()));
-    check(rt, all.map.vacant() == 0 && all.is_compact());
-}
 
 // Hosts with vacant slots among them, and room for a hundred more.
 fn with_room(rt: &impl Abort, alloc: Global) -> Hosts {
@@ -18,11 +12,17 @@ fn with_room(rt: &impl Abort, alloc: Global) -> Hosts {
     all
 }
 
+// Shrinks such a map: the hosts are there, and no slot is vacant.
+fn close_up(rt: &impl Abort, all: &mut Hosts, min: Option<usize>) {
+    check(rt, all.shrink(min).is_ok());
+    check(rt, all.holds(&left()));
+    check(rt, all.map.vacant() == 0 && all.is_compact());
+}
+
 #[test]
 fn to_fit(rt: HostRuntime) {
     let mut all = with_room(&rt, rt.alloc());
-    check(&rt, all.shrink_to_fit().is_ok());
-    closed_up(&rt, &all);
+    close_up(&rt, &mut all, None);
     check(&rt, all.has_room(4, 50) && all.map.spare() < 50);
 }
 
@@ -30,8 +30,7 @@ fn to_fit(rt: HostRuntime) {
 #[test]
 fn to_some(rt: HostRuntime) {
     let mut all = with_room(&rt, rt.alloc());
-    check(&rt, all.shrink_to(20).is_ok());
-    closed_up(&rt, &all);
+    close_up(&rt, &mut all, Some(20));
     check(&rt, all.has_room(20, 50));
     check(&rt, all.map.spare() >= 16 && all.map.spare() < 50);
 }
@@ -41,8 +40,7 @@ fn to_some(rt: HostRuntime) {
 fn to_more_than_there_is(rt: HostRuntime) {
     let mut all = with_room(&rt, rt.alloc());
     let before = all.map.capacity();
-    check(&rt, all.shrink_to(5000).is_ok());
-    closed_up(&rt, &all);
+    close_up(&rt, &mut all, Some(5000));
     check(&rt, all.map.capacity() == before && all.map.spare() >= 100);
 }
 
@@ -50,13 +48,18 @@ fn to_more_than_there_is(rt: HostRuntime) {
 #[test]
 fn changed_after_it(rt: HostRuntime) {
     let mut all = Hosts::with_gaps(&rt, rt.alloc());
-    check(&rt, all.shrink_to_fit().is_ok());
+    check(&rt, all.shrink(None).is_ok());
     let [first, second, third, last] = left();
-    check(&rt, !all.is_put(last));
-    check(&rt, all.remove1(&last.number) == Some(last));
-    check(&rt, all.remove2(&third.address) == Some(third));
-    check(&rt, all.holds(&[first, second]));
-    check(&rt, all.is_put(last) && all.is_put(third));
+    let first = [first, second];
+    let steps = [
+        Step::Insert(Way::Unique, last, (Some(last), None)),
+        Step::Remove(By::First, 5, 0, Some(last)),
+        Step::Remove(By::Second, 0, 103, Some(third)),
+        Step::Holds(&first),
+        Step::Insert(Way::Unique, last, NONE),
+        Step::Insert(Way::Unique, third, NONE),
+    ];
+    all.run(&rt, &steps);
     check(&rt, all.holds(&left()));
 }
 
@@ -64,9 +67,9 @@ fn changed_after_it(rt: HostRuntime) {
 fn without_hosts(rt: HostRuntime) {
     let mut all = with_room(&rt, rt.alloc());
     all.clear();
-    check(&rt, all.shrink_to(10).is_ok());
+    check(&rt, all.shrink(Some(10)).is_ok());
     check(&rt, all.map.capacity() >= 10 && all.map.spare() >= 10);
-    check(&rt, all.shrink_to_fit().is_ok());
+    check(&rt, all.shrink(None).is_ok());
     check(&rt, all.map.capacity() == 0 && all.map.spare() == 0);
     check(&rt, all.holds(&[]));
 }
@@ -80,6 +83,6 @@ fn many_move(rt: HostRuntime) {
     }
     all.retain(|there| there.number < 150);
     check(&rt, all.map.vacant() == 150);
-    check(&rt, all.shrink_to_fit().is_ok());
+    check(&rt, all.shrink(None).is_ok());
     check(&rt, all.holds_below(150));
 }

@@ -1,7 +1,7 @@
 //! Items whose two keys count how often they are compared and hashed.
-use crate::held::{Call, Held, check};
+use crate::held::{By, Held, Load, Way, check};
 use iddqd_bi_hash::BiHashItem;
-use std::alloc::{AllocError, Global};
+use std::alloc::Global;
 use std::hash::BuildHasher;
 use std::process::Abort;
 use test_support::counting::{CountingKey, Counts as Tally};
@@ -31,8 +31,29 @@ impl<'a> BiHashItem for Counted<'a> {
     }
 }
 
+impl Load for Counted<'_> {
+    fn set_load(&mut self, _load: u32) {}
+}
+
 /// How often first keys were compared and hashed, and second keys.
 pub(crate) type Counts = (u32, u32, u32, u32);
+
+/// A call on a map of such items.
+#[derive(Clone, Copy)]
+pub(crate) enum Act {
+    Get(By),
+    Contains(By),
+    /// A guard.
+    Lend(By),
+    Remove(By),
+    /// `insert_unique`
+    Put,
+    /// `insert_overwrite`
+    Overwrite,
+}
+
+/// A call, the numbers of its keys, whether it finds or inserts an item, and how keys count.
+pub(crate) type Row = (Act, (u32, u32), bool, Counts);
 
 /// What the first keys count, and what the second ones do.
 #[derive(Default, Drop)]
@@ -50,13 +71,16 @@ impl Tallies {
         }
     }
 
-    /// A hundred items.
-    pub(crate) fn hundred(&self, alloc: Global) -> Result<Vec<Counted<'_>>, AllocError> {
+    /// A map that is made of a hundred items, of which none is announced. Growth hashes no key.
+    pub(crate) fn hundred(&self, rt: &impl Abort, alloc: Global, way: Way) -> Held<Counted<'_>> {
         let mut items = Vec::new(alloc);
         for number in 0..100u32 {
-            items.push(self.item(number, number))?;
+            check(rt, items.push(self.item(number, number)).is_ok());
         }
-        Ok(items)
+        let made = Held::collected(alloc, way, items.as_slice(), 0);
+        let all = made.ok().expect(rt, "a map");
+        self.tell(rt, all.map.len() == 100, (0, 100, 0, 100));
+        all
     }
 
     /// A map of the items (1, 2), (2, 4) and (3, 6).
@@ -69,17 +93,34 @@ impl Tallies {
         all
     }
 
-    /// Makes each call by keys of these numbers, and looks whether it finds an item and keys counted so.
+    // Whether the call finds or inserts an item.
+    fn does<'a, S: BuildHasher>(
+        &'a self,
+        all: &mut Held<Counted<'a>, S>,
+        act: Act,
+        keys: (u32, u32),
+    ) -> bool {
+        let item = self.item(keys.0, keys.1);
+        match act {
+            Act::Get(by) => all.get(by, &item.one, &item.other).is_some(),
+            Act::Contains(by) => all.contains(by, &item.one, &item.other),
+            Act::Lend(by) => all.load(by, &item.one, &item.other, 0),
+            Act::Remove(by) => all.remove(by, &item.one, &item.other).is_some(),
+            Act::Put => all.is_put(item),
+            Act::Overwrite => all.insert_overwrite(item).is_ok(),
+        }
+    }
+
+    /// Makes each call, and looks whether it does so and keys count so.
     pub(crate) fn tell_each<'a, S: BuildHasher>(
         &'a self,
         rt: &impl Abort,
         all: &mut Held<Counted<'a>, S>,
-        calls: &[(Call, (u32, u32), bool, Counts)],
+        rows: &[Row],
     ) {
-        for row in calls {
-            let (call, keys, is_found, counts) = *row;
-            let (one, other) = (self.first.key(keys.0), self.second.key(keys.1));
-            self.tell(rt, all.finds(call, &one, &other) == is_found, counts);
+        for row in rows {
+            let (act, keys, is_done, counts) = *row;
+            self.tell(rt, self.does(all, act, keys) == is_done, counts);
         }
     }
 
@@ -88,5 +129,13 @@ impl Tallies {
         check(rt, is_done);
         let (first, second) = (self.first.since(), self.second.since());
         check(rt, (first.1, first.0, second.1, second.0) == wanted);
+    }
+}
+
+/// How many items a map has that is made of these, of which none is announced. It is `None` if no map is made.
+pub(crate) fn length_collected(alloc: Global, way: Way, items: &[Counted<'_>]) -> Option<usize> {
+    match Held::collected(alloc, way, items, 0) {
+        Ok(all) => Some(all.map.len()),
+        Err(_error) => None,
     }
 }

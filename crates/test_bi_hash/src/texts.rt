@@ -86,8 +86,6 @@ fn guards_for_debugging(rt: HostRuntime) {
 #[test]
 fn writing_walk_for_debugging(rt: HostRuntime) {
     let mut map = one(&rt, rt.alloc()).map;
-    check(
-        &rt,
-        is_debugged(rt.alloc(), &map.iter_mut(), "IterMut { .. }"),
-    );
+    let walk = map.iter_mut();
+    check(&rt, is_debugged(rt.alloc(), &walk, "IterMut { .. }"));
 }

@@ -1,6 +1,6 @@
 //! Callers of a map of two keys, over items that own text: what lookups by either key find after each change. Nobody
 //! calls them.
-ghost use Rattle.std.specs.Prelude.{◌≡◌, ◌+◌, IfErr, IfSome, IsTrue, None, OnOk, Some, length, option_map, string_bytes};
+ghost use Rattle.std.specs.Prelude.{◌≡◌, ◌+◌, ◌<◌, IfErr, IfSome, IsTrue, None, OnOk, Some, length, option_map, string_bytes};
 ghost use Rattle.std.specs.Hash.{u64};
 ghost use Rattle.iddqd_bi_hash.specs.BiHashItems.{IsKeyedByNumberAndText};
 ghost use Rattle.test_callers.specs.Accounts.{HasEmail, HasNumber, KeepsNumbers, KeepsNumbersBeside, KeepsNumbersUnmet, KeepsTexts, KeepsTextsBeside, KeepsTextsUnmet, LosesEmail, LosesEmailTo, LosesNumber, LosesNumberTo, of_both, of_email, of_number, of_text, with_email, with_quota};
@@ -44,9 +44,22 @@ fn add(all: &mut BiHashMap<Account>, account: Account) -> bool
     ensures by_email { IsTrue result → of_email account.email all.new.items ≡ Some account }
     ensures numbers { KeepsNumbers account.number all.old.items all.new.items }
     ensures texts { KeepsTexts (string_bytes account.email) all.old.items all.new.items }
+    ensures longer { IsTrue result → length all.new.items ≡ length all.old.items + 1 }
     ensures keyed { IsKeyedByNumberAndText u64 (λ a. a.number) (λ a. a.email) all.new }
 {
     all.insert_unique(account).is_ok()
+}
+
+/// How many accounts are shown that have a key of this one. Then nothing has changed.
+fn in_the_way(all: &mut BiHashMap<Account>, account: Account) -> usize
+    requires keyed { IsKeyedByNumberAndText u64 (λ a. a.number) (λ a. a.email) all.old }
+    ensures unchanged { 0 < result → all.new ≡ all.old }
+    ensures keyed { IsKeyedByNumberAndText u64 (λ a. a.number) (λ a. a.email) all.new }
+{
+    match all.insert_unique(account) {
+        Err(InsertError::Duplicate(both)) => both.duplicates().len(),
+        Ok(()) | Err(InsertError::Refused(_)) => 0,
+    }
 }
 
 /// Both keys find what was inserted, and the other key of an account that it replaces finds nothing.
@@ -107,6 +120,7 @@ fn close_by_email(all: &mut BiHashMap<Account>, email: &str) -> Option<Account>
     requires keyed { IsKeyedByNumberAndText u64 (λ a. a.number) (λ a. a.email) all.old }
 
     // the account
+    ensures value { result ≡ of_text email.now all.old.items }
     ensures gone { of_text email.now all.new.items ≡ None }
     ensures number_gone { LosesNumber result all.new.items }
 

@@ -6,7 +6,7 @@ ghost use Rattle.iddqd_bi_hash.specs.BiHashItems.{IsKeyedByNumberAndTextUnder, I
 ghost use Rattle.test_callers.specs.Accounts.{of_number};
 
 use crate::bi_accounts::Account;
-use iddqd_bi_hash::{BiHashItem, BiHashMap, Text};
+use iddqd_bi_hash::{BiHashItem, BiHashMap, Keyed, Text};
 use std::collections::hash_map::RandomState;
 
 /// A badge, by its owner and by its number.
@@ -63,6 +63,35 @@ impl BiHashItem for Alias {
     }
 }
 
+/// A host, by its number and by its address.
+#[derive(Drop)]
+pub(crate) struct Host {
+    /// The first key.
+    pub(crate) number: u32,
+    /// The second key.
+    pub(crate) address: u64,
+    /// What is known of it.
+    pub(crate) load: u32,
+}
+
+impl BiHashItem for Host {
+    type K1 = u32;
+
+    type K2 = u64;
+
+    ghost key1 = { λ h. h.number };
+
+    ghost key2 = { λ h. h.address };
+
+    fn key1(&self) -> &u32 {
+        &self.number
+    }
+
+    fn key2(&self) -> &u64 {
+        &self.address
+    }
+}
+
 /// A text and a number.
 fn add_badge(all: &mut BiHashMap<Badge>, badge: Badge) -> bool
     requires keyed { IsKeyedByTextAndNumber u32 (λ b. b.owner) (λ b. b.number) all.old }
@@ -103,4 +132,24 @@ fn add_account(all: &mut BiHashMap<Account, RandomState>, account: Account) -> b
     ensures keyed { IsKeyedByNumberAndTextUnder random_hash u64 (λ a. a.number) (λ a. a.email) all.new }
 {
     all.insert_unique(account).is_ok()
+}
+
+/// Two numbers: a write through a guard that leaves both keys leaves the map keyed.
+#[tactic(auto, using(iddqd_bi_hash::proofs::GuardLemmas::both_keys_kept))]
+fn set_load(hosts: &mut BiHashMap<Host>, number: u32, address: u64, load: u32) -> bool
+    requires keyed { ⟦<BiHashMap<Host> as Keyed>⟧.keyed hosts.old }
+{
+    if let Some(mut found) = hosts.get_mut_unique(&number, &address) {
+        found.load = load;
+        found.finish();
+    }
+    hosts.contains_key2(&address)
+}
+
+/// Two numbers with a random seed.
+fn remove_host(all: &mut BiHashMap<Host, RandomState>, number: u32) -> Option<Host>
+    requires keyed { ⟦<BiHashMap<Host, RandomState> as Keyed>⟧.keyed all.old }
+    ensures keyed { ⟦<BiHashMap<Host, RandomState> as Keyed>⟧.keyed all.new }
+{
+    all.remove1(&number)
 }
