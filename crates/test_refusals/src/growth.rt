@@ -1,13 +1,16 @@
 //! The ordered map as it grows, with each request of each insertion refused in its turn.
-use crate::checks::check;
+use crate::maps::numbered;
+use crate::words::{Word, tell};
+use iddqd::errors::TryReserveError;
+use std::alloc::Global;
 use std::test::Fail;
 use test_support::heap::{arm, is_met};
 use test_support::items::Numbered;
 use test_support::maps::{Copying, Inserted, Ordered, UnderTest, in_order};
 
-// Whether the walk has the numbers from 1 to below another, in order.
+// Whether the walk has the numbers below another, in order.
 fn walks(map: &Ordered<Numbered>, end: u32) -> bool {
-    let mut next = 1u32;
+    let mut next = 0u32;
     for item in map.map().iter() {
         if item.number != next {
             return false;
@@ -18,33 +21,39 @@ fn walks(map: &Ordered<Numbered>, end: u32) -> bool {
 }
 
 // Inserts the number after the existing ones, and returns whether it was refused. Then it is returned, the walk still
-// has those before it, and no slot is vacant. Now it is inserted.
-fn grow(map: &mut Ordered<Numbered>, number: u32) -> Result<bool, Fail> {
-    let new = Numbered { number, value: 5 };
-    match map.insert(new) {
-        Inserted::Done => Ok(false),
-        Inserted::Refused(item, error) => {
-            let is_back = item == new && !error.is_capacity_overflow();
-            let is_kept = walks(map, number) && map.vacant() == 0 && map.is_sound();
-            if is_back && is_kept && map.insert(item) == Inserted::Done {
-                return Ok(true);
-            }
-            Err(Fail::from("the number or the walk is not as it was, or it is refused again"))
-        }
-        Inserted::Duplicate(_, _) => Err(Fail::from("the number was there")),
+// has those before it, and no slot is vacant. Now it is inserted. `None` if anything is otherwise.
+fn grow(map: &mut Ordered<Numbered>, number: u32) -> Option<bool> {
+    let new = numbered(number, 5);
+    let inserted = map.insert(new);
+    if inserted == Inserted::Done {
+        return Some(false);
     }
+    let is_back = inserted == Inserted::Refused(new, TryReserveError::alloc_error());
+    let is_kept = walks(map, number) && map.vacant() == 0 && map.is_sound();
+    (is_back && is_kept && map.insert(new) == Inserted::Done).then_some(true)
+}
+
+// The word for twelve numbers, of which one was refused if a request was.
+fn growth(alloc: Global, mut map: Ordered<Numbered>) -> Word {
+    let mut is_refused = Some(false);
+    arm(alloc);
+    for number in 0..12 {
+        is_refused = match (grow(&mut map, number), is_refused) {
+            (Some(now), Some(before)) => Some(now || before),
+            _ => None,
+        };
+    }
+    if is_refused != Some(is_met(alloc)) || !walks(&map, 12) {
+        return Err(Fail::from("a number is gone, or a refusal is not told"));
+    }
+    Ok(if is_refused == Some(true) {
+        "key_back"
+    } else {
+        "all_in"
+    })
 }
 
 #[test]
 fn growth_refused(rt: HostRuntime) -> Result<(), Fail> {
-    let mut map = in_order(rt.alloc());
-    let mut is_refused = false;
-    arm(rt.alloc());
-    for number in 1..13 {
-        is_refused = grow(&mut map, number)? || is_refused;
-    }
-    check(&rt, is_met(rt.alloc()) == is_refused);
-    check(&rt, walks(&map, 13));
-    println!(rt; "{}", if is_refused { "key_back" } else { "all_in" })?;
-    Ok(())
+    tell(&rt, growth(rt.alloc(), in_order(rt.alloc())))
 }

@@ -1,5 +1,5 @@
 //! Iterators whose hints lie, with a request refused.
-use crate::words::tell;
+use crate::words::{Word, rows, tell, word_of};
 use std::alloc::Global;
 use std::test::Fail;
 use test_support::bulk::is_not_taken_in;
@@ -36,28 +36,27 @@ fn has_both<M: UnderTest<Named, [u8; 3]>>(map: &M) -> bool {
 
 // The word for a map that an iterator lies to before and after it has two items. A request that is refused is one
 // of theirs.
-fn lied_to<M: Copying<Named, [u8; 3]>>(alloc: Global, map: &mut M) -> Result<&'static str, Fail> {
+fn lied_to<M: Copying<Named, [u8; 3]>>(alloc: Global, map: &mut M) -> Word {
     arm(alloc);
     let is_empty_kept = is_not_taken_in(map) && map.len() == 0;
     let refused = (put_at_last(map, FOO), put_at_last(map, BAR));
     let is_kept = is_empty_kept && is_not_taken_in(map);
     let is_met = is_met(alloc);
-    match refused {
-        (Some(false), Some(false)) if is_kept && !is_met && has_both(map) => Ok("no_item_refused"),
-        (Some(true), Some(false)) | (Some(false), Some(true))
-            if is_kept && is_met && has_both(map) => { Ok("hint_refused") }
-        _ => Err(Fail::from("a hint was believed, or the map is not as it was")),
-    }
+    let is_whole = is_kept && has_both(map);
+    let rows = rows! {
+        "no_item_refused": ((Some(false), Some(false)), false, true);
+        "hint_refused": ((Some(true), Some(false)), true, true);
+        "hint_refused": ((Some(false), Some(true)), true, true);
+    };
+    word_of(&rows, &(refused, is_met, is_whole))
 }
 
 #[test]
 fn lying_hints(rt: HostRuntime) -> Result<(), Fail> {
-    let mut map = in_order(rt.alloc());
-    tell(&rt, lied_to(rt.alloc(), &mut map))
+    tell(&rt, lied_to(rt.alloc(), &mut in_order(rt.alloc())))
 }
 
 #[test]
 fn hash_lying_hints(rt: HostRuntime) -> Result<(), Fail> {
-    let mut map = by_hash(rt.alloc());
-    tell(&rt, lied_to(rt.alloc(), &mut map))
+    tell(&rt, lied_to(rt.alloc(), &mut by_hash(rt.alloc())))
 }

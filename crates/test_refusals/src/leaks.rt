@@ -1,36 +1,41 @@
 //! What is held of a map's memory once it is dropped: nothing, whatever was refused on the way.
-use crate::maps::numbered;
-use crate::words::tell;
+use crate::entries::name;
+use crate::words::{Word, tell};
 use std::alloc::Global;
 use std::test::Fail;
+use test_support::caseless::{Caseless, Coarse, item_of};
+use test_support::coarse::{CoarseMap, Copied};
 use test_support::heap::{arm, has_leaked, is_met};
-use test_support::items::Numbered;
-use test_support::maps::{Copying, Hashed, Ordered, UnderTest, by_hash, in_order};
+use test_support::maps::{Hashed, Ordered, UnderTest, by_hash, in_order};
 
-// Inserts the numbers from the one up to the other, but for those that are refused.
-fn put_in<M: Copying<Numbered, u32>>(map: &mut M, from: u32, to: u32) {
+// Inserts the items of the numbers from the one up to the other, but for those that are refused.
+fn put_in<M: UnderTest<Coarse, Caseless>>(map: &mut M, from: u8, to: u8) {
     for number in from..to {
-        let _ = map.insert(numbered(number, 5));
+        let _ = map.is_put(item_of(name(number), 5));
     }
 }
 
-// Takes out the numbers from the one up to the other.
-fn take_out<M: UnderTest<Numbered, u32>>(map: &mut M, from: u32, to: u32) {
+// Takes out the items of the numbers from the one up to the other.
+fn take_out<M: UnderTest<Coarse, Caseless>>(map: &mut M, from: u8, to: u8) {
     for number in from..to {
-        let _ = map.remove(&number);
+        let _ = map.remove(&Caseless(name(number)));
     }
 }
 
-// Fills the map, so that its index grows, takes most out again, so that it falls, and gives memory back.
-fn rise_and_fall<M: Copying<Numbered, u32>>(map: &mut M) {
-    put_in(map, 0, 100);
-    take_out(map, 10, 90);
+// Fills the map, so that its index grows, takes most out again, so that it falls, and gives memory back. A copy of it is
+// dropped before it.
+fn lives<M: CoarseMap + Copied + Drop>(mut map: M) {
+    put_in(&mut map, 0, 100);
+    take_out(&mut map, 10, 90);
     let _ = map.shrink_to_fit();
-    put_in(map, 40, 60);
+    put_in(&mut map, 40, 60);
+    let _ = map.copied();
+    map.clear();
+    put_in(&mut map, 0, 30);
 }
 
 // The word for what is held when all is dropped.
-fn word(alloc: Global) -> Result<&'static str, Fail> {
+fn word(alloc: Global) -> Word {
     let is_met = is_met(alloc);
     if has_leaked(alloc) {
         return Err(Fail::from("memory is held that nothing gives back"));
@@ -42,46 +47,29 @@ fn word(alloc: Global) -> Result<&'static str, Fail> {
     })
 }
 
-// A map, and a copy of it that is dropped before it.
-fn lives_in_order(mut map: Ordered<Numbered>) {
-    rise_and_fall(&mut map);
-    let _ = map.copied();
-    map.clear();
-    put_in(&mut map, 0, 30);
-}
-
-fn lives_by_hash(mut map: Hashed<Numbered>) {
-    rise_and_fall(&mut map);
-    let _ = map.copied();
-    map.clear();
-    put_in(&mut map, 0, 30);
-}
-
 #[test]
 fn map_dropped(rt: HostRuntime) -> Result<(), Fail> {
-    let map = in_order(rt.alloc());
     arm(rt.alloc());
-    lives_in_order(map);
+    lives(in_order(rt.alloc()));
     tell(&rt, word(rt.alloc()))
 }
 
 #[test]
 fn hash_map_dropped(rt: HostRuntime) -> Result<(), Fail> {
-    let map = by_hash(rt.alloc());
     arm(rt.alloc());
-    lives_by_hash(map);
+    lives(by_hash(rt.alloc()));
     tell(&rt, word(rt.alloc()))
 }
 
 // Two items of an owned walk are taken, and the rest is dropped with it.
-fn walked_in_order(mut map: Ordered<Numbered>) {
+fn walked_in_order(mut map: Ordered<Coarse>) {
     put_in(&mut map, 0, 100);
     let mut walk = map.into_map().into_iter();
     let _ = walk.next();
     let _ = walk.next();
 }
 
-fn walked_by_hash(mut map: Hashed<Numbered>) {
+fn walked_by_hash(mut map: Hashed<Coarse>) {
     put_in(&mut map, 0, 100);
     let mut walk = map.into_map().into_iter();
     let _ = walk.next();
@@ -90,16 +78,14 @@ fn walked_by_hash(mut map: Hashed<Numbered>) {
 
 #[test]
 fn owned_walk_dropped(rt: HostRuntime) -> Result<(), Fail> {
-    let map = in_order(rt.alloc());
     arm(rt.alloc());
-    walked_in_order(map);
+    walked_in_order(in_order(rt.alloc()));
     tell(&rt, word(rt.alloc()))
 }
 
 #[test]
 fn hash_owned_walk_dropped(rt: HostRuntime) -> Result<(), Fail> {
-    let map = by_hash(rt.alloc());
     arm(rt.alloc());
-    walked_by_hash(map);
+    walked_by_hash(by_hash(rt.alloc()));
     tell(&rt, word(rt.alloc()))
 }

@@ -1,9 +1,8 @@
 //! Maps that are made, of either kind, with a request refused: then nothing is.
-use crate::checks::check;
 use crate::maps::{fill, holds};
 use crate::rooms::numbers;
-use crate::words::tell;
-use iddqd::errors::{FromIterError, TryReserveError};
+use crate::words::{Word, tell, unique, word_by_refusal, word_without_memory};
+use iddqd::errors::TryReserveError;
 use iddqd::{DefaultHashBuilder, IdHashMap, IdOrdMap};
 use std::alloc::Global;
 use std::test::Fail;
@@ -12,12 +11,15 @@ use test_support::heap::{arm, is_met};
 use test_support::items::Numbered;
 use test_support::maps::{Hashed, Ordered, UnderTest};
 
-// The word for what was made.
-fn word<M: Drop>(made: Result<M, TryReserveError>, is_met: bool) -> Result<&'static str, Fail> {
+// Ends the count: the word for a map that was made, if it is right.
+fn word(alloc: Global, made: Result<bool, TryReserveError>) -> Word {
+    word_by_refusal(made, is_met(alloc), ("made", "nothing_made"))
+}
+
+fn is_made<M: Drop>(made: Result<M, TryReserveError>) -> Result<bool, TryReserveError> {
     match made {
-        Ok(_) if !is_met => Ok("made"),
-        Err(error) if is_met && !error.is_capacity_overflow() => Ok("nothing_made"),
-        _ => Err(Fail::from("a map was refused for nothing, or a refusal is not told")),
+        Ok(_) => Ok(true),
+        Err(error) => Err(error),
     }
 }
 
@@ -25,14 +27,14 @@ fn word<M: Drop>(made: Result<M, TryReserveError>, is_met: bool) -> Result<&'sta
 fn with_capacity(rt: HostRuntime) -> Result<(), Fail> {
     arm(rt.alloc());
     let made = IdOrdMap::<Numbered>::with_capacity(rt.alloc(), 20);
-    tell(&rt, word(made, is_met(rt.alloc())))
+    tell(&rt, word(rt.alloc(), is_made(made)))
 }
 
 #[test]
 fn hash_with_capacity(rt: HostRuntime) -> Result<(), Fail> {
     arm(rt.alloc());
     let made = IdHashMap::<Numbered>::with_capacity(rt.alloc(), 20);
-    tell(&rt, word(made, is_met(rt.alloc())))
+    tell(&rt, word(rt.alloc(), is_made(made)))
 }
 
 #[test]
@@ -40,7 +42,7 @@ fn with_capacity_and_hasher(rt: HostRuntime) -> Result<(), Fail> {
     let hasher = DefaultHashBuilder::new();
     arm(rt.alloc());
     let made = IdHashMap::<Numbered>::with_capacity_and_hasher(rt.alloc(), 20, hasher);
-    tell(&rt, word(made, is_met(rt.alloc())))
+    tell(&rt, word(rt.alloc(), is_made(made)))
 }
 
 // What `with_capacity` made room for goes in, and asks for nothing.
@@ -48,51 +50,33 @@ fn with_capacity_and_hasher(rt: HostRuntime) -> Result<(), Fail> {
 fn hash_room_without_memory(rt: HostRuntime) -> Result<(), Fail> {
     let mut map = Hashed::new(IdHashMap::with_capacity(rt.alloc(), 20)?);
     arm(rt.alloc());
-    fill(&mut map, 20)?;
-    check(&rt, !is_met(rt.alloc()) && map.room() == 0);
-    Ok(())
+    let is_full = fill(&mut map, 20) && map.room() == 0;
+    tell(&rt, word_without_memory(rt.alloc(), is_full))
 }
 
-// The word for a map of twenty numbers.
-fn word_of_twenty<M: UnderTest<Numbered, u32> + Drop>(
-    made: Result<M, Option<TryReserveError>>,
-    is_met: bool,
-) -> Result<&'static str, Fail> {
+// Whether a map that was made of twenty numbers has them.
+fn is_whole<M: UnderTest<Numbered, u32> + Drop>(
+    made: Result<M, TryReserveError>,
+) -> Result<bool, TryReserveError> {
     match made {
-        Ok(map) if !is_met && holds(&map, 20, None) => Ok("made"),
-        Err(Some(error)) if is_met && !error.is_capacity_overflow() => Ok("nothing_made"),
-        _ => Err(Fail::from(
-            "an item is not in, a map was refused for nothing, or a refusal is not told",
-        )),
+        Ok(map) => Ok(holds(&map, 20)),
+        Err(error) => Err(error),
     }
 }
 
 // Collects twenty numbers.
-fn collection<M: UnderTest<Numbered, u32> + Bulk<Numbered> + Drop>(
-    alloc: Global,
-) -> Result<&'static str, Fail> {
+fn collection<M: UnderTest<Numbered, u32> + Bulk<Numbered> + Drop>(alloc: Global) -> Word {
     let items = numbers(alloc, 0, 20)?;
     arm(alloc);
-    let made = M::collected(alloc, items);
-    word_of_twenty(made.map_err(|error| Some(error)), is_met(alloc))
+    word(alloc, is_whole(M::collected(alloc, items)))
 }
 
 // The same, where no number may repeat.
-fn unique_collection<M: UnderTest<Numbered, u32> + Bulk<Numbered> + Drop>(
-    alloc: Global,
-) -> Result<&'static str, Fail> {
+fn unique_collection<M: UnderTest<Numbered, u32> + Bulk<Numbered> + Drop>(alloc: Global) -> Word {
     let items = numbers(alloc, 0, 20)?;
     arm(alloc);
-    let made = M::collected_unique(alloc, items);
-    word_of_twenty(made.map_err(|stopped| error_of(stopped)), is_met(alloc))
-}
-
-// Why there was no room, if that is why.
-fn error_of(stopped: FromIterError<Numbered>) -> Option<TryReserveError> {
-    match stopped {
-        FromIterError::Duplicate(_) => None,
-        FromIterError::Refused(error) => Some(error),
-    }
+    let made: Result<M, TryReserveError> = unique(M::collected_unique(alloc, items));
+    word(alloc, is_whole(made))
 }
 
 #[test]
