@@ -1,5 +1,4 @@
-//! What no clause of a map of two keys says: that each call succeeds with memory at hand, what it costs, and long runs of
-//! calls.
+//! What no clause of a map of two keys says: that calls succeed with memory at hand, what they cost, and long runs.
 #![tactic(auto)]
 
 #[cfg(test)]

@@ -34,6 +34,7 @@ impl<T, S> IdHashMap<T, S> {
     }
 
     // Returns the first slot from this number on that has an item, with the item. Looks at each slot up to that one.
+    #[inline]
     pub(super) fn item_from(&self, from: u32) -> Option<(u32, &T)>
         // if a slot has an item
         ensures there { IfSome result (λ found. IsNext self.now.slots from found.0) }
@@ -52,6 +53,7 @@ impl<T, S> IdHashMap<T, S> {
     }
 
     // As `item_from`, without the item.
+    #[inline]
     pub(super) fn slot_from(&self, from: u32) -> Option<u32>
         // if a slot has an item
         ensures there { IfSome result (IsNext self.now.slots from) }

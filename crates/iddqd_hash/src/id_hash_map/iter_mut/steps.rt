@@ -40,6 +40,7 @@ impl<T, S> IterMut<'_, T, S> {
 impl<T: IdHashItem, S: BuildHasher> IterMut<'_, T, S> {
     /// Returns the next item, for writing, or `None` for good after the last one. It looks at each slot on its way. A
     /// keyed map stays keyed if the key written is equal to the item's.
+    #[inline]
     pub fn next(&mut self) -> Option<&mut T>
         ensures* writes_back { sem 𝓛 (walk_lends S.row T.row self.entry result) }
         ensures value { option_copied_mut result ≡ walk_item self.old }
