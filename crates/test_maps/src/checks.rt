@@ -1,7 +1,55 @@
-//! What tests hold to be so.
+//! What rows share: items, maps, and what they hold to be so.
 ghost use Rattle.std.specs.Prelude.{IsTrue};
 
+use iddqd::{DefaultHashBuilder, IdHashItem, IdHashMap, IdOrdItem, IdOrdMap};
+use std::alloc::{AllocError, Global};
 use std::process::Abort;
+use test_support::items::{Named, Numbered, Titled, Wide};
+use test_support::maps::{Hashed, Ordered, UnderTest};
+
+pub(crate) const FOO: Named = Named {
+    name: *b"foo",
+    value: 42,
+};
+
+pub(crate) const BAR: Named = Named {
+    name: *b"bar",
+    value: 20,
+};
+
+pub(crate) const BAZ: Named = Named {
+    name: *b"baz",
+    value: 99,
+};
+
+pub(crate) const OTHER_FOO: Named = Named {
+    name: *b"foo",
+    value: 100,
+};
+
+pub(crate) fn named(name: [u8; 3], value: u32) -> Named {
+    Named { name, value }
+}
+
+pub(crate) fn numbered(number: u32, value: u32) -> Numbered {
+    Numbered { number, value }
+}
+
+pub(crate) fn wide_item(number: u8, letter: char, first: char) -> Wide {
+    Wide {
+        number,
+        letter,
+        first,
+        second: 'v',
+    }
+}
+
+pub(crate) fn titled(alloc: Global, name: &str, value: u32) -> Result<Titled, AllocError> {
+    Ok(Titled {
+        name: name.to_string(alloc)?,
+        value,
+    })
+}
 
 /// Ends the test as failed if the condition is false. The proof of a call takes a third of that of an `assert!` in its
 /// place.
@@ -9,4 +57,40 @@ pub(crate) fn check(rt: &impl Abort, condition: bool)
     ensures { IsTrue condition }
 {
     assert!(rt; condition);
+}
+
+/// An empty ordered map that never holds more items than the limit.
+pub(crate) fn in_order_of<T: IdOrdItem>(alloc: Global, limit: u32) -> Ordered<T> {
+    Ordered::new(IdOrdMap::with_limit(alloc, limit))
+}
+
+/// An empty hash map that never holds more items than the limit.
+pub(crate) fn by_hash_of<T: IdHashItem>(alloc: Global, limit: u32) -> Hashed<T> {
+    let hasher = DefaultHashBuilder::new();
+    Hashed::new(IdHashMap::with_limit(alloc, limit, hasher))
+}
+
+/// The map, once each of the items is inserted.
+pub(crate) fn filled<T: IdOrdItem + Copy + Drop, M: UnderTest<T, T::Key> + Drop>(
+    rt: &impl Abort,
+    mut map: M,
+    items: &[T],
+) -> M {
+    for item in items {
+        check(rt, map.is_put(*item));
+    }
+    map
+}
+
+/// Whether the map has these items, and no others.
+pub(crate) fn has_only<T: IdOrdItem + PartialEq>(
+    map: &impl UnderTest<T, T::Key>,
+    items: &[T],
+) -> bool {
+    for item in items {
+        if map.get(item.key()) != Some(item) {
+            return false;
+        }
+    }
+    map.len() == items.len()
 }

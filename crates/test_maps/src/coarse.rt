@@ -3,7 +3,6 @@ use crate::checks::check;
 use idtable_commands::{Command, Reply};
 use std::alloc::{AllocError, Global};
 use std::process::Abort;
-use std::test::Fail;
 use test_support::caseless::{Caseless, Coarse, item_of, spelled};
 use test_support::coarse::CoarseMap;
 use test_support::maps::{Commanded, UnderTest, by_hash, in_order};
@@ -35,45 +34,45 @@ fn coarse_overwrite(rt: HostRuntime) {
 }
 
 fn coarse_commands(alloc: Global) -> Result<Vec<Command<Coarse, Caseless, Untouched>>, AllocError> {
-    Ok(Vec::from_array(
-        alloc,
-        [
-            Command::InsertOverwrite(item_of(*b"Foo", 1)),
-            Command::InsertOverwrite(item_of(*b"FOO", 2)),
-            Command::Get(Caseless(*b"Foo")),
-            Command::Get(Caseless(*b"FOO")),
-            Command::Len,
-            Command::Clear,
-            Command::Len,
-        ],
-    )?)
+    let commands = [
+        Command::InsertOverwrite(item_of(*b"Foo", 1)),
+        Command::InsertOverwrite(item_of(*b"FOO", 2)),
+        Command::Get(Caseless(*b"Foo")),
+        Command::Get(Caseless(*b"FOO")),
+        Command::Len,
+        Command::Clear,
+        Command::Len,
+    ];
+    Ok(Vec::from_array(alloc, commands)?)
 }
 
-/// Whether these are the replies to those commands, by the name's spelling and the value.
-fn are_coarse_replies(replies: &[Reply<Coarse>]) -> bool {
-    match replies {
-        [
-            Reply::Inserted,
-            Reply::Replaced(first),
-            Reply::Found(second),
-            Reply::Found(third),
-            Reply::Length(1),
-            Reply::Done,
-            Reply::Length(0),
-        ] => {
-            spelled(first) == (*b"Foo", 1)
-                && spelled(second) == (*b"FOO", 2)
-                && spelled(third) == (*b"FOO", 2)
-        }
-        _ => false,
+// The spelling and the value of the item that the reply shows.
+fn shown(reply: &Reply<Coarse>) -> Option<([u8; 3], u32)> {
+    match reply {
+        Reply::Replaced(item) | Reply::Found(item) => Some(spelled(item)),
+        _ => None,
     }
 }
 
-fn is_run_so<M: Commanded<Coarse, Caseless>>(
-    alloc: Global,
-    map: &mut M,
-    commands: Vec<Command<Coarse, Caseless, Untouched>>,
-) -> bool {
+// Whether these are the replies to those commands, and each item is spelled so.
+fn are_coarse_replies(replies: &[Reply<Coarse>]) -> bool {
+    let last = item_of(*b"FOO", 2);
+    let expected = [
+        Reply::Inserted,
+        Reply::Replaced(item_of(*b"Foo", 1)),
+        Reply::Found(last),
+        Reply::Found(last),
+        Reply::Length(1),
+        Reply::Done,
+        Reply::Length(0),
+    ];
+    replies == expected.as_slice() && replies.iter().map(shown).eq(expected.iter().map(shown))
+}
+
+fn is_run_so<M: Commanded<Coarse, Caseless>>(alloc: Global, map: &mut M) -> bool {
+    let Ok(commands) = coarse_commands(alloc) else {
+        return false;
+    };
     match map.run(alloc, commands) {
         Ok(replies) => are_coarse_replies(replies.as_slice()),
         Err(_) => false,
@@ -81,11 +80,8 @@ fn is_run_so<M: Commanded<Coarse, Caseless>>(
 }
 
 #[test]
-fn coarse_overwrite_by_commands(rt: HostRuntime) -> Result<(), Fail> {
+fn coarse_overwrite_by_commands(rt: HostRuntime) {
     let alloc = rt.alloc();
-    let commands = coarse_commands(alloc)?;
-    check(&rt, is_run_so(alloc, &mut in_order(alloc), commands));
-    let commands = coarse_commands(alloc)?;
-    check(&rt, is_run_so(alloc, &mut by_hash(alloc), commands));
-    Ok(())
+    check(&rt, is_run_so(alloc, &mut in_order(alloc)));
+    check(&rt, is_run_so(alloc, &mut by_hash(alloc)));
 }

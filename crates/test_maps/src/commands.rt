@@ -3,58 +3,80 @@ ghost use Rattle.std.specs.Prelude.{nat_eq};
 ghost use Rattle.iddqd.specs.Contents.{ClonesAreEqual};
 ghost use Rattle.iddqd.specs.Visiting.{VisitsKeepKeys};
 
-use crate::checks::check;
-use crate::insertions::{BAR, FOO, OTHER_FOO, wide_item};
+use crate::checks::{
+    BAR, FOO, OTHER_FOO, by_hash_of, check, in_order_of, named, numbered, wide_item,
+};
 use iddqd::errors::TryReserveError;
-use iddqd::{DefaultHashBuilder, IdHashMap, IdOrdMap, Visit};
+use iddqd::{IdHashItem, IdHashMap, IdOrdItem, IdOrdMap, Visit};
 use idtable_commands::{Command, KeyedMap, Reply, run};
 use std::alloc::{AllocError, Global};
+use std::hash::Hash;
 use std::process::Abort;
 use std::test::Fail;
 use test_support::items::{Named, Numbered, Wide};
-use test_support::maps::{Commanded, Hashed, Ordered, UnderTest, by_hash, in_order};
+use test_support::maps::{Commanded, UnderTest};
 use test_support::visitors::Untouched;
 
 type Commands<T, K> = Result<Vec<Command<T, K, Untouched>>, AllocError>;
 
-// The map gives these replies to the commands.
-fn replies_are<T: Clone + PartialEq + Drop, K: Drop>(
+// The map gives these replies to the commands. How many items it has room for then.
+fn room_after<T: Clone + PartialEq + Drop, K: Drop>(
     rt: &impl Abort,
     alloc: Global,
-    mut map: impl Commanded<T, K> + Drop,
+    mut map: impl UnderTest<T, K> + Commanded<T, K> + Drop,
     commands: Commands<T, K>,
-    expected: &[Reply<T>],
-) -> Result<(), Fail>
+    replies: &[Reply<T>],
+) -> Result<usize, Fail>
     requires clones { ClonesAreEqual T.is_clone }
 {
-    let replies = map
+    let given = map
         .run(alloc, commands?)
         .map_err(|_| "the commands are not done")?;
-    check(rt, replies.as_slice() == expected);
-    Ok(())
+    check(rt, given.as_slice() == replies);
+    Ok(map.capacity())
+}
+
+// The same of a map of each kind that has this limit.
+fn rooms_after<K, T, F>(
+    rt: &impl Abort,
+    alloc: Global,
+    limit: u32,
+    commands: F,
+    replies: &[Reply<T>],
+) -> Result<(usize, usize), Fail>
+where
+    K: Ord + Hash + Drop,
+    T: IdOrdItem<Key = K> + IdHashItem<Key = K> + Clone + PartialEq + Drop,
+    F: Fn(Global) -> Commands<T, K>,
+    requires calls { F.IsAlwaysCallable commands }
+    requires clones { ClonesAreEqual T.is_clone }
+{
+    let (ordered, hashed) = (commands(alloc), commands(alloc));
+    let ordered = room_after(rt, alloc, in_order_of(alloc, limit), ordered, replies)?;
+    let hashed = room_after(rt, alloc, by_hash_of(alloc, limit), hashed, replies)?;
+    Ok((ordered, hashed))
 }
 
 fn named_commands(alloc: Global) -> Commands<Named, [u8; 3]> {
-    Ok(Vec::from_array(
-        alloc,
-        [
-            Command::InsertUnique(FOO),
-            Command::InsertUnique(BAR),
-            Command::InsertUnique(OTHER_FOO),
-            Command::Len,
-            Command::Get(*b"foo"),
-            Command::Get(*b"bar"),
-            Command::Get(*b"baz"),
-            Command::Remove(*b"baz"),
-            Command::Remove(*b"foo"),
-            Command::Get(*b"foo"),
-            Command::Len,
-        ],
-    )?)
+    let commands = [
+        Command::InsertUnique(FOO),
+        Command::InsertUnique(BAR),
+        Command::InsertUnique(OTHER_FOO),
+        Command::Len,
+        Command::Get(*b"foo"),
+        Command::Get(*b"bar"),
+        Command::Get(*b"baz"),
+        Command::Remove(*b"baz"),
+        Command::Remove(*b"foo"),
+        Command::Get(*b"foo"),
+        Command::Len,
+    ];
+    Ok(Vec::from_array(alloc, commands)?)
 }
 
-fn named_replies() -> [Reply<Named>; 11] {
-    [
+#[test]
+fn insert_unique_by_commands(rt: HostRuntime) -> Result<(), Fail> {
+    let replies = [
         Reply::Inserted,
         Reply::Inserted,
         Reply::Duplicate {
@@ -69,67 +91,43 @@ fn named_replies() -> [Reply<Named>; 11] {
         Reply::Removed(FOO),
         Reply::Absent,
         Reply::Length(1),
-    ]
-}
-
-#[test]
-fn insert_unique_by_commands(rt: HostRuntime) -> Result<(), Fail> {
-    let alloc = rt.alloc();
-    let expected = named_replies();
-    replies_are(
-        &rt,
-        alloc,
-        in_order(alloc),
-        named_commands(alloc),
-        &expected,
-    )?;
-    replies_are(&rt, alloc, by_hash(alloc), named_commands(alloc), &expected)
+    ];
+    let _ = rooms_after(&rt, rt.alloc(), u32::MAX, named_commands, &replies)?;
+    Ok(())
 }
 
 fn wide_commands(alloc: Global) -> Commands<Wide, u8> {
-    Ok(Vec::from_array(
-        alloc,
-        [
-            Command::InsertUnique(wide_item(20, 'a', 'x')),
-            Command::InsertUnique(wide_item(20, 'a', 'x')),
-            Command::InsertUnique(wide_item(20, 'b', 'y')),
-            Command::InsertUnique(wide_item(5, 'a', 'y')),
-            Command::InsertUnique(wide_item(5, 'b', 'x')),
-            Command::Get(20),
-            Command::Get(5),
-        ],
-    )?)
+    let commands = [
+        Command::InsertUnique(wide_item(20, 'a', 'x')),
+        Command::InsertUnique(wide_item(20, 'a', 'x')),
+        Command::InsertUnique(wide_item(20, 'b', 'y')),
+        Command::InsertUnique(wide_item(5, 'a', 'y')),
+        Command::InsertUnique(wide_item(5, 'b', 'x')),
+        Command::Get(20),
+        Command::Get(5),
+    ];
+    Ok(Vec::from_array(alloc, commands)?)
 }
 
-fn wide_replies() -> [Reply<Wide>; 7] {
-    let first = wide_item(20, 'a', 'x');
-    let fourth = wide_item(5, 'a', 'y');
-    [
-        Reply::Inserted,
-        Reply::Duplicate {
-            new: first,
-            existing: Some(first),
-        },
-        Reply::Duplicate {
-            new: wide_item(20, 'b', 'y'),
-            existing: Some(first),
-        },
-        Reply::Inserted,
-        Reply::Duplicate {
-            new: wide_item(5, 'b', 'x'),
-            existing: Some(fourth),
-        },
-        Reply::Found(first),
-        Reply::Found(fourth),
-    ]
+fn duplicate(new: Wide, existing: Wide) -> Reply<Wide> {
+    let existing = Some(existing);
+    Reply::Duplicate { new, existing }
 }
 
 #[test]
 fn duplicate_chain_by_commands(rt: HostRuntime) -> Result<(), Fail> {
-    let alloc = rt.alloc();
-    let expected = wide_replies();
-    replies_are(&rt, alloc, in_order(alloc), wide_commands(alloc), &expected)?;
-    replies_are(&rt, alloc, by_hash(alloc), wide_commands(alloc), &expected)
+    let (first, fourth) = (wide_item(20, 'a', 'x'), wide_item(5, 'a', 'y'));
+    let replies = [
+        Reply::Inserted,
+        duplicate(first, first),
+        duplicate(wide_item(20, 'b', 'y'), first),
+        Reply::Inserted,
+        duplicate(wide_item(5, 'b', 'x'), fourth),
+        Reply::Found(first),
+        Reply::Found(fourth),
+    ];
+    let _ = rooms_after(&rt, rt.alloc(), u32::MAX, wide_commands, &replies)?;
+    Ok(())
 }
 
 fn room_commands(alloc: Global) -> Commands<Named, [u8; 3]> {
@@ -138,32 +136,24 @@ fn room_commands(alloc: Global) -> Commands<Named, [u8; 3]> {
 
 #[test]
 fn reserve_and_shrink_by_commands(rt: HostRuntime) -> Result<(), Fail> {
-    let alloc = rt.alloc();
-    let expected = [Reply::Done, Reply::Done];
-    replies_are(&rt, alloc, in_order(alloc), room_commands(alloc), &expected)?;
-    replies_are(&rt, alloc, by_hash(alloc), room_commands(alloc), &expected)
-}
-
-fn named(name: [u8; 3], value: u32) -> Named {
-    Named { name, value }
+    let replies = [Reply::Done, Reply::Done];
+    let _ = rooms_after(&rt, rt.alloc(), u32::MAX, room_commands, &replies)?;
+    Ok(())
 }
 
 fn extending_commands(alloc: Global) -> Commands<Named, [u8; 3]> {
-    Ok(Vec::from_array(
-        alloc,
-        [
-            Command::ExtendUnique(Vec::from_array(alloc, [FOO, BAR])?),
-            Command::ExtendUnique(Vec::from_array(alloc, [named(*b"baz", 1), OTHER_FOO])?),
-            Command::ExtendUnique(Vec::new(alloc)),
-            Command::Len,
-        ],
-    )?)
+    let commands = [
+        Command::ExtendUnique(Vec::from_array(alloc, [FOO, BAR])?),
+        Command::ExtendUnique(Vec::from_array(alloc, [named(*b"baz", 1), OTHER_FOO])?),
+        Command::ExtendUnique(Vec::new(alloc)),
+        Command::Len,
+    ];
+    Ok(Vec::from_array(alloc, commands)?)
 }
 
 #[test]
 fn extend_unique_by_commands(rt: HostRuntime) -> Result<(), Fail> {
-    let alloc = rt.alloc();
-    let expected = [
+    let replies = [
         Reply::Extended(2),
         Reply::Conflict {
             new: OTHER_FOO,
@@ -173,57 +163,36 @@ fn extend_unique_by_commands(rt: HostRuntime) -> Result<(), Fail> {
         Reply::Extended(0),
         Reply::Length(3),
     ];
-    replies_are(
-        &rt,
-        alloc,
-        in_order(alloc),
-        extending_commands(alloc),
-        &expected,
-    )?;
-    replies_are(
-        &rt,
-        alloc,
-        by_hash(alloc),
-        extending_commands(alloc),
-        &expected,
-    )
+    let _ = rooms_after(&rt, rt.alloc(), u32::MAX, extending_commands, &replies)?;
+    Ok(())
 }
 
 fn full_commands(alloc: Global) -> Commands<Named, [u8; 3]> {
     let (a, b, c) = (named(*b"a  ", 1), named(*b"b  ", 2), named(*b"c  ", 3));
-    Ok(Vec::from_array(
-        alloc,
-        [
-            Command::ExtendUnique(Vec::from_array(alloc, [a, b, c])?),
-            Command::InsertUnique(a),
-            Command::ExtendUnique(Vec::from_array(alloc, [b, c])?),
-            Command::Len,
-        ],
-    )?)
+    let commands = [
+        Command::ExtendUnique(Vec::from_array(alloc, [a, b, c])?),
+        Command::InsertUnique(a),
+        Command::ExtendUnique(Vec::from_array(alloc, [b, c])?),
+        Command::Len,
+    ];
+    Ok(Vec::from_array(alloc, commands)?)
+}
+
+fn stopped(item: Option<Named>, after: usize) -> Reply<Named> {
+    let error = TryReserveError::capacity_overflow();
+    Reply::Stopped { item, error, after }
 }
 
 #[test]
 fn extend_unique_commands(rt: HostRuntime) -> Result<(), Fail> {
-    let alloc = rt.alloc();
-    let error = TryReserveError::capacity_overflow();
-    let expected = [
-        Reply::Stopped {
-            item: None,
-            error,
-            after: 0,
-        },
+    let replies = [
+        stopped(None, 0),
         Reply::Inserted,
-        Reply::Stopped {
-            item: Some(named(*b"c  ", 3)),
-            error,
-            after: 1,
-        },
+        stopped(Some(named(*b"c  ", 3)), 1),
         Reply::Length(2),
     ];
-    let ordered = Ordered::new(IdOrdMap::with_limit(alloc, 2));
-    replies_are(&rt, alloc, ordered, full_commands(alloc), &expected)?;
-    let hashed = Hashed::new(IdHashMap::with_limit(alloc, 2, DefaultHashBuilder::new()));
-    replies_are(&rt, alloc, hashed, full_commands(alloc), &expected)
+    let _ = rooms_after(&rt, rt.alloc(), 2, full_commands, &replies)?;
+    Ok(())
 }
 
 // Writes to each item how many it has seen before, and keeps the first ones, this many.
@@ -245,51 +214,59 @@ impl Visit<Numbered> for KeepsFirst {
     }
 }
 
-fn numbered(number: u32, value: u32) -> Numbered {
-    Numbered { number, value }
-}
-
-fn keeping_commands(alloc: Global) -> Result<Vec<Command<Numbered, u32, KeepsFirst>>, AllocError> {
-    Ok(Vec::from_array(
-        alloc,
-        [
-            Command::InsertUnique(numbered(3, 30)),
-            Command::InsertUnique(numbered(1, 10)),
-            Command::InsertUnique(numbered(2, 20)),
-            Command::RetainMut(KeepsFirst { many: 2, seen: 0 }),
-        ],
-    )?)
-}
-
-// Of three numbers the first two that are visited stay.
-fn first_two_kept<M: KeyedMap<Item = Numbered, Key = u32>>(
+/// Whether the map replies so to commands that insert the numbers 3, 1 and 2, and then to these.
+pub(crate) fn replies_to_three<V, M>(
     alloc: Global,
     map: &mut M,
-    commands: Vec<Command<Numbered, u32, KeepsFirst>>,
+    then: [Command<Numbered, u32, V>; 2],
+    replies: &[Reply<Numbered>],
 ) -> bool
+where
+    V: Visit<Numbered> + Drop,
+    M: KeyedMap<Item = Numbered, Key = u32>,
     requires keyed { M.keyed map.old }
-    requires keeps_keys { VisitsKeepKeys M.key nat_eq ⟦<KeepsFirst as Visit<Numbered>>⟧.visits }
+    requires keeps_keys { VisitsKeepKeys M.key nat_eq V.visits }
     ensures keyed { M.keyed map.new }
 {
-    let expected = [
-        Reply::Inserted,
-        Reply::Inserted,
-        Reply::Inserted,
-        Reply::Kept(2),
+    let [one, other] = then;
+    let commands = [
+        Command::InsertUnique(numbered(3, 30)),
+        Command::InsertUnique(numbered(1, 10)),
+        Command::InsertUnique(numbered(2, 20)),
+        one,
+        other,
     ];
+    let Ok(commands) = Vec::from_array(alloc, commands) else {
+        return false;
+    };
     match run(alloc, map, commands) {
-        Ok(replies) => replies.as_slice() == expected.as_slice(),
+        Ok(given) => given.as_slice() == replies,
         Err(_) => false,
     }
 }
 
+// Of three numbers the first two that are visited stay.
+fn first_two_kept<M: KeyedMap<Item = Numbered, Key = u32>>(alloc: Global, map: &mut M) -> bool
+    requires keyed { M.keyed map.old }
+    requires keeps_keys { VisitsKeepKeys M.key nat_eq ⟦<KeepsFirst as Visit<Numbered>>⟧.visits }
+    ensures keyed { M.keyed map.new }
+{
+    let keeps = Command::RetainMut(KeepsFirst { many: 2, seen: 0 });
+    let replies = [
+        Reply::Inserted,
+        Reply::Inserted,
+        Reply::Inserted,
+        Reply::Kept(2),
+        Reply::Length(2),
+    ];
+    replies_to_three(alloc, map, [keeps, Command::Len], &replies)
+}
+
 #[test]
-fn retain_mut_by_commands(rt: HostRuntime) -> Result<(), Fail> {
-    let commands = keeping_commands(rt.alloc())?;
+fn retain_mut_by_commands(rt: HostRuntime) {
     let mut map = IdOrdMap::new(rt.alloc());
-    check(&rt, first_two_kept(rt.alloc(), &mut map, commands));
+    check(&rt, first_two_kept(rt.alloc(), &mut map));
     check(&rt, map.iter().eq(&[numbered(1, 0), numbered(2, 1)]));
-    Ok(())
 }
 
 // Whether these are two of the numbers 1 to 3, of which one was visited first and the other second.
@@ -300,10 +277,9 @@ fn are_first_two(one: Numbered, other: Numbered) -> bool {
 }
 
 #[test]
-fn hash_retain_mut_by_commands(rt: HostRuntime) -> Result<(), Fail> {
-    let commands = keeping_commands(rt.alloc())?;
+fn hash_retain_mut_by_commands(rt: HostRuntime) {
     let mut map = IdHashMap::new(rt.alloc());
-    check(&rt, first_two_kept(rt.alloc(), &mut map, commands));
+    check(&rt, first_two_kept(rt.alloc(), &mut map));
     let mut walk = map.iter();
     let (one, other) = (walk.next().copied(), walk.next().copied());
     check(&rt, walk.next().is_none());
@@ -311,25 +287,6 @@ fn hash_retain_mut_by_commands(rt: HostRuntime) -> Result<(), Fail> {
         &rt,
         matches!((one, other), (Some(one), Some(other)) if are_first_two(one, other)),
     );
-    Ok(())
-}
-
-// There was memory for the commands, the map, with room for none, does each, and has this room then.
-fn room_is<M: UnderTest<Named, [u8; 3]> + Commanded<Named, [u8; 3]> + Drop>(
-    rt: &impl Abort,
-    alloc: Global,
-    mut map: M,
-    commands: Commands<Named, [u8; 3]>,
-    room: usize,
-) -> Result<(), Fail> {
-    let replies = map
-        .run(alloc, commands?)
-        .map_err(|_| "the commands are not done")?;
-    for reply in replies.as_slice() {
-        check(rt, matches!(reply, Reply::Done | Reply::Inserted));
-    }
-    check(rt, map.capacity() == room);
-    Ok(())
 }
 
 fn reserving(alloc: Global) -> Commands<Named, [u8; 3]> {
@@ -338,21 +295,21 @@ fn reserving(alloc: Global) -> Commands<Named, [u8; 3]> {
 
 // The room of a hundred, with one item in it, is given back but for that of the item.
 fn shrinking(alloc: Global) -> Commands<Named, [u8; 3]> {
-    Ok(Vec::from_array(
-        alloc,
-        [
-            Command::Reserve(100),
-            Command::InsertUnique(FOO),
-            Command::Shrink,
-        ],
-    )?)
+    let commands = [
+        Command::Reserve(100),
+        Command::InsertUnique(FOO),
+        Command::Shrink,
+    ];
+    Ok(Vec::from_array(alloc, commands)?)
 }
 
 #[test]
 fn room_by_commands(rt: HostRuntime) -> Result<(), Fail> {
     let alloc = rt.alloc();
-    room_is(&rt, alloc, in_order(alloc), reserving(alloc), 100)?;
-    room_is(&rt, alloc, in_order(alloc), shrinking(alloc), 1)?;
-    room_is(&rt, alloc, by_hash(alloc), reserving(alloc), 100)?;
-    room_is(&rt, alloc, by_hash(alloc), shrinking(alloc), 1)
+    let rooms = rooms_after(&rt, alloc, u32::MAX, reserving, &[Reply::Done])?;
+    check(&rt, rooms == (100, 100));
+    let replies = [Reply::Done, Reply::Inserted, Reply::Done];
+    let rooms = rooms_after(&rt, alloc, u32::MAX, shrinking, &replies)?;
+    check(&rt, rooms == (1, 1));
+    Ok(())
 }

@@ -1,98 +1,78 @@
 //! Rows of insertions, of each kind of map from one text.
-use crate::checks::check;
+use crate::checks::{BAR, FOO, OTHER_FOO, check, filled, has_only, named, numbered, wide_item};
+use iddqd::{IdHashItem, IdOrdItem};
+use std::alloc::Global;
+use std::hash::Hash;
 use std::process::Abort;
-use test_support::items::{Named, Numbered, Wide};
-use test_support::maps::{Copying, Inserted, Ordered, UnderTest, by_hash, in_order};
+use test_support::items::Named;
+use test_support::maps::{Copying, Inserted, by_hash, in_order};
 use test_support::walks::Walked;
 
-pub(crate) const FOO: Named = Named {
-    name: *b"foo",
-    value: 42,
-};
-
-pub(crate) const BAR: Named = Named {
-    name: *b"bar",
-    value: 20,
-};
-
-const OLD_BAR: Named = Named {
-    name: *b"bar",
-    value: 99,
-};
-
-pub(crate) const OTHER_FOO: Named = Named {
-    name: *b"foo",
-    value: 100,
-};
-
-pub(crate) fn wide_item(number: u8, letter: char, first: char) -> Wide {
-    Wide {
-        number,
-        letter,
-        first,
-        second: 'v',
+/// Inserts each item with this outcome.
+pub(crate) fn insert_each<T, M>(rt: &impl Abort, map: &mut M, rows: &[(T, Inserted<T>)])
+where
+    T: IdOrdItem + Copy + PartialEq + Drop,
+    M: Copying<T, T::Key>,
+{
+    for (item, outcome) in rows {
+        check(rt, map.insert(*item) == *outcome);
     }
 }
 
-fn numbered(number: u32, value: u32) -> Numbered {
-    Numbered { number, value }
+// The map has these items then, and none of the absent key.
+fn inserts<T, M>(
+    rt: &impl Abort,
+    mut map: M,
+    rows: &[(T, Inserted<T>)],
+    items: &[T],
+    absent: &T::Key,
+)
+where
+    T: IdOrdItem + Copy + PartialEq + Drop,
+    M: Copying<T, T::Key> + Drop,
+{
+    insert_each(rt, &mut map, rows);
+    check(rt, has_only(&map, items));
+    check(rt, map.get(absent).is_none());
 }
 
-fn foo_twice<M: Copying<Named, [u8; 3]> + Drop>(rt: &impl Abort, mut map: M) {
-    check(rt, map.insert(FOO) == Inserted::Done);
-    check(rt, map.insert(BAR) == Inserted::Done);
-    check(
-        rt,
-        map.insert(OTHER_FOO) == Inserted::Duplicate(OTHER_FOO, Some(FOO)),
-    );
-    check(rt, map.len() == 2);
-    check(rt, map.get(b"foo").copied() == Some(FOO));
+fn both_insert<K, T>(
+    rt: &impl Abort,
+    alloc: Global,
+    rows: &[(T, Inserted<T>)],
+    items: &[T],
+    absent: &K,
+)
+where
+    K: Ord + Hash,
+    T: IdOrdItem<Key = K> + IdHashItem<Key = K> + Copy + PartialEq + Drop,
+{
+    inserts(rt, in_order(alloc), rows, items, absent);
+    inserts(rt, by_hash(alloc), rows, items, absent);
 }
 
 #[test]
 fn insert_unique(rt: HostRuntime) {
-    foo_twice(&rt, in_order(rt.alloc()));
-    foo_twice(&rt, by_hash(rt.alloc()));
-}
-
-fn chain<M: Copying<Wide, u8> + Drop>(rt: &impl Abort, mut map: M) {
-    let first = wide_item(20, 'a', 'x');
-    let fourth = wide_item(5, 'a', 'y');
-    let second_twenty = wide_item(20, 'b', 'y');
-    let second_five = wide_item(5, 'b', 'x');
-    let answers = [
-        map.insert(first),
-        map.insert(first),
-        map.insert(second_twenty),
-        map.insert(fourth),
-        map.insert(second_five),
+    let rows = [
+        (FOO, Inserted::Done),
+        (BAR, Inserted::Done),
+        (OTHER_FOO, Inserted::Duplicate(OTHER_FOO, Some(FOO))),
     ];
-    let expected = [
-        Inserted::Done,
-        Inserted::Duplicate(first, Some(first)),
-        Inserted::Duplicate(second_twenty, Some(first)),
-        Inserted::Done,
-        Inserted::Duplicate(second_five, Some(fourth)),
-    ];
-    check(rt, answers == expected);
+    both_insert(&rt, rt.alloc(), &rows, &[FOO, BAR], b"baz");
 }
 
 #[test]
 fn duplicate_chain(rt: HostRuntime) {
-    chain(&rt, in_order(rt.alloc()));
-    chain(&rt, by_hash(rt.alloc()));
-}
-
-fn one_and_two<M: Copying<Numbered, u32> + Drop>(rt: &impl Abort, mut map: M) {
-    check(rt, map.insert(numbered(1, 10)) == Inserted::Done);
-    check(rt, map.insert(numbered(2, 20)) == Inserted::Done);
-    check(rt, map.get(&1).copied() == Some(numbered(1, 10)));
-    check(rt, map.get(&2).copied() == Some(numbered(2, 20)));
-    check(rt, map.get(&3).copied() == None);
-    check(
-        rt,
-        map.insert(numbered(1, 99)) == Inserted::Duplicate(numbered(1, 99), Some(numbered(1, 10))),
-    );
+    let (first, fourth) = (wide_item(20, 'a', 'x'), wide_item(5, 'a', 'y'));
+    let (third, fifth) = (wide_item(20, 'b', 'y'), wide_item(5, 'b', 'x'));
+    let rows = [
+        (first, Inserted::Done),
+        (first, Inserted::Duplicate(first, Some(first))),
+        (third, Inserted::Duplicate(third, Some(first))),
+        (fourth, Inserted::Done),
+        (fifth, Inserted::Duplicate(fifth, Some(fourth))),
+    ];
+    both_insert(&rt, rt.alloc(), &rows, &[first, fourth], &6);
 }
 
 pub(crate) fn double(item: &mut Named) {
@@ -100,8 +80,8 @@ pub(crate) fn double(item: &mut Named) {
 }
 
 // The first two values in order, once a walk has doubled two.
-fn doubled(rt: &impl Abort, mut map: Ordered<Named>) -> [Option<u32>; 2] {
-    check(rt, map.is_put(FOO) && map.is_put(OLD_BAR));
+fn doubled(rt: &impl Abort, alloc: Global) -> [Option<u32>; 2] {
+    let map = filled(rt, in_order(alloc), &[FOO, named(*b"bar", 99)]);
     let (map, _) = map.written(2, double);
     let mut walk = map.iter();
     [walk.next(), walk.next()].map(|item| item.map(|item| item.value))
@@ -109,26 +89,29 @@ fn doubled(rt: &impl Abort, mut map: Ordered<Named>) -> [Option<u32>; 2] {
 
 #[test]
 fn get_and_double(rt: HostRuntime) {
-    one_and_two(&rt, in_order(rt.alloc()));
-    one_and_two(&rt, by_hash(rt.alloc()));
-    check(
-        &rt,
-        doubled(&rt, in_order(rt.alloc())) == [Some(198), Some(84)],
-    );
+    let (one, two, other) = (numbered(1, 10), numbered(2, 20), numbered(1, 99));
+    let rows = [
+        (one, Inserted::Done),
+        (two, Inserted::Done),
+        (other, Inserted::Duplicate(other, Some(one))),
+    ];
+    both_insert(&rt, rt.alloc(), &rows, &[one, two], &3);
+    check(&rt, doubled(&rt, rt.alloc()) == [Some(198), Some(84)]);
 }
 
 // A removed item is not found, and the others are.
 fn coming_and_going<M: Copying<Named, [u8; 3]> + Drop>(rt: &impl Abort, mut map: M) {
-    check(rt, map.insert(FOO) == Inserted::Done);
-    check(rt, map.insert(BAR) == Inserted::Done);
+    insert_each(
+        rt,
+        &mut map,
+        &[(FOO, Inserted::Done), (BAR, Inserted::Done)],
+    );
     check(rt, map.remove(b"baz") == None);
     check(rt, map.remove(b"foo") == Some(FOO));
-    check(rt, map.get(b"foo").copied() == None);
-    check(rt, map.get(b"bar").copied() == Some(BAR));
-    check(rt, map.insert(OTHER_FOO) == Inserted::Done);
+    check(rt, map.get(b"foo").is_none() && has_only(&map, &[BAR]));
+    insert_each(rt, &mut map, &[(OTHER_FOO, Inserted::Done)]);
     map.clear();
-    check(rt, map.len() == 0);
-    check(rt, map.get(b"bar").copied() == None);
+    check(rt, map.len() == 0 && map.get(b"bar").is_none());
 }
 
 #[test]

@@ -1,22 +1,10 @@
 //! A `for` over a map that is only read.
-use crate::checks::check;
-use crate::insertions::{BAR, FOO};
+use crate::checks::{BAR, BAZ, FOO, check, filled};
 use iddqd::{IdHashMap, IdOrdMap};
 use std::alloc::{AllocError, Global};
-use std::process::Abort;
 use std::test::Fail;
 use test_support::items::Named;
-use test_support::maps::{UnderTest, by_hash, in_order};
-
-const BAZ: Named = Named {
-    name: *b"baz",
-    value: 7,
-};
-
-fn with_three<M: UnderTest<Named, [u8; 3]> + Drop>(rt: &impl Abort, mut map: M) -> M {
-    check(rt, map.is_put(FOO) && map.is_put(BAR) && map.is_put(BAZ));
-    map
-}
+use test_support::maps::{by_hash, in_order};
 
 fn looped_in_order(alloc: Global, map: &IdOrdMap<Named>) -> Result<Vec<Named>, AllocError> {
     let mut items = Vec::new(alloc);
@@ -36,7 +24,7 @@ fn looped_by_hash(alloc: Global, map: &IdHashMap<Named>) -> Result<Vec<Named>, A
 
 #[test]
 fn for_over_ordered_map(rt: HostRuntime) -> Result<(), Fail> {
-    let map = with_three(&rt, in_order(rt.alloc()));
+    let map = filled(&rt, in_order(rt.alloc()), &[FOO, BAR, BAZ]);
     let items = looped_in_order(rt.alloc(), map.map())?;
     check(&rt, items.as_slice() == [BAR, BAZ, FOO].as_slice());
     Ok(())
@@ -45,7 +33,7 @@ fn for_over_ordered_map(rt: HostRuntime) -> Result<(), Fail> {
 // If nothing was removed, the items come as they were inserted.
 #[test]
 fn for_over_hash_map(rt: HostRuntime) -> Result<(), Fail> {
-    let map = with_three(&rt, by_hash(rt.alloc()));
+    let map = filled(&rt, by_hash(rt.alloc()), &[FOO, BAR, BAZ]);
     let items = looped_by_hash(rt.alloc(), map.map())?;
     check(&rt, items.as_slice() == [FOO, BAR, BAZ].as_slice());
     Ok(())

@@ -1,18 +1,12 @@
 //! Rows of lookups by texts, by keys of two fields, and among items that are boxed or lent.
-use crate::checks::check;
+use crate::checks::{check, titled};
 use std::alloc::{AllocError, Global};
+use std::ops::Deref;
 use std::process::Abort;
 use std::rc::Rc;
 use std::test::Fail;
 use test_support::items::{Artifact, Release, Titled};
 use test_support::maps::{AskedByText, UnderTest, by_hash, in_order};
-
-fn foo(alloc: Global) -> Result<Titled, AllocError> {
-    Ok(Titled {
-        name: "foo".to_string(alloc)?,
-        value: 42,
-    })
-}
 
 fn query_by_text<M: UnderTest<Titled, String> + AskedByText<Item = Titled> + Drop>(
     rt: &impl Abort,
@@ -32,8 +26,8 @@ fn query_by_text<M: UnderTest<Titled, String> + AskedByText<Item = Titled> + Dro
 fn text_queries(rt: HostRuntime) -> Result<(), Fail> {
     let alloc = rt.alloc();
     let name = "foo".to_string(alloc)?;
-    query_by_text(&rt, &name, foo(alloc)?, in_order(alloc));
-    query_by_text(&rt, &name, foo(alloc)?, by_hash(alloc));
+    query_by_text(&rt, &name, titled(alloc, "foo", 42)?, in_order(alloc));
+    query_by_text(&rt, &name, titled(alloc, "foo", 42)?, by_hash(alloc));
     Ok(())
 }
 
@@ -62,48 +56,25 @@ fn key_of_two_fields(rt: HostRuntime) {
     query_by_release(&rt, by_hash(rt.alloc()));
 }
 
-// What holds an item, and shows its value.
-trait Holder {
-    fn shown(&self) -> u32;
-}
-
-impl Holder for Box<Titled> {
-    fn shown(&self) -> u32 {
-        self.value
-    }
-}
-
-impl Holder for Rc<Titled> {
-    fn shown(&self) -> u32 {
-        self.value
-    }
-}
-
-impl Holder for &Titled {
-    fn shown(&self) -> u32 {
-        self.value
-    }
-}
-
 // Whether the item is inserted, and what is found by its name shows 42.
-fn is_found<T: Holder + Drop, M: UnderTest<T, String> + AskedByText<Item = T> + Drop>(
-    item: T,
-    mut map: M,
-) -> bool {
-    map.is_put(item) && map.find("foo").map(|item| item.shown()) == Some(42)
+fn is_found<
+    T: Deref<Target = Titled> + Drop,
+    M: UnderTest<T, String> + AskedByText<Item = T> + Drop,
+>(item: T, mut map: M) -> bool {
+    map.is_put(item) && map.find("foo").map(|item| item.value) == Some(42)
 }
 
 // The same of a boxed item, in a map of either kind.
 fn boxed_is_found(alloc: Global) -> Result<bool, AllocError> {
-    let is_ordered = is_found(Box::new(alloc, foo(alloc)?)?, in_order(alloc));
-    let is_hashed = is_found(Box::new(alloc, foo(alloc)?)?, by_hash(alloc));
+    let is_ordered = is_found(Box::new(alloc, titled(alloc, "foo", 42)?)?, in_order(alloc));
+    let is_hashed = is_found(Box::new(alloc, titled(alloc, "foo", 42)?)?, by_hash(alloc));
     Ok(is_ordered && is_hashed)
 }
 
 // The same of an item that is counted.
 fn counted_is_found(alloc: Global) -> Result<bool, AllocError> {
-    let is_ordered = is_found(Rc::new(alloc, foo(alloc)?)?, in_order(alloc));
-    let is_hashed = is_found(Rc::new(alloc, foo(alloc)?)?, by_hash(alloc));
+    let is_ordered = is_found(Rc::new(alloc, titled(alloc, "foo", 42)?)?, in_order(alloc));
+    let is_hashed = is_found(Rc::new(alloc, titled(alloc, "foo", 42)?)?, by_hash(alloc));
     Ok(is_ordered && is_hashed)
 }
 
@@ -112,7 +83,7 @@ fn boxed_and_lent_items(rt: HostRuntime) -> Result<(), Fail> {
     let alloc = rt.alloc();
     check(&rt, boxed_is_found(alloc)?);
     check(&rt, counted_is_found(alloc)?);
-    let item = foo(alloc)?;
+    let item = titled(alloc, "foo", 42)?;
     check(&rt, is_found(&item, in_order(alloc)));
     check(&rt, is_found(&item, by_hash(alloc)));
     Ok(())

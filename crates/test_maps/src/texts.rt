@@ -46,17 +46,18 @@ fn shut(number: u32) -> Door {
     }
 }
 
-fn is_debugged(alloc: Global, value: &impl Debug, expected: &str) -> bool {
+pub(crate) fn is_debugged(alloc: Global, value: &impl Debug, expected: &str) -> bool {
     format!(in alloc; "{value:?}").is_ok_and(|text| text.as_str() == expected)
 }
 
-// Whether it is written so, in one line and over several.
-fn is_shown(alloc: Global, value: &impl Debug, line: &str, lines: &str) -> bool {
-    let is_over_lines = format!(in alloc; "{value:#?}").is_ok_and(|text| text.as_str() == lines);
-    is_over_lines && is_debugged(alloc, value, line)
+// Whether the first door is written open, in one line and over several.
+fn is_open_door(alloc: Global, door: &impl Debug) -> bool {
+    let lines = "Door {\n    number: 1,\n    open: true,\n}";
+    let is_over_lines = format!(in alloc; "{door:#?}").is_ok_and(|text| text.as_str() == lines);
+    is_over_lines && is_debugged(alloc, door, "Door { number: 1, open: true }")
 }
 
-fn is_displayed(alloc: Global, value: &impl Display, expected: &str) -> bool {
+pub(crate) fn is_displayed(alloc: Global, value: &impl Display, expected: &str) -> bool {
     format!(in alloc; "{value}").is_ok_and(|text| text.as_str() == expected)
 }
 
@@ -119,41 +120,37 @@ fn entries_for_debugging(rt: HostRuntime) {
     check(&rt, is_entry_by_hash(alloc, 3, vacant));
 }
 
-// Opens the door of the number, and shows its guard, before it is spent and after.
-#[tactic(auto, using(iddqd::proofs::GuardLemmas::same_key_kept))]
-fn is_guard_in_order(alloc: Global, number: u32, line: &str, lines: &str) -> bool {
-    match two_in_order(alloc).get_mut(&number) {
-        Some(mut door) => {
-            door.open = true;
-            let is_before = is_shown(alloc, &door, line, lines);
-            let door = door.into_ref();
-            is_before && is_shown(alloc, &door, line, lines)
+// Opens the first door, and shows its guard, before it is spent and after.
+macro_rules! is_guard {
+    ($alloc:ident, $doors:expr) => {
+        match $doors.get_mut(&1) {
+            Some(mut door) => {
+                door.open = true;
+                let is_before = is_open_door($alloc, &door);
+                let door = door.into_ref();
+                is_before && is_open_door($alloc, &door)
+            }
+            None => false,
         }
-        None => false,
-    }
+    };
+}
+
+#[tactic(auto, using(iddqd::proofs::GuardLemmas::same_key_kept))]
+fn is_guard_in_order(alloc: Global) -> bool {
+    is_guard!(alloc, two_in_order(alloc))
 }
 
 #[tactic(auto, using(iddqd::proofs::GuardLemmas::hash_key_kept))]
-fn is_guard_by_hash(alloc: Global, number: u32, line: &str, lines: &str) -> bool {
-    match one_by_hash(alloc).get_mut(&number) {
-        Some(mut door) => {
-            door.open = true;
-            let is_before = is_shown(alloc, &door, line, lines);
-            let door = door.into_ref();
-            is_before && is_shown(alloc, &door, line, lines)
-        }
-        None => false,
-    }
+fn is_guard_by_hash(alloc: Global) -> bool {
+    is_guard!(alloc, one_by_hash(alloc))
 }
 
 // A guard is written as its item.
 #[test]
 fn guards_for_debugging(rt: HostRuntime) {
     let alloc = rt.alloc();
-    let line = "Door { number: 1, open: true }";
-    let lines = "Door {\n    number: 1,\n    open: true,\n}";
-    check(&rt, is_guard_in_order(alloc, 1, line, lines));
-    check(&rt, is_guard_by_hash(alloc, 1, line, lines));
+    check(&rt, is_guard_in_order(alloc));
+    check(&rt, is_guard_by_hash(alloc));
 }
 
 #[test]
@@ -232,10 +229,6 @@ fn refusal_becomes_io_error(rt: HostRuntime) {
 #[test]
 fn keys_in_order(rt: HostRuntime) {
     let doors = two_in_order(rt.alloc());
-    let mut keys = doors.keys();
-    check(&rt, keys.len() == 2);
-    check(
-        &rt,
-        (keys.next(), keys.next(), keys.next()) == (Some(&1), Some(&2), None),
-    );
+    check(&rt, doors.keys().len() == 2);
+    check(&rt, doors.keys().eq(&[1, 2]));
 }

@@ -69,6 +69,20 @@ pub(crate) trait Dropping<'a>: UnderTest<Ticket<'a>, u32> + Drop {
     fn find_or_put(self, item: Ticket<'a>) -> bool;
 }
 
+// Whether the entry of the number is occupied. The item that it gives is dropped, and then the map.
+macro_rules! by_entry {
+    ($map:ident, $module:ident, $number:expr, $entry:pat, $given:expr) => {{
+        let mut map = $map.into_map();
+        match map.entry($number) {
+            $module::Entry::Occupied($entry) => {
+                drop($given);
+                true
+            }
+            $module::Entry::Vacant(_) => false,
+        }
+    }};
+}
+
 impl<'a> Dropping<'a> for Ordered<Ticket<'a>> {
     fn keep_even(self) -> Self {
         let mut map = self.into_map();
@@ -81,25 +95,11 @@ impl<'a> Dropping<'a> for Ordered<Ticket<'a>> {
     }
 
     fn replace_by_entry(self, item: Ticket<'a>) -> bool {
-        let mut map = self.into_map();
-        match map.entry(&item.number) {
-            id_ord_map::Entry::Occupied(mut entry) => {
-                drop(entry.insert(item));
-                true
-            }
-            id_ord_map::Entry::Vacant(_) => false,
-        }
+        by_entry!(self, id_ord_map, &item.number, mut entry, entry.insert(item))
     }
 
     fn remove_by_entry(self, number: u32) -> bool {
-        let mut map = self.into_map();
-        match map.entry(&number) {
-            id_ord_map::Entry::Occupied(entry) => {
-                drop(entry.remove());
-                true
-            }
-            id_ord_map::Entry::Vacant(_) => false,
-        }
+        by_entry!(self, id_ord_map, &number, entry, entry.remove())
     }
 
     fn find_or_put(self, item: Ticket<'a>) -> bool {
@@ -127,25 +127,11 @@ impl<'a> Dropping<'a> for Hashed<Ticket<'a>> {
     }
 
     fn replace_by_entry(self, item: Ticket<'a>) -> bool {
-        let mut map = self.into_map();
-        match map.entry(&item.number) {
-            id_hash_map::Entry::Occupied(mut entry) => {
-                drop(entry.insert(item));
-                true
-            }
-            id_hash_map::Entry::Vacant(_) => false,
-        }
+        by_entry!(self, id_hash_map, &item.number, mut entry, entry.insert(item))
     }
 
     fn remove_by_entry(self, number: u32) -> bool {
-        let mut map = self.into_map();
-        match map.entry(&number) {
-            id_hash_map::Entry::Occupied(entry) => {
-                drop(entry.remove());
-                true
-            }
-            id_hash_map::Entry::Vacant(_) => false,
-        }
+        by_entry!(self, id_hash_map, &number, entry, entry.remove())
     }
 
     fn find_or_put(self, item: Ticket<'a>) -> bool {

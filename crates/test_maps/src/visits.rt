@@ -3,11 +3,12 @@ ghost use Rattle.std.specs.Prelude.{nat_eq};
 ghost use Rattle.iddqd.specs.Visiting.{VisitsKeepKeys};
 ghost use Rattle.test_support.specs.Changed.{changed};
 
-use crate::checks::check;
-use crate::insertions::{BAR, FOO, double};
+use crate::checks::{BAR, BAZ, FOO, check, filled, has_only, numbered};
+use crate::commands::replies_to_three;
+use crate::insertions::double;
 use iddqd::{IdHashMap, IdOrdMap};
-use idtable_commands::{Command, KeyedMap, Reply, run};
-use std::alloc::{AllocError, Global};
+use idtable_commands::{Command, KeyedMap, Reply};
+use std::alloc::Global;
 use std::process::Abort;
 use std::test::Fail;
 use test_support::items::{Named, Numbered};
@@ -16,93 +17,55 @@ use test_support::nine::{are_left, retain_nine};
 use test_support::visitors::{Change, Visited};
 use test_support::walks::Walked;
 
-const BAZ: Named = Named {
-    name: *b"baz",
-    value: 99,
-};
-
-fn numbered(number: u32, value: u32) -> Numbered {
-    Numbered { number, value }
-}
-
-// The map with three numbers.
-fn of_three<M: UnderTest<Numbered, u32> + Drop>(rt: &impl Abort, mut map: M) -> M {
-    for number in [3, 1, 2] {
-        check(rt, map.is_put(numbered(number, 10 * number)));
-    }
-    map
-}
-
 // The visitor, once it has kept the odd ones of three.
 fn odd_of_three<M: UnderTest<Numbered, u32> + Drop + Visited>(rt: &impl Abort, map: M) -> Change {
-    let mut map = of_three(rt, map);
+    let three = [numbered(3, 30), numbered(1, 10), numbered(2, 20)];
+    let mut map = filled(rt, map, &three);
     let mut visitor = Change::KeepOdd(0);
     map.retain_mut(&mut visitor);
-    check(rt, map.len() == 2);
-    check(rt, map.get(&1).copied() == Some(numbered(1, 11)));
-    check(rt, map.get(&3).copied() == Some(numbered(3, 31)));
+    check(rt, has_only(&map, &[numbered(1, 11), numbered(3, 31)]));
     visitor
 }
 
-fn visiting_commands(alloc: Global) -> Result<Vec<Command<Numbered, u32, Change>>, AllocError> {
-    Ok(Vec::from_array(
-        alloc,
-        [
-            Command::InsertUnique(numbered(3, 30)),
-            Command::InsertUnique(numbered(1, 10)),
-            Command::InsertUnique(numbered(2, 20)),
-            Command::Visit(1, Change::DenyAll),
-            Command::Get(1),
-        ],
-    )?)
-}
-
 // A visit that writes 0 and returns false removes nothing.
-fn visited_by_command<M: KeyedMap<Item = Numbered, Key = u32>>(
-    rt: &impl Abort,
-    alloc: Global,
-    map: &mut M,
-) -> Result<(), Fail>
+fn visited_by_command<M: KeyedMap<Item = Numbered, Key = u32>>(alloc: Global, map: &mut M) -> bool
     requires keyed { M.keyed map.old }
     requires keeps_keys { VisitsKeepKeys M.key nat_eq changed }
 {
-    let expected = [
+    let replies = [
         Reply::Inserted,
         Reply::Inserted,
         Reply::Inserted,
         Reply::Visited(false),
         Reply::Found(numbered(1, 0)),
     ];
-    let replies = run(alloc, map, visiting_commands(alloc)?).map_err(|_| "the run stopped")?;
-    check(rt, replies.as_slice() == expected.as_slice());
-    Ok(())
+    let visit = Command::Visit(1, Change::DenyAll);
+    replies_to_three(alloc, map, [visit, Command::Get(1)], &replies)
 }
 
 #[test]
-fn visitor(rt: HostRuntime) -> Result<(), Fail> {
+fn visitor(rt: HostRuntime) {
     let alloc = rt.alloc();
     let seen = odd_of_three(&rt, in_order(alloc));
     check(&rt, seen == Change::KeepOdd(123));
     let _ = odd_of_three(&rt, by_hash(alloc));
-    visited_by_command(&rt, alloc, &mut IdOrdMap::new(alloc))?;
-    visited_by_command(&rt, alloc, &mut IdHashMap::new(alloc))
+    check(&rt, visited_by_command(alloc, &mut IdOrdMap::new(alloc)));
+    check(&rt, visited_by_command(alloc, &mut IdHashMap::new(alloc)));
 }
 
 // The names that were asked about, in the vector that has room for them, once the greater values were kept.
 fn kept_by_value<M: UnderTest<Named, [u8; 3]> + Drop>(
     rt: &impl Abort,
     mut asked: Vec<[u8; 3]>,
-    mut map: M,
+    map: M,
 ) -> Vec<[u8; 3]> {
-    check(rt, map.is_put(FOO) && map.is_put(BAR) && map.is_put(BAZ));
+    let mut map = filled(rt, map, &[FOO, BAR, BAZ]);
     map.retain(|item| {
         let _ = asked.push(item.name);
         item.value > 30
     });
-    check(rt, map.len() == 2);
-    check(rt, map.get(b"foo").copied() == Some(FOO));
-    check(rt, map.get(b"baz").copied() == Some(BAZ));
-    check(rt, map.get(b"bar").copied() == None);
+    check(rt, has_only(&map, &[FOO, BAZ]));
+    check(rt, map.get(b"bar").is_none());
     asked
 }
 
@@ -128,15 +91,10 @@ macro_rules! value_in {
     };
 }
 
-fn of_foo_and_bar<M: UnderTest<Named, [u8; 3]> + Drop>(rt: &impl Abort, mut map: M) -> M {
-    check(rt, map.is_put(FOO) && map.is_put(BAR));
-    map
-}
-
 // The values of foo and bar, and how many items the walk had left, once it has doubled this many.
 macro_rules! doubled {
     ($rt:ident, $map:expr, $most:literal) => {{
-        let (map, left) = of_foo_and_bar(&$rt, $map).written($most, double);
+        let (map, left) = filled(&$rt, $map, &[FOO, BAR]).written($most, double);
         (value_in!(map, b"foo"), value_in!(map, b"bar"), left)
     }};
 }
