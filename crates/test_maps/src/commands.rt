@@ -214,59 +214,47 @@ impl Visit<Numbered> for KeepsFirst {
     }
 }
 
-/// Whether the map replies so to commands that insert the numbers 3, 1 and 2, and then to these.
-pub(crate) fn replies_to_three<V, M>(
-    alloc: Global,
-    map: &mut M,
-    then: [Command<Numbered, u32, V>; 2],
-    replies: &[Reply<Numbered>],
-) -> bool
-where
-    V: Visit<Numbered> + Drop,
-    M: KeyedMap<Item = Numbered, Key = u32>,
-    requires keyed { M.keyed map.old }
-    requires keeps_keys { VisitsKeepKeys M.key nat_eq V.visits }
-    ensures keyed { M.keyed map.new }
-{
-    let [one, other] = then;
-    let commands = [
-        Command::InsertUnique(numbered(3, 30)),
-        Command::InsertUnique(numbered(1, 10)),
-        Command::InsertUnique(numbered(2, 20)),
-        one,
-        other,
-    ];
-    let Ok(commands) = Vec::from_array(alloc, commands) else {
-        return false;
-    };
-    match run(alloc, map, commands) {
-        Ok(given) => given.as_slice() == replies,
-        Err(_) => false,
-    }
+fn keeping_commands(alloc: Global) -> Result<Vec<Command<Numbered, u32, KeepsFirst>>, AllocError> {
+    Ok(Vec::from_array(
+        alloc,
+        [
+            Command::InsertUnique(numbered(3, 30)),
+            Command::InsertUnique(numbered(1, 10)),
+            Command::InsertUnique(numbered(2, 20)),
+            Command::RetainMut(KeepsFirst { many: 2, seen: 0 }),
+        ],
+    )?)
 }
 
 // Of three numbers the first two that are visited stay.
-fn first_two_kept<M: KeyedMap<Item = Numbered, Key = u32>>(alloc: Global, map: &mut M) -> bool
+fn first_two_kept<M: KeyedMap<Item = Numbered, Key = u32>>(
+    alloc: Global,
+    map: &mut M,
+    commands: Vec<Command<Numbered, u32, KeepsFirst>>,
+) -> bool
     requires keyed { M.keyed map.old }
     requires keeps_keys { VisitsKeepKeys M.key nat_eq ⟦<KeepsFirst as Visit<Numbered>>⟧.visits }
     ensures keyed { M.keyed map.new }
 {
-    let keeps = Command::RetainMut(KeepsFirst { many: 2, seen: 0 });
-    let replies = [
+    let expected = [
         Reply::Inserted,
         Reply::Inserted,
         Reply::Inserted,
         Reply::Kept(2),
-        Reply::Length(2),
     ];
-    replies_to_three(alloc, map, [keeps, Command::Len], &replies)
+    match run(alloc, map, commands) {
+        Ok(replies) => replies.as_slice() == expected.as_slice(),
+        Err(_) => false,
+    }
 }
 
 #[test]
-fn retain_mut_by_commands(rt: HostRuntime) {
+fn retain_mut_by_commands(rt: HostRuntime) -> Result<(), Fail> {
+    let commands = keeping_commands(rt.alloc())?;
     let mut map = IdOrdMap::new(rt.alloc());
-    check(&rt, first_two_kept(rt.alloc(), &mut map));
+    check(&rt, first_two_kept(rt.alloc(), &mut map, commands));
     check(&rt, map.iter().eq(&[numbered(1, 0), numbered(2, 1)]));
+    Ok(())
 }
 
 // Whether these are two of the numbers 1 to 3, of which one was visited first and the other second.
@@ -277,9 +265,10 @@ fn are_first_two(one: Numbered, other: Numbered) -> bool {
 }
 
 #[test]
-fn hash_retain_mut_by_commands(rt: HostRuntime) {
+fn hash_retain_mut_by_commands(rt: HostRuntime) -> Result<(), Fail> {
+    let commands = keeping_commands(rt.alloc())?;
     let mut map = IdHashMap::new(rt.alloc());
-    check(&rt, first_two_kept(rt.alloc(), &mut map));
+    check(&rt, first_two_kept(rt.alloc(), &mut map, commands));
     let mut walk = map.iter();
     let (one, other) = (walk.next().copied(), walk.next().copied());
     check(&rt, walk.next().is_none());
@@ -287,6 +276,7 @@ fn hash_retain_mut_by_commands(rt: HostRuntime) {
         &rt,
         matches!((one, other), (Some(one), Some(other)) if are_first_two(one, other)),
     );
+    Ok(())
 }
 
 fn reserving(alloc: Global) -> Commands<Named, [u8; 3]> {

@@ -4,11 +4,10 @@ ghost use Rattle.iddqd.specs.Visiting.{VisitsKeepKeys};
 ghost use Rattle.test_support.specs.Changed.{changed};
 
 use crate::checks::{BAR, BAZ, FOO, check, filled, has_only, numbered};
-use crate::commands::replies_to_three;
 use crate::insertions::double;
 use iddqd::{IdHashMap, IdOrdMap};
-use idtable_commands::{Command, KeyedMap, Reply};
-use std::alloc::Global;
+use idtable_commands::{Command, KeyedMap, Reply, run};
+use std::alloc::{AllocError, Global};
 use std::process::Abort;
 use std::test::Fail;
 use test_support::items::{Named, Numbered};
@@ -27,30 +26,48 @@ fn odd_of_three<M: UnderTest<Numbered, u32> + Drop + Visited>(rt: &impl Abort, m
     visitor
 }
 
+fn visiting_commands(alloc: Global) -> Result<Vec<Command<Numbered, u32, Change>>, AllocError> {
+    Ok(Vec::from_array(
+        alloc,
+        [
+            Command::InsertUnique(numbered(3, 30)),
+            Command::InsertUnique(numbered(1, 10)),
+            Command::InsertUnique(numbered(2, 20)),
+            Command::Visit(1, Change::DenyAll),
+            Command::Get(1),
+        ],
+    )?)
+}
+
 // A visit that writes 0 and returns false removes nothing.
-fn visited_by_command<M: KeyedMap<Item = Numbered, Key = u32>>(alloc: Global, map: &mut M) -> bool
+fn visited_by_command<M: KeyedMap<Item = Numbered, Key = u32>>(
+    rt: &impl Abort,
+    alloc: Global,
+    map: &mut M,
+) -> Result<(), Fail>
     requires keyed { M.keyed map.old }
     requires keeps_keys { VisitsKeepKeys M.key nat_eq changed }
 {
-    let replies = [
+    let expected = [
         Reply::Inserted,
         Reply::Inserted,
         Reply::Inserted,
         Reply::Visited(false),
         Reply::Found(numbered(1, 0)),
     ];
-    let visit = Command::Visit(1, Change::DenyAll);
-    replies_to_three(alloc, map, [visit, Command::Get(1)], &replies)
+    let replies = run(alloc, map, visiting_commands(alloc)?).map_err(|_| "the run stopped")?;
+    check(rt, replies.as_slice() == expected.as_slice());
+    Ok(())
 }
 
 #[test]
-fn visitor(rt: HostRuntime) {
+fn visitor(rt: HostRuntime) -> Result<(), Fail> {
     let alloc = rt.alloc();
     let seen = odd_of_three(&rt, in_order(alloc));
     check(&rt, seen == Change::KeepOdd(123));
     let _ = odd_of_three(&rt, by_hash(alloc));
-    check(&rt, visited_by_command(alloc, &mut IdOrdMap::new(alloc)));
-    check(&rt, visited_by_command(alloc, &mut IdHashMap::new(alloc)));
+    visited_by_command(&rt, alloc, &mut IdOrdMap::new(alloc))?;
+    visited_by_command(&rt, alloc, &mut IdHashMap::new(alloc))
 }
 
 // The names that were asked about, in the vector that has room for them, once the greater values were kept.
