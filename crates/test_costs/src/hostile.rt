@@ -1,35 +1,26 @@
 //! Rows of writes that spell a key anew, of guards lent once more, of equal hashes, and of walks that end early.
 use crate::checks::check;
-use crate::counted::find;
+use crate::numbers::{are_found, are_numbers_put, numbered, of_equal_hashes};
 use iddqd::{IdHashMap, IdOrdMap};
-use std::hash::BuildHasherDefault;
-use std::process::Abort;
+use std::alloc::Global;
 use test_support::caseless::{Caseless, Coarse, item_of, spelled};
 use test_support::coarse::{CoarseMap, Copied};
-use test_support::hashers::ZeroHasher;
 use test_support::items::Numbered;
-use test_support::maps::{Hashed, Inserted, UnderTest, by_hash, in_order};
+use test_support::maps::{Inserted, UnderTest, by_hash, in_order};
 use test_support::walks::Walked;
 
-// The map with bar 1 and Foo 2.
-fn of_bar_and_foo<M: UnderTest<Coarse, Caseless> + Drop>(rt: &impl Abort, mut map: M) -> M {
-    check(
-        rt,
-        map.is_put(item_of(*b"bar", 1)) && map.is_put(item_of(*b"Foo", 2)),
-    );
-    map
+// Whether bar 1 and Foo 2 are inserted.
+fn has_bar_and_foo<M: UnderTest<Coarse, Caseless>>(map: &mut M) -> bool {
+    map.is_put(item_of(*b"bar", 1)) && map.is_put(item_of(*b"Foo", 2))
 }
 
-// Another item of FOO is a duplicate of fOO 7, and bar is as it was.
-fn is_respelled<M: CoarseMap + Drop>(rt: &impl Abort, mut map: M) -> M {
-    let existing = match map.insert(item_of(*b"FOO", 9)) {
-        Inserted::Duplicate(_, existing) => existing,
-        Inserted::Done | Inserted::Refused(_, _) => None,
-    };
-    check(rt, existing.as_ref().map(spelled) == Some((*b"fOO", 7)));
-    check(rt, map.spelled_at(*b"BAR") == Some((*b"bar", 1)));
-    check(rt, map.len() == 2);
-    map
+// A way to write an item.
+#[derive(Clone, Copy)]
+enum Way {
+    Guard,
+    Entry,
+    Visitor,
+    Walk,
 }
 
 const RESPELLED: Coarse = Coarse {
@@ -37,28 +28,31 @@ const RESPELLED: Coarse = Coarse {
     value: 7,
 };
 
-fn by_guard<M: CoarseMap + Drop>(rt: &impl Abort, map: M) -> M {
-    let mut map = of_bar_and_foo(rt, map);
-    check(rt, map.respell_by_guard(&Caseless(*b"FOO"), RESPELLED));
-    is_respelled(rt, map)
+// Whether Foo is written.
+fn writes<M: CoarseMap>(map: &mut M, way: Way) -> bool {
+    let asked = Caseless(*b"FOO");
+    match way {
+        Way::Guard => map.respell_by_guard(&asked, RESPELLED),
+        Way::Entry => map.respell_by_entry(&asked, RESPELLED),
+        Way::Visitor => {
+            map.respell_by_visitor(RESPELLED);
+            true
+        }
+        Way::Walk => map.respell_by_walk(RESPELLED),
+    }
 }
 
-fn by_entry<M: CoarseMap + Drop>(rt: &impl Abort, map: M) -> M {
-    let mut map = of_bar_and_foo(rt, map);
-    check(rt, map.respell_by_entry(&Caseless(*b"FOO"), RESPELLED));
-    is_respelled(rt, map)
-}
-
-fn by_visitor<M: CoarseMap + Drop>(rt: &impl Abort, map: M) -> M {
-    let mut map = of_bar_and_foo(rt, map);
-    map.respell_by_visitor(RESPELLED);
-    is_respelled(rt, map)
-}
-
-fn by_walk<M: CoarseMap + Drop>(rt: &impl Abort, map: M) -> M {
-    let mut map = of_bar_and_foo(rt, map);
-    check(rt, map.respell_by_walk(RESPELLED));
-    is_respelled(rt, map)
+// Whether another item of FOO is a duplicate of fOO 7 once that is written, and bar is as it was.
+fn is_respelled<M: CoarseMap>(map: &mut M, way: Way) -> bool {
+    let is_written = has_bar_and_foo(map) && writes(map, way);
+    let existing = match map.insert(item_of(*b"FOO", 9)) {
+        Inserted::Duplicate(_, existing) => existing,
+        Inserted::Done | Inserted::Refused(_, _) => None,
+    };
+    is_written
+        && existing.as_ref().map(spelled) == Some((*b"fOO", 7))
+        && map.spelled_at(*b"BAR") == Some((*b"bar", 1))
+        && map.len() == 2
 }
 
 // Whether the walk shows bar 1, and fOO 7 behind it.
@@ -66,33 +60,6 @@ fn is_in_order(map: &IdOrdMap<Coarse>) -> bool {
     let mut walk = map.iter();
     let (one, other) = (walk.next().map(spelled), walk.next().map(spelled));
     one == Some((*b"bar", 1)) && other == Some((*b"fOO", 7)) && walk.next().is_none()
-}
-
-#[test]
-fn coarse_writes(rt: HostRuntime) {
-    let map = by_guard(&rt, in_order(rt.alloc()));
-    check(&rt, is_in_order(map.map()));
-    let _ = by_guard(&rt, by_hash(rt.alloc()));
-}
-
-#[test]
-fn coarse_writes_by_entry(rt: HostRuntime) {
-    let map = by_entry(&rt, in_order(rt.alloc()));
-    check(&rt, is_in_order(map.map()));
-    let _ = by_entry(&rt, by_hash(rt.alloc()));
-}
-
-#[test]
-fn coarse_writes_by_visitor(rt: HostRuntime) {
-    let map = by_visitor(&rt, in_order(rt.alloc()));
-    check(&rt, is_in_order(map.map()));
-    let _ = by_visitor(&rt, by_hash(rt.alloc()));
-}
-
-#[test]
-fn coarse_writes_by_walk(rt: HostRuntime) {
-    let map = by_walk(&rt, in_order(rt.alloc()));
-    check(&rt, is_in_order(map.map()));
 }
 
 // Whether the walk shows bar 1 and fOO 7, in whatever order.
@@ -103,81 +70,124 @@ fn has_both(map: &IdHashMap<Coarse>) -> bool {
     walk.next().is_none() && ((one == bar && other == foo) || (one == foo && other == bar))
 }
 
-#[test]
-fn hash_coarse_writes_by_walk(rt: HostRuntime) {
-    let map = by_walk(&rt, by_hash(rt.alloc()));
-    check(&rt, has_both(map.map()));
+fn respells_in_order(alloc: Global, way: Way) -> bool {
+    let mut map = in_order(alloc);
+    is_respelled(&mut map, way) && is_in_order(map.map())
 }
 
-fn numbered(number: u32, value: u32) -> Numbered {
-    Numbered { number, value }
+fn respells_by_hash(alloc: Global, way: Way) -> bool {
+    let mut map = by_hash(alloc);
+    is_respelled(&mut map, way) && has_both(map.map())
+}
+
+#[test]
+fn coarse_writes(rt: HostRuntime) {
+    check(&rt, respells_in_order(rt.alloc(), Way::Guard));
+    check(&rt, respells_by_hash(rt.alloc(), Way::Guard));
+}
+
+#[test]
+fn coarse_writes_by_entry(rt: HostRuntime) {
+    check(&rt, respells_in_order(rt.alloc(), Way::Entry));
+    check(&rt, respells_by_hash(rt.alloc(), Way::Entry));
+}
+
+#[test]
+fn coarse_writes_by_visitor(rt: HostRuntime) {
+    check(&rt, respells_in_order(rt.alloc(), Way::Visitor));
+    check(&rt, respells_by_hash(rt.alloc(), Way::Visitor));
+}
+
+#[test]
+fn coarse_writes_by_walk(rt: HostRuntime) {
+    check(&rt, respells_in_order(rt.alloc(), Way::Walk));
+}
+
+#[test]
+fn hash_coarse_writes_by_walk(rt: HostRuntime) {
+    check(&rt, respells_by_hash(rt.alloc(), Way::Walk));
 }
 
 // The inner loan writes 5: the guard reads it then, and shows it once it is spent.
-fn reads_and_shows<M: CoarseMap + Drop>(rt: &impl Abort, map: M) {
-    let mut map = of_bar_and_foo(rt, map);
-    let by_guard = map.write_by_reborrow(&Caseless(*b"Foo"), 5);
+fn reads_and_shows<M: CoarseMap>(map: &mut M) -> bool {
+    let is_full = has_bar_and_foo(map);
     let five = (*b"Foo", 5);
-    check(
-        rt,
-        matches!(by_guard, Some((_, read, shown)) if spelled(&read) == five && spelled(&shown) == five),
-    );
+    match map.write_by_reborrow(&Caseless(*b"Foo"), 5) {
+        Some((_, read, shown)) => is_full && spelled(&read) == five && spelled(&shown) == five,
+        None => false,
+    }
 }
 
 #[test]
 fn reborrow(rt: HostRuntime) {
-    reads_and_shows(&rt, in_order(rt.alloc()));
-    reads_and_shows(&rt, by_hash(rt.alloc()));
+    check(&rt, reads_and_shows(&mut in_order(rt.alloc())));
+    check(&rt, reads_and_shows(&mut by_hash(rt.alloc())));
 }
 
-fn equals_its_clone<M: CoarseMap + Copied + Drop>(rt: &impl Abort, map: M) {
-    let mut map = of_bar_and_foo(rt, map);
+fn equals_its_clone<M: CoarseMap + Copied + Drop>(map: &mut M) -> bool {
+    let is_full = has_bar_and_foo(map);
     let copy = map.copied();
-    check(rt, map.spend_unwritten(&Caseless(*b"Foo")));
-    check(rt, matches!(&copy, Ok(copy) if map.equals(copy)));
+    let is_spent = map.spend_unwritten(&Caseless(*b"Foo"));
+    match copy {
+        Ok(copy) => is_full && is_spent && map.equals(&copy),
+        Err(_) => false,
+    }
 }
 
 #[test]
 fn guard_spent_unwritten(rt: HostRuntime) {
-    equals_its_clone(&rt, in_order(rt.alloc()));
-    equals_its_clone(&rt, by_hash(rt.alloc()));
+    check(&rt, equals_its_clone(&mut in_order(rt.alloc())));
+    check(&rt, equals_its_clone(&mut by_hash(rt.alloc())));
 }
 
-type OfEqualHashes = Hashed<Numbered, BuildHasherDefault<ZeroHasher>>;
-
-// Fifty numbers are inserted, each two above the one before.
-fn put_fifty(rt: &impl Abort, map: &mut OfEqualHashes, first: u32) {
-    for half in 0..50 {
-        check(rt, map.is_put(numbered(first.wrapping_add(2 * half), half)));
+// Whether fifty numbers are inserted, each two above the one before.
+fn fifty_are_put<M: UnderTest<Numbered, u32>>(map: &mut M, first: u32) -> bool {
+    let mut number = first;
+    for _ in 0..50 {
+        if !map.is_put(numbered(number)) {
+            return false;
+        }
+        number = number.wrapping_add(2);
     }
+    true
 }
 
-fn take_evens(rt: &impl Abort, map: &mut OfEqualHashes) {
-    for half in 0..50 {
-        check(rt, map.remove(&(2 * half)).is_some());
+// Whether the fifty even numbers are removed.
+fn evens_are_taken<M: UnderTest<Numbered, u32>>(map: &mut M) -> bool {
+    let mut number = 0u32;
+    for _ in 0..50 {
+        if map.remove(&number).is_none() {
+            return false;
+        }
+        number = number.wrapping_add(2);
     }
+    true
+}
+
+// Whether a hundred numbers are found after a shrink without the even ones.
+fn is_shrunk_and_filled<M: UnderTest<Numbered, u32>>(map: &mut M) -> bool {
+    fifty_are_put(map, 0)
+        && fifty_are_put(map, 1)
+        && evens_are_taken(map)
+        && map.shrink_to_fit().is_ok()
+        && map.is_compact()
+        && fifty_are_put(map, 0)
+        && are_found(map, (0, 100), 100)
 }
 
 #[test]
 fn equal_hashes_shrunk(rt: HostRuntime) {
-    let hasher: BuildHasherDefault<ZeroHasher> = BuildHasherDefault::new();
-    let mut map = Hashed::new(IdHashMap::with_hasher(rt.alloc(), hasher));
-    put_fifty(&rt, &mut map, 0);
-    put_fifty(&rt, &mut map, 1);
-    take_evens(&rt, &mut map);
-    check(&rt, map.shrink_to_fit().is_ok() && map.is_compact());
-    put_fifty(&rt, &mut map, 0);
-    for number in 0..100 {
-        let found = find(&map, &number);
-        check(&rt, found.is_done && found.steps <= 100);
-    }
+    check(&rt, is_shrunk_and_filled(&mut of_equal_hashes(rt.alloc())));
 }
 
-// Whether the values of the keys 1 to 10 are one more than their keys, and those of the others their keys.
+// Whether the values of the first ten of thirty numbers are one more than they were.
 fn is_raised_to_ten(map: &IdOrdMap<Numbered>) -> bool {
     for item in map.iter() {
-        let raised = u32::from(item.number <= 10);
-        if item.value.checked_sub(item.number) != Some(raised) {
+        let mut wanted = numbered(item.number);
+        if item.number <= 10 {
+            raise(&mut wanted);
+        }
+        if *item != wanted {
             return false;
         }
     }
@@ -191,10 +201,7 @@ fn raise(item: &mut Numbered) {
 #[test]
 fn writing_walk_stopped(rt: HostRuntime) {
     let mut map = in_order(rt.alloc());
-    for number in 1..=30 {
-        check(&rt, map.is_put(numbered(number, number)));
-    }
+    check(&rt, are_numbers_put(&mut map, 1, 31));
     let (map, left) = map.written(10, raise);
-    check(&rt, left == 20);
-    check(&rt, is_raised_to_ten(&map));
+    check(&rt, left == 20 && is_raised_to_ten(&map));
 }

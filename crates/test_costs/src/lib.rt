@@ -11,8 +11,6 @@ mod calls;
 #[cfg(test)]
 mod checks;
 #[cfg(test)]
-mod counted;
-#[cfg(test)]
 mod counting;
 #[cfg(test)]
 mod hints;

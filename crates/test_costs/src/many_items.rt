@@ -1,13 +1,11 @@
 //! Calls of many items cost as many insertions or removals, and walks, room and copies no comparison.
 use crate::calls::ByZero;
-use crate::checks::check;
-use crate::meter::{Cost, Meter};
+use crate::meter::{Cost, Meter, Tally};
 use iddqd::errors::TryReserveError;
 use std::alloc::Global;
-use std::process::Abort;
 use std::test::Fail;
 use test_support::bulk::{Bulk, Hinted};
-use test_support::counting::{CountingKey, Counts, Tallied};
+use test_support::counting::{CountingKey, Tallied};
 use test_support::maps::{Added, Copying, Ordered, UnderTest};
 use test_support::walks::Walked;
 
@@ -24,42 +22,64 @@ fn one_by_one<'a, M: Copying<Tallied<'a>, CountingKey<'a>> + Bulk<Tallied<'a>> +
     Ok(meter.counts.since())
 }
 
+// A call that takes many items.
+#[derive(Clone, Copy)]
+enum Call {
+    Extend,
+    ExtendUnique,
+    FromIter,
+    FromIterUnique,
+}
+
+// Whether all items are taken, by the map or by a new one.
+fn are_taken<'a, M: Copying<Tallied<'a>, CountingKey<'a>> + Bulk<Tallied<'a>> + Drop>(
+    alloc: Global,
+    map: &mut M,
+    items: &[Tallied<'a>],
+    call: Call,
+) -> bool {
+    let items = Hinted::new(items, 0);
+    match call {
+        Call::Extend => map.extend(items).is_ok(),
+        Call::ExtendUnique => matches!(map.add_each(items), Added::All),
+        Call::FromIter => M::collected(alloc, items).is_ok(),
+        Call::FromIterUnique => M::collected_unique(alloc, items).is_ok(),
+    }
+}
+
 fn takes_many<'a, M: Copying<Tallied<'a>, CountingKey<'a>> + Bulk<Tallied<'a>> + Drop>(
-    rt: &impl Abort,
     alloc: Global,
     meter: Meter<'a>,
 ) -> Result<(), Fail> {
     let list = meter.counts.items(alloc, 0, 50)?;
     let items = list.as_slice();
     let each = one_by_one::<M>(alloc, items, meter)?;
-    check(rt, each.0 == meter.hashings.saturating_mul(50));
-    let (mut one, mut other) = (
-        meter.map_of::<M>(alloc, &[])?,
-        meter.map_of::<M>(alloc, &[])?,
-    );
-    meter.tell(rt, one.extend(Hinted::new(items, 0)).is_ok(), each);
-    let added = other.add_each(Hinted::new(items, 0));
-    meter.tell(rt, matches!(added, Added::All), each);
-    meter.tell(rt, M::collected(alloc, Hinted::new(items, 0)).is_ok(), each);
-    let made = M::collected_unique(alloc, Hinted::new(items, 0));
-    meter.tell(rt, made.is_ok(), each);
-    check(
-        rt,
-        one.extend(Hinted::new(items, 0)).is_ok() && meter.counts.since().0 == each.0,
-    );
+    meter.hold(each.0 == meter.hashings.saturating_mul(50));
+    for call in [
+        Call::Extend,
+        Call::ExtendUnique,
+        Call::FromIter,
+        Call::FromIterUnique,
+    ] {
+        let mut map = meter.map_of::<M>(alloc, &[])?;
+        meter.tell(are_taken(alloc, &mut map, items, call), each);
+    }
+    let mut map = meter.map_of::<M>(alloc, items)?;
+    let are_replaced = are_taken(alloc, &mut map, items, Call::Extend);
+    meter.hold(are_replaced && meter.counts.since().0 == each.0);
     Ok(())
 }
 
 // Those that take new items, and `extend` where each replaces one.
 #[test]
 fn many_items_cost_as_insertions(rt: HostRuntime) -> Result<(), Fail> {
-    let counts = Counts::default();
-    takes_many::<Ordered<Tallied<'_>>>(&rt, rt.alloc(), Meter::of_order(&counts))?;
-    takes_many::<ByZero<'_>>(&rt, rt.alloc(), Meter::of_hashes(&counts))
+    let tally = Tally::default();
+    takes_many::<Ordered<Tallied<'_>>>(rt.alloc(), tally.of_order())?;
+    takes_many::<ByZero<'_>>(rt.alloc(), tally.of_hashes())?;
+    tally.end()
 }
 
 fn walks<'a, M: Copying<Tallied<'a>, CountingKey<'a>> + Bulk<Tallied<'a>> + Walked<Tallied<'a>>>(
-    rt: &impl Abort,
     alloc: Global,
     meter: Meter<'a>,
 ) -> Result<(), Fail>
@@ -68,43 +88,40 @@ where
 {
     let items = meter.counts.items(alloc, 0, 50)?;
     let mut map = meter.map_of::<M>(alloc, items.as_slice())?;
-    meter.tell(rt, map.walk() == 50, (0, 0));
+    meter.tell(map.walk() == 50, (0, 0));
     map.visit_all();
     let has_room = map.reserve(100).is_ok() && map.try_reserve(1000).is_ok();
-    meter.tell(rt, has_room && map.len() == 50, (0, 0));
+    meter.tell(has_room && map.len() == 50, (0, 0));
     let (_, left) = map.written(20, |_| {});
-    meter.tell(rt, left == 30, (0, 0));
+    meter.tell(left == 30, (0, 0));
     Ok(())
 }
 
 #[test]
 fn walks_and_room_cost_none(rt: HostRuntime) -> Result<(), Fail> {
-    let counts = Counts::default();
-    walks::<Ordered<Tallied<'_>>>(&rt, rt.alloc(), Meter::of_order(&counts))?;
-    walks::<ByZero<'_>>(&rt, rt.alloc(), Meter::of_hashes(&counts))
+    let tally = Tally::default();
+    walks::<Ordered<Tallied<'_>>>(rt.alloc(), tally.of_order())?;
+    walks::<ByZero<'_>>(rt.alloc(), tally.of_hashes())?;
+    tally.end()
 }
 
 // Seven items leave the first slots, and the last seven of the others move there. Then one leaves, and one moves.
 fn leave_and_move<'a, M: Copying<Tallied<'a>, CountingKey<'a>> + Bulk<Tallied<'a>> + Drop>(
-    rt: &impl Abort,
     alloc: Global,
     meter: Meter<'a>,
 ) -> Result<(), Fail> {
     let items = meter.counts.items(alloc, 0, 50)?;
     let mut map = meter.map_of::<M>(alloc, items.as_slice())?;
     map.retain(|item| item.key.number >= 14);
-    meter.tell_hashed(rt, map.len() == 43, 7);
+    meter.tell_hashed(map.len() == 43, 7);
     let is_shrunk = map.shrink_to(60).is_ok();
-    check(
-        rt,
-        is_shrunk && meter.counts.since().0 == meter.hashings.saturating_mul(7),
-    );
-    check(rt, map.remove(&meter.counts.key(60)).is_some());
-    let once = meter.once(rt, &map, &meter.counts.key(84));
+    meter.hold(is_shrunk && meter.counts.since().0 == meter.hashings.saturating_mul(7));
+    meter.hold(map.remove(&meter.counts.key(60)).is_some());
+    let once = meter.once(&map, &meter.counts.key(84));
     let moved = if meter.hashings == 0 { once } else { (1, 0) };
-    meter.tell(rt, map.shrink_to_fit().is_ok(), moved);
+    meter.tell(map.shrink_to_fit().is_ok(), moved);
     map.drop_all();
-    meter.tell_hashed(rt, map.len() == 0, 42);
+    meter.tell_hashed(map.len() == 0, 42);
     Ok(())
 }
 
@@ -112,7 +129,8 @@ fn leave_and_move<'a, M: Copying<Tallied<'a>, CountingKey<'a>> + Bulk<Tallied<'a
 // its key.
 #[test]
 fn what_goes_or_moves_costs_once(rt: HostRuntime) -> Result<(), Fail> {
-    let counts = Counts::default();
-    leave_and_move::<Ordered<Tallied<'_>>>(&rt, rt.alloc(), Meter::of_order(&counts))?;
-    leave_and_move::<ByZero<'_>>(&rt, rt.alloc(), Meter::of_hashes(&counts))
+    let tally = Tally::default();
+    leave_and_move::<Ordered<Tallied<'_>>>(rt.alloc(), tally.of_order())?;
+    leave_and_move::<ByZero<'_>>(rt.alloc(), tally.of_hashes())?;
+    tally.end()
 }

@@ -1,8 +1,8 @@
 //! What calls cost: how often they hash keys, and how often they compare them.
-use crate::checks::check;
 use iddqd::errors::TryReserveError;
 use std::alloc::Global;
-use std::process::Abort;
+use std::cell::Cell;
+use std::test::Fail;
 use test_support::bulk::{Bulk, Hinted};
 use test_support::counting::{Counts, Tallied};
 use test_support::maps::Copying;
@@ -10,53 +10,73 @@ use test_support::maps::Copying;
 /// Hashings, and comparisons.
 pub(crate) type Cost = (u32, u32);
 
+/// What the keys of a test count, and whether anything was wrong.
+#[derive(Default, Drop)]
+pub(crate) struct Tally {
+    counts: Counts,
+    is_wrong: Cell<bool>,
+}
+
+impl Tally {
+    /// Reads what the keys of an ordered map count.
+    pub(crate) fn of_order(&self) -> Meter<'_> {
+        Meter {
+            counts: &self.counts,
+            is_wrong: &self.is_wrong,
+            hashings: 0,
+        }
+    }
+
+    /// Reads what the keys of a hash map count.
+    pub(crate) fn of_hashes(&self) -> Meter<'_> {
+        Meter {
+            hashings: 1,
+            ..self.of_order()
+        }
+    }
+
+    /// Fails if anything that was told is not so.
+    pub(crate) fn end(&self) -> Result<(), Fail> {
+        if self.is_wrong.get() {
+            return Err(Fail::from("a call went wrong, or cost more or less than it should"));
+        }
+        Ok(())
+    }
+}
+
 /// Reads what the keys of a map have counted. A search of the map hashes its key so often: once, or in an ordered map
 /// never.
 #[derive(Clone, Copy)]
 pub(crate) struct Meter<'a> {
     pub(crate) counts: &'a Counts,
+    is_wrong: &'a Cell<bool>,
     pub(crate) hashings: u32,
 }
 
 impl<'a> Meter<'a> {
-    /// Of an ordered map.
-    pub(crate) fn of_order(counts: &'a Counts) -> Meter<'a> {
-        Meter {
-            counts,
-            hashings: 0,
-        }
-    }
-
-    /// Of a hash map.
-    pub(crate) fn of_hashes(counts: &'a Counts) -> Meter<'a> {
-        Meter {
-            counts,
-            hashings: 1,
+    /// What a test holds to be so.
+    pub(crate) fn hold(self, is_so: bool) {
+        if !is_so {
+            self.is_wrong.set(true);
         }
     }
 
     /// A call did what it should, and cost this since the last one was told.
-    pub(crate) fn tell(self, rt: &impl Abort, is_done: bool, cost: Cost) {
-        check(rt, is_done);
-        check(rt, self.counts.since() == cost);
+    pub(crate) fn tell(self, is_done: bool, cost: Cost) {
+        self.hold(is_done && self.counts.since() == cost);
     }
 
     /// A call did what it should, and compared no keys. It hashed each of so many.
-    pub(crate) fn tell_hashed(self, rt: &impl Abort, is_done: bool, keys: u32) {
-        self.tell(rt, is_done, (self.hashings.saturating_mul(keys), 0));
+    pub(crate) fn tell_hashed(self, is_done: bool, keys: u32) {
+        self.tell(is_done, (self.hashings.saturating_mul(keys), 0));
     }
 
     /// The cost of one search for the key, as `get_counted` tells it.
-    pub(crate) fn once<T: Copy, K, M: Copying<T, K>>(
-        self,
-        rt: &impl Abort,
-        map: &M,
-        key: &K,
-    ) -> Cost {
+    pub(crate) fn once<T: Copy, K, M: Copying<T, K>>(self, map: &M, key: &K) -> Cost {
         let _ = self.counts.since();
         let (_, steps) = map.get_counted(key);
         let cost = (self.hashings, steps);
-        self.tell(rt, true, cost);
+        self.tell(true, cost);
         cost
     }
 

@@ -1,15 +1,22 @@
-//! Items by their numbers.
+//! Items by their numbers, and calls with how many steps they took.
+use iddqd::{IdHashItem, IdHashMap, IdOrdItem};
+use std::alloc::Global;
+use std::hash::BuildHasherDefault;
+use test_support::hashers::ZeroHasher;
 use test_support::items::Numbered;
-use test_support::maps::UnderTest;
+use test_support::maps::{Hashed, Inserted, Ordered, UnderTest};
 
-pub(crate) fn numbered(number: u32) -> Numbered {
-    Numbered {
-        number,
-        value: number ^ 5,
-    }
+/// The item of a number and its value.
+pub(crate) fn valued(number: u32, value: u32) -> Numbered {
+    Numbered { number, value }
 }
 
-// Whether each of the numbers from one to below another goes into the map.
+/// The item of a number.
+pub(crate) fn numbered(number: u32) -> Numbered {
+    valued(number, number ^ 5)
+}
+
+/// Whether each of the numbers from one to below another goes into the map.
 pub(crate) fn are_numbers_put<M: UnderTest<Numbered, u32>>(
     map: &mut M,
     first: u32,
@@ -21,4 +28,44 @@ pub(crate) fn are_numbers_put<M: UnderTest<Numbered, u32>>(
         }
     }
     true
+}
+
+/// Whether each of those numbers is found within this many steps.
+pub(crate) fn are_found<M: UnderTest<Numbered, u32>>(
+    map: &M,
+    (first, end): (u32, u32),
+    most: u32,
+) -> bool {
+    for number in first..end {
+        let (is_found, steps) = find(map, &number);
+        if !is_found || steps > most {
+            return false;
+        }
+    }
+    true
+}
+
+/// An empty hash map whose every hash is 0.
+pub(crate) fn of_equal_hashes<T: IdHashItem>(
+    alloc: Global,
+) -> Hashed<T, BuildHasherDefault<ZeroHasher>> {
+    Hashed::new(IdHashMap::with_hasher(alloc, BuildHasherDefault::new()))
+}
+
+/// Whether a call found, inserted or removed an item, and how many steps it took.
+pub(crate) type Outcome = (bool, u32);
+
+pub(crate) fn find<T, K, M: UnderTest<T, K>>(map: &M, key: &K) -> Outcome {
+    let (found, steps) = map.get_counted(key);
+    (found.is_some(), steps)
+}
+
+pub(crate) fn put<T: IdOrdItem + Copy>(map: &mut Ordered<T>, item: T) -> Outcome {
+    let (inserted, steps) = map.insert_counted(item);
+    (matches!(inserted, Inserted::Done), steps)
+}
+
+pub(crate) fn take<T: IdOrdItem + Copy>(map: &mut Ordered<T>, key: &T::Key) -> Outcome {
+    let (taken, steps) = map.remove_counted(key);
+    (taken.is_some(), steps)
 }

@@ -1,7 +1,6 @@
 //! Ordered maps of many items, in and out in several orders.
 use crate::checks::check;
-use crate::counted::{find, take};
-use crate::numbers::{are_numbers_put, numbered};
+use crate::numbers::{are_found, are_numbers_put, numbered, take};
 use std::alloc::Global;
 use test_support::items::Numbered;
 use test_support::maps::{Ordered, UnderTest, in_order};
@@ -13,7 +12,8 @@ fn number_at(place: u32, factor: u32) -> u32 {
 
 // The most comparisons of a call among this many: 4 and twice the binary digits of the number.
 fn bound(len: usize) -> u32 {
-    4 + 2 * (usize::BITS - len.leading_zeros())
+    let digits = usize::BITS.wrapping_sub(len.leading_zeros());
+    digits.wrapping_mul(2).wrapping_add(4)
 }
 
 // The map of the numbers below 1009, inserted in the order that the factor gives.
@@ -51,24 +51,13 @@ fn ascending(map: &Ordered<Numbered>) -> Option<u32> {
     Some(count)
 }
 
-// Whether each of the numbers is found within this many steps.
-fn are_found(map: &Ordered<Numbered>, most: u32) -> bool {
-    for number in 1..1009 {
-        let found = find(map, &number);
-        if !found.is_done || found.steps > most {
-            return false;
-        }
-    }
-    true
-}
-
 // The factor 1008 is the descending order.
 #[test]
 fn three_orders(rt: HostRuntime) {
     for factor in [1, 1008, 7] {
         let map = filled(rt.alloc(), factor);
         check(&rt, walks(&map, 1, 1009));
-        check(&rt, are_found(&map, 24));
+        check(&rt, are_found(&map, (1, 1009), 24));
     }
 }
 
@@ -76,8 +65,8 @@ fn three_orders(rt: HostRuntime) {
 fn are_taken(map: &mut Ordered<Numbered>, first: u32, end: u32) -> bool {
     for place in first..end {
         let most = bound(map.len());
-        let taken = take(map, &number_at(place, 11));
-        if !taken.is_done || taken.steps > most {
+        let (is_taken, steps) = take(map, &number_at(place, 11));
+        if !is_taken || steps > most {
             return false;
         }
     }

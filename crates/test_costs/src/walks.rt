@@ -4,26 +4,19 @@ ghost use Rattle.std.specs.Cmp.{on_equiv, on_per, nat_eq_equiv, partial_equiv_fr
 
 use crate::checks::check;
 use iddqd::{IdHashItem, IdHashMap, IdOrdItem, IdOrdMap};
-use idtable_commands::KeyedMap;
 use std::alloc::Global;
-use std::process::Abort;
-use std::test::Fail;
 use test_support::items::Named;
-use test_support::maps::is_put;
+use test_support::maps::{Hashed, Ordered, UnderTest, by_hash, in_order};
 
 fn named(name: [u8; 3], value: u32) -> Named {
     Named { name, value }
 }
 
-// The map with foo, bar and baz.
-fn filled<M: KeyedMap<Item = Named> + Drop>(rt: &impl Abort, mut map: M) -> M
-    requires { M.keyed map }
-    ensures { M.keyed result }
-{
-    check(rt, is_put(&mut map, named(*b"foo", 42)));
-    check(rt, is_put(&mut map, named(*b"bar", 20)));
-    check(rt, is_put(&mut map, named(*b"baz", 1)));
-    map
+// Whether foo, bar and baz are inserted.
+fn is_filled<M: UnderTest<Named, [u8; 3]>>(map: &mut M) -> bool {
+    map.is_put(named(*b"foo", 42))
+        && map.is_put(named(*b"bar", 20))
+        && map.is_put(named(*b"baz", 1))
 }
 
 // Whether a walk says that nothing is to come, and gives nothing, again and again.
@@ -50,28 +43,26 @@ where
 }
 
 // Whether the walks show the three items, and the walk that ends the map its first one, with two left.
-fn walks_in_order(map: IdOrdMap<Named>) -> bool {
-    let shows_three = gives_three(&mut map.iter());
-    let mut walk = map.into_iter();
+fn walks_in_order(mut map: Ordered<Named>) -> bool {
+    let shows_three = is_filled(&mut map) && gives_three(&mut map.map().iter());
+    let mut walk = map.into_map().into_iter();
     shows_three && walk.next() == Some(named(*b"bar", 20)) && walk.len() == 2
 }
 
-fn walks_by_hash(map: IdHashMap<Named>) -> bool {
-    let shows_three = gives_three(&mut map.iter());
-    let mut walk = map.into_iter();
+fn walks_by_hash(mut map: Hashed<Named>) -> bool {
+    let shows_three = is_filled(&mut map) && gives_three(&mut map.map().iter());
+    let mut walk = map.into_map().into_iter();
     shows_three && walk.next().is_some() && walk.len() == 2
 }
 
 #[test]
 fn reading_walk(rt: HostRuntime) {
-    let map = filled(&rt, IdOrdMap::new(rt.alloc()));
-    check(&rt, walks_in_order(map));
+    check(&rt, walks_in_order(in_order(rt.alloc())));
 }
 
 #[test]
 fn hash_reading_walk(rt: HostRuntime) {
-    let map = filled(&rt, IdHashMap::new(rt.alloc()));
-    check(&rt, walks_by_hash(map));
+    check(&rt, walks_by_hash(by_hash(rt.alloc())));
 }
 
 // Whether neither walk over a map without items shows one, again and again.
@@ -148,18 +139,23 @@ impl IdHashItem for Valued {
     }
 }
 
+// Whether two numbers of one value are inserted.
+fn are_put<M: UnderTest<Valued, u32>>(one: &mut M, other: &mut M) -> bool {
+    one.is_put(Valued { key: 1, value: 7 }) && other.is_put(Valued { key: 2, value: 7 })
+}
+
+fn are_equal_in_order(alloc: Global) -> bool {
+    let (mut one, mut other) = (in_order(alloc), in_order(alloc));
+    are_put(&mut one, &mut other) && one.map() == other.map()
+}
+
+fn differ_by_hash(alloc: Global) -> bool {
+    let (mut one, mut other) = (by_hash(alloc), by_hash(alloc));
+    are_put(&mut one, &mut other) && !one.map().eq(other.map())
+}
+
 #[test]
-fn equality_ignores_key(rt: HostRuntime) -> Result<(), Fail> {
-    let alloc = rt.alloc();
-    let mut one = IdOrdMap::new(alloc);
-    let mut other = IdOrdMap::new(alloc);
-    check(&rt, is_put(&mut one, Valued { key: 1, value: 7 }));
-    check(&rt, is_put(&mut other, Valued { key: 2, value: 7 }));
-    check(&rt, one == other);
-    let mut one = IdHashMap::new(alloc);
-    let mut other = IdHashMap::new(alloc);
-    check(&rt, is_put(&mut one, Valued { key: 1, value: 7 }));
-    check(&rt, is_put(&mut other, Valued { key: 2, value: 7 }));
-    check(&rt, !one.eq(&other));
-    Ok(())
+fn equality_ignores_key(rt: HostRuntime) {
+    check(&rt, are_equal_in_order(rt.alloc()));
+    check(&rt, differ_by_hash(rt.alloc()));
 }
