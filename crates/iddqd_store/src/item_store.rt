@@ -149,9 +149,26 @@ impl<T> ItemStore<T> {
     }
 
     /// Returns the first occupied slot from this number on with its item, or `None` if there is none. It looks at
-    /// each slot up to that one once.
+    /// each slot up to that one once, and at the first of them twice if that is vacant.
     #[inline]
     pub fn next_occupied(&self, from: u32) -> Option<(u32, &T)>
+        // if a slot has an item
+        ensures slot { IfSome result (λ found. IsFirstOccupied self.now from found.0) }
+        ensures item { IfSome result (λ found. item_at self.now found.0 ≡ Some found.1.now) }
+        ensures number { IfSome result (λ found. found.0 < u32.MAX) }
+
+        // if none has
+        ensures none { IfNone result (AreVacant self.now from (length self.now.slots)) }
+    {
+        match self.slots.get(from as usize) {
+            Some(Slot::Occupied(item)) => Some((from, item)),
+            _ => self.skip_vacant(from),
+        }
+    }
+
+    // Does the same slot by slot. A function of its own, so that a walk from item to item is short.
+    #[inline(never)]
+    fn skip_vacant(&self, from: u32) -> Option<(u32, &T)>
         // if a slot has an item
         ensures slot { IfSome result (λ found. IsFirstOccupied self.now from found.0) }
         ensures item { IfSome result (λ found. item_at self.now found.0 ≡ Some found.1.now) }

@@ -1,9 +1,9 @@
 -- What a lookup of accounts by a number, by an address or by a text finds, and what a change leaves of that.
-use Rattle.std.specs.Prelude.{◌≡◌, ◌≢◌, ℕ, ◌==◌, IfSome, List, None, Option, Some, String, false, nat_eq, string_bytes}
+use Rattle.std.specs.Prelude.{◌≡◌, ◌≢◌, ℕ, ◌==◌, [], IfSome, List, None, Option, Some, String, false, nat_eq, string_bytes}
 use Rattle.std.specs.Str.{bytes_eq}
 use Rattle.std.specs.String.{string_eq}
 use Rattle.std.specs.declared.alloc.Global.{Global}
-use Rattle.iddqd_bi_hash.specs.Contents.{find_item}
+use Rattle.iddqd_bi_hash.specs.Contents.{AddsItem, find_item}
 use Rattle.iddqd_bi_hash.specs.TwoKeys.{find_by_both, items_found}
 use Rattle.test_callers.specs.declared.bi_accounts.Account.{Account}
 
@@ -22,6 +22,10 @@ of_both number text all = find_by_both (λ a. a.number) (λ a. a.email) (λ k. n
 -- the accounts that have the number or the address
 abbrev pub items_of : ℕ → String Global → List Account → List Account
 items_of number email all = items_found (λ a. a.number) (λ a. a.email) (nat_eq number) (string_eq email) all
+
+-- x is inserted, if no account has its number or its address
+abbrev pub AddsIfNone : Account → (old new : List Account) → Type 0
+AddsIfNone x old new = items_of x.number x.email old ≡ [] → AddsItem x old new
 
 abbrev pub with_email : String Global → Account → Account
 with_email email a = record a { email = email }

@@ -1,10 +1,10 @@
 //! Callers of the entries of a map of two keys, over items that own text: what lookups by either key find then. Nobody
 //! calls them.
-ghost use Rattle.std.specs.Prelude.{◌≡◌, [], IsTrue, None, Some, false, string_bytes};
+ghost use Rattle.std.specs.Prelude.{◌≡◌, IsTrue, None, Some, false, string_bytes};
 ghost use Rattle.std.specs.Hash.{u64};
 ghost use Rattle.iddqd_bi_hash.specs.Contents.{AddsItem};
 ghost use Rattle.iddqd_bi_hash.specs.BiHashItems.{IsKeyedByNumberAndText};
-ghost use Rattle.test_callers.specs.Accounts.{KeepsNumbers, KeepsTexts, items_of, of_email, of_number};
+ghost use Rattle.test_callers.specs.Accounts.{AddsIfNone, KeepsNumbers, KeepsTexts, of_email, of_number};
 
 use crate::bi_accounts::Account;
 use iddqd_bi_hash::BiHashMap;
@@ -48,7 +48,7 @@ fn add_if_new(all: &mut BiHashMap<Account>, account: Account) -> bool
 fn add_or_leave(all: &mut BiHashMap<Account>, account: Account) -> bool
     requires keyed { IsKeyedByNumberAndText u64 (λ a. a.number) (λ a. a.email) all.old }
     ensures kept { result ≡ false → all.new.items ≡ all.old.items }
-    ensures added { IsTrue result → items_of account.number account.email all.old.items ≡ [] → AddsItem account all.old.items all.new.items }
+    ensures added { IsTrue result → AddsIfNone account all.old.items all.new.items }
     ensures keyed { IsKeyedByNumberAndText u64 (λ a. a.number) (λ a. a.email) all.new }
 {
     match all

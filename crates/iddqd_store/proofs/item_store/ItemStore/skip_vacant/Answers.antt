@@ -4,7 +4,7 @@ use Rattle.std.proofs.lemmas.Grind.{common_steps}
 use Rattle.std.proofs.lemmas.List.{get_or-map, length-map}
 use Rattle.iddqd_store.specs.Slots.{item_of}
 use Rattle.iddqd_store.specs.Store.{item_at}
-use Rattle.iddqd_store.proofs.item_store.ItemStore.next_occupied.Goals as goal
+use Rattle.iddqd_store.proofs.item_store.ItemStore.skip_vacant.Goals as goal
 
 pub loop-slot-preserved : goal.loop-slot-preserved
 loop-slot-preserved g c =
