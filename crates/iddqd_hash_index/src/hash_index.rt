@@ -2,7 +2,6 @@
 mod cell;
 mod change;
 mod group;
-mod own_key;
 mod probe;
 mod probe_sequence;
 mod regroup;
@@ -16,8 +15,7 @@ ghost use Rattle.iddqd_store.specs.Refusal.{memory_refused};
 use cell::Cell;
 use change::{free_at, place, rename_in, take};
 use group::Group;
-use iddqd_store::{Equivalent, IdHashItem, ItemStore, KeyOf, Steps, TryReserveError};
-pub use own_key::OwnKey;
+use iddqd_store::{Equivalent, IdHashItem, ItemStore, KeyOf, OwnKey, Steps, TryReserveError};
 use probe::find_among;
 use regroup::{MOST_ROOM, groups_for, regrouped, room_of};
 use std::alloc::{AllocError, Global};

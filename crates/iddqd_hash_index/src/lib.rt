@@ -3,4 +3,4 @@
 
 mod hash_index;
 
-pub use hash_index::{HashIndex, OwnKey};
+pub use hash_index::HashIndex;

@@ -43,6 +43,20 @@ pub trait KeyOf<T> {
         ensures { result.now ≡ key item.now };
 }
 
+/// The one key of an `IdHashItem`.
+pub struct OwnKey;
+
+impl<T: IdHashItem> KeyOf<T> for OwnKey {
+    type Key = T::Key;
+
+    ghost key = { T.key };
+
+    #[inline]
+    fn key_of(item: &T) -> &T::Key {
+        item.key()
+    }
+}
+
 impl<T: IdHashItem> IdHashItem for &T {
     type Key = T::Key;
 

@@ -21,7 +21,7 @@ pub use errors::{
 pub use gives::Gives;
 pub use hints::room_to_reserve;
 pub use item_store::{IntoItems, ItemStore, Items, MAX_ITEMS};
-pub use items::{IdHashItem, IdOrdItem, KeyOf};
+pub use items::{IdHashItem, IdOrdItem, KeyOf, OwnKey};
 pub use not_inserted::NotInserted;
 pub use queries::{Comparable, Equivalent};
 pub use steps::Steps;

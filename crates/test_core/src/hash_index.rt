@@ -3,8 +3,8 @@ ghost use Rattle.std.specs.Prelude.{◌≡◌};
 
 use crate::checks::check;
 use crate::ord_index::Asked;
-use iddqd_hash_index::{HashIndex, OwnKey};
-use iddqd_store::{IdHashItem, ItemStore, Steps, TryReserveError};
+use iddqd_hash_index::HashIndex;
+use iddqd_store::{IdHashItem, ItemStore, OwnKey, Steps, TryReserveError};
 use std::alloc::Global;
 use std::cell::Cell;
 use std::marker::Model;

@@ -5,10 +5,9 @@ ghost use Rattle.iddqd_store.specs.Collecting.{ShowsAkin, ShowsFirstRepeat};
 ghost use Rattle.iddqd_store.specs.Contents.{IsAbsent};
 
 use super::{IdHashMap, Keyed};
-use iddqd_hash_index::OwnKey;
 use iddqd_hash_parts::{find_slot, remove_from_both};
 use iddqd_store::{
-    DuplicateItem, ExtendError, Few, FromIterError, Gives, IdHashItem, TryReserveError,
+    DuplicateItem, ExtendError, Few, FromIterError, Gives, IdHashItem, OwnKey, TryReserveError,
     room_to_reserve,
 };
 use std::alloc::Global;

@@ -8,9 +8,8 @@ mod occupied;
 mod vacant;
 
 use super::{DefaultHashBuilder, IdHashMap, Keyed};
-use iddqd_hash_index::OwnKey;
 use iddqd_hash_parts::find_slot;
-use iddqd_store::{Equivalent, IdHashItem};
+use iddqd_store::{Equivalent, IdHashItem, OwnKey};
 use std::hash::{BuildHasher, Hash};
 
 /// What `entry` finds. Dropping it changes nothing.

@@ -6,10 +6,9 @@ ghost use Rattle.iddqd_store.specs.Adding.{HaltsAt, OnItemBack};
 ghost use Rattle.iddqd_store.specs.Contents.{IsAbsent};
 
 use super::{IdHashMap, Keyed};
-use iddqd_hash_index::OwnKey;
 use iddqd_hash_parts::find_slot;
 use iddqd_store::{
-    DuplicateItem, ExtendError, ExtendUniqueError, Few, Gives, IdHashItem, NotInserted,
+    DuplicateItem, ExtendError, ExtendUniqueError, Few, Gives, IdHashItem, NotInserted, OwnKey,
     room_to_reserve,
 };
 use std::hash::BuildHasher;

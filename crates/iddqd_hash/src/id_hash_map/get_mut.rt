@@ -4,9 +4,8 @@ ghost use Rattle.std.specs.Borrow.{sem};
 ghost use Rattle.iddqd_store.specs.Contents.{IsAbsent};
 
 use super::{IdHashMap, Keyed, RefMut};
-use iddqd_hash_index::OwnKey;
 use iddqd_hash_parts::find_slot;
-use iddqd_store::{Equivalent, IdHashItem};
+use iddqd_store::{Equivalent, IdHashItem, OwnKey};
 use std::hash::{BuildHasher, Hash};
 
 impl<T: IdHashItem, S: BuildHasher> IdHashMap<T, S> {

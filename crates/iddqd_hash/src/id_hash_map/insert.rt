@@ -6,9 +6,8 @@ ghost use Rattle.iddqd_store.specs.Contents.{IsAbsent};
 ghost use Rattle.iddqd_store.specs.Refusal.{OnRefused};
 
 use super::{IdHashMap, Keyed};
-use iddqd_hash_index::OwnKey;
 use iddqd_hash_parts::{exchange, find_slot, insert_in_both, reserve_one};
-use iddqd_store::{DuplicateItem, Few, IdHashItem, InsertError, Refused};
+use iddqd_store::{DuplicateItem, Few, IdHashItem, InsertError, OwnKey, Refused};
 use std::hash::BuildHasher;
 
 impl<T: IdHashItem, S: BuildHasher> IdHashMap<T, S> {

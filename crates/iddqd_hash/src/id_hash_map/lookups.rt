@@ -4,9 +4,8 @@ ghost use Rattle.iddqd_store.specs.Contents.{Finds, RemovesFound, find_item};
 ghost use Rattle.iddqd_store.specs.Holding.{Removes};
 
 use super::{IdHashMap, Keyed};
-use iddqd_hash_index::OwnKey;
 use iddqd_hash_parts::remove_found;
-use iddqd_store::{Equivalent, IdHashItem, Steps};
+use iddqd_store::{Equivalent, IdHashItem, OwnKey, Steps};
 use std::hash::{BuildHasher, Hash};
 
 impl<T: IdHashItem, S: BuildHasher> IdHashMap<T, S> {
