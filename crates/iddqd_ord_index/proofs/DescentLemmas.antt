@@ -1,14 +1,19 @@
 -- A search in a node's own slots, and on in one of its branches.
-use Rattle.std.proofs.Common.{◌≡◌, ℕ, ◌+◌, ◌<◌, ◌≤◌, List, length, take, get_or, sym, arith, subst, Ok, Err}
+use Rattle.std.proofs.Common.{◌≡◌, ℕ, ◌+◌, ◌-◌, ◌<◌, ◌≤◌, List, [], ◌++◌, length, take, drop, get_or, refl, sym, arith, subst, length-append, Ok, Err}
 use Rattle.std.specs.declared.cmp.Ordering.{Ordering}
 use Rattle.std.specs.declared.cmp.Ordering.TheVariants.{Equal}
 use Rattle.std.specs.List.{All}
+use Rattle.std.proofs.lemmas.List.{drop-append-le}
 use Rattle.iddqd_ord_index.specs.Digits.{digits}
-use Rattle.iddqd_ord_index.specs.Shape.{Subtree, tree, in_order, starts, lists, levels, unused, IsBranch, IsForked}
+use Rattle.iddqd_ord_index.specs.Runs.{BeginsWith}
+use Rattle.iddqd_ord_index.specs.Shape.{Subtree, tree, behind, in_order, starts, lists, levels, unused, IsBranch, IsBranchAt, IsForked}
 use Rattle.iddqd_ord_index.specs.Standing.{IsMonotone, IsPart, IsPlace}
 use Rattle.iddqd_ord_index.proofs.BranchAtLemmas.{fork_is, starts_is, branch_is, leaf_list}
-use Rattle.iddqd_ord_index.proofs.BelowLemmas.{list_at}
+use Rattle.iddqd_ord_index.proofs.BelowLemmas.{length-lists, list_at}
 use Rattle.iddqd_ord_index.proofs.DigitLemmas.{digits_least}
+use Rattle.iddqd_ord_index.proofs.InOrderLemmas.{starts_drop, starts_split, starts_take}
+use Rattle.iddqd_ord_index.proofs.LeafLemmas.{below_branch_at}
+use Rattle.iddqd_ord_index.proofs.RunLemmas.{begins_later, front_of, run_of, run_own}
 use Rattle.iddqd_ord_index.proofs.FoundLemmas.{part_all, part_mono, own_all, own_mono, own_read, own_place, own_end, own_some, branch_part, branch_end, found_place, missed_front, missed_back}
 
 pub digits_four : (n : ℕ) → n ≤ 11 → digits n ≤ 4
@@ -69,3 +74,34 @@ leaf order P xs ts ss base self m a none v q =
       same = p.same;
       missed = λ i h. (omega (arith, h.0, p.fits), λ k lt. missed_front order xs ss base p i k h.0 h.1 lt, λ k le lt. missed_back order xs ss base p i k h.0 h.2 le lt);
     }
+
+-- the walk from where a search has come to, where that from its node on is known
+module _ (xs : List ℕ) (base : ℕ) (ts : List Subtree) (ss more : List ℕ) (f : IsForked ts ss) (some : 0 < length ts) (here : BeginsWith (in_order (lists ts) ss ++ more) (drop base xs)) where
+  from_position : (at : ℕ) → at ≤ length (in_order (lists ts) ss) → BeginsWith (drop at (in_order (lists ts) ss)) (drop (base + at) xs)
+  from_position at le = begins_later xs (in_order (lists ts) ss) base at le (front_of (in_order (lists ts) ss) more (drop base xs) here)
+
+  pub branch_begins : (us : List Subtree) (os child : List ℕ) (i : ℕ) → i < length ts → child ≡ (get_or ts i unused).slots → us ≡ drop (i + 1) ts → os ≡ drop i ss
+      → BeginsWith (child ++ behind (lists us) os) (drop (base + starts (take i (lists ts))) xs)
+  branch_begins us os child i lt c u o =
+      let k = length-lists ts in
+      let start = starts (take i (lists ts)) in
+      let branch_at : IsBranchAt (lists ts) start i 0 = record { branch = omega arith; within = omega arith; sum = omega arith } in
+      let le : start ≤ length (in_order (lists ts) ss) = omega (arith, starts_split (lists ts) i, starts_drop (lists ts) i (omega arith), starts_is ts ss f some) in
+      subst (λ l. BeginsWith l (drop (base + start) xs)) (below_branch_at ts us ss os child start i 0 f branch_at c u o) (from_position start le)
+
+  pub own_begins : (i p : ℕ) → i < length ss → p + 1 ≡ base + starts (take (i + 1) (lists ts)) → BeginsWith (take (i + 1 - i) (drop i ss)) (drop p xs)
+  own_begins i p lt e =
+      let k = length-lists ts in
+      let ls = lists ts in
+      let n = length (get_or ls i []) in
+      let fork = fork_is ts ss f some in
+      let at = starts (take i ls) + n in
+      let branch_at : IsBranchAt ls at i n = record { branch = omega arith; within = omega arith; sum = refl } in
+      let le : at ≤ length (in_order ls ss) = omega (arith, starts_split ls (i + 1), starts_take ls i (omega arith), starts_is ts ss f some) in
+      let is : base + at ≡ p = omega (arith, e, starts_take ls i (omega arith)) in
+      let own = run_own ls ss at i n branch_at fork refl lt in
+      run_of (take (i + 1 - i) (drop i ss)) (drop at (in_order ls ss)) (drop p xs) own (subst (λ q. BeginsWith (drop at (in_order ls ss)) (drop q xs)) is (from_position at le))
+
+pub leaf_begins : (xs run more : List ℕ) (base i : ℕ) → i ≤ length run → BeginsWith (run ++ more) (drop base xs) → BeginsWith (drop i run ++ more) (drop (base + i) xs)
+leaf_begins xs run more base i le here =
+    subst (λ l. BeginsWith l (drop (base + i) xs)) (drop-append-le i run more le) (begins_later xs (run ++ more) base i (omega (arith, length-append run more)) here)
