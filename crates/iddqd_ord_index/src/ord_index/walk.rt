@@ -64,7 +64,8 @@ impl<'a> Walk<'a> {
     pub fn truncate(&mut self, len: usize)
         ensures { self.new ≡ take len self.old }
     {
-        if len < self.len() {
+        let left = self.end - self.next;
+        if len < left as usize {
             self.back = LeafWalkBack::along(&[]);
             self.end = self.next + len as u32;
         }
