@@ -74,6 +74,7 @@ impl OrdIndex {
         ensures place { FindsPlace T.key (Q.compare query.now) store.now self.now.slots result.0 }
         ensures in_list { IsPlaceIn self.now.slots result.0 }
         ensures slots { result.1 ≡ drop (position_of result.0) self.now.slots }
+        ensures fits { length result.1 ≤ u32.MAX }
 
         // what it costs
         ensures steps { steps.new ≤ steps.old + 4 + 2 * digits (length self.now.slots) }

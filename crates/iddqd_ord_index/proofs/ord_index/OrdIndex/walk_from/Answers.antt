@@ -1,4 +1,4 @@
-use Rattle.std.proofs.Common.{Ok, Err, length, subst, sym, ap, arith, ◌∙◌}
+use Rattle.std.proofs.Common.{Ok, Err, length, subst, sym, ap, arith}
 use Rattle.iddqd_ord_index.specs.Digits.{digits}
 use Rattle.iddqd_ord_index.specs.Standing.{slot_standing, IsMonotone, IsPlace}
 use Rattle.iddqd_ord_index.proofs.HeightLemmas.{height_bound}
