@@ -27,5 +27,5 @@ pub use Rattle.iddqd_ord.specs.Guard.{GuardFinds, GuardKeeps, GuardKeepsAkin, Gu
 pub use Rattle.iddqd_ord.specs.declared.id_ord_map.entry.Entry.TheVariants.{Occupied, Vacant}
 pub use Rattle.iddqd_ord.specs.Entry.{EntersInserted, EntryKeeps, EntryKeepsAkin, HasKeyOf, IsEntryAt, IsEntryFor, IsEntryOf, IsFirstEntry, IsLastEntry, LacksKeyOf, LendsFound, LendsInserted, ShowsFound, ShowsInserted, VisitsEntry, entry_follows, entry_item, entry_map, entry_lender, entry_others, entry_slot, entry_with, rests_if_refused, rests_without_entry}
 pub use Rattle.iddqd_ord.specs.WritingWalk.{WalkKeeps, WalkKeepsAkin, walk_done, walk_lends, walk_map, walk_lender, walk_with}
-pub use Rattle.iddqd_ord.specs.Ranges.{FindsLast, FindsPositions, FindsRange, IsIndexOf, IsPart, RemovesRange, WalksPart, bound_now, is_between, is_from, is_up_to, items_at, items_between, items_to, number_less, position_of}
-pub use Rattle.iddqd_ord_index.specs.Search.{IsPlaceAmong}
+pub use Rattle.iddqd_ord.specs.Ranges.{FindsLast, FindsPositions, FindsRange, IsIndexOf, IsPart, RemovesRange, WalksPart, bound_now, is_between, is_from, is_up_to, items_at, items_between, items_to, number_less}
+pub use Rattle.iddqd_ord_index.specs.Search.{IsPlaceAmong, position_of}

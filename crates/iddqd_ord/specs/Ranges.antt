@@ -8,7 +8,6 @@
 --     items_to, items_at      the items at the positions up to a bound, or between two (`range_index`)
 --     RemovesPart      such items were removed
 --     FindsLast      the last item whose key passes the test, lent (`upper_bound`)
---     position_of      the position that a search returns, found or not
 --     number_less      how many items are less than the query
 --     IsIndexOf      the item at the position found is the one that the query finds; without one, there is none
 --     bound_now      a bound by the value of its query
@@ -16,6 +15,7 @@
 --     FindsPositions      the items at the positions of a range are found
 --     SplitsAt, EndsAt      the elements that pass are those from a position on, or those before it
 --     StartsAt, StopsAt      the position of the first item from a bound on, or of the first one behind it
+--     WalksFrom      the slots of the items from a bound on
 use Rattle.std.specs.Borrow.{Bor}
 use Rattle.std.specs.Bound.{bound_map, start_index}
 use Rattle.std.specs.Prelude.{◌≡◌, ℕ, ◌+◌, ◌-◌, ◌<◌, ◌≤◌, Bool, true, false, ◌&&◌, List, ◌++◌, length, count_by, drop, filter, option_copied, slice_get, slice_index_or, sum_by, take, MatchResult, Option, Result, Ok, Err}
@@ -100,11 +100,6 @@ pub record RemovesPart {T : Type 0} (old new : List T) : Type 0 where
   pub in_order : low ≤ high
   pub left : new ≡ take low old ++ drop high old
 
--- the position that a search returns, found or not
-abbrev pub position_of : Result ℕ ℕ → ℕ
-position_of (Ok i) = i
-position_of (Err i) = i
-
 module _ {T K : Type 0} (key : T → K) where
   -- a search finds the last item whose key passes the test and lends it, or there is none
   abbrev pub FindsLast : (K → Bool) → List T → Option (Bor T) → Type 0
@@ -142,3 +137,7 @@ module _ {T Q K : Type 0} (key : T → K) (compare : Q → K → Ordering) where
   -- the position of the first item that is behind the bound
   abbrev pub StopsAt : Bound Q → List T → ℕ → Type 0
   StopsAt bound items n = EndsAt (λ x. is_up_to compare bound (key x)) items n
+
+  -- the slots of the items that are not before the bound
+  abbrev pub WalksFrom : Bound Q → Holding T → List ℕ → Type 0
+  WalksFrom bound map walk = (n : ℕ) × StartsAt bound map.items n × (walk ≡ drop n map.slots)

@@ -4,7 +4,7 @@
 --     child_found, child_among, child_place, child_at      what is found in it, and where
 --     IsStill      the node whose branch has not changed
 --     steps_here, steps_below      the comparisons at a node, and those at its branch
-use Rattle.std.proofs.Common.{◌≡◌, ℕ, ◌+◌, ◌*◌, ◌<◌, ◌≤◌, List, length, set, take, get_or, Option, Some, None, Ok, Err, Box, Global, subst, sym, ap, ◌∙◌, arith}
+use Rattle.std.proofs.Common.{refl, ◌≡◌, ℕ, ◌+◌, ◌*◌, ◌<◌, ◌≤◌, List, length, set, take, get_or, Option, Some, None, Ok, Err, Box, Global, subst, sym, ap, ◌∙◌, arith}
 use Rattle.std.specs.declared.cmp.Ordering.{Ordering}
 use Rattle.std.specs.List.{All}
 use Rattle.iddqd_ord_index.specs.Digits.{digits}
@@ -82,7 +82,7 @@ module _ (order : ℕ → Ordering) (P : ℕ → Type 0) (bs : Branches) (ss : L
   child_part w =
       let n = inner order P self.slots (below bs) ss 0 self m a f some v (whole_part order self.slots) in
       let zero : 0 + starts (take i (lists (below bs))) ≡ starts (take i (lists (below bs))) = omega arith in
-      subst (λ t. IsPart order self.slots t.slots (starts (take i (lists (below bs))))) (sym w) (subst (IsPart order self.slots (get_or (below bs) i unused).slots) zero (n.down i (subst (λ l. IsPlace order l (Err i)) e p)))
+      subst (IsPart order self.slots node.slots) zero (n.down i (starts (take i (lists (below bs)))) node (subst (λ l. IsPlace order l (Err i)) e p) refl w)
 
   child_still : i < length (below bs) → node ≡ get_or (below bs) i unused → (new : Node) → new ≡ node → IsStill (branches_with block read i new read.counts) bs ss self
   child_still lt w new same_node =

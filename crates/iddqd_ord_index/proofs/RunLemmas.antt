@@ -1,6 +1,6 @@
 -- A list that another one begins with, as both go on.
 use Rattle.std.proofs.Common.{◌≡◌, ℕ, zero, suc, refl, ◌+◌, ◌-◌, ◌<◌, ◌≤◌, List, [], ◌∷◌, ◌++◌, length, take, drop, get_or, ap, sym, ◌∙◌, arith, append_assoc, length-drop}
-use Rattle.std.proofs.lemmas.List.{drop_more, drop-append-le, take_more, get_or-take, length-take-le}
+use Rattle.std.proofs.lemmas.List.{drop_more, drop-append-le, drop-drop, take_more, get_or-take, length-take-le}
 use Rattle.std.proofs.lemmas.List.Edits.{remove-append_left}
 use Rattle.std.specs.List.{remove}
 use Rattle.iddqd_ord_index.specs.Runs.{BeginsWith}
@@ -43,6 +43,10 @@ run_of a b c p q = (p.0 ++ q.0, q.1 ∙ (ap (λ l. l ++ q.0) p.1 ∙ append_asso
 -- the front part of it does
 pub front_of : (a b c : List ℕ) → BeginsWith (a ++ b) c → BeginsWith a c
 front_of a b c p = (b ++ p.0, p.1 ∙ append_assoc a b p.0)
+
+-- what a run begins with, from one of its slots on
+pub begins_later : (xs run : List ℕ) (base k : ℕ) → k ≤ length run → BeginsWith run (drop base xs) → BeginsWith (drop k run) (drop (base + k) xs)
+begins_later xs run base k le b = (b.0, sym (drop-drop k base xs) ∙ (ap (λ l. drop k l) b.1 ∙ drop-append-le k run b.0 le))
 
 -- a slot, and then more of what comes behind it, put behind other slots
 pub slots_appended : (old mid new walk left all : List ℕ) (slot : ℕ) → BeginsWith walk all → walk ≡ slot ∷ left → mid ≡ old ++ slot ∷ [] → BeginsWith new (mid ++ left) → BeginsWith new (old ++ all)

@@ -19,6 +19,11 @@ IsPlaceAmong compare ks place = MatchResult place
 abbrev pub IsPlaceIn : List ℕ → Result ℕ ℕ → Type 0
 IsPlaceIn slots place = MatchResult place (λ i. i < length slots) (λ i. i ≤ length slots)
 
+-- the position that a search returns, found or not
+abbrev pub position_of : Result ℕ ℕ → ℕ
+position_of (Ok i) = i
+position_of (Err i) = i
+
 -- the place alone, of a search that returns the slot as well
 abbrev pub place_of : Result (ℕ × ℕ) ℕ → Result ℕ ℕ
 place_of (Ok found) = Ok found.0

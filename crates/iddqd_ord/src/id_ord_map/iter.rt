@@ -15,8 +15,8 @@ use std::marker::Model;
 /// `next_back` the last. Both read several slots of the index at a time, and compare no keys.
 #[derive(Drop)]
 pub struct Iter<'a, T> {
-    store: &'a ItemStore<T>,
-    walk: Walk<'a>,
+    pub(super) store: &'a ItemStore<T>,
+    pub(super) walk: Walk<'a>,
 }
 
 impl<'a, T> Model for Iter<'a, T> {

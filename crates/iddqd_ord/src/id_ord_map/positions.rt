@@ -5,8 +5,8 @@ ghost use Rattle.std.specs.Bound.{end_index, start_index};
 ghost use Rattle.iddqd_store.specs.Contents.{Ascends, IsAbsent, keys};
 ghost use Rattle.iddqd_store.specs.Holding.{Removes};
 ghost use Rattle.iddqd_ord_index.specs.Digits.{digits};
-ghost use Rattle.iddqd_ord_index.specs.Search.{IsPlaceAmong};
-ghost use Rattle.iddqd_ord.specs.Ranges.{FindsPositions, IsIndexOf, WalksPart, bound_now, number_less, position_of};
+ghost use Rattle.iddqd_ord_index.specs.Search.{IsPlaceAmong, position_of};
+ghost use Rattle.iddqd_ord.specs.Ranges.{FindsPositions, IsIndexOf, WalksPart, bound_now, number_less};
 
 use super::{IdOrdMap, Iter};
 use iddqd_store::{Comparable, IdOrdItem, Steps};

@@ -2,9 +2,10 @@
 ghost use Rattle.std.specs.Prelude.{◌≡◌, ◌+◌, ◌*◌, ◌≤◌, length};
 ghost use Rattle.iddqd_store.specs.Contents.{Ascends, Finds};
 ghost use Rattle.iddqd_ord_index.specs.Digits.{digits};
-ghost use Rattle.iddqd_ord.specs.Ranges.{FindsLast, FindsRange, StartsAt, StopsAt, WalksPart, bound_now, is_from, is_up_to};
+ghost use Rattle.iddqd_ord.specs.Ranges.{FindsLast, FindsRange, StartsAt, StopsAt, WalksFrom, WalksPart, bound_now, is_from, is_up_to};
 
 use super::{IdOrdMap, Iter};
+use iddqd_ord_index::Walk;
 use iddqd_store::{Comparable, IdOrdItem, Steps};
 use std::ops::{Bound, Range, RangeBounds};
 
@@ -35,9 +36,14 @@ impl<T: IdOrdItem> IdOrdMap<T> {
         ensures steps { steps.new ≤ steps.old + 8 + 4 * digits (length self.now.items) }
         ensures never_resets { steps.old ≤ steps.new }
     {
-        let low = self.start_of(range.start_bound(), steps);
+        let mut walk = self.walk_from(range.start_bound(), steps);
         let high = self.end_of(range.end_bound(), steps);
-        self.part(low, high)
+        let low = self.len() - walk.len();
+        walk.truncate(high.saturating_sub(low));
+        Iter {
+            store: &self.store,
+            walk,
+        }
     }
 
     /// Returns the item of the least key that is not before the bound, or `None` if there is none. It makes as many
@@ -46,8 +52,8 @@ impl<T: IdOrdItem> IdOrdMap<T> {
         requires keyed { Ascends T.key T.Key.cmp self.now.items }
         ensures { Finds T.key (is_from Q.compare (bound_now from.entry)) self.now.items result }
     {
-        let start = self.start_of(from, &mut Steps::new());
-        self.get_index(start)
+        let slot = self.walk_from(from, &mut Steps::new()).next()?;
+        self.store.get(slot)
     }
 
     /// Returns the item of the greatest key that is not behind the bound, or `None` if there is none. It makes as many
@@ -63,21 +69,27 @@ impl<T: IdOrdItem> IdOrdMap<T> {
         self.get_index(end - 1)
     }
 
-    // Returns the position of the first item that is not before the bound.
-    pub(super) fn start_of<Q: Comparable<T::Key>>(
+    // Returns the slots of the items that are not before the bound.
+    pub(super) fn walk_from<Q: Comparable<T::Key>>(
         &self,
         from: Bound<&Q>,
         steps: &mut Steps,
-    ) -> usize
+    ) -> Walk<'_>
         requires keyed { Ascends T.key T.Key.cmp self.now.items }
-        ensures start { StartsAt T.key Q.compare (bound_now from.entry) self.now.items result }
+        ensures start { WalksFrom T.key Q.compare (bound_now from.entry) self.now result }
         ensures steps { steps.new ≤ steps.old + 4 + 2 * digits (length self.now.items) }
         ensures never_resets { steps.old ≤ steps.new }
     {
         match from {
-            Bound::Included(query) => self.equal_range(query, steps).start,
-            Bound::Excluded(query) => self.equal_range(query, steps).end,
-            Bound::Unbounded => 0,
+            Bound::Included(query) => self.index.walk_from(&self.store, query, steps).1,
+            Bound::Excluded(query) => {
+                let (place, mut walk) = self.index.walk_from(&self.store, query, steps);
+                if place.is_ok() {
+                    walk.next();
+                }
+                walk
+            }
+            Bound::Unbounded => self.index.walk(),
         }
     }
 

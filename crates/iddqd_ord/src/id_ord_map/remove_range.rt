@@ -24,7 +24,7 @@ impl<T: IdOrdItem> IdOrdMap<T> {
     {
         let before = self.len();
         let mut steps = Steps::new();
-        let low = self.start_of(range.start_bound(), &mut steps);
+        let low = before - self.walk_from(range.start_bound(), &mut steps).len();
         let high = self.end_of(range.end_bound(), &mut steps);
         let mut end = high;
         while low < end {

@@ -1,11 +1,11 @@
 //! Lookups: what looks at the keys of items.
-ghost use Rattle.std.specs.Prelude.{◌≡◌, ◌+◌, ◌*◌, ◌<◌, ◌≤◌, length, IfSome, IfOk, Contains};
+ghost use Rattle.std.specs.Prelude.{◌≡◌, ◌+◌, ◌*◌, ◌<◌, ◌≤◌, drop, length, IfSome, IfOk, Contains};
 ghost use Rattle.iddqd_store.specs.Contents.{Ascends};
 ghost use Rattle.iddqd_ord_index.specs.Digits.{digits};
 ghost use Rattle.iddqd_ord_index.specs.Listed.{listed_items, AreOccupied};
-ghost use Rattle.iddqd_ord_index.specs.Search.{FindsNext, FindsPlace, FindsPlaced, FindsSlot, HasSlotAt, IsPlaceIn, place_of};
+ghost use Rattle.iddqd_ord_index.specs.Search.{FindsNext, FindsPlace, FindsPlaced, FindsSlot, HasSlotAt, IsPlaceIn, place_of, position_of};
 
-use super::{OrdIndex, Place};
+use super::{OrdIndex, Place, Walk};
 use iddqd_store::{Comparable, IdOrdItem, ItemStore, Steps};
 
 impl OrdIndex {
@@ -56,6 +56,39 @@ impl OrdIndex {
         match self.root.find(store, query, steps) {
             Ok((position, slot)) => Ok((Place { position }, slot)),
             Err(position) => Err(Place { position }),
+        }
+    }
+
+    /// Returns what `find` returns, and by as many comparisons; with it an iterator over the slots from that place on,
+    /// which goes on where the search ended.
+    pub fn walk_from<T: IdOrdItem, Q: Comparable<T::Key>>(
+        &self,
+        store: &ItemStore<T>,
+        query: &Q,
+        steps: &mut Steps,
+    ) -> (Result<Place, Place>, Walk<'_>)
+        requires occupied { AreOccupied store.now self.now.slots }
+        requires ascending { Ascends T.key T.Key.cmp (listed_items store.now self.now.slots) }
+
+        // what it finds
+        ensures place { FindsPlace T.key (Q.compare query.now) store.now self.now.slots result.0 }
+        ensures in_list { IsPlaceIn self.now.slots result.0 }
+        ensures slots { result.1 ≡ drop (position_of result.0) self.now.slots }
+        ensures fits { length result.1 ≤ u32.MAX }
+
+        // what it costs
+        ensures steps { steps.new ≤ steps.old + 4 + 2 * digits (length self.now.slots) }
+        ensures never_resets { steps.old ≤ steps.new }
+    {
+        match self.root.find_leaves(store, query, steps) {
+            (Ok(position), leaves) => {
+                let walk = Walk::with_leaves(&self.root, leaves, position, self.len);
+                (Ok(Place { position }), walk)
+            }
+            (Err(position), leaves) => {
+                let walk = Walk::with_leaves(&self.root, leaves, position, self.len);
+                (Err(Place { position }), walk)
+            }
         }
     }
 

@@ -40,12 +40,34 @@ impl<'a> Walk<'a> {
         requires in_list { to ≤ length root.now.slots }
         ensures { result ≡ drop from (take to root.now.slots) }
     {
+        Walk::with_leaves(root, LeafWalk::along(&[]), from, to)
+    }
+
+    // The same, where a search has gone down to the first of them.
+    pub(crate) fn with_leaves(root: &'a Node, leaves: LeafWalk<'a>, from: u32, to: u32) -> Self
+        requires forward { from ≤ to }
+        requires in_list { to ≤ length root.now.slots }
+        requires here { BeginsWith leaves (drop from root.now.slots) }
+        ensures { result ≡ drop from (take to root.now.slots) }
+    {
         Walk {
             root,
-            leaves: LeafWalk::along(&[]),
+            leaves,
             back: LeafWalkBack::along(&[]),
             next: from,
             end: to,
+        }
+    }
+
+    /// Keeps the first `len` slots of those that are left. It changes nothing if no more are left.
+    #[inline]
+    pub fn truncate(&mut self, len: usize)
+        ensures { self.new ≡ take len self.old }
+    {
+        let left = self.end - self.next;
+        if len < left as usize {
+            self.back = LeafWalkBack::along(&[]);
+            self.end = self.next + len as u32;
         }
     }
 }

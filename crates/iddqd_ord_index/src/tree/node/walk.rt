@@ -1,10 +1,15 @@
 //! A walk goes along the leaves below one node, and takes up that node's own slots between them.
-ghost use Rattle.std.specs.Prelude.{◌≡◌, ◌<◌, ◌≤◌, [], ◌∷◌, ◌++◌, drop, length, slice_index_or, IfNone, IfSome};
+ghost use Rattle.std.specs.Prelude.{◌≡◌, ◌+◌, ◌*◌, ◌^◌, ◌<◌, ◌≤◌, [], ◌∷◌, ◌++◌, drop, length, slice_index_or, IfNone, IfSome};
+ghost use Rattle.iddqd_ord_index.specs.Listed.{AreOccupied};
 ghost use Rattle.iddqd_ord_index.specs.Nodes.{subtrees, AreLeaves};
 ghost use Rattle.iddqd_ord_index.specs.Runs.{BeginsWith};
+ghost use Rattle.iddqd_ord_index.specs.Search.{position_of};
 ghost use Rattle.iddqd_ord_index.specs.Shape.{unused};
+ghost use Rattle.iddqd_ord_index.specs.Standing.{StandsAt, StandsMonotone};
 
 use super::Node;
+use crate::tree::search::search;
+use iddqd_store::{Comparable, IdOrdItem, ItemStore, Steps};
 use std::marker::Model;
 
 /// The slots that come next: the rest of a leaf, then what comes behind it below the node above. Contracts see the list.
@@ -117,5 +122,56 @@ impl Node {
         }
         let run = &node.slots.as_slice()[place as usize..];
         LeafWalk { run, slots, leaves }
+    }
+
+    // Where the query belongs, as `find` says, and the slots from there on, as far as `leaves_at` goes.
+    pub(crate) fn find_leaves<T: IdOrdItem, Q: Comparable<T::Key>>(
+        &self,
+        store: &ItemStore<T>,
+        query: &Q,
+        steps: &mut Steps,
+    ) -> (Result<u32, u32>, LeafWalk<'_>)
+        requires occupied { AreOccupied store.now self.now.slots }
+        requires monotone { StandsMonotone T.key (Q.compare query.now) store.now self.now.slots }
+        requires room { length self.now.slots < 2 ^ 32 }
+
+        // what it finds
+        ensures place { StandsAt T.key (Q.compare query.now) store.now self.now.slots result.0 }
+        ensures walk { BeginsWith result.1 (drop (position_of result.0) self.now.slots) }
+
+        // what it costs
+        ensures steps { steps.new ≤ steps.old + 4 * self.now.height }
+        ensures never_resets { steps.old ≤ steps.new }
+    {
+        let mut node = self;
+        let mut base = 0;
+        let mut slots: &[u32] = &[];
+        let mut leaves: &[Option<Node>] = &[];
+        'down: while !node.branches.is_empty() {
+            let own = node.slots.as_slice();
+            match search(own, store, query, steps) {
+                Ok(i) => {
+                    let position = base + node.branches.start(i + 1) - 1;
+                    return (Ok(position), LeafWalk::along(&own[i..i + 1]));
+                }
+                Err(i) => {
+                    base += node.branches.start(i);
+                    slots = &own[i..];
+                    leaves = node.branches.branches_after(i);
+                    node = node.branches.get(i);
+                }
+            }
+        }
+        let own = node.slots.as_slice();
+        match search(own, store, query, steps) {
+            Ok(i) => {
+                let run = &own[i..];
+                (Ok(base + i as u32), LeafWalk { run, slots, leaves })
+            }
+            Err(i) => {
+                let run = &own[i..];
+                (Err(base + i as u32), LeafWalk { run, slots, leaves })
+            }
+        }
     }
 }

@@ -1,26 +1,26 @@
-use Rattle.std.proofs.Common.{◌+◌, ◌-◌, Ok, Err, ℕ, length, take, get_or, subst, ap, sym, ◌∙◌, arith}
+use Rattle.std.proofs.Common.{◌+◌, ◌-◌, Ok, Err, ℕ, length, take, get_or, refl, subst, ap, sym, ◌∙◌, arith}
 use Rattle.std.specs.List.{All}
 use Rattle.iddqd_store.specs.Store.{IsOccupied}
 use Rattle.iddqd_ord_index.specs.Nodes.{below}
 use Rattle.iddqd_ord_index.specs.Shape.{lists, starts}
-use Rattle.iddqd_ord_index.specs.Standing.{slot_standing, IsPart, IsPlace, IsMonotone}
+use Rattle.iddqd_ord_index.specs.Standing.{slot_standing, IsPlace, IsMonotone}
 use Rattle.iddqd_ord_index.proofs.BranchAtLemmas.{inner_levels, leaf_levels}
 use Rattle.iddqd_ord_index.proofs.DescentLemmas.{inner, leaf, digits_four}
 use Rattle.iddqd_ord_index.proofs.tree.node.Node.get.Goals as goal
 
 pub search-requires-clause-occupied : goal.search-requires-clause-occupied
 search-requires-clause-occupied g c =
-    let n = inner (slot_standing g.T.IdOrdItem.key (g.Q.Comparable.compare c.args.query.now) c.args.store.now) (IsOccupied c.args.store.now) c.args.self.now.slots (below c.node.inside.branches) c.node.inside.slots.items c.down.invariant.part.0 c.down.node.now c.requires.monotone c.requires.occupied c.node.invariant.forked (c.is_empty.ensures.some c.down-test.true) c.node.view_is c.down.invariant.part.1 in
+    let n = inner (slot_standing g.T.IdOrdItem.key (g.Q.Comparable.compare c.args.query.now) c.args.store.now) (IsOccupied c.args.store.now) _ _ _ _ _ c.requires.monotone c.requires.occupied c.node.invariant.forked (c.is_empty.ensures.some c.down-test.true) c.node.view_is c.down.invariant.part.1 in
     subst (λ l. All (IsOccupied c.args.store.now) l) (sym c.as_slice.ensures.value) n.all
 
 pub search-requires-clause-monotone : goal.search-requires-clause-monotone
 search-requires-clause-monotone g c =
-    let n = inner (slot_standing g.T.IdOrdItem.key (g.Q.Comparable.compare c.args.query.now) c.args.store.now) (IsOccupied c.args.store.now) c.args.self.now.slots (below c.node.inside.branches) c.node.inside.slots.items c.down.invariant.part.0 c.down.node.now c.requires.monotone c.requires.occupied c.node.invariant.forked (c.is_empty.ensures.some c.down-test.true) c.node.view_is c.down.invariant.part.1 in
+    let n = inner (slot_standing g.T.IdOrdItem.key (g.Q.Comparable.compare c.args.query.now) c.args.store.now) (IsOccupied c.args.store.now) _ _ _ _ _ c.requires.monotone c.requires.occupied c.node.invariant.forked (c.is_empty.ensures.some c.down-test.true) c.node.view_is c.down.invariant.part.1 in
     subst (λ l. IsMonotone (slot_standing g.T.IdOrdItem.key (g.Q.Comparable.compare c.args.query.now) c.args.store.now) l) (sym c.as_slice.ensures.value) n.monotone
 
 pub returns-in-Ok-clause-found : goal.returns-in-Ok-clause-found
 returns-in-Ok-clause-found g c =
-    let n = inner (slot_standing g.T.IdOrdItem.key (g.Q.Comparable.compare c.args.query.now) c.args.store.now) (IsOccupied c.args.store.now) c.args.self.now.slots (below c.node.inside.branches) c.node.inside.slots.items c.down.invariant.part.0 c.down.node.now c.requires.monotone c.requires.occupied c.node.invariant.forked (c.is_empty.ensures.some c.down-test.true) c.node.view_is c.down.invariant.part.1 in
+    let n = inner (slot_standing g.T.IdOrdItem.key (g.Q.Comparable.compare c.args.query.now) c.args.store.now) (IsOccupied c.args.store.now) _ _ _ _ _ c.requires.monotone c.requires.occupied c.node.invariant.forked (c.is_empty.ensures.some c.down-test.true) c.node.view_is c.down.invariant.part.1 in
     let s : IsPlace (slot_standing g.T.IdOrdItem.key (g.Q.Comparable.compare c.args.query.now) c.args.store.now) c.node.inside.slots.items (Ok c.in-Ok.i) = subst (λ l. IsPlace (slot_standing g.T.IdOrdItem.key (g.Q.Comparable.compare c.args.query.now) c.args.store.now) l (Ok c.in-Ok.i)) c.as_slice.ensures.value c.in-Ok.ensures.place in
     let p : ℕ = c.down.invariant.part.0 + starts (take (c.in-Ok.i + 1) (lists (below c.node.inside.branches))) - 1 in
     let o = n.own c.in-Ok.i p s.0 s.1 (omega (arith, n.own_some c.in-Ok.i s.0)) in
@@ -32,28 +32,28 @@ returns-in-Ok-clause-steps g c =
 
 pub down-preserved : goal.down-preserved
 down-preserved g c =
-    let n = inner (slot_standing g.T.IdOrdItem.key (g.Q.Comparable.compare c.args.query.now) c.args.store.now) (IsOccupied c.args.store.now) c.args.self.now.slots (below c.node.inside.branches) c.node.inside.slots.items c.down.invariant.part.0 c.down.node.now c.requires.monotone c.requires.occupied c.node.invariant.forked (c.is_empty.ensures.some c.down-test.true) c.node.view_is c.down.invariant.part.1 in
+    let n = inner (slot_standing g.T.IdOrdItem.key (g.Q.Comparable.compare c.args.query.now) c.args.store.now) (IsOccupied c.args.store.now) _ _ _ _ _ c.requires.monotone c.requires.occupied c.node.invariant.forked (c.is_empty.ensures.some c.down-test.true) c.node.view_is c.down.invariant.part.1 in
     let s : IsPlace (slot_standing g.T.IdOrdItem.key (g.Q.Comparable.compare c.args.query.now) c.args.store.now) c.node.inside.slots.items (Err c.in-Err.i) = subst (λ l. IsPlace (slot_standing g.T.IdOrdItem.key (g.Q.Comparable.compare c.args.query.now) c.args.store.now) l (Err c.in-Err.i)) c.as_slice.ensures.value c.in-Err.ensures.place in
     let b = n.branch c.in-Err.i s.0 in
     record {
-      part = (c.down.invariant.part.0 + starts (take c.in-Err.i (lists (below c.node.inside.branches))), subst (λ t. IsPart (slot_standing g.T.IdOrdItem.key (g.Q.Comparable.compare c.args.query.now) c.args.store.now) c.args.self.now.slots t.slots (c.down.invariant.part.0 + starts (take c.in-Err.i (lists (below c.node.inside.branches))))) (sym c.get-node.ensures) (n.down c.in-Err.i s));
+      part = (c.down.invariant.part.0 + starts (take c.in-Err.i (lists (below c.node.inside.branches))), n.down c.in-Err.i _ c.get-node.result.now s refl c.get-node.ensures);
       counted = omega (arith, digits_four (length c.as_slice.result.now) c.as_slice.ensures.fits, c.down.invariant.counted, c.in-Err.ensures.steps, b.1.height, ap (λ t. t.height) c.get-node.ensures, ap (λ t. t.height) c.node.view_is);
       never_resets = omega (arith, c.down.invariant.never_resets, c.in-Err.ensures.never_resets);
     }
 
 pub search-requires-2-clause-occupied : goal.search-requires-2-clause-occupied
 search-requires-2-clause-occupied g c =
-    let n = leaf (slot_standing g.T.IdOrdItem.key (g.Q.Comparable.compare c.args.query.now) c.args.store.now) (IsOccupied c.args.store.now) c.args.self.now.slots (below c.node.inside.branches) c.node.inside.slots.items c.down.invariant.part.0 c.down.node.now c.requires.monotone c.requires.occupied (c.is_empty.ensures.none c.down-test.false) c.node.view_is c.down.invariant.part.1 in
+    let n = leaf (slot_standing g.T.IdOrdItem.key (g.Q.Comparable.compare c.args.query.now) c.args.store.now) (IsOccupied c.args.store.now) _ _ _ _ _ c.requires.monotone c.requires.occupied (c.is_empty.ensures.none c.down-test.false) c.node.view_is c.down.invariant.part.1 in
     subst (λ l. All (IsOccupied c.args.store.now) l) (sym c.as_slice-2.ensures.value) n.all
 
 pub search-requires-2-clause-monotone : goal.search-requires-2-clause-monotone
 search-requires-2-clause-monotone g c =
-    let n = leaf (slot_standing g.T.IdOrdItem.key (g.Q.Comparable.compare c.args.query.now) c.args.store.now) (IsOccupied c.args.store.now) c.args.self.now.slots (below c.node.inside.branches) c.node.inside.slots.items c.down.invariant.part.0 c.down.node.now c.requires.monotone c.requires.occupied (c.is_empty.ensures.none c.down-test.false) c.node.view_is c.down.invariant.part.1 in
+    let n = leaf (slot_standing g.T.IdOrdItem.key (g.Q.Comparable.compare c.args.query.now) c.args.store.now) (IsOccupied c.args.store.now) _ _ _ _ _ c.requires.monotone c.requires.occupied (c.is_empty.ensures.none c.down-test.false) c.node.view_is c.down.invariant.part.1 in
     subst (λ l. IsMonotone (slot_standing g.T.IdOrdItem.key (g.Q.Comparable.compare c.args.query.now) c.args.store.now) l) (sym c.as_slice-2.ensures.value) n.monotone
 
 pub returns-in-Ok-search-clause-found : goal.returns-in-Ok-search-clause-found
 returns-in-Ok-search-clause-found g c =
-    let n = leaf (slot_standing g.T.IdOrdItem.key (g.Q.Comparable.compare c.args.query.now) c.args.store.now) (IsOccupied c.args.store.now) c.args.self.now.slots (below c.node.inside.branches) c.node.inside.slots.items c.down.invariant.part.0 c.down.node.now c.requires.monotone c.requires.occupied (c.is_empty.ensures.none c.down-test.false) c.node.view_is c.down.invariant.part.1 in
+    let n = leaf (slot_standing g.T.IdOrdItem.key (g.Q.Comparable.compare c.args.query.now) c.args.store.now) (IsOccupied c.args.store.now) _ _ _ _ _ c.requires.monotone c.requires.occupied (c.is_empty.ensures.none c.down-test.false) c.node.view_is c.down.invariant.part.1 in
     let s : IsPlace (slot_standing g.T.IdOrdItem.key (g.Q.Comparable.compare c.args.query.now) c.args.store.now) c.node.inside.slots.items (Ok c.in-Ok-search.i) = subst (λ l. IsPlace (slot_standing g.T.IdOrdItem.key (g.Q.Comparable.compare c.args.query.now) c.args.store.now) l (Ok c.in-Ok-search.i)) c.as_slice-2.ensures.value c.in-Ok-search.ensures.place in
     let o = n.found c.in-Ok-search.i s in
     (c.down.invariant.part.0 + c.in-Ok-search.i, ap (λ l. get_or l c.in-Ok-search.i 0) c.as_slice-in-Ok-search.ensures.value ∙ sym (n.same c.in-Ok-search.i s.0), o)
@@ -64,7 +64,7 @@ returns-in-Ok-search-clause-steps g c =
 
 pub returns-in-Err-search-clause-found : goal.returns-in-Err-search-clause-found
 returns-in-Err-search-clause-found g c =
-    let n = leaf (slot_standing g.T.IdOrdItem.key (g.Q.Comparable.compare c.args.query.now) c.args.store.now) (IsOccupied c.args.store.now) c.args.self.now.slots (below c.node.inside.branches) c.node.inside.slots.items c.down.invariant.part.0 c.down.node.now c.requires.monotone c.requires.occupied (c.is_empty.ensures.none c.down-test.false) c.node.view_is c.down.invariant.part.1 in
+    let n = leaf (slot_standing g.T.IdOrdItem.key (g.Q.Comparable.compare c.args.query.now) c.args.store.now) (IsOccupied c.args.store.now) _ _ _ _ _ c.requires.monotone c.requires.occupied (c.is_empty.ensures.none c.down-test.false) c.node.view_is c.down.invariant.part.1 in
     let s : IsPlace (slot_standing g.T.IdOrdItem.key (g.Q.Comparable.compare c.args.query.now) c.args.store.now) c.node.inside.slots.items (Err c.in-Err-search.field-0) = subst (λ l. IsPlace (slot_standing g.T.IdOrdItem.key (g.Q.Comparable.compare c.args.query.now) c.args.store.now) l (Err c.in-Err-search.field-0)) c.as_slice-2.ensures.value c.in-Err-search.ensures.place in
     (c.down.invariant.part.0 + c.in-Err-search.field-0, n.missed c.in-Err-search.field-0 s)
 
