@@ -1,28 +1,33 @@
 -- Where bounds lie among items that ascend, and what stands between two positions.
 --     at_there, above_there, nowhere      where the items begin that are not less than a query, or greater
+--     from_place, behind_place, absent_place      the same by the place that a search returns
+--     walk_begins      the position that a walk from a bound on begins at
 --     split_start, ends_all      where the items begin that an unbounded start lets through, and end that an unbounded end does
 --     ends_where      where those end that another test does not let through
 --     between_places      the elements that pass from one position on and up to another stand between them
 --     places_out, front_less      what is left if the items between two positions are taken out from the back
 --     first_passing, last_before, last_none      the first item that passes, and the last
 --     rank_is      how many items are less than a query
---     part_up_to, part_within, take_to, length-part, sum-part      what stands between two positions, its length and its sum
-use Rattle.std.proofs.Common.{◌≡◌, ℕ, zero, suc, ◌+◌, ◌-◌, ◌<◌, ◌≤◌, ⊎_elim, Bool, true, false, not, ◌&&◌, List, [], ◌∷◌, ◌++◌, length, map, take, drop, get_or, filter, sum_by, count_by, max, min, Some, None, refl, sym, ap, ◌∙◌, subst, arith, Ordering, Less, Equal, Greater, below_more, suc-le-suc, length-drop, length-take, take-append-drop, ◌⊎◌, inl, inr}
+--     part_up_to, part_cut, part_within, take_to, length-part, sum-part      what stands between two positions, its length and its sum
+use Rattle.std.proofs.Common.{◌≡◌, ℕ, zero, suc, ◌+◌, ◌-◌, ◌<◌, ◌≤◌, ⊎_elim, Bool, true, false, not, ◌&&◌, List, [], ◌∷◌, ◌++◌, length, map, take, drop, get_or, filter, sum_by, count_by, max, min, Some, None, Result, Ok, Err, is_ok, refl, sym, ap, ◌∙◌, subst, arith, Ordering, Less, Equal, Greater, below_more, true≢false, suc-le-suc, length-drop, length-take, take-append-drop, ◌⊎◌, inl, inr}
 use Rattle.std.proofs.Math.Nat.{eq-or-lt_of_le}
 use Rattle.std.proofs.lemmas.Bool.{cases_lt}
-use Rattle.std.proofs.lemmas.List.{get_or-map, length-map, drop_all, drop_min, take_all, take_more, take_min, get_or-take, length-take-le}
+use Rattle.std.proofs.lemmas.List.{get_or-map, length-map, drop-take, drop_all, drop_min, take_all, take_more, take_min, get_or-take, length-take-le}
 use Rattle.std.proofs.lemmas.List.Sums.{sum_by-take-drop, sum_by-take-le, length-filter}
 use Rattle.std.proofs.lemmas.List.Edits.{remove-append_left}
 use Rattle.std.proofs.lemmas.Option.{slice_get-get_or}
 use Rattle.std.specs.List.{AllWithin, HoldsAt, remove, slice_get}
 use Rattle.std.specs.Ordering.{is_lt, is_le, is_ge, is_gt}
 use Rattle.iddqd_store.specs.Contents.{Ascends, find_item}
+use Rattle.iddqd_store.specs.Holding.{Holding}
+use Rattle.iddqd_store.specs.SlotItems.{HaveSlots}
+use Rattle.iddqd_ord_index.specs.Search.{IsPlaceAmong, position_of}
 use Rattle.iddqd_store.proofs.QueryLemmas.{OrderedQuery}
 use Rattle.iddqd_store.proofs.SearchLemmas.{greater_in_front, less_at_back, find_from}
 use Rattle.std.specs.Bound.{end_index}
 use Rattle.std.specs.declared.ops.Bound.{Bound}
 use Rattle.std.specs.declared.ops.Bound.TheVariants.{Included, Excluded, Unbounded}
-use Rattle.iddqd_ord.specs.Ranges.{EndsAt, SplitsAt, items_to}
+use Rattle.iddqd_ord.specs.Ranges.{EndsAt, SplitsAt, WalksFrom, items_to}
 
 module _ {T K : Type 0} (key : T → K) (items : List T) where
   -- from the keys to the items
@@ -52,6 +57,23 @@ module _ {T K : Type 0} (key : T → K) (items : List T) where
     above_there = of_keys (λ k. is_lt (compare k)) (i + 1) (omega arith)
         (λ k d a b. below_more (λ j. is_lt (compare (get_or (map key items) j d)) ≡ false) i (λ j lt. ap is_lt (greater_in_front q.total compare (map key items) sorted q.below i h (λ e. ap is_ge (at e)) j d (omega arith) lt)) (ap is_lt (at d)) k b)
         (λ k d a b. ap is_lt (less_at_back q.total compare (map key items) sorted q.above i (λ e. ap is_le (at e)) k d a b))
+
+  module _ {eq : K → K → Bool} {cmp : K → K → Ordering} {test : K → Bool} {compare : K → Ordering} (q : OrderedQuery eq cmp test compare) (sorted : Ascends key cmp items) where
+    pub from_place : (place : Result ℕ ℕ) → IsPlaceAmong compare (map key items) place → SplitsAt (λ x. is_le (compare (key x))) items (position_of place)
+    from_place (Ok i) p = at_there q sorted i p.0 p.1
+    from_place (Err i) p = nowhere compare is_le refl refl i p.0 p.1 p.2
+
+    pub behind_place : (place : Result ℕ ℕ) → IsPlaceAmong compare (map key items) place → is_ok place ≡ true → SplitsAt (λ x. is_lt (compare (key x))) items (position_of place + 1)
+    behind_place (Ok i) p ok = above_there q sorted i p.0 p.1
+    behind_place (Err i) p ok = absurd (true≢false (sym ok))
+
+    pub absent_place : (place : Result ℕ ℕ) → IsPlaceAmong compare (map key items) place → is_ok place ≡ false → SplitsAt (λ x. is_lt (compare (key x))) items (position_of place)
+    absent_place (Ok i) p ok = absurd (true≢false ok)
+    absent_place (Err i) p ok = nowhere compare is_lt refl refl i p.0 p.1 p.2
+
+-- a walk from a bound on has as many slots as there are items from its first position on
+pub walk_begins : {T Q K : Type 0} (key : T → K) (compare : Q → K → Ordering) (bound : Bound Q) (map : Holding T) (walk : List ℕ) (len : ℕ) → HaveSlots map.slots map.items → len ≡ length map.items → (w : WalksFrom key compare bound map walk) → len - length walk ≡ w.0
+walk_begins key compare bound map walk len own e w = omega (arith, e, own.as_many, w.1.within, ap length w.2, length-drop w.0 map.slots)
 
 module _ {X : Type 0} where
   pub split_start : (xs : List X) → SplitsAt (λ _. true) xs 0
@@ -173,6 +195,10 @@ module _ {X : Type 0} where
       let long = length-take-le high xs (omega (arith, h)) in
       ap (λ n. drop n (take high xs)) (l ∙ ap (λ n. min start n) (sym long))
       ∙ (drop_min start (take high xs) ∙ ap (λ ys. drop start ys) (ap (λ n. take n xs) h ∙ take_min end xs))
+
+  -- a list from one position on, cut to as many elements as there are up to another
+  pub part_cut : (xs : List X) (low high len : ℕ) → len ≡ high - low → take len (drop low xs) ≡ drop low (take high xs)
+  part_cut xs low high len e = sym (drop-take low len xs) ∙ part_up_to xs low high (low + len) (omega (arith, e))
 
   pub take_to : (xs : List X) (end : Bound ℕ) → take (end_index end (length xs)) xs ≡ items_to end xs
   take_to xs (Included n) = refl

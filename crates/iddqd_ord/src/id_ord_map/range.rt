@@ -1,6 +1,7 @@
 //! The items between two bounds, which are queries.
 ghost use Rattle.std.specs.Prelude.{◌≡◌, ◌+◌, ◌*◌, ◌≤◌, length};
 ghost use Rattle.iddqd_store.specs.Contents.{Ascends, Finds};
+ghost use Rattle.iddqd_store.specs.SlotItems.{HaveSlots};
 ghost use Rattle.iddqd_ord_index.specs.Digits.{digits};
 ghost use Rattle.iddqd_ord.specs.Ranges.{FindsLast, FindsRange, StartsAt, StopsAt, WalksFrom, WalksPart, bound_now, is_from, is_up_to};
 
@@ -77,6 +78,8 @@ impl<T: IdOrdItem> IdOrdMap<T> {
     ) -> Walk<'_>
         requires keyed { Ascends T.key T.Key.cmp self.now.items }
         ensures start { WalksFrom T.key Q.compare (bound_now from.entry) self.now result }
+        ensures fits { length result ≤ u32.MAX }
+        ensures own { HaveSlots self.now.slots self.now.items }
         ensures steps { steps.new ≤ steps.old + 4 + 2 * digits (length self.now.items) }
         ensures never_resets { steps.old ≤ steps.new }
     {

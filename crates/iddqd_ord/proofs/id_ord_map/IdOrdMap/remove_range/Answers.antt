@@ -5,7 +5,7 @@ use Rattle.std.proofs.lemmas.List.Edits.{length-remove}
 use Rattle.std.specs.List.{remove}
 use Rattle.iddqd_store.specs.Contents.{items_without}
 use Rattle.iddqd_ord.specs.Ranges.{bound_now, is_between, is_from, is_up_to}
-use Rattle.iddqd_ord.proofs.RangeLemmas.{front_less, places_out}
+use Rattle.iddqd_ord.proofs.RangeLemmas.{front_less, places_out, walk_begins}
 use Rattle.iddqd_ord.proofs.id_ord_map.IdOrdMap.remove_range.Goals as goal
 
 pub loop-end-preserved : goal.loop-end-preserved
@@ -33,14 +33,16 @@ pub returns-clause-items : goal.returns-clause-items
 returns-clause-items g c has =
     let key = g.T.IdOrdItem.key in
     let compare = g.Q.Comparable.compare in
-    let old = c.args.self.now.items in
+    let map = c.args.self.now in
+    let old = map.items in
     let l = c.loop-end in
-    let low = c.start_of-low.result in
     let high = c.end_of-high.result in
     let first = bound_now c.start_bound.result in
     let last = bound_now c.end_bound.result in
-    let ends : (l.end ≡ low) ⊎ (l.end ≡ high) = ⊎_elim (λ e. inr e) (λ le. inl (omega (arith, le, c.loop-end-test.false))) l.invariant.place in
-    places_out (λ x. is_from compare first (key x)) (λ x. is_up_to compare last (key x)) old l.self.items low high l.end c.start_of-low.ensures.start c.end_of-high.ensures.end l.invariant.items c.loop-end-test.false ends l.invariant.within
+    let from = c.walk_from.ensures.start in
+    let low : c.len-before.result - c.len.result ≡ from.0 = omega (arith, c.len.ensures.value, walk_begins key compare first map c.walk_from.result c.len-before.result c.walk_from.ensures.own c.len-before.ensures.len from) in
+    let ends : (l.end ≡ from.0) ⊎ (l.end ≡ high) = ⊎_elim (λ e. inr e) (λ le. inl (omega (arith, le, low, c.loop-end-test.false))) l.invariant.place in
+    places_out (λ x. is_from compare first (key x)) (λ x. is_up_to compare last (key x)) old l.self.items from.0 high l.end from.1 c.end_of-high.ensures.end l.invariant.items (omega (arith, low, c.loop-end-test.false)) ends l.invariant.within
     ∙ (ap (λ b. items_without key (is_between compare b last) old) (c.start_bound.ensures has)
     ∙ ap (λ b. items_without key (is_between compare (g.R.RangeBounds.start_bound c.args.range) b) old) (c.end_bound.ensures has))
 
