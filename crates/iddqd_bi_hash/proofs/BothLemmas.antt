@@ -2,7 +2,6 @@
 -- each, v is what the map of this store, these indexes and this hasher shows.
 --     fits, held      the room and the items fit the limit and the memory
 --     differ1, differ2, hashed1, hashed2      what a search by either key asks
---     finds_slot      what it finds
 --     stored1, stored2      the hashes that are stored for a slot's item
 --     written_akin, written_same      a write under equal keys, or the same, leaves the map keyed
 --     read1, read2      ... and either key finds what was written
@@ -10,23 +9,20 @@
 --     unchanged, kept, inserted, inserted_after      what an insertion leaves, refused or not
 --     taken_stays      what a removal leaves
 --     stays_on      what stays in two calls, one after the other
-use Rattle.std.proofs.Common.{◌≡◌, ℕ, ◌+◌, ◌-◌, ◌<◌, ◌≤◌, min, Bool, true, [], length, Option, Some, None, IfSome, is_some, refl, sym, ap, ◌∙◌, arith, subst}
+use Rattle.std.proofs.Common.{◌≡◌, ℕ, ◌+◌, ◌-◌, ◌<◌, ◌≤◌, min, Bool, true, [], length, Some, None, refl, sym, ap, ◌∙◌, arith, subst}
 use Rattle.std.specs.Cmp.{IsEquivalence}
 use Rattle.std.specs.Hash.{HashWrites}
-use Rattle.std.specs.List.{Contains}
 use Rattle.iddqd_store.specs.Contents.{AddsItem, IsAbsent, NoTwoAkin, find_item}
 use Rattle.iddqd_store.specs.SlotItems.{item_of_slot, written_to_slot}
 use Rattle.iddqd_store.specs.Store.{Store, item_at, store_len, vacant, Updates}
 use Rattle.iddqd_store.proofs.WrittenLemmas.{told_of_slot}
 use Rattle.iddqd_hash_index.specs.HashPairs.{HashPairs, HasOneMore}
-use Rattle.iddqd_hash_parts.specs.StoreAndIndex.{AreHashed, GrowsRoom, IsSlotFound, KeepsBounds, PairsOccupied, items_in, map_of}
-use Rattle.iddqd_hash_parts.proofs.GetMutLemmas.{item_in_slot, keyed_akin_written, keyed_written}
-use Rattle.iddqd_hash_parts.proofs.InSlotLemmas.{told_listed}
+use Rattle.iddqd_hash_parts.specs.StoreAndIndex.{AreHashed, GrowsRoom, KeepsBounds, items_in}
+use Rattle.iddqd_hash_parts.proofs.GetMutLemmas.{keyed_akin_written, keyed_written}
 use Rattle.iddqd_hash_parts.proofs.MapLemmas.{emptied_keyed, emptied_spare, listed_under_query, map_inserted, map_kept, same_spare, spare_fits, spare_held, taken_keyed, taken_spare}
 use Rattle.iddqd_hash_parts.proofs.SlotItemLemmas.{length-items}
-use Rattle.iddqd_hash_parts.proofs.StoreAndIndexLemmas.{listed_occupied}
 use Rattle.iddqd_bi_hash.specs.BiHashItems.{BiHashItems, IsKeyedByBoth, KeyedByBoth, by_key1, by_key2}
-use Rattle.iddqd_bi_hash.specs.BiHashMap.{BiInserts, BiKeeps, BiStays, FindsSlot, KeepsSpare, SpareFits}
+use Rattle.iddqd_bi_hash.specs.BiHashMap.{BiInserts, BiKeeps, BiStays, KeepsSpare, SpareFits}
 use Rattle.iddqd_bi_hash.specs.StoreAndIndexes.{ArePaired, beside, bi_map_of}
 use Rattle.iddqd_bi_hash.proofs.TakenLemmas.{written_read}
 
@@ -39,15 +35,6 @@ module _ {S T : Type 0} (hasher : S) (store : Store T) (i j : HashPairs) (paired
 
   pub keeps_spare : KeepsSpare v v
   keeps_spare = subst (λ w. KeepsSpare w w) is (same_spare hasher store (beside i.pairs i j) paired.one)
-
--- what a search of one index says of the map
-pub finds_slot : {S T K : Type 0} (key : T → K) (test : K → Bool) (hasher : S) (store : Store T) (index : HashPairs) → PairsOccupied store index.pairs → (h : ℕ) (found : Option ℕ) → IsSlotFound key test store found → IfSome found (λ slot. Contains index.pairs (h, slot)) → FindsSlot key test (map_of store index hasher) h found
-finds_slot key test hasher store index paired h None item listed = record { item = item; there = tt; listed = tt }
-finds_slot key test hasher store index paired h (Some slot) item listed = record {
-  item = item_in_slot store.slots slot ∙ item;
-  there = ap is_some (item_in_slot store.slots slot) ∙ listed_occupied store index.pairs paired h slot listed;
-  listed = told_listed store index.pairs paired h slot listed;
-}
 
 module _ {S T K L : Type 0} (key1 : T → K) (key2 : T → L) (eq1 : K → K → Bool) (eq2 : L → L → Bool) (input1 : K → HashWrites) (input2 : L → HashWrites) (hash : S → HashWrites → ℕ) where
   pub emptied : (hasher : S) (store : Store T) (i j : HashPairs) → store.slots ≡ [] → IsKeyedByBoth key1 key2 eq1 eq2 input1 input2 hash (bi_map_of store i j hasher)

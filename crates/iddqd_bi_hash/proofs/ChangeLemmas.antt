@@ -7,7 +7,7 @@
 --     find_unmet      after `insert_overwrite`, an item that shares neither key with the new one
 --     others_at_slot, read_at_slot      after a write to a slot, what is found beside its item, and that item
 --     both_keys_kept      a write under the same keys leaves the map keyed
-use Rattle.std.proofs.Common.{◌≡◌, ℕ, Bool, true, false, not, nat_eq, List, Option, Some, find, refl, sym}
+use Rattle.std.proofs.Common.{◌≡◌, ℕ, Bool, true, false, not, nat_eq, List, Some, find, refl, sym}
 use Rattle.std.proofs.lemmas.Bool.{eq-eqb}
 use Rattle.iddqd_store.specs.Contents.{AddsItem}
 use Rattle.iddqd_bi_hash.specs.TwoKeys.{has_one_of_keys, items_unmet}

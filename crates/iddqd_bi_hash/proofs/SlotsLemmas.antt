@@ -4,10 +4,9 @@
 --     both_found_same      both searches found one slot, where one item passes both tests
 --     none_same      they are none
 --     apart_slots, pair_apart, pair_few, pair_occupied, pair_each      two slots, or one if they are the same
---     seen_found, seen_only      what a search says of the items that a map shows
 --     one_fewer, took_one, took_two, still_occupied      what a map shows once the items of one or two slots were removed
 --     some_values      a `Few` has a value
-use Rattle.std.proofs.Common.{◌≡◌, ℕ, ◌+◌, ◌≤◌, ◌==◌, ◌↔◌, Bool, true, false, cond, not, List, [], ◌∷◌, ◌++◌, length, nat_eq, filter, find, Option, Some, None, IsSome, IsSomeAnd, is_some, refl, sym, ap, ◌∙◌, arith, subst, ⊎_elim, true≢false}
+use Rattle.std.proofs.Common.{◌≡◌, ℕ, ◌+◌, ◌≤◌, ◌==◌, ◌↔◌, Bool, true, false, cond, not, List, [], ◌∷◌, ◌++◌, length, nat_eq, filter, find, Option, Some, None, IfSome, IsSome, IsSomeAnd, is_some, refl, sym, ap, ◌∙◌, arith, subst, ⊎_elim, true≢false}
 use Rattle.std.proofs.lemmas.Bool.{cases_eq, eq-eqb, eqb-true, ne_eqb}
 use Rattle.std.proofs.lemmas.List.Edits.{length-remove}
 use Rattle.std.proofs.lemmas.Option.{slice_get_within}
@@ -17,19 +16,14 @@ use Rattle.std.specs.Option.{option_and_then}
 use Rattle.iddqd_store.specs.Contents.{IsKeyTest, NoTwoAkin, find_item, items_without}
 use Rattle.iddqd_store.specs.Errors.{values_of}
 use Rattle.iddqd_store.specs.SlotItems.{item_of_slot, without_slot}
-use Rattle.iddqd_store.specs.Store.{Store, item_at}
 use Rattle.iddqd_store.specs.declared.errors.Few.{Few}
 use Rattle.iddqd_store.specs.declared.errors.Few.TheVariants.{One, Two, Three}
 use Rattle.iddqd_store.proofs.KeepsLemmas.{differ_filter}
 use Rattle.iddqd_store.proofs.WrittenLemmas.{others_found, slot_place}
-use Rattle.iddqd_hash_index.specs.HashPairs.{HashPairs}
-use Rattle.iddqd_hash_parts.specs.StoreAndIndex.{IsOnlySlot, IsSlotFound}
 use Rattle.iddqd_hash_parts.proofs.FoundLemmas.{without_absent}
 use Rattle.iddqd_bi_hash.specs.BiHashItems.{BiHashItems}
 use Rattle.iddqd_bi_hash.specs.BiHashMap.{LosesPlaceOf}
-use Rattle.iddqd_bi_hash.specs.StoreAndIndexes.{bi_map_of}
 use Rattle.iddqd_bi_hash.specs.TwoKeys.{as_list, find_by_both, found_same, items_found, items_left, other_slot, slots_of_pair, without_slots}
-use Rattle.iddqd_bi_hash.proofs.MetLemmas.{item_by_slot}
 use Rattle.iddqd_bi_hash.proofs.UniqueLemmas.{both_found}
 
 -- a search among the items that pass is one by both tests
@@ -117,30 +111,11 @@ some_values (One a) = omega arith
 some_values (Two a b) = omega arith
 some_values (Three a b c) = omega arith
 
-occupied_once : (P : ℕ → Type 0) (one other : Option ℕ) → ((s : ℕ) → one ≡ Some s → P s) → ((s : ℕ) → other ≡ Some s → P s) → AllByRecursion P (as_list one ++ as_list (other_slot one other))
-occupied_once P None None at1 at2 = tt
-occupied_once P None (Some t) at1 at2 = (at2 t refl, tt)
-occupied_once P (Some s) None at1 at2 = (at1 s refl, tt)
-occupied_once P (Some s) (Some t) at1 at2 = elim (s == t) as (λ b. AllByRecursion P (s ∷ as_list (cond b None (Some t)))) [ true ↦ (at1 s refl, tt) | false ↦ (at1 s refl, (at2 t refl, tt)) ]
-
-module _ {S T : Type 0} (hasher : S) (store : Store T) (i j : HashPairs) (v : BiHashItems S T) (is : bi_map_of store i j hasher ≡ v) (one other : Option ℕ) (slots : List ℕ) (told : slots ≡ as_list one ++ as_list (other_slot one other)) where
-  pub found_there : {K L : Type 0} (key1 : T → K) (test1 : K → Bool) → IsOnlySlot key1 test1 store one → (key2 : T → L) (test2 : L → Bool) → IsOnlySlot key2 test2 store other → AllByRecursion (λ slot. IsSome (item_of_slot v.slots v.items slot)) slots
-  found_there key1 test1 only1 key2 test2 only2 =
-      subst (λ w. AllByRecursion (λ slot. IsSome (item_of_slot w.slots w.items slot)) slots) is
-      (subst (λ (f : ℕ → Option T). AllByRecursion (λ slot. IsSome (f slot)) slots) (sym (item_by_slot store))
-      (subst (AllByRecursion (λ slot. IsSome (item_at store slot))) (sym told)
-      (occupied_once (λ slot. IsSome (item_at store slot)) one other (λ s e. some_of_and (λ x. test1 (key1 x) ≡ true) (item_at store s) ((only1 s).0 e)) (λ s e. some_of_and (λ x. test2 (key2 x) ≡ true) (item_at store s) ((only2 s).0 e)))))
-
-module _ {S T : Type 0} (hasher : S) (store : Store T) (i j : HashPairs) (v : BiHashItems S T) (is : bi_map_of store i j hasher ≡ v) where
-  seen : (λ (slot : ℕ). item_of_slot v.slots v.items slot) ≡ item_at store
-  seen = subst (λ w. (λ (slot : ℕ). item_of_slot w.slots w.items slot) ≡ item_at store) is (item_by_slot store)
-
-  module _ {K : Type 0} (key : T → K) (test : K → Bool) (found : Option ℕ) where
-    pub seen_found : IsSlotFound key test store found → option_and_then (item_of_slot v.slots v.items) found ≡ find_item key test v.items
-    seen_found finds = ap (λ (f : ℕ → Option T). option_and_then f found) seen ∙ finds ∙ ap (λ w. find_item key test w.items) is
-
-    pub seen_only : IsOnlySlot key test store found → (slot : ℕ) → (found ≡ Some slot) ↔ IsSomeAnd (item_of_slot v.slots v.items slot) (λ y. test (key y) ≡ true)
-    seen_only only slot = subst (λ (f : ℕ → Option T). (found ≡ Some slot) ↔ IsSomeAnd (f slot) (λ y. test (key y) ≡ true)) (sym seen) (only slot)
+pub found_there : (P : ℕ → Type 0) (one other : Option ℕ) → IfSome one P → IfSome other P → AllByRecursion P (as_list one ++ as_list (other_slot one other))
+found_there P None None at1 at2 = tt
+found_there P None (Some t) at1 at2 = (at2, tt)
+found_there P (Some s) None at1 at2 = (at1, tt)
+found_there P (Some s) (Some t) at1 at2 = elim (s == t) as (λ b. AllByRecursion P (s ∷ as_list (cond b None (Some t)))) [ true ↦ (at1, tt) | false ↦ (at1, (at2, tt)) ]
 
 pub none_same : (a b : Option ℕ) → [] ≡ as_list a ++ as_list (other_slot a b) → false ≡ found_same a b
 none_same None b none = refl

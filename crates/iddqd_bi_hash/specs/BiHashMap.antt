@@ -11,8 +11,7 @@
 --     IsInsertedAt, LosesPlaceOf      an inserted item has this slot; a slot is gone
 --     LeavesVacant      these items' slots are vacant
 -- Searches, insertions and refusals:
---     HasHash      each key that a query stands for has this hash
---     FindsSlot, FindsSlotByBoth      the slot of the item that a query finds by one key, or two by both
+--     FindsSlotByBoth      the slot of the item that two queries find by both keys
 --     IsOccupied, AreOccupied      a slot has an item, and each of several has
 --     AreItemsOf      the items of several slots are lent
 --     items_at, items_beside      the items of several slots, and the others
@@ -46,7 +45,6 @@ use Rattle.iddqd_store.specs.declared.errors.InsertError.{InsertError}
 use Rattle.iddqd_store.specs.declared.errors.InsertError.TheVariants.{Duplicate, Refused}
 use Rattle.iddqd_store.specs.declared.errors.Refused as refused
 use Rattle.iddqd_hash_parts.specs.HashChanges as changes
-use Rattle.iddqd_hash_parts.specs.HashItems.{HashItems}
 use Rattle.iddqd_hash_parts.specs.SlotsFound.{values_if_any}
 use Rattle.iddqd_hash_parts.specs.declared.keyed.Keyed as keyed
 use Rattle.iddqd_bi_hash.specs.BiHashItems.{BiHashItems, by_key1, holding_of}
@@ -103,16 +101,6 @@ module _ {S T : Type 0} where
   -- what is lent are the items of these slots, in this order
   abbrev pub AreItemsOf : BiHashItems S T → List ℕ → List (Bor T) → Type 0
   AreItemsOf m slots lents = map (λ lent. Some lent.now) lents ≡ map (item_of_slot m.slots m.items) slots
-
-  -- each key that passes the test has this hash
-  abbrev pub HasHash : {K : Type 0} → (BiHashItems S T → HashWrites → ℕ) → BiHashItems S T → (K → Bool) → (K → HashWrites) → ℕ → Type 0
-  HasHash hash m test input h = (k : _) → test k ≡ true → hash m (input k) ≡ h
-
-  -- the slot of the item whose key passes the test, under the hash that is stored for it, or none
-  pub record FindsSlot {K : Type 0} (key : T → K) (test : K → Bool) (m : HashItems S T) (hash : ℕ) (found : Option ℕ) : Type 0 where
-    pub item : option_and_then (item_of_slot m.slots m.items) found ≡ find_item key test m.items
-    pub there : IfSome found (λ slot. IsSome (item_of_slot m.slots m.items slot))
-    pub listed : IfSome found (λ slot. item_of_slot m.slots m.hashes slot ≡ Some hash)
 
   -- the inserted x has this slot; a write to the slot is as if that item had been inserted
   pub record IsInsertedAt (x : T) (old new : BiHashItems S T) (slot : ℕ) : Type 0 where

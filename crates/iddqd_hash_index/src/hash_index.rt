@@ -15,13 +15,13 @@ ghost use Rattle.iddqd_store.specs.Refusal.{memory_refused};
 use cell::Cell;
 use change::{free_at, place, rename_in, take};
 use group::Group;
-use iddqd_store::{Equivalent, IdHashItem, ItemStore, KeyOf, OwnKey, Steps, TryReserveError};
+use iddqd_store::{Equivalent, ItemStore, KeyOf, Steps, TryReserveError};
 use probe::find_among;
 use regroup::{MOST_ROOM, groups_for, regrouped, room_of};
 use std::alloc::{AllocError, Global};
 use std::marker::Model;
 
-/// Pairs of a hash and a slot, each slot once. It computes no hash, and only `find` and `find_by_key` look at items.
+/// Pairs of a hash and a slot, each slot once. It computes no hash, and only searches look at items.
 /// Contracts see the pairs, in no order, and how many more can be added.
 /// The pairs are in groups of twelve lanes, with room for nine pairs in each group on average. So a pair takes 18 bytes
 /// if all room is used. A group has the tags of its lanes, and the pairs lie apart. The hash chooses the group where a
@@ -161,28 +161,9 @@ impl HashIndex {
         Ok(())
     }
 
-    /// Returns the slot beside this hash whose item has the query's key, or `None`. Each slot that is listed beside
-    /// the hash must have an item. It looks at each group at most once. It compares the keys of the pairs of
-    /// exactly this hash, each at most once.
-    #[inline]
-    pub fn find<T: IdHashItem, Q: Equivalent<T::Key>>(
-        &self,
-        store: &ItemStore<T>,
-        hash: u64,
-        query: &Q,
-        steps: &mut Steps,
-    ) -> Option<u32>
-        requires occupied { AreOccupied store.now self.now.pairs hash }
-        ensures found { Finds T.key (Q.equivalent query.now) store.now self.now.pairs hash result }
-        ensures absent { Lacks T.key (Q.equivalent query.now) store.now self.now.pairs hash result }
-        ensures steps { steps.new ≤ steps.old + of_hash self.now.pairs hash }
-        ensures never_resets { steps.old ≤ steps.new }
-    {
-        self.find_by_key::<T, OwnKey, Q>(store, hash, query, steps)
-    }
-
-    /// As `find`, by the key that `K` names, for items that show several. The hashes of this index must be of that
-    /// key.
+    /// Returns the slot beside this hash whose item has the query's key, or `None`. It goes by the key that `K` names,
+    /// and the hashes of this index must be of that key. Each slot that is listed beside the hash must have an item. It
+    /// looks at each group at most once. It compares the keys of the pairs of exactly this hash, each at most once.
     #[inline]
     pub fn find_by_key<T, K: KeyOf<T>, Q: Equivalent<K::Key>>(
         &self,

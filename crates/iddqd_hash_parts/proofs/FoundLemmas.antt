@@ -1,19 +1,17 @@
--- What a slot whose item's key passes a test says of the items: the search, the removal and the replacement.
+-- What a slot whose item's key passes a test says of the items: the search and the removal.
 --     found_passes      what is found passes
 --     without_absent, replaced_absent      where nothing is found nothing is taken out, and nothing replaced
 --     item_absent      no slot's item passes, and so none is found
 --     item_found      the item of the slot is the one that is found
---     item_taken, item_exchanged      what the items are without it, and with another in its stead
---     differ_taken, differ_exchanged, differ_added      their keys differ still
+--     item_taken      what the items are without it
+--     differ_taken, differ_added      their keys differ still
 --     same_numbers      the numbers of the occupied slots do not look at the items
-use Rattle.std.proofs.Common.{◌≡◌, ◌≢◌, ℕ, zero, suc, Bool, true, false, cond, not, List, [], ◌∷◌, map, get_or, Option, Some, None, is_some, refl, sym, ap, ◌∙◌, true≢false, subst}
-use Rattle.std.proofs.lemmas.List.{get_or-map}
+use Rattle.std.proofs.Common.{◌≡◌, ◌≢◌, ℕ, zero, suc, Bool, true, false, cond, not, List, [], ◌∷◌, get_or, Option, Some, None, is_some, refl, sym, ap, ◌∙◌, true≢false, subst}
 use Rattle.std.proofs.lemmas.Option.{get_or_from_slice_get, slice_get_within}
 use Rattle.std.specs.Cmp.{IsEquivalence}
-use Rattle.std.specs.List.{HoldsAt}
 use Rattle.iddqd_store.specs.Contents.{AddsItem, IsAbsent, IsKeyTest, NoTwoAkin, find_item, items_overwritten, items_without}
-use Rattle.iddqd_store.proofs.ContentsLemmas.{IsOnlyPlace, only_place, find_at, filter_at, map_at}
-use Rattle.iddqd_store.proofs.KeepsLemmas.{differ_filter, differ_insert, differ_set}
+use Rattle.iddqd_store.proofs.ContentsLemmas.{IsOnlyPlace, only_place, find_at, filter_at}
+use Rattle.iddqd_store.proofs.KeepsLemmas.{differ_filter, differ_insert}
 use Rattle.iddqd_store.proofs.OrderLemmas.{Tells, find_tells}
 use Rattle.iddqd_hash_parts.specs.StoreAndIndex.{numbers_of}
 use Rattle.iddqd_hash_parts.proofs.SlotItemLemmas.{PlaceOf, at, items_of, place_of}
@@ -62,16 +60,6 @@ module _ {T K : Type 0} (key : T → K) where
 
     pub differ_taken : at new slot ≡ None → NoTwoAkin key eq (items_of new)
     differ_taken none = subst (NoTwoAkin key eq) (sym (item_taken none)) (differ_filter key eq (λ y. not (test (key y))) (items_of old) differ)
-
-    pub item_exchanged : (y : T) → at new slot ≡ Some y → items_of new ≡ items_overwritten key test y (items_of old)
-    item_exchanged y some = placed.replaced y some ∙ sym (map_at (λ z. test (key z)) y (items_of old) placed.place only)
-
-    pub differ_exchanged : (y : T) → eq (key y) (key x) ≡ true → at new slot ≡ Some y → NoTwoAkin key eq (items_of new)
-    differ_exchanged y alike some =
-        let within = slice_get_within (items_of old) placed.place x placed.there in
-        let holds : HoldsAt (λ k. eq (key y) k ≡ true) (map key (items_of old)) placed.place
-        = λ d. ap (eq (key y)) (get_or-map key (items_of old) placed.place x d within ∙ ap key (read x)) ∙ alike in
-        subst (NoTwoAkin key eq) (sym (placed.replaced y some)) (differ_set key equivalence y (items_of old) placed.place holds differ)
 
   pub differ_added : {eq : K → K → Bool} → IsEquivalence eq → (x : T) (old new : List T) → AddsItem x old new → IsAbsent key (eq (key x)) old → NoTwoAkin key eq old → NoTwoAkin key eq new
   differ_added {eq} equivalence x old new adds absent differ =

@@ -2,14 +2,17 @@
 --     added_item, added_written, added_others      where a vacant slot was given an item: the item of that slot, a write to it, and the others
 --     place_lost      where a slot was vacated: the items and the slots without its place
 --     told_listed, listed_told      the hash that is stored for a slot's item, and under which the slot is listed
-use Rattle.std.proofs.Common.{◌≡◌, ℕ, List, get_or, set, Some, None, is_some, sym, ap, ◌∙◌, subst, ⊎_elim}
+--     finds_slot      what a search of one index says of the map
+use Rattle.std.proofs.Common.{◌≡◌, ◌↔◌, ℕ, Bool, true, List, get_or, set, Option, Some, None, IfSome, IsSomeAnd, is_some, sym, ap, ◌∙◌, subst, ⊎_elim}
 use Rattle.std.proofs.lemmas.Bool.{cases_eq}
 use Rattle.std.specs.List.{Contains, remove, slice_get}
 use Rattle.iddqd_store.specs.Contents.{AddsItem}
 use Rattle.iddqd_store.specs.SlotItems.{item_of_slot, without_slot, written_to_slot}
 use Rattle.iddqd_store.specs.Store.{Store, item_at, IsOccupied, Updates}
 use Rattle.iddqd_store.proofs.StoreLemmas.{updates-set}
-use Rattle.iddqd_hash_parts.specs.StoreAndIndex.{PairsOccupied, hash_of_slot, hashes_in, items_in, slots_in}
+use Rattle.iddqd_hash_index.specs.HashPairs.{HashPairs}
+use Rattle.iddqd_hash_parts.specs.HashItems.{FindsSlot}
+use Rattle.iddqd_hash_parts.specs.StoreAndIndex.{IsOnlySlot, IsSlotFound, PairsOccupied, hash_of_slot, hashes_in, items_in, map_of, slots_in}
 use Rattle.iddqd_hash_parts.proofs.FoundLemmas.{same_numbers}
 use Rattle.iddqd_hash_parts.proofs.GetMutLemmas.{item_in_slot, items_lent, others_left, told_in_slot}
 use Rattle.iddqd_hash_parts.proofs.PairLemmas.{hash_listed, listed_hash}
@@ -60,3 +63,17 @@ module _ {T : Type 0} (store : Store T) (pairs : List (ℕ × ℕ)) (paired : Pa
   listed_told some told =
       let same : hash_of_slot pairs slot ≡ hash = (let here = sym (told_in_slot (hash_of_slot pairs) store.slots slot some) ∙ told in cc) in
       subst (λ h. Contains pairs (h, slot)) same (listed_hash pairs slot (occupied_listed store pairs paired slot some))
+
+-- the one slot that a search finds, as the map shows it
+seen_only : {T K : Type 0} (key : T → K) (test : K → Bool) (store : Store T) (found : Option ℕ) → IsOnlySlot key test store found → (slot : ℕ) → (found ≡ Some slot) ↔ IsSomeAnd (item_of_slot (slots_in store) (items_in store) slot) (λ x. test (key x) ≡ true)
+seen_only key test store found only slot = subst (λ o. (found ≡ Some slot) ↔ IsSomeAnd o (λ x. test (key x) ≡ true)) (sym (item_in_slot store.slots slot)) (only slot)
+
+-- what a search of one index says of the map
+pub finds_slot : {S T K : Type 0} (key : T → K) (test : K → Bool) (hasher : S) (store : Store T) (index : HashPairs) → PairsOccupied store index.pairs → (h : ℕ) (found : Option ℕ) → IsSlotFound key test store found → IsOnlySlot key test store found → IfSome found (λ slot. Contains index.pairs (h, slot)) → FindsSlot key test (map_of store index hasher) h found
+finds_slot key test hasher store index paired h None item only listed = record { item = item; only = seen_only key test store None only; there = tt; listed = tt }
+finds_slot key test hasher store index paired h (Some slot) item only listed = record {
+  item = item_in_slot store.slots slot ∙ item;
+  only = seen_only key test store (Some slot) only;
+  there = ap is_some (item_in_slot store.slots slot) ∙ listed_occupied store index.pairs paired h slot listed;
+  listed = told_listed store index.pairs paired h slot listed;
+}

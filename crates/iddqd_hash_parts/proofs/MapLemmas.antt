@@ -7,24 +7,22 @@
 --     spare_fits      what is there and what is spare fit the limit
 --     same_spare, unchanged      ... where nothing has changed
 --     emptied_keyed, emptied_spare      ... where no item is left
---     query_item      ... and what a search for it tells of the items
 --     keeps_spare      the room of a map whose numbers say so
 --     map_kept, map_inserted      what an insertion leaves, refused or not
 --     stays_on      what stays in two calls, one after the other
---     map_taken, map_exchanged      what a removal and a replacement leave
-use Rattle.std.proofs.Common.{◌≡◌, ℕ, ◌+◌, ◌-◌, ◌<◌, ◌≤◌, min, Bool, true, false, List, [], length, get_or, Option, Some, None, IfSome, IfNone, IsSomeAnd, is_some, refl, sym, ap, ◌∙◌, arith, subst, count_by, ⊎_elim}
-use Rattle.std.proofs.lemmas.Bool.{cases_eq}
+--     taken_items, taken_keyed, taken_spare      what a removal leaves
+use Rattle.std.proofs.Common.{◌≡◌, ℕ, ◌+◌, ◌-◌, ◌<◌, ◌≤◌, min, Bool, true, false, List, [], length, get_or, Option, Some, None, IfSome, IfNone, IsSomeAnd, is_some, refl, sym, ap, ◌∙◌, arith, subst, count_by}
 use Rattle.std.specs.Cmp.{IsEquivalence}
 use Rattle.std.specs.Hash.{HashWrites}
 use Rattle.std.specs.List.{Contains, IsDistinct}
 use Rattle.std.specs.Option.{option_and_then}
-use Rattle.iddqd_store.specs.Contents.{AddsItem, IsAbsent, IsKeyTest, NoTwoAkin, find_item, items_overwritten, items_without}
+use Rattle.iddqd_store.specs.Contents.{AddsItem, IsAbsent, IsKeyTest, NoTwoAkin, find_item, items_without}
 use Rattle.iddqd_hash_index.specs.HashPairs.{HashPairs, HasOneMore, IsMatch, SamePairs}
 use Rattle.iddqd_store.specs.Store.{Store, item_at, store_len, vacant, Updates}
 use Rattle.iddqd_hash_parts.specs.HashItems.{HashItems, KeyedItems}
 use Rattle.iddqd_hash_parts.specs.HashChanges.{HashInserts, HashKeeps, HashStays, KeepsSpare, SpareFits}
-use Rattle.iddqd_hash_parts.specs.StoreAndIndex.{AreListedUnder, PairsOccupied, hash_of_slot, items_in, numbers_of, map_of, slots_in, spare_in}
-use Rattle.iddqd_hash_parts.proofs.FoundLemmas.{differ_added, differ_exchanged, differ_taken, item_absent, item_exchanged, item_found, item_taken, same_numbers}
+use Rattle.iddqd_hash_parts.specs.StoreAndIndex.{AreListedUnder, PairsOccupied, hash_of_slot, items_in, map_of, slots_in, spare_in}
+use Rattle.iddqd_hash_parts.proofs.FoundLemmas.{differ_added, differ_taken, item_absent, item_found, item_taken}
 use Rattle.iddqd_hash_parts.proofs.PairLemmas.{listed_hash}
 use Rattle.iddqd_hash_parts.proofs.StoreAndIndexLemmas.{hashes_agree, listed_under, occupied_listed, under_added, under_removed, under_same}
 use Rattle.iddqd_hash_parts.proofs.SlotItemLemmas.{item_added, length-items, slots_apart}
@@ -78,11 +76,6 @@ module _ {S T K : Type 0} (key : T → K) (eq : K → K → Bool) (input : K →
   pub listed_under_query : (store : Store T) (index : HashPairs) → KeyedItems key eq input hash (map_of store index hasher) → (test : K → Bool) (h : ℕ) → ((k : K) → test k ≡ true → hash hasher (input k) ≡ h) → (slot : ℕ) (x : T) → item_at store slot ≡ Some x → test (key x) ≡ true → hash_of_slot index.pairs slot ≡ h
   listed_under_query store index keyed test h hashes slot x there passes = keyed_under store index keyed slot x there ∙ hashes (key x) passes
 
-  -- what a search for a query tells of the items
-  pub query_item : (store : Store T) (index : HashPairs) → PairsOccupied store index.pairs → IsEquivalence eq → KeyedItems key eq input hash (map_of store index hasher) → (test : K → Bool) → IsKeyTest eq test → (h : ℕ) → ((k : K) → test k ≡ true → hash hasher (input k) ≡ h) → (found : Option ℕ) → IfSome found (IsMatch store index.pairs h (λ x. test (key x))) → IfNone found ((slot : ℕ) → ¬ IsMatch store index.pairs h (λ x. test (key x)) slot) → option_and_then (item_at store) found ≡ find_item key test (items_in store)
-  query_item store index paired equivalence keyed test tests h hashes found there absent =
-      search_item key equivalence test tests store index.pairs h paired keyed.differ (listed_under_query store index keyed test h hashes) found there absent
-
   pub make_keyed : (store : Store T) (index : HashPairs) → NoTwoAkin key eq (items_in store) → AreListedUnder tell store index.pairs → KeyedItems key eq input hash (map_of store index hasher)
   make_keyed store index differ under = record { differ = differ; stored = hashes_agree tell store index.pairs under }
 
@@ -90,12 +83,6 @@ module _ {S T K : Type 0} (key : T → K) (eq : K → K → Bool) (input : K →
   unfolding IsDistinct
   emptied_keyed store index none =
       make_keyed store index (subst (λ slots. NoTwoAkin key eq (items_in (record store { slots = slots }))) (sym none) tt) (λ slot x there. (let empty = ap (λ slots. get_or slots slot None) none in cc))
-
-  pub unchanged : (store : Store T) (index : HashPairs) → PairsOccupied store index.pairs → KeyedItems key eq input hash (map_of store index hasher) → HashKeeps (KeyedItems key eq input hash) (map_of store index hasher) (map_of store index hasher)
-  unchanged store index paired keyed = record {
-    keeps = record { items = refl; slots = refl; vacant = refl; capacity = omega arith; limit = refl };
-    stays = record { keyed = keyed; spare = same_spare hasher store index paired; hasher = refl };
-  }
 
   -- the room of two maps
   module _ (old new : Store T) (p q : HashPairs) (was : PairsOccupied old p.pairs) (is : PairsOccupied new q.pairs) where
@@ -150,26 +137,12 @@ module _ {S T K : Type 0} (key : T → K) (eq : K → K → Bool) (input : K →
       pub taken_spare : p.spare + 1 ≤ q.spare → store_len new + 1 ≡ store_len old → new.capacity ≡ old.capacity → new.limit ≡ old.limit → KeepsSpare (map_of old p hasher) (map_of new q hasher)
       taken_spare spare len capacity limit = keeps_spare (omega (arith, spare, len)) (omega (arith, capacity)) limit
 
-  -- another item of an equal key is there; the index stays
-  module _ (old new : Store T) (p : HashPairs) (equivalence : IsEquivalence eq) (keyed : KeyedItems key eq input hash (map_of old p hasher)) (slot : ℕ) (x y : T) (there : item_at old slot ≡ Some x) (alike : eq (key y) (key x) ≡ true) (updates : Updates old new slot (Some y)) where
-    pub exchanged_items : items_in new ≡ items_overwritten key (eq (key y)) y (items_in old)
-    exchanged_items = item_exchanged key equivalence (eq (key y)) (equivalence.congr (key y)) old.slots new.slots keyed.differ slot x there alike updates.others y updates.changed
-
-    -- the slots and the hashes stay
-    pub exchanged_numbers : (number : ℕ → ℕ) → numbers_of number new.slots ≡ numbers_of number old.slots
-    exchanged_numbers number = same_numbers key number new.slots old.slots (λ other. ⊎_elim
-        (λ e. ap (λ s. is_some (item_at new s)) e ∙ ap is_some updates.changed ∙ sym (ap is_some there) ∙ sym (ap (λ s. is_some (item_at old s)) e))
-        (λ n. ap is_some (updates.others other n))
-        (cases_eq other slot))
-
-    pub exchanged_keyed : ((a b : K) → eq a b ≡ true → input a ≡ input b) → KeyedItems key eq input hash (map_of new p hasher)
-    exchanged_keyed respects =
-        let under = keyed_under old p keyed in
-        make_keyed new p (differ_exchanged key equivalence (eq (key y)) (equivalence.congr (key y)) old.slots new.slots keyed.differ slot x there alike updates.others y alike updates.changed) (λ other z at. ⊎_elim
-        (λ e. let same : y ≡ z = (let now = updates.changed in let seen = ap (item_at new) (sym e) ∙ at in cc) in
-        under other x (ap (item_at old) e ∙ there) ∙ ap (hash hasher) (sym (respects (key y) (key x) alike)) ∙ ap tell same)
-        (λ n. under other z (sym (updates.others other n) ∙ at))
-        (cases_eq other slot))
+-- where nothing changes
+pub unchanged : {S T : Type 0} (IsKeyed : HashItems S T → Type 0) (m : HashItems S T) → IsKeyed m → SpareFits m → HashKeeps IsKeyed m m
+unchanged IsKeyed m keyed fits = record {
+  keeps = record { items = refl; slots = refl; vacant = refl; capacity = omega arith; limit = refl };
+  stays = record { keyed = keyed; spare = record { never_less = omega arith; spare_fits = fits }; hasher = refl };
+}
 
 -- what stays in two calls, one after the other
 pub stays_on : {S T : Type 0} (IsKeyed : HashItems S T → Type 0) (old between new : HashItems S T) → HashStays IsKeyed old between → HashStays IsKeyed between new → HashStays IsKeyed old new

@@ -7,7 +7,7 @@
 --     number_at, numbers_agree      a number for each slot, told by its item
 --     slots_apart      each item has a slot of its own
 --     slot_left      an item that is taken out leaves its place and its slot
-use Rattle.std.proofs.Common.{append_assoc, ◌≡◌, ◌≢◌, ℕ, zero, suc, ◌≤◌, List, [], ◌∷◌, ◌++◌, length, map, set, get_or, drop, ◌<◌, nat_eq, false, Option, Some, None, is_some, cond, refl, sym, ap, ◌∙◌, arith, subst, count_by, IsPermutation}
+use Rattle.std.proofs.Common.{append_assoc, ◌≡◌, ◌≢◌, ℕ, zero, suc, ◌≤◌, List, [], ◌∷◌, ◌++◌, length, map, get_or, drop, ◌<◌, nat_eq, false, Option, Some, None, is_some, cond, refl, sym, ap, ◌∙◌, arith, subst, count_by, IsPermutation}
 use Rattle.std.proofs.lemmas.List.{length-map}
 use Rattle.std.proofs.lemmas.List.Sorted.{IsPermutation-middle}
 use Rattle.std.proofs.lemmas.List.Sums.{sum_by-cons}
@@ -29,10 +29,6 @@ module _ {T : Type 0} where
   remove-middle : (xs ys : List T) (x : T) → remove (xs ++ x ∷ ys) (length xs) ≡ xs ++ ys
   remove-middle [] ys x = refl
   remove-middle (y ∷ xs) ys x = ap (λ vs. y ∷ vs) (remove-middle xs ys x)
-
-  set-middle : (xs ys : List T) (x z : T) → set (xs ++ x ∷ ys) (length xs) z ≡ xs ++ z ∷ ys
-  set-middle [] ys x z = refl
-  set-middle (y ∷ xs) ys x z = ap (λ vs. y ∷ vs) (set-middle xs ys x z)
 
   get-middle : (xs ys : List T) (x : T) → slice_get (xs ++ x ∷ ys) (length xs) ≡ Some x
   get-middle [] ys x = refl
@@ -117,12 +113,11 @@ module _ {T : Type 0} where
       let left : items_of new ≡ s.before ++ s.behind = s.first ∙ ap (λ o. s.before ++ (one o ++ s.behind)) none in
       rw (was, left) (IsPermutation-middle s.before x s.behind)
 
-  -- the place of a slot's item among the items, and what they are where the slot changes
+  -- the place of a slot's item among the items, and what they are where it leaves
   pub record PlaceOf (old new : List (Option T)) (slot : ℕ) (x : T) : Type 0 where
     pub place : ℕ
     pub there : slice_get (items_of old) place ≡ Some x
     pub removed : at new slot ≡ None → items_of new ≡ remove (items_of old) place
-    pub replaced : (y : T) → at new slot ≡ Some y → items_of new ≡ set (items_of old) place y
 
   pub place_of : (old new : List (Option T)) (slot : ℕ) (x : T) → at old slot ≡ Some x → ((other : ℕ) → other ≢ slot → at new other ≡ at old other) → PlaceOf old new slot x
   place_of old new slot x there others =
@@ -133,7 +128,6 @@ module _ {T : Type 0} where
         place = i;
         there = ap (λ vs. slice_get vs i) was ∙ get-middle s.before s.behind x;
         removed = λ none. s.first ∙ ap (λ o. s.before ++ (one o ++ s.behind)) none ∙ sym (remove-middle s.before s.behind x) ∙ ap (λ vs. remove vs i) (sym was);
-        replaced = λ y some. s.first ∙ ap (λ o. s.before ++ (one o ++ s.behind)) some ∙ sym (set-middle s.before s.behind x y) ∙ ap (λ vs. set vs i y) (sym was);
       }
 
   pub slot_of : (slots : List (Option T)) (i : ℕ) (x : T) → slice_get (items_of slots) i ≡ Some x → (slot : ℕ) × (at slots slot ≡ Some x)

@@ -2,7 +2,7 @@
 ghost use Rattle.std.specs.Prelude.{◌≡◌, ◌+◌, ◌-◌, ◌<◌, ◌≤◌, length, option_map, IfErr, IfNone, IfSome, OnOk, OnErr, Some, None, Contains};
 ghost use Rattle.std.specs.Prelude.{min as least};
 ghost use Rattle.iddqd_store.specs.Contents.{NoTwoAkin, find_item};
-ghost use Rattle.iddqd_hash_index.specs.HashPairs.{HasOneMore, SamePairs};
+ghost use Rattle.iddqd_hash_index.specs.HashPairs.{HasOneMore, SamePairs, of_hash};
 ghost use Rattle.iddqd_store.specs.Refusal.{IsKindOf, memory_refused, refusal_kind};
 ghost use Rattle.iddqd_store.specs.Store.{item_at, store_len, vacant, HasRoomFor, Updates};
 ghost use Rattle.iddqd_hash_parts.specs.StoreAndIndex.{AreHashed, GrowsRoom, IsOnlySlot, IsSlotFound, KeepsBounds, PairsOccupied, RemovesPaired, items_in, room_in, spare_in};
@@ -18,6 +18,7 @@ pub fn find_slot<T, K: KeyOf<T>, Q: Equivalent<K::Key>>(
     index: &HashIndex,
     hash: u64,
     query: &Q,
+    steps: &mut Steps,
 ) -> Option<u32>
     requires paired { PairsOccupied store.now index.now.pairs }
     requires differ { NoTwoAkin K.key K.Key.eq (items_in store.now) }
@@ -27,8 +28,12 @@ pub fn find_slot<T, K: KeyOf<T>, Q: Equivalent<K::Key>>(
     ensures item { IsSlotFound K.key (Q.equivalent query.now) store.now result }
     ensures only { IsOnlySlot K.key (Q.equivalent query.now) store.now result }
     ensures listed { IfSome result (λ slot. Contains index.now.pairs (hash, slot)) }
+
+    // what it costs
+    ensures steps { steps.new ≤ steps.old + of_hash index.now.pairs hash }
+    ensures never_resets { steps.old ≤ steps.new }
 {
-    index.find_by_key::<T, K, Q>(store, hash, query, &mut Steps::new())
+    index.find_by_key::<T, K, Q>(store, hash, query, steps)
 }
 
 /// Makes room for one more item in both. Looks at the limit first, then asks for memory. It returns an error if the
@@ -191,23 +196,4 @@ pub fn remove_found<T, K: KeyOf<T>, Q: Equivalent<K::Key>>(
 {
     let slot = index.remove_by_key::<T, K, Q>(store, hash, query, &mut Steps::new())?;
     Some((slot, store.remove(slot)))
-}
-
-/// Puts the item in place of the slot's item, which it returns. The index stays. Does not allocate.
-#[inline]
-pub fn exchange<T>(store: &mut ItemStore<T>, index: &HashIndex, hash: u64, slot: u32, item: T) -> T
-    requires paired { PairsOccupied store.old index.now.pairs }
-    requires listed { Contains index.now.pairs (hash, slot) }
-
-    // what is replaced
-    ensures item { item_at store.old slot ≡ Some result }
-    ensures updates { Updates store.old store.new slot (Some item) }
-
-    // what stays
-    ensures paired { PairsOccupied store.new index.now.pairs }
-    ensures spare { spare_in store.new index.now ≡ spare_in store.old index.now }
-    ensures vacant { vacant store.new ≡ vacant store.old }
-    ensures bounds { KeepsBounds store.old store.new }
-{
-    store.replace(slot, item)
 }

@@ -65,13 +65,15 @@ impl CoinMap {
     // Whether this slot is found, by this many comparisons at most.
     fn finds(&self, hash: u64, year: u32, slot: Option<u32>, count: u32) -> bool {
         let mut steps = Steps::new();
-        let found = self.index.find(&self.store, hash, &year, &mut steps);
+        let found = self
+            .index
+            .find_by_key::<Coin, OwnKey, u32>(&self.store, hash, &year, &mut steps);
         found == slot && steps.count() <= count
     }
 
     fn has(&self, hash: u64, year: u32) -> bool {
         self.index
-            .find(&self.store, hash, &year, &mut Steps::new())
+            .find_by_key::<Coin, OwnKey, u32>(&self.store, hash, &year, &mut Steps::new())
             .is_some()
     }
 
@@ -79,7 +81,7 @@ impl CoinMap {
     fn take(&mut self, hash: u64, year: u32) -> Option<u32> {
         let slot = self
             .index
-            .find(&self.store, hash, &year, &mut Steps::new())?;
+            .find_by_key::<Coin, OwnKey, u32>(&self.store, hash, &year, &mut Steps::new())?;
         self.index.remove(hash, slot);
         Some(slot)
     }
@@ -111,7 +113,7 @@ impl CoinMap {
     fn rename_year(&mut self, rt: &impl Abort, hash: u64, year: u32) -> Option<u32> {
         let old = self
             .index
-            .find(&self.store, hash, &year, &mut Steps::new())?;
+            .find_by_key::<Coin, OwnKey, u32>(&self.store, hash, &year, &mut Steps::new())?;
         assert!(rt; self.store.try_reserve(1).is_ok());
         let new = self.store.insert_reserved(Coin { year });
         self.index.rename(hash, old, new);

@@ -8,10 +8,8 @@ mod methods;
 mod occupied;
 mod vacant;
 
-use super::by_key::{First, Second};
 use super::{BiHashMap, DefaultHashBuilder, Keyed, RefMut};
 use crate::items::BiHashItem;
-use iddqd_hash_parts::find_slot;
 use iddqd_store::Equivalent;
 use std::hash::{BuildHasher, Hash};
 
@@ -90,8 +88,8 @@ impl<T: BiHashItem, S: BuildHasher> BiHashMap<T, S> {
     {
         let hash1 = self.hasher.hash_one(query1);
         let hash2 = self.hasher.hash_one(query2);
-        let one = find_slot::<T, First, Q>(&self.store, &self.index1, hash1, query1);
-        let other = find_slot::<T, Second, R>(&self.store, &self.index2, hash2, query2);
+        let one = self.slot_by_key1(hash1, query1);
+        let other = self.slot_by_key2(hash2, query2);
         let unique = is_one_slot(one, other);
         match first_and_second(one, other) {
             Some((first, second)) => Entry::Occupied(OccupiedEntry {

@@ -9,9 +9,9 @@ use iddqd_store::Equivalent;
 use std::hash::{BuildHasher, Hash};
 
 impl<T: BiHashItem, S: BuildHasher> BiHashMap<T, S> {
-    ghost use Rattle.iddqd_hash_parts.specs.HashItems.{HashesAsKeys};
+    ghost use Rattle.iddqd_hash_parts.specs.HashItems.{HasHash, HashesAsKeys};
     ghost use Rattle.iddqd_bi_hash.specs.BiHashItems.{holding_of};
-    ghost use Rattle.iddqd_bi_hash.specs.BiHashMap.{BiStays, HasHash, SpareFits};
+    ghost use Rattle.iddqd_bi_hash.specs.BiHashMap.{BiStays, SpareFits};
 
     /// Returns the item that the query finds by the first key, or `None`. Hashes the query once, and compares at most as
     /// many keys as have its hash. Does not allocate.

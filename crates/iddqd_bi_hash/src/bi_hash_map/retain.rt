@@ -54,7 +54,7 @@ impl<T: BiHashItem, S: BuildHasher> BiHashMap<T, S> {
         ensures stays { BiStays ⟦<Self as Keyed>⟧.keyed self.old self.new }
     {
         let mut from = 0;
-        while let Some(slot) = self.slot_from(from) {
+        while let Some((slot, _)) = self.item_from(from) {
             if !self.visit_slot(slot, visitor) {
                 self.take_slot(slot);
             }

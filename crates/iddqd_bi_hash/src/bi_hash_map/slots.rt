@@ -1,20 +1,20 @@
 //! The items of slots: read, lent for writing, removed; and the slots that searches find.
-ghost use Rattle.std.specs.Prelude.{◌≡◌, ◌<◌, ◌++◌, IfNone, IfSome, IsSome, Some, length, map};
+ghost use Rattle.std.specs.Prelude.{◌≡◌, ◌<◌, ◌++◌, IfSome, IsSome, Some};
 ghost use Rattle.std.specs.Borrow.{sem};
 ghost use Rattle.iddqd_store.specs.Contents.{AddsItem, IsAbsent};
 ghost use Rattle.iddqd_store.specs.Errors.{values_of};
 ghost use Rattle.iddqd_store.specs.Holding.{Removes};
-ghost use Rattle.iddqd_store.specs.SlotItems.{HaveSlots, item_of_slot};
+ghost use Rattle.iddqd_store.specs.SlotItems.{item_of_slot};
 ghost use Rattle.iddqd_bi_hash.specs.TwoKeys.{as_list, other_slot};
-ghost use Rattle.iddqd_hash_parts.specs.SlotOrder.{AreBelow, AreRising, IsNext};
+ghost use Rattle.iddqd_hash_parts.specs.SlotOrder.{FindsItemFrom};
 ghost use Rattle.iddqd_hash_parts.specs.SlotsFound.{values_if_any};
 
 use super::by_key::{First, Second};
 use super::store_and_indexes::remove_from_all;
 use super::{BiHashMap, Keyed};
 use crate::items::BiHashItem;
-use iddqd_hash_parts::{find_slot, item_from, rising_slots, slot_from};
-use iddqd_store::{Equivalent, Few};
+use iddqd_hash_parts::{find_slot, item_from, rising_slots};
+use iddqd_store::{Equivalent, Few, Steps};
 use std::hash::BuildHasher;
 
 // The slots that two searches found, that of the first search first and each once.
@@ -74,43 +74,18 @@ impl<T, S> BiHashMap<T, S> {
 
     // Returns the first slot from this number on that has an item, with the item. Looks at each slot up to that one.
     pub(super) fn item_from(&self, from: u32) -> Option<(u32, &T)>
-        // if a slot has an item
-        ensures there { IfSome result (λ found. IsNext self.now.slots from found.0) }
-        ensures item { IfSome result (λ found. item_of_slot self.now.slots self.now.items found.0 ≡ Some found.1.now) }
+        ensures found { FindsItemFrom self.now.slots self.now.items from result }
         ensures fits { IfSome result (λ found. found.0 < u32.MAX) }
-
-        // if none has
-        ensures none { IfNone result (AreBelow self.now.slots from) }
-
-        // either way
-        ensures rises { AreRising self.now.slots }
         ensures spare_fits { SpareFits self.now }
-        ensures own { HaveSlots self.now.slots self.now.items }
     {
         item_from(&self.store, from)
-    }
-
-    // As `item_from`, without the item.
-    pub(super) fn slot_from(&self, from: u32) -> Option<u32>
-        // if a slot has an item
-        ensures there { IfSome result (IsNext self.now.slots from) }
-        ensures fits { IfSome result (λ slot. slot < u32.MAX) }
-
-        // if none has
-        ensures none { IfNone result (AreBelow self.now.slots from) }
-
-        // either way
-        ensures rises { AreRising self.now.slots }
-        ensures spare_fits { SpareFits self.now }
-        ensures own { HaveSlots self.now.slots self.now.items }
-    {
-        slot_from(&self.store, from)
     }
 }
 
 impl<T: BiHashItem, S: BuildHasher> BiHashMap<T, S> {
+    ghost use Rattle.iddqd_hash_parts.specs.HashItems.{FindsSlot, HasHash};
     ghost use Rattle.iddqd_bi_hash.specs.BiHashItems.{by_key1, by_key2, holding_of};
-    ghost use Rattle.iddqd_bi_hash.specs.BiHashMap.{AreOccupied, AreSlotsDisplaced, AreSlotsMet, BiStays, FindsSlot, FindsSlotByBoth, HasHash, IsOccupied, LosesPlaceOf, SpareFits};
+    ghost use Rattle.iddqd_bi_hash.specs.BiHashMap.{AreOccupied, AreSlotsDisplaced, AreSlotsMet, BiStays, FindsSlotByBoth, IsOccupied, LosesPlaceOf, SpareFits};
 
     // Returns the slot of the item that the query finds by the first key. The hash is that of each key for which the
     // query stands.
@@ -121,7 +96,7 @@ impl<T: BiHashItem, S: BuildHasher> BiHashMap<T, S> {
         ensures slot { FindsSlot T.key1 (Q.equivalent query.now) (by_key1 self.now) hash result }
         ensures spare_fits { SpareFits self.now }
     {
-        find_slot::<T, First, Q>(&self.store, &self.index1, hash, query)
+        find_slot::<T, First, Q>(&self.store, &self.index1, hash, query, &mut Steps::new())
     }
 
     // The same by the second key.
@@ -132,7 +107,7 @@ impl<T: BiHashItem, S: BuildHasher> BiHashMap<T, S> {
         ensures slot { FindsSlot T.key2 (Q.equivalent query.now) (by_key2 self.now) hash result }
         ensures spare_fits { SpareFits self.now }
     {
-        find_slot::<T, Second, Q>(&self.store, &self.index2, hash, query)
+        find_slot::<T, Second, Q>(&self.store, &self.index2, hash, query, &mut Steps::new())
     }
 
     // Returns the slot of the item that both queries find. Searches by the first key, under its hash, and compares the
@@ -165,8 +140,9 @@ impl<T: BiHashItem, S: BuildHasher> BiHashMap<T, S> {
         ensures there { AreOccupied self.now (values_if_any result) }
         ensures met { AreSlotsMet T.key1 T.key2 T.K1.eq T.K2.eq item.now self.now result }
     {
-        let one = find_slot::<T, First, T::K1>(&self.store, &self.index1, hash1, item.key1());
-        let other = find_slot::<T, Second, T::K2>(&self.store, &self.index2, hash2, item.key2());
+        let steps = &mut Steps::new();
+        let one = find_slot::<T, First, _>(&self.store, &self.index1, hash1, item.key1(), steps);
+        let other = find_slot::<T, Second, _>(&self.store, &self.index2, hash2, item.key2(), steps);
         rising_slots(one, other)
     }
 
@@ -178,8 +154,8 @@ impl<T: BiHashItem, S: BuildHasher> BiHashMap<T, S> {
         ensures there { AreOccupied self.now (values_if_any result) }
         ensures met { AreSlotsDisplaced T.key1 T.key2 T.K1.eq T.K2.eq item.now self.now result }
     {
-        let one = find_slot::<T, First, T::K1>(&self.store, &self.index1, hash1, item.key1());
-        let other = find_slot::<T, Second, T::K2>(&self.store, &self.index2, hash2, item.key2());
+        let one = self.slot_by_key1(hash1, item.key1());
+        let other = self.slot_by_key2(hash2, item.key2());
         slots_once(one, other)
     }
 

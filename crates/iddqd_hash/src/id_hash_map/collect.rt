@@ -5,9 +5,8 @@ ghost use Rattle.iddqd_store.specs.Collecting.{ShowsAkin, ShowsFirstRepeat};
 ghost use Rattle.iddqd_store.specs.Contents.{IsAbsent};
 
 use super::{IdHashMap, Keyed};
-use iddqd_hash_parts::{find_slot, remove_from_both};
 use iddqd_store::{
-    DuplicateItem, ExtendError, Few, FromIterError, Gives, IdHashItem, OwnKey, TryReserveError,
+    DuplicateItem, ExtendError, Few, FromIterError, Gives, IdHashItem, TryReserveError,
     room_to_reserve,
 };
 use std::alloc::Global;
@@ -118,14 +117,9 @@ impl<T: IdHashItem, S: BuildHasher> IdHashMap<T, S> {
         ensures akin { IfErr result (ShowsAkin T.key T.Key.eq self.old.items item) }
     {
         let hash = self.hasher.hash_one(item.key());
-        match find_slot::<T, OwnKey, T::Key>(&self.store, &self.index, hash, item.key()) {
+        match self.slot_of_equal(hash, &item) {
             Some(slot) => {
-                let earlier = Few::One(remove_from_both(
-                    &mut self.store,
-                    &mut self.index,
-                    hash,
-                    slot,
-                ));
+                let earlier = Few::One(self.take_hashed(hash, slot));
                 Err(FromIterError::Duplicate(DuplicateItem::internal_new(item, earlier)))
             }
             None => match self.insert_hashed(hash, item) {

@@ -8,8 +8,7 @@ mod occupied;
 mod vacant;
 
 use super::{DefaultHashBuilder, IdHashMap, Keyed};
-use iddqd_hash_parts::find_slot;
-use iddqd_store::{Equivalent, IdHashItem, OwnKey};
+use iddqd_store::{Equivalent, IdHashItem, Steps};
 use std::hash::{BuildHasher, Hash};
 
 /// What `entry` finds. Dropping it changes nothing.
@@ -50,7 +49,7 @@ impl<T: IdHashItem, S: BuildHasher> IdHashMap<T, S> {
         ensures akin { IfSome (entry_item result) (PassesTest T.key (Q.equivalent query.now)) }
     {
         let hash = self.hasher.hash_one(query);
-        match find_slot::<T, OwnKey, Q>(&self.store, &self.index, hash, query) {
+        match self.slot_by_key(hash, query, &mut Steps::new()) {
             Some(slot) => Entry::Occupied(OccupiedEntry {
                 map: self,
                 slot,

@@ -6,9 +6,8 @@ ghost use Rattle.iddqd_store.specs.Adding.{HaltsAt, OnItemBack};
 ghost use Rattle.iddqd_store.specs.Contents.{IsAbsent};
 
 use super::{IdHashMap, Keyed};
-use iddqd_hash_parts::find_slot;
 use iddqd_store::{
-    DuplicateItem, ExtendError, ExtendUniqueError, Few, Gives, IdHashItem, NotInserted, OwnKey,
+    DuplicateItem, ExtendError, ExtendUniqueError, Few, Gives, IdHashItem, NotInserted,
     room_to_reserve,
 };
 use std::hash::BuildHasher;
@@ -91,7 +90,7 @@ impl<T: IdHashItem, S: BuildHasher> IdHashMap<T, S> {
         ensures kept { OnErr result (HashKeeps ⟦<Self as Keyed>⟧.keyed self.old self.new) }
     {
         let hash = self.hasher.hash_one(item.key());
-        match find_slot::<T, OwnKey, T::Key>(&self.store, &self.index, hash, item.key()) {
+        match self.slot_of_equal(hash, &item) {
             Some(slot) => Err(NotInserted::Akin(item, slot)),
             None => match self.insert_hashed(hash, item) {
                 Ok(_) => Ok(()),

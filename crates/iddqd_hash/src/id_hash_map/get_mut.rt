@@ -4,8 +4,7 @@ ghost use Rattle.std.specs.Borrow.{sem};
 ghost use Rattle.iddqd_store.specs.Contents.{IsAbsent};
 
 use super::{IdHashMap, Keyed, RefMut};
-use iddqd_hash_parts::find_slot;
-use iddqd_store::{Equivalent, IdHashItem, OwnKey};
+use iddqd_store::{Equivalent, IdHashItem, Steps};
 use std::hash::{BuildHasher, Hash};
 
 impl<T: IdHashItem, S: BuildHasher> IdHashMap<T, S> {
@@ -35,7 +34,7 @@ impl<T: IdHashItem, S: BuildHasher> IdHashMap<T, S> {
         ensures spare_fits { SpareFits self.old }
     {
         let hash = self.hasher.hash_one(query);
-        let slot = find_slot::<T, OwnKey, Q>(&self.store, &self.index, hash, query)?;
+        let slot = self.slot_by_key(hash, query, &mut Steps::new())?;
         Some(RefMut {
             map: self,
             slot,

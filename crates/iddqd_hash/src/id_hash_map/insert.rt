@@ -6,9 +6,10 @@ ghost use Rattle.iddqd_store.specs.Contents.{IsAbsent};
 ghost use Rattle.iddqd_store.specs.Refusal.{OnRefused};
 
 use super::{IdHashMap, Keyed};
-use iddqd_hash_parts::{exchange, find_slot, insert_in_both, reserve_one};
-use iddqd_store::{DuplicateItem, Few, IdHashItem, InsertError, OwnKey, Refused};
+use iddqd_hash_parts::{insert_in_both, reserve_one};
+use iddqd_store::{DuplicateItem, Few, IdHashItem, InsertError, Refused};
 use std::hash::BuildHasher;
+use std::mem;
 
 impl<T: IdHashItem, S: BuildHasher> IdHashMap<T, S> {
     ghost use Rattle.iddqd_hash.specs.HashMap.{HashReturnsItem, HashInserts, HashKeeps, HashOverwrites, HashStays, IsInsertedAt, RefusesItem, map_after_insertion, lends_nothing};
@@ -27,12 +28,7 @@ impl<T: IdHashItem, S: BuildHasher> IdHashMap<T, S> {
         ensures no_spare { IfErr result (OnRefused (self.old.spare ≡ 0)) }
     {
         let hash = self.hasher.hash_one(item.key());
-        if let Some(slot) = find_slot::<T, OwnKey, T::Key>(
-            &self.store,
-            &self.index,
-            hash,
-            item.key(),
-        ) {
+        if let Some(slot) = self.slot_of_equal(hash, &item) {
             let existing = Few::One(self.item_in_slot(slot));
             return Err(InsertError::Duplicate(DuplicateItem::internal_new(item, existing)));
         }
@@ -60,8 +56,8 @@ impl<T: IdHashItem, S: BuildHasher> IdHashMap<T, S> {
         ensures stays { HashStays ⟦<Self as Keyed>⟧.keyed self.old self.new }
     {
         let hash = self.hasher.hash_one(item.key());
-        match find_slot::<T, OwnKey, T::Key>(&self.store, &self.index, hash, item.key()) {
-            Some(slot) => Ok(Some(exchange(&mut self.store, &self.index, hash, slot, item))),
+        match self.slot_of_equal(hash, &item) {
+            Some(slot) => Ok(Some(mem::replace(self.item_in_slot_mut(slot), item))),
             None => {
                 self.insert_hashed(hash, item)?;
                 Ok(None)

@@ -44,8 +44,8 @@ impl<T: IdHashItem, S: BuildHasher> IdHashMap<T, S> {
         ensures never_resets { steps.old ≤ steps.new }
     {
         let hash = self.hasher.hash_one(query);
-        let slot = self.index.find(&self.store, hash, query, steps)?;
-        Some(self.store.item(slot))
+        let slot = self.slot_by_key(hash, query, steps)?;
+        Some(self.item_in_slot(slot))
     }
 
     /// Returns true if the query finds an item, by as many comparisons as `get`. Hashes the query once. Does not

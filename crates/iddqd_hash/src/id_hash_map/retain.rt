@@ -53,7 +53,7 @@ impl<T: IdHashItem, S: BuildHasher> IdHashMap<T, S> {
         ensures stays { HashStays ⟦<Self as Keyed>⟧.keyed self.old self.new }
     {
         let mut next = 0;
-        while let Some(slot) = self.slot_from(next) {
+        while let Some((slot, _)) = self.item_from(next) {
             if !self.visit_slot(slot, visitor) {
                 self.take_slot(slot);
             }

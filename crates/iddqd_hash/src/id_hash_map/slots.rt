@@ -1,13 +1,13 @@
-//! The items of slots: read, lent for writing, removed; and from slot to slot, in the order of their numbers.
-ghost use Rattle.std.specs.Prelude.{◌≡◌, ◌<◌, IfNone, IfSome, IsSome, Some};
+//! The items of slots: found, read, lent for writing, removed; and from slot to slot, in the order of their numbers.
+ghost use Rattle.std.specs.Prelude.{◌≡◌, ◌+◌, ◌<◌, ◌≤◌, IfSome, IsSome, Some};
 ghost use Rattle.std.specs.Borrow.{sem};
 ghost use Rattle.iddqd_store.specs.Holding.{Removes};
-ghost use Rattle.iddqd_store.specs.SlotItems.{HaveSlots, item_of_slot};
-ghost use Rattle.iddqd_hash_parts.specs.SlotOrder.{AreBelow, AreRising, IsNext};
+ghost use Rattle.iddqd_store.specs.SlotItems.{item_of_slot};
+ghost use Rattle.iddqd_hash_parts.specs.SlotOrder.{FindsItemFrom};
 
 use super::{IdHashMap, Keyed};
-use iddqd_hash_parts::{item_from, remove_from_both, slot_from};
-use iddqd_store::IdHashItem;
+use iddqd_hash_parts::{find_slot, item_from, remove_from_both};
+use iddqd_store::{Equivalent, IdHashItem, OwnKey, Steps};
 use std::hash::BuildHasher;
 
 impl<T, S> IdHashMap<T, S> {
@@ -36,44 +36,50 @@ impl<T, S> IdHashMap<T, S> {
     // Returns the first slot from this number on that has an item, with the item. Looks at each slot up to that one.
     #[inline]
     pub(super) fn item_from(&self, from: u32) -> Option<(u32, &T)>
-        // if a slot has an item
-        ensures there { IfSome result (λ found. IsNext self.now.slots from found.0) }
-        ensures item { IfSome result (λ found. item_of_slot self.now.slots self.now.items found.0 ≡ Some found.1.now) }
+        ensures found { FindsItemFrom self.now.slots self.now.items from result }
         ensures fits { IfSome result (λ found. found.0 < u32.MAX) }
-
-        // if none has
-        ensures none { IfNone result (AreBelow self.now.slots from) }
-
-        // either way
-        ensures rises { AreRising self.now.slots }
         ensures spare_fits { SpareFits self.now }
-        ensures own { HaveSlots self.now.slots self.now.items }
     {
         item_from(&self.store, from)
-    }
-
-    // As `item_from`, without the item.
-    #[inline]
-    pub(super) fn slot_from(&self, from: u32) -> Option<u32>
-        // if a slot has an item
-        ensures there { IfSome result (IsNext self.now.slots from) }
-        ensures fits { IfSome result (λ slot. slot < u32.MAX) }
-
-        // if none has
-        ensures none { IfNone result (AreBelow self.now.slots from) }
-
-        // either way
-        ensures rises { AreRising self.now.slots }
-        ensures spare_fits { SpareFits self.now }
-        ensures own { HaveSlots self.now.slots self.now.items }
-    {
-        slot_from(&self.store, from)
     }
 }
 
 impl<T: IdHashItem, S: BuildHasher> IdHashMap<T, S> {
-    ghost use Rattle.iddqd_hash_parts.specs.HashItems.{holding_of};
-    ghost use Rattle.iddqd_hash.specs.HashMap.{HashStays, LosesPlaceOf};
+    ghost use Rattle.iddqd_hash_parts.specs.HashItems.{FindsSlot, HasHash, holding_of, of_stored_hash};
+    ghost use Rattle.iddqd_hash.specs.HashMap.{HashStays, LosesPlaceOf, SpareFits};
+
+    // Returns the slot of the item that the query finds. The hash is that of each key for which the query stands.
+    #[inline]
+    pub(super) fn slot_by_key<Q: Equivalent<T::Key>>(
+        &self,
+        hash: u64,
+        query: &Q,
+        steps: &mut Steps,
+    ) -> Option<u32>
+        requires keyed { ⟦<Self as Keyed>⟧.keyed self.now }
+        requires hash { HasHash ⟦<Self as Keyed>⟧.hash self.now (Q.equivalent query.now) T.Key.hash_input hash }
+
+        // what is found
+        ensures slot { FindsSlot T.key (Q.equivalent query.now) self.now hash result }
+        ensures spare_fits { SpareFits self.now }
+
+        // what it costs
+        ensures steps { steps.new ≤ steps.old + of_stored_hash self.now hash }
+        ensures never_resets { steps.old ≤ steps.new }
+    {
+        find_slot::<T, OwnKey, Q>(&self.store, &self.index, hash, query, steps)
+    }
+
+    // Returns the slot of the item whose key is equal to this item's, which has the hash.
+    #[inline]
+    pub(super) fn slot_of_equal(&self, hash: u64, item: &T) -> Option<u32>
+        requires keyed { ⟦<Self as Keyed>⟧.keyed self.now }
+        requires hash { hash ≡ ⟦<Self as Keyed>⟧.hash self.now (T.Key.hash_input (T.key item.now)) }
+        ensures slot { FindsSlot T.key (T.Key.eq (T.key item.now)) self.now hash result }
+        ensures spare_fits { SpareFits self.now }
+    {
+        self.slot_by_key(hash, item.key(), &mut Steps::new())
+    }
 
     // Removes the item of the slot. Hashes its key once.
     pub(super) fn take_slot(&mut self, slot: u32) -> T

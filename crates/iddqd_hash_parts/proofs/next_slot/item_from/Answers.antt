@@ -7,6 +7,7 @@ use Rattle.iddqd_hash_parts.specs.SlotOrder.{AreBelow, IsNext}
 use Rattle.iddqd_hash_parts.specs.StoreAndIndex.{items_in, slots_in}
 use Rattle.iddqd_hash_parts.proofs.GetMutLemmas.{item_in_slot}
 use Rattle.iddqd_hash_parts.proofs.RisingLemmas.{below_behind, first_from, none_from}
+use Rattle.iddqd_hash_parts.proofs.SlotItemLemmas.{slots_apart}
 use Rattle.iddqd_hash_parts.proofs.next_slot.item_from.Goals as goal
 
 module _ {T : Type 0} (store : Store T) (from : ℕ) where
@@ -25,14 +26,14 @@ module _ {T : Type 0} (store : Store T) (from : ℕ) where
       (λ l. get_or_past store.slots j None l)
       (cases_lt j (length store.slots)))
 
-pub returns-clause-there : goal.returns-clause-there
-returns-clause-there g c = next_of c.args.store.now c.args.from c.next_occupied.result c.next_occupied.ensures.slot c.next_occupied.ensures.item
-
-pub returns-clause-item : goal.returns-clause-item
-returns-clause-item g c = item_of c.args.store.now c.args.from c.next_occupied.result c.next_occupied.ensures.item
-
-pub returns-clause-none : goal.returns-clause-none
-returns-clause-none g c = none_of c.args.store.now c.args.from c.next_occupied.result c.next_occupied.ensures.none
-
-pub returns-clause-rises : goal.returns-clause-rises
-returns-clause-rises g c = below_behind (λ s. s) (λ s t h. h) c.args.store.now.slots
+pub returns-clause-found : goal.returns-clause-found
+returns-clause-found g c =
+    let store = c.args.store.now in
+    let next = c.next_occupied.ensures in
+    record {
+      there = next_of store c.args.from c.next_occupied.result next.slot next.item;
+      item = item_of store c.args.from c.next_occupied.result next.item;
+      none = none_of store c.args.from c.next_occupied.result next.none;
+      rises = below_behind (λ s. s) (λ s t h. h) store.slots;
+      own = slots_apart store.slots;
+    }

@@ -1,71 +1,58 @@
-use Rattle.std.proofs.Common.{◌≡◌, ◌∙◌, IsSome, refl, sym, ap, subst, true, false, true≢false}
-use Rattle.std.specs.List.{filter_map}
+use Rattle.std.proofs.Common.{◌≡◌, ◌∙◌, refl, sym, ap, subst, true, false, true≢false}
+use Rattle.std.specs.List.{AllByRecursion, filter_map}
 use Rattle.std.specs.Option.{option_and_then}
 use Rattle.iddqd_store.specs.Contents.{IsAbsent, find_item}
 use Rattle.iddqd_store.specs.Hashing.{hash_under}
 use Rattle.iddqd_store.specs.SlotItems.{item_of_slot}
 use Rattle.iddqd_store.proofs.WrittenLemmas.{written_found}
 use Rattle.iddqd_bi_hash.specs.BiHashItems.{differ_by_key1, differ_by_key2}
+use Rattle.iddqd_bi_hash.specs.BiHashMap.{IsOccupied}
 use Rattle.iddqd_bi_hash.specs.TwoKeys.{find_by_both, without_slots}
-use Rattle.iddqd_bi_hash.proofs.BothLemmas.{differ1, differ2, hashed1, hashed2}
 use Rattle.iddqd_bi_hash.proofs.EntryLemmas.{both_item, item_if, left_lacks1, left_lacks2, same_slots}
-use Rattle.iddqd_bi_hash.proofs.SlotsLemmas.{both_found_same, found_items, found_left, found_there, none_same, pair_each, seen_found, seen_only}
+use Rattle.iddqd_bi_hash.proofs.SlotsLemmas.{both_found_same, found_items, found_left, found_there, none_same, pair_each}
 use Rattle.iddqd_bi_hash.proofs.UniqueLemmas.{both_found}
 use Rattle.iddqd_bi_hash.proofs.bi_hash_map.BiHashMap.entry.Goals as goal
 
-pub find_slot-one-requires-clause-differ : goal.find_slot-one-requires-clause-differ
-find_slot-one-requires-clause-differ g c =
-    let m = c.self.inside in
-    differ1 _ _ _ _ _ _ _ m.hasher m.store m.index1 m.index2 _ c.self.view_is c.requires.keyed
-
-pub find_slot-one-requires-clause-stored : goal.find_slot-one-requires-clause-stored
-find_slot-one-requires-clause-stored g c =
-    let m = c.self.inside in
+pub slot_by_key1-one-requires-clause-hash : goal.slot_by_key1-one-requires-clause-hash
+slot_by_key1-one-requires-clause-hash g c k stands =
     let hash = hash_under g.S.BuildHasher g.S.Hasher.Hasher in
-    hashed1 _ _ _ _ _ _ _ m.hasher m.store m.index1 m.index2 _ c.self.view_is c.requires.keyed (g.Q.Equivalent.equivalent c.args.query1.now) c.hash_one-hash1.result
-    (λ k stands. ap (λ v. hash v.hasher (g.T.K1.Hash.hash_input k)) (sym c.self.view_is) ∙ ap (hash m.hasher) (sym (c.requires.hashes1 k stands)) ∙ sym c.hash_one-hash1.ensures)
+    ap (λ v. hash v.hasher (g.T.K1.Hash.hash_input k)) (sym c.self.view_is) ∙ ap (hash c.self.inside.hasher) (sym (c.requires.hashes1 k stands)) ∙ sym c.hash_one-hash1.ensures
 
-pub find_slot-other-requires-clause-differ : goal.find_slot-other-requires-clause-differ
-find_slot-other-requires-clause-differ g c =
-    let m = c.self.inside in
-    differ2 _ _ _ _ _ _ _ m.hasher m.store m.index1 m.index2 _ c.self.view_is c.requires.keyed
-
-pub find_slot-other-requires-clause-stored : goal.find_slot-other-requires-clause-stored
-find_slot-other-requires-clause-stored g c =
-    let m = c.self.inside in
+pub slot_by_key2-other-requires-clause-hash : goal.slot_by_key2-other-requires-clause-hash
+slot_by_key2-other-requires-clause-hash g c k stands =
     let hash = hash_under g.S.BuildHasher g.S.Hasher.Hasher in
-    hashed2 _ _ _ _ _ _ _ m.hasher m.store m.index1 m.index2 _ c.self.view_is c.requires.keyed (g.R.Equivalent.equivalent c.args.query2.now) c.hash_one-hash2.result
-    (λ k stands. ap (λ v. hash v.hasher (g.T.K2.Hash.hash_input k)) (sym c.self.view_is) ∙ ap (hash m.hasher) (sym (c.requires.hashes2 k stands)) ∙ sym c.hash_one-hash2.ensures)
+    ap (λ v. hash v.hasher (g.T.K2.Hash.hash_input k)) (sym c.self.view_is) ∙ ap (hash c.self.inside.hasher) (sym (c.requires.hashes2 k stands)) ∙ sym c.hash_one-hash2.ensures
 
 pub invariant_of-result : goal.invariant_of-result
 invariant_of-result g c =
-    let m = c.self.inside in
-    let one = c.find_slot-one in
-    let other = c.find_slot-other in
+    let now = c.args.self.now in
+    let one = c.slot_by_key1-one in
+    let other = c.slot_by_key2-other in
     let told = c.in-Some.ensures in
-    let both = pair_each (λ slot. IsSome (item_of_slot c.args.self.now.slots c.args.self.now.items slot)) c.in-Some.first c.in-Some.second (found_there m.hasher m.store m.index1 m.index2 _ c.self.view_is one.result other.result _ told g.T.BiHashItem.key1 (g.Q.Equivalent.equivalent c.args.query1.now) one.ensures.only g.T.BiHashItem.key2 (g.R.Equivalent.equivalent c.args.query2.now) other.ensures.only) in
+    let occupied = IsOccupied now in
+    let both = pair_each occupied c.in-Some.first c.in-Some.second (subst (AllByRecursion occupied) (sym told) (found_there occupied one.result other.result one.ensures.slot.there other.ensures.slot.there)) in
     record { there1 = both.0; there2 = both.1; same = λ unique. (same_slots one.result other.result c.in-Some.first c.in-Some.second told (sym c.is_one_slot-unique.ensures ∙ unique)).1 }
 
 pub returns-in-Some : goal.returns-in-Some
 returns-in-Some g c =
-    let m = c.self.inside in
     let now = c.args.self.now in
     let key1 = g.T.BiHashItem.key1 in
     let key2 = g.T.BiHashItem.key2 in
     let test1 = g.Q.Equivalent.equivalent c.args.query1.now in
     let test2 = g.R.Equivalent.equivalent c.args.query2.now in
-    let one = c.find_slot-one in
-    let other = c.find_slot-other in
-    let found1 = seen_found m.hasher m.store m.index1 m.index2 _ c.self.view_is key1 test1 one.result one.ensures.item in
-    let found2 = seen_found m.hasher m.store m.index1 m.index2 _ c.self.view_is key2 test2 other.result other.ensures.item in
-    let only1 = seen_only m.hasher m.store m.index1 m.index2 _ c.self.view_is key1 test1 one.result one.ensures.only in
-    let only2 = seen_only m.hasher m.store m.index1 m.index2 _ c.self.view_is key2 test2 other.result other.ensures.only in
+    let one = c.slot_by_key1-one in
+    let other = c.slot_by_key2-other in
+    let found1 = one.ensures.slot.item in
+    let found2 = other.ensures.slot.item in
+    let only1 = one.ensures.slot.only in
+    let only2 = other.ensures.slot.only in
     let apart1 = differ_by_key1 _ _ _ _ _ _ _ now c.requires.keyed in
     let apart2 = differ_by_key2 _ _ _ _ _ _ _ now c.requires.keyed in
     let told = c.in-Some.ensures in
     let others = ap (without_slots now.slots now.items) told ∙ found_left key1 key2 g.met.T.K1.Eq.laws g.met.T.K2.Eq.laws test1 test2 (g.met.Q.Equivalent.one_key c.args.query1.now) (g.met.R.Equivalent.one_key c.args.query2.now) now.slots now.items apart1 apart2 one.result other.result found1 found2 only1 only2 in
     let is_unique = c.is_one_slot-unique.ensures ∙ both_found_same key1 key2 g.met.T.K1.Eq.laws g.met.T.K2.Eq.laws test1 test2 (g.met.Q.Equivalent.one_key c.args.query1.now) (g.met.R.Equivalent.one_key c.args.query2.now) now.slots now.items apart1 apart2 one.result other.result found1 found2 only1 only2 in
-    let both = pair_each (λ slot. IsSome (item_of_slot now.slots now.items slot)) c.in-Some.first c.in-Some.second (found_there m.hasher m.store m.index1 m.index2 _ c.self.view_is one.result other.result _ told key1 test1 one.ensures.only key2 test2 other.ensures.only) in
+    let occupied = IsOccupied now in
+    let both = pair_each occupied c.in-Some.first c.in-Some.second (subst (AllByRecursion occupied) (sym told) (found_there occupied one.result other.result one.ensures.slot.there other.ensures.slot.there)) in
     let found : c.is_one_slot-unique.result ≡ true → item_of_slot now.slots now.items c.in-Some.first ≡ find_item key1 test1 now.items =
     λ unique. ap (option_and_then (item_of_slot now.slots now.items)) (sym (same_slots one.result other.result c.in-Some.first c.in-Some.second told (sym c.is_one_slot-unique.ensures ∙ unique)).0) ∙ found1 in
     record {
@@ -82,18 +69,17 @@ returns-in-Some g c =
 
 pub returns-in-None : goal.returns-in-None
 returns-in-None g c =
-    let m = c.self.inside in
     let now = c.args.self.now in
     let key1 = g.T.BiHashItem.key1 in
     let key2 = g.T.BiHashItem.key2 in
     let test1 = g.Q.Equivalent.equivalent c.args.query1.now in
     let test2 = g.R.Equivalent.equivalent c.args.query2.now in
-    let one = c.find_slot-one in
-    let other = c.find_slot-other in
-    let found1 = seen_found m.hasher m.store m.index1 m.index2 _ c.self.view_is key1 test1 one.result one.ensures.item in
-    let found2 = seen_found m.hasher m.store m.index1 m.index2 _ c.self.view_is key2 test2 other.result other.ensures.item in
-    let only1 = seen_only m.hasher m.store m.index1 m.index2 _ c.self.view_is key1 test1 one.result one.ensures.only in
-    let only2 = seen_only m.hasher m.store m.index1 m.index2 _ c.self.view_is key2 test2 other.result other.ensures.only in
+    let one = c.slot_by_key1-one in
+    let other = c.slot_by_key2-other in
+    let found1 = one.ensures.slot.item in
+    let found2 = other.ensures.slot.item in
+    let only1 = one.ensures.slot.only in
+    let only2 = other.ensures.slot.only in
     let apart1 = differ_by_key1 _ _ _ _ _ _ _ now c.requires.keyed in
     let apart2 = differ_by_key2 _ _ _ _ _ _ _ now c.requires.keyed in
     let told = c.in-None.ensures in

@@ -30,7 +30,7 @@ loop-slot-preserved g c =
     let m = l.self in
     let slot = c.in-Some.slot in
     let at = slots_below l.next m.slots in
-    let found = c.in-Some.ensures in
+    let found = c.in-Some.ensures.found in
     let R = CalledAt g.F.FnMut in
     let there : slice_get m.items at ≡ Some c.in-Some.item.now = sym (place_read m.slots m.items at slot found.own found.there).item ∙ found.item in
     let within = slice_get_within m.items at _ there in
@@ -73,7 +73,7 @@ loop-slot-smaller g c =
     let m = l.self in
     let slot = c.in-Some.slot in
     let at = slots_below l.next m.slots in
-    let found = c.in-Some.ensures in
+    let found = c.in-Some.ensures.found in
     let within = slice_get_within m.slots at slot found.there in
     elim c.if-not-keep.branch [
       | then-not-keep w ↦ (
@@ -86,4 +86,4 @@ loop-slot-smaller g c =
 pub returns-clause-filtered : goal.returns-clause-filtered
 returns-clause-filtered g c =
     let l = c.loop-slot in
-    asked_end (CalledAt g.F.FnMut) c.args.keep c.args.self.now.items l.keep l.self.items (slots_below l.next l.self.slots) (omega (arith, c.item_from.ensures.own.as_many, c.in_default.ensures.none)) l.invariant.asked
+    asked_end (CalledAt g.F.FnMut) c.args.keep c.args.self.now.items l.keep l.self.items (slots_below l.next l.self.slots) (omega (arith, c.item_from.ensures.found.own.as_many, c.in_default.ensures.found.none)) l.invariant.asked

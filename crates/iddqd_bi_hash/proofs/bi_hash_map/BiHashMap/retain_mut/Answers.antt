@@ -31,13 +31,13 @@ loop-slot-init g c =
 pub visit_slot-requires-clause-there : goal.visit_slot-requires-clause-there
 visit_slot-requires-clause-there g c =
     let m = c.loop-slot.self in
-    there_listed m.slots (slots_below c.loop-slot.from m.slots) c.in-Some.slot c.in-Some.ensures.there m.items c.in-Some.ensures.own
+    there_listed m.slots (slots_below c.loop-slot.from m.slots) c.in-Some.slot c.in-Some.ensures.found.there m.items c.in-Some.ensures.found.own
 
 pub take_slot-requires-clause-there : goal.take_slot-requires-clause-there
 take_slot-requires-clause-there g c =
     let m = c.loop-slot.self in
     let slot = c.in-Some.slot in
-    let some = there_listed m.slots (slots_below c.loop-slot.from m.slots) slot c.in-Some.ensures.there m.items c.in-Some.ensures.own in
+    let some = there_listed m.slots (slots_below c.loop-slot.from m.slots) slot c.in-Some.ensures.found.there m.items c.in-Some.ensures.found.own in
     rw (c.visit_slot.ensures.visits.4) (still_there m.slots m.items slot c.visit_slot.ensures.visits.1 some)
 
 pub loop-slot-preserved : goal.loop-slot-preserved
@@ -46,7 +46,7 @@ loop-slot-preserved g c =
     let m = l.self in
     let slot = c.in-Some.slot in
     let at = slots_below l.from m.slots in
-    let found = c.in-Some.ensures in
+    let found = c.in-Some.ensures.found in
     let visits = g.V.Visit.visits in
     let saw = c.visit_slot.ensures.visits in
     let x = saw.0 in
@@ -100,7 +100,7 @@ loop-slot-smaller g c =
     let m = l.self in
     let slot = c.in-Some.slot in
     let at = slots_below l.from m.slots in
-    let found = c.in-Some.ensures in
+    let found = c.in-Some.ensures.found in
     let saw = c.visit_slot.ensures.visits in
     let slots = ap (λ n. n.slots) saw.4 in
     let within = slice_get_within m.slots at slot found.there in

@@ -1,8 +1,9 @@
 use Rattle.std.proofs.Common.{subst}
+use Rattle.iddqd_hash_parts.specs.HashItems.{FindsSlot}
+use Rattle.iddqd_hash_parts.proofs.InSlotLemmas.{finds_slot}
 use Rattle.iddqd_bi_hash.specs.BiHashItems.{by_key1}
-use Rattle.iddqd_bi_hash.specs.BiHashMap.{FindsSlot}
 use Rattle.iddqd_bi_hash.specs.StoreAndIndexes.{beside}
-use Rattle.iddqd_bi_hash.proofs.BothLemmas.{differ1, finds_slot, fits, hashed1}
+use Rattle.iddqd_bi_hash.proofs.BothLemmas.{differ1, fits, hashed1}
 use Rattle.iddqd_bi_hash.proofs.bi_hash_map.BiHashMap.slot_by_key1.Goals as goal
 
 pub find_slot-requires-clause-differ : goal.find_slot-requires-clause-differ
@@ -21,7 +22,7 @@ returns-clause-slot g c =
     let key = g.T.BiHashItem.key1 in
     let test = g.Q.Equivalent.equivalent c.args.query.now in
     subst (λ v. FindsSlot key test (by_key1 v) c.args.hash c.find_slot.result) c.self.view_is
-    (finds_slot key test m.hasher m.store (beside m.index1.pairs m.index1 m.index2) c.self.invariant.one c.args.hash c.find_slot.result c.find_slot.ensures.item c.find_slot.ensures.listed)
+    (finds_slot key test m.hasher m.store (beside m.index1.pairs m.index1 m.index2) c.self.invariant.one c.args.hash c.find_slot.result c.find_slot.ensures.item c.find_slot.ensures.only c.find_slot.ensures.listed)
 
 pub returns-clause-spare_fits : goal.returns-clause-spare_fits
 returns-clause-spare_fits g c =

@@ -1,4 +1,4 @@
-use Rattle.std.proofs.Common.{◌≡◌, ◌∙◌, None, Some, ap, cond, refl}
+use Rattle.std.proofs.Common.{◌∙◌, None, ap, cond, refl}
 use Rattle.iddqd_store.specs.SlotItems.{item_of_slot}
 use Rattle.iddqd_bi_hash.specs.Entry.{still_occupied, with_entry_item}
 use Rattle.iddqd_bi_hash.proofs.BothLemmas.{written_akin, written_same}

@@ -18,7 +18,7 @@ all_same p q i w = ℕ_set _ _ (p w) (q w) i
 pub item_in_slot_mut-requires : goal.item_in_slot_mut-requires
 item_in_slot_mut-requires g c =
     let m = c.args.self.now.map.now in
-    let found = c.in_ok-slot.ensures in
+    let found = c.in_ok-slot.ensures.found in
     there_listed m.slots (slots_below c.args.self.now.next m.slots) c.in_ok-slot.slot found.there m.items found.own
 
 pub invariant_of-self-then-self-len : goal.invariant_of-self-then-self-len
@@ -26,7 +26,7 @@ invariant_of-self-then-self-len g c =
     let walk = c.args.self.now in
     let m = walk.map.now in
     let slot = c.in_ok-slot.slot in
-    let found = c.in_ok-slot.ensures in
+    let found = c.in_ok-slot.ensures.found in
     let below : slots_below walk.next m.slots ≡ walk.done = ap (λ n. slots_below n m.slots) walk.from ∙ found.rises walk.done (omega (arith, c.if-self-len.true, c.len.ensures.len, found.own.as_many)) in
     record { from = behind_next m.slots walk.done slot (ap (slice_get m.slots) (sym below) ∙ found.there) }
 
@@ -36,7 +36,7 @@ returns-in_ok-slot g c =
     let walk = c.args.self.now in
     let m = walk.map.now in
     let slot = c.in_ok-slot.slot in
-    let found = c.in_ok-slot.ensures in
+    let found = c.in_ok-slot.ensures.found in
     let below : slots_below walk.next m.slots ≡ walk.done = ap (λ n. slots_below n m.slots) walk.from ∙ found.rises walk.done (omega (arith, c.if-self-len.true, c.len.ensures.len, found.own.as_many)) in
     let there : slice_get m.slots walk.done ≡ Some slot = ap (slice_get m.slots) (sym below) ∙ found.there in
     let read = place_read m.slots m.items walk.done slot found.own there in
