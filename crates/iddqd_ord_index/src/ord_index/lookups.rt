@@ -59,8 +59,8 @@ impl OrdIndex {
         }
     }
 
-    /// Returns what `find` returns, and by as many comparisons; with it an iterator over the slots from that place on,
-    /// which goes on where the search ended.
+    /// Returns what `find` returns, by as many comparisons, and an iterator over the slots from that place on. The
+    /// iterator goes on where the search ended.
     pub fn walk_from<T: IdOrdItem, Q: Comparable<T::Key>>(
         &self,
         store: &ItemStore<T>,
