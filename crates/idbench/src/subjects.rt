@@ -103,7 +103,7 @@ impl<K: BenchKey> Subject for Hashed<Item<K>> {
     }
 
     fn copied(&self) -> usize {
-        self.copied().map_or(0, |copy| copy.len())
+        self.map().clone().map_or(0, |copy| copy.len())
     }
 
     fn raised(self) -> IdHashMap<Item<K>> {
@@ -172,7 +172,7 @@ impl<K: BenchKey> Subject for Ordered<Item<K>> {
     }
 
     fn copied(&self) -> usize {
-        self.copied().map_or(0, |copy| copy.len())
+        self.map().clone().map_or(0, |copy| copy.len())
     }
 
     fn raised(self) -> IdOrdMap<Item<K>> {

@@ -6,7 +6,7 @@ use std::test::Fail;
 use test_support::bulk::Bulk;
 use test_support::counting::{CountingKey, Tallied};
 use test_support::hashers::ZeroHasher;
-use test_support::maps::{Copying, Hashed, Ordered, UnderTest};
+use test_support::maps::{ByEntry, Copying, Hashed, Ordered, UnderTest};
 
 /// A hash map whose every hash is 0.
 pub(crate) type ByZero<'a> = Hashed<Tallied<'a>, BuildHasherDefault<ZeroHasher>>;
@@ -83,34 +83,7 @@ fn hash_calls_search_once(rt: HostRuntime) -> Result<(), Fail> {
     tally.end()
 }
 
-// A guard, an entry, or what is called on it.
-#[derive(Clone, Copy)]
-enum Call {
-    Spend,
-    Enter,
-    UseEntry,
-    ModifyOrPut,
-    OrInsert,
-    OrInsertWith,
-}
-
-// Whether the call found its item, or left it in the map.
-fn is_done<'a, M: Copying<Tallied<'a>, CountingKey<'a>>>(
-    map: M,
-    item: Tallied<'a>,
-    call: Call,
-) -> bool {
-    match call {
-        Call::Spend => map.spend(&item.key),
-        Call::Enter => map.enter(&item.key),
-        Call::UseEntry => map.use_entry(item),
-        Call::ModifyOrPut => map.modify_or_put(item),
-        Call::OrInsert => map.use_or_insert(item),
-        Call::OrInsertWith => map.use_or_insert_with(item),
-    }
-}
-
-// Each of those calls for the item: a search costs `once`, and the calls that may insert `used`.
+// A guard of the item, and each call on its entry: a search costs `once`, and the calls that may insert `used`.
 fn by_guard_and_entry<'a, M: Copying<Tallied<'a>, CountingKey<'a>> + Bulk<Tallied<'a>> + Drop>(
     alloc: Global,
     items: &[Tallied<'a>],
@@ -118,16 +91,17 @@ fn by_guard_and_entry<'a, M: Copying<Tallied<'a>, CountingKey<'a>> + Bulk<Tallie
     (once, used): (Cost, Cost),
     meter: Meter<'a>,
 ) -> Result<(), Fail> {
+    let mut map = meter.map_of::<M>(alloc, items)?;
+    meter.tell(map.spend(&item.key) == is_there, once);
     for (call, wanted, cost) in [
-        (Call::Spend, is_there, once),
-        (Call::Enter, is_there, once),
-        (Call::UseEntry, true, used),
-        (Call::ModifyOrPut, true, used),
-        (Call::OrInsert, true, used),
-        (Call::OrInsertWith, true, used),
+        (ByEntry::Nothing, is_there, once),
+        (ByEntry::Insert, true, used),
+        (ByEntry::ModifyOrInsert, true, used),
+        (ByEntry::OrInsert, true, used),
+        (ByEntry::OrInsertWith, true, used),
     ] {
         let map = meter.map_of::<M>(alloc, items)?;
-        meter.tell(is_done(map, item, call) == wanted, cost);
+        meter.tell(map.enter(item, call) == wanted, cost);
     }
     Ok(())
 }

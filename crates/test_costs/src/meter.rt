@@ -72,7 +72,7 @@ impl<'a> Meter<'a> {
     }
 
     /// The cost of one search for the key, as `get_counted` tells it.
-    pub(crate) fn once<T: Copy, K, M: Copying<T, K>>(self, map: &M, key: &K) -> Cost {
+    pub(crate) fn once<T: Copy + Drop, K, M: Copying<T, K>>(self, map: &M, key: &K) -> Cost {
         let _ = self.counts.since();
         let (_, steps) = map.get_counted(key);
         let cost = (self.hashings, steps);

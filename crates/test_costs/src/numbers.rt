@@ -55,7 +55,7 @@ pub(crate) fn of_equal_hashes<T: IdHashItem>(
 /// Whether a call found, inserted or removed an item, and how many steps it took.
 pub(crate) type Outcome = (bool, u32);
 
-pub(crate) fn find<T, K, M: UnderTest<T, K>>(map: &M, key: &K) -> Outcome {
+pub(crate) fn find<T: Drop, K, M: UnderTest<T, K>>(map: &M, key: &K) -> Outcome {
     let (found, steps) = map.get_counted(key);
     (found.is_some(), steps)
 }

@@ -16,7 +16,7 @@ fn sides<T: Copy>(difference: &Difference<&T>) -> Sides<T> {
 }
 
 /// A map of either kind, whose difference to one that came after it is listed.
-pub(crate) trait Listed<T, K>: UnderTest<T, K> {
+pub(crate) trait Listed<T: Drop, K>: UnderTest<T, K> {
     /// A map without items.
     fn empty(alloc: Global) -> Self;
 

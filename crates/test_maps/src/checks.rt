@@ -83,7 +83,7 @@ pub(crate) fn filled<T: IdOrdItem + Copy + Drop, M: UnderTest<T, T::Key> + Drop>
 }
 
 /// Whether the map has these items, and no others.
-pub(crate) fn has_only<T: IdOrdItem + PartialEq>(
+pub(crate) fn has_only<T: IdOrdItem + Drop + PartialEq>(
     map: &impl UnderTest<T, T::Key>,
     items: &[T],
 ) -> bool {

@@ -1,8 +1,20 @@
 //! A plain list of items that is searched, and the numbers that a map tells beside its items.
+use crate::draws::Draws;
 use iddqd::errors::TryReserveError;
 use std::alloc::{AllocError, Global};
 use test_support::caseless::{Caseless, Coarse, spelled};
 use test_support::maps::Inserted;
+
+/// Whether a call is answered as the list does, or why the list has no room.
+pub(crate) type Answer = Result<bool, AllocError>;
+
+/// A map, the list that it is held against, and what its calls are drawn from.
+#[derive(Drop)]
+pub(crate) struct Pair<M> {
+    pub(crate) map: M,
+    pub(crate) plain: Plain,
+    pub(crate) draws: Draws,
+}
 
 /// What a map is held against.
 #[derive(Drop)]
@@ -113,11 +125,7 @@ impl Plain {
     }
 
     /// Whether an insertion of the item has this result. The list makes it too.
-    pub(crate) fn inserts(
-        &mut self,
-        item: Coarse,
-        answer: Inserted<Coarse>,
-    ) -> Result<bool, AllocError> {
+    pub(crate) fn inserts(&mut self, item: Coarse, answer: Inserted<Coarse>) -> Answer {
         match (self.find(&item.name), answer) {
             (None, Inserted::Done) if !self.is_full() => {
                 self.put(item)?;
@@ -136,6 +144,16 @@ impl Plain {
     /// Whether a new item may be refused so, with memory at hand.
     pub(crate) fn refuses(&self, error: TryReserveError) -> bool {
         self.is_full() && error.is_capacity_overflow()
+    }
+
+    /// The item that `or_insert` and its like show: the one there, or the new one, where there is room.
+    pub(crate) fn shown(&mut self, item: Coarse) -> Result<Option<Coarse>, AllocError> {
+        let old = self.find(&item.name);
+        if old.is_none() && !self.is_full() {
+            self.put(item)?;
+            return Ok(Some(item));
+        }
+        Ok(old)
     }
 
     /// Overwrites the item into the list.

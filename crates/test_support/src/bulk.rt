@@ -9,14 +9,12 @@ use std::alloc::Global;
 use std::hash::BuildHasher;
 
 /// A map of either kind that is made of an iterator.
-pub trait Bulk<T>: Sized {
+pub trait Bulk<T: Drop>: Sized {
     /// `from_iter`.
     fn collected<U: IntoIterator<Item = T>>(
         alloc: Global,
         items: U,
     ) -> Result<Self, TryReserveError>
-    where
-        T: Drop,
         requires ends { IsFinite U.into_iter_gives U.IntoIter.can_next U.IntoIter.remaining items };
 
     /// `from_iter_unique`.
@@ -24,51 +22,37 @@ pub trait Bulk<T>: Sized {
         alloc: Global,
         items: U,
     ) -> Result<Self, FromIterError<T>>
-    where
-        T: Drop,
         requires ends { IsFinite U.into_iter_gives U.IntoIter.can_next U.IntoIter.remaining items };
 }
 
-impl<T: IdOrdItem> Bulk<T> for Ordered<T> {
+impl<T: IdOrdItem + Drop> Bulk<T> for Ordered<T> {
     fn collected<U: IntoIterator<Item = T>>(
         alloc: Global,
         items: U,
-    ) -> Result<Self, TryReserveError>
-    where
-        T: Drop,
-    {
+    ) -> Result<Self, TryReserveError> {
         Ok(Self::new(IdOrdMap::from_iter(alloc, items)?))
     }
 
     fn collected_unique<U: IntoIterator<Item = T>>(
         alloc: Global,
         items: U,
-    ) -> Result<Self, FromIterError<T>>
-    where
-        T: Drop,
-    {
+    ) -> Result<Self, FromIterError<T>> {
         Ok(Self::new(IdOrdMap::from_iter_unique(alloc, items)?))
     }
 }
 
-impl<T: IdHashItem, S: BuildHasher + Default + Drop> Bulk<T> for Hashed<T, S> {
+impl<T: IdHashItem + Drop, S: BuildHasher + Default + Drop> Bulk<T> for Hashed<T, S> {
     fn collected<U: IntoIterator<Item = T>>(
         alloc: Global,
         items: U,
-    ) -> Result<Self, TryReserveError>
-    where
-        T: Drop,
-    {
+    ) -> Result<Self, TryReserveError> {
         Ok(Self::new(IdHashMap::from_iter(alloc, items)?))
     }
 
     fn collected_unique<U: IntoIterator<Item = T>>(
         alloc: Global,
         items: U,
-    ) -> Result<Self, FromIterError<T>>
-    where
-        T: Drop,
-    {
+    ) -> Result<Self, FromIterError<T>> {
         Ok(Self::new(IdHashMap::from_iter_unique(alloc, items)?))
     }
 }

@@ -3,7 +3,6 @@
 
 pub mod bulk;
 pub mod coarse;
-pub mod copied;
 pub mod counting;
 pub mod hashers;
 pub mod heap;

@@ -2,7 +2,8 @@
 use crate::items::Numbered;
 use crate::maps::UnderTest;
 
-const IDS: [u32; 25] = [
+/// The numbers of the twenty-five.
+pub const IDS: [u32; 25] = [
     0, 17, 1, 12, 5, 21, 8, 10, 18, 4, 16, 22, 9, 24, 23, 13, 7, 25, 26, 20, 31, 11, 14, 2, 6,
 ];
 
