@@ -1,9 +1,9 @@
 //! Rows of writes that spell a key anew, of guards lent once more, of equal hashes, and of walks that end early.
-use crate::checks::check;
 use crate::numbers::{are_found, are_numbers_put, numbered, of_equal_hashes};
 use iddqd::{IdHashMap, IdOrdMap};
 use std::alloc::Global;
 use test_support::caseless::{Caseless, Coarse, item_of, spelled};
+use test_support::checks::check;
 use test_support::coarse::{CoarseMap, Copied, Way};
 use test_support::items::Numbered;
 use test_support::maps::{Copying, Inserted, UnderTest, by_hash, in_order};
@@ -120,24 +120,20 @@ fn guard_spent_unwritten(rt: HostRuntime) {
 
 // Whether fifty numbers are inserted, each two above the one before.
 fn fifty_are_put<M: UnderTest<Numbered, u32>>(map: &mut M, first: u32) -> bool {
-    let mut number = first;
-    for _ in 0..50 {
-        if !map.is_put(numbered(number)) {
+    for half in 0..50u32 {
+        if !map.is_put(numbered(half.wrapping_mul(2).wrapping_add(first))) {
             return false;
         }
-        number = number.wrapping_add(2);
     }
     true
 }
 
 // Whether the fifty even numbers are removed.
 fn evens_are_taken<M: UnderTest<Numbered, u32>>(map: &mut M) -> bool {
-    let mut number = 0u32;
-    for _ in 0..50 {
-        if map.remove(&number).is_none() {
+    for half in 0..50u32 {
+        if map.remove(&half.wrapping_mul(2)).is_none() {
             return false;
         }
-        number = number.wrapping_add(2);
     }
     true
 }

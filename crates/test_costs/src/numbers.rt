@@ -6,14 +6,12 @@ use test_support::hashers::ZeroHasher;
 use test_support::items::Numbered;
 use test_support::maps::{Hashed, Inserted, Ordered, UnderTest};
 
-/// The item of a number and its value.
-pub(crate) fn valued(number: u32, value: u32) -> Numbered {
-    Numbered { number, value }
-}
-
 /// The item of a number.
 pub(crate) fn numbered(number: u32) -> Numbered {
-    valued(number, number ^ 5)
+    Numbered {
+        number,
+        value: number ^ 5,
+    }
 }
 
 /// Whether each of the numbers from one to below another goes into the map.

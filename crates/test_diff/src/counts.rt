@@ -1,7 +1,7 @@
 //! How often a difference compares and hashes keys.
-use crate::checks::check;
 use iddqd::{IdHashMap, IdOrdMap, Steps};
 use iddqd_diff::Diffable;
+use test_support::checks::check;
 use test_support::counting::Counts;
 use test_support::maps::is_put;
 

@@ -41,11 +41,8 @@ impl<T: IdOrdItem + Copy + Drop> Listed<T, T::Key> for Ordered<T> {
     }
 
     fn differences(&self, after: &Ordered<T>, alloc: Global) -> Result<Vec<Sides<T>>, AllocError> {
-        let mut all = Vec::new(alloc);
-        for difference in self.map().diff(after.map()) {
-            all.push(sides(&difference))?;
-        }
-        Ok(all)
+        let differences = self.map().diff(after.map());
+        differences.map(|difference| sides(&difference)).collect(alloc)
     }
 
     fn hint(&self, after: &Ordered<T>) -> (usize, Option<usize>) {
@@ -60,11 +57,8 @@ impl<T: IdOrdItem + Copy + Drop> Listed<T, T::Key> for Ordered<T> {
     where
         T: PartialEq,
     {
-        let mut count = 0usize;
-        for difference in self.map().diff(after.map()) {
-            count = count.saturating_add(usize::from(difference.is_changed()));
-        }
-        count
+        let differences = self.map().diff(after.map());
+        differences.filter(|difference| difference.is_changed()).count()
     }
 }
 
@@ -74,11 +68,8 @@ impl<T: IdHashItem + Copy + Drop> Listed<T, T::Key> for Hashed<T> {
     }
 
     fn differences(&self, after: &Hashed<T>, alloc: Global) -> Result<Vec<Sides<T>>, AllocError> {
-        let mut all = Vec::new(alloc);
-        for difference in self.map().diff(after.map()) {
-            all.push(sides(&difference))?;
-        }
-        Ok(all)
+        let differences = self.map().diff(after.map());
+        differences.map(|difference| sides(&difference)).collect(alloc)
     }
 
     fn hint(&self, after: &Hashed<T>) -> (usize, Option<usize>) {
@@ -93,10 +84,7 @@ impl<T: IdHashItem + Copy + Drop> Listed<T, T::Key> for Hashed<T> {
     where
         T: PartialEq,
     {
-        let mut count = 0usize;
-        for difference in self.map().diff(after.map()) {
-            count = count.saturating_add(usize::from(difference.is_changed()));
-        }
-        count
+        let differences = self.map().diff(after.map());
+        differences.filter(|difference| difference.is_changed()).count()
     }
 }

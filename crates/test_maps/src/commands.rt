@@ -264,10 +264,8 @@ fn hash_retain_mut_by_commands(rt: HostRuntime) -> Result<(), Fail> {
     let mut walk = map.iter();
     let (one, other) = (walk.next().copied(), walk.next().copied());
     check(&rt, walk.next().is_none());
-    check(
-        &rt,
-        matches!((one, other), (Some(one), Some(other)) if are_first_two(one, other)),
-    );
+    let are_kept = matches!((one, other), (Some(one), Some(other)) if are_first_two(one, other));
+    check(&rt, are_kept);
     Ok(())
 }
 

@@ -81,10 +81,8 @@ fn kept_by_value<M: UnderTest<Named, [u8; 3]> + Drop>(
 fn retain_by_value(rt: HostRuntime) -> Result<(), Fail> {
     let alloc = rt.alloc();
     let asked = kept_by_value(&rt, Vec::with_capacity(alloc, 3)?, in_order(alloc));
-    check(
-        &rt,
-        asked.as_slice() == [*b"bar", *b"baz", *b"foo"].as_slice(),
-    );
+    let in_order = [*b"bar", *b"baz", *b"foo"];
+    check(&rt, asked.as_slice() == in_order.as_slice());
     let asked = kept_by_value(&rt, Vec::with_capacity(alloc, 3)?, by_hash(alloc));
     check(&rt, asked.len() == 3);
     Ok(())

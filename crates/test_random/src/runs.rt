@@ -18,18 +18,7 @@ use test_support::coarse::{CoarseMap, Copied};
 use test_support::hashers::ZeroHasher;
 use test_support::maps::{Copying, Hashed, Ordered, by_hash};
 
-// What takes every call.
-trait Callable: CoarseMap + Copied + Written + Drop {}
-
-impl Callable for Ordered<Coarse> {}
-
-impl Callable for Hashed<Coarse> {}
-
-impl Callable for Hashed<Coarse, BuildHasherDefault<ZeroHasher>> {}
-
-impl Callable for Hashed<Coarse, RandomState> {}
-
-impl<M: Callable> Pair<M> {
+impl<M: CoarseMap + Copied + Written + Drop> Pair<M> {
     fn new(alloc: Global, run: Run, map: M) -> Pair<M> {
         Pair {
             map,
@@ -83,7 +72,7 @@ struct Run {
 }
 
 // Runs the calls on a hash map.
-fn run_hashed<M: Callable>(
+fn run_hashed<M: CoarseMap + Copied + Written + Drop>(
     rt: &impl Abort,
     alloc: Global,
     run: Run,

@@ -31,7 +31,7 @@ fn raise(item: &mut Coarse) {
     item.value = item.value.wrapping_add(1);
 }
 
-impl<M: CoarseMap + Copied + Written> Pair<M> {
+impl<M: CoarseMap + Copied + Written + Drop> Pair<M> {
     pub(crate) fn write_first(&mut self, alloc: Global) -> Answer {
         let Ok(copy) = self.map.copied() else {
             return Ok(false);

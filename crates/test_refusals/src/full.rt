@@ -1,12 +1,12 @@
 //! Maps at their limit: an insertion is refused for that, and no request is made for it.
-use crate::maps::{fill, holds, numbered};
+use crate::maps::{fill, holds};
 use crate::words::{Word, tell, word_without_memory};
 use iddqd::errors::TryReserveError;
 use iddqd::{DefaultHashBuilder, IdHashMap, IdOrdMap};
 use std::alloc::Global;
 use std::test::Fail;
 use test_support::heap::arm;
-use test_support::items::Numbered;
+use test_support::items::{Numbered, numbered};
 use test_support::maps::{Copying, Hashed, Inserted, Ordered, UnderTest};
 
 // Fills a map up to its limit, and tries two insertions of a new number and a reservation. Each is refused since the map

@@ -1,7 +1,7 @@
 //! Maps of either kind made of iterators, and iterators that lie.
 ghost use Rattle.std.specs.Iterator.{IsFiniteIterable as IsFinite};
 
-use crate::items::Named;
+use crate::items::{Named, named};
 use crate::maps::{Hashed, Ordered, UnderTest};
 use iddqd::errors::{FromIterError, TryReserveError};
 use iddqd::{IdHashItem, IdHashMap, IdOrdItem, IdOrdMap};
@@ -57,58 +57,15 @@ impl<T: IdHashItem + Drop, S: BuildHasher + Default + Drop> Bulk<T> for Hashed<T
     }
 }
 
-/// An iterator that announces items, has none, and counts how often it is asked.
-#[derive(Drop)]
-pub struct Liar {
-    announced: usize,
-    asked: u32,
-}
-
-impl Liar {
-    /// One that announces more items than there can be, and was not asked yet.
-    pub fn new() -> Liar {
-        Liar::announcing(usize::MAX)
-    }
-
-    /// An iterator that announces this many items, and was not asked yet.
-    pub fn announcing(announced: usize) -> Liar {
-        Liar {
-            announced,
-            asked: 0,
-        }
-    }
-
-    /// How often it was asked.
-    pub fn asked(&self) -> u32 {
-        self.asked
-    }
-}
-
-impl Iterator for Liar {
-    type Item = Named;
-
-    ghost use Rattle.std.specs.Iterator.{at_most};
-
-    ghost remaining = { λ liar. at_most liar.announced };
-
-    fn next(&mut self) -> Option<Named> {
-        self.asked = self.asked.saturating_add(1);
-        None
-    }
-
-    fn size_hint(&self) -> (usize, Option<usize>) {
-        (self.announced, None)
-    }
-}
-
-/// Whether the map refuses what a liar announces before it asks it.
+/// Whether the map refuses an item that is announced as more than there can be, before it asks for it.
 pub fn is_not_taken_in<M: UnderTest<Named, [u8; 3]>>(map: &mut M) -> bool {
-    let mut liar = Liar::new();
+    let item = [named(*b"lie", 0)];
+    let mut liar = Hinted::new(&item, usize::MAX);
     let refused = match map.extend(&mut liar) {
         Ok(()) => false,
         Err(stopped) => stopped.item.is_none() && stopped.error.is_capacity_overflow(),
     };
-    refused && liar.asked() == 0
+    refused && liar.next().is_some()
 }
 
 /// Gives a vector's items, from the last one on. It announces that this many are to come at least, and at most far more

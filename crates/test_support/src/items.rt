@@ -28,6 +28,22 @@ impl IdHashItem for Named {
     }
 }
 
+/// An item of the name.
+pub fn named(name: [u8; 3], value: u32) -> Named {
+    Named { name, value }
+}
+
+/// Two names.
+pub const FOO: Named = Named {
+    name: *b"foo",
+    value: 42,
+};
+
+pub const BAR: Named = Named {
+    name: *b"bar",
+    value: 20,
+};
+
 /// A number and its value.
 #[derive(Clone, Copy, PartialEq, Eq)]
 pub struct Numbered {
@@ -53,6 +69,11 @@ impl IdHashItem for Numbered {
     fn key(&self) -> &u32 {
         &self.number
     }
+}
+
+/// An item of the number.
+pub fn numbered(number: u32, value: u32) -> Numbered {
+    Numbered { number, value }
 }
 
 /// A number, which is the key, and three fields beside it.

@@ -2,6 +2,7 @@
 #![tactic(auto)]
 
 pub mod bulk;
+pub mod checks;
 pub mod coarse;
 pub mod counting;
 pub mod hashers;

@@ -6,7 +6,7 @@ ghost use Rattle.iddqd.specs.IdHashMap.{HashItems, IsKeyed};
 ghost use Rattle.iddqd.specs.Hashing.{hash_under};
 ghost use Rattle.iddqd.specs.Holding.{Holding};
 
-use crate::visitors::{Dropped, Untouched};
+use crate::visitors::Untouched;
 use iddqd::errors::{
     DuplicateItem, ExtendError, ExtendUniqueError, InsertError, Refused, TryReserveError,
 };
@@ -420,11 +420,8 @@ pub trait Copying<T: Copy + Drop, K>: UnderTest<T, K> {
     /// How many items `iter` shows.
     fn walk(&self) -> usize;
 
-    /// `retain_mut`, which keeps each item.
-    fn visit_all(&mut self);
-
-    /// `retain_mut`, which keeps none.
-    fn drop_all(&mut self);
+    /// `retain_mut`, which keeps each item, or none.
+    fn visit_all(&mut self, keeps: bool);
 
     /// `get_mut`, and the guard is spent. Whether there was one.
     fn spend(&mut self, key: &K) -> bool;
@@ -451,12 +448,8 @@ impl<T: IdOrdItem + Copy + Drop> Copying<T, T::Key> for Ordered<T> {
         self.map.iter().count()
     }
 
-    fn visit_all(&mut self) {
-        self.map.retain_mut(&mut Untouched);
-    }
-
-    fn drop_all(&mut self) {
-        self.map.retain_mut(&mut Dropped);
+    fn visit_all(&mut self, keeps: bool) {
+        self.map.retain_mut(&mut Untouched { keeps });
     }
 
     #[tactic(auto, using(iddqd::proofs::GuardLemmas::same_key_kept))]
@@ -483,7 +476,7 @@ impl<T: IdOrdItem + Copy + Drop> Copying<T, T::Key> for Ordered<T> {
                 }
                 id_ord_map::Entry::Vacant(entry) => is_lent!(entry.insert(item), finish),
             },
-            ByEntry::ModifyOrInsert => match entry.and_modify(&mut Untouched) {
+            ByEntry::ModifyOrInsert => match entry.and_modify(&mut Untouched { keeps: true }) {
                 id_ord_map::Entry::Occupied(_) => true,
                 id_ord_map::Entry::Vacant(entry) => entry.insert_entry(item).is_ok(),
             },
@@ -510,12 +503,8 @@ impl<T: IdHashItem + Copy + Drop, S: BuildHasher + Drop> Copying<T, T::Key> for 
         self.map.iter().count()
     }
 
-    fn visit_all(&mut self) {
-        self.map.retain_mut(&mut Untouched);
-    }
-
-    fn drop_all(&mut self) {
-        self.map.retain_mut(&mut Dropped);
+    fn visit_all(&mut self, keeps: bool) {
+        self.map.retain_mut(&mut Untouched { keeps });
     }
 
     #[tactic(auto, using(iddqd::proofs::GuardLemmas::same_key_kept))]
@@ -542,7 +531,7 @@ impl<T: IdHashItem + Copy + Drop, S: BuildHasher + Drop> Copying<T, T::Key> for 
                 }
                 id_hash_map::Entry::Vacant(entry) => is_lent!(entry.insert(item), finish),
             },
-            ByEntry::ModifyOrInsert => match entry.and_modify(&mut Untouched) {
+            ByEntry::ModifyOrInsert => match entry.and_modify(&mut Untouched { keeps: true }) {
                 id_hash_map::Entry::Occupied(_) => true,
                 id_hash_map::Entry::Vacant(entry) => entry.insert_entry(item).is_ok(),
             },

@@ -5,7 +5,7 @@ use std::process::Abort;
 
 /// Ends the test as failed if the condition is false. The proof of a call takes a third of that of an `assert!` in its
 /// place.
-pub(crate) fn check(rt: &impl Abort, condition: bool)
+pub fn check(rt: &impl Abort, condition: bool)
     ensures { IsTrue condition }
 {
     assert!(rt; condition);
