@@ -6,7 +6,6 @@ ghost use Rattle.iddqd_bi_hash.specs.Hashing.{hash_under};
 ghost use Rattle.iddqd_bi_hash.specs.BiHashItems.{BiHashItems, IsKeyedByBoth};
 
 pub(crate) use crate::hosts::Host;
-pub(crate) use test_support::checks::check;
 use iddqd_bi_hash::{
     BiHashItem, BiHashMap, DefaultHashBuilder, ExtendUniqueError, Few, FromIterError, InsertError,
     Keyed, Refused, TryReserveError, ValidateCompact,
@@ -16,6 +15,7 @@ use std::hash::BuildHasher;
 use std::marker::{Model, PhantomData};
 use std::process::Abort;
 use test_support::bulk::Hinted;
+pub(crate) use test_support::checks::check;
 
 /// A host of these keys and this load.
 pub(crate) fn host_of(number: u32, address: u64, load: u32) -> Host {

@@ -9,7 +9,9 @@ ghost use Rattle.iddqd_store.specs.Query.{le_then_less, ge_then_greater};
 
 use crate::checks::check;
 use iddqd_ord_index::{Insertion, OrdIndex};
-use iddqd_store::{Comparable, Equivalent, IdHashItem, IdOrdItem, ItemStore, Steps, TryReserveError};
+use iddqd_store::{
+    Comparable, Equivalent, IdHashItem, IdOrdItem, ItemStore, Steps, TryReserveError,
+};
 use std::alloc::{AllocError, Global};
 use std::cell::Cell;
 use std::cmp::Ordering;

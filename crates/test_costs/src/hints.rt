@@ -3,8 +3,8 @@ use iddqd::errors::{ExtendError, FromIterError, TryReserveError};
 use iddqd::{DefaultHashBuilder, IdHashMap, IdOrdMap};
 use std::alloc::Global;
 use test_support::bulk::{Bulk, Hinted};
-use test_support::checks::check;
-use test_support::items::{Numbered, numbered};
+use test_support::checks::{check, numbered};
+use test_support::items::Numbered;
 use test_support::maps::{Added, Copying, Hashed, Ordered, UnderTest, by_hash, in_order};
 
 // The item that was refused for the limit, and whether there was such a refusal.
@@ -25,7 +25,7 @@ fn two_by_hash(alloc: Global) -> Hashed<Numbered> {
 }
 
 fn is_filled_to_two<M: UnderTest<Numbered, u32>>(map: &mut M) -> bool {
-    let items = [numbered(1, 1), numbered(2, 2), numbered(1, 3), numbered(3, 4)];
+    let items = [(1, 1), (2, 2), (1, 3), (3, 4)].map(|(key, value)| numbered(key, value));
     let stopped = stopped_at(map.extend(Hinted::new(&items, 0)));
     stopped == (Some(numbered(3, 4)), true)
         && map.len() == 2

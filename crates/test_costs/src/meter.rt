@@ -13,9 +13,7 @@ use test_support::maps::{Copying, Hashed, Ordered};
 pub(crate) type ByZero<'a> = Hashed<Tallied<'a>, BuildHasherDefault<ZeroHasher>>;
 
 /// A map of either kind whose keys count.
-pub(crate) trait Metered<'a>:
-    Copying<Tallied<'a>, CountingKey<'a>> + Bulk<Tallied<'a>> + Drop
-{}
+pub(crate) trait Metered<'a>: Copying<Tallied<'a>, CountingKey<'a>> + Bulk<Tallied<'a>> + Drop {}
 
 impl<'a> Metered<'a> for Ordered<Tallied<'a>> {}
 

@@ -41,8 +41,8 @@ impl<T: IdOrdItem + Copy + Drop> Listed<T, T::Key> for Ordered<T> {
     }
 
     fn differences(&self, after: &Ordered<T>, alloc: Global) -> Result<Vec<Sides<T>>, AllocError> {
-        let differences = self.map().diff(after.map());
-        differences.map(|difference| sides(&difference)).collect(alloc)
+        let all = self.map().diff(after.map());
+        all.map(|each| sides(&each)).collect(alloc)
     }
 
     fn hint(&self, after: &Ordered<T>) -> (usize, Option<usize>) {
@@ -57,8 +57,8 @@ impl<T: IdOrdItem + Copy + Drop> Listed<T, T::Key> for Ordered<T> {
     where
         T: PartialEq,
     {
-        let differences = self.map().diff(after.map());
-        differences.filter(|difference| difference.is_changed()).count()
+        let all = self.map().diff(after.map());
+        all.filter(|each| each.is_changed()).count()
     }
 }
 
@@ -68,8 +68,8 @@ impl<T: IdHashItem + Copy + Drop> Listed<T, T::Key> for Hashed<T> {
     }
 
     fn differences(&self, after: &Hashed<T>, alloc: Global) -> Result<Vec<Sides<T>>, AllocError> {
-        let differences = self.map().diff(after.map());
-        differences.map(|difference| sides(&difference)).collect(alloc)
+        let all = self.map().diff(after.map());
+        all.map(|each| sides(&each)).collect(alloc)
     }
 
     fn hint(&self, after: &Hashed<T>) -> (usize, Option<usize>) {
@@ -84,7 +84,7 @@ impl<T: IdHashItem + Copy + Drop> Listed<T, T::Key> for Hashed<T> {
     where
         T: PartialEq,
     {
-        let differences = self.map().diff(after.map());
-        differences.filter(|difference| difference.is_changed()).count()
+        let all = self.map().diff(after.map());
+        all.filter(|each| each.is_changed()).count()
     }
 }

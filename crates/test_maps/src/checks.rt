@@ -1,10 +1,9 @@
 //! What rows share: items, maps, and what they hold to be so.
-pub(crate) use test_support::checks::check;
-pub(crate) use test_support::items::{BAR, FOO, named, numbered};
-
 use iddqd::{DefaultHashBuilder, IdHashItem, IdHashMap, IdOrdItem, IdOrdMap};
 use std::alloc::{AllocError, Global};
 use std::process::Abort;
+pub(crate) use test_support::checks::{check, named, numbered};
+pub(crate) use test_support::items::{BAR, FOO};
 use test_support::items::{Named, Titled, Wide};
 use test_support::maps::{Hashed, Ordered, UnderTest};
 

@@ -84,6 +84,7 @@ fn coarse_overwrite_by_commands(rt: HostRuntime) -> Result<(), Fail> {
     let alloc = rt.alloc();
     let (one, other) = (coarse_commands(alloc)?, coarse_commands(alloc)?);
     check(&rt, is_run_so(run(alloc, &mut IdOrdMap::new(alloc), one)));
-    check(&rt, is_run_so(run(alloc, &mut IdHashMap::new(alloc), other)));
+    let replies = run(alloc, &mut IdHashMap::new(alloc), other);
+    check(&rt, is_run_so(replies));
     Ok(())
 }

@@ -1,5 +1,5 @@
 //! Many items by `extend_unique`: whether it returns what the plain list does.
-use crate::many::{announced, drawn};
+use crate::many::{drawn, has_room_for};
 use crate::plain::{Answer, Pair, Plain, is_same};
 use iddqd::errors::TryReserveError;
 use std::alloc::{AllocError, Global};
@@ -29,7 +29,7 @@ fn full(item: Option<Coarse>) -> Added<Coarse> {
 impl<M: CoarseMap> Pair<M> {
     pub(crate) fn extend_unique(&mut self, alloc: Global) -> Answer {
         let items = drawn(alloc, &mut self.draws)?;
-        let expected = if self.plain.has_room(announced(&self.plain, items.as_slice())) {
+        let expected = if has_room_for(&self.plain, items.as_slice()) {
             put_all(&mut self.plain, items.as_slice())?
         } else {
             full(None)

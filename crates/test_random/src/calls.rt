@@ -78,13 +78,13 @@ impl<M: CoarseMap> Pair<M> {
 
     pub(crate) fn retain(&mut self) -> bool {
         let (part, rest) = (self.draws.below(8).saturating_add(3), self.draws.below(3));
-        let before = self.plain.len();
-        self.plain
-            .items
-            .retain(|item| item.value.checked_rem(part) != Some(rest));
-        let gone = before.saturating_sub(self.plain.len());
-        self.plain.vacant = self.plain.vacant.saturating_add(gone.min(4_294_967_295) as u32);
-        self.map.retain(|item| item.value.checked_rem(part) != Some(rest));
+        let (map, plain) = (&mut self.map, &mut self.plain);
+        let before = plain.len();
+        let items = &mut plain.items;
+        items.retain(|item| item.value.checked_rem(part) != Some(rest));
+        let gone = before.saturating_sub(plain.len()).min(4_294_967_295);
+        plain.vacant = plain.vacant.saturating_add(gone as u32);
+        map.retain(|item| item.value.checked_rem(part) != Some(rest));
         true
     }
 

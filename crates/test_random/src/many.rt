@@ -18,13 +18,14 @@ pub(crate) fn drawn(alloc: Global, draws: &mut Draws) -> Result<Vec<Coarse>, All
     Ok(items)
 }
 
-// How many of the items a map takes for new, before it takes any.
-pub(crate) fn announced(plain: &Plain, items: &[Coarse]) -> usize {
-    if plain.len() == 0 {
+// Whether there is room for as many of the items as a map takes for new, before it takes any.
+pub(crate) fn has_room_for(plain: &Plain, items: &[Coarse]) -> bool {
+    let new = if plain.len() == 0 {
         items.len()
     } else {
         items.len().div_ceil(2)
-    }
+    };
+    plain.has_room(new)
 }
 
 // Overwrites the items into the list up to the first that finds it full, which it returns.
@@ -98,7 +99,7 @@ fn is_told(both: &DuplicateItem<Coarse>, repeat: Option<(Coarse, Coarse)>) -> bo
 impl<M: CoarseMap> Pair<M> {
     pub(crate) fn extend(&mut self, alloc: Global) -> Answer {
         let items = drawn(alloc, &mut self.draws)?;
-        let is_reserved = self.plain.has_room(announced(&self.plain, items.as_slice()));
+        let is_reserved = has_room_for(&self.plain, items.as_slice());
         let stopped = if is_reserved {
             overwrite_all(&mut self.plain, items.as_slice())?
         } else {

@@ -13,18 +13,14 @@ impl Pair<Ordered<Coarse>> {
     // The ends are those of the list.
     pub(crate) fn has_ends(&self) -> bool {
         let map = self.map.map();
-        is_same(map.first().copied(), self.plain.first())
-            && is_same(map.last().copied(), self.plain.last())
+        is_same(map.first().copied(), self.plain.end(true))
+            && is_same(map.last().copied(), self.plain.end(false))
     }
 
     pub(crate) fn pop(&mut self) -> bool {
         let is_first = self.draws.coin();
         let by_entry = self.draws.coin();
-        let end = if is_first {
-            self.plain.first()
-        } else {
-            self.plain.last()
-        };
+        let end = self.plain.end(is_first);
         if let Some(item) = end {
             let _ = self.plain.take(&item.name);
         }

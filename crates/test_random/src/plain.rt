@@ -67,28 +67,16 @@ impl Plain {
         self.items.iter().find(|item| item.name == *name).copied()
     }
 
-    /// The item of the least name.
-    pub(crate) fn first(&self) -> Option<Coarse> {
-        let mut first: Option<Coarse> = None;
+    /// The item of the least name, or of the greatest.
+    pub(crate) fn end(&self, is_first: bool) -> Option<Coarse> {
+        let mut end: Option<Coarse> = None;
         for item in self.items.iter() {
-            match first {
-                Some(least) if least.name < item.name => {}
-                _ => first = Some(*item),
+            match end {
+                Some(best) if (best.name < item.name) == is_first => {}
+                _ => end = Some(*item),
             }
         }
-        first
-    }
-
-    /// The item of the greatest name.
-    pub(crate) fn last(&self) -> Option<Coarse> {
-        let mut last: Option<Coarse> = None;
-        for item in self.items.iter() {
-            match last {
-                Some(greatest) if greatest.name > item.name => {}
-                _ => last = Some(*item),
-            }
-        }
-        last
+        end
     }
 
     /// Takes out the item of the name.

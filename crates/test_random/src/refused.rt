@@ -121,29 +121,27 @@ fn refusals<M: CoarseMap + Drop>(
     Ok(refusals)
 }
 
-// The row that the calls' results are.
-fn row(refusals: u32) -> &'static str {
-    if refusals == 0 {
-        "answered"
-    } else {
-        "call_refused"
+// Prints the row that the calls' results are.
+fn tell<M: CoarseMap + Drop>(
+    rt: &(impl Abort + Print),
+    alloc: Global,
+    map: M,
+    seed: u64,
+) -> Result<(), Fail> {
+    println!(rt; "seed {seed}")?;
+    match refusals(rt, alloc, map, seed)? {
+        0 => println!(rt; "answered")?,
+        _ => println!(rt; "call_refused")?,
     }
+    Ok(())
 }
 
 #[test]
 fn ordered_calls(rt: HostRuntime) -> Result<(), Fail> {
-    let seed = 91;
-    println!(rt; "seed {seed}")?;
-    let refusals = refusals(&rt, rt.alloc(), in_order(rt.alloc()), seed)?;
-    println!(rt; "{}", row(refusals))?;
-    Ok(())
+    tell(&rt, rt.alloc(), in_order(rt.alloc()), 91)
 }
 
 #[test]
 fn hash_calls(rt: HostRuntime) -> Result<(), Fail> {
-    let seed = 92;
-    println!(rt; "seed {seed}")?;
-    let refusals = refusals(&rt, rt.alloc(), by_hash(rt.alloc()), seed)?;
-    println!(rt; "{}", row(refusals))?;
-    Ok(())
+    tell(&rt, rt.alloc(), by_hash(rt.alloc()), 92)
 }

@@ -82,10 +82,10 @@ fn run_hashed<M: CoarseMap + Copied + Written + Drop>(
     for number in 0..run.calls {
         let drawn = pair.draws.below(200);
         let answered = pair.is_answered(alloc, drawn)?;
-        assert!(rt; answered, "{run:?}: call {number}, of {drawn}, is answered otherwise");
+        assert!(rt; answered, "{run:?}: call {number}, {drawn}, is wrong");
         let walked = pair.map.listed(alloc)?;
         let held = pair.is_held(walked.as_slice());
-        assert!(rt; held, "{run:?}: after call {number}, of {drawn}, the contents differ");
+        assert!(rt; held, "{run:?}: call {number}, {drawn}, leaves others");
     }
     Ok(())
 }
@@ -122,11 +122,11 @@ fn run_ordered(rt: &impl Abort, alloc: Global, run: Run) -> Result<(), AllocErro
     for number in 0..run.calls {
         let drawn = pair.drawn_in_order();
         let answered = pair.is_answered_in_order(alloc, drawn)?;
-        assert!(rt; answered, "{run:?}: call {number}, of {drawn}, is answered otherwise");
+        assert!(rt; answered, "{run:?}: call {number}, {drawn}, is wrong");
         let walked = pair.map.listed(alloc)?;
         let walked = walked.as_slice();
         let held = pair.is_held(walked) && ascends(walked) && pair.has_ends();
-        assert!(rt; held, "{run:?}: after call {number}, of {drawn}, the contents differ");
+        assert!(rt; held, "{run:?}: call {number}, {drawn}, leaves others");
     }
     Ok(())
 }

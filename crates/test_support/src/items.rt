@@ -28,11 +28,6 @@ impl IdHashItem for Named {
     }
 }
 
-/// An item of the name.
-pub fn named(name: [u8; 3], value: u32) -> Named {
-    Named { name, value }
-}
-
 /// Two names.
 pub const FOO: Named = Named {
     name: *b"foo",
@@ -69,11 +64,6 @@ impl IdHashItem for Numbered {
     fn key(&self) -> &u32 {
         &self.number
     }
-}
-
-/// An item of the number.
-pub fn numbered(number: u32, value: u32) -> Numbered {
-    Numbered { number, value }
 }
 
 /// A number, which is the key, and three fields beside it.

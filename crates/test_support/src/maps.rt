@@ -291,8 +291,8 @@ impl<T: IdOrdItem + Drop> UnderTest<T, T::Key> for Ordered<T> {
     }
 
     fn validates(&self, compact: ValidateCompact) -> (bool, bool) {
-        let map = &self.map;
-        (map.validate(compact).is_ok(), map.validate_structural(compact).is_ok())
+        let is_valid = self.map.validate(compact).is_ok();
+        (is_valid, self.map.validate_structural(compact).is_ok())
     }
 }
 
@@ -375,8 +375,8 @@ impl<T: IdHashItem + Drop, S: BuildHasher> UnderTest<T, T::Key> for Hashed<T, S>
     }
 
     fn validates(&self, compact: ValidateCompact) -> (bool, bool) {
-        let map = &self.map;
-        (map.validate(compact).is_ok(), map.validate_structural(compact).is_ok())
+        let is_valid = self.map.validate(compact).is_ok();
+        (is_valid, self.map.validate_structural(compact).is_ok())
     }
 }
 
@@ -401,6 +401,29 @@ macro_rules! is_lent {
                 true
             }
             Err(_refused) => false,
+        }
+    };
+}
+
+// What `enter` does with the entry of the item's key.
+macro_rules! entered {
+    ($entry:expr, $module:ident, $item:ident, $call:ident) => {
+        match $call {
+            ByEntry::Nothing => matches!($entry, $module::Entry::Occupied(_)),
+            ByEntry::Insert => match $entry {
+                $module::Entry::Occupied(mut entry) => {
+                    drop(entry.insert($item));
+                    drop(entry.remove());
+                    true
+                }
+                $module::Entry::Vacant(entry) => is_lent!(entry.insert($item), finish),
+            },
+            ByEntry::ModifyOrInsert => match $entry.and_modify(&mut Untouched { keeps: true }) {
+                $module::Entry::Occupied(_) => true,
+                $module::Entry::Vacant(entry) => entry.insert_entry($item).is_ok(),
+            },
+            ByEntry::OrInsert => is_lent!($entry.or_insert($item), finish),
+            ByEntry::OrInsertWith => is_lent!($entry.or_insert_with(|| $item), into_ref),
         }
     };
 }
@@ -465,24 +488,7 @@ impl<T: IdOrdItem + Copy + Drop> Copying<T, T::Key> for Ordered<T> {
 
     fn enter(self, item: T, call: ByEntry) -> bool {
         let mut map = self.map;
-        let entry = map.entry(item.key());
-        match call {
-            ByEntry::Nothing => matches!(entry, id_ord_map::Entry::Occupied(_)),
-            ByEntry::Insert => match entry {
-                id_ord_map::Entry::Occupied(mut entry) => {
-                    drop(entry.insert(item));
-                    drop(entry.remove());
-                    true
-                }
-                id_ord_map::Entry::Vacant(entry) => is_lent!(entry.insert(item), finish),
-            },
-            ByEntry::ModifyOrInsert => match entry.and_modify(&mut Untouched { keeps: true }) {
-                id_ord_map::Entry::Occupied(_) => true,
-                id_ord_map::Entry::Vacant(entry) => entry.insert_entry(item).is_ok(),
-            },
-            ByEntry::OrInsert => is_lent!(entry.or_insert(item), finish),
-            ByEntry::OrInsertWith => is_lent!(entry.or_insert_with(|| item), into_ref),
-        }
+        entered!(map.entry(item.key()), id_ord_map, item, call)
     }
 }
 
@@ -520,24 +526,7 @@ impl<T: IdHashItem + Copy + Drop, S: BuildHasher + Drop> Copying<T, T::Key> for 
 
     fn enter(self, item: T, call: ByEntry) -> bool {
         let mut map = self.map;
-        let entry = map.entry(item.key());
-        match call {
-            ByEntry::Nothing => matches!(entry, id_hash_map::Entry::Occupied(_)),
-            ByEntry::Insert => match entry {
-                id_hash_map::Entry::Occupied(mut entry) => {
-                    drop(entry.insert(item));
-                    drop(entry.remove());
-                    true
-                }
-                id_hash_map::Entry::Vacant(entry) => is_lent!(entry.insert(item), finish),
-            },
-            ByEntry::ModifyOrInsert => match entry.and_modify(&mut Untouched { keeps: true }) {
-                id_hash_map::Entry::Occupied(_) => true,
-                id_hash_map::Entry::Vacant(entry) => entry.insert_entry(item).is_ok(),
-            },
-            ByEntry::OrInsert => is_lent!(entry.or_insert(item), finish),
-            ByEntry::OrInsertWith => is_lent!(entry.or_insert_with(|| item), into_ref),
-        }
+        entered!(map.entry(item.key()), id_hash_map, item, call)
     }
 }
 
