@@ -5,7 +5,7 @@ use std::alloc::{AllocError, Global};
 use test_support::caseless::{Caseless, Coarse, spelled};
 use test_support::maps::Inserted;
 
-/// Whether a call is answered as the list does, or why the list has no room.
+/// Whether a call returns what the list does, or that the list has no memory.
 pub(crate) type Answer = Result<bool, AllocError>;
 
 /// A map, the list that it is held against, and what its calls are drawn from.

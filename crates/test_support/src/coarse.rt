@@ -44,8 +44,8 @@ impl Visit<Coarse> for Respells {
     }
 }
 
-/// A way to write an item whole: by the guard that `get_mut` lends, by `and_modify` of the entry, by `retain_mut`, or by
-/// a walk that lends items for writing.
+/// A way to write an item whole: by the guard that `get_mut` lends, by `and_modify` of the entry, or by `retain_mut`. The
+/// last is a walk that lends items for writing.
 #[derive(Clone, Copy)]
 pub enum Way {
     Guard,
