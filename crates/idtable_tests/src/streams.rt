@@ -79,10 +79,8 @@ fn flushes_after_writing(rt: HostRuntime) {
     let mut reader = LINES;
     let writer = PartWriter::new(Vec::new(rt.alloc()), PART, Failure::Never);
     let mut writer = writer.with_failing_flush();
-    check(
-        &rt,
-        serve(rt.alloc(), Kind::Ord, &mut reader, &mut writer) == Err(Fault::Write),
-    );
+    let outcome = serve(rt.alloc(), Kind::Ord, &mut reader, &mut writer);
+    check(&rt, outcome == Err(Fault::Write));
 }
 
 #[test]

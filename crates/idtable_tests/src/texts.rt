@@ -77,10 +77,8 @@ fn bad_lines(rt: HostRuntime) -> Result<(), Fail> {
     let alloc = rt.alloc();
     let input =
         b"add Bob 2\nlen \nadd aaaaaaaaaaaaaaaaaaaaaaaaaaaaaaaaa 1\nadd aaaaaaaaaaaaaaaaaaaaaaaaaaaaaaaa 0\nlen\n";
-    check(
-        &rt,
-        are_answered(alloc, input, b"bad\nbad\nbad\nadded\n1\n")?,
-    );
+    let text = b"bad\nbad\nbad\nadded\n1\n";
+    check(&rt, are_answered(alloc, input, text)?);
     check(&rt, are_answered(alloc, b"", b"")?);
     for (words, kind) in [
         ([].as_slice(), Some(Kind::Ord)),
@@ -138,10 +136,8 @@ fn table_for_both_kinds(rt: HostRuntime) -> Result<(), Fail> {
 #[test]
 fn reserve_and_shrink(rt: HostRuntime) -> Result<(), Fail> {
     let input = b"reserve 3\nadd a 1\nshrink\nlen\nreserve\nshrink 0\n";
-    check(
-        &rt,
-        are_answered(rt.alloc(), input, b"ok\nadded\nok\n1\nbad\nbad\n")?,
-    );
+    let text = b"ok\nadded\nok\n1\nbad\nbad\n";
+    check(&rt, are_answered(rt.alloc(), input, text)?);
     Ok(())
 }
 
@@ -159,10 +155,8 @@ fn add_all_lines(rt: HostRuntime) -> Result<(), Fail> {
 #[test]
 fn add_all_of_other_forms(rt: HostRuntime) -> Result<(), Fail> {
     let input = b"addall  a 1\naddall a 1 \naddalla 1\naddall a 1 B 2\naddall 1 2\nlen\n";
-    check(
-        &rt,
-        are_answered(rt.alloc(), input, b"bad\nbad\nbad\nbad\nadded 1\n1\n")?,
-    );
+    let text = b"bad\nbad\nbad\nbad\nadded 1\n1\n";
+    check(&rt, are_answered(rt.alloc(), input, text)?);
     Ok(())
 }
 

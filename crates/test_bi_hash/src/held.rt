@@ -15,11 +15,7 @@ use std::hash::BuildHasher;
 use std::marker::{Model, PhantomData};
 use std::process::Abort;
 use test_support::bulk::Hinted;
-
-/// Ends the test as failed if the condition is false.
-pub(crate) fn check(rt: &impl Abort, condition: bool) {
-    assert!(rt; condition);
-}
+pub(crate) use test_support::checks::check;
 
 /// A host of these keys and this load.
 pub(crate) fn host_of(number: u32, address: u64, load: u32) -> Host {

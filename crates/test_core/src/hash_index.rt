@@ -2,29 +2,14 @@
 ghost use Rattle.std.specs.Prelude.{◌≡◌};
 
 use crate::checks::check;
-use crate::ord_index::Asked;
+use crate::ord_index::{Asked, Coin};
 use iddqd_hash_index::HashIndex;
-use iddqd_store::{IdHashItem, ItemStore, OwnKey, Steps, TryReserveError};
+use iddqd_store::{ItemStore, OwnKey, Steps, TryReserveError};
 use std::alloc::Global;
 use std::cell::Cell;
 use std::marker::Model;
 use std::process::Abort;
 use std::test::Fail;
-
-#[derive(Drop)]
-struct Coin {
-    year: u32,
-}
-
-impl IdHashItem for Coin {
-    type Key = u32;
-
-    ghost key = { λ coin. coin.year };
-
-    fn key(&self) -> &u32 {
-        &self.year
-    }
-}
 
 // An index whose slots have coins.
 #[derive(Drop)]

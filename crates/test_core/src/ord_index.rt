@@ -9,7 +9,9 @@ ghost use Rattle.iddqd_store.specs.Query.{le_then_less, ge_then_greater};
 
 use crate::checks::check;
 use iddqd_ord_index::{Insertion, OrdIndex};
-use iddqd_store::{Comparable, Equivalent, IdOrdItem, ItemStore, Steps, TryReserveError};
+use iddqd_store::{
+    Comparable, Equivalent, IdHashItem, IdOrdItem, ItemStore, Steps, TryReserveError,
+};
 use std::alloc::{AllocError, Global};
 use std::cell::Cell;
 use std::cmp::Ordering;
@@ -17,12 +19,23 @@ use std::marker::Model;
 use std::process::Abort;
 use std::test::Fail;
 
+// What both indexes list.
 #[derive(Drop)]
-struct Coin {
-    year: u32,
+pub(crate) struct Coin {
+    pub(crate) year: u32,
 }
 
 impl IdOrdItem for Coin {
+    type Key = u32;
+
+    ghost key = { λ coin. coin.year };
+
+    fn key(&self) -> &u32 {
+        &self.year
+    }
+}
+
+impl IdHashItem for Coin {
     type Key = u32;
 
     ghost key = { λ coin. coin.year };

@@ -1,35 +1,11 @@
 //! Keys of what is held, counts of comparisons, and texts for keys.
 use crate::checks::check;
+use crate::ord_index::Coin;
 use iddqd_store::{Comparable, Equivalent, IdHashItem, IdOrdItem, Steps, Text};
 use std::cmp::Ordering;
 use std::hash::{BuildHasher, BuildHasherDefault, FoldHasher, Hash};
 use std::rc::Rc;
 use std::test::Fail;
-
-#[derive(Drop)]
-struct Coin {
-    year: u32,
-}
-
-impl IdHashItem for Coin {
-    type Key = u32;
-
-    ghost key = { λ coin. coin.year };
-
-    fn key(&self) -> &u32 {
-        &self.year
-    }
-}
-
-impl IdOrdItem for Coin {
-    type Key = u32;
-
-    ghost key = { λ coin. coin.year };
-
-    fn key(&self) -> &u32 {
-        &self.year
-    }
-}
 
 fn hash_key<T: IdHashItem<Key = u32>>(item: &T) -> u32 {
     *item.key()
@@ -79,10 +55,8 @@ fn stands_as_its_string(rt: HostRuntime) -> Result<(), Fail> {
         ("fop", false, Ordering::Greater),
     ] {
         check(&rt, stands_for(&Text(text), &key) == (equal, order));
-        check(
-            &rt,
-            stands_for(&text.to_string(rt.alloc())?, &key) == (equal, order),
-        );
+        let owned = text.to_string(rt.alloc())?;
+        check(&rt, stands_for(&owned, &key) == (equal, order));
     }
     let hasher: BuildHasherDefault<FoldHasher> = BuildHasherDefault::new();
     check(&rt, hasher.hash_one(Text("foo")) == hasher.hash_one(&key));

@@ -60,15 +60,11 @@ fn assert_holds(rt: &impl Abort, store: &ItemStore<u32>, list: &[Option<u32>]) {
     let items = list.iter().filter(|slot| slot.is_some()).count();
     check(rt, store.slots() as usize == list.len());
     check(rt, store.len() == items);
-    check(
-        rt,
-        (store.vacant() as usize).wrapping_add(items) == list.len(),
-    );
+    let slots = (store.vacant() as usize).wrapping_add(items);
+    check(rt, slots == list.len());
     for slot in 0..store.slots() {
-        check(
-            rt,
-            list.get(slot as usize) == Some(&store.get(slot).copied()),
-        );
+        let item = store.get(slot).copied();
+        check(rt, list.get(slot as usize) == Some(&item));
         check(rt, next_of(store, slot) == next_in(list, slot));
     }
     check(rt, store.get(store.slots()).copied() == None);
@@ -136,10 +132,8 @@ fn store_against_list(rt: HostRuntime) {
 // Of a limit of two none and two can be reserved, and no more than what is left.
 fn reserves(rt: &impl Abort, store: &mut ItemStore<u32>) {
     check(rt, (store.limit(), store.capacity()) == (2, 0));
-    check(
-        rt,
-        is_past_limit(store, 3) && is_past_limit(store, usize::MAX),
-    );
+    check(rt, is_past_limit(store, 3));
+    check(rt, is_past_limit(store, usize::MAX));
     check(rt, store.try_reserve(2).is_ok() && store.capacity() >= 2);
     check(rt, goes_into(store, 10, 0));
     check(rt, is_past_limit(store, 2));
@@ -190,14 +184,10 @@ type Huge = [[u64; 256]; 512];
 #[test]
 fn store_growth_refused(rt: HostRuntime) {
     let mut store: ItemStore<Huge> = ItemStore::new(rt.alloc(), MAX_ITEMS);
-    check(
-        &rt,
-        store.try_reserve(MAX_ITEMS as usize) == Err(TryReserveError::alloc_error()),
-    );
-    check(
-        &rt,
-        (store.len(), store.slots(), store.capacity()) == (0, 0, 0),
-    );
+    let refused = Err(TryReserveError::alloc_error());
+    check(&rt, store.try_reserve(MAX_ITEMS as usize) == refused);
+    check(&rt, store.len() == 0);
+    check(&rt, (store.slots(), store.capacity()) == (0, 0));
 }
 
 // Whether the next slot is this one, and the item goes into it.

@@ -39,7 +39,7 @@ fn count_changes<'o, 'n, T: PartialEq + 'o + 'n, D: Iterator<Item = Difference<&
 }
 
 /// A map of either kind, whose difference to one that came after it is listed.
-pub(crate) trait Listed<T, K>: UnderTest<T, K> {
+pub(crate) trait Listed<T: Drop, K>: UnderTest<T, K> {
     /// A map without items.
     fn empty(alloc: Global) -> Self;
 

@@ -1,11 +1,11 @@
 //! Applying a difference with requests for memory refused, and what a difference asks for.
 use crate::applied::{brought_up, brought_up_by_hash};
 use crate::cases::hundreds;
-use crate::checks::check;
 use crate::held::Listed;
 use std::alloc::Global;
 use std::process::Abort;
 use std::test::Fail;
+use test_support::checks::check;
 use test_support::heap::{arm, has_leaked, is_met};
 use test_support::items::Numbered;
 use test_support::kept::Kept;
@@ -72,10 +72,8 @@ fn compare<M: Listed<Numbered, u32> + Drop>(rt: &impl Abort, alloc: Global) -> R
     let (before, after) = hundreds::<M>(rt, alloc)?;
     arm(alloc);
     check(rt, before.changes(&after) > 0);
-    check(
-        rt,
-        !before.has_keys_of(&after) && before.has_keys_of(&before),
-    );
+    check(rt, !before.has_keys_of(&after));
+    check(rt, before.has_keys_of(&before));
     check(rt, !is_met(alloc));
     Ok(())
 }

@@ -1,21 +1,11 @@
 //! What rows share: items, maps, and what they hold to be so.
-ghost use Rattle.std.specs.Prelude.{IsTrue};
-
 use iddqd::{DefaultHashBuilder, IdHashItem, IdHashMap, IdOrdItem, IdOrdMap};
 use std::alloc::{AllocError, Global};
 use std::process::Abort;
-use test_support::items::{Named, Numbered, Titled, Wide};
+pub(crate) use test_support::checks::{check, named, numbered};
+pub(crate) use test_support::items::{BAR, FOO};
+use test_support::items::{Named, Titled, Wide};
 use test_support::maps::{Hashed, Ordered, UnderTest};
-
-pub(crate) const FOO: Named = Named {
-    name: *b"foo",
-    value: 42,
-};
-
-pub(crate) const BAR: Named = Named {
-    name: *b"bar",
-    value: 20,
-};
 
 pub(crate) const BAZ: Named = Named {
     name: *b"baz",
@@ -26,14 +16,6 @@ pub(crate) const OTHER_FOO: Named = Named {
     name: *b"foo",
     value: 100,
 };
-
-pub(crate) fn named(name: [u8; 3], value: u32) -> Named {
-    Named { name, value }
-}
-
-pub(crate) fn numbered(number: u32, value: u32) -> Numbered {
-    Numbered { number, value }
-}
 
 pub(crate) fn wide_item(number: u8, letter: char, first: char) -> Wide {
     Wide {
@@ -49,14 +31,6 @@ pub(crate) fn titled(alloc: Global, name: &str, value: u32) -> Result<Titled, Al
         name: name.to_string(alloc)?,
         value,
     })
-}
-
-/// Ends the test as failed if the condition is false. The proof of a call takes a third of that of an `assert!` in its
-/// place.
-pub(crate) fn check(rt: &impl Abort, condition: bool)
-    ensures { IsTrue condition }
-{
-    assert!(rt; condition);
 }
 
 /// An empty ordered map that never holds more items than the limit.
@@ -83,7 +57,7 @@ pub(crate) fn filled<T: IdOrdItem + Copy + Drop, M: UnderTest<T, T::Key> + Drop>
 }
 
 /// Whether the map has these items, and no others.
-pub(crate) fn has_only<T: IdOrdItem + PartialEq>(
+pub(crate) fn has_only<T: IdOrdItem + Drop + PartialEq>(
     map: &impl UnderTest<T, T::Key>,
     items: &[T],
 ) -> bool {

@@ -1,10 +1,11 @@
 //! Maps at their limit: an insertion is refused for that, and no request is made for it.
-use crate::maps::{fill, holds, numbered};
+use crate::maps::{fill, holds};
 use crate::words::{Word, tell, word_without_memory};
 use iddqd::errors::TryReserveError;
 use iddqd::{DefaultHashBuilder, IdHashMap, IdOrdMap};
 use std::alloc::Global;
 use std::test::Fail;
+use test_support::checks::numbered;
 use test_support::heap::arm;
 use test_support::items::Numbered;
 use test_support::maps::{Copying, Hashed, Inserted, Ordered, UnderTest};

@@ -1,9 +1,9 @@
 //! The ordered map as it grows, with each request of each insertion refused in its turn.
-use crate::maps::numbered;
 use crate::words::{Word, tell};
 use iddqd::errors::TryReserveError;
 use std::alloc::Global;
 use std::test::Fail;
+use test_support::checks::numbered;
 use test_support::heap::{arm, is_met};
 use test_support::items::Numbered;
 use test_support::maps::{Copying, Inserted, Ordered, UnderTest, in_order};

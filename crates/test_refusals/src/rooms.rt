@@ -1,9 +1,10 @@
 //! Reservations, shrinking and calls on many items that are refused, on both maps.
-use crate::maps::{fill, holds, numbered};
+use crate::maps::{fill, holds};
 use crate::words::{Word, rows, tell, word_of};
 use iddqd::errors::TryReserveError;
 use std::alloc::{AllocError, Global};
 use std::test::Fail;
+use test_support::checks::numbered;
 use test_support::heap::{arm, is_met};
 use test_support::items::Numbered;
 use test_support::maps::{Added, Copying, UnderTest, by_hash, in_order};

@@ -2,8 +2,8 @@
 #![tactic(auto)]
 
 pub mod bulk;
+pub mod checks;
 pub mod coarse;
-pub mod copied;
 pub mod counting;
 pub mod hashers;
 pub mod heap;

@@ -1,6 +1,6 @@
 use Rattle.std.proofs.Common.{ℕ, sym, ap, subst, slice_index_or, None, IsSome}
 use Rattle.std.specs.List.{Contains}
-use Rattle.test_core.specs.declared.hash_index.Coin.{Coin}
+use Rattle.test_core.specs.declared.ord_index.Coin.{Coin}
 use Rattle.iddqd_store.specs.Store.{IsOccupied}
 use Rattle.iddqd_hash_index.proofs.PairLemmas.{absent-vacant, contains-added, contains-same, occupied-added}
 use Rattle.test_core.proofs.hash_index.CoinMap.put.Goals as goal
