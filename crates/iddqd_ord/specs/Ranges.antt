@@ -18,7 +18,7 @@
 --     WalksFrom      the slots of the items from a bound on
 use Rattle.std.specs.Borrow.{Bor}
 use Rattle.std.specs.Bound.{bound_map, start_index}
-use Rattle.std.specs.Prelude.{◌≡◌, ℕ, ◌+◌, ◌-◌, ◌<◌, ◌≤◌, Bool, true, false, ◌&&◌, List, ◌++◌, length, count_by, drop, filter, option_copied, slice_get, slice_index_or, sum_by, take, MatchResult, Option, Result, Ok, Err}
+use Rattle.std.specs.Prelude.{◌≡◌, ℕ, ◌+◌, ◌-◌, ◌<◌, ◌≤◌, Bool, true, false, ◌&&◌, List, ◌++◌, length, count_by, drop, filter, option_copied, slice_get, slice_index_or, sum_by, take, MatchResult, Option, Result}
 use Rattle.std.specs.declared.cmp.Ordering.{Ordering}
 use Rattle.std.specs.Ordering.{is_ge, is_gt, is_le, is_lt}
 use Rattle.std.specs.declared.ops.Bound.{Bound}
