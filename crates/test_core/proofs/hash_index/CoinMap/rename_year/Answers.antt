@@ -5,8 +5,8 @@ use Rattle.iddqd_store.specs.Store.{IsOccupied}
 use Rattle.iddqd_hash_index.proofs.PairLemmas.{absent-vacant, contains-renamed, occupied-added}
 use Rattle.test_core.proofs.hash_index.CoinMap.rename_year.Goals as goal
 
-pub find-requires : goal.find-requires
-find-requires g c = record { occupied = c.self.invariant c.args.hash }
+pub find_by_key-requires : goal.find_by_key-requires
+find_by_key-requires g c = record { occupied = c.self.invariant c.args.hash }
 
 pub rename-requires-clause-absent : goal.rename-requires-clause-absent
 rename-requires-clause-absent g c =

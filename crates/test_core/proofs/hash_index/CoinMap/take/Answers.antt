@@ -1,8 +1,8 @@
 use Rattle.iddqd_hash_index.proofs.PairLemmas.{contains-removed}
 use Rattle.test_core.proofs.hash_index.CoinMap.take.Goals as goal
 
-pub find-requires : goal.find-requires
-find-requires c = record { occupied = c.self.invariant c.args.hash }
+pub find_by_key-requires : goal.find_by_key-requires
+find_by_key-requires c = record { occupied = c.self.invariant c.args.hash }
 
 pub invariant_of-self : goal.invariant_of-self
 invariant_of-self c = λ hash slot held.
