@@ -15,7 +15,11 @@ use std::hash::BuildHasher;
 use std::marker::{Model, PhantomData};
 use std::process::Abort;
 use test_support::bulk::Hinted;
-pub(crate) use test_support::checks::check;
+
+/// Ends the test as failed if the condition is false.
+pub(crate) fn check(rt: &impl Abort, condition: bool) {
+    assert!(rt; condition);
+}
 
 /// A host of these keys and this load.
 pub(crate) fn host_of(number: u32, address: u64, load: u32) -> Host {

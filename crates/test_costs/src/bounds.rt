@@ -1,10 +1,10 @@
 //! The calls of an ordered map alone: a position and a bound cost one search, the ends of the map none.
+use crate::checks::check;
 use crate::meter::{Meter, Tally};
 use iddqd::IdOrdItem;
 use std::ops::Bound;
 use std::process::Abort;
 use std::test::Fail;
-use test_support::checks::check;
 use test_support::maps::{Ordered, UnderTest};
 
 fn ends<T: IdOrdItem + Copy + Drop>(mut map: Ordered<T>, meter: Meter<'_>) {

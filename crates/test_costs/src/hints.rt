@@ -1,10 +1,10 @@
 //! Rows of iterators whose hints lie, and of maps that are full.
+use crate::checks::check;
 use iddqd::errors::{ExtendError, FromIterError, TryReserveError};
 use iddqd::{DefaultHashBuilder, IdHashMap, IdOrdMap};
 use std::alloc::Global;
 use test_support::bulk::{Bulk, Hinted};
-use test_support::checks::{check, numbered};
-use test_support::items::Numbered;
+use test_support::items::{Numbered, numbered};
 use test_support::maps::{Added, Copying, Hashed, Ordered, UnderTest, by_hash, in_order};
 
 // The item that was refused for the limit, and whether there was such a refusal.

@@ -1,9 +1,9 @@
 //! Rows of writes that spell a key anew, of guards lent once more, of equal hashes, and of walks that end early.
+use crate::checks::check;
 use crate::numbers::{are_found, are_numbers_put, numbered, of_equal_hashes};
 use iddqd::{IdHashMap, IdOrdMap};
 use std::alloc::Global;
 use test_support::caseless::{Caseless, Coarse, item_of, spelled};
-use test_support::checks::check;
 use test_support::coarse::{CoarseMap, Copied, Way};
 use test_support::items::Numbered;
 use test_support::maps::{Copying, Inserted, UnderTest, by_hash, in_order};

@@ -9,6 +9,8 @@ mod bounds;
 #[cfg(test)]
 mod calls;
 #[cfg(test)]
+mod checks;
+#[cfg(test)]
 mod counting;
 #[cfg(test)]
 mod hints;

@@ -1,11 +1,11 @@
 //! Maps of many items, hash maps over other hashers, and the numbers of a map.
+use crate::checks::check;
 use crate::numbers::{are_numbers_put, numbered, of_equal_hashes};
 use iddqd::IdHashMap;
 use std::alloc::{AllocError, Global};
 use std::collections::hash_map::RandomState;
 use std::test::Fail;
 use test_support::caseless::{Caseless, Coarse};
-use test_support::checks::check;
 use test_support::coarse::CoarseMap;
 use test_support::hashers::{FewBits, Varying};
 use test_support::items::Numbered;

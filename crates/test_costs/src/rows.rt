@@ -1,7 +1,7 @@
 //! The most comparisons of a call, by how many items there are.
+use crate::checks::check;
 use crate::numbers::{are_found, are_numbers_put, find, numbered, of_equal_hashes, put, take};
 use std::alloc::Global;
-use test_support::checks::check;
 use test_support::items::Numbered;
 use test_support::maps::{Ordered, UnderTest, in_order};
 

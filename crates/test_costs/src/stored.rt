@@ -1,7 +1,7 @@
 //! A hash map keeps the hash of each key, and grows by it.
+use crate::checks::check;
 use iddqd::IdHashItem;
 use std::alloc::Global;
-use test_support::checks::check;
 use test_support::counting::{Counts, Tallied};
 use test_support::maps::{UnderTest, by_hash};
 use test_support::nine::IDS;

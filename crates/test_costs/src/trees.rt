@@ -1,7 +1,7 @@
 //! Ordered maps of many items, in and out in several orders.
+use crate::checks::check;
 use crate::numbers::{are_found, are_numbers_put, numbered, take};
 use std::alloc::Global;
-use test_support::checks::check;
 use test_support::items::Numbered;
 use test_support::maps::{Ordered, UnderTest, in_order};
 

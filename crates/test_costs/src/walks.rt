@@ -2,10 +2,10 @@
 ghost use Rattle.std.specs.Prelude.{nat_eq};
 ghost use Rattle.std.specs.Cmp.{on_equiv, on_per, nat_eq_equiv, partial_equiv_from_equiv};
 
+use crate::checks::check;
 use iddqd::{IdHashItem, IdHashMap, IdOrdItem, IdOrdMap};
 use std::alloc::Global;
-use test_support::checks::{check, named};
-use test_support::items::Named;
+use test_support::items::{Named, named};
 use test_support::maps::{Hashed, Ordered, UnderTest, by_hash, in_order};
 
 // Whether foo, bar and baz are inserted.

@@ -2,13 +2,13 @@
 ghost use Rattle.iddqd.specs.Contents.{ClonesKeepKeys};
 
 use crate::cases::hundreds;
+use crate::checks::check;
 use crate::held::Listed;
 use iddqd::errors::TryReserveError;
 use iddqd::{IdHashItem, IdOrdItem};
 use iddqd_diff::{id_hash_map, id_ord_map};
 use std::alloc::Global;
 use std::test::Fail;
-use test_support::checks::check;
 use test_support::heap::arm;
 use test_support::items::Numbered;
 use test_support::maps::{Hashed, Ordered, UnderTest};

@@ -1,9 +1,9 @@
 //! Each case of five keys, and one of hundreds, against plain lists.
+use crate::checks::check;
 use crate::held::{Listed, Sides};
 use std::alloc::{AllocError, Global};
 use std::process::Abort;
 use std::test::Fail;
-use test_support::checks::check;
 use test_support::items::Numbered;
 use test_support::maps::{Hashed, Ordered, UnderTest};
 

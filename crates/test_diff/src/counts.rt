@@ -1,8 +1,8 @@
 //! How often a difference compares and hashes keys.
+use crate::checks::check;
 use iddqd::Steps;
 use iddqd_diff::Diffable;
 use std::process::Abort;
-use test_support::checks::check;
 use test_support::counting::{CountingKey, Counts, Tallied};
 use test_support::maps::{UnderTest, by_hash, in_order};
 

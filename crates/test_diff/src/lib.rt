@@ -7,6 +7,8 @@ mod applied;
 #[cfg(test)]
 mod cases;
 #[cfg(test)]
+mod checks;
+#[cfg(test)]
 mod counts;
 #[cfg(test)]
 mod held;

@@ -1,11 +1,11 @@
 //! Applying a difference with requests for memory refused, and what a difference asks for.
 use crate::applied::{brought_up, brought_up_by_hash};
 use crate::cases::hundreds;
+use crate::checks::check;
 use crate::held::Listed;
 use std::alloc::Global;
 use std::process::Abort;
 use std::test::Fail;
-use test_support::checks::check;
 use test_support::heap::{arm, has_leaked, is_met};
 use test_support::items::Numbered;
 use test_support::kept::Kept;

@@ -1,11 +1,11 @@
 //! Rows: maps that are equal, that share no key, of which one is empty, and keys that are equal though spelled
 //! differently.
+use crate::checks::check;
 use crate::held::{Listed, Sides};
 use std::alloc::Global;
 use std::process::Abort;
 use std::test::Fail;
 use test_support::caseless::{Caseless, Coarse, item_of, spelled};
-use test_support::checks::check;
 use test_support::maps::{Hashed, Ordered, UnderTest};
 
 // Two maps whose names differ in case alone, and one name beside.

@@ -5,9 +5,8 @@ use iddqd::errors::TryReserveError;
 use iddqd::{DefaultHashBuilder, IdHashMap, IdOrdMap};
 use std::alloc::Global;
 use std::test::Fail;
-use test_support::checks::numbered;
 use test_support::heap::arm;
-use test_support::items::Numbered;
+use test_support::items::{Numbered, numbered};
 use test_support::maps::{Copying, Hashed, Inserted, Ordered, UnderTest};
 
 // Fills a map up to its limit, and tries two insertions of a new number and a reservation. Each is refused since the map

@@ -3,9 +3,8 @@ use crate::words::{Word, tell};
 use iddqd::errors::TryReserveError;
 use std::alloc::Global;
 use std::test::Fail;
-use test_support::checks::numbered;
 use test_support::heap::{arm, is_met};
-use test_support::items::Numbered;
+use test_support::items::{Numbered, numbered};
 use test_support::maps::{Copying, Inserted, Ordered, UnderTest, in_order};
 
 // Whether the walk has the numbers below another, in order.

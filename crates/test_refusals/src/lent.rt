@@ -3,9 +3,8 @@ use crate::maps::fill;
 use crate::words::{Word, tell, word_without_memory};
 use std::alloc::Global;
 use std::test::Fail;
-use test_support::checks::numbered;
 use test_support::heap::arm;
-use test_support::items::Numbered;
+use test_support::items::{Numbered, numbered};
 use test_support::maps::{ByEntry, Copying, Ordered, by_hash, in_order};
 use test_support::visitors::{Change, Visited};
 

@@ -3,9 +3,8 @@ use crate::entries::{Call, Own, put_by_hash, put_in_order};
 use crate::words::{Word, tell, word_without_memory};
 use std::alloc::{AllocError, Global};
 use std::test::Fail;
-use test_support::checks::numbered;
 use test_support::heap::arm;
-use test_support::items::{Numbered, Titled};
+use test_support::items::{Numbered, Titled, numbered};
 use test_support::maps::{AskedByText, Copying, Inserted, UnderTest, by_hash, in_order};
 
 const BACK: &str = "item_back";

@@ -3,9 +3,8 @@ use crate::words::{Word, rows, tell, word_of};
 use iddqd::IdHashMap;
 use std::alloc::Global;
 use std::test::Fail;
-use test_support::checks::numbered;
 use test_support::heap::{arm, is_met};
-use test_support::items::Numbered;
+use test_support::items::{Numbered, numbered};
 use test_support::maps::{Copying, Hashed, Inserted, UnderTest};
 use test_support::visitors::{Change, Visited};
 

@@ -2,7 +2,6 @@
 #![tactic(auto)]
 
 pub mod bulk;
-pub mod checks;
 pub mod coarse;
 pub mod counting;
 pub mod hashers;
