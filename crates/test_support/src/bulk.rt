@@ -1,8 +1,7 @@
 //! Maps of either kind made of iterators, and iterators that lie.
 ghost use Rattle.std.specs.Iterator.{IsFiniteIterable as IsFinite};
 
-use crate::checks::named;
-use crate::items::Named;
+use crate::items::{Named, named};
 use crate::maps::{Hashed, Ordered, UnderTest};
 use iddqd::errors::{FromIterError, TryReserveError};
 use iddqd::{IdHashItem, IdHashMap, IdOrdItem, IdOrdMap};

@@ -1,6 +1,5 @@
 //! Nine items that are left of twenty-five, with vacant slots among them.
-use crate::checks::numbered;
-use crate::items::Numbered;
+use crate::items::{Numbered, numbered};
 use crate::maps::UnderTest;
 
 /// The numbers of the twenty-five.
