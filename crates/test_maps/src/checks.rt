@@ -4,9 +4,10 @@ ghost use Rattle.std.specs.Prelude.{IsTrue};
 use iddqd::{DefaultHashBuilder, IdHashItem, IdHashMap, IdOrdItem, IdOrdMap};
 use std::alloc::{AllocError, Global};
 use std::process::Abort;
-pub(crate) use test_support::items::{BAR, FOO, named, numbered};
+pub(crate) use test_support::items::{BAR, FOO};
 use test_support::items::{Named, Titled, Wide};
 use test_support::maps::{Hashed, Ordered, UnderTest};
+pub(crate) use test_support::new_items::{named, numbered};
 
 pub(crate) const BAZ: Named = Named {
     name: *b"baz",

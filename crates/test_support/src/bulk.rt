@@ -1,8 +1,9 @@
 //! Maps of either kind made of iterators, and iterators that lie.
 ghost use Rattle.std.specs.Iterator.{IsFiniteIterable as IsFinite};
 
-use crate::items::{Named, named};
+use crate::items::Named;
 use crate::maps::{Hashed, Ordered, UnderTest};
+use crate::new_items::named;
 use iddqd::errors::{FromIterError, TryReserveError};
 use iddqd::{IdHashItem, IdHashMap, IdOrdItem, IdOrdMap};
 use std::alloc::Global;

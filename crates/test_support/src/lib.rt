@@ -8,6 +8,7 @@ pub mod hashers;
 pub mod heap;
 pub mod items;
 pub mod maps;
+pub mod new_items;
 pub mod nine;
 pub mod ordered;
 pub mod visitors;

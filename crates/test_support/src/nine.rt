@@ -1,6 +1,7 @@
 //! Nine items that are left of twenty-five, with vacant slots among them.
-use crate::items::{Numbered, numbered};
+use crate::items::Numbered;
 use crate::maps::UnderTest;
+use crate::new_items::numbered;
 
 /// The numbers of the twenty-five.
 pub const IDS: [u32; 25] = [
