@@ -4,8 +4,9 @@ use iddqd::errors::{ExtendError, FromIterError, TryReserveError};
 use iddqd::{DefaultHashBuilder, IdHashMap, IdOrdMap};
 use std::alloc::Global;
 use test_support::bulk::{Bulk, Hinted};
-use test_support::items::{Numbered, numbered};
+use test_support::items::Numbered;
 use test_support::maps::{Added, Copying, Hashed, Ordered, UnderTest, by_hash, in_order};
+use test_support::new_items::numbered;
 
 // The item that was refused for the limit, and whether there was such a refusal.
 fn stopped_at(outcome: Result<(), ExtendError<Numbered>>) -> (Option<Numbered>, bool) {

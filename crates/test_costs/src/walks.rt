@@ -5,8 +5,9 @@ ghost use Rattle.std.specs.Cmp.{on_equiv, on_per, nat_eq_equiv, partial_equiv_fr
 use crate::checks::check;
 use iddqd::{IdHashItem, IdHashMap, IdOrdItem, IdOrdMap};
 use std::alloc::Global;
-use test_support::items::{Named, named};
+use test_support::items::Named;
 use test_support::maps::{Hashed, Ordered, UnderTest, by_hash, in_order};
+use test_support::new_items::named;
 
 // Whether foo, bar and baz are inserted.
 fn is_filled<M: UnderTest<Named, [u8; 3]>>(map: &mut M) -> bool {

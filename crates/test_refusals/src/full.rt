@@ -6,8 +6,9 @@ use iddqd::{DefaultHashBuilder, IdHashMap, IdOrdMap};
 use std::alloc::Global;
 use std::test::Fail;
 use test_support::heap::arm;
-use test_support::items::{Numbered, numbered};
+use test_support::items::Numbered;
 use test_support::maps::{Copying, Hashed, Inserted, Ordered, UnderTest};
+use test_support::new_items::numbered;
 
 // Fills a map up to its limit, and tries two insertions of a new number and a reservation. Each is refused since the map
 // is full.

@@ -4,8 +4,9 @@ use iddqd::errors::TryReserveError;
 use std::alloc::Global;
 use std::test::Fail;
 use test_support::heap::{arm, is_met};
-use test_support::items::{Numbered, numbered};
+use test_support::items::Numbered;
 use test_support::maps::{Copying, Inserted, Ordered, UnderTest, in_order};
+use test_support::new_items::numbered;
 
 // Whether the walk has the numbers below another, in order.
 fn walks(map: &Ordered<Numbered>, end: u32) -> bool {

@@ -4,8 +4,9 @@ use crate::words::{Word, tell, word_without_memory};
 use std::alloc::Global;
 use std::test::Fail;
 use test_support::heap::arm;
-use test_support::items::{Numbered, numbered};
+use test_support::items::Numbered;
 use test_support::maps::{ByEntry, Copying, Ordered, by_hash, in_order};
+use test_support::new_items::numbered;
 use test_support::visitors::{Change, Visited};
 
 // Fills the map with numbers, visits them, one by `get_mut` and one by its entry.

@@ -4,8 +4,9 @@ use crate::words::{Word, tell, word_without_memory};
 use std::alloc::{AllocError, Global};
 use std::test::Fail;
 use test_support::heap::arm;
-use test_support::items::{Numbered, Titled, numbered};
+use test_support::items::{Numbered, Titled};
 use test_support::maps::{AskedByText, Copying, Inserted, UnderTest, by_hash, in_order};
+use test_support::new_items::numbered;
 
 const BACK: &str = "item_back";
 

@@ -5,8 +5,9 @@ use iddqd::errors::TryReserveError;
 use std::alloc::{AllocError, Global};
 use std::test::Fail;
 use test_support::heap::{arm, is_met};
-use test_support::items::{Numbered, numbered};
+use test_support::items::Numbered;
 use test_support::maps::{Added, Copying, UnderTest, by_hash, in_order};
+use test_support::new_items::numbered;
 use test_support::nine::{are_left, retain_nine};
 
 // A call that makes room, or gives some back.
