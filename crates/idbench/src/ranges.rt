@@ -48,8 +48,7 @@ impl<K: BenchKey> Ranged for Ordered<Item<K>> {
 
     fn sum_from(&self, key: &K, count: usize) -> u64 {
         let mut sum = 0u64;
-        let bounds = (Bound::Included(key), Bound::Unbounded);
-        for item in self.map().range::<K, _>(bounds).take(count) {
+        for item in self.walk_from(key).take(count) {
             sum = sum.wrapping_add(item.value);
         }
         sum

@@ -25,10 +25,9 @@ fn finds_bounds<T: IdOrdItem + Copy + Drop>(map: &Ordered<T>, key: &T::Key, mete
     let once = meter.once(map, key);
     let (_, steps) = map.index_of(key);
     meter.tell(steps == once.1, once);
-    let _ = map.map().index_of(key);
+    let _ = map.position_of(key);
     meter.tell(true, once);
-    let from = (Bound::Included(key), Bound::Unbounded);
-    let _ = map.map().range::<T::Key, _>(from);
+    let _ = map.walk_from(key);
     meter.tell(true, once);
     for bound in [Bound::Included(key), Bound::Excluded(key)] {
         let _ = map.lower_bound(bound);

@@ -219,8 +219,10 @@ fn text_of_refused_collection(rt: HostRuntime) {
 fn refusal_becomes_io_error(rt: HostRuntime) {
     let error = io::Error::from(TryReserveError::capacity_overflow());
     check(&rt, error.kind() == io::ErrorKind::OutOfMemory);
-    let error = TryReserveError::alloc_error();
-    check(&rt, AllocError::from(error) == AllocError);
+    check(
+        &rt,
+        AllocError::from(TryReserveError::alloc_error()) == AllocError,
+    );
 }
 
 // The keys come in the order of the items.

@@ -1,16 +1,13 @@
 //! `run` with a request refused: the commands come back, or the replies are one of the rows that a refusal allows.
-ghost use Rattle.std.specs.Prelude.{nat_eq};
-ghost use Rattle.iddqd.specs.Visiting.{VisitsKeepKeys};
-
 use crate::errors::items;
 use crate::words::{Word, rows, tell};
-use iddqd::{IdHashMap, IdOrdMap, Visit};
-use idtable_commands::{Command, KeyedMap, Reply, run};
+use iddqd::IdOrdMap;
+use idtable_commands::{Command, Reply};
 use std::alloc::{AllocError, Global};
 use std::test::Fail;
 use test_support::heap::{arm, is_met};
 use test_support::kept::{Kept, make_kept};
-use test_support::maps::{Ordered, UnderTest};
+use test_support::maps::{Commanded, Ordered, UnderTest, by_hash, in_order};
 use test_support::visitors::Untouched;
 
 type Commands = Vec<Command<Kept, u32, Untouched>>;
@@ -163,18 +160,15 @@ fn word(rows: &[Row], replies: &[Reply<Kept>], is_met: bool) -> Word {
 
 // Runs the commands with a request refused. Commands that come back are run again. In the end the map has as many
 // items as before.
-fn swept_run<M: KeyedMap<Item = Kept, Key = u32>>(
+fn swept_run<M: UnderTest<Kept, u32> + Commanded<Kept, u32>>(
     alloc: Global,
     map: &mut M,
     commands: Commands,
     rows: &[Row],
-) -> Word
-    requires keyed { M.keyed map.old }
-    requires keeps_keys { VisitsKeepKeys M.key nat_eq ⟦<Untouched as Visit<Kept>>⟧.visits }
-{
+) -> Word {
     let others = map.len();
     arm(alloc);
-    let outcome = run(alloc, map, commands);
+    let outcome = map.run(alloc, commands);
     let is_met = is_met(alloc);
     if map.len() != others {
         return Err(Fail::from("an item is gone, or stays"));
@@ -182,7 +176,7 @@ fn swept_run<M: KeyedMap<Item = Kept, Key = u32>>(
     match outcome {
         Ok(replies) => word(rows, replies.as_slice(), is_met),
         Err(stop) => {
-            let Ok(replies) = run(alloc, map, stop.commands) else {
+            let Ok(replies) = map.run(alloc, stop.commands) else {
                 return Err(Fail::from("no memory for the replies"));
             };
             if is_met && word(rows, replies.as_slice(), false)? == "answered" {
@@ -196,14 +190,14 @@ fn swept_run<M: KeyedMap<Item = Kept, Key = u32>>(
 #[test]
 fn run_of_commands(rt: HostRuntime) -> Result<(), Fail> {
     let (alloc, commands) = (rt.alloc(), commands(rt.alloc())?);
-    let map = &mut IdOrdMap::new(alloc);
+    let map = &mut in_order(alloc);
     tell(&rt, swept_run(alloc, map, commands, &ROWS))
 }
 
 #[test]
 fn hash_run_of_commands(rt: HostRuntime) -> Result<(), Fail> {
     let (alloc, commands) = (rt.alloc(), commands(rt.alloc())?);
-    let map = &mut IdHashMap::new(alloc);
+    let map = &mut by_hash(alloc);
     tell(&rt, swept_run(alloc, map, commands, &ROWS))
 }
 
@@ -223,13 +217,15 @@ fn run_of_bulk_commands(rt: HostRuntime) -> Result<(), Fail> {
     let (alloc, commands) = (rt.alloc(), bulk_commands(rt.alloc())?);
     let mut map = Ordered::new(IdOrdMap::with_capacity(alloc, 11)?);
     fill_with_others(alloc, &mut map)?;
-    let (map, rows) = (&mut map.into_map(), bulk_rows_beside_others());
-    tell(&rt, swept_run(alloc, map, commands, &rows))
+    tell(
+        &rt,
+        swept_run(alloc, &mut map, commands, &bulk_rows_beside_others()),
+    )
 }
 
 #[test]
 fn hash_run_of_bulk_commands(rt: HostRuntime) -> Result<(), Fail> {
     let (alloc, commands) = (rt.alloc(), bulk_commands(rt.alloc())?);
-    let map = &mut IdHashMap::new(alloc);
+    let map = &mut by_hash(alloc);
     tell(&rt, swept_run(alloc, map, commands, &BULK_ROWS))
 }
