@@ -48,7 +48,8 @@ impl<K: BenchKey> Ranged for Ordered<Item<K>> {
 
     fn sum_from(&self, key: &K, count: usize) -> u64 {
         let mut sum = 0u64;
-        for item in self.walk_from(key).take(count) {
+        let bounds = (Bound::Included(key), Bound::Unbounded);
+        for item in self.map().range::<K, _>(bounds).take(count) {
             sum = sum.wrapping_add(item.value);
         }
         sum

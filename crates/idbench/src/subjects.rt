@@ -25,7 +25,9 @@ pub(crate) trait Subject: Drop {
     fn empty(alloc: Global) -> Self;
 
     /// A map without items that has room for this many; `None` if there is no such call, or no memory.
-    fn with_room(alloc: Global, size: usize) -> Option<Self>;
+    fn with_room(_alloc: Global, _size: usize) -> Option<Self> {
+        None
+    }
 
     /// What goes in for the number.
     fn load(alloc: Global, number: u64) -> Result<Self::Load, AllocError>;
@@ -52,7 +54,9 @@ pub(crate) trait Subject: Drop {
     fn move_out(map: Self::Written, loads: &mut Vec<Self::Load>) -> Result<(), AllocError>;
 
     /// Removes the first item, and returns its value; `None` if there is none, or the map has no order.
-    fn pop_first(&mut self) -> Option<u64>;
+    fn pop_first(&mut self) -> Option<u64> {
+        None
+    }
 
     /// Keeps the items whose value is even.
     fn keep_even(&mut self);
@@ -103,7 +107,7 @@ impl<K: BenchKey> Subject for Hashed<Item<K>> {
     }
 
     fn copied(&self) -> usize {
-        self.copied().map_or(0, |copy| copy.len())
+        self.map().clone().map_or(0, |copy| copy.len())
     }
 
     fn raised(self) -> IdHashMap<Item<K>> {
@@ -117,10 +121,6 @@ impl<K: BenchKey> Subject for Hashed<Item<K>> {
             loads.push(load)?;
         }
         Ok(())
-    }
-
-    fn pop_first(&mut self) -> Option<u64> {
-        None
     }
 
     fn keep_even(&mut self) {
@@ -141,10 +141,6 @@ impl<K: BenchKey> Subject for Ordered<Item<K>> {
 
     fn empty(alloc: Global) -> Ordered<Item<K>> {
         Ordered::new(IdOrdMap::new(alloc))
-    }
-
-    fn with_room(_alloc: Global, _size: usize) -> Option<Ordered<Item<K>>> {
-        None
     }
 
     fn load(alloc: Global, number: u64) -> Result<Item<K>, AllocError> {
@@ -172,7 +168,7 @@ impl<K: BenchKey> Subject for Ordered<Item<K>> {
     }
 
     fn copied(&self) -> usize {
-        self.copied().map_or(0, |copy| copy.len())
+        self.map().clone().map_or(0, |copy| copy.len())
     }
 
     fn raised(self) -> IdOrdMap<Item<K>> {
@@ -269,10 +265,6 @@ impl<K: BenchKey> Subject for HashMap<K, Item<K>> {
         Ok(())
     }
 
-    fn pop_first(&mut self) -> Option<u64> {
-        None
-    }
-
     fn keep_even(&mut self) {
         keep_even_hashed(self);
     }
@@ -291,10 +283,6 @@ impl<K: BenchKey> Subject for BTreeMap<K, Item<K>> {
 
     fn empty(alloc: Global) -> BTreeMap<K, Item<K>> {
         BTreeMap::new(alloc)
-    }
-
-    fn with_room(_alloc: Global, _size: usize) -> Option<BTreeMap<K, Item<K>>> {
-        None
     }
 
     fn load(alloc: Global, number: u64) -> Result<(K, Item<K>), AllocError> {

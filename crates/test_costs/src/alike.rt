@@ -73,7 +73,7 @@ fn hash_equality_looks_each_item_up(rt: HostRuntime) -> Result<(), Fail> {
 fn copied_in_order<T: IdOrdItem + Copy + Drop>(map: Ordered<T>, meter: Meter<'_>)
     requires keeps_keys { ClonesKeepKeys T.key T.Key.eq T.is_clone }
 {
-    let length = match map.copied() {
+    let length = match map.map().clone() {
         Ok(copy) => copy.len(),
         Err(_) => 0,
     };
@@ -83,7 +83,7 @@ fn copied_in_order<T: IdOrdItem + Copy + Drop>(map: Ordered<T>, meter: Meter<'_>
 fn copied_by_hash<T: IdHashItem + Copy + Drop>(map: Hashed<T>, meter: Meter<'_>)
     requires keeps_keys { ClonesKeepKeys T.key T.Key.eq T.is_clone }
 {
-    let length = match map.copied() {
+    let length = match map.map().clone() {
         Ok(copy) => copy.len(),
         Err(_) => 0,
     };

@@ -25,9 +25,10 @@ fn finds_bounds<T: IdOrdItem + Copy + Drop>(map: &Ordered<T>, key: &T::Key, mete
     let once = meter.once(map, key);
     let (_, steps) = map.index_of(key);
     meter.tell(steps == once.1, once);
-    let _ = map.position_of(key);
+    let _ = map.map().index_of(key);
     meter.tell(true, once);
-    let _ = map.walk_from(key);
+    let from = (Bound::Included(key), Bound::Unbounded);
+    let _ = map.map().range::<T::Key, _>(from);
     meter.tell(true, once);
     for bound in [Bound::Included(key), Bound::Excluded(key)] {
         let _ = map.lower_bound(bound);

@@ -1,34 +1,19 @@
 //! Calls of one item compare as often as one search, which `get_counted` tells, and hash as it does.
-use crate::meter::{Cost, Meter, Tally};
+use crate::meter::{ByZero, Cost, Meter, Metered, Tally};
 use std::alloc::Global;
-use std::hash::BuildHasherDefault;
 use std::test::Fail;
-use test_support::bulk::Bulk;
 use test_support::counting::{CountingKey, Tallied};
-use test_support::hashers::ZeroHasher;
-use test_support::maps::{Copying, Hashed, Ordered, UnderTest};
-
-/// A hash map whose every hash is 0.
-pub(crate) type ByZero<'a> = Hashed<Tallied<'a>, BuildHasherDefault<ZeroHasher>>;
+use test_support::maps::{ByEntry, Ordered};
 
 // A lookup of the key.
-fn looks<'a, M: Copying<Tallied<'a>, CountingKey<'a>>>(
-    map: &M,
-    key: &CountingKey<'a>,
-    is_there: bool,
-    meter: Meter<'a>,
-) {
+fn looks<'a, M: Metered<'a>>(map: &M, key: &CountingKey<'a>, is_there: bool, meter: Meter<'a>) {
     let once = meter.once(map, key);
     meter.tell(map.get(key).is_some() == is_there, once);
     meter.tell(map.contains(key) == is_there, once);
 }
 
 // A removal of the key, and of the key that is absent then.
-fn goes<'a, M: Copying<Tallied<'a>, CountingKey<'a>>>(
-    map: &mut M,
-    key: &CountingKey<'a>,
-    meter: Meter<'a>,
-) {
+fn goes<'a, M: Metered<'a>>(map: &mut M, key: &CountingKey<'a>, meter: Meter<'a>) {
     let once = meter.once(map, key);
     meter.tell(map.remove(key).is_some(), once);
     let once = meter.once(map, key);
@@ -36,11 +21,7 @@ fn goes<'a, M: Copying<Tallied<'a>, CountingKey<'a>>>(
 }
 
 // A duplicate, a replacement, removals, and both insertions of a key that is absent.
-fn comes_and_goes<'a, M: Copying<Tallied<'a>, CountingKey<'a>>>(
-    map: &mut M,
-    item: Tallied<'a>,
-    meter: Meter<'a>,
-) {
+fn comes_and_goes<'a, M: Metered<'a>>(map: &mut M, item: Tallied<'a>, meter: Meter<'a>) {
     let once = meter.once(map, &item.key);
     meter.tell(!map.is_put(item), once);
     meter.tell(matches!(map.overwrite(item), Ok(Some(_))), once);
@@ -52,7 +33,7 @@ fn comes_and_goes<'a, M: Copying<Tallied<'a>, CountingKey<'a>>>(
     meter.tell(matches!(map.overwrite(item), Ok(None)), once);
 }
 
-fn calls_of_each<'a, M: Copying<Tallied<'a>, CountingKey<'a>> + Bulk<Tallied<'a>> + Drop>(
+fn calls_of_each<'a, M: Metered<'a>>(
     alloc: Global,
     count: u32,
     meter: Meter<'a>,
@@ -83,51 +64,25 @@ fn hash_calls_search_once(rt: HostRuntime) -> Result<(), Fail> {
     tally.end()
 }
 
-// A guard, an entry, or what is called on it.
-#[derive(Clone, Copy)]
-enum Call {
-    Spend,
-    Enter,
-    UseEntry,
-    ModifyOrPut,
-    OrInsert,
-    OrInsertWith,
-}
-
-// Whether the call found its item, or left it in the map.
-fn is_done<'a, M: Copying<Tallied<'a>, CountingKey<'a>>>(
-    map: M,
-    item: Tallied<'a>,
-    call: Call,
-) -> bool {
-    match call {
-        Call::Spend => map.spend(&item.key),
-        Call::Enter => map.enter(&item.key),
-        Call::UseEntry => map.use_entry(item),
-        Call::ModifyOrPut => map.modify_or_put(item),
-        Call::OrInsert => map.use_or_insert(item),
-        Call::OrInsertWith => map.use_or_insert_with(item),
-    }
-}
-
-// Each of those calls for the item: a search costs `once`, and the calls that may insert `used`.
-fn by_guard_and_entry<'a, M: Copying<Tallied<'a>, CountingKey<'a>> + Bulk<Tallied<'a>> + Drop>(
+// A guard of the item, and each call on its entry: a search costs `once`, and the calls that may insert `used`.
+fn by_guard_and_entry<'a, M: Metered<'a>>(
     alloc: Global,
     items: &[Tallied<'a>],
     (item, is_there): (Tallied<'a>, bool),
     (once, used): (Cost, Cost),
     meter: Meter<'a>,
 ) -> Result<(), Fail> {
+    let mut map = meter.map_of::<M>(alloc, items)?;
+    meter.tell(map.spend(&item.key) == is_there, once);
     for (call, wanted, cost) in [
-        (Call::Spend, is_there, once),
-        (Call::Enter, is_there, once),
-        (Call::UseEntry, true, used),
-        (Call::ModifyOrPut, true, used),
-        (Call::OrInsert, true, used),
-        (Call::OrInsertWith, true, used),
+        (ByEntry::Nothing, is_there, once),
+        (ByEntry::Insert, true, used),
+        (ByEntry::ModifyOrInsert, true, used),
+        (ByEntry::OrInsert, true, used),
+        (ByEntry::OrInsertWith, true, used),
     ] {
         let map = meter.map_of::<M>(alloc, items)?;
-        meter.tell(is_done(map, item, call) == wanted, cost);
+        meter.tell(map.enter(item, call) == wanted, cost);
     }
     Ok(())
 }
@@ -141,10 +96,7 @@ fn twice((hashings, comparisons): Cost) -> Cost {
     }
 }
 
-fn guards_and_entries<'a, M: Copying<Tallied<'a>, CountingKey<'a>> + Bulk<Tallied<'a>> + Drop>(
-    alloc: Global,
-    meter: Meter<'a>,
-) -> Result<(), Fail> {
+fn guards_and_entries<'a, M: Metered<'a>>(alloc: Global, meter: Meter<'a>) -> Result<(), Fail> {
     let items = meter.counts.items(alloc, 0, 50)?;
     let map = meter.map_of::<M>(alloc, items.as_slice())?;
     for item in items.as_slice() {

@@ -60,7 +60,7 @@ fn ordered_steps_are_comparisons(rt: HostRuntime) -> Result<(), Fail> {
 }
 
 // Each item is looked up.
-fn are_found<T: IdHashItem, S: BuildHasher>(
+fn are_found<T: IdHashItem + Drop, S: BuildHasher>(
     map: &Hashed<T, S>,
     items: &[T],
     are_there: bool,

@@ -1,12 +1,12 @@
 //! Rows of iterators whose hints lie, and of maps that are full.
 use crate::checks::check;
-use crate::numbers::valued;
 use iddqd::errors::{ExtendError, FromIterError, TryReserveError};
 use iddqd::{DefaultHashBuilder, IdHashMap, IdOrdMap};
 use std::alloc::Global;
 use test_support::bulk::{Bulk, Hinted};
 use test_support::items::Numbered;
 use test_support::maps::{Added, Copying, Hashed, Ordered, UnderTest, by_hash, in_order};
+use test_support::new_items::numbered;
 
 // The item that was refused for the limit, and whether there was such a refusal.
 fn stopped_at(outcome: Result<(), ExtendError<Numbered>>) -> (Option<Numbered>, bool) {
@@ -26,12 +26,12 @@ fn two_by_hash(alloc: Global) -> Hashed<Numbered> {
 }
 
 fn is_filled_to_two<M: UnderTest<Numbered, u32>>(map: &mut M) -> bool {
-    let items = [valued(1, 1), valued(2, 2), valued(1, 3), valued(3, 4)];
+    let items = [(1, 1), (2, 2), (1, 3), (3, 4)].map(|(key, value)| numbered(key, value));
     let stopped = stopped_at(map.extend(Hinted::new(&items, 0)));
-    stopped == (Some(valued(3, 4)), true)
+    stopped == (Some(numbered(3, 4)), true)
         && map.len() == 2
-        && map.get(&1) == Some(&valued(1, 3))
-        && map.get(&2) == Some(&valued(2, 2))
+        && map.get(&1) == Some(&numbered(1, 3))
+        && map.get(&2) == Some(&numbered(2, 2))
 }
 
 #[test]
@@ -48,11 +48,11 @@ fn announced<M: UnderTest<Numbered, u32>>(map: &mut M, hint: usize) -> (Option<N
 fn keeps_to_two<M: UnderTest<Numbered, u32>>(map: &mut M) -> bool {
     announced(map, 3) == (None, true)
         && map.len() == 0
-        && map.is_put(valued(1, 1))
+        && map.is_put(numbered(1, 1))
         && announced(map, 3) == (None, true)
         && announced(map, 2) == (None, false)
         && map.len() == 1
-        && map.get(&1) == Some(&valued(1, 1))
+        && map.get(&1) == Some(&numbered(1, 1))
 }
 
 #[test]
@@ -73,19 +73,17 @@ fn reserves_all<M: Copying<Numbered, u32>>(one: &mut M, other: &mut M) -> bool {
 #[test]
 fn hints_to_empty_maps(rt: HostRuntime) {
     let alloc = rt.alloc();
-    check(
-        &rt,
-        reserves_all(&mut in_order(alloc), &mut in_order(alloc)),
-    );
+    let (one, other) = (&mut in_order(alloc), &mut in_order(alloc));
+    check(&rt, reserves_all(one, other));
     check(&rt, reserves_all(&mut by_hash(alloc), &mut by_hash(alloc)));
 }
 
 fn few_come<M: UnderTest<Numbered, u32>>(map: &mut M) -> bool {
-    stopped_at(map.extend(Hinted::new(&[valued(1, 1)], 5))) == (None, false) && map.len() == 1
+    stopped_at(map.extend(Hinted::new(&[numbered(1, 1)], 5))) == (None, false) && map.len() == 1
 }
 
 fn many_come<M: UnderTest<Numbered, u32>>(map: &mut M) -> bool {
-    let mut hundred = [valued(0, 0); 100];
+    let mut hundred = [numbered(0, 0); 100];
     let mut number = 0u32;
     for item in hundred.iter_mut() {
         item.number = number;

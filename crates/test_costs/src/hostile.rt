@@ -4,9 +4,9 @@ use crate::numbers::{are_found, are_numbers_put, numbered, of_equal_hashes};
 use iddqd::{IdHashMap, IdOrdMap};
 use std::alloc::Global;
 use test_support::caseless::{Caseless, Coarse, item_of, spelled};
-use test_support::coarse::{CoarseMap, Copied};
+use test_support::coarse::{CoarseMap, Copied, Way};
 use test_support::items::Numbered;
-use test_support::maps::{Inserted, UnderTest, by_hash, in_order};
+use test_support::maps::{Copying, Inserted, UnderTest, by_hash, in_order};
 use test_support::walks::Walked;
 
 // Whether bar 1 and Foo 2 are inserted.
@@ -14,37 +14,15 @@ fn has_bar_and_foo<M: UnderTest<Coarse, Caseless>>(map: &mut M) -> bool {
     map.is_put(item_of(*b"bar", 1)) && map.is_put(item_of(*b"Foo", 2))
 }
 
-// A way to write an item.
-#[derive(Clone, Copy)]
-enum Way {
-    Guard,
-    Entry,
-    Visitor,
-    Walk,
-}
-
 const RESPELLED: Coarse = Coarse {
     name: Caseless(*b"fOO"),
     value: 7,
 };
 
-// Whether Foo is written.
-fn writes<M: CoarseMap>(map: &mut M, way: Way) -> bool {
-    let asked = Caseless(*b"FOO");
-    match way {
-        Way::Guard => map.respell_by_guard(&asked, RESPELLED),
-        Way::Entry => map.respell_by_entry(&asked, RESPELLED),
-        Way::Visitor => {
-            map.respell_by_visitor(RESPELLED);
-            true
-        }
-        Way::Walk => map.respell_by_walk(RESPELLED),
-    }
-}
-
-// Whether another item of FOO is a duplicate of fOO 7 once that is written, and bar is as it was.
+// Whether another item of FOO is a duplicate of fOO 7 once that is written over Foo, and bar is as it was.
 fn is_respelled<M: CoarseMap>(map: &mut M, way: Way) -> bool {
-    let is_written = has_bar_and_foo(map) && writes(map, way);
+    let asked = Caseless(*b"FOO");
+    let is_written = has_bar_and_foo(map) && map.respell(&asked, RESPELLED, way);
     let existing = match map.insert(item_of(*b"FOO", 9)) {
         Inserted::Duplicate(_, existing) => existing,
         Inserted::Done | Inserted::Refused(_, _) => None,
@@ -127,7 +105,7 @@ fn reborrow(rt: HostRuntime) {
 fn equals_its_clone<M: CoarseMap + Copied + Drop>(map: &mut M) -> bool {
     let is_full = has_bar_and_foo(map);
     let copy = map.copied();
-    let is_spent = map.spend_unwritten(&Caseless(*b"Foo"));
+    let is_spent = map.spend(&Caseless(*b"Foo"));
     match copy {
         Ok(copy) => is_full && is_spent && map.equals(&copy),
         Err(_) => false,
@@ -142,24 +120,20 @@ fn guard_spent_unwritten(rt: HostRuntime) {
 
 // Whether fifty numbers are inserted, each two above the one before.
 fn fifty_are_put<M: UnderTest<Numbered, u32>>(map: &mut M, first: u32) -> bool {
-    let mut number = first;
-    for _ in 0..50 {
-        if !map.is_put(numbered(number)) {
+    for half in 0..50u32 {
+        if !map.is_put(numbered(half.wrapping_mul(2).wrapping_add(first))) {
             return false;
         }
-        number = number.wrapping_add(2);
     }
     true
 }
 
 // Whether the fifty even numbers are removed.
 fn evens_are_taken<M: UnderTest<Numbered, u32>>(map: &mut M) -> bool {
-    let mut number = 0u32;
-    for _ in 0..50 {
-        if map.remove(&number).is_none() {
+    for half in 0..50u32 {
+        if map.remove(&half.wrapping_mul(2)).is_none() {
             return false;
         }
-        number = number.wrapping_add(2);
     }
     true
 }

@@ -1,16 +1,15 @@
 //! Calls of many items cost as many insertions or removals, and walks, room and copies no comparison.
-use crate::calls::ByZero;
-use crate::meter::{Cost, Meter, Tally};
+use crate::meter::{ByZero, Cost, Meter, Metered, Tally};
 use iddqd::errors::TryReserveError;
 use std::alloc::Global;
 use std::test::Fail;
-use test_support::bulk::{Bulk, Hinted};
-use test_support::counting::{CountingKey, Tallied};
-use test_support::maps::{Added, Copying, Ordered, UnderTest};
+use test_support::bulk::Hinted;
+use test_support::counting::Tallied;
+use test_support::maps::{Added, Ordered};
 use test_support::walks::Walked;
 
 // What it costs to insert the items one by one.
-fn one_by_one<'a, M: Copying<Tallied<'a>, CountingKey<'a>> + Bulk<Tallied<'a>> + Drop>(
+fn one_by_one<'a, M: Metered<'a>>(
     alloc: Global,
     items: &[Tallied<'a>],
     meter: Meter<'a>,
@@ -32,7 +31,7 @@ enum Call {
 }
 
 // Whether all items are taken, by the map or by a new one.
-fn are_taken<'a, M: Copying<Tallied<'a>, CountingKey<'a>> + Bulk<Tallied<'a>> + Drop>(
+fn are_taken<'a, M: Metered<'a>>(
     alloc: Global,
     map: &mut M,
     items: &[Tallied<'a>],
@@ -47,10 +46,7 @@ fn are_taken<'a, M: Copying<Tallied<'a>, CountingKey<'a>> + Bulk<Tallied<'a>> + 
     }
 }
 
-fn takes_many<'a, M: Copying<Tallied<'a>, CountingKey<'a>> + Bulk<Tallied<'a>> + Drop>(
-    alloc: Global,
-    meter: Meter<'a>,
-) -> Result<(), Fail> {
+fn takes_many<'a, M: Metered<'a>>(alloc: Global, meter: Meter<'a>) -> Result<(), Fail> {
     let list = meter.counts.items(alloc, 0, 50)?;
     let items = list.as_slice();
     let each = one_by_one::<M>(alloc, items, meter)?;
@@ -79,7 +75,7 @@ fn many_items_cost_as_insertions(rt: HostRuntime) -> Result<(), Fail> {
     tally.end()
 }
 
-fn walks<'a, M: Copying<Tallied<'a>, CountingKey<'a>> + Bulk<Tallied<'a>> + Walked<Tallied<'a>>>(
+fn walks<'a, M: Metered<'a> + Walked<Tallied<'a>>>(
     alloc: Global,
     meter: Meter<'a>,
 ) -> Result<(), Fail>
@@ -89,7 +85,7 @@ where
     let items = meter.counts.items(alloc, 0, 50)?;
     let mut map = meter.map_of::<M>(alloc, items.as_slice())?;
     meter.tell(map.walk() == 50, (0, 0));
-    map.visit_all();
+    map.visit_all(true);
     let has_room = map.reserve(100).is_ok() && map.try_reserve(1000).is_ok();
     meter.tell(has_room && map.len() == 50, (0, 0));
     let (_, left) = map.written(20, |_| {});
@@ -106,10 +102,7 @@ fn walks_and_room_cost_none(rt: HostRuntime) -> Result<(), Fail> {
 }
 
 // Seven items leave the first slots, and the last seven of the others move there. Then one leaves, and one moves.
-fn leave_and_move<'a, M: Copying<Tallied<'a>, CountingKey<'a>> + Bulk<Tallied<'a>> + Drop>(
-    alloc: Global,
-    meter: Meter<'a>,
-) -> Result<(), Fail> {
+fn leave_and_move<'a, M: Metered<'a>>(alloc: Global, meter: Meter<'a>) -> Result<(), Fail> {
     let items = meter.counts.items(alloc, 0, 50)?;
     let mut map = meter.map_of::<M>(alloc, items.as_slice())?;
     map.retain(|item| item.key.number >= 14);
@@ -120,7 +113,7 @@ fn leave_and_move<'a, M: Copying<Tallied<'a>, CountingKey<'a>> + Bulk<Tallied<'a
     let once = meter.once(&map, &meter.counts.key(84));
     let moved = if meter.hashings == 0 { once } else { (1, 0) };
     meter.tell(map.shrink_to_fit().is_ok(), moved);
-    map.drop_all();
+    map.visit_all(false);
     meter.tell_hashed(map.len() == 0, 42);
     Ok(())
 }

@@ -2,10 +2,22 @@
 use iddqd::errors::TryReserveError;
 use std::alloc::Global;
 use std::cell::Cell;
+use std::hash::BuildHasherDefault;
 use std::test::Fail;
 use test_support::bulk::{Bulk, Hinted};
-use test_support::counting::{Counts, Tallied};
-use test_support::maps::Copying;
+use test_support::counting::{CountingKey, Counts, Tallied};
+use test_support::hashers::ZeroHasher;
+use test_support::maps::{Copying, Hashed, Ordered};
+
+/// A hash map whose every hash is 0.
+pub(crate) type ByZero<'a> = Hashed<Tallied<'a>, BuildHasherDefault<ZeroHasher>>;
+
+/// A map of either kind whose keys count.
+pub(crate) trait Metered<'a>: Copying<Tallied<'a>, CountingKey<'a>> + Bulk<Tallied<'a>> + Drop {}
+
+impl<'a> Metered<'a> for Ordered<Tallied<'a>> {}
+
+impl<'a> Metered<'a> for ByZero<'a> {}
 
 /// Hashings, and comparisons.
 pub(crate) type Cost = (u32, u32);
@@ -72,7 +84,7 @@ impl<'a> Meter<'a> {
     }
 
     /// The cost of one search for the key, as `get_counted` tells it.
-    pub(crate) fn once<T: Copy, K, M: Copying<T, K>>(self, map: &M, key: &K) -> Cost {
+    pub(crate) fn once<T: Copy + Drop, K, M: Copying<T, K>>(self, map: &M, key: &K) -> Cost {
         let _ = self.counts.since();
         let (_, steps) = map.get_counted(key);
         let cost = (self.hashings, steps);

@@ -6,14 +6,12 @@ use test_support::hashers::ZeroHasher;
 use test_support::items::Numbered;
 use test_support::maps::{Hashed, Inserted, Ordered, UnderTest};
 
-/// The item of a number and its value.
-pub(crate) fn valued(number: u32, value: u32) -> Numbered {
-    Numbered { number, value }
-}
-
 /// The item of a number.
 pub(crate) fn numbered(number: u32) -> Numbered {
-    valued(number, number ^ 5)
+    Numbered {
+        number,
+        value: number ^ 5,
+    }
 }
 
 /// Whether each of the numbers from one to below another goes into the map.
@@ -55,7 +53,7 @@ pub(crate) fn of_equal_hashes<T: IdHashItem>(
 /// Whether a call found, inserted or removed an item, and how many steps it took.
 pub(crate) type Outcome = (bool, u32);
 
-pub(crate) fn find<T, K, M: UnderTest<T, K>>(map: &M, key: &K) -> Outcome {
+pub(crate) fn find<T: Drop, K, M: UnderTest<T, K>>(map: &M, key: &K) -> Outcome {
     let (found, steps) = map.get_counted(key);
     (found.is_some(), steps)
 }

@@ -4,10 +4,7 @@ use iddqd::IdHashItem;
 use std::alloc::Global;
 use test_support::counting::{Counts, Tallied};
 use test_support::maps::{UnderTest, by_hash};
-
-const IDS: [u32; 25] = [
-    0, 17, 1, 12, 5, 21, 8, 10, 18, 4, 16, 22, 9, 24, 23, 13, 7, 25, 26, 20, 31, 11, 14, 2, 6,
-];
+use test_support::nine::IDS;
 
 // Whether the map of those that are kept makes room twice and hashes none of their keys.
 fn makes_room_unhashed<T: IdHashItem + Copy, F: Fn(&T) -> bool>(

@@ -7,10 +7,7 @@ use iddqd::{IdHashItem, IdHashMap, IdOrdItem, IdOrdMap};
 use std::alloc::Global;
 use test_support::items::Named;
 use test_support::maps::{Hashed, Ordered, UnderTest, by_hash, in_order};
-
-fn named(name: [u8; 3], value: u32) -> Named {
-    Named { name, value }
-}
+use test_support::new_items::named;
 
 // Whether foo, bar and baz are inserted.
 fn is_filled<M: UnderTest<Named, [u8; 3]>>(map: &mut M) -> bool {

@@ -15,8 +15,31 @@ fn sides<T: Copy>(difference: &Difference<&T>) -> Sides<T> {
     }
 }
 
+// Lists the differences.
+fn listed<'o, 'n, T: Copy + 'o + 'n, D: Iterator<Item = Difference<&'o T, &'n T>>>(
+    alloc: Global,
+    differences: D,
+) -> Result<Vec<Sides<T>>, AllocError> {
+    let mut all = Vec::new(alloc);
+    for difference in differences {
+        all.push(sides(&difference))?;
+    }
+    Ok(all)
+}
+
+// Returns how many differences are changes.
+fn count_changes<'o, 'n, T: PartialEq + 'o + 'n, D: Iterator<Item = Difference<&'o T, &'n T>>>(
+    differences: D,
+) -> usize {
+    let mut count = 0usize;
+    for difference in differences {
+        count = count.saturating_add(usize::from(difference.is_changed()));
+    }
+    count
+}
+
 /// A map of either kind, whose difference to one that came after it is listed.
-pub(crate) trait Listed<T, K>: UnderTest<T, K> {
+pub(crate) trait Listed<T: Drop, K>: UnderTest<T, K> {
     /// A map without items.
     fn empty(alloc: Global) -> Self;
 
@@ -30,22 +53,16 @@ pub(crate) trait Listed<T, K>: UnderTest<T, K> {
     fn has_keys_of(&self, after: &Self) -> bool;
 
     /// How many differences are changes.
-    fn changes(&self, after: &Self) -> usize
-    where
-        T: PartialEq;
+    fn changes(&self, after: &Self) -> usize;
 }
 
-impl<T: IdOrdItem + Copy + Drop> Listed<T, T::Key> for Ordered<T> {
+impl<T: IdOrdItem + Copy + PartialEq + Drop> Listed<T, T::Key> for Ordered<T> {
     fn empty(alloc: Global) -> Ordered<T> {
         in_order(alloc)
     }
 
     fn differences(&self, after: &Ordered<T>, alloc: Global) -> Result<Vec<Sides<T>>, AllocError> {
-        let mut all = Vec::new(alloc);
-        for difference in self.map().diff(after.map()) {
-            all.push(sides(&difference))?;
-        }
-        Ok(all)
+        listed(alloc, self.map().diff(after.map()))
     }
 
     fn hint(&self, after: &Ordered<T>) -> (usize, Option<usize>) {
@@ -56,29 +73,18 @@ impl<T: IdOrdItem + Copy + Drop> Listed<T, T::Key> for Ordered<T> {
         id_ord_map::have_same_keys(self.map(), after.map())
     }
 
-    fn changes(&self, after: &Ordered<T>) -> usize
-    where
-        T: PartialEq,
-    {
-        let mut count = 0usize;
-        for difference in self.map().diff(after.map()) {
-            count = count.saturating_add(usize::from(difference.is_changed()));
-        }
-        count
+    fn changes(&self, after: &Ordered<T>) -> usize {
+        count_changes(self.map().diff(after.map()))
     }
 }
 
-impl<T: IdHashItem + Copy + Drop> Listed<T, T::Key> for Hashed<T> {
+impl<T: IdHashItem + Copy + PartialEq + Drop> Listed<T, T::Key> for Hashed<T> {
     fn empty(alloc: Global) -> Hashed<T> {
         by_hash(alloc)
     }
 
     fn differences(&self, after: &Hashed<T>, alloc: Global) -> Result<Vec<Sides<T>>, AllocError> {
-        let mut all = Vec::new(alloc);
-        for difference in self.map().diff(after.map()) {
-            all.push(sides(&difference))?;
-        }
-        Ok(all)
+        listed(alloc, self.map().diff(after.map()))
     }
 
     fn hint(&self, after: &Hashed<T>) -> (usize, Option<usize>) {
@@ -89,14 +95,7 @@ impl<T: IdHashItem + Copy + Drop> Listed<T, T::Key> for Hashed<T> {
         id_hash_map::have_same_keys(self.map(), after.map())
     }
 
-    fn changes(&self, after: &Hashed<T>) -> usize
-    where
-        T: PartialEq,
-    {
-        let mut count = 0usize;
-        for difference in self.map().diff(after.map()) {
-            count = count.saturating_add(usize::from(difference.is_changed()));
-        }
-        count
+    fn changes(&self, after: &Hashed<T>) -> usize {
+        count_changes(self.map().diff(after.map()))
     }
 }

@@ -4,18 +4,10 @@ ghost use Rattle.std.specs.Prelude.{IsTrue};
 use iddqd::{DefaultHashBuilder, IdHashItem, IdHashMap, IdOrdItem, IdOrdMap};
 use std::alloc::{AllocError, Global};
 use std::process::Abort;
-use test_support::items::{Named, Numbered, Titled, Wide};
+pub(crate) use test_support::items::{BAR, FOO};
+use test_support::items::{Named, Titled, Wide};
 use test_support::maps::{Hashed, Ordered, UnderTest};
-
-pub(crate) const FOO: Named = Named {
-    name: *b"foo",
-    value: 42,
-};
-
-pub(crate) const BAR: Named = Named {
-    name: *b"bar",
-    value: 20,
-};
+pub(crate) use test_support::new_items::{named, numbered};
 
 pub(crate) const BAZ: Named = Named {
     name: *b"baz",
@@ -26,14 +18,6 @@ pub(crate) const OTHER_FOO: Named = Named {
     name: *b"foo",
     value: 100,
 };
-
-pub(crate) fn named(name: [u8; 3], value: u32) -> Named {
-    Named { name, value }
-}
-
-pub(crate) fn numbered(number: u32, value: u32) -> Numbered {
-    Numbered { number, value }
-}
 
 pub(crate) fn wide_item(number: u8, letter: char, first: char) -> Wide {
     Wide {
@@ -83,7 +67,7 @@ pub(crate) fn filled<T: IdOrdItem + Copy + Drop, M: UnderTest<T, T::Key> + Drop>
 }
 
 /// Whether the map has these items, and no others.
-pub(crate) fn has_only<T: IdOrdItem + PartialEq>(
+pub(crate) fn has_only<T: IdOrdItem + Drop + PartialEq>(
     map: &impl UnderTest<T, T::Key>,
     items: &[T],
 ) -> bool {

@@ -1,11 +1,13 @@
 //! Rows of keys that are equal without regard to case.
 use crate::checks::check;
-use idtable_commands::{Command, Reply};
+use iddqd::{IdHashMap, IdOrdMap};
+use idtable_commands::{Command, Reply, run};
 use std::alloc::{AllocError, Global};
 use std::process::Abort;
+use std::test::Fail;
 use test_support::caseless::{Caseless, Coarse, item_of, spelled};
 use test_support::coarse::CoarseMap;
-use test_support::maps::{Commanded, UnderTest, by_hash, in_order};
+use test_support::maps::{UnderTest, by_hash, in_order};
 use test_support::visitors::Untouched;
 
 // What the item replaced, if it was put.
@@ -19,10 +21,8 @@ fn replaced_by<M: UnderTest<Coarse, Caseless>>(
 
 fn overwrites<M: CoarseMap + Drop>(rt: &impl Abort, mut map: M) {
     check(rt, replaced_by(&mut map, item_of(*b"Foo", 1)) == Some(None));
-    check(
-        rt,
-        replaced_by(&mut map, item_of(*b"FOO", 2)) == Some(Some((*b"Foo", 1))),
-    );
+    let old = replaced_by(&mut map, item_of(*b"FOO", 2));
+    check(rt, old == Some(Some((*b"Foo", 1))));
     check(rt, map.spelled_at(*b"foo") == Some((*b"FOO", 2)));
     check(rt, map.len() == 1);
 }
@@ -33,7 +33,9 @@ fn coarse_overwrite(rt: HostRuntime) {
     overwrites(&rt, by_hash(rt.alloc()));
 }
 
-fn coarse_commands(alloc: Global) -> Result<Vec<Command<Coarse, Caseless, Untouched>>, AllocError> {
+type Commands = Vec<Command<Coarse, Caseless, Untouched>>;
+
+fn coarse_commands(alloc: Global) -> Result<Commands, AllocError> {
     let commands = [
         Command::InsertOverwrite(item_of(*b"Foo", 1)),
         Command::InsertOverwrite(item_of(*b"FOO", 2)),
@@ -69,19 +71,20 @@ fn are_coarse_replies(replies: &[Reply<Coarse>]) -> bool {
     replies == expected.as_slice() && replies.iter().map(shown).eq(expected.iter().map(shown))
 }
 
-fn is_run_so<M: Commanded<Coarse, Caseless>>(alloc: Global, map: &mut M) -> bool {
-    let Ok(commands) = coarse_commands(alloc) else {
-        return false;
-    };
-    match map.run(alloc, commands) {
+// Whether the commands were run, and have those replies.
+fn is_run_so<E: Drop>(run: Result<Vec<Reply<Coarse>>, E>) -> bool {
+    match run {
         Ok(replies) => are_coarse_replies(replies.as_slice()),
         Err(_) => false,
     }
 }
 
 #[test]
-fn coarse_overwrite_by_commands(rt: HostRuntime) {
+fn coarse_overwrite_by_commands(rt: HostRuntime) -> Result<(), Fail> {
     let alloc = rt.alloc();
-    check(&rt, is_run_so(alloc, &mut in_order(alloc)));
-    check(&rt, is_run_so(alloc, &mut by_hash(alloc)));
+    let (one, other) = (coarse_commands(alloc)?, coarse_commands(alloc)?);
+    check(&rt, is_run_so(run(alloc, &mut IdOrdMap::new(alloc), one)));
+    let replies = run(alloc, &mut IdHashMap::new(alloc), other);
+    check(&rt, is_run_so(replies));
+    Ok(())
 }

@@ -7,7 +7,7 @@ use iddqd::errors::{FromIterError, TryReserveError};
 use std::alloc::{AllocError, Global};
 use std::process::Abort;
 use std::test::Fail;
-use test_support::bulk::{Bulk, Hinted, Liar, is_not_taken_in};
+use test_support::bulk::{Bulk, Hinted, is_not_taken_in};
 use test_support::items::{Named, Wide};
 use test_support::maps::{Added, Copying, Hashed, Ordered, UnderTest, by_hash, in_order};
 
@@ -212,10 +212,11 @@ fn extend_unique_at_the_limit(rt: HostRuntime) {
 
 fn refuses_announced<M: Copying<Named, [u8; 3]> + Drop>(rt: &impl Abort, map: M) {
     let mut map = filled(rt, map, &[FOO]);
-    let mut liar = Liar::announcing(5);
+    let item = [BAR];
+    let mut liar = Hinted::new(&item, 5);
     let full = TryReserveError::capacity_overflow();
     check(rt, map.add_each(&mut liar) == Added::Stopped(None, full));
-    check(rt, liar.asked() == 0);
+    check(rt, liar.next().is_some());
     check(rt, map.len() == 1);
 }
 

@@ -1,5 +1,4 @@
 //! The rows of commands, through `run`, on a map of each kind.
-ghost use Rattle.std.specs.Prelude.{nat_eq};
 ghost use Rattle.iddqd.specs.Contents.{ClonesAreEqual};
 ghost use Rattle.iddqd.specs.Visiting.{VisitsKeepKeys};
 
@@ -14,29 +13,32 @@ use std::hash::Hash;
 use std::process::Abort;
 use std::test::Fail;
 use test_support::items::{Named, Numbered, Wide};
-use test_support::maps::{Commanded, UnderTest};
 use test_support::visitors::Untouched;
 
 type Commands<T, K> = Result<Vec<Command<T, K, Untouched>>, AllocError>;
 
-// The map gives these replies to the commands. How many items it has room for then.
-fn room_after<T: Clone + PartialEq + Drop, K: Drop>(
-    rt: &impl Abort,
+/// Whether the map gives these replies to the commands.
+pub(crate) fn gives<M: KeyedMap, V: Visit<M::Item> + Drop>(
     alloc: Global,
-    mut map: impl UnderTest<T, K> + Commanded<T, K> + Drop,
-    commands: Commands<T, K>,
-    replies: &[Reply<T>],
-) -> Result<usize, Fail>
-    requires clones { ClonesAreEqual T.is_clone }
+    map: &mut M,
+    commands: Vec<Command<M::Item, M::Key, V>>,
+    replies: &[Reply<M::Item>],
+) -> bool
+where
+    M::Item: Clone + PartialEq + Drop,
+    M::Key: Drop,
+    requires keyed { M.keyed map.old }
+    requires clones { ClonesAreEqual M.Item.is_clone }
+    requires keeps_keys { VisitsKeepKeys M.key M.Key.eq V.visits }
+    ensures keyed { M.keyed map.new }
 {
-    let given = map
-        .run(alloc, commands?)
-        .map_err(|_| "the commands are not done")?;
-    check(rt, given.as_slice() == replies);
-    Ok(map.capacity())
+    match run(alloc, map, commands) {
+        Ok(given) => given.as_slice() == replies,
+        Err(_) => false,
+    }
 }
 
-// The same of a map of each kind that has this limit.
+// Maps of each kind that have this limit give the replies. How many items they have room for then.
 fn rooms_after<K, T, F>(
     rt: &impl Abort,
     alloc: Global,
@@ -51,10 +53,12 @@ where
     requires calls { F.IsAlwaysCallable commands }
     requires clones { ClonesAreEqual T.is_clone }
 {
-    let (ordered, hashed) = (commands(alloc), commands(alloc));
-    let ordered = room_after(rt, alloc, in_order_of(alloc, limit), ordered, replies)?;
-    let hashed = room_after(rt, alloc, by_hash_of(alloc, limit), hashed, replies)?;
-    Ok((ordered, hashed))
+    let (in_order, by_hash) = (commands(alloc)?, commands(alloc)?);
+    let mut ordered = in_order_of(alloc, limit).into_map();
+    check(rt, gives(alloc, &mut ordered, in_order, replies));
+    let mut hashed = by_hash_of(alloc, limit).into_map();
+    check(rt, gives(alloc, &mut hashed, by_hash, replies));
+    Ok((ordered.capacity(), hashed.capacity()))
 }
 
 fn named_commands(alloc: Global) -> Commands<Named, [u8; 3]> {
@@ -227,32 +231,19 @@ fn keeping_commands(alloc: Global) -> Result<Vec<Command<Numbered, u32, KeepsFir
 }
 
 // Of three numbers the first two that are visited stay.
-fn first_two_kept<M: KeyedMap<Item = Numbered, Key = u32>>(
-    alloc: Global,
-    map: &mut M,
-    commands: Vec<Command<Numbered, u32, KeepsFirst>>,
-) -> bool
-    requires keyed { M.keyed map.old }
-    requires keeps_keys { VisitsKeepKeys M.key nat_eq ⟦<KeepsFirst as Visit<Numbered>>⟧.visits }
-    ensures keyed { M.keyed map.new }
-{
-    let expected = [
-        Reply::Inserted,
-        Reply::Inserted,
-        Reply::Inserted,
-        Reply::Kept(2),
-    ];
-    match run(alloc, map, commands) {
-        Ok(replies) => replies.as_slice() == expected.as_slice(),
-        Err(_) => false,
-    }
-}
+const FIRST_TWO_KEPT: [Reply<Numbered>; 4] = [
+    Reply::Inserted,
+    Reply::Inserted,
+    Reply::Inserted,
+    Reply::Kept(2),
+];
 
 #[test]
 fn retain_mut_by_commands(rt: HostRuntime) -> Result<(), Fail> {
     let commands = keeping_commands(rt.alloc())?;
     let mut map = IdOrdMap::new(rt.alloc());
-    check(&rt, first_two_kept(rt.alloc(), &mut map, commands));
+    let are_kept = gives(rt.alloc(), &mut map, commands, &FIRST_TWO_KEPT);
+    check(&rt, are_kept);
     check(&rt, map.iter().eq(&[numbered(1, 0), numbered(2, 1)]));
     Ok(())
 }
@@ -268,14 +259,13 @@ fn are_first_two(one: Numbered, other: Numbered) -> bool {
 fn hash_retain_mut_by_commands(rt: HostRuntime) -> Result<(), Fail> {
     let commands = keeping_commands(rt.alloc())?;
     let mut map = IdHashMap::new(rt.alloc());
-    check(&rt, first_two_kept(rt.alloc(), &mut map, commands));
+    let are_kept = gives(rt.alloc(), &mut map, commands, &FIRST_TWO_KEPT);
+    check(&rt, are_kept);
     let mut walk = map.iter();
     let (one, other) = (walk.next().copied(), walk.next().copied());
     check(&rt, walk.next().is_none());
-    check(
-        &rt,
-        matches!((one, other), (Some(one), Some(other)) if are_first_two(one, other)),
-    );
+    let are_kept = matches!((one, other), (Some(one), Some(other)) if are_first_two(one, other));
+    check(&rt, are_kept);
     Ok(())
 }
 

@@ -217,10 +217,8 @@ fn overstated<'a, M: Bulk<Ticket<'a>> + Drop>(
     let items = tickets(alloc, 0, 4, dropped)?;
     let made = M::collected(alloc, Announced::new(items, 4_294_967_296));
     check(rt, dropped.get() == 4);
-    check(
-        rt,
-        made.err().is_some_and(|error| error.is_capacity_overflow()),
-    );
+    let is_told = made.err().is_some_and(|error| error.is_capacity_overflow());
+    check(rt, is_told);
     Ok(())
 }
 

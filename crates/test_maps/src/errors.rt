@@ -16,10 +16,8 @@ fn error_texts(rt: HostRuntime) {
     let full = TryReserveError::capacity_overflow();
     check(&rt, is_displayed(alloc, &full, "capacity overflow"));
     let no_memory = TryReserveError::alloc_error();
-    check(
-        &rt,
-        is_displayed(alloc, &no_memory, "memory allocation failed"),
-    );
+    let text = "memory allocation failed";
+    check(&rt, is_displayed(alloc, &no_memory, text));
 }
 
 // A duplicate that is owned shows clones of the items that were lent.
@@ -72,10 +70,8 @@ fn refusals_for_debugging(rt: HostRuntime) {
     check(&rt, is_debugged(rt.alloc(), &full, text));
     let error = TryReserveError::alloc_error();
     let text = "Refused { item: 5, error: TryReserveError { kind: AllocError } }";
-    check(
-        &rt,
-        is_debugged(rt.alloc(), &Refused { item: 5, error }, text),
-    );
+    let refused = Refused { item: 5, error };
+    check(&rt, is_debugged(rt.alloc(), &refused, text));
 }
 
 // The error of a map whose one item is gone.
@@ -87,9 +83,7 @@ fn text_of_vacant_slots(rt: HostRuntime) -> Result<(), Fail> {
     let Err(error) = map.validate(ValidateCompact::Compact) else {
         return Err(Fail::from("a slot is vacant"));
     };
-    check(
-        &rt,
-        is_displayed(rt.alloc(), &error, "there are vacant slots"),
-    );
+    let text = "there are vacant slots";
+    check(&rt, is_displayed(rt.alloc(), &error, text));
     Ok(())
 }

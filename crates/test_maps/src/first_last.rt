@@ -63,10 +63,8 @@ fn ends_by_entries(rt: HostRuntime) {
 #[test]
 fn ends_of_empty_map(rt: HostRuntime) {
     let mut map: Ordered<Named> = in_order(rt.alloc());
-    check(
-        &rt,
-        map.map().first().is_none() && map.map().last().is_none(),
-    );
+    check(&rt, map.map().first().is_none());
+    check(&rt, map.map().last().is_none());
     check(&rt, map.pop_first().is_none() && map.pop_last().is_none());
     let mut map = map.into_map();
     check(&rt, !write_first(&mut map, 100));

@@ -19,10 +19,8 @@ fn full_at_two<M: Copying<Named, [u8; 3]> + Drop>(rt: &impl Abort, mut map: M) {
         (BAZ, Inserted::Refused(BAZ, full)),
     ];
     insert_each(rt, &mut map, &rows);
-    check(
-        rt,
-        matches!(map.overwrite(OTHER_FOO), Ok(Some(old)) if old == FOO),
-    );
+    let old = map.overwrite(OTHER_FOO);
+    check(rt, matches!(old, Ok(Some(old)) if old == FOO));
     check(rt, map.remove(b"bar") == Some(BAR) && !map.is_compact());
     insert_each(rt, &mut map, &[(BAZ, Inserted::Done)]);
     check(rt, map.is_compact() && map.reserve(1) == Err(full));

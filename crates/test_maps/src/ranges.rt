@@ -230,15 +230,11 @@ fn owned_walk_from_both_ends(rt: HostRuntime) -> Result<(), Fail> {
     let mut walk = map.into_map().into_iter();
     for half in 0..20 {
         check(&rt, walk.next() == Some(even(half)));
-        check(
-            &rt,
-            walk.next_back() == Some(even(39_u32.wrapping_sub(half))),
-        );
+        let last = even(39_u32.wrapping_sub(half));
+        check(&rt, walk.next_back() == Some(last));
     }
-    check(
-        &rt,
-        walk.len() == 0 && walk.next_back().is_none() && walk.next().is_none(),
-    );
+    check(&rt, walk.len() == 0);
+    check(&rt, walk.next_back().is_none() && walk.next().is_none());
     Ok(())
 }
 

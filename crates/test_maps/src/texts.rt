@@ -219,10 +219,8 @@ fn text_of_refused_collection(rt: HostRuntime) {
 fn refusal_becomes_io_error(rt: HostRuntime) {
     let error = io::Error::from(TryReserveError::capacity_overflow());
     check(&rt, error.kind() == io::ErrorKind::OutOfMemory);
-    check(
-        &rt,
-        AllocError::from(TryReserveError::alloc_error()) == AllocError,
-    );
+    let error = TryReserveError::alloc_error();
+    check(&rt, AllocError::from(error) == AllocError);
 }
 
 // The keys come in the order of the items.

@@ -1,12 +1,9 @@
 //! Rows of visitors, and of walks that write and that retain.
-ghost use Rattle.std.specs.Prelude.{nat_eq};
-ghost use Rattle.iddqd.specs.Visiting.{VisitsKeepKeys};
-ghost use Rattle.test_support.specs.Changed.{changed};
-
 use crate::checks::{BAR, BAZ, FOO, check, filled, has_only, numbered};
+use crate::commands::gives;
 use crate::insertions::double;
 use iddqd::{IdHashMap, IdOrdMap};
-use idtable_commands::{Command, KeyedMap, Reply, run};
+use idtable_commands::{Command, Reply};
 use std::alloc::{AllocError, Global};
 use std::process::Abort;
 use std::test::Fail;
@@ -40,25 +37,16 @@ fn visiting_commands(alloc: Global) -> Result<Vec<Command<Numbered, u32, Change>
 }
 
 // A visit that writes 0 and returns false removes nothing.
-fn visited_by_command<M: KeyedMap<Item = Numbered, Key = u32>>(
-    rt: &impl Abort,
-    alloc: Global,
-    map: &mut M,
-) -> Result<(), Fail>
-    requires keyed { M.keyed map.old }
-    requires keeps_keys { VisitsKeepKeys M.key nat_eq changed }
-{
-    let expected = [
-        Reply::Inserted,
-        Reply::Inserted,
-        Reply::Inserted,
-        Reply::Visited(false),
-        Reply::Found(numbered(1, 0)),
-    ];
-    let replies = run(alloc, map, visiting_commands(alloc)?).map_err(|_| "the run stopped")?;
-    check(rt, replies.as_slice() == expected.as_slice());
-    Ok(())
-}
+const VISITED: [Reply<Numbered>; 5] = [
+    Reply::Inserted,
+    Reply::Inserted,
+    Reply::Inserted,
+    Reply::Visited(false),
+    Reply::Found(Numbered {
+        number: 1,
+        value: 0,
+    }),
+];
 
 #[test]
 fn visitor(rt: HostRuntime) -> Result<(), Fail> {
@@ -66,8 +54,11 @@ fn visitor(rt: HostRuntime) -> Result<(), Fail> {
     let seen = odd_of_three(&rt, in_order(alloc));
     check(&rt, seen == Change::KeepOdd(123));
     let _ = odd_of_three(&rt, by_hash(alloc));
-    visited_by_command(&rt, alloc, &mut IdOrdMap::new(alloc))?;
-    visited_by_command(&rt, alloc, &mut IdHashMap::new(alloc))
+    let (one, other) = (visiting_commands(alloc)?, visiting_commands(alloc)?);
+    let (ordered, hashed) = (&mut IdOrdMap::new(alloc), &mut IdHashMap::new(alloc));
+    check(&rt, gives(alloc, ordered, one, &VISITED));
+    check(&rt, gives(alloc, hashed, other, &VISITED));
+    Ok(())
 }
 
 // The names that were asked about, in the vector that has room for them, once the greater values were kept.
@@ -90,10 +81,8 @@ fn kept_by_value<M: UnderTest<Named, [u8; 3]> + Drop>(
 fn retain_by_value(rt: HostRuntime) -> Result<(), Fail> {
     let alloc = rt.alloc();
     let asked = kept_by_value(&rt, Vec::with_capacity(alloc, 3)?, in_order(alloc));
-    check(
-        &rt,
-        asked.as_slice() == [*b"bar", *b"baz", *b"foo"].as_slice(),
-    );
+    let in_order = [*b"bar", *b"baz", *b"foo"];
+    check(&rt, asked.as_slice() == in_order.as_slice());
     let asked = kept_by_value(&rt, Vec::with_capacity(alloc, 3)?, by_hash(alloc));
     check(&rt, asked.len() == 3);
     Ok(())

@@ -1,7 +1,6 @@
 //! Many items by `extend_unique`: whether it returns what the plain list does.
-use crate::draws::Draws;
-use crate::many::{announced, drawn};
-use crate::plain::{Plain, is_same};
+use crate::many::{drawn, has_room_for};
+use crate::plain::{Answer, Pair, Plain, is_same};
 use iddqd::errors::TryReserveError;
 use std::alloc::{AllocError, Global};
 use test_support::caseless::Coarse;
@@ -27,19 +26,16 @@ fn full(item: Option<Coarse>) -> Added<Coarse> {
     Added::Stopped(item, TryReserveError::capacity_overflow())
 }
 
-pub(crate) fn extend_unique<M: CoarseMap>(
-    alloc: Global,
-    map: &mut M,
-    plain: &mut Plain,
-    draws: &mut Draws,
-) -> Result<bool, AllocError> {
-    let items = drawn(alloc, draws)?;
-    let expected = if plain.has_room(announced(plain, items.as_slice())) {
-        put_all(plain, items.as_slice())?
-    } else {
-        full(None)
-    };
-    Ok(is_told(&map.add_each(items), &expected))
+impl<M: CoarseMap> Pair<M> {
+    pub(crate) fn extend_unique(&mut self, alloc: Global) -> Answer {
+        let items = drawn(alloc, &mut self.draws)?;
+        let expected = if has_room_for(&self.plain, items.as_slice()) {
+            put_all(&mut self.plain, items.as_slice())?
+        } else {
+            full(None)
+        };
+        Ok(is_told(&self.map.add_each(items), &expected))
+    }
 }
 
 // By the spelling of names too.

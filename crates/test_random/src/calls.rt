@@ -1,56 +1,10 @@
-//! Calls of either map, one function a call: whether the map returns what the plain list does.
-use crate::draws::Draws;
-use crate::plain::{Plain, is_same};
-use std::alloc::AllocError;
+//! Calls of either map, one method a call: whether the map returns what the plain list does.
+use crate::plain::{Answer, Pair, Plain, is_same};
 use test_support::caseless::{Caseless, Coarse, spelled};
-use test_support::coarse::CoarseMap;
-
-pub(crate) fn insert<M: CoarseMap>(
-    map: &mut M,
-    plain: &mut Plain,
-    draws: &mut Draws,
-) -> Result<bool, AllocError> {
-    let item = draws.item();
-    plain.inserts(item, map.insert(item))
-}
-
-pub(crate) fn overwrite<M: CoarseMap>(
-    map: &mut M,
-    plain: &mut Plain,
-    draws: &mut Draws,
-) -> Result<bool, AllocError> {
-    let item = draws.item();
-    let old = plain.find(&item.name);
-    match map.overwrite(item) {
-        Ok(answer) => {
-            let fits = old.is_some() || !plain.is_full();
-            plain.overwrite(item)?;
-            Ok(fits && is_same(answer, old))
-        }
-        Err(refused) => Ok(
-            old.is_none()
-                && is_same(Some(refused.item), Some(item))
-                && plain.refuses(refused.error),
-        ),
-    }
-}
-
-pub(crate) fn remove<M: CoarseMap>(map: &mut M, plain: &mut Plain, draws: &mut Draws) -> bool {
-    let name = draws.name();
-    is_same(map.remove(&name), plain.take(&name))
-}
-
-pub(crate) fn remove_by_entry<M: CoarseMap>(
-    map: &mut M,
-    plain: &mut Plain,
-    draws: &mut Draws,
-) -> bool {
-    let name = draws.name();
-    is_same(map.remove_by_entry(&name), plain.take(&name))
-}
+use test_support::coarse::{CoarseMap, Way};
 
 // A lookup, whose comparisons are counted too, among this many items at most.
-pub(crate) fn find<M: CoarseMap>(map: &M, plain: &Plain, name: &Caseless) -> bool {
+fn is_found<M: CoarseMap>(map: &M, plain: &Plain, name: &Caseless) -> bool {
     let item = plain.find(name);
     let (counted, steps) = map.get_counted(name);
     is_same(map.get(name).copied(), item)
@@ -59,163 +13,171 @@ pub(crate) fn find<M: CoarseMap>(map: &M, plain: &Plain, name: &Caseless) -> boo
         && steps as usize <= plain.len().saturating_add(4)
 }
 
-pub(crate) fn write<M: CoarseMap>(map: &mut M, plain: &mut Plain, draws: &mut Draws) -> bool {
-    let (name, value) = (draws.name(), draws.below(1000));
-    let old = plain.find(&name);
-    plain.write(&name, value);
-    if draws.coin() {
-        return map.write(&name, value) == old.is_some();
+impl<M: CoarseMap> Pair<M> {
+    pub(crate) fn insert(&mut self) -> Answer {
+        let item = self.draws.item();
+        self.plain.inserts(item, self.map.insert(item))
     }
-    match map.write_by_reborrow(&name, value) {
-        Some((before, read, shown)) => {
-            let written = plain.find(&name);
-            is_same(Some(before), old)
-                && is_same(Some(read), written)
-                && is_same(Some(shown), written)
-        }
-        None => old.is_none(),
-    }
-}
 
-pub(crate) fn respell<M: CoarseMap>(map: &mut M, plain: &mut Plain, draws: &mut Draws) -> bool {
-    let item = draws.item();
-    let is_there = plain.find(&item.name).is_some();
-    plain.replace(item);
-    match draws.below(3) {
-        0 => map.respell_by_guard(&item.name, item) == is_there,
-        1 => map.respell_by_entry(&item.name, item) == is_there,
-        _ => {
-            map.respell_by_visitor(item);
-            true
+    pub(crate) fn overwrite(&mut self) -> Answer {
+        let item = self.draws.item();
+        let old = self.plain.find(&item.name);
+        match self.map.overwrite(item) {
+            Ok(answer) => {
+                let fits = old.is_some() || !self.plain.is_full();
+                self.plain.overwrite(item)?;
+                Ok(fits && is_same(answer, old))
+            }
+            Err(refused) => Ok(
+                old.is_none()
+                    && is_same(Some(refused.item), Some(item))
+                    && self.plain.refuses(refused.error),
+            ),
         }
     }
-}
 
-pub(crate) fn retain<M: CoarseMap>(map: &mut M, plain: &mut Plain, draws: &mut Draws) -> bool {
-    let (part, rest) = (draws.below(8).saturating_add(3), draws.below(3));
-    let before = plain.len();
-    plain
-        .items
-        .retain(|item| item.value.checked_rem(part) != Some(rest));
-    let gone = before.saturating_sub(plain.len());
-    plain.vacant = plain.vacant.saturating_add(gone.min(4_294_967_295) as u32);
-    map.retain(|item| item.value.checked_rem(part) != Some(rest));
-    true
-}
+    pub(crate) fn remove(&mut self) -> bool {
+        let name = self.draws.name();
+        is_same(self.map.remove(&name), self.plain.take(&name))
+    }
 
-pub(crate) fn insert_by_entry<M: CoarseMap>(
-    map: &mut M,
-    plain: &mut Plain,
-    draws: &mut Draws,
-) -> Result<bool, AllocError> {
-    let item = draws.item();
-    let fits = plain.find(&item.name).is_none() && !plain.is_full();
-    if draws.coin() {
-        let inserted = map.put_vacant(&item.name, item).unwrap_or(None);
+    pub(crate) fn remove_by_entry(&mut self) -> bool {
+        let name = self.draws.name();
+        is_same(self.map.remove_by_entry(&name), self.plain.take(&name))
+    }
+
+    pub(crate) fn find(&mut self) -> bool {
+        let name = self.draws.name();
+        is_found(&self.map, &self.plain, &name)
+    }
+
+    pub(crate) fn write(&mut self) -> bool {
+        let (name, value) = (self.draws.name(), self.draws.below(1000));
+        let old = self.plain.find(&name);
+        self.plain.write(&name, value);
+        if self.draws.coin() {
+            return self.map.write(&name, value) == old.is_some();
+        }
+        match self.map.write_by_reborrow(&name, value) {
+            Some((before, read, shown)) => {
+                let written = self.plain.find(&name);
+                is_same(Some(before), old)
+                    && is_same(Some(read), written)
+                    && is_same(Some(shown), written)
+            }
+            None => old.is_none(),
+        }
+    }
+
+    pub(crate) fn respell(&mut self) -> bool {
+        let item = self.draws.item();
+        let is_there = self.plain.find(&item.name).is_some();
+        self.plain.replace(item);
+        match self.draws.below(3) {
+            0 => self.map.respell(&item.name, item, Way::Guard) == is_there,
+            1 => self.map.respell(&item.name, item, Way::Entry) == is_there,
+            _ => self.map.respell(&item.name, item, Way::Visitor),
+        }
+    }
+
+    pub(crate) fn retain(&mut self) -> bool {
+        let (part, rest) = (self.draws.below(8).saturating_add(3), self.draws.below(3));
+        let (map, plain) = (&mut self.map, &mut self.plain);
+        let before = plain.len();
+        let items = &mut plain.items;
+        items.retain(|item| item.value.checked_rem(part) != Some(rest));
+        let gone = before.saturating_sub(plain.len()).min(4_294_967_295);
+        plain.vacant = plain.vacant.saturating_add(gone as u32);
+        map.retain(|item| item.value.checked_rem(part) != Some(rest));
+        true
+    }
+
+    pub(crate) fn insert_by_entry(&mut self) -> Answer {
+        let item = self.draws.item();
+        let fits = self.plain.find(&item.name).is_none() && !self.plain.is_full();
+        if self.draws.coin() {
+            let inserted = self.map.put_vacant(&item.name, item).unwrap_or(None);
+            if fits {
+                self.plain.put(item)?;
+            }
+            return Ok(is_same(inserted, fits.then_some(item)));
+        }
+        let gone = self.map.put_and_remove(item).unwrap_or(None);
         if fits {
-            plain.put(item)?;
+            // its slot is vacant then
+            self.plain.vacant = self.plain.vacant.max(1);
         }
-        return Ok(is_same(inserted, fits.then_some(item)));
+        Ok(is_same(gone, fits.then_some(item)))
     }
-    let gone = map.put_and_remove(item).unwrap_or(None);
-    if fits {
-        // its slot is vacant then
-        plain.vacant = plain.vacant.max(1);
+
+    pub(crate) fn replace_by_entry(&mut self) -> bool {
+        let item = self.draws.item();
+        let old = self.plain.find(&item.name);
+        self.plain.replace(item);
+        is_same(self.map.insert_occupied(item), old)
     }
-    Ok(is_same(gone, fits.then_some(item)))
-}
 
-pub(crate) fn replace_by_entry<M: CoarseMap>(
-    map: &mut M,
-    plain: &mut Plain,
-    draws: &mut Draws,
-) -> bool {
-    let item = draws.item();
-    let old = plain.find(&item.name);
-    plain.replace(item);
-    is_same(map.insert_occupied(item), old)
-}
-
-// The item that `or_insert` and its like show: the one there, or the new one, where there is room.
-pub(crate) fn shown(plain: &mut Plain, item: Coarse) -> Result<Option<Coarse>, AllocError> {
-    let old = plain.find(&item.name);
-    if old.is_none() && !plain.is_full() {
-        plain.put(item)?;
-        return Ok(Some(item));
+    pub(crate) fn find_or_make(&mut self) -> Answer {
+        let item = self.draws.item();
+        let was_there = self.plain.find(&item.name).is_some();
+        let expected = self.plain.shown(item)?;
+        let mut asked = 0;
+        let answer = self.map.find_or_put(item, &mut asked).unwrap_or(None);
+        // refused, the closure was asked, and its item dropped
+        Ok(is_same(answer, expected) && (asked == 0) == was_there)
     }
-    Ok(old)
-}
 
-pub(crate) fn find_or_make<M: CoarseMap>(
-    map: &mut M,
-    plain: &mut Plain,
-    draws: &mut Draws,
-) -> Result<bool, AllocError> {
-    let item = draws.item();
-    let was_there = plain.find(&item.name).is_some();
-    let expected = shown(plain, item)?;
-    let mut asked = 0;
-    let answer = map.find_or_put(item, &mut asked).unwrap_or(None);
-    // refused, the closure was asked, and its item dropped
-    Ok(is_same(answer, expected) && (asked == 0) == was_there)
-}
-
-pub(crate) fn double_or_insert<M: CoarseMap>(
-    map: &mut M,
-    plain: &mut Plain,
-    draws: &mut Draws,
-) -> Result<bool, AllocError> {
-    let item = draws.item();
-    if let Some(old) = plain.find(&item.name) {
-        plain.write(&item.name, old.value.wrapping_mul(2));
-    }
-    let expected = shown(plain, item)?;
-    Ok(is_same(map.double_or_put(item).unwrap_or(None), expected))
-}
-
-pub(crate) fn insert_and_write<M: CoarseMap>(
-    map: &mut M,
-    plain: &mut Plain,
-    draws: &mut Draws,
-) -> Result<bool, AllocError> {
-    let (item, value) = (draws.item(), draws.below(1000));
-    let is_in = shown(plain, item)?.is_some();
-    plain.write(&item.name, value);
-    Ok(map.insert_and_write(item, value) == is_in)
-}
-
-pub(crate) fn reserve<M: CoarseMap>(map: &mut M, plain: &Plain, draws: &mut Draws) -> bool {
-    let additional = draws.below(40) as usize;
-    let fits = plain.has_room(additional);
-    let answer = if draws.coin() {
-        map.reserve(additional)
-    } else {
-        map.try_reserve(additional)
-    };
-    match answer {
-        Ok(()) => {
-            fits && map.capacity() >= plain.len().saturating_add(additional)
-                && map.room() >= additional
+    pub(crate) fn double_or_insert(&mut self) -> Answer {
+        let item = self.draws.item();
+        if let Some(old) = self.plain.find(&item.name) {
+            self.plain.write(&item.name, old.value.wrapping_mul(2));
         }
-        Err(error) => !fits && error.is_capacity_overflow(),
+        let expected = self.plain.shown(item)?;
+        Ok(is_same(self.map.double_or_put(item).unwrap_or(None), expected))
     }
-}
 
-pub(crate) fn shrink<M: CoarseMap>(map: &mut M, plain: &mut Plain, draws: &mut Draws) -> bool {
-    let before = map.capacity();
-    plain.vacant = 0;
-    if draws.coin() {
-        return map.shrink_to_fit().is_ok() && map.capacity() <= before;
+    pub(crate) fn insert_and_write(&mut self) -> Answer {
+        let (item, value) = (self.draws.item(), self.draws.below(1000));
+        let is_in = self.plain.shown(item)?.is_some();
+        self.plain.write(&item.name, value);
+        Ok(self.map.insert_and_write(item, value) == is_in)
     }
-    let min = draws.below(60) as usize;
-    map.shrink_to(min).is_ok() && map.capacity() <= before && map.capacity() >= min.min(before)
-}
 
-pub(crate) fn clear<M: CoarseMap>(map: &mut M, plain: &mut Plain) -> bool {
-    map.clear();
-    plain.items.clear();
-    plain.vacant = 0;
-    map.len() == 0
+    pub(crate) fn reserve(&mut self) -> bool {
+        let additional = self.draws.below(40) as usize;
+        let fits = self.plain.has_room(additional);
+        let answer = if self.draws.coin() {
+            self.map.reserve(additional)
+        } else {
+            self.map.try_reserve(additional)
+        };
+        match answer {
+            Ok(()) => {
+                fits && self.map.capacity() >= self.plain.len().saturating_add(additional)
+                    && self.map.room() >= additional
+            }
+            Err(error) => !fits && error.is_capacity_overflow(),
+        }
+    }
+
+    pub(crate) fn shrink(&mut self) -> bool {
+        let before = self.map.capacity();
+        self.plain.vacant = 0;
+        if self.draws.coin() {
+            return self.map.shrink_to_fit().is_ok() && self.map.capacity() <= before;
+        }
+        let min = self.draws.below(60) as usize;
+        self.map.shrink_to(min).is_ok()
+            && self.map.capacity() <= before
+            && self.map.capacity() >= min.min(before)
+    }
+
+    pub(crate) fn clear(&mut self) -> bool {
+        self.map.clear();
+        self.plain.items.clear();
+        self.plain.vacant = 0;
+        self.map.len() == 0
+    }
 }
 
 // Whether the list has each item of the walk.
@@ -229,7 +191,7 @@ fn are_listed(plain: &Plain, walked: &[Coarse]) -> bool {
 }
 
 // Whether the map finds each item of the list.
-fn are_found<M: CoarseMap>(map: &M, plain: &Plain) -> bool {
+pub(crate) fn are_found<M: CoarseMap>(map: &M, plain: &Plain) -> bool {
     for item in plain.items.iter() {
         if map.get(&item.name).map(spelled) != Some(spelled(item)) {
             return false;

@@ -1,7 +1,7 @@
 //! Calls on many items, and copies of a map: whether they return what the plain list does.
 use crate::calls::holds_the_same;
 use crate::draws::Draws;
-use crate::plain::{Plain, is_same};
+use crate::plain::{Answer, Pair, Plain, is_same};
 use iddqd::errors::{DuplicateItem, FromIterError};
 use std::alloc::{AllocError, Global};
 use test_support::bulk::Bulk;
@@ -18,13 +18,14 @@ pub(crate) fn drawn(alloc: Global, draws: &mut Draws) -> Result<Vec<Coarse>, All
     Ok(items)
 }
 
-// How many of the items a map takes for new, before it takes any.
-pub(crate) fn announced(plain: &Plain, items: &[Coarse]) -> usize {
-    if plain.len() == 0 {
+// Whether there is room for as many of the items as a map takes for new, before it takes any.
+pub(crate) fn has_room_for(plain: &Plain, items: &[Coarse]) -> bool {
+    let new = if plain.len() == 0 {
         items.len()
     } else {
         items.len().div_ceil(2)
-    }
+    };
+    plain.has_room(new)
 }
 
 // Overwrites the items into the list up to the first that finds it full, which it returns.
@@ -36,28 +37,6 @@ fn overwrite_all(plain: &mut Plain, items: &[Coarse]) -> Result<Option<Coarse>, 
         plain.overwrite(*item)?;
     }
     Ok(None)
-}
-
-pub(crate) fn extend<M: CoarseMap>(
-    alloc: Global,
-    map: &mut M,
-    plain: &mut Plain,
-    draws: &mut Draws,
-) -> Result<bool, AllocError> {
-    let items = drawn(alloc, draws)?;
-    let is_reserved = plain.has_room(announced(plain, items.as_slice()));
-    let stopped = if is_reserved {
-        overwrite_all(plain, items.as_slice())?
-    } else {
-        None
-    };
-    match map.extend(items) {
-        Ok(()) => Ok(is_reserved && stopped.is_none()),
-        Err(refused) => {
-            let fits = !is_reserved || stopped.is_some();
-            Ok(fits && is_same(refused.item, stopped) && refused.error.is_capacity_overflow())
-        }
-    }
 }
 
 // The first item whose name came before, and the one that it came with.
@@ -78,7 +57,7 @@ fn first_repeat(
 pub(crate) fn collect<M: CoarseMap + Bulk<Coarse> + Drop>(
     alloc: Global,
     draws: &mut Draws,
-) -> Result<bool, AllocError> {
+) -> Answer {
     let items = drawn(alloc, draws)?;
     let mut plain = Plain::new(alloc, 4_294_967_295);
     let _ = overwrite_all(&mut plain, items.as_slice())?;
@@ -93,7 +72,7 @@ pub(crate) fn collect<M: CoarseMap + Bulk<Coarse> + Drop>(
 pub(crate) fn collect_unique<M: CoarseMap + Bulk<Coarse> + Drop>(
     alloc: Global,
     draws: &mut Draws,
-) -> Result<bool, AllocError> {
+) -> Answer {
     let items = drawn(alloc, draws)?;
     let mut plain = Plain::new(alloc, 4_294_967_295);
     let repeat = first_repeat(&mut plain, items.as_slice())?;
@@ -117,48 +96,64 @@ fn is_told(both: &DuplicateItem<Coarse>, repeat: Option<(Coarse, Coarse)>) -> bo
     is_new && is_earlier && both.duplicates().len() == 1
 }
 
-// A clone holds the same, equals the map as long as it is not written, and lets its items out.
-pub(crate) fn copy<M: CoarseMap + Copied + Drop>(
-    alloc: Global,
-    map: &M,
-    plain: &Plain,
-    draws: &mut Draws,
-) -> Result<bool, AllocError> {
-    let Ok(mut copy) = map.copied() else {
-        return Ok(false);
-    };
-    let is_equal = equals_unwritten(map, &mut copy, plain, draws);
-    let walked = copy.walked_out(alloc)?;
-    Ok(is_equal && holds_the_same(map, plain, walked.as_slice()))
-}
-
-// Whether the copy equals the map just as long as it is not written; then what was written is undone.
-fn equals_unwritten<M: CoarseMap>(map: &M, copy: &mut M, plain: &Plain, draws: &mut Draws) -> bool {
-    let is_equal = map.equals(copy) && copy.equals(map);
-    let (name, value) = (draws.name(), draws.below(1000));
-    let old = plain.find(&name);
-    let _ = copy.write_by_reborrow(&name, value);
-    let is_changed = matches!(old, Some(item) if item.value != value);
-    let is_told = map.equals(copy) != is_changed;
-    if let Some(item) = old {
-        let _ = copy.write_by_reborrow(&name, item.value);
-    }
-    is_equal && is_told
-}
-
-// An entry of a clone reads the item there, and shows what it wrote.
-pub(crate) fn write_copy<M: CoarseMap + Copied>(map: &M, plain: &Plain, draws: &mut Draws) -> bool {
-    let Ok(copy) = map.copied() else {
-        return false;
-    };
-    let (name, value) = (draws.name(), draws.below(1000));
-    let old = plain.find(&name);
-    match (copy.write_by_entry(&name, value), old) {
-        (Some((read, shown)), Some(item)) => {
-            let written = Coarse { value, ..item };
-            is_same(Some(read), old) && is_same(Some(shown), Some(written))
+impl<M: CoarseMap> Pair<M> {
+    pub(crate) fn extend(&mut self, alloc: Global) -> Answer {
+        let items = drawn(alloc, &mut self.draws)?;
+        let is_reserved = has_room_for(&self.plain, items.as_slice());
+        let stopped = if is_reserved {
+            overwrite_all(&mut self.plain, items.as_slice())?
+        } else {
+            None
+        };
+        match self.map.extend(items) {
+            Ok(()) => Ok(is_reserved && stopped.is_none()),
+            Err(refused) => {
+                let fits = !is_reserved || stopped.is_some();
+                Ok(fits && is_same(refused.item, stopped) && refused.error.is_capacity_overflow())
+            }
         }
-        (None, None) => true,
-        _ => false,
+    }
+
+    // Whether the copy equals the map just as long as it is not written; then what was written is undone.
+    fn equals_unwritten(&mut self, copy: &mut M) -> bool {
+        let is_equal = self.map.equals(copy) && copy.equals(&self.map);
+        let (name, value) = (self.draws.name(), self.draws.below(1000));
+        let old = self.plain.find(&name);
+        let _ = copy.write_by_reborrow(&name, value);
+        let is_changed = matches!(old, Some(item) if item.value != value);
+        let is_told = self.map.equals(copy) != is_changed;
+        if let Some(item) = old {
+            let _ = copy.write_by_reborrow(&name, item.value);
+        }
+        is_equal && is_told
+    }
+}
+
+impl<M: CoarseMap + Copied + Drop> Pair<M> {
+    // A clone holds the same, equals the map as long as it is not written, and lets its items out.
+    pub(crate) fn copy(&mut self, alloc: Global) -> Answer {
+        let Ok(mut copy) = self.map.copied() else {
+            return Ok(false);
+        };
+        let is_equal = self.equals_unwritten(&mut copy);
+        let walked = copy.walked_out(alloc)?;
+        Ok(is_equal && holds_the_same(&self.map, &self.plain, walked.as_slice()))
+    }
+
+    // An entry of a clone reads the item there, and shows what it wrote.
+    pub(crate) fn write_copy(&mut self) -> bool {
+        let Ok(copy) = self.map.copied() else {
+            return false;
+        };
+        let (name, value) = (self.draws.name(), self.draws.below(1000));
+        let old = self.plain.find(&name);
+        match (copy.write_by_entry(&name, value), old) {
+            (Some((read, shown)), Some(item)) => {
+                let written = Coarse { value, ..item };
+                is_same(Some(read), old) && is_same(Some(shown), Some(written))
+            }
+            (None, None) => true,
+            _ => false,
+        }
     }
 }

@@ -1,8 +1,5 @@
 //! Calls of an ordered map alone.
-use crate::calls;
-use crate::draws::Draws;
-use crate::plain::{Plain, is_same};
-use std::alloc::AllocError;
+use crate::plain::{Answer, Pair, is_same};
 use test_support::caseless::Coarse;
 use test_support::maps::Ordered;
 
@@ -12,82 +9,65 @@ pub(crate) fn bound(count: usize) -> u32 {
     digits.saturating_mul(2).saturating_add(4)
 }
 
-// The ends are those of the list.
-pub(crate) fn ends(map: &Ordered<Coarse>, plain: &Plain) -> bool {
-    is_same(map.map().first().copied(), plain.first())
-        && is_same(map.map().last().copied(), plain.last())
-}
-
-pub(crate) fn pop(map: &mut Ordered<Coarse>, plain: &mut Plain, draws: &mut Draws) -> bool {
-    let is_first = draws.coin();
-    let by_entry = draws.coin();
-    let end = if is_first {
-        plain.first()
-    } else {
-        plain.last()
-    };
-    if let Some(item) = end {
-        let _ = plain.take(&item.name);
+impl Pair<Ordered<Coarse>> {
+    // The ends are those of the list.
+    pub(crate) fn has_ends(&self) -> bool {
+        let map = self.map.map();
+        is_same(map.first().copied(), self.plain.end(true))
+            && is_same(map.last().copied(), self.plain.end(false))
     }
-    let gone = match (is_first, by_entry) {
-        (true, false) => map.pop_first(),
-        (false, false) => map.pop_last(),
-        (true, true) => map.remove_first(),
-        (false, true) => map.remove_last(),
-    };
-    is_same(gone, end)
-}
 
-pub(crate) fn insert_counted(
-    map: &mut Ordered<Coarse>,
-    plain: &mut Plain,
-    draws: &mut Draws,
-) -> Result<bool, AllocError> {
-    let item = draws.item();
-    let most = bound(plain.len());
-    let (answer, steps) = map.insert_counted(item);
-    Ok(plain.inserts(item, answer)? && steps <= most)
-}
+    pub(crate) fn pop(&mut self) -> bool {
+        let is_first = self.draws.coin();
+        let by_entry = self.draws.coin();
+        let end = self.plain.end(is_first);
+        if let Some(item) = end {
+            let _ = self.plain.take(&item.name);
+        }
+        let gone = match (is_first, by_entry) {
+            (true, false) => self.map.pop_first(),
+            (false, false) => self.map.pop_last(),
+            (true, true) => self.map.remove_first(),
+            (false, true) => self.map.remove_last(),
+        };
+        is_same(gone, end)
+    }
 
-pub(crate) fn remove_counted(
-    map: &mut Ordered<Coarse>,
-    plain: &mut Plain,
-    draws: &mut Draws,
-) -> bool {
-    let name = draws.name();
-    let most = bound(plain.len());
-    let (gone, steps) = map.remove_counted(&name);
-    is_same(gone, plain.take(&name)) && steps <= most
-}
+    pub(crate) fn insert_counted(&mut self) -> Answer {
+        let item = self.draws.item();
+        let most = bound(self.plain.len());
+        let (answer, steps) = self.map.insert_counted(item);
+        Ok(self.plain.inserts(item, answer)? && steps <= most)
+    }
 
-pub(crate) fn show_or_insert(
-    map: &mut Ordered<Coarse>,
-    plain: &mut Plain,
-    draws: &mut Draws,
-) -> Result<bool, AllocError> {
-    let item = draws.item();
-    let expected = calls::shown(plain, item)?;
-    let answer = if draws.coin() {
-        map.show_or_put(item)
-    } else {
-        map.show_or_put_made(item)
-    };
-    Ok(is_same(answer.unwrap_or(None), expected))
-}
+    pub(crate) fn remove_counted(&mut self) -> bool {
+        let name = self.draws.name();
+        let most = bound(self.plain.len());
+        let (gone, steps) = self.map.remove_counted(&name);
+        is_same(gone, self.plain.take(&name)) && steps <= most
+    }
 
-pub(crate) fn show_inserted(
-    map: &mut Ordered<Coarse>,
-    plain: &mut Plain,
-    draws: &mut Draws,
-) -> Result<bool, AllocError> {
-    let item = draws.item();
-    let is_new = plain.find(&item.name).is_none();
-    let expected = if is_new {
-        calls::shown(plain, item)?
-    } else {
-        None
-    };
-    Ok(is_same(map.put_shown(item).unwrap_or(None), expected))
+    pub(crate) fn show_or_insert(&mut self) -> Answer {
+        let item = self.draws.item();
+        let expected = self.plain.shown(item)?;
+        let answer = if self.draws.coin() {
+            self.map.show_or_put(item)
+        } else {
+            self.map.show_or_put_made(item)
+        };
+        Ok(is_same(answer.unwrap_or(None), expected))
+    }
+
+    pub(crate) fn show_inserted(&mut self) -> Answer {
+        let item = self.draws.item();
+        let is_new = self.plain.find(&item.name).is_none();
+        let expected = if is_new {
+            self.plain.shown(item)?
+        } else {
+            None
+        };
+        Ok(is_same(self.map.put_shown(item).unwrap_or(None), expected))
+    }
 }
 
 // The names ascend.

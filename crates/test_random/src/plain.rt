@@ -1,8 +1,20 @@
 //! A plain list of items that is searched, and the numbers that a map tells beside its items.
+use crate::draws::Draws;
 use iddqd::errors::TryReserveError;
 use std::alloc::{AllocError, Global};
 use test_support::caseless::{Caseless, Coarse, spelled};
 use test_support::maps::Inserted;
+
+/// Whether a call returns what the list does, or that the list has no memory.
+pub(crate) type Answer = Result<bool, AllocError>;
+
+/// A map, the list that it is held against, and what its calls are drawn from.
+#[derive(Drop)]
+pub(crate) struct Pair<M> {
+    pub(crate) map: M,
+    pub(crate) plain: Plain,
+    pub(crate) draws: Draws,
+}
 
 /// What a map is held against.
 #[derive(Drop)]
@@ -55,28 +67,16 @@ impl Plain {
         self.items.iter().find(|item| item.name == *name).copied()
     }
 
-    /// The item of the least name.
-    pub(crate) fn first(&self) -> Option<Coarse> {
-        let mut first: Option<Coarse> = None;
+    /// The item of the least name, or of the greatest.
+    pub(crate) fn end(&self, is_first: bool) -> Option<Coarse> {
+        let mut end: Option<Coarse> = None;
         for item in self.items.iter() {
-            match first {
-                Some(least) if least.name < item.name => {}
-                _ => first = Some(*item),
+            match end {
+                Some(best) if (best.name < item.name) == is_first => {}
+                _ => end = Some(*item),
             }
         }
-        first
-    }
-
-    /// The item of the greatest name.
-    pub(crate) fn last(&self) -> Option<Coarse> {
-        let mut last: Option<Coarse> = None;
-        for item in self.items.iter() {
-            match last {
-                Some(greatest) if greatest.name > item.name => {}
-                _ => last = Some(*item),
-            }
-        }
-        last
+        end
     }
 
     /// Takes out the item of the name.
@@ -113,11 +113,7 @@ impl Plain {
     }
 
     /// Whether an insertion of the item has this result. The list makes it too.
-    pub(crate) fn inserts(
-        &mut self,
-        item: Coarse,
-        answer: Inserted<Coarse>,
-    ) -> Result<bool, AllocError> {
+    pub(crate) fn inserts(&mut self, item: Coarse, answer: Inserted<Coarse>) -> Answer {
         match (self.find(&item.name), answer) {
             (None, Inserted::Done) if !self.is_full() => {
                 self.put(item)?;
@@ -136,6 +132,16 @@ impl Plain {
     /// Whether a new item may be refused so, with memory at hand.
     pub(crate) fn refuses(&self, error: TryReserveError) -> bool {
         self.is_full() && error.is_capacity_overflow()
+    }
+
+    /// The item that `or_insert` and its like show: the one there, or the new one, where there is room.
+    pub(crate) fn shown(&mut self, item: Coarse) -> Result<Option<Coarse>, AllocError> {
+        let old = self.find(&item.name);
+        if old.is_none() && !self.is_full() {
+            self.put(item)?;
+            return Ok(Some(item));
+        }
+        Ok(old)
     }
 
     /// Overwrites the item into the list.

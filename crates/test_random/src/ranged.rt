@@ -1,8 +1,8 @@
 //! Calls of an ordered map by positions and between bounds.
 use crate::draws::Draws;
 use crate::ordered::bound;
-use crate::plain::{Plain, is_same};
-use std::alloc::{AllocError, Global};
+use crate::plain::{Answer, Pair, Plain, is_same};
+use std::alloc::Global;
 use std::ops::Bound;
 use test_support::caseless::{Caseless, Coarse};
 use test_support::maps::{Copying, Ordered};
@@ -25,38 +25,6 @@ fn nth(plain: &Plain, index: usize) -> Option<Coarse> {
 fn drawn_index(plain: &Plain, draws: &mut Draws) -> usize {
     let positions = plain.len().saturating_add(2);
     (draws.next() as usize).checked_rem(positions).unwrap_or(0)
-}
-
-pub(crate) fn position(map: &Ordered<Coarse>, plain: &Plain, draws: &mut Draws) -> bool {
-    let name = draws.name();
-    let index = drawn_index(plain, draws);
-    let less = rank(plain, &name);
-    let expected = match plain.find(&name) {
-        Some(_) => Ok(less),
-        None => Err(less),
-    };
-    let (place, steps) = map.index_of(&name);
-    place == expected
-        && steps <= bound(plain.len())
-        && is_same(map.get_index(index).copied(), nth(plain, index))
-}
-
-pub(crate) fn remove_position(
-    map: &mut Ordered<Coarse>,
-    plain: &mut Plain,
-    draws: &mut Draws,
-) -> bool {
-    let index = drawn_index(plain, draws);
-    let item = nth(plain, index);
-    if let Some(item) = item {
-        let _ = plain.take(&item.name);
-    }
-    let gone = if draws.coin() {
-        map.remove_index(index)
-    } else {
-        map.take_index(index)
-    };
-    is_same(gone, item)
 }
 
 // One of the bounds of the name.
@@ -98,30 +66,53 @@ fn has_range<'a>(
             || is_same(map.lower_bound(low).copied(), items.first().copied()))
 }
 
-pub(crate) fn range(
-    alloc: Global,
-    map: &Ordered<Coarse>,
-    draws: &mut Draws,
-) -> Result<bool, AllocError> {
-    let (one, other) = (draws.name(), draws.name());
-    let (low, high) = (drawn_bound(&one, draws), drawn_bound(&other, draws));
-    let mut items = map.listed(alloc)?;
-    items.retain(|item| lies(&item.name, low, high));
-    Ok(has_range(map, low, high, items.as_slice()))
-}
-
-pub(crate) fn remove_range(
-    alloc: Global,
-    map: &mut Ordered<Coarse>,
-    plain: &mut Plain,
-    draws: &mut Draws,
-) -> Result<bool, AllocError> {
-    let (one, other) = (draws.name(), draws.name());
-    let (low, high) = (drawn_bound(&one, draws), drawn_bound(&other, draws));
-    let mut items = map.listed(alloc)?;
-    items.retain(|item| lies(&item.name, low, high));
-    for item in items.iter() {
-        let _ = plain.take(&item.name);
+impl Pair<Ordered<Coarse>> {
+    pub(crate) fn position(&mut self) -> bool {
+        let name = self.draws.name();
+        let index = drawn_index(&self.plain, &mut self.draws);
+        let less = rank(&self.plain, &name);
+        let expected = match self.plain.find(&name) {
+            Some(_) => Ok(less),
+            None => Err(less),
+        };
+        let (place, steps) = self.map.index_of(&name);
+        place == expected
+            && steps <= bound(self.plain.len())
+            && is_same(self.map.get_index(index).copied(), nth(&self.plain, index))
     }
-    Ok(map.remove_range((low, high)) == items.len())
+
+    pub(crate) fn remove_position(&mut self) -> bool {
+        let index = drawn_index(&self.plain, &mut self.draws);
+        let item = nth(&self.plain, index);
+        if let Some(item) = item {
+            let _ = self.plain.take(&item.name);
+        }
+        let gone = if self.draws.coin() {
+            self.map.remove_index(index)
+        } else {
+            self.map.take_index(index)
+        };
+        is_same(gone, item)
+    }
+
+    pub(crate) fn range(&mut self, alloc: Global) -> Answer {
+        let (one, other) = (self.draws.name(), self.draws.name());
+        let low = drawn_bound(&one, &mut self.draws);
+        let high = drawn_bound(&other, &mut self.draws);
+        let mut items = self.map.listed(alloc)?;
+        items.retain(|item| lies(&item.name, low, high));
+        Ok(has_range(&self.map, low, high, items.as_slice()))
+    }
+
+    pub(crate) fn remove_range(&mut self, alloc: Global) -> Answer {
+        let (one, other) = (self.draws.name(), self.draws.name());
+        let low = drawn_bound(&one, &mut self.draws);
+        let high = drawn_bound(&other, &mut self.draws);
+        let mut items = self.map.listed(alloc)?;
+        items.retain(|item| lies(&item.name, low, high));
+        for item in items.iter() {
+            let _ = self.plain.take(&item.name);
+        }
+        Ok(self.map.remove_range((low, high)) == items.len())
+    }
 }

@@ -1,12 +1,13 @@
 //! Random lists of calls with one request for memory refused (`tools/sweep` runs them): a call that is refused leaves
 //! the items.
+use crate::calls::are_found;
 use crate::draws::Draws;
-use crate::plain::{Plain, is_same};
+use crate::plain::{Pair, Plain, is_same};
 use iddqd::errors::TryReserveError;
 use std::alloc::{AllocError, Global};
 use std::process::Abort;
 use std::test::Fail;
-use test_support::caseless::{Caseless, Coarse, spelled};
+use test_support::caseless::Coarse;
 use test_support::coarse::CoarseMap;
 use test_support::heap::{arm, is_met};
 use test_support::maps::{Inserted, by_hash, in_order};
@@ -38,36 +39,6 @@ fn refusal(plain: &Plain, item: Coarse, back: Coarse, error: TryReserveError) ->
     }
 }
 
-fn insert<M: CoarseMap>(
-    map: &mut M,
-    plain: &mut Plain,
-    item: Coarse,
-) -> Result<Outcome, AllocError> {
-    match map.insert(item) {
-        Inserted::Refused(back, error) => Ok(refusal(plain, item, back, error)),
-        answer => Ok(judged(plain.inserts(item, answer)?)),
-    }
-}
-
-fn overwrite<M: CoarseMap>(
-    map: &mut M,
-    plain: &mut Plain,
-    item: Coarse,
-) -> Result<Outcome, AllocError> {
-    match map.overwrite(item) {
-        Ok(answer) => {
-            let old = plain.find(&item.name);
-            plain.overwrite(item)?;
-            Ok(judged(is_same(answer, old)))
-        }
-        Err(refused) => Ok(refusal(plain, item, refused.item, refused.error)),
-    }
-}
-
-fn remove<M: CoarseMap>(map: &mut M, plain: &mut Plain, name: &Caseless) -> Outcome {
-    judged(is_same(map.remove(name), plain.take(name)))
-}
-
 // What a reservation or a shrink told.
 fn told(answer: Result<(), TryReserveError>) -> Outcome {
     match answer {
@@ -79,70 +50,65 @@ fn told(answer: Result<(), TryReserveError>) -> Outcome {
 
 // Whether each item of the list is found, and no more are there. It asks for no memory.
 fn finds_all<M: CoarseMap>(map: &M, plain: &Plain) -> bool {
-    for item in plain.items.iter() {
-        if map.get(&item.name).map(spelled) != Some(spelled(item)) {
-            return false;
+    let is_whole = are_found(map, plain) && map.len() == plain.len();
+    is_whole && map.vacant() == plain.vacant && map.is_sound()
+}
+
+impl<M: CoarseMap> Pair<M> {
+    fn inserted(&mut self) -> Result<Outcome, AllocError> {
+        let item = self.draws.item();
+        match self.map.insert(item) {
+            Inserted::Refused(back, error) => Ok(refusal(&self.plain, item, back, error)),
+            answer => Ok(judged(self.plain.inserts(item, answer)?)),
         }
     }
-    map.len() == plain.len() && map.vacant() == plain.vacant && map.is_sound()
-}
 
-/// What is called.
-#[derive(Clone, Copy, Debug)]
-enum Call {
-    Insert,
-    Overwrite,
-    Remove,
-    Reserve,
-    Shrink,
-}
-
-fn drawn_call(draws: &mut Draws) -> Call {
-    match draws.below(32) {
-        0..=13 => Call::Insert,
-        14..=21 => Call::Overwrite,
-        22..=29 => Call::Remove,
-        30 => Call::Reserve,
-        _ => Call::Shrink,
+    fn overwritten(&mut self) -> Result<Outcome, AllocError> {
+        let item = self.draws.item();
+        match self.map.overwrite(item) {
+            Ok(answer) => {
+                let old = self.plain.find(&item.name);
+                self.plain.overwrite(item)?;
+                Ok(judged(is_same(answer, old)))
+            }
+            Err(refused) => Ok(refusal(&self.plain, item, refused.item, refused.error)),
+        }
     }
-}
 
-fn made<M: CoarseMap>(
-    map: &mut M,
-    plain: &mut Plain,
-    draws: &mut Draws,
-    call: Call,
-) -> Result<Outcome, AllocError> {
-    match call {
-        Call::Insert => insert(map, plain, draws.item()),
-        Call::Overwrite => overwrite(map, plain, draws.item()),
-        Call::Remove => Ok(remove(map, plain, &draws.name())),
-        Call::Reserve => Ok(told(map.reserve(draws.below(64) as usize))),
-        Call::Shrink => {
-            plain.vacant = 0;
-            Ok(told(map.shrink_to(draws.below(64) as usize)))
+    // Makes the call of the number drawn below 32.
+    fn made(&mut self, drawn: u32) -> Result<Outcome, AllocError> {
+        match drawn {
+            0..=13 => self.inserted(),
+            14..=21 => self.overwritten(),
+            22..=29 => Ok(judged(self.remove())),
+            30 => Ok(told(self.map.reserve(self.draws.below(64) as usize))),
+            _ => {
+                self.plain.vacant = 0;
+                Ok(told(self.map.shrink_to(self.draws.below(64) as usize)))
+            }
         }
     }
 }
 
 // How many of the calls were refused. The list has its room from the beginning.
-fn refusals<M: CoarseMap>(
+fn refusals<M: CoarseMap + Drop>(
     rt: &impl Abort,
     alloc: Global,
-    map: &mut M,
+    map: M,
     seed: u64,
 ) -> Result<u32, Fail> {
-    let mut plain = Plain::with_room(alloc, 4_294_967_295, 125)?;
-    let mut draws = Draws::new(seed, 5);
+    let plain = Plain::with_room(alloc, 4_294_967_295, 125)?;
+    let draws = Draws::new(seed, 5);
+    let mut pair = Pair { map, plain, draws };
     let mut refusals = 0_u32;
     arm(alloc);
     for number in 0..400 {
-        let call = drawn_call(&mut draws);
-        let outcome = made(map, &mut plain, &mut draws, call)?;
-        let held = finds_all(map, &plain);
+        let drawn = pair.draws.below(32);
+        let outcome = pair.made(drawn)?;
+        let held = finds_all(&pair.map, &pair.plain);
         assert!(rt;
             outcome != Outcome::Otherwise && held,
-            "seed {seed}: call {number}, {call:?}, is answered otherwise, or the contents differ"
+            "seed {seed}: call {number}, of {drawn}, is answered otherwise, or the contents differ"
         );
         if outcome == Outcome::Refused {
             refusals = refusals.saturating_add(1);
@@ -155,29 +121,27 @@ fn refusals<M: CoarseMap>(
     Ok(refusals)
 }
 
-// The row that the calls' results are.
-fn row(refusals: u32) -> &'static str {
-    if refusals == 0 {
-        "answered"
-    } else {
-        "call_refused"
+// Prints the row that the calls' results are.
+fn tell<M: CoarseMap + Drop>(
+    rt: &(impl Abort + Print),
+    alloc: Global,
+    map: M,
+    seed: u64,
+) -> Result<(), Fail> {
+    println!(rt; "seed {seed}")?;
+    match refusals(rt, alloc, map, seed)? {
+        0 => println!(rt; "answered")?,
+        _ => println!(rt; "call_refused")?,
     }
+    Ok(())
 }
 
 #[test]
 fn ordered_calls(rt: HostRuntime) -> Result<(), Fail> {
-    let seed = 91;
-    println!(rt; "seed {seed}")?;
-    let mut map = in_order(rt.alloc());
-    println!(rt; "{}", row(refusals(&rt, rt.alloc(), &mut map, seed)?))?;
-    Ok(())
+    tell(&rt, rt.alloc(), in_order(rt.alloc()), 91)
 }
 
 #[test]
 fn hash_calls(rt: HostRuntime) -> Result<(), Fail> {
-    let seed = 92;
-    println!(rt; "seed {seed}")?;
-    let mut map = by_hash(rt.alloc());
-    println!(rt; "{}", row(refusals(&rt, rt.alloc(), &mut map, seed)?))?;
-    Ok(())
+    tell(&rt, rt.alloc(), by_hash(rt.alloc()), 92)
 }

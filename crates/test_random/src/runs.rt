@@ -1,11 +1,12 @@
 //! The runs: lists of calls from fixed seeds. After each call the whole contents and the numbers are compared too, and
 //! `validate`.
-use crate::adding::extend_unique;
+use crate::calls::holds_the_same;
 use crate::draws::Draws;
 use crate::lengths::{CALLS, MANY_CALLS, MAPS};
-use crate::plain::Plain;
-use crate::writing::{Written, write_first};
-use crate::{calls, many, ordered, ranged};
+use crate::many;
+use crate::ordered::ascends;
+use crate::plain::{Answer, Pair, Plain};
+use crate::writing::Written;
 use iddqd::{IdHashMap, IdOrdMap, MAX_ITEMS};
 use std::alloc::{AllocError, Global};
 use std::collections::hash_map::RandomState;
@@ -17,106 +18,47 @@ use test_support::coarse::{CoarseMap, Copied};
 use test_support::hashers::ZeroHasher;
 use test_support::maps::{Copying, Hashed, Ordered, by_hash};
 
-/// What is called.
-#[derive(Clone, Copy, Debug)]
-pub(crate) enum Call {
-    Insert,
-    Overwrite,
-    Remove,
-    RemoveByEntry,
-    Find,
-    Write,
-    Respell,
-    Retain,
-    InsertByEntry,
-    ReplaceByEntry,
-    FindOrMake,
-    DoubleOrInsert,
-    InsertAndWrite,
-    Reserve,
-    Shrink,
-    Clear,
-    Extend,
-    ExtendUnique,
-    Copy,
-    WriteCopy,
-    WriteFirst,
-}
-
-// By weights that leave the map some two thirds full of all names.
-fn drawn_call(draws: &mut Draws) -> Call {
-    match draws.below(200) {
-        0..=44 => Call::Insert,
-        45..=64 => Call::Overwrite,
-        65..=84 => Call::Remove,
-        85..=94 => Call::RemoveByEntry,
-        95..=109 => Call::Find,
-        110..=124 => Call::Write,
-        125..=134 => Call::Respell,
-        135 => Call::Retain,
-        136..=145 => Call::InsertByEntry,
-        146..=153 => Call::ReplaceByEntry,
-        154..=161 => Call::FindOrMake,
-        162..=169 => Call::DoubleOrInsert,
-        170..=177 => Call::InsertAndWrite,
-        178..=182 => Call::Reserve,
-        183..=185 => Call::Shrink,
-        186..=190 => Call::Extend,
-        191..=194 => Call::ExtendUnique,
-        195..=196 => Call::Copy,
-        197 => Call::WriteCopy,
-        198 => Call::WriteFirst,
-        _ => {
-            if draws.below(8) == 0 {
-                Call::Clear
-            } else {
-                Call::Find
-            }
+impl<M: CoarseMap + Copied + Written + Drop> Pair<M> {
+    fn new(alloc: Global, run: Run, map: M) -> Pair<M> {
+        Pair {
+            map,
+            plain: Plain::new(alloc, run.limit),
+            draws: Draws::new(run.seed, run.letters),
         }
     }
-}
 
-// What takes every call.
-trait Callable: CoarseMap + Copied + Written + Drop {}
+    // Makes the call of the number drawn below 200, by weights that leave the map some two thirds full of all names.
+    // Whether its result is the list's.
+    fn is_answered(&mut self, alloc: Global, drawn: u32) -> Answer {
+        match drawn {
+            0..=44 => self.insert(),
+            45..=64 => self.overwrite(),
+            65..=84 => Ok(self.remove()),
+            85..=94 => Ok(self.remove_by_entry()),
+            95..=109 => Ok(self.find()),
+            110..=124 => Ok(self.write()),
+            125..=134 => Ok(self.respell()),
+            135 => Ok(self.retain()),
+            136..=145 => self.insert_by_entry(),
+            146..=153 => Ok(self.replace_by_entry()),
+            154..=161 => self.find_or_make(),
+            162..=169 => self.double_or_insert(),
+            170..=177 => self.insert_and_write(),
+            178..=182 => Ok(self.reserve()),
+            183..=185 => Ok(self.shrink()),
+            186..=190 => self.extend(alloc),
+            191..=194 => self.extend_unique(alloc),
+            195..=196 => self.copy(alloc),
+            197 => Ok(self.write_copy()),
+            198 => self.write_first(alloc),
+            _ if self.draws.below(8) == 0 => Ok(self.clear()),
+            _ => Ok(self.find()),
+        }
+    }
 
-impl Callable for Ordered<Coarse> {}
-
-impl Callable for Hashed<Coarse> {}
-
-impl Callable for Hashed<Coarse, BuildHasherDefault<ZeroHasher>> {}
-
-impl Callable for Hashed<Coarse, RandomState> {}
-
-// Makes the call. Whether its result is the list's.
-fn is_answered<M: Callable>(
-    alloc: Global,
-    map: &mut M,
-    plain: &mut Plain,
-    draws: &mut Draws,
-    call: Call,
-) -> Result<bool, AllocError> {
-    match call {
-        Call::Insert => calls::insert(map, plain, draws),
-        Call::Overwrite => calls::overwrite(map, plain, draws),
-        Call::Remove => Ok(calls::remove(map, plain, draws)),
-        Call::RemoveByEntry => Ok(calls::remove_by_entry(map, plain, draws)),
-        Call::Find => Ok(calls::find(map, plain, &draws.name())),
-        Call::Write => Ok(calls::write(map, plain, draws)),
-        Call::Respell => Ok(calls::respell(map, plain, draws)),
-        Call::Retain => Ok(calls::retain(map, plain, draws)),
-        Call::InsertByEntry => calls::insert_by_entry(map, plain, draws),
-        Call::ReplaceByEntry => Ok(calls::replace_by_entry(map, plain, draws)),
-        Call::FindOrMake => calls::find_or_make(map, plain, draws),
-        Call::DoubleOrInsert => calls::double_or_insert(map, plain, draws),
-        Call::InsertAndWrite => calls::insert_and_write(map, plain, draws),
-        Call::Reserve => Ok(calls::reserve(map, plain, draws)),
-        Call::Shrink => Ok(calls::shrink(map, plain, draws)),
-        Call::Clear => Ok(calls::clear(map, plain)),
-        Call::Extend => many::extend(alloc, map, plain, draws),
-        Call::ExtendUnique => extend_unique(alloc, map, plain, draws),
-        Call::Copy => many::copy(alloc, map, plain, draws),
-        Call::WriteCopy => Ok(many::write_copy(map, plain, draws)),
-        Call::WriteFirst => write_first(alloc, map, draws),
+    // Whether the map holds what the list does.
+    fn is_held(&self, walked: &[Coarse]) -> bool {
+        holds_the_same(&self.map, &self.plain, walked)
     }
 }
 
@@ -130,112 +72,61 @@ struct Run {
 }
 
 // Runs the calls on a hash map.
-fn run_hashed<M: Callable>(
+fn run_hashed<M: CoarseMap + Copied + Written + Drop>(
     rt: &impl Abort,
     alloc: Global,
     run: Run,
-    mut map: M,
+    map: M,
 ) -> Result<(), AllocError> {
-    let mut plain = Plain::new(alloc, run.limit);
-    let mut draws = Draws::new(run.seed, run.letters);
+    let mut pair = Pair::new(alloc, run, map);
     for number in 0..run.calls {
-        let call = drawn_call(&mut draws);
-        let answered = is_answered(alloc, &mut map, &mut plain, &mut draws, call)?;
-        assert!(rt;
-            answered,
-            "{run:?}: call {number}, {call:?}, is answered otherwise"
-        );
-        let walked = map.listed(alloc)?;
-        let held = calls::holds_the_same(&map, &plain, walked.as_slice());
-        assert!(rt;
-            held,
-            "{run:?}: after call {number}, {call:?}, the contents differ"
-        );
+        let drawn = pair.draws.below(200);
+        let answered = pair.is_answered(alloc, drawn)?;
+        assert!(rt; answered, "{run:?}: call {number}, {drawn}, is wrong");
+        let walked = pair.map.listed(alloc)?;
+        let held = pair.is_held(walked.as_slice());
+        assert!(rt; held, "{run:?}: call {number}, {drawn}, leaves others");
     }
     Ok(())
 }
 
-/// What is called of an ordered map.
-#[derive(Clone, Copy, Debug)]
-enum OrderedCall {
-    Pop,
-    InsertCounted,
-    RemoveCounted,
-    ShowOrInsert,
-    ShowInserted,
-    Position,
-    RemovePosition,
-    Range,
-    RemoveRange,
-    OfEither(Call),
-}
-
-// A third of the calls are an ordered map's alone.
-fn drawn_ordered_call(draws: &mut Draws) -> OrderedCall {
-    if draws.below(3) != 0 {
-        return OrderedCall::OfEither(drawn_call(draws));
+impl Pair<Ordered<Coarse>> {
+    // The number of a call: a third of the calls are an ordered map's alone.
+    fn drawn_in_order(&mut self) -> u32 {
+        if self.draws.below(3) != 0 {
+            return self.draws.below(200);
+        }
+        self.draws.below(24).saturating_add(200)
     }
-    match draws.below(24) {
-        0..=2 => OrderedCall::Pop,
-        3..=9 => OrderedCall::InsertCounted,
-        10..=11 => OrderedCall::RemoveCounted,
-        12..=13 => OrderedCall::ShowOrInsert,
-        14..=15 => OrderedCall::ShowInserted,
-        16..=18 => OrderedCall::Position,
-        19 => OrderedCall::RemovePosition,
-        20..=22 => OrderedCall::Range,
-        _ => OrderedCall::RemoveRange,
-    }
-}
 
-fn is_answered_in_order(
-    alloc: Global,
-    map: &mut Ordered<Coarse>,
-    plain: &mut Plain,
-    draws: &mut Draws,
-    call: OrderedCall,
-) -> Result<bool, AllocError> {
-    match call {
-        OrderedCall::Pop => Ok(ordered::pop(map, plain, draws)),
-        OrderedCall::InsertCounted => ordered::insert_counted(map, plain, draws),
-        OrderedCall::RemoveCounted => Ok(ordered::remove_counted(map, plain, draws)),
-        OrderedCall::ShowOrInsert => ordered::show_or_insert(map, plain, draws),
-        OrderedCall::ShowInserted => ordered::show_inserted(map, plain, draws),
-        OrderedCall::Position => Ok(ranged::position(map, plain, draws)),
-        OrderedCall::RemovePosition => Ok(ranged::remove_position(map, plain, draws)),
-        OrderedCall::Range => ranged::range(alloc, map, draws),
-        OrderedCall::RemoveRange => ranged::remove_range(alloc, map, plain, draws),
-        OrderedCall::OfEither(call) => is_answered(alloc, map, plain, draws, call),
+    fn is_answered_in_order(&mut self, alloc: Global, drawn: u32) -> Answer {
+        match drawn {
+            0..=199 => self.is_answered(alloc, drawn),
+            200..=202 => Ok(self.pop()),
+            203..=209 => self.insert_counted(),
+            210..=211 => Ok(self.remove_counted()),
+            212..=213 => self.show_or_insert(),
+            214..=215 => self.show_inserted(),
+            216..=218 => Ok(self.position()),
+            219 => Ok(self.remove_position()),
+            220..=222 => self.range(alloc),
+            _ => self.remove_range(alloc),
+        }
     }
-}
-
-// Whether the ordered map holds what the list does, in order.
-fn is_held_in_order(
-    alloc: Global,
-    map: &Ordered<Coarse>,
-    plain: &Plain,
-) -> Result<bool, AllocError> {
-    let walked = map.listed(alloc)?;
-    let held = calls::holds_the_same(map, plain, walked.as_slice());
-    Ok(held && ordered::ascends(walked.as_slice()) && ordered::ends(map, plain))
 }
 
 // Runs the calls on an ordered map.
 fn run_ordered(rt: &impl Abort, alloc: Global, run: Run) -> Result<(), AllocError> {
-    let mut map = Ordered::new(IdOrdMap::with_limit(alloc, run.limit));
-    let mut plain = Plain::new(alloc, run.limit);
-    let mut draws = Draws::new(run.seed, run.letters);
+    let map = Ordered::new(IdOrdMap::with_limit(alloc, run.limit));
+    let mut pair = Pair::new(alloc, run, map);
     for number in 0..run.calls {
-        let call = drawn_ordered_call(&mut draws);
-        let answered = is_answered_in_order(alloc, &mut map, &mut plain, &mut draws, call)?;
-        assert!(rt;
-            answered,
-            "{run:?}: call {number}, {call:?}, is answered otherwise"
-        );
-        assert!(rt;
-            is_held_in_order(alloc, &map, &plain)?,
-            "{run:?}: after call {number}, {call:?}, the contents differ"
-        );
+        let drawn = pair.drawn_in_order();
+        let answered = pair.is_answered_in_order(alloc, drawn)?;
+        assert!(rt; answered, "{run:?}: call {number}, {drawn}, is wrong");
+        let walked = pair.map.listed(alloc)?;
+        let walked = walked.as_slice();
+        let held = pair.is_held(walked) && ascends(walked) && pair.has_ends();
+        assert!(rt; held, "{run:?}: call {number}, {drawn}, leaves others");
     }
     Ok(())
 }

@@ -1,6 +1,5 @@
 //! Copies of a map that a walk writes: whether it writes the first items alone.
-use crate::draws::Draws;
-use crate::plain::is_same;
+use crate::plain::{Answer, Pair, is_same};
 use std::alloc::{AllocError, Global};
 use std::hash::BuildHasher;
 use test_support::caseless::Coarse;
@@ -14,25 +13,17 @@ pub(crate) trait Written: Sized {
     fn raised(self, alloc: Global, most: usize) -> Result<(Vec<Coarse>, usize), AllocError>;
 }
 
-impl<> Written for Ordered<Coarse> {
+impl Written for Ordered<Coarse> {
     fn raised(self, alloc: Global, most: usize) -> Result<(Vec<Coarse>, usize), AllocError> {
         let (map, left) = self.written(most, raise);
-        let mut items = Vec::with_capacity(alloc, map.len())?;
-        for item in map {
-            items.push(item)?;
-        }
-        Ok((items, left))
+        Ok((map.into_iter().collect(alloc)?, left))
     }
 }
 
 impl<S: BuildHasher + Drop> Written for Hashed<Coarse, S> {
     fn raised(self, alloc: Global, most: usize) -> Result<(Vec<Coarse>, usize), AllocError> {
         let (map, left) = self.written(most, raise);
-        let mut items = Vec::with_capacity(alloc, map.len())?;
-        for item in map {
-            items.push(item)?;
-        }
-        Ok((items, left))
+        Ok((map.into_iter().collect(alloc)?, left))
     }
 }
 
@@ -40,22 +31,20 @@ fn raise(item: &mut Coarse) {
     item.value = item.value.wrapping_add(1);
 }
 
-pub(crate) fn write_first<M: CoarseMap + Copied + Written + Drop>(
-    alloc: Global,
-    map: &M,
-    draws: &mut Draws,
-) -> Result<bool, AllocError> {
-    let Ok(copy) = map.copied() else {
-        return Ok(false);
-    };
-    let most = draws.below(40) as usize;
-    let mut expected = map.listed(alloc)?;
-    for item in expected.iter_mut().take(most) {
-        raise(item);
+impl<M: CoarseMap + Copied + Written + Drop> Pair<M> {
+    pub(crate) fn write_first(&mut self, alloc: Global) -> Answer {
+        let Ok(copy) = self.map.copied() else {
+            return Ok(false);
+        };
+        let most = self.draws.below(40) as usize;
+        let mut expected = self.map.listed(alloc)?;
+        for item in expected.iter_mut().take(most) {
+            raise(item);
+        }
+        let (written, left) = copy.raised(alloc, most)?;
+        let is_left = left == expected.len().saturating_sub(most);
+        Ok(is_left && are_same(written.as_slice(), expected.as_slice()))
     }
-    let (written, left) = copy.raised(alloc, most)?;
-    let is_left = left == expected.len().saturating_sub(most);
-    Ok(is_left && are_same(written.as_slice(), expected.as_slice()))
 }
 
 fn are_same(items: &[Coarse], others: &[Coarse]) -> bool {

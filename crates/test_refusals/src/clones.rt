@@ -67,13 +67,13 @@ trait Copies: UnderTest<Kept, u32> {
 
 impl Copies for Ordered<Kept> {
     fn copies(&self) -> Result<bool, TryReserveError> {
-        Ok(holds_kept(&Ordered::new(self.copied()?)))
+        Ok(holds_kept(&Ordered::new(self.map().clone()?)))
     }
 }
 
 impl Copies for Hashed<Kept> {
     fn copies(&self) -> Result<bool, TryReserveError> {
-        Ok(holds_kept(&Hashed::new(self.copied()?)))
+        Ok(holds_kept(&Hashed::new(self.map().clone()?)))
     }
 }
 

@@ -1,13 +1,16 @@
 //! `run` with a request refused: the commands come back, or the replies are one of the rows that a refusal allows.
+ghost use Rattle.std.specs.Prelude.{nat_eq};
+ghost use Rattle.iddqd.specs.Visiting.{VisitsKeepKeys};
+
 use crate::errors::items;
 use crate::words::{Word, rows, tell};
-use iddqd::IdOrdMap;
-use idtable_commands::{Command, Reply};
+use iddqd::{IdHashMap, IdOrdMap, Visit};
+use idtable_commands::{Command, KeyedMap, Reply, run};
 use std::alloc::{AllocError, Global};
 use std::test::Fail;
 use test_support::heap::{arm, is_met};
 use test_support::kept::{Kept, make_kept};
-use test_support::maps::{Commanded, Ordered, UnderTest, by_hash, in_order};
+use test_support::maps::{Ordered, UnderTest};
 use test_support::visitors::Untouched;
 
 type Commands = Vec<Command<Kept, u32, Untouched>>;
@@ -160,15 +163,18 @@ fn word(rows: &[Row], replies: &[Reply<Kept>], is_met: bool) -> Word {
 
 // Runs the commands with a request refused. Commands that come back are run again. In the end the map has as many
 // items as before.
-fn swept_run<M: UnderTest<Kept, u32> + Commanded<Kept, u32>>(
+fn swept_run<M: KeyedMap<Item = Kept, Key = u32>>(
     alloc: Global,
     map: &mut M,
     commands: Commands,
     rows: &[Row],
-) -> Word {
+) -> Word
+    requires keyed { M.keyed map.old }
+    requires keeps_keys { VisitsKeepKeys M.key nat_eq ⟦<Untouched as Visit<Kept>>⟧.visits }
+{
     let others = map.len();
     arm(alloc);
-    let outcome = map.run(alloc, commands);
+    let outcome = run(alloc, map, commands);
     let is_met = is_met(alloc);
     if map.len() != others {
         return Err(Fail::from("an item is gone, or stays"));
@@ -176,7 +182,7 @@ fn swept_run<M: UnderTest<Kept, u32> + Commanded<Kept, u32>>(
     match outcome {
         Ok(replies) => word(rows, replies.as_slice(), is_met),
         Err(stop) => {
-            let Ok(replies) = map.run(alloc, stop.commands) else {
+            let Ok(replies) = run(alloc, map, stop.commands) else {
                 return Err(Fail::from("no memory for the replies"));
             };
             if is_met && word(rows, replies.as_slice(), false)? == "answered" {
@@ -190,14 +196,14 @@ fn swept_run<M: UnderTest<Kept, u32> + Commanded<Kept, u32>>(
 #[test]
 fn run_of_commands(rt: HostRuntime) -> Result<(), Fail> {
     let (alloc, commands) = (rt.alloc(), commands(rt.alloc())?);
-    let map = &mut in_order(alloc);
+    let map = &mut IdOrdMap::new(alloc);
     tell(&rt, swept_run(alloc, map, commands, &ROWS))
 }
 
 #[test]
 fn hash_run_of_commands(rt: HostRuntime) -> Result<(), Fail> {
     let (alloc, commands) = (rt.alloc(), commands(rt.alloc())?);
-    let map = &mut by_hash(alloc);
+    let map = &mut IdHashMap::new(alloc);
     tell(&rt, swept_run(alloc, map, commands, &ROWS))
 }
 
@@ -217,15 +223,13 @@ fn run_of_bulk_commands(rt: HostRuntime) -> Result<(), Fail> {
     let (alloc, commands) = (rt.alloc(), bulk_commands(rt.alloc())?);
     let mut map = Ordered::new(IdOrdMap::with_capacity(alloc, 11)?);
     fill_with_others(alloc, &mut map)?;
-    tell(
-        &rt,
-        swept_run(alloc, &mut map, commands, &bulk_rows_beside_others()),
-    )
+    let (map, rows) = (&mut map.into_map(), bulk_rows_beside_others());
+    tell(&rt, swept_run(alloc, map, commands, &rows))
 }
 
 #[test]
 fn hash_run_of_bulk_commands(rt: HostRuntime) -> Result<(), Fail> {
     let (alloc, commands) = (rt.alloc(), bulk_commands(rt.alloc())?);
-    let map = &mut by_hash(alloc);
+    let map = &mut IdHashMap::new(alloc);
     tell(&rt, swept_run(alloc, map, commands, &BULK_ROWS))
 }

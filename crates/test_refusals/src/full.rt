@@ -1,5 +1,5 @@
 //! Maps at their limit: an insertion is refused for that, and no request is made for it.
-use crate::maps::{fill, holds, numbered};
+use crate::maps::{fill, holds};
 use crate::words::{Word, tell, word_without_memory};
 use iddqd::errors::TryReserveError;
 use iddqd::{DefaultHashBuilder, IdHashMap, IdOrdMap};
@@ -8,6 +8,7 @@ use std::test::Fail;
 use test_support::heap::arm;
 use test_support::items::Numbered;
 use test_support::maps::{Copying, Hashed, Inserted, Ordered, UnderTest};
+use test_support::new_items::numbered;
 
 // Fills a map up to its limit, and tries two insertions of a new number and a reservation. Each is refused since the map
 // is full.

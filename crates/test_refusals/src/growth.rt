@@ -1,5 +1,4 @@
 //! The ordered map as it grows, with each request of each insertion refused in its turn.
-use crate::maps::numbered;
 use crate::words::{Word, tell};
 use iddqd::errors::TryReserveError;
 use std::alloc::Global;
@@ -7,6 +6,7 @@ use std::test::Fail;
 use test_support::heap::{arm, is_met};
 use test_support::items::Numbered;
 use test_support::maps::{Copying, Inserted, Ordered, UnderTest, in_order};
+use test_support::new_items::numbered;
 
 // Whether the walk has the numbers below another, in order.
 fn walks(map: &Ordered<Numbered>, end: u32) -> bool {

@@ -4,18 +4,8 @@ use std::alloc::Global;
 use std::test::Fail;
 use test_support::bulk::is_not_taken_in;
 use test_support::heap::{arm, is_met};
-use test_support::items::Named;
+use test_support::items::{BAR, FOO, Named};
 use test_support::maps::{Copying, Inserted, UnderTest, by_hash, in_order};
-
-const FOO: Named = Named {
-    name: *b"foo",
-    value: 42,
-};
-
-const BAR: Named = Named {
-    name: *b"bar",
-    value: 20,
-};
 
 // Inserts the item, again if it is refused: whether it was refused, or `None` if it is not in.
 fn put_at_last<M: Copying<Named, [u8; 3]>>(map: &mut M, item: Named) -> Option<bool> {

@@ -1,11 +1,12 @@
 //! Items that are lent, visited, and taken at the ends, which asks for no memory.
-use crate::maps::{fill, numbered};
+use crate::maps::fill;
 use crate::words::{Word, tell, word_without_memory};
 use std::alloc::Global;
 use std::test::Fail;
 use test_support::heap::arm;
 use test_support::items::Numbered;
-use test_support::maps::{Copying, Ordered, by_hash, in_order};
+use test_support::maps::{ByEntry, Copying, Ordered, by_hash, in_order};
+use test_support::new_items::numbered;
 use test_support::visitors::{Change, Visited};
 
 // Fills the map with numbers, visits them, one by `get_mut` and one by its entry.
@@ -13,8 +14,8 @@ fn visits<M: Copying<Numbered, u32> + Visited + Drop>(alloc: Global, mut map: M)
     let is_full = fill(&mut map, 78);
     arm(alloc);
     let is_visited = map.visit(7, &mut Change::KeepOdd(0)) == Some(true);
-    map.visit_all();
-    let is_modified = map.modify_or_put(numbered(7, 5));
+    map.visit_all(true);
+    let is_modified = map.enter(numbered(7, 5), ByEntry::ModifyOrInsert);
     word_without_memory(alloc, is_full && is_visited && is_modified)
 }
 

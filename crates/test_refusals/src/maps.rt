@@ -6,6 +6,7 @@ use std::test::Fail;
 use test_support::heap::arm;
 use test_support::items::{Numbered, Titled};
 use test_support::maps::{AskedByText, Copying, Inserted, UnderTest, by_hash, in_order};
+use test_support::new_items::numbered;
 
 const BACK: &str = "item_back";
 
@@ -44,10 +45,6 @@ fn hash_insert_unique_into_full_index(rt: HostRuntime) -> Result<(), Fail> {
 #[test]
 fn hash_insert_overwrite(rt: HostRuntime) -> Result<(), Fail> {
     tell(&rt, put_by_hash(rt.alloc(), Call::Overwrite, 9, BACK))
-}
-
-pub(crate) fn numbered(number: u32, value: u32) -> Numbered {
-    Numbered { number, value }
 }
 
 /// Whether the numbers below the count are inserted, each with the value 5.

@@ -16,7 +16,7 @@ fn are_read(map: &Ordered<Numbered>, items: &[Numbered]) -> bool {
         && map.lower_bound(low) == items.first()
         && map.upper_bound(high) == items.last()
         && map.get_index(0) == items.first()
-        && map.count_at(0, 78) == 78
+        && map.map().range_index(0..78).len() == 78
         && map.index_of(&0).0 == Ok(0)
         && map.count_between((low, high)).0 == 78
 }

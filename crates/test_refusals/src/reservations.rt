@@ -1,5 +1,4 @@
 //! What was reserved is there where memory is refused.
-use crate::maps::numbered;
 use crate::words::{Word, rows, tell, word_of};
 use iddqd::IdHashMap;
 use std::alloc::Global;
@@ -7,6 +6,7 @@ use std::test::Fail;
 use test_support::heap::{arm, is_met};
 use test_support::items::Numbered;
 use test_support::maps::{Copying, Hashed, Inserted, UnderTest};
+use test_support::new_items::numbered;
 use test_support::visitors::{Change, Visited};
 
 // Whether four items of new keys are inserted beside a removal and a write, and then a hundred times another takes the

@@ -3,20 +3,19 @@ ghost use Rattle.std.specs.Iterator.{IsFiniteIterable as IsFinite};
 
 use crate::items::Named;
 use crate::maps::{Hashed, Ordered, UnderTest};
+use crate::new_items::named;
 use iddqd::errors::{FromIterError, TryReserveError};
 use iddqd::{IdHashItem, IdHashMap, IdOrdItem, IdOrdMap};
 use std::alloc::Global;
 use std::hash::BuildHasher;
 
 /// A map of either kind that is made of an iterator.
-pub trait Bulk<T>: Sized {
+pub trait Bulk<T: Drop>: Sized {
     /// `from_iter`.
     fn collected<U: IntoIterator<Item = T>>(
         alloc: Global,
         items: U,
     ) -> Result<Self, TryReserveError>
-    where
-        T: Drop,
         requires ends { IsFinite U.into_iter_gives U.IntoIter.can_next U.IntoIter.remaining items };
 
     /// `from_iter_unique`.
@@ -24,107 +23,50 @@ pub trait Bulk<T>: Sized {
         alloc: Global,
         items: U,
     ) -> Result<Self, FromIterError<T>>
-    where
-        T: Drop,
         requires ends { IsFinite U.into_iter_gives U.IntoIter.can_next U.IntoIter.remaining items };
 }
 
-impl<T: IdOrdItem> Bulk<T> for Ordered<T> {
+impl<T: IdOrdItem + Drop> Bulk<T> for Ordered<T> {
     fn collected<U: IntoIterator<Item = T>>(
         alloc: Global,
         items: U,
-    ) -> Result<Self, TryReserveError>
-    where
-        T: Drop,
-    {
+    ) -> Result<Self, TryReserveError> {
         Ok(Self::new(IdOrdMap::from_iter(alloc, items)?))
     }
 
     fn collected_unique<U: IntoIterator<Item = T>>(
         alloc: Global,
         items: U,
-    ) -> Result<Self, FromIterError<T>>
-    where
-        T: Drop,
-    {
+    ) -> Result<Self, FromIterError<T>> {
         Ok(Self::new(IdOrdMap::from_iter_unique(alloc, items)?))
     }
 }
 
-impl<T: IdHashItem, S: BuildHasher + Default + Drop> Bulk<T> for Hashed<T, S> {
+impl<T: IdHashItem + Drop, S: BuildHasher + Default + Drop> Bulk<T> for Hashed<T, S> {
     fn collected<U: IntoIterator<Item = T>>(
         alloc: Global,
         items: U,
-    ) -> Result<Self, TryReserveError>
-    where
-        T: Drop,
-    {
+    ) -> Result<Self, TryReserveError> {
         Ok(Self::new(IdHashMap::from_iter(alloc, items)?))
     }
 
     fn collected_unique<U: IntoIterator<Item = T>>(
         alloc: Global,
         items: U,
-    ) -> Result<Self, FromIterError<T>>
-    where
-        T: Drop,
-    {
+    ) -> Result<Self, FromIterError<T>> {
         Ok(Self::new(IdHashMap::from_iter_unique(alloc, items)?))
     }
 }
 
-/// An iterator that announces items, has none, and counts how often it is asked.
-#[derive(Drop)]
-pub struct Liar {
-    announced: usize,
-    asked: u32,
-}
-
-impl Liar {
-    /// One that announces more items than there can be, and was not asked yet.
-    pub fn new() -> Liar {
-        Liar::announcing(usize::MAX)
-    }
-
-    /// An iterator that announces this many items, and was not asked yet.
-    pub fn announcing(announced: usize) -> Liar {
-        Liar {
-            announced,
-            asked: 0,
-        }
-    }
-
-    /// How often it was asked.
-    pub fn asked(&self) -> u32 {
-        self.asked
-    }
-}
-
-impl Iterator for Liar {
-    type Item = Named;
-
-    ghost use Rattle.std.specs.Iterator.{at_most};
-
-    ghost remaining = { λ liar. at_most liar.announced };
-
-    fn next(&mut self) -> Option<Named> {
-        self.asked = self.asked.saturating_add(1);
-        None
-    }
-
-    fn size_hint(&self) -> (usize, Option<usize>) {
-        (self.announced, None)
-    }
-}
-
-/// Whether the map refuses what a liar announces before it asks it.
+/// Whether the map refuses an item that is announced as more than there can be, before it asks for it.
 pub fn is_not_taken_in<M: UnderTest<Named, [u8; 3]>>(map: &mut M) -> bool {
-    let mut liar = Liar::new();
+    let item = [named(*b"lie", 0)];
+    let mut liar = Hinted::new(&item, usize::MAX);
     let refused = match map.extend(&mut liar) {
         Ok(()) => false,
         Err(stopped) => stopped.item.is_none() && stopped.error.is_capacity_overflow(),
     };
-    refused && liar.asked() == 0
+    refused && liar.next().is_some()
 }
 
 /// Gives a vector's items, from the last one on. It announces that this many are to come at least, and at most far more

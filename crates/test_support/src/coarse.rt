@@ -44,6 +44,16 @@ impl Visit<Coarse> for Respells {
     }
 }
 
+/// A way to write an item whole: by the guard that `get_mut` lends, by `and_modify` of the entry, or by `retain_mut`. The
+/// last is a walk that lends items for writing.
+#[derive(Clone, Copy)]
+pub enum Way {
+    Guard,
+    Entry,
+    Visitor,
+    Walk,
+}
+
 /// The item that an insertion by an entry shows, `None` if the entry is not of the kind that it needs, or the refused
 /// one.
 pub type Put = Result<Option<Coarse>, Refused<Coarse>>;
@@ -61,7 +71,10 @@ pub trait CoarseMap: Copying<Coarse, Caseless> {
 
     /// Whether `validate` and `validate_structural` return the same: an error exactly if slots are vacant and none
     /// may be.
-    fn is_valid(&self) -> bool;
+    fn is_valid(&self) -> bool {
+        let is_compact = self.vacant() == 0;
+        self.is_sound() && self.validates(ValidateCompact::Compact) == (is_compact, is_compact)
+    }
 
     /// The items of `into_iter`.
     fn walked_out(self, alloc: Global) -> Result<Vec<Coarse>, AllocError>;
@@ -76,9 +89,6 @@ pub trait CoarseMap: Copying<Coarse, Caseless> {
         name: &Caseless,
         value: u32,
     ) -> Option<(Coarse, Coarse, Coarse)>;
-
-    /// Spends a guard that wrote nothing. Whether the name is there.
-    fn spend_unwritten(&mut self, name: &Caseless) -> bool;
 
     /// Reads and writes by the entry of a map that is dropped then: the old item, and what the entry shows.
     fn write_by_entry(self, name: &Caseless, value: u32) -> Option<(Coarse, Coarse)>;
@@ -107,31 +117,13 @@ pub trait CoarseMap: Copying<Coarse, Caseless> {
     /// `or_insert_with`, which counts how often it is asked for the item.
     fn find_or_put(&mut self, item: Coarse, asked: &mut u32) -> Put;
 
-    /// Writes the item whole, through the guard that `get_mut` lends. False if no item has the key.
-    fn respell_by_guard(&mut self, asked: &Caseless, item: Coarse) -> bool;
-
-    /// The same by `and_modify` of the entry.
-    fn respell_by_entry(&mut self, asked: &Caseless, item: Coarse) -> bool;
-
-    /// By `retain_mut`.
-    fn respell_by_visitor(&mut self, item: Coarse);
-
-    /// By a walk that lends items for writing.
-    fn respell_by_walk(&mut self, item: Coarse) -> bool;
+    /// Writes the item whole. False if a guard or an entry finds none of the key.
+    fn respell(&mut self, asked: &Caseless, item: Coarse, way: Way) -> bool;
 }
 
 impl CoarseMap for Ordered<Coarse> {
     fn limit(&self) -> u32 {
         self.map.limit()
-    }
-
-    fn is_valid(&self) -> bool {
-        let map = &self.map;
-        let is_compact = map.vacant() == 0;
-        map.validate(ValidateCompact::NonCompact).is_ok()
-            && map.validate_structural(ValidateCompact::NonCompact).is_ok()
-            && map.validate(ValidateCompact::Compact).is_ok() == is_compact
-            && map.validate_structural(ValidateCompact::Compact).is_ok() == is_compact
     }
 
     fn walked_out(self, alloc: Global) -> Result<Vec<Coarse>, AllocError> {
@@ -155,17 +147,6 @@ impl CoarseMap for Ordered<Coarse> {
         let read = *outer;
         let shown = outer.into_ref();
         Some((old, read, *shown))
-    }
-
-    #[tactic(auto, using(iddqd::proofs::GuardLemmas::same_key_kept))]
-    fn spend_unwritten(&mut self, name: &Caseless) -> bool {
-        match self.map.get_mut(name) {
-            Some(lent) => {
-                lent.finish();
-                true
-            }
-            None => false,
-        }
     }
 
     fn write_by_entry(self, name: &Caseless, value: u32) -> Option<(Coarse, Coarse)> {
@@ -249,44 +230,32 @@ impl CoarseMap for Ordered<Coarse> {
         Ok(Some(*shown))
     }
 
-    fn respell_by_guard(&mut self, asked: &Caseless, item: Coarse) -> bool {
-        if !matches!(self.map.get(asked), Some(found) if found.name == item.name) {
-            return false;
-        }
-        put(&mut self.map, asked, item);
-        true
-    }
-
     #[tactic(auto, using(crate::proofs::RespelledLemmas::respelled_keeps_key))]
-    fn respell_by_entry(&mut self, asked: &Caseless, item: Coarse) -> bool {
-        match self.map.entry(asked).and_modify(&mut Respells(item)) {
-            id_ord_map::Entry::Occupied(_) => true,
-            id_ord_map::Entry::Vacant(_) => false,
+    fn respell(&mut self, asked: &Caseless, item: Coarse, way: Way) -> bool {
+        match way {
+            Way::Guard => {
+                if !matches!(self.map.get(asked), Some(found) if found.name == item.name) {
+                    return false;
+                }
+                put(&mut self.map, asked, item);
+                true
+            }
+            Way::Entry => {
+                let entry = self.map.entry(asked).and_modify(&mut Respells(item));
+                matches!(entry, id_ord_map::Entry::Occupied(_))
+            }
+            Way::Visitor => {
+                self.map.retain_mut(&mut Respells(item));
+                true
+            }
+            Way::Walk => put_in_walk(&mut self.map, item),
         }
-    }
-
-    #[tactic(auto, using(crate::proofs::RespelledLemmas::respelled_keeps_key))]
-    fn respell_by_visitor(&mut self, item: Coarse) {
-        self.map.retain_mut(&mut Respells(item));
-    }
-
-    fn respell_by_walk(&mut self, item: Coarse) -> bool {
-        put_in_walk(&mut self.map, item)
     }
 }
 
 impl<S: BuildHasher + Drop> CoarseMap for Hashed<Coarse, S> {
     fn limit(&self) -> u32 {
         self.map.limit()
-    }
-
-    fn is_valid(&self) -> bool {
-        let map = &self.map;
-        let is_compact = map.vacant() == 0;
-        map.validate(ValidateCompact::NonCompact).is_ok()
-            && map.validate_structural(ValidateCompact::NonCompact).is_ok()
-            && map.validate(ValidateCompact::Compact).is_ok() == is_compact
-            && map.validate_structural(ValidateCompact::Compact).is_ok() == is_compact
     }
 
     fn walked_out(self, alloc: Global) -> Result<Vec<Coarse>, AllocError> {
@@ -310,17 +279,6 @@ impl<S: BuildHasher + Drop> CoarseMap for Hashed<Coarse, S> {
         let read = *outer;
         let shown = outer.into_ref();
         Some((old, read, *shown))
-    }
-
-    #[tactic(auto, using(iddqd::proofs::GuardLemmas::same_key_kept))]
-    fn spend_unwritten(&mut self, name: &Caseless) -> bool {
-        match self.map.get_mut(name) {
-            Some(lent) => {
-                lent.finish();
-                true
-            }
-            None => false,
-        }
     }
 
     fn write_by_entry(self, name: &Caseless, value: u32) -> Option<(Coarse, Coarse)> {
@@ -404,29 +362,26 @@ impl<S: BuildHasher + Drop> CoarseMap for Hashed<Coarse, S> {
         Ok(Some(*shown))
     }
 
-    fn respell_by_guard(&mut self, asked: &Caseless, item: Coarse) -> bool {
-        if !matches!(self.map.get(asked), Some(found) if found.name == item.name) {
-            return false;
-        }
-        hash_put(&mut self.map, asked, item);
-        true
-    }
-
     #[tactic(auto, using(crate::proofs::RespelledLemmas::respelled_keeps_key))]
-    fn respell_by_entry(&mut self, asked: &Caseless, item: Coarse) -> bool {
-        match self.map.entry(asked).and_modify(&mut Respells(item)) {
-            id_hash_map::Entry::Occupied(_) => true,
-            id_hash_map::Entry::Vacant(_) => false,
+    fn respell(&mut self, asked: &Caseless, item: Coarse, way: Way) -> bool {
+        match way {
+            Way::Guard => {
+                if !matches!(self.map.get(asked), Some(found) if found.name == item.name) {
+                    return false;
+                }
+                hash_put(&mut self.map, asked, item);
+                true
+            }
+            Way::Entry => {
+                let entry = self.map.entry(asked).and_modify(&mut Respells(item));
+                matches!(entry, id_hash_map::Entry::Occupied(_))
+            }
+            Way::Visitor => {
+                self.map.retain_mut(&mut Respells(item));
+                true
+            }
+            Way::Walk => hash_put_in_walk(&mut self.map, item),
         }
-    }
-
-    #[tactic(auto, using(crate::proofs::RespelledLemmas::respelled_keeps_key))]
-    fn respell_by_visitor(&mut self, item: Coarse) {
-        self.map.retain_mut(&mut Respells(item));
-    }
-
-    fn respell_by_walk(&mut self, item: Coarse) -> bool {
-        hash_put_in_walk(&mut self.map, item)
     }
 }
 

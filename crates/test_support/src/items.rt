@@ -28,6 +28,17 @@ impl IdHashItem for Named {
     }
 }
 
+/// Two names.
+pub const FOO: Named = Named {
+    name: *b"foo",
+    value: 42,
+};
+
+pub const BAR: Named = Named {
+    name: *b"bar",
+    value: 20,
+};
+
 /// A number and its value.
 #[derive(Clone, Copy, PartialEq, Eq)]
 pub struct Numbered {

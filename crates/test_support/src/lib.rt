@@ -3,12 +3,12 @@
 
 pub mod bulk;
 pub mod coarse;
-pub mod copied;
 pub mod counting;
 pub mod hashers;
 pub mod heap;
 pub mod items;
 pub mod maps;
+pub mod new_items;
 pub mod nine;
 pub mod ordered;
 pub mod visitors;

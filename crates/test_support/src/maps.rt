@@ -1,12 +1,12 @@
 //! Maps under test, one of each kind. Their calls are the maps', and say nothing of what they leave. A test shows
 //! that by what it finds, so that its proof carries no contract of the maps along.
 ghost use Rattle.std.specs.Iterator.{IsFiniteIterable as IsFinite};
-ghost use Rattle.iddqd.specs.Contents.{Ascends, ClonesAreEqual};
+ghost use Rattle.iddqd.specs.Contents.{Ascends};
 ghost use Rattle.iddqd.specs.IdHashMap.{HashItems, IsKeyed};
 ghost use Rattle.iddqd.specs.Hashing.{hash_under};
 ghost use Rattle.iddqd.specs.Holding.{Holding};
 
-use crate::visitors::{Dropped, Untouched};
+use crate::visitors::Untouched;
 use iddqd::errors::{
     DuplicateItem, ExtendError, ExtendUniqueError, InsertError, Refused, TryReserveError,
 };
@@ -15,7 +15,7 @@ use iddqd::{
     DefaultHashBuilder, IdHashItem, IdHashMap, IdOrdItem, IdOrdMap, Keyed, Steps, Text,
     id_hash_map, id_ord_map,
 };
-use idtable_commands::{Command, KeyedMap, Reply, RunStop, run};
+use idtable_commands::KeyedMap;
 use std::alloc::{AllocError, Global};
 use std::hash::BuildHasher;
 use std::marker::Model;
@@ -29,7 +29,7 @@ pub enum Inserted<T> {
 }
 
 // The new item of a duplicate and the one that is there, copied.
-pub(crate) fn both<T: Copy>(duplicate: &DuplicateItem<T, &T>) -> (T, Option<T>) {
+fn both<T: Copy>(duplicate: &DuplicateItem<T, &T>) -> (T, Option<T>) {
     let there = match duplicate.duplicates().get(0) {
         Some(there) => Some(**there),
         None => None,
@@ -152,18 +152,14 @@ impl<T: IdHashItem, S: BuildHasher> Hashed<T, S> {
 }
 
 /// A map of either kind under test, with items `T` of keys `K`. A call without a comment is the map's of that name.
-pub trait UnderTest<T, K>: Sized {
+pub trait UnderTest<T: Drop, K>: Sized {
     /// Whether `insert_unique` inserts the item.
-    fn is_put(&mut self, item: T) -> bool
-    where
-        T: Drop;
+    fn is_put(&mut self, item: T) -> bool;
 
     /// `insert_overwrite`.
     fn overwrite(&mut self, item: T) -> Result<Option<T>, Refused<T>>;
 
     fn extend<U: IntoIterator<Item = T>>(&mut self, items: U) -> Result<(), ExtendError<T>>
-    where
-        T: Drop,
         requires ends { IsFinite U.into_iter_gives U.IntoIter.can_next U.IntoIter.remaining items };
 
     fn get(&self, key: &K) -> Option<&T>;
@@ -177,13 +173,9 @@ pub trait UnderTest<T, K>: Sized {
     fn remove(&mut self, key: &K) -> Option<T>;
 
     fn retain<F: FnMut(&T) -> bool>(&mut self, keep: F)
-    where
-        T: Drop,
         requires { F.IsAlwaysCallable keep };
 
-    fn clear(&mut self)
-    where
-        T: Drop;
+    fn clear(&mut self);
 
     fn len(&self) -> usize;
 
@@ -195,31 +187,39 @@ pub trait UnderTest<T, K>: Sized {
     fn reserve(&mut self, additional: usize) -> Result<(), TryReserveError>;
 
     /// `try_reserve`, or `reserve` where there is no such call.
-    fn try_reserve(&mut self, additional: usize) -> Result<(), TryReserveError>;
+    fn try_reserve(&mut self, additional: usize) -> Result<(), TryReserveError> {
+        self.reserve(additional)
+    }
 
     fn shrink_to(&mut self, min: usize) -> Result<(), TryReserveError>;
 
     fn shrink_to_fit(&mut self) -> Result<(), TryReserveError>;
 
     /// How many items fit, by the numbers that the map shows.
-    fn room(&self) -> usize;
+    fn room(&self) -> usize {
+        self.capacity()
+    }
 
     fn capacity(&self) -> usize;
 
     fn vacant(&self) -> u32;
 
-    /// Whether `validate` finds no error, where slots may be vacant.
-    fn is_sound(&self) -> bool;
+    /// Whether `validate` finds no error, and whether `validate_structural` does not.
+    fn validates(&self, compact: ValidateCompact) -> (bool, bool);
 
-    /// Whether `validate` finds no error, where no slot may be vacant.
-    fn is_compact(&self) -> bool;
+    /// Whether there is no error, where slots may be vacant.
+    fn is_sound(&self) -> bool {
+        self.validates(ValidateCompact::NonCompact) == (true, true)
+    }
+
+    /// Whether there is no error, where no slot may be vacant.
+    fn is_compact(&self) -> bool {
+        self.validates(ValidateCompact::Compact) == (true, true)
+    }
 }
 
-impl<T: IdOrdItem> UnderTest<T, T::Key> for Ordered<T> {
-    fn is_put(&mut self, item: T) -> bool
-    where
-        T: Drop,
-    {
+impl<T: IdOrdItem + Drop> UnderTest<T, T::Key> for Ordered<T> {
+    fn is_put(&mut self, item: T) -> bool {
         self.map.insert_unique(item).is_ok()
     }
 
@@ -227,10 +227,7 @@ impl<T: IdOrdItem> UnderTest<T, T::Key> for Ordered<T> {
         self.map.insert_overwrite(item)
     }
 
-    fn extend<U: IntoIterator<Item = T>>(&mut self, items: U) -> Result<(), ExtendError<T>>
-    where
-        T: Drop,
-    {
+    fn extend<U: IntoIterator<Item = T>>(&mut self, items: U) -> Result<(), ExtendError<T>> {
         self.map.extend(items)
     }
 
@@ -252,17 +249,11 @@ impl<T: IdOrdItem> UnderTest<T, T::Key> for Ordered<T> {
         self.map.remove(key)
     }
 
-    fn retain<F: FnMut(&T) -> bool>(&mut self, keep: F)
-    where
-        T: Drop,
-    {
+    fn retain<F: FnMut(&T) -> bool>(&mut self, keep: F) {
         self.map.retain(keep)
     }
 
-    fn clear(&mut self)
-    where
-        T: Drop,
-    {
+    fn clear(&mut self) {
         self.map.clear()
     }
 
@@ -281,20 +272,12 @@ impl<T: IdOrdItem> UnderTest<T, T::Key> for Ordered<T> {
         self.map.reserve(additional)
     }
 
-    fn try_reserve(&mut self, additional: usize) -> Result<(), TryReserveError> {
-        self.map.reserve(additional)
-    }
-
     fn shrink_to(&mut self, min: usize) -> Result<(), TryReserveError> {
         self.map.shrink_to(min)
     }
 
     fn shrink_to_fit(&mut self) -> Result<(), TryReserveError> {
         self.map.shrink_to_fit()
-    }
-
-    fn room(&self) -> usize {
-        self.map.capacity()
     }
 
     fn capacity(&self) -> usize {
@@ -305,20 +288,14 @@ impl<T: IdOrdItem> UnderTest<T, T::Key> for Ordered<T> {
         self.map.vacant()
     }
 
-    fn is_sound(&self) -> bool {
-        self.map.validate(ValidateCompact::NonCompact).is_ok()
-    }
-
-    fn is_compact(&self) -> bool {
-        self.map.validate(ValidateCompact::Compact).is_ok()
+    fn validates(&self, compact: ValidateCompact) -> (bool, bool) {
+        let is_valid = self.map.validate(compact).is_ok();
+        (is_valid, self.map.validate_structural(compact).is_ok())
     }
 }
 
-impl<T: IdHashItem, S: BuildHasher> UnderTest<T, T::Key> for Hashed<T, S> {
-    fn is_put(&mut self, item: T) -> bool
-    where
-        T: Drop,
-    {
+impl<T: IdHashItem + Drop, S: BuildHasher> UnderTest<T, T::Key> for Hashed<T, S> {
+    fn is_put(&mut self, item: T) -> bool {
         self.map.insert_unique(item).is_ok()
     }
 
@@ -326,10 +303,7 @@ impl<T: IdHashItem, S: BuildHasher> UnderTest<T, T::Key> for Hashed<T, S> {
         self.map.insert_overwrite(item)
     }
 
-    fn extend<U: IntoIterator<Item = T>>(&mut self, items: U) -> Result<(), ExtendError<T>>
-    where
-        T: Drop,
-    {
+    fn extend<U: IntoIterator<Item = T>>(&mut self, items: U) -> Result<(), ExtendError<T>> {
         self.map.extend(items)
     }
 
@@ -351,17 +325,11 @@ impl<T: IdHashItem, S: BuildHasher> UnderTest<T, T::Key> for Hashed<T, S> {
         self.map.remove(key)
     }
 
-    fn retain<F: FnMut(&T) -> bool>(&mut self, keep: F)
-    where
-        T: Drop,
-    {
+    fn retain<F: FnMut(&T) -> bool>(&mut self, keep: F) {
         self.map.retain(keep)
     }
 
-    fn clear(&mut self)
-    where
-        T: Drop,
-    {
+    fn clear(&mut self) {
         self.map.clear()
     }
 
@@ -404,18 +372,62 @@ impl<T: IdHashItem, S: BuildHasher> UnderTest<T, T::Key> for Hashed<T, S> {
         self.map.vacant()
     }
 
-    fn is_sound(&self) -> bool {
-        self.map.validate(ValidateCompact::NonCompact).is_ok()
-    }
-
-    fn is_compact(&self) -> bool {
-        self.map.validate(ValidateCompact::Compact).is_ok()
+    fn validates(&self, compact: ValidateCompact) -> (bool, bool) {
+        let is_valid = self.map.validate(compact).is_ok();
+        (is_valid, self.map.validate_structural(compact).is_ok())
     }
 }
 
-/// A map of either kind under test, whose items are copied where a call lends or takes some. A call that takes the map
-/// drops it then.
-pub trait Copying<T, K>: UnderTest<T, K> {
+/// What is called on an entry.
+#[derive(Clone, Copy)]
+pub enum ByEntry {
+    Nothing,
+    /// `insert` if it is vacant, `insert` and `remove` if it is occupied.
+    Insert,
+    /// `and_modify`, and `insert_entry` if it is vacant.
+    ModifyOrInsert,
+    OrInsert,
+    OrInsertWith,
+}
+
+// Whether nothing was refused. The guard that is lent is spent so.
+macro_rules! is_lent {
+    ($lent:expr, $spend:ident) => {
+        match $lent {
+            Ok(lent) => {
+                let _ = lent.$spend();
+                true
+            }
+            Err(_refused) => false,
+        }
+    };
+}
+
+// What `enter` does with the entry of the item's key.
+macro_rules! entered {
+    ($entry:expr, $module:ident, $item:ident, $call:ident) => {
+        match $call {
+            ByEntry::Nothing => matches!($entry, $module::Entry::Occupied(_)),
+            ByEntry::Insert => match $entry {
+                $module::Entry::Occupied(mut entry) => {
+                    drop(entry.insert($item));
+                    drop(entry.remove());
+                    true
+                }
+                $module::Entry::Vacant(entry) => is_lent!(entry.insert($item), finish),
+            },
+            ByEntry::ModifyOrInsert => match $entry.and_modify(&mut Untouched { keeps: true }) {
+                $module::Entry::Occupied(_) => true,
+                $module::Entry::Vacant(entry) => entry.insert_entry($item).is_ok(),
+            },
+            ByEntry::OrInsert => is_lent!($entry.or_insert($item), finish),
+            ByEntry::OrInsertWith => is_lent!($entry.or_insert_with(|| $item), into_ref),
+        }
+    };
+}
+
+/// A map of either kind under test, whose items are copied where a call lends or takes some.
+pub trait Copying<T: Copy + Drop, K>: UnderTest<T, K> {
     /// `insert_unique`.
     fn insert(&mut self, item: T) -> Inserted<T>;
 
@@ -429,43 +441,28 @@ pub trait Copying<T, K>: UnderTest<T, K> {
     /// How many items `iter` shows.
     fn walk(&self) -> usize;
 
-    /// `retain_mut`, which keeps each item.
-    fn visit_all(&mut self);
-
-    /// `retain_mut`, which keeps none.
-    fn drop_all(&mut self);
+    /// `retain_mut`, which keeps each item, or none.
+    fn visit_all(&mut self, keeps: bool);
 
     /// `get_mut`, and the guard is spent. Whether there was one.
-    fn spend(self, key: &K) -> bool;
+    fn spend(&mut self, key: &K) -> bool;
 
-    /// `entry`. Whether it is occupied.
-    fn enter(self, key: &K) -> bool;
-
-    /// `entry` of the item's key, and `insert` where it is vacant, `insert` and `remove` where it is occupied. Whether
-    /// nothing was refused.
-    fn use_entry(self, item: T) -> bool;
-
-    /// `entry` of the item's key and `and_modify`, and `insert_entry` where it is vacant. Whether nothing was refused.
-    fn modify_or_put(self, item: T) -> bool;
-
-    /// `or_insert` of the item's entry, and the guard is spent. Whether nothing was refused.
-    fn use_or_insert(self, item: T) -> bool;
-
-    /// `or_insert_with` of the item's entry, and the guard shows the item. Whether nothing was refused.
-    fn use_or_insert_with(self, item: T) -> bool;
+    /// The call on the entry of the item's key. Whether nothing was refused, or whether the entry is occupied if nothing
+    /// is called. The map is dropped then.
+    fn enter(self, item: T, call: ByEntry) -> bool;
 }
 
 impl<T: IdOrdItem + Copy + Drop> Copying<T, T::Key> for Ordered<T> {
     fn insert(&mut self, item: T) -> Inserted<T> {
         match self.map.insert_unique(item) {
-            Ok(()) => Inserted::Done,
+            Ok(_) => Inserted::Done,
             Err(error) => kept_out(error),
         }
     }
 
     fn add_each<U: IntoIterator<Item = T>>(&mut self, items: U) -> Added<T> {
         match self.map.extend_unique(items) {
-            Ok(()) => Added::All,
+            Ok(_) => Added::All,
             Err(error) => stopped(error),
         }
     }
@@ -478,17 +475,13 @@ impl<T: IdOrdItem + Copy + Drop> Copying<T, T::Key> for Ordered<T> {
         self.map.iter().count()
     }
 
-    fn visit_all(&mut self) {
-        self.map.retain_mut(&mut Untouched);
+    fn visit_all(&mut self, keeps: bool) {
+        self.map.retain_mut(&mut Untouched { keeps });
     }
 
-    fn drop_all(&mut self) {
-        self.map.retain_mut(&mut Dropped);
-    }
-
-    fn spend(self, key: &T::Key) -> bool {
-        let mut map = self.map;
-        match map.get_mut(key) {
+    #[tactic(auto, using(iddqd::proofs::GuardLemmas::same_key_kept))]
+    fn spend(&mut self, key: &T::Key) -> bool {
+        match self.map.get_mut(key) {
             Some(lent) => {
                 lent.finish();
                 true
@@ -497,71 +490,23 @@ impl<T: IdOrdItem + Copy + Drop> Copying<T, T::Key> for Ordered<T> {
         }
     }
 
-    fn enter(self, key: &T::Key) -> bool {
+    fn enter(self, item: T, call: ByEntry) -> bool {
         let mut map = self.map;
-        matches!(map.entry(key), id_ord_map::Entry::Occupied(_))
-    }
-
-    fn use_entry(self, item: T) -> bool {
-        let mut map = self.map;
-        match map.entry(item.key()) {
-            id_ord_map::Entry::Occupied(mut entry) => {
-                drop(entry.insert(item));
-                drop(entry.remove());
-                true
-            }
-            id_ord_map::Entry::Vacant(entry) => match entry.insert(item) {
-                Ok(lent) => {
-                    lent.finish();
-                    true
-                }
-                Err(_refused) => false,
-            },
-        }
-    }
-
-    fn modify_or_put(self, item: T) -> bool {
-        let mut map = self.map;
-        match map.entry(item.key()).and_modify(&mut Untouched) {
-            id_ord_map::Entry::Occupied(_) => true,
-            id_ord_map::Entry::Vacant(entry) => entry.insert_entry(item).is_ok(),
-        }
-    }
-
-    fn use_or_insert(self, item: T) -> bool {
-        let mut map = self.map;
-        match map.entry(item.key()).or_insert(item) {
-            Ok(lent) => {
-                lent.finish();
-                true
-            }
-            Err(_refused) => false,
-        }
-    }
-
-    fn use_or_insert_with(self, item: T) -> bool {
-        let mut map = self.map;
-        match map.entry(item.key()).or_insert_with(|| item) {
-            Ok(lent) => {
-                let _ = lent.into_ref();
-                true
-            }
-            Err(_refused) => false,
-        }
+        entered!(map.entry(item.key()), id_ord_map, item, call)
     }
 }
 
 impl<T: IdHashItem + Copy + Drop, S: BuildHasher + Drop> Copying<T, T::Key> for Hashed<T, S> {
     fn insert(&mut self, item: T) -> Inserted<T> {
         match self.map.insert_unique(item) {
-            Ok(()) => Inserted::Done,
+            Ok(_) => Inserted::Done,
             Err(error) => kept_out(error),
         }
     }
 
     fn add_each<U: IntoIterator<Item = T>>(&mut self, items: U) -> Added<T> {
         match self.map.extend_unique(items) {
-            Ok(()) => Added::All,
+            Ok(_) => Added::All,
             Err(error) => stopped(error),
         }
     }
@@ -574,17 +519,13 @@ impl<T: IdHashItem + Copy + Drop, S: BuildHasher + Drop> Copying<T, T::Key> for 
         self.map.iter().count()
     }
 
-    fn visit_all(&mut self) {
-        self.map.retain_mut(&mut Untouched);
+    fn visit_all(&mut self, keeps: bool) {
+        self.map.retain_mut(&mut Untouched { keeps });
     }
 
-    fn drop_all(&mut self) {
-        self.map.retain_mut(&mut Dropped);
-    }
-
-    fn spend(self, key: &T::Key) -> bool {
-        let mut map = self.map;
-        match map.get_mut(key) {
+    #[tactic(auto, using(iddqd::proofs::GuardLemmas::same_key_kept))]
+    fn spend(&mut self, key: &T::Key) -> bool {
+        match self.map.get_mut(key) {
             Some(lent) => {
                 lent.finish();
                 true
@@ -593,98 +534,9 @@ impl<T: IdHashItem + Copy + Drop, S: BuildHasher + Drop> Copying<T, T::Key> for 
         }
     }
 
-    fn enter(self, key: &T::Key) -> bool {
+    fn enter(self, item: T, call: ByEntry) -> bool {
         let mut map = self.map;
-        matches!(map.entry(key), id_hash_map::Entry::Occupied(_))
-    }
-
-    fn use_entry(self, item: T) -> bool {
-        let mut map = self.map;
-        match map.entry(item.key()) {
-            id_hash_map::Entry::Occupied(mut entry) => {
-                drop(entry.insert(item));
-                drop(entry.remove());
-                true
-            }
-            id_hash_map::Entry::Vacant(entry) => match entry.insert(item) {
-                Ok(lent) => {
-                    lent.finish();
-                    true
-                }
-                Err(_refused) => false,
-            },
-        }
-    }
-
-    fn modify_or_put(self, item: T) -> bool {
-        let mut map = self.map;
-        match map.entry(item.key()).and_modify(&mut Untouched) {
-            id_hash_map::Entry::Occupied(_) => true,
-            id_hash_map::Entry::Vacant(entry) => entry.insert_entry(item).is_ok(),
-        }
-    }
-
-    fn use_or_insert(self, item: T) -> bool {
-        let mut map = self.map;
-        match map.entry(item.key()).or_insert(item) {
-            Ok(lent) => {
-                lent.finish();
-                true
-            }
-            Err(_refused) => false,
-        }
-    }
-
-    fn use_or_insert_with(self, item: T) -> bool {
-        let mut map = self.map;
-        match map.entry(item.key()).or_insert_with(|| item) {
-            Ok(lent) => {
-                let _ = lent.into_ref();
-                true
-            }
-            Err(_refused) => false,
-        }
-    }
-}
-
-/// What a row asks of a map of either kind by commands, none of which visits.
-pub trait Commanded<T: Clone, K> {
-    /// The replies to the commands.
-    fn run(
-        &mut self,
-        alloc: Global,
-        commands: Vec<Command<T, K, Untouched>>,
-    ) -> Result<Vec<Reply<T>>, RunStop<T, K, Untouched>>
-        requires clones { ClonesAreEqual T.is_clone };
-}
-
-impl<T: IdOrdItem + Clone> Commanded<T, T::Key> for Ordered<T>
-where
-    T::Key: Drop,
-{
-    fn run(
-        &mut self,
-        alloc: Global,
-        commands: Vec<Command<T, T::Key, Untouched>>,
-    ) -> Result<Vec<Reply<T>>, RunStop<T, T::Key, Untouched>>
-        requires clones { ClonesAreEqual T.is_clone }
-    {
-        run(alloc, &mut self.map, commands)
-    }
-}
-
-impl<T: IdHashItem + Clone, S: BuildHasher> Commanded<T, T::Key> for Hashed<T, S>
-where
-    T::Key: Drop,
-{
-    fn run(
-        &mut self,
-        alloc: Global,
-        commands: Vec<Command<T, T::Key, Untouched>>,
-    ) -> Result<Vec<Reply<T>>, RunStop<T, T::Key, Untouched>>
-        requires clones { ClonesAreEqual T.is_clone }
-    {
-        run(alloc, &mut self.map, commands)
+        entered!(map.entry(item.key()), id_hash_map, item, call)
     }
 }
 

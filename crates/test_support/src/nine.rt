@@ -1,25 +1,20 @@
 //! Nine items that are left of twenty-five, with vacant slots among them.
 use crate::items::Numbered;
 use crate::maps::UnderTest;
+use crate::new_items::numbered;
 
-const IDS: [u32; 25] = [
+/// The numbers of the twenty-five.
+pub const IDS: [u32; 25] = [
     0, 17, 1, 12, 5, 21, 8, 10, 18, 4, 16, 22, 9, 24, 23, 13, 7, 25, 26, 20, 31, 11, 14, 2, 6,
 ];
 
 const LEFT: [u32; 9] = [1, 5, 7, 11, 13, 17, 23, 25, 31];
 
-// The value is the id once more.
-fn of_id(id: u32) -> Numbered {
-    Numbered {
-        number: id,
-        value: id,
-    }
-}
-
-/// Inserts the twenty-five, and retains the odd ones that three does not divide: whether each was inserted.
+/// Inserts the twenty-five, each with its number for its value, and retains the odd ones that three does not divide.
+/// Whether each was inserted.
 pub fn retain_nine<M: UnderTest<Numbered, u32>>(map: &mut M) -> bool {
     for id in IDS {
-        if !map.is_put(of_id(id)) {
+        if !map.is_put(numbered(id, id)) {
             return false;
         }
     }
@@ -30,7 +25,7 @@ pub fn retain_nine<M: UnderTest<Numbered, u32>>(map: &mut M) -> bool {
 /// Whether the nine are there, and no others.
 pub fn are_left<M: UnderTest<Numbered, u32>>(map: &M) -> bool {
     for id in LEFT {
-        if map.get(&id) != Some(&of_id(id)) {
+        if map.get(&id) != Some(&numbered(id, id)) {
             return false;
         }
     }

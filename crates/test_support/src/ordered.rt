@@ -50,11 +50,6 @@ impl<T: IdOrdItem> Ordered<T> {
         (place, steps.count())
     }
 
-    /// `index_of`.
-    pub fn position_of<Q: Comparable<T::Key>>(&self, query: &Q) -> Result<usize, usize> {
-        self.map.index_of(query)
-    }
-
     /// `lower_bound`.
     pub fn lower_bound<Q: Comparable<T::Key>>(&self, from: Bound<&Q>) -> Option<&T> {
         self.map.lower_bound(from)
@@ -70,17 +65,6 @@ impl<T: IdOrdItem> Ordered<T> {
         let mut steps = Steps::new();
         let count = self.map.range_counted::<Q, _>(bounds, &mut steps).len();
         (count, steps.count())
-    }
-
-    /// The number of items of `range_index`.
-    pub fn count_at(&self, from: usize, to: usize) -> usize {
-        self.map.range_index(from..to).len()
-    }
-
-    /// The items from the query on.
-    pub fn walk_from<Q: Comparable<T::Key>>(&self, query: &Q) -> Iter<'_, T> {
-        self.map
-            .range::<Q, _>((Bound::Included(query), Bound::Unbounded))
     }
 
     /// `remove_index`.
@@ -126,7 +110,7 @@ impl<T: IdOrdItem + Copy> Ordered<T> {
     pub fn insert_counted(&mut self, item: T) -> (Inserted<T>, u32) {
         let mut steps = Steps::new();
         let inserted = match self.map.insert_unique_counted(item, &mut steps) {
-            Ok(()) => Inserted::Done,
+            Ok(_) => Inserted::Done,
             Err(error) => kept_out(error),
         };
         (inserted, steps.count())

@@ -1,32 +1,20 @@
 //! Visitors of the rows.
-ghost use Rattle.std.specs.Prelude.{false, true};
-
 use crate::items::Numbered;
 use crate::maps::{Hashed, Ordered};
 use iddqd::Visit;
 use idtable_commands::KeyedMap;
 
-/// Leaves each item as it is, and keeps it.
+/// Leaves each item as it is, and keeps all or none.
 #[derive(Clone, Copy, PartialEq, Eq)]
-pub struct Untouched;
-
-impl<T> Visit<T> for Untouched {
-    ghost visits = { λ visitor item. (visitor, item, true) };
-
-    fn visit(&mut self, _item: &mut T) -> bool {
-        true
-    }
+pub struct Untouched {
+    pub keeps: bool,
 }
 
-/// Leaves each item as it is, and keeps none.
-#[derive(Clone, Copy)]
-pub struct Dropped;
-
-impl<T> Visit<T> for Dropped {
-    ghost visits = { λ visitor item. (visitor, item, false) };
+impl<T> Visit<T> for Untouched {
+    ghost visits = { λ visitor item. (visitor, item, visitor.keeps) };
 
     fn visit(&mut self, _item: &mut T) -> bool {
-        false
+        self.keeps
     }
 }
 
