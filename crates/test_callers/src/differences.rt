@@ -1,4 +1,4 @@
-//! Callers of the difference of two maps, over settings that own text: what it counts, names, sums, and makes of a copy.
+//! Callers of the difference of two maps, over items that own text: what it counts, names, sums, and makes of a copy.
 ghost use Rattle.std.specs.Prelude.{◌≡◌, ◌+◌, ◌≤◌, [], IfOk, IsTrue, filter, length, map, sum_by};
 ghost use Rattle.std.specs.List.{AllZip};
 ghost use Rattle.std.specs.String.{string_cmp, string_eq};
@@ -6,41 +6,13 @@ ghost use Rattle.iddqd.specs.Contents.{Ascends};
 ghost use Rattle.iddqd.specs.IdHashMap.{IsKeyedByText};
 ghost use Rattle.iddqd_diff.specs.Applying.{HoldsClones};
 ghost use Rattle.iddqd_diff.specs.Difference.{lacks};
-ghost use Rattle.test_callers.specs.Settings.{added};
+ghost use Rattle.test_callers.specs.Differences.{added};
 
 use iddqd::errors::TryReserveError;
-use iddqd::{IdHashItem, IdHashMap, IdOrdItem, IdOrdMap};
+use iddqd::{IdHashMap, IdOrdMap};
 use iddqd_diff::{Diffable, Difference, id_hash_map, id_ord_map};
 use std::alloc::{AllocError, Global};
-
-/// A name and its value.
-#[derive(Clone, Drop)]
-pub(crate) struct Setting {
-    /// What it is found by.
-    pub(crate) name: String,
-    /// What is set.
-    pub(crate) value: u32,
-}
-
-impl IdHashItem for Setting {
-    type Key = String;
-
-    ghost key = { λ setting. setting.name };
-
-    fn key(&self) -> &String {
-        &self.name
-    }
-}
-
-impl IdOrdItem for Setting {
-    type Key = String;
-
-    ghost key = { λ setting. setting.name };
-
-    fn key(&self) -> &String {
-        &self.name
-    }
-}
+use test_writers::items::Named;
 
 /// How many names were removed and added, and how many both maps have.
 #[derive(Clone, Copy)]
@@ -50,9 +22,9 @@ pub(crate) struct Numbers {
     pub(crate) kept: usize,
 }
 
-fn count(before: &IdOrdMap<Setting>, after: &IdOrdMap<Setting>) -> Numbers
-    requires before_keyed { Ascends (λ s. s.name) string_cmp before.now.items }
-    requires after_keyed { Ascends (λ s. s.name) string_cmp after.now.items }
+fn count(before: &IdOrdMap<Named>, after: &IdOrdMap<Named>) -> Numbers
+    requires before_keyed { Ascends (λ x. x.name) string_cmp before.now.items }
+    requires after_keyed { Ascends (λ x. x.name) string_cmp after.now.items }
     ensures before { result.removed + result.kept ≡ length before.now.items }
     ensures after { result.added + result.kept ≡ length after.now.items }
 {
@@ -71,9 +43,9 @@ fn count(before: &IdOrdMap<Setting>, after: &IdOrdMap<Setting>) -> Numbers
     numbers
 }
 
-fn count_by_hash(before: &IdHashMap<Setting>, after: &IdHashMap<Setting>) -> Numbers
-    requires before_keyed { IsKeyedByText (λ s. s.name) before.now }
-    requires after_keyed { IsKeyedByText (λ s. s.name) after.now }
+fn count_by_hash(before: &IdHashMap<Named>, after: &IdHashMap<Named>) -> Numbers
+    requires before_keyed { IsKeyedByText (λ x. x.name) before.now }
+    requires after_keyed { IsKeyedByText (λ x. x.name) after.now }
     ensures before { result.removed + result.kept ≡ length before.now.items }
     ensures after { result.added + result.kept ≡ length after.now.items }
 {
@@ -95,13 +67,13 @@ fn count_by_hash(before: &IdHashMap<Setting>, after: &IdHashMap<Setting>) -> Num
 /// The names that were added, in order.
 fn added_names<'a>(
     alloc: Global,
-    before: &IdOrdMap<Setting>,
-    after: &'a IdOrdMap<Setting>,
+    before: &IdOrdMap<Named>,
+    after: &'a IdOrdMap<Named>,
 ) -> Result<Vec<&'a String>, AllocError>
-    requires before_keyed { Ascends (λ s. s.name) string_cmp before.now.items }
-    requires after_keyed { Ascends (λ s. s.name) string_cmp after.now.items }
-    ensures { IfOk result (λ names. map (λ name. name.now) names.items ≡ map (λ s. s.name)
-        (filter (lacks (λ s. s.name) string_eq before.now.items) after.now.items)) }
+    requires before_keyed { Ascends (λ x. x.name) string_cmp before.now.items }
+    requires after_keyed { Ascends (λ x. x.name) string_cmp after.now.items }
+    ensures { IfOk result (λ names. map (λ name. name.now) names.items ≡ map (λ x. x.name)
+        (filter (lacks (λ x. x.name) string_eq before.now.items) after.now.items)) }
 {
     let mut names = Vec::new(alloc);
     for difference in before.diff(after) {
@@ -113,11 +85,11 @@ fn added_names<'a>(
 }
 
 /// The sum of the values that were added.
-fn added_sum(before: &IdHashMap<Setting>, after: &IdHashMap<Setting>) -> u64
-    requires before_keyed { IsKeyedByText (λ s. s.name) before.now }
-    requires after_keyed { IsKeyedByText (λ s. s.name) after.now }
-    requires fits { sum_by (λ s. s.value) (added before.now.items after.now.items) ≤ u64.MAX }
-    ensures { result ≡ sum_by (λ s. s.value) (added before.now.items after.now.items) }
+fn added_sum(before: &IdHashMap<Named>, after: &IdHashMap<Named>) -> u64
+    requires before_keyed { IsKeyedByText (λ x. x.name) before.now }
+    requires after_keyed { IsKeyedByText (λ x. x.name) after.now }
+    requires fits { sum_by (λ x. x.value) (added before.now.items after.now.items) ≤ u64.MAX }
+    ensures { result ≡ sum_by (λ x. x.value) (added before.now.items after.now.items) }
 {
     let mut sum = 0u64;
     for difference in before.diff(after) {
@@ -130,13 +102,13 @@ fn added_sum(before: &IdHashMap<Setting>, after: &IdHashMap<Setting>) -> u64
 
 /// A copy of the old map, brought up to the new one.
 fn updated(
-    before: &IdOrdMap<Setting>,
-    after: &IdOrdMap<Setting>,
-) -> Result<IdOrdMap<Setting>, TryReserveError>
-    requires before_keyed { Ascends (λ s. s.name) string_cmp before.now.items }
-    requires after_keyed { Ascends (λ s. s.name) string_cmp after.now.items }
-    ensures clones { IfOk result (λ all. AllZip ⟦<Setting as Clone>⟧.is_clone after.now.items all.items) }
-    ensures keyed { IfOk result (λ all. Ascends (λ s. s.name) string_cmp all.items) }
+    before: &IdOrdMap<Named>,
+    after: &IdOrdMap<Named>,
+) -> Result<IdOrdMap<Named>, TryReserveError>
+    requires before_keyed { Ascends (λ x. x.name) string_cmp before.now.items }
+    requires after_keyed { Ascends (λ x. x.name) string_cmp after.now.items }
+    ensures clones { IfOk result (λ all. AllZip ⟦<Named as Clone>⟧.is_clone after.now.items all.items) }
+    ensures keyed { IfOk result (λ all. Ascends (λ x. x.name) string_cmp all.items) }
 {
     let mut all = before.clone()?;
     id_ord_map::apply(&mut all, before, after)?;
@@ -145,13 +117,13 @@ fn updated(
 
 /// The same of hash maps, in some order.
 fn updated_by_hash(
-    before: &IdHashMap<Setting>,
-    after: &IdHashMap<Setting>,
-) -> Result<IdHashMap<Setting>, TryReserveError>
-    requires before_keyed { IsKeyedByText (λ s. s.name) before.now }
-    requires after_keyed { IsKeyedByText (λ s. s.name) after.now }
-    ensures clones { IfOk result (λ all. HoldsClones ⟦<Setting as Clone>⟧.is_clone after.now.items all.items) }
-    ensures keyed { IfOk result (IsKeyedByText (λ s. s.name)) }
+    before: &IdHashMap<Named>,
+    after: &IdHashMap<Named>,
+) -> Result<IdHashMap<Named>, TryReserveError>
+    requires before_keyed { IsKeyedByText (λ x. x.name) before.now }
+    requires after_keyed { IsKeyedByText (λ x. x.name) after.now }
+    ensures clones { IfOk result (λ all. HoldsClones ⟦<Named as Clone>⟧.is_clone after.now.items all.items) }
+    ensures keyed { IfOk result (IsKeyedByText (λ x. x.name)) }
 {
     let mut all = before.clone()?;
     id_hash_map::apply(&mut all, before, after)?;
@@ -159,9 +131,9 @@ fn updated_by_hash(
 }
 
 /// Whether no name was added. Either map may have other values.
-fn adds_none(before: &IdHashMap<Setting>, after: &IdHashMap<Setting>) -> bool
-    requires before_keyed { IsKeyedByText (λ s. s.name) before.now }
-    requires after_keyed { IsKeyedByText (λ s. s.name) after.now }
+fn adds_none(before: &IdHashMap<Named>, after: &IdHashMap<Named>) -> bool
+    requires before_keyed { IsKeyedByText (λ x. x.name) before.now }
+    requires after_keyed { IsKeyedByText (λ x. x.name) after.now }
     ensures { IsTrue result → added before.now.items after.now.items ≡ [] }
 {
     id_hash_map::have_same_keys(before, after)

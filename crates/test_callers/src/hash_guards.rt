@@ -4,7 +4,6 @@ ghost use Rattle.iddqd.specs.IdHashMap.{IsKeyedByText};
 ghost use Rattle.test_callers.specs.Lookups.{KeepsOtherNames, ReadsAtName, SetsAtName, SumsAtName, of_name};
 ghost use Rattle.test_writers.specs.Pairs.{SetsPair, pair_at};
 
-use iddqd::errors::InsertError;
 use iddqd::{IdHashMap, Keyed, Text};
 use std::hash::BuildHasher;
 use test_writers::items::{Named, Pair};
@@ -60,27 +59,5 @@ fn set_by_reborrow<S: BuildHasher>(
             Some(shown.value)
         }
         None => None,
-    }
-}
-
-/// Removes the item of the name, and inserts it under another one, if no item has that. An item that is refused comes
-/// back.
-fn rename(all: &mut IdHashMap<Named>, name: &str, to: String) -> Result<bool, Named>
-    requires keyed { IsKeyedByText (λ x. x.name) all.old }
-    ensures keyed { IsKeyedByText (λ x. x.name) all.new }
-{
-    if all.contains_key(&to) {
-        return Ok(false);
-    }
-    match all.remove(&Text(name)) {
-        Some(mut item) => {
-            item.name = to;
-            match all.insert_unique(item) {
-                Ok(()) => Ok(true),
-                Err(InsertError::Duplicate(both)) => Err(both.into_parts().0),
-                Err(InsertError::Refused(refused)) => Err(refused.item),
-            }
-        }
-        None => Ok(false),
     }
 }

@@ -3,7 +3,7 @@ ghost use Rattle.std.specs.Prelude.{◌≡◌, ◌+◌, IfSome, IsTrue, None, So
 ghost use Rattle.iddqd.specs.IdHashMap.{IsKeyedByText};
 ghost use Rattle.test_callers.specs.Lookups.{KeepsOtherNames, KeepsOtherNumbers, of_key, of_name, of_number, total, value_of};
 
-use crate::items::{Noted, Tagged};
+use crate::items::Noted;
 use iddqd::errors::InsertError;
 use iddqd::{IdHashMap, Keyed, Text};
 use test_writers::items::Named;
@@ -36,9 +36,9 @@ fn add(all: &mut IdHashMap<Noted>, item: Noted) -> bool
 }
 
 /// `let .. else`.
-fn add_tagged(all: &mut IdHashMap<Tagged>, item: Tagged) -> bool
-    requires keyed { ⟦<IdHashMap<Tagged> as Keyed>⟧.keyed all.old }
-    ensures keyed { ⟦<IdHashMap<Tagged> as Keyed>⟧.keyed all.new }
+fn add_or_leave(all: &mut IdHashMap<Noted>, item: Noted) -> bool
+    requires keyed { ⟦<IdHashMap<Noted> as Keyed>⟧.keyed all.old }
+    ensures keyed { ⟦<IdHashMap<Noted> as Keyed>⟧.keyed all.new }
 {
     let Ok(()) = all.insert_unique(item) else {
         return false;

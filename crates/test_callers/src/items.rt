@@ -1,4 +1,4 @@
-//! Items that hold text or a list, by number and by two numbers.
+//! Items that hold text, by number and by two numbers.
 
 ghost use Rattle.std.specs.Prelude.{nat_lt};
 ghost use Rattle.test_callers.specs.Groups.{taken_off};
@@ -25,25 +25,6 @@ impl IdOrdItem for Noted {
 }
 
 impl IdHashItem for Noted {
-    type Key = u32;
-
-    ghost key = { λ item. item.number };
-
-    fn key(&self) -> &u32 {
-        &self.number
-    }
-}
-
-/// A number and others.
-#[derive(Drop)]
-pub(crate) struct Tagged {
-    /// What it is found by.
-    pub(crate) number: u32,
-    /// What it is tagged with.
-    pub(crate) tags: Vec<u32>,
-}
-
-impl IdHashItem for Tagged {
     type Key = u32;
 
     ghost key = { λ item. item.number };

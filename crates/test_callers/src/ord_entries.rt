@@ -3,7 +3,7 @@ ghost use Rattle.std.specs.Prelude.{◌≡◌, ◌-◌, IfNone, IfSome, IsTrue, 
 ghost use Rattle.std.specs.Ordering.{nat_cmp};
 ghost use Rattle.std.specs.String.{string_cmp};
 ghost use Rattle.iddqd.specs.Contents.{AddsItem, Ascends};
-ghost use Rattle.test_callers.specs.Lookups.{AddsIfNew, AddsPairIfNew, Replaces, SetsAtKey, SetsFirst, last_of, of_key, of_name, with_value, without_name};
+ghost use Rattle.test_callers.specs.Lookups.{AddsIfNew, AddsPairIfNew, SetsAtKey, SetsFirst, last_of, of_key, of_name, with_value, without_name};
 ghost use Rattle.test_writers.specs.Pairs.{pair_at};
 
 use iddqd::id_ord_map::Entry;
@@ -28,19 +28,6 @@ fn add_and_write(map: &mut IdOrdMap<Named>, item: Named, then: u32) -> bool
             Err(_refused) => false,
         },
         Entry::Occupied(_) => false,
-    }
-}
-
-/// Puts the item in the place of the one of its name, which is returned.
-fn replace(map: &mut IdOrdMap<Named>, item: Named) -> Option<Named>
-    requires keyed { Ascends (λ x. x.name) string_cmp map.old.items }
-    ensures found { result ≡ of_key item.name map.old.items }
-    ensures replaced { Replaces item map.old.items map.new.items }
-    ensures keyed { Ascends (λ x. x.name) string_cmp map.new.items }
-{
-    match map.entry(&item.name) {
-        Entry::Occupied(mut entry) => Some(entry.insert(item)),
-        Entry::Vacant(_) => None,
     }
 }
 
@@ -99,36 +86,6 @@ fn set_first(map: &mut IdOrdMap<Pair>, value: u32)
 {
     if let Some(mut entry) = map.first_entry() {
         entry.get_mut().value = value;
-    }
-}
-
-/// Writes a value through the entry, and another one through its guard.
-#[tactic(auto, using(iddqd::proofs::GuardLemmas::same_key_kept))]
-fn write_and_lend(map: &mut IdOrdMap<Named>, name: &str, value: u32, then: u32)
-    requires keyed { Ascends (λ x. x.name) string_cmp map.old.items }
-    ensures keyed { Ascends (λ x. x.name) string_cmp map.new.items }
-{
-    if let Entry::Occupied(mut entry) = map.entry(&Text(name)) {
-        entry.get_mut().value = value;
-        let mut found = entry.into_mut();
-        found.value = then;
-        found.finish();
-    }
-}
-
-/// Adds the item by its entry, and removes it again, unless its name is there.
-fn add_and_take(map: &mut IdOrdMap<Named>, item: Named) -> Option<Named>
-    requires keyed { Ascends (λ x. x.name) string_cmp map.old.items }
-    ensures taken { OnSome result (result ≡ Some item) }
-    ensures left { map.new.items ≡ map.old.items }
-    ensures keyed { Ascends (λ x. x.name) string_cmp map.new.items }
-{
-    match map.entry(&item.name) {
-        Entry::Vacant(entry) => match entry.insert_entry(item) {
-            Ok(added) => Some(added.remove()),
-            Err(_refused) => None,
-        },
-        Entry::Occupied(_) => None,
     }
 }
 

@@ -1,10 +1,10 @@
 //! Writing through the guard of an ordered map.
-ghost use Rattle.std.specs.Prelude.{◌≡◌, IfNone, option_map};
+ghost use Rattle.std.specs.Prelude.{◌≡◌, IfNone};
 ghost use Rattle.std.specs.Ordering.{nat_cmp};
 ghost use Rattle.std.specs.String.{string_cmp};
 ghost use Rattle.iddqd.specs.Contents.{Ascends};
 ghost use Rattle.test_callers.specs.Lookups.{KeepsOtherNames, ReadsAtName, SetsAtName, SumsAtName, of_name};
-ghost use Rattle.test_writers.specs.Pairs.{SetsPair, pair_at};
+ghost use Rattle.test_writers.specs.Pairs.{SetsPair};
 
 use iddqd::{IdOrdMap, Text};
 use test_writers::items::{Named, Pair, write_value};
@@ -40,35 +40,6 @@ fn set_value(map: &mut IdOrdMap<Named>, name: &str, value: u32) -> bool
             true
         }
         None => false,
-    }
-}
-
-/// Writes by a plain reference at the end.
-fn set_plainly(map: &mut IdOrdMap<Pair>, key: u32, value: u32)
-    requires keyed { Ascends (λ p. p.key) nat_cmp map.old.items }
-    ensures written { SetsPair key value map.old.items map.new.items }
-{
-    if let Some(found) = map.get_mut(&key) {
-        let item = found.into_mut();
-        item.value = value;
-    }
-}
-
-/// Writes by the guard lent once more, and reads by the guard itself.
-#[tactic(auto, using(iddqd::proofs::GuardLemmas::read_back))]
-fn set_by_reborrow(map: &mut IdOrdMap<Pair>, key: u32, value: u32) -> Option<u32>
-    requires keyed { Ascends (λ p. p.key) nat_cmp map.old.items }
-    ensures read { result ≡ option_map (λ _. value) (pair_at key map.old.items) }
-    ensures written { SetsPair key value map.old.items map.new.items }
-{
-    match map.get_mut(&key) {
-        Some(mut found) => {
-            let inner = found.reborrow();
-            inner.value = value;
-            let shown = found.into_ref();
-            Some(shown.value)
-        }
-        None => None,
     }
 }
 

@@ -4,22 +4,8 @@ ghost use Rattle.std.specs.String.{string_cmp};
 ghost use Rattle.iddqd.specs.Contents.{Ascends};
 ghost use Rattle.test_callers.specs.Lookups.{KeepsOtherNames, of_key, of_name, total, value_of};
 
-use iddqd::errors::InsertError;
 use iddqd::{IdOrdMap, Text};
 use test_writers::items::Named;
-
-/// Three arms: the value of the item that is there, or of the one that was refused.
-fn add_or_show(all: &mut IdOrdMap<Named>, item: Named) -> Option<u32>
-    requires keyed { Ascends (λ x. x.name) string_cmp all.old.items }
-    ensures shown { IfSome (of_key item.name all.old.items) (λ x. result ≡ Some x.value) }
-    ensures keyed { Ascends (λ x. x.name) string_cmp all.new.items }
-{
-    match all.insert_unique(item) {
-        Ok(()) => None,
-        Err(InsertError::Duplicate(both)) => Some(both.duplicates().first().value),
-        Err(InsertError::Refused(refused)) => Some(refused.item.value),
-    }
-}
 
 /// `is_ok()`; what was inserted is found, each other name finds what it found, the value is in the sum, and there is one
 /// item more.
@@ -33,20 +19,6 @@ fn add_named(all: &mut IdOrdMap<Named>, item: Named) -> bool
     ensures keyed { Ascends (λ x. x.name) string_cmp all.new.items }
 {
     all.insert_unique(item).is_ok()
-}
-
-/// What was overwritten is found, and each other name finds what it found.
-#[tactic(auto, using(iddqd::proofs::ChangeLemmas::after_changes))]
-fn put(all: &mut IdOrdMap<Named>, item: Named) -> bool
-    requires keyed { Ascends (λ x. x.name) string_cmp all.old.items }
-    ensures found { IsTrue result → of_key item.name all.new.items ≡ Some item }
-    ensures others { KeepsOtherNames (string_bytes item.name) all.old.items all.new.items }
-    ensures keyed { Ascends (λ x. x.name) string_cmp all.new.items }
-{
-    match all.insert_overwrite(item) {
-        Ok(_) => true,
-        Err(_refused) => false,
-    }
 }
 
 /// What was removed is not found, each other name finds what it found, and there is one item less.
@@ -73,14 +45,4 @@ fn remove_first(all: &mut IdOrdMap<Named>) -> Option<Named>
     ensures keyed { Ascends (λ x. x.name) string_cmp all.new.items }
 {
     all.pop_first()
-}
-
-/// After `clear` nothing is found.
-fn clear(all: &mut IdOrdMap<Named>, name: &str) -> usize
-    ensures none { of_name name.now all.new.items ≡ None }
-    ensures len { result ≡ 0 }
-    ensures keyed { Ascends (λ x. x.name) string_cmp all.new.items }
-{
-    all.clear();
-    all.len()
 }

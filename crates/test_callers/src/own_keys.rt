@@ -66,17 +66,6 @@ fn add_hashed(all: &mut IdHashMap<Event>, event: Event) -> bool
     all.insert_unique(event).is_ok()
 }
 
-/// Removes an event.
-#[tactic(auto, using(iddqd::proofs::ChangeLemmas::after_changes, std::proofs::lemmas::Bool::Decides::nat_tests))]
-fn remove_hashed(all: &mut IdHashMap<Event>, at: &At) -> Option<Event>
-    requires keyed { ⟦<IdHashMap<Event> as Keyed>⟧.keyed all.old }
-    ensures gone { find_item (λ e. e.at) (⟦<At as PartialEq>⟧.eq at.now) all.new.items ≡ None }
-    ensures others { KeepsOtherKeys (λ e. e.at) ⟦<At as PartialEq>⟧.eq at.now all.old.items all.new.items }
-    ensures keyed { ⟦<IdHashMap<Event> as Keyed>⟧.keyed all.new }
-{
-    all.remove(at)
-}
-
 /// Writes through a guard.
 #[tactic(auto, using(iddqd::proofs::ChangeLemmas::after_changes, std::proofs::lemmas::Bool::Decides::nat_tests))]
 fn set_took_hashed(all: &mut IdHashMap<Event>, at: &At, took: u32)

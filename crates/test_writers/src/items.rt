@@ -33,7 +33,7 @@ impl IdHashItem for Pair {
 }
 
 /// A name and its value: an item that owns memory.
-#[derive(Drop)]
+#[derive(Clone, Drop)]
 pub struct Named {
     /// What it is found by.
     pub name: String,

@@ -8,4 +8,4 @@ abbrev pub invariant-loop-difference : goal.invariant-loop-difference
 invariant-loop-difference l =
     goal.iterator-loop-difference.can_next l.difference-iterator ×
     goal.iterator-loop-difference.is_finite l.difference-iterator ×
-    (map (λ name. name.now) l.names.items ++ map (λ s. s.name) (filter_map added_item l.difference-iterator) ≡ map (λ s. s.name) (filter (lacks (λ s. s.name) string_eq l.fn.before.items) l.fn.after.items))
+    (map (λ name. name.now) l.names.items ++ map (λ x. x.name) (filter_map added_item l.difference-iterator) ≡ map (λ x. x.name) (filter (lacks (λ x. x.name) string_eq l.fn.before.items) l.fn.after.items))

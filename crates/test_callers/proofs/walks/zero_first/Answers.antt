@@ -1,7 +1,7 @@
 use Rattle.std.proofs.Common.{rules, ◌≡◌, Some, slice_get}
 use Rattle.test_writers.proofs.ZeroedLemmas.{changed_first}
 use Rattle.test_writers.specs.Zeroed.{zeroed}
-use Rattle.test_callers.proofs.ord_walks.zero_first.Goals as goal
+use Rattle.test_callers.proofs.walks.zero_first.Goals as goal
 
 pub returns-in-Some : goal.returns-in-Some
 returns-in-Some c =

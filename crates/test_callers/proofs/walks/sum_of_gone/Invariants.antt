@@ -1,6 +1,6 @@
 use Rattle.std.proofs.Common.{◌≡◌, ◌+◌}
 use Rattle.std.specs.List.{sum_by}
-use Rattle.test_callers.proofs.sums.sum.Given as goal
+use Rattle.test_callers.proofs.walks.sum_of_gone.Given as goal
 
 abbrev pub invariant-loop-pair : goal.invariant-loop-pair
 invariant-loop-pair l =
