@@ -1,13 +1,13 @@
 //! What is timed of two maps: their difference, where a hundredth of the keys went and as many others came.
 use crate::items::{BenchKey, Item};
-use crate::phases::{Plan, exchange_hundredth, filled, nanos_since};
+use crate::phases::{Plan, clocked, exchange_hundredth, filled};
 use crate::report::write_phases;
 use crate::subjects::Subject;
 use iddqd_diff::{Diffable, Difference};
 use std::alloc::Global;
 use std::collections::{BTreeMap, HashMap};
 use std::io::{self, Write};
-use std::time::{Clock, Instant};
+use std::time::Clock;
 use test_support::maps::{Hashed, Ordered};
 
 /// A map that is compared with a later one.
@@ -88,9 +88,7 @@ fn timed<S: Compared>(clock: &impl Clock, alloc: Global, plan: &Plan) -> io::Res
     let before: S = filled(alloc, plan)?;
     let mut after: S = filled(alloc, plan)?;
     exchange_hundredth(&mut after, alloc, plan)?;
-    let start = Instant::now(clock)?;
-    let sum = before.sum_changes(&after);
-    Ok((nanos_since(clock, start)?, sum))
+    clocked(clock, || before.sum_changes(&after))
 }
 
 // Times our maps and std's, taking turns: whether their sums agree. The times are written if they are asked for.

@@ -129,14 +129,18 @@ impl Plan {
     }
 }
 
-/// The nanoseconds since then.
-pub(crate) fn nanos_since(clock: &impl Clock, start: Instant) -> io::Result<u64> {
+/// The nanoseconds of the work, and what it returns.
+pub(crate) fn clocked<T: Drop, F: FnOnce() -> T>(
+    clock: &impl Clock,
+    work: F,
+) -> io::Result<(u64, T)>
+    requires callable { F.pre work }
+{
+    let start = Instant::now(clock)?;
+    let found = work();
     let time = start.elapsed(clock)?;
-    Ok(
-        time.as_secs()
-            .saturating_mul(1_000_000_000)
-            .saturating_add(u64::from(time.subsec_nanos())),
-    )
+    let nanos = time.as_secs().saturating_mul(1_000_000_000);
+    Ok((nanos.saturating_add(u64::from(time.subsec_nanos())), found))
 }
 
 // How many of them were inserted.
@@ -180,73 +184,16 @@ fn churn<S: Subject>(map: &mut S, keys: &[S::Key], loads: Vec<S::Load>) -> u64 {
     found
 }
 
-// The nanoseconds of the same insertions into a map that has room for all, and how many were inserted.
+// The nanoseconds of the insertions into a map that has room for all, and how many were inserted.
 fn put_reserved<S: Subject>(
     clock: &impl Clock,
     alloc: Global,
     loads: Vec<S::Load>,
 ) -> io::Result<(u64, u64)> {
     match S::with_room(alloc, loads.len()) {
-        Some(mut map) => put_in(clock, &mut map, loads),
+        Some(mut map) => clocked(clock, || put_all(&mut map, loads)),
         None => Ok((0, 0)),
     }
-}
-
-// The nanoseconds of lookups of all keys, and the sum of the values that are found.
-fn looked_up<S: Subject>(clock: &impl Clock, map: &S, keys: &[S::Key]) -> io::Result<(u64, u64)> {
-    let start = Instant::now(clock)?;
-    let found = look_up_all(map, keys);
-    Ok((nanos_since(clock, start)?, found))
-}
-
-// The nanoseconds of a walk and of a clone, which is dropped, and a sum over both.
-fn walked<S: Subject>(clock: &impl Clock, map: &S) -> io::Result<(u64, u64, u64)> {
-    let start = Instant::now(clock)?;
-    let sum = map.sum();
-    let walk = nanos_since(clock, start)?;
-    let start = Instant::now(clock)?;
-    let copied = map.copied();
-    let clone = nanos_since(clock, start)?;
-    Ok((walk, clone, sum.wrapping_add(copied as u64)))
-}
-
-// The nanoseconds of the insertions, and how many were inserted.
-fn put_in<S: Subject>(
-    clock: &impl Clock,
-    map: &mut S,
-    loads: Vec<S::Load>,
-) -> io::Result<(u64, u64)> {
-    let start = Instant::now(clock)?;
-    let count = put_all(map, loads);
-    Ok((nanos_since(clock, start)?, count))
-}
-
-// The nanoseconds of the exchanges, and the sum of the values that are taken out.
-fn churned<S: Subject>(
-    clock: &impl Clock,
-    map: &mut S,
-    keys: &[S::Key],
-    loads: Vec<S::Load>,
-) -> io::Result<(u64, u64)> {
-    let start = Instant::now(clock)?;
-    let found = churn(map, keys, loads);
-    Ok((nanos_since(clock, start)?, found))
-}
-
-// The nanoseconds of the removals, and the sum of the values that are taken out.
-fn taken<S: Subject>(clock: &impl Clock, map: &mut S, keys: &[S::Key]) -> io::Result<(u64, u64)> {
-    let start = Instant::now(clock)?;
-    let found = take_all(map, keys);
-    Ok((nanos_since(clock, start)?, found))
-}
-
-// The sum of what the phases found.
-fn summed(parts: [u64; 7]) -> u64 {
-    let mut sum = 0u64;
-    for part in parts {
-        sum = sum.wrapping_add(part);
-    }
-    sum
 }
 
 // Times each call over the map, which has no items. The first of the keys are there once all are in, and the others are not.
@@ -259,13 +206,17 @@ fn timed_calls<S: Subject>(
 ) -> io::Result<([u64; 8], u64)> {
     let loads = plan.loads::<S>(alloc, 0)?;
     let (reserved, reserved_count) = put_reserved::<S>(clock, alloc, loads)?;
-    let (insertion, count) = put_in(clock, map, plan.loads::<S>(alloc, 0)?)?;
-    let (lookup, found) = looked_up(clock, map, present)?;
-    let (absent_lookup, missed) = looked_up(clock, map, absent)?;
-    let (walk, clone, seen) = walked(clock, map)?;
-    let (churn, exchanged) = churned(clock, map, present, plan.loads::<S>(alloc, plan.size)?)?;
-    let (removal, removed) = taken(clock, map, absent)?;
-    let parts = [
+    let loads = plan.loads::<S>(alloc, 0)?;
+    let (insertion, count) = clocked(clock, || put_all(map, loads))?;
+    let (lookup, found) = clocked(clock, || look_up_all(map, present))?;
+    let (absent_lookup, missed) = clocked(clock, || look_up_all(map, absent))?;
+    let (walk, seen) = clocked(clock, || map.sum())?;
+    let (clone, copied) = clocked(clock, || map.copied())?;
+    let loads = plan.loads::<S>(alloc, plan.size)?;
+    let (churn, exchanged) = clocked(clock, || churn(map, present, loads))?;
+    let (removal, removed) = clocked(clock, || take_all(map, absent))?;
+    let mut sum = copied as u64;
+    for part in [
         reserved_count,
         count,
         found,
@@ -273,7 +224,9 @@ fn timed_calls<S: Subject>(
         seen,
         exchanged,
         removed,
-    ];
+    ] {
+        sum = sum.wrapping_add(part);
+    }
     let nanos = [
         insertion,
         reserved,
@@ -284,7 +237,7 @@ fn timed_calls<S: Subject>(
         churn,
         removal,
     ];
-    Ok((nanos, summed(parts)))
+    Ok((nanos, sum))
 }
 
 /// Exchanges a hundredth of the map's items for others.
@@ -307,26 +260,6 @@ pub(crate) fn filled<S: Subject>(alloc: Global, plan: &Plan) -> Result<S, AllocE
     Ok(map)
 }
 
-// The nanoseconds of a walk that writes each item, and what it wrote.
-fn raised<S: Subject>(clock: &impl Clock, map: S) -> io::Result<(u64, S::Written)> {
-    let start = Instant::now(clock)?;
-    let written = map.raised();
-    Ok((nanos_since(clock, start)?, written))
-}
-
-// The nanoseconds in which all items move into a vector that has room for them, and that vector.
-fn moved_out<S: Subject>(
-    clock: &impl Clock,
-    alloc: Global,
-    map: S::Written,
-    size: usize,
-) -> io::Result<(u64, Vec<S::Load>)> {
-    let mut loads = Vec::with_capacity(alloc, size)?;
-    let start = Instant::now(clock)?;
-    S::move_out(map, &mut loads)?;
-    Ok((nanos_since(clock, start)?, loads))
-}
-
 // The sum of the values of this many items, each removed from the front.
 fn pop_all<S: Subject>(map: &mut S, size: usize) -> u64 {
     let mut found = 0u64;
@@ -337,41 +270,20 @@ fn pop_all<S: Subject>(map: &mut S, size: usize) -> u64 {
 }
 
 // The nanoseconds of the insertions of items that ascend, those of their removals from the front, and the sum of what
-// was removed.
-fn put_and_popped<S: Subject>(
-    clock: &impl Clock,
-    map: &mut S,
-    loads: Vec<S::Load>,
-) -> io::Result<(u64, u64, u64)> {
-    let size = loads.len();
-    let (ascending, count) = put_in(clock, map, loads)?;
-    let start = Instant::now(clock)?;
-    let found = pop_all(map, size);
-    Ok((
-        ascending,
-        nanos_since(clock, start)?,
-        found.wrapping_add(count),
-    ))
-}
-
-// The same over a new map. All are 0 for a map without an order.
+// was removed. All are 0 for a map without an order.
 fn in_ascent<S: Subject>(
     clock: &impl Clock,
     alloc: Global,
     loads: Vec<S::Load>,
 ) -> io::Result<(u64, u64, u64)> {
-    if S::is_ordered() {
-        put_and_popped(clock, &mut S::empty(alloc), loads)
-    } else {
-        Ok((0, 0, 0))
+    if !S::is_ordered() {
+        return Ok((0, 0, 0));
     }
-}
-
-// The nanoseconds in which half the items are dropped, and the sum of the values of the others.
-fn halved<S: Subject>(clock: &impl Clock, map: &mut S) -> io::Result<(u64, u64)> {
-    let start = Instant::now(clock)?;
-    map.keep_even();
-    Ok((nanos_since(clock, start)?, map.sum()))
+    let mut map = S::empty(alloc);
+    let size = loads.len();
+    let (ascending, count) = clocked(clock, || put_all(&mut map, loads))?;
+    let (pop_first, found) = clocked(clock, || pop_all(&mut map, size))?;
+    Ok((ascending, pop_first, found.wrapping_add(count)))
 }
 
 // Times each call that goes over a whole map, over new maps.
@@ -380,12 +292,16 @@ fn timed_walks<S: Subject>(
     alloc: Global,
     plan: &Plan,
 ) -> io::Result<([u64; 5], u64)> {
-    let (iter_mut, written) = raised::<S>(clock, filled(alloc, plan)?)?;
-    let (into_iter, loads) = moved_out::<S>(clock, alloc, written, plan.shuffled.len())?;
+    let map: S = filled(alloc, plan)?;
+    let (iter_mut, written) = clocked(clock, || map.raised())?;
+    let mut loads = Vec::with_capacity(alloc, plan.shuffled.len())?;
+    let (into_iter, moved) = clocked(clock, || S::move_out(written, &mut loads))?;
+    moved?;
     let (ascending, pop_first, popped) = in_ascent::<S>(clock, alloc, loads)?;
-    let (retain, kept) = halved::<S>(clock, &mut filled(alloc, plan)?)?;
+    let mut map: S = filled(alloc, plan)?;
+    let (retain, _) = clocked(clock, || map.keep_even())?;
     let nanos = [iter_mut, into_iter, ascending, pop_first, retain];
-    Ok((nanos, popped.wrapping_add(kept)))
+    Ok((nanos, popped.wrapping_add(map.sum())))
 }
 
 // Times each call with a key over a new map.

@@ -1,13 +1,13 @@
 //! What is timed of ordered maps alone: walks from the back, ranges, and positions.
 use crate::items::{BenchKey, Item};
-use crate::phases::{Plan, filled, lower, nanos_since};
+use crate::phases::{Plan, clocked, filled, lower};
 use crate::report::write_phases;
 use crate::subjects::Subject;
 use std::alloc::Global;
 use std::collections::BTreeMap;
 use std::io::{self, Write};
 use std::ops::Bound;
-use std::time::{Clock, Instant};
+use std::time::Clock;
 use test_support::maps::Ordered;
 
 /// The phases. The last two are of this map alone.
@@ -118,55 +118,25 @@ fn sum_places<S: Ranged>(map: &S, keys: &[S::Key]) -> Option<u64> {
     Some(sum)
 }
 
-// The nanoseconds of a walk from the back, and the sum of its values.
-fn walked_back<S: Ranged>(clock: &impl Clock, map: &S) -> io::Result<(u64, u64)> {
-    let start = Instant::now(clock)?;
-    let sum = map.sum_back();
-    Ok((nanos_since(clock, start)?, sum))
-}
-
-// The nanoseconds of ranges of this many items, as if each key began one, and the sum of their values.
-fn time_ranges<S: Ranged>(
-    clock: &impl Clock,
-    map: &S,
-    keys: &[S::Key],
-    (apart, count): (usize, usize),
-) -> io::Result<(u64, u64)> {
-    let start = Instant::now(clock)?;
-    let sum = sum_ranges(map, keys, apart, count);
-    Ok((nanos_since(clock, start)?.saturating_mul(apart as u64), sum))
-}
-
-// The nanoseconds of lookups by position and of positions of keys; 0 if the map has no positions.
-fn placed<S: Ranged>(
-    clock: &impl Clock,
-    map: &S,
-    positions: &[u64],
-    keys: &[S::Key],
-) -> io::Result<(u64, u64)> {
-    let start = Instant::now(clock)?;
-    let Some(_sum) = sum_positions(map, positions) else {
-        return Ok((0, 0));
-    };
-    let get_index = nanos_since(clock, start)?;
-    let start = Instant::now(clock)?;
-    let found = sum_places(map, keys);
-    let index_of = nanos_since(clock, start)?;
-    Ok((get_index, if found.is_some() { index_of } else { 0 }))
-}
-
-// The nanoseconds of each phase over the map, which has these keys, and the sum of what was found.
+// The nanoseconds of each phase over the map, which has these keys, and the sum of what was found. Those of positions
+// are 0 if the map has none.
 fn times_of<S: Ranged>(
     clock: &impl Clock,
     map: &S,
     positions: &[u64],
     keys: &[S::Key],
 ) -> io::Result<([u64; 5], u64)> {
-    let (backwards, sum) = walked_back(clock, map)?;
-    let (range_10, near) = time_ranges(clock, map, keys, (1, 10))?;
-    let (range_1000, far) = time_ranges(clock, map, keys, (APART, 1_000))?;
-    let (get_index, index_of) = placed(clock, map, positions, keys)?;
-    let nanos = [backwards, range_10, range_1000, get_index, index_of];
+    let (backwards, sum) = clocked(clock, || map.sum_back())?;
+    let (range_10, near) = clocked(clock, || sum_ranges(map, keys, 1, 10))?;
+    let (hundredth, far) = clocked(clock, || sum_ranges(map, keys, APART, 1_000))?;
+    // as if each key began a range
+    let range_1000 = hundredth.saturating_mul(APART as u64);
+    let (get_index, found) = clocked(clock, || sum_positions(map, positions))?;
+    let (index_of, _) = clocked(clock, || sum_places(map, keys))?;
+    let nanos = match found {
+        Some(_) => [backwards, range_10, range_1000, get_index, index_of],
+        None => [backwards, range_10, range_1000, 0, 0],
+    };
     Ok((nanos, sum.wrapping_add(near).wrapping_add(far)))
 }
 
