@@ -16,15 +16,41 @@ pub(crate) trait Registry {
     fn has(&self, name: &str) -> bool
         requires keyed { keyed self.now };
 
-    /// Adds the item; `false` if its name is there or room is refused.
-    fn add(&mut self, item: Named) -> bool
+    /// Removes the item of the name.
+    fn take(&mut self, name: &str) -> Option<Named>
+        requires keyed { keyed self.old }
+        ensures keyed { keyed self.new };
+
+    /// Adds the item, which is returned if its name is there or room is refused.
+    fn add(&mut self, item: Named) -> Result<(), Named>
         requires keyed { keyed self.old }
         ensures keyed { keyed self.new };
 
     /// Gives the item of a name another one. An item that is removed and then refused is returned.
     fn rename(&mut self, name: &str, to: String) -> Result<bool, Named>
         requires keyed { keyed self.old }
-        ensures keyed { keyed self.new };
+        ensures keyed { keyed self.new }
+    {
+        if self.has(to.as_str()) {
+            return Ok(false);
+        }
+        match self.take(name) {
+            Some(mut item) => {
+                item.name = to;
+                self.add(item)?;
+                Ok(true)
+            }
+            None => Ok(false),
+        }
+    }
+}
+
+// The item of an insertion that failed.
+fn returned(error: InsertError<'_, Named>) -> Named {
+    match error {
+        InsertError::Duplicate(both) => both.into_parts().0,
+        InsertError::Refused(refused) => refused.item,
+    }
 }
 
 impl Registry for IdOrdMap<Named> {
@@ -34,28 +60,13 @@ impl Registry for IdOrdMap<Named> {
         self.contains_key(&Text(name))
     }
 
-    fn add(&mut self, item: Named) -> bool {
-        match self.insert_unique(item) {
-            Ok(()) => true,
-            Err(InsertError::Duplicate(_) | InsertError::Refused(_)) => false,
-        }
+    fn take(&mut self, name: &str) -> Option<Named> {
+        self.remove(&Text(name))
     }
 
-    fn rename(&mut self, name: &str, to: String) -> Result<bool, Named> {
-        if self.contains_key(&to) {
-            return Ok(false);
-        }
-        match self.remove(&Text(name)) {
-            Some(mut item) => {
-                item.name = to;
-                match self.insert_unique(item) {
-                    Ok(()) => Ok(true),
-                    Err(InsertError::Duplicate(both)) => Err(both.into_parts().0),
-                    Err(InsertError::Refused(refused)) => Err(refused.item),
-                }
-            }
-            None => Ok(false),
-        }
+    fn add(&mut self, item: Named) -> Result<(), Named> {
+        self.insert_unique(item).map_err(returned)?;
+        Ok(())
     }
 }
 
@@ -66,27 +77,12 @@ impl Registry for IdHashMap<Named> {
         self.contains_key(&Text(name))
     }
 
-    fn add(&mut self, item: Named) -> bool {
-        match self.insert_unique(item) {
-            Ok(()) => true,
-            Err(InsertError::Duplicate(_) | InsertError::Refused(_)) => false,
-        }
+    fn take(&mut self, name: &str) -> Option<Named> {
+        self.remove(&Text(name))
     }
 
-    fn rename(&mut self, name: &str, to: String) -> Result<bool, Named> {
-        if self.contains_key(&to) {
-            return Ok(false);
-        }
-        match self.remove(&Text(name)) {
-            Some(mut item) => {
-                item.name = to;
-                match self.insert_unique(item) {
-                    Ok(()) => Ok(true),
-                    Err(InsertError::Duplicate(both)) => Err(both.into_parts().0),
-                    Err(InsertError::Refused(refused)) => Err(refused.item),
-                }
-            }
-            None => Ok(false),
-        }
+    fn add(&mut self, item: Named) -> Result<(), Named> {
+        self.insert_unique(item).map_err(returned)?;
+        Ok(())
     }
 }
