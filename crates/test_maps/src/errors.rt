@@ -1,6 +1,6 @@
 //! The texts of errors.
 use crate::checks::{check, numbered};
-use crate::texts::{is_debugged, is_displayed};
+use crate::texts::{debugs, displays};
 use iddqd::IdOrdMap;
 use iddqd::errors::{DuplicateItem, Few, Refused, TryReserveError};
 use iddqd::internal::ValidateCompact;
@@ -9,15 +9,12 @@ use test_support::maps::is_put;
 
 #[test]
 fn error_texts(rt: HostRuntime) {
-    let alloc = rt.alloc();
     let duplicate = DuplicateItem::internal_new(5, Few::One(5));
-    let text = "new item: 5 conflicts with existing: [5]";
-    check(&rt, is_displayed(alloc, &duplicate, text));
+    displays(&rt, &duplicate, "new item: 5 conflicts with existing: [5]");
     let full = TryReserveError::capacity_overflow();
-    check(&rt, is_displayed(alloc, &full, "capacity overflow"));
+    displays(&rt, &full, "capacity overflow");
     let no_memory = TryReserveError::alloc_error();
-    let text = "memory allocation failed";
-    check(&rt, is_displayed(alloc, &no_memory, text));
+    displays(&rt, &no_memory, "memory allocation failed");
 }
 
 // A duplicate that is owned shows clones of the items that were lent.
@@ -37,11 +34,9 @@ fn owned_duplicates(rt: HostRuntime) -> Result<(), Fail> {
 #[test]
 fn duplicates_in_a_list(rt: HostRuntime) {
     let three = DuplicateItem::internal_new(5, Few::Three(5, 6, 7));
-    let text = "new item: 5 conflicts with existing: [5, 6, 7]";
-    check(&rt, is_displayed(rt.alloc(), &three, text));
+    displays(&rt, &three, "new item: 5 conflicts with existing: [5, 6, 7]");
     let two = DuplicateItem::internal_new('n', Few::Two('a', 'b'));
-    let text = "new item: 'n' conflicts with existing: ['a', 'b']";
-    check(&rt, is_displayed(rt.alloc(), &two, text));
+    displays(&rt, &two, "new item: 'n' conflicts with existing: ['a', 'b']");
 }
 
 // The two kinds of refusal differ, and each equals itself.
@@ -59,19 +54,16 @@ fn kinds_differ(rt: HostRuntime) {
 #[test]
 fn duplicate_for_debugging(rt: HostRuntime) {
     let duplicate = DuplicateItem::internal_new(5, Few::One(7));
-    let text = "DuplicateItem { new: 5, duplicates: One(7) }";
-    check(&rt, is_debugged(rt.alloc(), &duplicate, text));
+    debugs(&rt, &duplicate, "DuplicateItem { new: 5, duplicates: One(7) }");
 }
 
 #[test]
 fn refusals_for_debugging(rt: HostRuntime) {
     let full = TryReserveError::capacity_overflow();
-    let text = "TryReserveError { kind: CapacityOverflow }";
-    check(&rt, is_debugged(rt.alloc(), &full, text));
+    debugs(&rt, &full, "TryReserveError { kind: CapacityOverflow }");
     let error = TryReserveError::alloc_error();
     let text = "Refused { item: 5, error: TryReserveError { kind: AllocError } }";
-    let refused = Refused { item: 5, error };
-    check(&rt, is_debugged(rt.alloc(), &refused, text));
+    debugs(&rt, &Refused { item: 5, error }, text);
 }
 
 // The error of a map whose one item is gone.
@@ -83,7 +75,6 @@ fn text_of_vacant_slots(rt: HostRuntime) -> Result<(), Fail> {
     let Err(error) = map.validate(ValidateCompact::Compact) else {
         return Err(Fail::from("a slot is vacant"));
     };
-    let text = "there are vacant slots";
-    check(&rt, is_displayed(rt.alloc(), &error, text));
+    displays(&rt, &error, "there are vacant slots");
     Ok(())
 }
