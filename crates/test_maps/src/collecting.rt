@@ -2,13 +2,13 @@
 use crate::checks::{
     BAR, FOO, Host, OTHER_FOO, by_hash_of, check, filled, has_only, in_order_of, named,
 };
-use crate::insertions::wide;
+use crate::insertions::{Wide, wide};
 use iddqd::IdOrdItem;
 use iddqd::errors::{FromIterError, TryReserveError};
 use std::process::Abort;
 use std::test::Fail;
 use test_support::bulk::{Bulk, Hinted, is_not_taken_in};
-use test_support::items::{Named, Wide};
+use test_support::items::Named;
 use test_support::maps::{Added, Copying, Hashed, Ordered, UnderTest, by_hash, in_order};
 
 // No map is made of the items: the first one has the key of the later one.
@@ -114,9 +114,10 @@ fn both_add(
     added: &Added<Named>,
     items: &[Named],
 ) {
-    let (ordered, hashed) = (in_order_of(rt.alloc(), limit), by_hash_of(rt.alloc(), limit));
-    adds(rt, filled(rt, ordered, first), coming, added, items);
-    adds(rt, filled(rt, hashed, first), coming, added, items);
+    let map = filled(rt, in_order_of(rt.alloc(), limit), first);
+    adds(rt, map, coming, added, items);
+    let map = filled(rt, by_hash_of(rt.alloc(), limit), first);
+    adds(rt, map, coming, added, items);
 }
 
 #[test]
@@ -163,6 +164,7 @@ fn extend_unique_hint(rt: HostRuntime) {
 
 #[test]
 fn extend_unique_of_nothing(rt: HostRuntime) {
+    let both = [FOO, BAR];
     both_add(&rt, u32::MAX, &[], (&[], 0), &Added::All, &[]);
-    both_add(&rt, u32::MAX, &[FOO, BAR], (&[], 0), &Added::All, &[FOO, BAR]);
+    both_add(&rt, u32::MAX, &both, (&[], 0), &Added::All, &both);
 }

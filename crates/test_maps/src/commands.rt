@@ -3,14 +3,14 @@ ghost use Rattle.iddqd.specs.Contents.{ClonesAreEqual};
 ghost use Rattle.iddqd.specs.Visiting.{VisitsKeepKeys};
 
 use crate::checks::{BAR, FOO, Host, OTHER_FOO, by_hash_of, check, in_order_of, named, numbered};
-use crate::insertions::wide;
+use crate::insertions::{Wide, wide};
 use iddqd::errors::TryReserveError;
 use iddqd::{IdHashItem, IdHashMap, IdOrdItem, IdOrdMap, Visit};
 use idtable_commands::{Command, KeyedMap, Reply, run};
 use std::alloc::{AllocError, Global};
 use std::hash::Hash;
 use std::test::Fail;
-use test_support::items::{Named, Numbered, Wide};
+use test_support::items::{Named, Numbered};
 use test_support::visitors::Untouched;
 
 /// Commands, each with the reply to it.
@@ -101,7 +101,10 @@ fn duplicate_chain_by_commands(rt: HostRuntime) -> Result<(), Fail> {
 }
 
 fn room_rows(alloc: Global) -> Rows<Named, [u8; 3]> {
-    let rows = [(Command::Reserve(3), Reply::Done), (Command::Shrink, Reply::Done)];
+    let rows = [
+        (Command::Reserve(3), Reply::Done),
+        (Command::Shrink, Reply::Done),
+    ];
     Ok(Vec::from_array(alloc, rows)?)
 }
 
@@ -111,17 +114,23 @@ fn reserve_and_shrink_by_commands(rt: HostRuntime) -> Result<(), Fail> {
     Ok(())
 }
 
+fn extend(
+    alloc: Global,
+    items: &[Named],
+) -> Result<Command<Named, [u8; 3], Untouched>, AllocError> {
+    Ok(Command::ExtendUnique(items.to_vec(alloc)?))
+}
+
 fn extending_rows(alloc: Global) -> Rows<Named, [u8; 3]> {
     let conflict = Reply::Conflict {
         new: OTHER_FOO,
         existing: Some(FOO),
         after: 1,
     };
-    let (two, more) = ([FOO, BAR], [named(*b"baz", 1), OTHER_FOO]);
     let rows = [
-        (Command::ExtendUnique(Vec::from_array(alloc, two)?), Reply::Extended(2)),
-        (Command::ExtendUnique(Vec::from_array(alloc, more)?), conflict),
-        (Command::ExtendUnique(Vec::new(alloc)), Reply::Extended(0)),
+        (extend(alloc, &[FOO, BAR])?, Reply::Extended(2)),
+        (extend(alloc, &[named(*b"baz", 1), OTHER_FOO])?, conflict),
+        (extend(alloc, &[])?, Reply::Extended(0)),
         (Command::Len, Reply::Length(3)),
     ];
     Ok(Vec::from_array(alloc, rows)?)
@@ -141,9 +150,9 @@ fn stopped(item: Option<Named>, after: usize) -> Reply<Named> {
 fn full_rows(alloc: Global) -> Rows<Named, [u8; 3]> {
     let (a, b, c) = (named(*b"a  ", 1), named(*b"b  ", 2), named(*b"c  ", 3));
     let rows = [
-        (Command::ExtendUnique(Vec::from_array(alloc, [a, b, c])?), stopped(None, 0)),
+        (extend(alloc, &[a, b, c])?, stopped(None, 0)),
         (Command::InsertUnique(a), Reply::Inserted),
-        (Command::ExtendUnique(Vec::from_array(alloc, [b, c])?), stopped(Some(c), 1)),
+        (extend(alloc, &[b, c])?, stopped(Some(c), 1)),
         (Command::Len, Reply::Length(2)),
     ];
     Ok(Vec::from_array(alloc, rows)?)

@@ -5,7 +5,6 @@ use iddqd::IdOrdMap;
 use iddqd::errors::{DuplicateItem, Few, Refused, TryReserveError};
 use iddqd::internal::ValidateCompact;
 use std::test::Fail;
-use test_support::maps::is_put;
 
 #[test]
 fn error_texts(rt: HostRuntime) {
@@ -34,9 +33,11 @@ fn owned_duplicates(rt: HostRuntime) -> Result<(), Fail> {
 #[test]
 fn duplicates_in_a_list(rt: HostRuntime) {
     let three = DuplicateItem::internal_new(5, Few::Three(5, 6, 7));
-    displays(&rt, &three, "new item: 5 conflicts with existing: [5, 6, 7]");
+    let text = "new item: 5 conflicts with existing: [5, 6, 7]";
+    displays(&rt, &three, text);
     let two = DuplicateItem::internal_new('n', Few::Two('a', 'b'));
-    displays(&rt, &two, "new item: 'n' conflicts with existing: ['a', 'b']");
+    let text = "new item: 'n' conflicts with existing: ['a', 'b']";
+    displays(&rt, &two, text);
 }
 
 // The two kinds of refusal differ, and each equals itself.
@@ -54,7 +55,8 @@ fn kinds_differ(rt: HostRuntime) {
 #[test]
 fn duplicate_for_debugging(rt: HostRuntime) {
     let duplicate = DuplicateItem::internal_new(5, Few::One(7));
-    debugs(&rt, &duplicate, "DuplicateItem { new: 5, duplicates: One(7) }");
+    let text = "DuplicateItem { new: 5, duplicates: One(7) }";
+    debugs(&rt, &duplicate, text);
 }
 
 #[test]
@@ -70,7 +72,7 @@ fn refusals_for_debugging(rt: HostRuntime) {
 #[test]
 fn text_of_vacant_slots(rt: HostRuntime) -> Result<(), Fail> {
     let mut map = IdOrdMap::new(rt.alloc());
-    check(&rt, is_put(&mut map, numbered(1, 1)));
+    check(&rt, map.insert_unique(numbered(1, 1)).is_ok());
     check(&rt, map.remove(&1).is_some());
     let Err(error) = map.validate(ValidateCompact::Compact) else {
         return Err(Fail::from("a slot is vacant"));

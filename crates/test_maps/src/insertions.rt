@@ -3,9 +3,12 @@ use crate::checks::{BAR, FOO, Host, OTHER_FOO, check, filled, has_only, named, n
 use iddqd::{IdHashItem, IdOrdItem};
 use std::hash::Hash;
 use std::process::Abort;
-use test_support::items::{Named, Wide};
+use test_support::items::{Filed, Named};
 use test_support::maps::{Copying, Inserted, by_hash, in_order};
 use test_support::walks::Walked;
+
+/// An item that holds more than its key.
+pub(crate) type Wide = Filed<u8, [char; 3]>;
 
 /// Items, each with what its insertion leaves.
 pub(crate) type Rows<'a, T> = &'a [(T, Inserted<T>)];
@@ -51,14 +54,10 @@ fn insert_unique(rt: HostRuntime) {
     both_insert(&rt, &rows, &[FOO, BAR], b"baz");
 }
 
-/// An item of this number, with what else is told.
-pub(crate) fn wide(number: u8, letter: char, first: char) -> Wide {
-    Wide {
-        number,
-        letter,
-        first,
-        second: 'v',
-    }
+/// An item of this number with three letters.
+pub(crate) fn wide(key: u8, letter: char, first: char) -> Wide {
+    let value = [letter, first, 'v'];
+    Filed { key, value }
 }
 
 #[test]

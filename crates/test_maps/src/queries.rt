@@ -4,7 +4,7 @@ use std::ops::Deref;
 use std::process::Abort;
 use std::rc::Rc;
 use std::test::Fail;
-use test_support::items::{Artifact, Release, Titled};
+use test_support::items::{Filed, Titled};
 use test_support::maps::{AskedByText, UnderTest, by_hash, in_order};
 
 fn query_by_text<M>(rt: &impl Host, mut map: M)
@@ -26,23 +26,28 @@ fn text_queries(rt: HostRuntime) {
     query_by_text(&rt, by_hash(rt.alloc()));
 }
 
-fn released(name: [u8; 9], data: u32) -> Artifact {
-    Artifact {
-        release: Release { name, version: 10 },
-        data,
-    }
+// A key of two fields.
+#[derive(Clone, Copy, PartialEq, Eq, PartialOrd, Ord, Hash)]
+struct Release {
+    name: [u8; 9],
+    version: u32,
 }
 
-fn query_by_release<M: UnderTest<Artifact, Release> + Drop>(rt: &impl Abort, mut map: M) {
-    let first = released(*b"artifact1", 1);
-    let other = Release {
-        name: *b"artifact1",
-        version: 20,
-    };
+fn released(name: [u8; 9], version: u32, value: u32) -> Filed<Release, u32> {
+    let key = Release { name, version };
+    Filed { key, value }
+}
+
+fn query_by_release<M>(rt: &impl Abort, mut map: M)
+where
+    M: UnderTest<Filed<Release, u32>, Release> + Drop,
+{
+    let first = released(*b"artifact1", 10, 1);
     check(rt, map.is_put(first));
-    check(rt, map.is_put(released(*b"artifact2", 2)));
-    check(rt, map.get(&first.release).copied() == Some(first));
-    check(rt, map.get(&other).copied() == None);
+    check(rt, map.is_put(released(*b"artifact2", 10, 2)));
+    check(rt, map.get(&first.key) == Some(&first));
+    let other = released(*b"artifact1", 20, 0).key;
+    check(rt, map.get(&other) == None);
 }
 
 #[test]

@@ -58,12 +58,7 @@ fn most_of(bound: Bound<&u32>, count: u32) -> u32 {
 
 // The range is that of the plain list, and is counted within the greatest number of comparisons. So are the first item
 // from the lower bound on, and the last one before the upper.
-fn is_range(
-    rt: &impl Host,
-    map: &Ordered<Numbered>,
-    count: u32,
-    (low, high): Bounds<'_, u32>,
-) {
+fn is_range(rt: &impl Host, map: &Ordered<Numbered>, count: u32, (low, high): Bounds<'_, u32>) {
     let from = listed(rt, count, (low, Bound::Unbounded), true);
     check(rt, map.lower_bound(low) == from.as_slice().first());
     let to = listed(rt, count, (Bound::Unbounded, high), true);
@@ -72,7 +67,8 @@ fn is_range(
     check(rt, map.has_between((low, high), items.as_slice()));
     let (number, steps) = map.count_between((low, high));
     check(rt, number == items.len());
-    check(rt, steps <= most_of(low, count).wrapping_add(most_of(high, count)));
+    let most = most_of(low, count).wrapping_add(most_of(high, count));
+    check(rt, steps <= most);
 }
 
 // The removal of a range of the even numbers leaves the others, and tells how many it removed.
@@ -80,7 +76,8 @@ fn is_removed(rt: &impl Host, count: u32, bounds: Bounds<'_, u32>) {
     let left = listed(rt, count, bounds, false);
     let gone = (count as usize).saturating_sub(left.len());
     let mut map = evens(rt, count);
-    check(rt, map.remove_range(bounds) == gone && map.has_items(left.as_slice()));
+    check(rt, map.remove_range(bounds) == gone);
+    check(rt, map.has_items(left.as_slice()));
     check(rt, map.map().vacant() as usize == gone);
 }
 
@@ -125,9 +122,10 @@ fn positions_among(rt: &impl Host, count: u32) {
     let map = evens(rt, count);
     for (position, item) in items.as_slice().iter().enumerate() {
         let (found, steps) = map.index_of(&item.number);
-        check(rt, found == Ok(position) && steps <= most(count));
-        let (absent, steps) = map.index_of(&item.number.wrapping_add(1));
-        check(rt, absent == Err(position.wrapping_add(1)) && steps <= most(count));
+        let (absent, more) = map.index_of(&item.number.wrapping_add(1));
+        check(rt, found == Ok(position));
+        check(rt, absent == Err(position.wrapping_add(1)));
+        check(rt, steps <= most(count) && more <= most(count));
         check(rt, map.get_index(position) == Some(item));
     }
     check(rt, map.get_index(items.len()).is_none());

@@ -80,7 +80,8 @@ fn one_by_hash(alloc: Global) -> IdHashMap<Door>
 #[test]
 fn ordered_map_for_debugging(rt: HostRuntime) {
     let doors = two_in_order(rt.alloc());
-    debugs(&rt, &doors, "{Door { number: 1, open: false }, Door { number: 2, open: false }}");
+    let items = "{Door { number: 1, open: false }, Door { number: 2, open: false }}";
+    debugs(&rt, &doors, items);
     let keyed = "{1: Door { number: 1, open: false }, 2: Door { number: 2, open: false }}";
     debugs(&rt, &doors.debug_with_keys(), keyed);
 }
@@ -89,7 +90,8 @@ fn ordered_map_for_debugging(rt: HostRuntime) {
 fn hash_map_for_debugging(rt: HostRuntime) {
     let doors = one_by_hash(rt.alloc());
     debugs(&rt, &doors, "{Door { number: 1, open: false }}");
-    debugs(&rt, &doors.debug_with_keys(), "{1: Door { number: 1, open: false }}");
+    let keyed = "{1: Door { number: 1, open: false }}";
+    debugs(&rt, &doors.debug_with_keys(), keyed);
 }
 
 #[test]

@@ -41,8 +41,9 @@ fn visitor(rt: HostRuntime) -> Result<(), Fail> {
     let seen = odd_of_three(&rt, in_order(alloc));
     check(&rt, seen == Change::KeepOdd(123));
     let _ = odd_of_three(&rt, by_hash(alloc));
-    check(&rt, gives(alloc, &mut IdOrdMap::new(alloc), visiting_rows(alloc))?);
-    check(&rt, gives(alloc, &mut IdHashMap::new(alloc), visiting_rows(alloc))?);
+    let (mut ordered, mut hashed) = (IdOrdMap::new(alloc), IdHashMap::new(alloc));
+    check(&rt, gives(alloc, &mut ordered, visiting_rows(alloc))?);
+    check(&rt, gives(alloc, &mut hashed, visiting_rows(alloc))?);
     Ok(())
 }
 

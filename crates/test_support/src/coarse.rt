@@ -59,14 +59,14 @@ pub enum Way {
 pub type Put = Result<Option<Coarse>, Refused<Coarse>>;
 
 /// A map of either kind with keys that are equal in any case. What lends returns a copy. If the entry is not of the
-/// kind needed, or if memory was refused, a call that returns no `Put` returns `None` or false.
+/// kind needed, or if memory was refused, a call that returns no `Put` returns `None` or false. A call without a comment is
+/// the map's of that name.
 pub trait CoarseMap: Copying<Coarse, Caseless> {
     /// `get`: the spelling and the value.
     fn spelled_at(&self, name: [u8; 3]) -> Option<([u8; 3], u32)> {
         self.get(&Caseless(name)).map(spelled)
     }
 
-    /// `limit`.
     fn limit(&self) -> u32;
 
     /// Whether `validate` and `validate_structural` return the same: an error exactly if slots are vacant and none
@@ -121,6 +121,16 @@ pub trait CoarseMap: Copying<Coarse, Caseless> {
     fn respell(&mut self, asked: &Caseless, item: Coarse, way: Way) -> bool;
 }
 
+// The entry, if it is occupied.
+macro_rules! occupied {
+    ($module:ident, $entry:expr) => {
+        match $entry {
+            $module::Entry::Occupied(entry) => Some(entry),
+            $module::Entry::Vacant(_) => None,
+        }
+    };
+}
+
 impl CoarseMap for Ordered<Coarse> {
     fn limit(&self) -> u32 {
         self.map.limit()
@@ -145,28 +155,19 @@ impl CoarseMap for Ordered<Coarse> {
         let inner = outer.reborrow();
         inner.value = value;
         let read = *outer;
-        let shown = outer.into_ref();
-        Some((old, read, *shown))
+        Some((old, read, *outer.into_ref()))
     }
 
     fn write_by_entry(self, name: &Caseless, value: u32) -> Option<(Coarse, Coarse)> {
         let mut map = self.map;
-        match map.entry(name) {
-            id_ord_map::Entry::Occupied(mut entry) => {
-                let old = *entry.get();
-                entry.get_mut().value = value;
-                let shown = entry.into_ref();
-                Some((old, *shown))
-            }
-            id_ord_map::Entry::Vacant(_) => None,
-        }
+        let mut entry = occupied!(id_ord_map, map.entry(name))?;
+        let old = *entry.get();
+        entry.get_mut().value = value;
+        Some((old, *entry.into_ref()))
     }
 
     fn remove_by_entry(&mut self, name: &Caseless) -> Option<Coarse> {
-        match self.map.entry(name) {
-            id_ord_map::Entry::Occupied(entry) => Some(entry.remove()),
-            id_ord_map::Entry::Vacant(_) => None,
-        }
+        Some(occupied!(id_ord_map, self.map.entry(name))?.remove())
     }
 
     fn put_vacant(&mut self, asked: &Caseless, item: Coarse) -> Put {
@@ -176,8 +177,7 @@ impl CoarseMap for Ordered<Coarse> {
         let id_ord_map::Entry::Vacant(entry) = self.map.entry(asked) else {
             return Ok(None);
         };
-        let shown = entry.insert(item)?.into_ref();
-        Ok(Some(*shown))
+        Ok(Some(*entry.insert(item)?.into_ref()))
     }
 
     fn put_and_remove(&mut self, item: Coarse) -> Put {
@@ -188,10 +188,8 @@ impl CoarseMap for Ordered<Coarse> {
     }
 
     fn insert_occupied(&mut self, item: Coarse) -> Option<Coarse> {
-        match self.map.entry(&item.name) {
-            id_ord_map::Entry::Occupied(mut entry) => Some(entry.insert(item)),
-            id_ord_map::Entry::Vacant(_) => None,
-        }
+        let mut entry = occupied!(id_ord_map, self.map.entry(&item.name))?;
+        Some(entry.insert(item))
     }
 
     #[tactic(auto, using(iddqd::proofs::GuardLemmas::same_key_kept))]
@@ -207,8 +205,7 @@ impl CoarseMap for Ordered<Coarse> {
 
     fn double_or_put(&mut self, item: Coarse) -> Put {
         let entry = self.map.entry(&item.name).and_modify(&mut DoublesAndDenies);
-        let shown = entry.or_insert(item)?.into_ref();
-        Ok(Some(*shown))
+        Ok(Some(*entry.or_insert(item)?.into_ref()))
     }
 
     #[tactic(auto, using(iddqd::proofs::GuardLemmas::same_key_kept))]
@@ -226,8 +223,8 @@ impl CoarseMap for Ordered<Coarse> {
             *asked = asked.saturating_add(1);
             item
         };
-        let shown = self.map.entry(&item.name).or_insert_with(make)?.into_ref();
-        Ok(Some(*shown))
+        let entry = self.map.entry(&item.name);
+        Ok(Some(*entry.or_insert_with(make)?.into_ref()))
     }
 
     #[tactic(auto, using(crate::proofs::RespelledLemmas::respelled_keeps_key))]
@@ -277,28 +274,19 @@ impl<S: BuildHasher + Drop> CoarseMap for Hashed<Coarse, S> {
         let inner = outer.reborrow();
         inner.value = value;
         let read = *outer;
-        let shown = outer.into_ref();
-        Some((old, read, *shown))
+        Some((old, read, *outer.into_ref()))
     }
 
     fn write_by_entry(self, name: &Caseless, value: u32) -> Option<(Coarse, Coarse)> {
         let mut map = self.map;
-        match map.entry(name) {
-            id_hash_map::Entry::Occupied(mut entry) => {
-                let old = *entry.get();
-                entry.get_mut().value = value;
-                let shown = entry.into_ref();
-                Some((old, *shown))
-            }
-            id_hash_map::Entry::Vacant(_) => None,
-        }
+        let mut entry = occupied!(id_hash_map, map.entry(name))?;
+        let old = *entry.get();
+        entry.get_mut().value = value;
+        Some((old, *entry.into_ref()))
     }
 
     fn remove_by_entry(&mut self, name: &Caseless) -> Option<Coarse> {
-        match self.map.entry(name) {
-            id_hash_map::Entry::Occupied(entry) => Some(entry.remove()),
-            id_hash_map::Entry::Vacant(_) => None,
-        }
+        Some(occupied!(id_hash_map, self.map.entry(name))?.remove())
     }
 
     fn put_vacant(&mut self, asked: &Caseless, item: Coarse) -> Put {
@@ -308,8 +296,7 @@ impl<S: BuildHasher + Drop> CoarseMap for Hashed<Coarse, S> {
         let id_hash_map::Entry::Vacant(entry) = self.map.entry(asked) else {
             return Ok(None);
         };
-        let shown = entry.insert(item)?.into_ref();
-        Ok(Some(*shown))
+        Ok(Some(*entry.insert(item)?.into_ref()))
     }
 
     fn put_and_remove(&mut self, item: Coarse) -> Put {
@@ -320,10 +307,8 @@ impl<S: BuildHasher + Drop> CoarseMap for Hashed<Coarse, S> {
     }
 
     fn insert_occupied(&mut self, item: Coarse) -> Option<Coarse> {
-        match self.map.entry(&item.name) {
-            id_hash_map::Entry::Occupied(mut entry) => Some(entry.insert(item)),
-            id_hash_map::Entry::Vacant(_) => None,
-        }
+        let mut entry = occupied!(id_hash_map, self.map.entry(&item.name))?;
+        Some(entry.insert(item))
     }
 
     #[tactic(auto, using(iddqd::proofs::GuardLemmas::same_key_kept))]
@@ -339,8 +324,7 @@ impl<S: BuildHasher + Drop> CoarseMap for Hashed<Coarse, S> {
 
     fn double_or_put(&mut self, item: Coarse) -> Put {
         let entry = self.map.entry(&item.name).and_modify(&mut DoublesAndDenies);
-        let shown = entry.or_insert(item)?.into_ref();
-        Ok(Some(*shown))
+        Ok(Some(*entry.or_insert(item)?.into_ref()))
     }
 
     #[tactic(auto, using(iddqd::proofs::GuardLemmas::same_key_kept))]
@@ -358,8 +342,8 @@ impl<S: BuildHasher + Drop> CoarseMap for Hashed<Coarse, S> {
             *asked = asked.saturating_add(1);
             item
         };
-        let shown = self.map.entry(&item.name).or_insert_with(make)?.into_ref();
-        Ok(Some(*shown))
+        let entry = self.map.entry(&item.name);
+        Ok(Some(*entry.or_insert_with(make)?.into_ref()))
     }
 
     #[tactic(auto, using(crate::proofs::RespelledLemmas::respelled_keeps_key))]
