@@ -95,16 +95,14 @@ fn entry(rt: HostRuntime) {
     foo_by_entry(&rt, by_hash(rt.alloc()));
 }
 
-fn written_by_entries<M: CoarseMap>(rt: &impl Abort, map: &mut M) {
+fn coarse_entries<M: CoarseMap + Drop>(rt: &impl Abort, mut map: M) -> M {
+    check(rt, map.is_put(item_of(*b"foo", 42)));
     let doubled = map.double_or_put(item_of(*b"foo", 0));
     check(rt, is_spelled(doubled, *b"foo", 84) && map.len() == 1);
     check(rt, map.insert_and_write(item_of(*b"bar", 5), 6));
     check(rt, map.spelled_at(*b"bar") == Some((*b"bar", 6)));
     let gone = map.put_and_remove(item_of(*b"baz", 1));
     check(rt, is_spelled(gone, *b"baz", 1) && map.len() == 2);
-}
-
-fn put_by_entries<M: CoarseMap>(rt: &impl Abort, map: &mut M) {
     let old = map.insert_occupied(item_of(*b"FOO", 7));
     check(rt, is_spelled(Ok(old), *b"foo", 84));
     check(rt, map.spelled_at(*b"foo") == Some((*b"FOO", 7)));
@@ -112,12 +110,6 @@ fn put_by_entries<M: CoarseMap>(rt: &impl Abort, map: &mut M) {
     check(rt, is_spelled(new, *b"aaa", 3));
     check(rt, map.spelled_at(*b"aaa") == Some((*b"aaa", 3)));
     check(rt, map.get(&Caseless(*b"qux")).is_none());
-}
-
-fn coarse_entries<M: CoarseMap + Drop>(rt: &impl Abort, mut map: M) -> M {
-    check(rt, map.is_put(item_of(*b"foo", 42)));
-    written_by_entries(rt, &mut map);
-    put_by_entries(rt, &mut map);
     map
 }
 

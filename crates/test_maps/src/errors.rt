@@ -4,7 +4,6 @@ use crate::texts::{debugs, displays};
 use iddqd::IdOrdMap;
 use iddqd::errors::{DuplicateItem, Few, Refused, TryReserveError};
 use iddqd::internal::ValidateCompact;
-use std::test::Fail;
 
 #[test]
 fn error_texts(rt: HostRuntime) {
@@ -18,15 +17,13 @@ fn error_texts(rt: HostRuntime) {
 
 // A duplicate that is owned shows clones of the items that were lent.
 #[test]
-fn owned_duplicates(rt: HostRuntime) -> Result<(), Fail> {
+fn owned_duplicates(rt: HostRuntime) {
     let there = 5;
-    let Ok(owned) = DuplicateItem::internal_new(5, Few::One(&there)).into_owned() else {
-        return Err(Fail::from("no memory for a number"));
-    };
+    let duplicate = DuplicateItem::internal_new(5, Few::One(&there));
+    let owned = duplicate.into_owned().ok().expect(&rt, "no memory");
     check(&rt, *owned.new_item() == 5);
     check(&rt, owned.duplicates().len() == 1);
     check(&rt, owned.duplicates().get(0).copied() == Some(5));
-    Ok(())
 }
 
 // Several duplicates are shown as a list.
@@ -70,13 +67,11 @@ fn refusals_for_debugging(rt: HostRuntime) {
 
 // The error of a map whose one item is gone.
 #[test]
-fn text_of_vacant_slots(rt: HostRuntime) -> Result<(), Fail> {
+fn text_of_vacant_slots(rt: HostRuntime) {
     let mut map = IdOrdMap::new(rt.alloc());
     check(&rt, map.insert_unique(numbered(1, 1)).is_ok());
     check(&rt, map.remove(&1).is_some());
-    let Err(error) = map.validate(ValidateCompact::Compact) else {
-        return Err(Fail::from("a slot is vacant"));
-    };
+    let error = map.validate(ValidateCompact::Compact).err();
+    let error = error.expect(&rt, "a slot is vacant");
     displays(&rt, &error, "there are vacant slots");
-    Ok(())
 }

@@ -102,12 +102,8 @@ fn empty_map(rt: HostRuntime) {
 
 // Room for ten is full but for four vacant slots. They serve a reservation of four, and four of a reservation of fourteen.
 fn reserves_beside_vacant<M: UnderTest<Numbered, u32> + Drop>(rt: &impl Abort, mut map: M) {
-    for number in 0..10 {
-        check(rt, map.is_put(numbered(number, 0)));
-    }
-    for number in 3..7 {
-        check(rt, map.remove(&number).is_some());
-    }
+    check(rt, (0..10).all(|number| map.is_put(numbered(number, 0))));
+    check(rt, (3..7).all(|number| map.remove(&number).is_some()));
     check(rt, map.capacity() == 10 && map.vacant() == 4);
     check(rt, map.reserve(4) == Ok(()));
     check(rt, map.capacity() == 10);

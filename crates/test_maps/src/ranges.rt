@@ -42,10 +42,8 @@ fn listed(rt: &impl Host, count: u32, bounds: Bounds<'_, u32>, between: bool) ->
 
 // The greatest count of comparisons of a search among this many items.
 fn most(count: u32) -> u32 {
-    32_u32
-        .wrapping_sub(count.leading_zeros())
-        .wrapping_mul(2)
-        .wrapping_add(4)
+    let digits = 32_u32.wrapping_sub(count.leading_zeros());
+    digits.wrapping_mul(2).wrapping_add(4)
 }
 
 // The greatest count of comparisons for the bound.

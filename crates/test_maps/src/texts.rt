@@ -146,19 +146,14 @@ fn walks_for_debugging(rt: HostRuntime) {
     debugs(&rt, &one_by_hash(rt.alloc()).iter_mut(), "IterMut { .. }");
 }
 
-fn refused(item: u32) -> Refused<u32> {
-    Refused {
-        item,
-        error: TryReserveError::capacity_overflow(),
-    }
-}
-
 // A refusal is written with its item and its reason, and a duplicate with both items.
 #[test]
 fn text_of_refused_insertion(rt: HostRuntime) {
+    let error = TryReserveError::capacity_overflow();
+    let refused = Refused { item: 5, error };
     let text = "item 5 was refused: capacity overflow";
-    displays(&rt, &refused(5), text);
-    displays(&rt, &InsertError::Refused(refused(5)), text);
+    displays(&rt, &refused, text);
+    displays(&rt, &InsertError::Refused(refused), text);
     let there = 5;
     let error = InsertError::Duplicate(DuplicateItem::internal_new(5, Few::One(&there)));
     displays(&rt, &error, "new item: 5 conflicts with existing: [5]");

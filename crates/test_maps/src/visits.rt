@@ -1,5 +1,5 @@
 //! Rows of visitors, and of walks that write and that retain.
-use crate::checks::{BAR, BAZ, FOO, check, filled, has_only, numbered};
+use crate::checks::{BAR, BAZ, FOO, Host, check, filled, has_only, numbered};
 use crate::commands::{Rows, gives};
 use crate::insertions::double;
 use iddqd::{IdHashMap, IdOrdMap};
@@ -47,13 +47,13 @@ fn visitor(rt: HostRuntime) -> Result<(), Fail> {
     Ok(())
 }
 
-// The names that were asked about, in the vector that has room for them, once the greater values were kept.
-fn kept_by_value<M: UnderTest<Named, [u8; 3]> + Drop>(
-    rt: &impl Abort,
-    mut asked: Vec<[u8; 3]>,
-    map: M,
-) -> Vec<[u8; 3]> {
+// The names that were asked about, once the greater values were kept.
+fn kept_by_value<M>(rt: &impl Host, map: M) -> Vec<[u8; 3]>
+where
+    M: UnderTest<Named, [u8; 3]> + Drop,
+{
     let mut map = filled(rt, map, &[FOO, BAR, BAZ]);
+    let mut asked = Vec::new(rt.alloc());
     map.retain(|item| {
         let _ = asked.push(item.name);
         item.value > 30
@@ -64,14 +64,11 @@ fn kept_by_value<M: UnderTest<Named, [u8; 3]> + Drop>(
 }
 
 #[test]
-fn retain_by_value(rt: HostRuntime) -> Result<(), Fail> {
-    let alloc = rt.alloc();
-    let asked = kept_by_value(&rt, Vec::with_capacity(alloc, 3)?, in_order(alloc));
+fn retain_by_value(rt: HostRuntime) {
+    let asked = kept_by_value(&rt, in_order(rt.alloc()));
     let in_order = [*b"bar", *b"baz", *b"foo"];
     check(&rt, asked.as_slice() == in_order.as_slice());
-    let asked = kept_by_value(&rt, Vec::with_capacity(alloc, 3)?, by_hash(alloc));
-    check(&rt, asked.len() == 3);
-    Ok(())
+    check(&rt, kept_by_value(&rt, by_hash(rt.alloc())).len() == 3);
 }
 
 // The values of foo and bar, and how many items the walk had left, once it has doubled this many. What reads them is a
