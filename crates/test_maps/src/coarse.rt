@@ -1,17 +1,14 @@
 //! Rows of keys that are equal without regard to case, and of entries.
-ghost use Rattle.iddqd.specs.Visiting.{VisitsKeepKeys};
-
-use crate::checks::{Host, check};
-use crate::commands::Rows;
-use iddqd::{IdHashMap, IdOrdMap, Visit};
-use idtable_commands::{Command, KeyedMap, Reply, run};
-use std::alloc::{AllocError, Global};
+use crate::checks::check;
+use crate::commands::{Rows, replies};
+use iddqd::{IdHashMap, IdOrdMap};
+use idtable_commands::{Command, Reply};
+use std::alloc::Global;
 use std::process::Abort;
 use std::test::Fail;
 use test_support::caseless::{Caseless, Coarse, item_of, spelled};
 use test_support::coarse::{CoarseMap, Put};
 use test_support::maps::{by_hash, in_order};
-use test_support::visitors::Untouched;
 
 // What a call returned is this item, spelled so.
 fn is_spelled(put: Put, name: [u8; 3], value: u32) -> bool {
@@ -54,27 +51,18 @@ fn shown(reply: &Reply<Coarse>) -> Option<([u8; 3], u32)> {
     }
 }
 
-// The map gives each command its reply, and the item that it shows is spelled so.
-fn gives_spelled<M: KeyedMap<Item = Coarse, Key = Caseless>>(
-    rt: &impl Host,
-    map: &mut M,
-) -> Result<(), AllocError>
-    requires keyed { M.keyed map.old }
-    requires keeps_keys { VisitsKeepKeys M.key ⟦<Caseless as PartialEq>⟧.eq ⟦<Untouched as Visit<Coarse>>⟧.visits }
-{
-    let rows = coarse_rows(rt.alloc())?;
-    let (commands, replies): (Vec<_>, Vec<_>) = rows.into_iter().unzip(rt.alloc())?;
-    let given = run(rt.alloc(), map, commands).ok();
-    let given = given.expect(rt, "no memory");
-    check(rt, given == replies);
-    check(rt, given.iter().map(shown).eq(replies.iter().map(shown)));
-    Ok(())
+// Whether the replies are equal, and each item that they show is spelled alike.
+fn are_alike((given, expected): (Vec<Reply<Coarse>>, Vec<Reply<Coarse>>)) -> bool {
+    given == expected && given.iter().map(shown).eq(expected.iter().map(shown))
 }
 
 #[test]
 fn coarse_overwrite_by_commands(rt: HostRuntime) -> Result<(), Fail> {
-    gives_spelled(&rt, &mut IdOrdMap::new(rt.alloc()))?;
-    gives_spelled(&rt, &mut IdHashMap::new(rt.alloc()))?;
+    let alloc = rt.alloc();
+    let both = replies(alloc, &mut IdOrdMap::new(alloc), coarse_rows(alloc))?;
+    check(&rt, are_alike(both));
+    let both = replies(alloc, &mut IdHashMap::new(alloc), coarse_rows(alloc))?;
+    check(&rt, are_alike(both));
     Ok(())
 }
 

@@ -16,14 +16,14 @@ use test_support::visitors::Untouched;
 /// Commands, each with the reply to it.
 pub(crate) type Rows<T, K, V = Untouched> = Result<Vec<(Command<T, K, V>, Reply<T>)>, AllocError>;
 
-/// Whether the map gives each command its reply.
-pub(crate) fn gives<M: KeyedMap, V: Visit<M::Item> + Drop>(
+/// The map's replies to the commands, and those that it should give.
+pub(crate) fn replies<M: KeyedMap, V: Visit<M::Item> + Drop>(
     alloc: Global,
     map: &mut M,
     rows: Rows<M::Item, M::Key, V>,
-) -> Result<bool, AllocError>
+) -> Result<(Vec<Reply<M::Item>>, Vec<Reply<M::Item>>), AllocError>
 where
-    M::Item: Clone + PartialEq + Drop,
+    M::Item: Clone + Drop,
     M::Key: Drop,
     requires keyed { M.keyed map.old }
     requires clones { ClonesAreEqual M.Item.is_clone }
@@ -31,7 +31,10 @@ where
     ensures keyed { M.keyed map.new }
 {
     let (commands, replies): (Vec<_>, Vec<_>) = rows?.into_iter().unzip(alloc)?;
-    Ok(run(alloc, map, commands).is_ok_and(|given| given == replies))
+    match run(alloc, map, commands) {
+        Ok(given) => Ok((given, replies)),
+        Err(_) => Err(AllocError),
+    }
 }
 
 // Maps of each kind that have this limit give the replies. How many items they have room for then.
@@ -45,9 +48,11 @@ where
 {
     let alloc = rt.alloc();
     let mut ordered = in_order_of(alloc, limit).into_map();
-    check(rt, gives(alloc, &mut ordered, rows(alloc))?);
+    let (given, expected) = replies(alloc, &mut ordered, rows(alloc))?;
+    check(rt, given == expected);
     let mut hashed = by_hash_of(alloc, limit).into_map();
-    check(rt, gives(alloc, &mut hashed, rows(alloc))?);
+    let (given, expected) = replies(alloc, &mut hashed, rows(alloc))?;
+    check(rt, given == expected);
     Ok((ordered.capacity(), hashed.capacity()))
 }
 
@@ -198,7 +203,8 @@ fn keeping_rows(alloc: Global) -> Rows<Numbered, u32, KeepsFirst> {
 #[test]
 fn retain_mut_by_commands(rt: HostRuntime) -> Result<(), Fail> {
     let mut map = IdOrdMap::new(rt.alloc());
-    check(&rt, gives(rt.alloc(), &mut map, keeping_rows(rt.alloc()))?);
+    let (given, expected) = replies(rt.alloc(), &mut map, keeping_rows(rt.alloc()))?;
+    check(&rt, given == expected);
     check(&rt, map.iter().eq(&[numbered(1, 0), numbered(2, 1)]));
     Ok(())
 }
@@ -213,7 +219,8 @@ fn are_first_two(one: Numbered, other: Numbered) -> bool {
 #[test]
 fn hash_retain_mut_by_commands(rt: HostRuntime) -> Result<(), Fail> {
     let mut map = IdHashMap::new(rt.alloc());
-    check(&rt, gives(rt.alloc(), &mut map, keeping_rows(rt.alloc()))?);
+    let (given, expected) = replies(rt.alloc(), &mut map, keeping_rows(rt.alloc()))?;
+    check(&rt, given == expected);
     let mut walk = map.iter();
     let (one, other) = (walk.next().copied(), walk.next().copied());
     check(&rt, walk.next().is_none());

@@ -1,6 +1,6 @@
 //! Rows of visitors, and of walks that write and that retain.
 use crate::checks::{BAR, BAZ, FOO, Host, check, filled, has_only, numbered};
-use crate::commands::{Rows, gives};
+use crate::commands::{Rows, replies};
 use crate::insertions::double;
 use iddqd::{IdHashMap, IdOrdMap};
 use idtable_commands::{Command, Reply};
@@ -41,9 +41,10 @@ fn visitor(rt: HostRuntime) -> Result<(), Fail> {
     let seen = odd_of_three(&rt, in_order(alloc));
     check(&rt, seen == Change::KeepOdd(123));
     let _ = odd_of_three(&rt, by_hash(alloc));
-    let (mut ordered, mut hashed) = (IdOrdMap::new(alloc), IdHashMap::new(alloc));
-    check(&rt, gives(alloc, &mut ordered, visiting_rows(alloc))?);
-    check(&rt, gives(alloc, &mut hashed, visiting_rows(alloc))?);
+    let (given, expected) = replies(alloc, &mut IdOrdMap::new(alloc), visiting_rows(alloc))?;
+    check(&rt, given == expected);
+    let (given, expected) = replies(alloc, &mut IdHashMap::new(alloc), visiting_rows(alloc))?;
+    check(&rt, given == expected);
     Ok(())
 }
 

@@ -1,5 +1,7 @@
 //! What rows and random lists ask of a map of either kind whose keys are equal in any case. They ask by its numbers,
 //! guards and entries, and write whole an item of an equal key, which is spelled in another way.
+#![tactic(auto, using(iddqd::proofs::GuardLemmas::same_key_kept))]
+
 use crate::caseless::{Caseless, Coarse, spelled};
 use crate::hashers::ZeroHasher;
 use crate::maps::{Copying, Hashed, Ordered};
@@ -131,6 +133,30 @@ macro_rules! occupied {
     };
 }
 
+// What `respell` does, by the functions that write by a guard and in a walk.
+macro_rules! respelled {
+    ($map:ident, $module:ident, $put:ident, $put_in_walk:ident, $asked:ident, $item:ident, $way:ident) => {
+        match $way {
+            Way::Guard => {
+                if !matches!($map.map.get($asked), Some(found) if found.name == $item.name) {
+                    return false;
+                }
+                $put(&mut $map.map, $asked, $item);
+                true
+            }
+            Way::Entry => {
+                let entry = $map.map.entry($asked).and_modify(&mut Respells($item));
+                matches!(entry, $module::Entry::Occupied(_))
+            }
+            Way::Visitor => {
+                $map.map.retain_mut(&mut Respells($item));
+                true
+            }
+            Way::Walk => $put_in_walk(&mut $map.map, $item),
+        }
+    };
+}
+
 impl CoarseMap for Ordered<Coarse> {
     fn limit(&self) -> u32 {
         self.map.limit()
@@ -144,7 +170,6 @@ impl CoarseMap for Ordered<Coarse> {
         self.map.eq(&other.map)
     }
 
-    #[tactic(auto, using(iddqd::proofs::GuardLemmas::same_key_kept))]
     fn write_by_reborrow(
         &mut self,
         name: &Caseless,
@@ -192,7 +217,6 @@ impl CoarseMap for Ordered<Coarse> {
         Some(entry.insert(item))
     }
 
-    #[tactic(auto, using(iddqd::proofs::GuardLemmas::same_key_kept))]
     fn write(&mut self, name: &Caseless, value: u32) -> bool {
         let id_ord_map::Entry::Occupied(entry) = self.map.entry(name) else {
             return false;
@@ -208,7 +232,6 @@ impl CoarseMap for Ordered<Coarse> {
         Ok(Some(*entry.or_insert(item)?.into_ref()))
     }
 
-    #[tactic(auto, using(iddqd::proofs::GuardLemmas::same_key_kept))]
     fn insert_and_write(&mut self, item: Coarse, value: u32) -> bool {
         let Ok(mut lent) = self.map.entry(&item.name).or_insert(item) else {
             return false;
@@ -229,24 +252,7 @@ impl CoarseMap for Ordered<Coarse> {
 
     #[tactic(auto, using(crate::proofs::RespelledLemmas::respelled_keeps_key))]
     fn respell(&mut self, asked: &Caseless, item: Coarse, way: Way) -> bool {
-        match way {
-            Way::Guard => {
-                if !matches!(self.map.get(asked), Some(found) if found.name == item.name) {
-                    return false;
-                }
-                put(&mut self.map, asked, item);
-                true
-            }
-            Way::Entry => {
-                let entry = self.map.entry(asked).and_modify(&mut Respells(item));
-                matches!(entry, id_ord_map::Entry::Occupied(_))
-            }
-            Way::Visitor => {
-                self.map.retain_mut(&mut Respells(item));
-                true
-            }
-            Way::Walk => put_in_walk(&mut self.map, item),
-        }
+        respelled!(self, id_ord_map, put, put_in_walk, asked, item, way)
     }
 }
 
@@ -263,7 +269,6 @@ impl<S: BuildHasher + Drop> CoarseMap for Hashed<Coarse, S> {
         self.map.eq(&other.map)
     }
 
-    #[tactic(auto, using(iddqd::proofs::GuardLemmas::same_key_kept))]
     fn write_by_reborrow(
         &mut self,
         name: &Caseless,
@@ -311,7 +316,6 @@ impl<S: BuildHasher + Drop> CoarseMap for Hashed<Coarse, S> {
         Some(entry.insert(item))
     }
 
-    #[tactic(auto, using(iddqd::proofs::GuardLemmas::same_key_kept))]
     fn write(&mut self, name: &Caseless, value: u32) -> bool {
         let id_hash_map::Entry::Occupied(entry) = self.map.entry(name) else {
             return false;
@@ -327,7 +331,6 @@ impl<S: BuildHasher + Drop> CoarseMap for Hashed<Coarse, S> {
         Ok(Some(*entry.or_insert(item)?.into_ref()))
     }
 
-    #[tactic(auto, using(iddqd::proofs::GuardLemmas::same_key_kept))]
     fn insert_and_write(&mut self, item: Coarse, value: u32) -> bool {
         let Ok(mut lent) = self.map.entry(&item.name).or_insert(item) else {
             return false;
@@ -348,24 +351,15 @@ impl<S: BuildHasher + Drop> CoarseMap for Hashed<Coarse, S> {
 
     #[tactic(auto, using(crate::proofs::RespelledLemmas::respelled_keeps_key))]
     fn respell(&mut self, asked: &Caseless, item: Coarse, way: Way) -> bool {
-        match way {
-            Way::Guard => {
-                if !matches!(self.map.get(asked), Some(found) if found.name == item.name) {
-                    return false;
-                }
-                hash_put(&mut self.map, asked, item);
-                true
-            }
-            Way::Entry => {
-                let entry = self.map.entry(asked).and_modify(&mut Respells(item));
-                matches!(entry, id_hash_map::Entry::Occupied(_))
-            }
-            Way::Visitor => {
-                self.map.retain_mut(&mut Respells(item));
-                true
-            }
-            Way::Walk => hash_put_in_walk(&mut self.map, item),
-        }
+        respelled!(
+            self,
+            id_hash_map,
+            hash_put,
+            hash_put_in_walk,
+            asked,
+            item,
+            way
+        )
     }
 }
 

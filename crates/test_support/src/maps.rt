@@ -29,10 +29,7 @@ pub enum Inserted<T> {
 
 // The new item of a duplicate and the one that is there, copied.
 fn both<T: Copy>(duplicate: &DuplicateItem<T, &T>) -> (T, Option<T>) {
-    let there = match duplicate.duplicates().get(0) {
-        Some(there) => Some(**there),
-        None => None,
-    };
+    let there = duplicate.duplicates().get(0).map(|there| **there);
     (*duplicate.new_item(), there)
 }
 
