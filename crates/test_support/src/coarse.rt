@@ -1,7 +1,5 @@
 //! What rows and random lists ask of a map of either kind whose keys are equal in any case. They ask by its numbers,
 //! guards and entries, and write whole an item of an equal key, which is spelled in another way.
-#![tactic(auto, using(iddqd::proofs::GuardLemmas::same_key_kept))]
-
 use crate::caseless::{Caseless, Coarse, spelled};
 use crate::hashers::ZeroHasher;
 use crate::maps::{Copying, Hashed, Ordered};
@@ -123,16 +121,6 @@ pub trait CoarseMap: Copying<Coarse, Caseless> {
     fn respell(&mut self, asked: &Caseless, item: Coarse, way: Way) -> bool;
 }
 
-// The entry, if it is occupied.
-macro_rules! occupied {
-    ($module:ident, $entry:expr) => {
-        match $entry {
-            $module::Entry::Occupied(entry) => Some(entry),
-            $module::Entry::Vacant(_) => None,
-        }
-    };
-}
-
 // What `respell` does, by the functions that write by a guard and in a walk.
 macro_rules! respelled {
     ($map:ident, $module:ident, $put:ident, $put_in_walk:ident, $asked:ident, $item:ident, $way:ident) => {
@@ -170,6 +158,7 @@ impl CoarseMap for Ordered<Coarse> {
         self.map.eq(&other.map)
     }
 
+    #[tactic(auto, using(iddqd::proofs::GuardLemmas::same_key_kept))]
     fn write_by_reborrow(
         &mut self,
         name: &Caseless,
@@ -185,14 +174,21 @@ impl CoarseMap for Ordered<Coarse> {
 
     fn write_by_entry(self, name: &Caseless, value: u32) -> Option<(Coarse, Coarse)> {
         let mut map = self.map;
-        let mut entry = occupied!(id_ord_map, map.entry(name))?;
-        let old = *entry.get();
-        entry.get_mut().value = value;
-        Some((old, *entry.into_ref()))
+        match map.entry(name) {
+            id_ord_map::Entry::Occupied(mut entry) => {
+                let old = *entry.get();
+                entry.get_mut().value = value;
+                Some((old, *entry.into_ref()))
+            }
+            id_ord_map::Entry::Vacant(_) => None,
+        }
     }
 
     fn remove_by_entry(&mut self, name: &Caseless) -> Option<Coarse> {
-        Some(occupied!(id_ord_map, self.map.entry(name))?.remove())
+        match self.map.entry(name) {
+            id_ord_map::Entry::Occupied(entry) => Some(entry.remove()),
+            id_ord_map::Entry::Vacant(_) => None,
+        }
     }
 
     fn put_vacant(&mut self, asked: &Caseless, item: Coarse) -> Put {
@@ -213,10 +209,13 @@ impl CoarseMap for Ordered<Coarse> {
     }
 
     fn insert_occupied(&mut self, item: Coarse) -> Option<Coarse> {
-        let mut entry = occupied!(id_ord_map, self.map.entry(&item.name))?;
-        Some(entry.insert(item))
+        match self.map.entry(&item.name) {
+            id_ord_map::Entry::Occupied(mut entry) => Some(entry.insert(item)),
+            id_ord_map::Entry::Vacant(_) => None,
+        }
     }
 
+    #[tactic(auto, using(iddqd::proofs::GuardLemmas::same_key_kept))]
     fn write(&mut self, name: &Caseless, value: u32) -> bool {
         let id_ord_map::Entry::Occupied(entry) = self.map.entry(name) else {
             return false;
@@ -232,6 +231,7 @@ impl CoarseMap for Ordered<Coarse> {
         Ok(Some(*entry.or_insert(item)?.into_ref()))
     }
 
+    #[tactic(auto, using(iddqd::proofs::GuardLemmas::same_key_kept))]
     fn insert_and_write(&mut self, item: Coarse, value: u32) -> bool {
         let Ok(mut lent) = self.map.entry(&item.name).or_insert(item) else {
             return false;
@@ -269,6 +269,7 @@ impl<S: BuildHasher + Drop> CoarseMap for Hashed<Coarse, S> {
         self.map.eq(&other.map)
     }
 
+    #[tactic(auto, using(iddqd::proofs::GuardLemmas::same_key_kept))]
     fn write_by_reborrow(
         &mut self,
         name: &Caseless,
@@ -284,14 +285,21 @@ impl<S: BuildHasher + Drop> CoarseMap for Hashed<Coarse, S> {
 
     fn write_by_entry(self, name: &Caseless, value: u32) -> Option<(Coarse, Coarse)> {
         let mut map = self.map;
-        let mut entry = occupied!(id_hash_map, map.entry(name))?;
-        let old = *entry.get();
-        entry.get_mut().value = value;
-        Some((old, *entry.into_ref()))
+        match map.entry(name) {
+            id_hash_map::Entry::Occupied(mut entry) => {
+                let old = *entry.get();
+                entry.get_mut().value = value;
+                Some((old, *entry.into_ref()))
+            }
+            id_hash_map::Entry::Vacant(_) => None,
+        }
     }
 
     fn remove_by_entry(&mut self, name: &Caseless) -> Option<Coarse> {
-        Some(occupied!(id_hash_map, self.map.entry(name))?.remove())
+        match self.map.entry(name) {
+            id_hash_map::Entry::Occupied(entry) => Some(entry.remove()),
+            id_hash_map::Entry::Vacant(_) => None,
+        }
     }
 
     fn put_vacant(&mut self, asked: &Caseless, item: Coarse) -> Put {
@@ -312,10 +320,13 @@ impl<S: BuildHasher + Drop> CoarseMap for Hashed<Coarse, S> {
     }
 
     fn insert_occupied(&mut self, item: Coarse) -> Option<Coarse> {
-        let mut entry = occupied!(id_hash_map, self.map.entry(&item.name))?;
-        Some(entry.insert(item))
+        match self.map.entry(&item.name) {
+            id_hash_map::Entry::Occupied(mut entry) => Some(entry.insert(item)),
+            id_hash_map::Entry::Vacant(_) => None,
+        }
     }
 
+    #[tactic(auto, using(iddqd::proofs::GuardLemmas::same_key_kept))]
     fn write(&mut self, name: &Caseless, value: u32) -> bool {
         let id_hash_map::Entry::Occupied(entry) = self.map.entry(name) else {
             return false;
@@ -331,6 +342,7 @@ impl<S: BuildHasher + Drop> CoarseMap for Hashed<Coarse, S> {
         Ok(Some(*entry.or_insert(item)?.into_ref()))
     }
 
+    #[tactic(auto, using(iddqd::proofs::GuardLemmas::same_key_kept))]
     fn insert_and_write(&mut self, item: Coarse, value: u32) -> bool {
         let Ok(mut lent) = self.map.entry(&item.name).or_insert(item) else {
             return false;
