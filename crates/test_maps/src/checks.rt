@@ -2,10 +2,10 @@
 ghost use Rattle.std.specs.Prelude.{IsTrue};
 
 use iddqd::{DefaultHashBuilder, IdHashItem, IdHashMap, IdOrdItem, IdOrdMap};
-use std::alloc::{AllocError, Global};
+use std::alloc::Global;
 use std::process::Abort;
 pub(crate) use test_support::items::{BAR, FOO};
-use test_support::items::{Named, Titled, Wide};
+use test_support::items::{Named, Titled};
 use test_support::maps::{Hashed, Ordered, UnderTest};
 pub(crate) use test_support::new_items::{named, numbered};
 
@@ -19,21 +19,10 @@ pub(crate) const OTHER_FOO: Named = Named {
     value: 100,
 };
 
-pub(crate) fn wide_item(number: u8, letter: char, first: char) -> Wide {
-    Wide {
-        number,
-        letter,
-        first,
-        second: 'v',
-    }
-}
+/// What a test passes to its helpers: it ends the process as failed, and gives memory.
+pub(crate) trait Host: Abort + AllocGlobal {}
 
-pub(crate) fn titled(alloc: Global, name: &str, value: u32) -> Result<Titled, AllocError> {
-    Ok(Titled {
-        name: name.to_string(alloc)?,
-        value,
-    })
-}
+impl<R: Abort + AllocGlobal> Host for R {}
 
 /// Ends the test as failed if the condition is false. The proof of a call takes a third of that of an `assert!` in its
 /// place.
@@ -41,6 +30,11 @@ pub(crate) fn check(rt: &impl Abort, condition: bool)
     ensures { IsTrue condition }
 {
     assert!(rt; condition);
+}
+
+pub(crate) fn titled(rt: &impl Host, name: &str, value: u32) -> Titled {
+    let name = name.to_string(rt.alloc()).expect(rt, "no memory");
+    Titled { name, value }
 }
 
 /// An empty ordered map that never holds more items than the limit.
@@ -71,10 +65,5 @@ pub(crate) fn has_only<T: IdOrdItem + Drop + PartialEq>(
     map: &impl UnderTest<T, T::Key>,
     items: &[T],
 ) -> bool {
-    for item in items {
-        if map.get(item.key()) != Some(item) {
-            return false;
-        }
-    }
-    map.len() == items.len()
+    items.iter().all(|item| map.get(item.key()) == Some(item)) && map.len() == items.len()
 }

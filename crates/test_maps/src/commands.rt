@@ -2,184 +2,149 @@
 ghost use Rattle.iddqd.specs.Contents.{ClonesAreEqual};
 ghost use Rattle.iddqd.specs.Visiting.{VisitsKeepKeys};
 
-use crate::checks::{
-    BAR, FOO, OTHER_FOO, by_hash_of, check, in_order_of, named, numbered, wide_item,
-};
+use crate::checks::{BAR, FOO, Host, OTHER_FOO, by_hash_of, check, in_order_of, named, numbered};
+use crate::insertions::{Wide, wide};
 use iddqd::errors::TryReserveError;
 use iddqd::{IdHashItem, IdHashMap, IdOrdItem, IdOrdMap, Visit};
 use idtable_commands::{Command, KeyedMap, Reply, run};
 use std::alloc::{AllocError, Global};
 use std::hash::Hash;
-use std::process::Abort;
 use std::test::Fail;
-use test_support::items::{Named, Numbered, Wide};
+use test_support::items::{Named, Numbered};
 use test_support::visitors::Untouched;
 
-type Commands<T, K> = Result<Vec<Command<T, K, Untouched>>, AllocError>;
+/// Commands, each with the reply to it.
+pub(crate) type Rows<T, K, V = Untouched> = Result<Vec<(Command<T, K, V>, Reply<T>)>, AllocError>;
 
-/// Whether the map gives these replies to the commands.
-pub(crate) fn gives<M: KeyedMap, V: Visit<M::Item> + Drop>(
+/// The map's replies to the commands, and those that it should give.
+pub(crate) fn replies<M: KeyedMap, V: Visit<M::Item> + Drop>(
     alloc: Global,
     map: &mut M,
-    commands: Vec<Command<M::Item, M::Key, V>>,
-    replies: &[Reply<M::Item>],
-) -> bool
+    rows: Rows<M::Item, M::Key, V>,
+) -> Result<(Vec<Reply<M::Item>>, Vec<Reply<M::Item>>), AllocError>
 where
-    M::Item: Clone + PartialEq + Drop,
+    M::Item: Clone + Drop,
     M::Key: Drop,
     requires keyed { M.keyed map.old }
     requires clones { ClonesAreEqual M.Item.is_clone }
     requires keeps_keys { VisitsKeepKeys M.key M.Key.eq V.visits }
     ensures keyed { M.keyed map.new }
 {
+    let (commands, replies): (Vec<_>, Vec<_>) = rows?.into_iter().unzip(alloc)?;
     match run(alloc, map, commands) {
-        Ok(given) => given.as_slice() == replies,
-        Err(_) => false,
+        Ok(given) => Ok((given, replies)),
+        Err(_) => Err(AllocError),
     }
 }
 
 // Maps of each kind that have this limit give the replies. How many items they have room for then.
-fn rooms_after<K, T, F>(
-    rt: &impl Abort,
-    alloc: Global,
-    limit: u32,
-    commands: F,
-    replies: &[Reply<T>],
-) -> Result<(usize, usize), Fail>
+fn rooms_after<K, T, F>(rt: &impl Host, limit: u32, rows: F) -> Result<(usize, usize), AllocError>
 where
     K: Ord + Hash + Drop,
     T: IdOrdItem<Key = K> + IdHashItem<Key = K> + Clone + PartialEq + Drop,
-    F: Fn(Global) -> Commands<T, K>,
-    requires calls { F.IsAlwaysCallable commands }
+    F: Fn(Global) -> Rows<T, K>,
+    requires calls { F.IsAlwaysCallable rows }
     requires clones { ClonesAreEqual T.is_clone }
 {
-    let (in_order, by_hash) = (commands(alloc)?, commands(alloc)?);
+    let alloc = rt.alloc();
     let mut ordered = in_order_of(alloc, limit).into_map();
-    check(rt, gives(alloc, &mut ordered, in_order, replies));
+    let (given, expected) = replies(alloc, &mut ordered, rows(alloc))?;
+    check(rt, given == expected);
     let mut hashed = by_hash_of(alloc, limit).into_map();
-    check(rt, gives(alloc, &mut hashed, by_hash, replies));
+    let (given, expected) = replies(alloc, &mut hashed, rows(alloc))?;
+    check(rt, given == expected);
     Ok((ordered.capacity(), hashed.capacity()))
 }
 
-fn named_commands(alloc: Global) -> Commands<Named, [u8; 3]> {
-    let commands = [
-        Command::InsertUnique(FOO),
-        Command::InsertUnique(BAR),
-        Command::InsertUnique(OTHER_FOO),
-        Command::Len,
-        Command::Get(*b"foo"),
-        Command::Get(*b"bar"),
-        Command::Get(*b"baz"),
-        Command::Remove(*b"baz"),
-        Command::Remove(*b"foo"),
-        Command::Get(*b"foo"),
-        Command::Len,
-    ];
-    Ok(Vec::from_array(alloc, commands)?)
-}
-
-#[test]
-fn insert_unique_by_commands(rt: HostRuntime) -> Result<(), Fail> {
-    let replies = [
-        Reply::Inserted,
-        Reply::Inserted,
-        Reply::Duplicate {
-            new: OTHER_FOO,
-            existing: Some(FOO),
-        },
-        Reply::Length(2),
-        Reply::Found(FOO),
-        Reply::Found(BAR),
-        Reply::Absent,
-        Reply::Absent,
-        Reply::Removed(FOO),
-        Reply::Absent,
-        Reply::Length(1),
-    ];
-    let _ = rooms_after(&rt, rt.alloc(), u32::MAX, named_commands, &replies)?;
-    Ok(())
-}
-
-fn wide_commands(alloc: Global) -> Commands<Wide, u8> {
-    let commands = [
-        Command::InsertUnique(wide_item(20, 'a', 'x')),
-        Command::InsertUnique(wide_item(20, 'a', 'x')),
-        Command::InsertUnique(wide_item(20, 'b', 'y')),
-        Command::InsertUnique(wide_item(5, 'a', 'y')),
-        Command::InsertUnique(wide_item(5, 'b', 'x')),
-        Command::Get(20),
-        Command::Get(5),
-    ];
-    Ok(Vec::from_array(alloc, commands)?)
-}
-
-fn duplicate(new: Wide, existing: Wide) -> Reply<Wide> {
+fn duplicate<T>(new: T, existing: T) -> Reply<T> {
     let existing = Some(existing);
     Reply::Duplicate { new, existing }
 }
 
-#[test]
-fn duplicate_chain_by_commands(rt: HostRuntime) -> Result<(), Fail> {
-    let (first, fourth) = (wide_item(20, 'a', 'x'), wide_item(5, 'a', 'y'));
-    let replies = [
-        Reply::Inserted,
-        duplicate(first, first),
-        duplicate(wide_item(20, 'b', 'y'), first),
-        Reply::Inserted,
-        duplicate(wide_item(5, 'b', 'x'), fourth),
-        Reply::Found(first),
-        Reply::Found(fourth),
+fn named_rows(alloc: Global) -> Rows<Named, [u8; 3]> {
+    let rows = [
+        (Command::InsertUnique(FOO), Reply::Inserted),
+        (Command::InsertUnique(BAR), Reply::Inserted),
+        (Command::InsertUnique(OTHER_FOO), duplicate(OTHER_FOO, FOO)),
+        (Command::Len, Reply::Length(2)),
+        (Command::Get(*b"foo"), Reply::Found(FOO)),
+        (Command::Get(*b"bar"), Reply::Found(BAR)),
+        (Command::Get(*b"baz"), Reply::Absent),
+        (Command::Remove(*b"baz"), Reply::Absent),
+        (Command::Remove(*b"foo"), Reply::Removed(FOO)),
+        (Command::Get(*b"foo"), Reply::Absent),
+        (Command::Len, Reply::Length(1)),
     ];
-    let _ = rooms_after(&rt, rt.alloc(), u32::MAX, wide_commands, &replies)?;
+    Ok(Vec::from_array(alloc, rows)?)
+}
+
+#[test]
+fn insert_unique_by_commands(rt: HostRuntime) -> Result<(), Fail> {
+    let _ = rooms_after(&rt, u32::MAX, named_rows)?;
     Ok(())
 }
 
-fn room_commands(alloc: Global) -> Commands<Named, [u8; 3]> {
-    Ok(Vec::from_array(alloc, [Command::Reserve(3), Command::Shrink])?)
+fn wide_rows(alloc: Global) -> Rows<Wide, u8> {
+    let (first, third) = (wide(20, 'a', 'x'), wide(20, 'b', 'y'));
+    let (fourth, fifth) = (wide(5, 'a', 'y'), wide(5, 'b', 'x'));
+    let rows = [
+        (Command::InsertUnique(first), Reply::Inserted),
+        (Command::InsertUnique(first), duplicate(first, first)),
+        (Command::InsertUnique(third), duplicate(third, first)),
+        (Command::InsertUnique(fourth), Reply::Inserted),
+        (Command::InsertUnique(fifth), duplicate(fifth, fourth)),
+        (Command::Get(20), Reply::Found(first)),
+        (Command::Get(5), Reply::Found(fourth)),
+    ];
+    Ok(Vec::from_array(alloc, rows)?)
+}
+
+#[test]
+fn duplicate_chain_by_commands(rt: HostRuntime) -> Result<(), Fail> {
+    let _ = rooms_after(&rt, u32::MAX, wide_rows)?;
+    Ok(())
+}
+
+fn room_rows(alloc: Global) -> Rows<Named, [u8; 3]> {
+    let rows = [
+        (Command::Reserve(3), Reply::Done),
+        (Command::Shrink, Reply::Done),
+    ];
+    Ok(Vec::from_array(alloc, rows)?)
 }
 
 #[test]
 fn reserve_and_shrink_by_commands(rt: HostRuntime) -> Result<(), Fail> {
-    let replies = [Reply::Done, Reply::Done];
-    let _ = rooms_after(&rt, rt.alloc(), u32::MAX, room_commands, &replies)?;
+    let _ = rooms_after(&rt, u32::MAX, room_rows)?;
     Ok(())
 }
 
-fn extending_commands(alloc: Global) -> Commands<Named, [u8; 3]> {
-    let commands = [
-        Command::ExtendUnique(Vec::from_array(alloc, [FOO, BAR])?),
-        Command::ExtendUnique(Vec::from_array(alloc, [named(*b"baz", 1), OTHER_FOO])?),
-        Command::ExtendUnique(Vec::new(alloc)),
-        Command::Len,
+fn extend(
+    alloc: Global,
+    items: &[Named],
+) -> Result<Command<Named, [u8; 3], Untouched>, AllocError> {
+    Ok(Command::ExtendUnique(items.to_vec(alloc)?))
+}
+
+fn extending_rows(alloc: Global) -> Rows<Named, [u8; 3]> {
+    let conflict = Reply::Conflict {
+        new: OTHER_FOO,
+        existing: Some(FOO),
+        after: 1,
+    };
+    let rows = [
+        (extend(alloc, &[FOO, BAR])?, Reply::Extended(2)),
+        (extend(alloc, &[named(*b"baz", 1), OTHER_FOO])?, conflict),
+        (extend(alloc, &[])?, Reply::Extended(0)),
+        (Command::Len, Reply::Length(3)),
     ];
-    Ok(Vec::from_array(alloc, commands)?)
+    Ok(Vec::from_array(alloc, rows)?)
 }
 
 #[test]
 fn extend_unique_by_commands(rt: HostRuntime) -> Result<(), Fail> {
-    let replies = [
-        Reply::Extended(2),
-        Reply::Conflict {
-            new: OTHER_FOO,
-            existing: Some(FOO),
-            after: 1,
-        },
-        Reply::Extended(0),
-        Reply::Length(3),
-    ];
-    let _ = rooms_after(&rt, rt.alloc(), u32::MAX, extending_commands, &replies)?;
+    let _ = rooms_after(&rt, u32::MAX, extending_rows)?;
     Ok(())
-}
-
-fn full_commands(alloc: Global) -> Commands<Named, [u8; 3]> {
-    let (a, b, c) = (named(*b"a  ", 1), named(*b"b  ", 2), named(*b"c  ", 3));
-    let commands = [
-        Command::ExtendUnique(Vec::from_array(alloc, [a, b, c])?),
-        Command::InsertUnique(a),
-        Command::ExtendUnique(Vec::from_array(alloc, [b, c])?),
-        Command::Len,
-    ];
-    Ok(Vec::from_array(alloc, commands)?)
 }
 
 fn stopped(item: Option<Named>, after: usize) -> Reply<Named> {
@@ -187,15 +152,20 @@ fn stopped(item: Option<Named>, after: usize) -> Reply<Named> {
     Reply::Stopped { item, error, after }
 }
 
+fn full_rows(alloc: Global) -> Rows<Named, [u8; 3]> {
+    let (a, b, c) = (named(*b"a  ", 1), named(*b"b  ", 2), named(*b"c  ", 3));
+    let rows = [
+        (extend(alloc, &[a, b, c])?, stopped(None, 0)),
+        (Command::InsertUnique(a), Reply::Inserted),
+        (extend(alloc, &[b, c])?, stopped(Some(c), 1)),
+        (Command::Len, Reply::Length(2)),
+    ];
+    Ok(Vec::from_array(alloc, rows)?)
+}
+
 #[test]
 fn extend_unique_commands(rt: HostRuntime) -> Result<(), Fail> {
-    let replies = [
-        stopped(None, 0),
-        Reply::Inserted,
-        stopped(Some(named(*b"c  ", 3)), 1),
-        Reply::Length(2),
-    ];
-    let _ = rooms_after(&rt, rt.alloc(), 2, full_commands, &replies)?;
+    let _ = rooms_after(&rt, 2, full_rows)?;
     Ok(())
 }
 
@@ -218,32 +188,23 @@ impl Visit<Numbered> for KeepsFirst {
     }
 }
 
-fn keeping_commands(alloc: Global) -> Result<Vec<Command<Numbered, u32, KeepsFirst>>, AllocError> {
-    Ok(Vec::from_array(
-        alloc,
-        [
-            Command::InsertUnique(numbered(3, 30)),
-            Command::InsertUnique(numbered(1, 10)),
-            Command::InsertUnique(numbered(2, 20)),
-            Command::RetainMut(KeepsFirst { many: 2, seen: 0 }),
-        ],
-    )?)
-}
-
 // Of three numbers the first two that are visited stay.
-const FIRST_TWO_KEPT: [Reply<Numbered>; 4] = [
-    Reply::Inserted,
-    Reply::Inserted,
-    Reply::Inserted,
-    Reply::Kept(2),
-];
+fn keeping_rows(alloc: Global) -> Rows<Numbered, u32, KeepsFirst> {
+    let keeps_two = KeepsFirst { many: 2, seen: 0 };
+    let rows = [
+        (Command::InsertUnique(numbered(3, 30)), Reply::Inserted),
+        (Command::InsertUnique(numbered(1, 10)), Reply::Inserted),
+        (Command::InsertUnique(numbered(2, 20)), Reply::Inserted),
+        (Command::RetainMut(keeps_two), Reply::Kept(2)),
+    ];
+    Ok(Vec::from_array(alloc, rows)?)
+}
 
 #[test]
 fn retain_mut_by_commands(rt: HostRuntime) -> Result<(), Fail> {
-    let commands = keeping_commands(rt.alloc())?;
     let mut map = IdOrdMap::new(rt.alloc());
-    let are_kept = gives(rt.alloc(), &mut map, commands, &FIRST_TWO_KEPT);
-    check(&rt, are_kept);
+    let (given, expected) = replies(rt.alloc(), &mut map, keeping_rows(rt.alloc()))?;
+    check(&rt, given == expected);
     check(&rt, map.iter().eq(&[numbered(1, 0), numbered(2, 1)]));
     Ok(())
 }
@@ -257,10 +218,9 @@ fn are_first_two(one: Numbered, other: Numbered) -> bool {
 
 #[test]
 fn hash_retain_mut_by_commands(rt: HostRuntime) -> Result<(), Fail> {
-    let commands = keeping_commands(rt.alloc())?;
     let mut map = IdHashMap::new(rt.alloc());
-    let are_kept = gives(rt.alloc(), &mut map, commands, &FIRST_TWO_KEPT);
-    check(&rt, are_kept);
+    let (given, expected) = replies(rt.alloc(), &mut map, keeping_rows(rt.alloc()))?;
+    check(&rt, given == expected);
     let mut walk = map.iter();
     let (one, other) = (walk.next().copied(), walk.next().copied());
     check(&rt, walk.next().is_none());
@@ -269,27 +229,23 @@ fn hash_retain_mut_by_commands(rt: HostRuntime) -> Result<(), Fail> {
     Ok(())
 }
 
-fn reserving(alloc: Global) -> Commands<Named, [u8; 3]> {
-    Ok(Vec::from_array(alloc, [Command::Reserve(100)])?)
+fn reserving(alloc: Global) -> Rows<Named, [u8; 3]> {
+    Ok(Vec::from_array(alloc, [(Command::Reserve(100), Reply::Done)])?)
 }
 
 // The room of a hundred, with one item in it, is given back but for that of the item.
-fn shrinking(alloc: Global) -> Commands<Named, [u8; 3]> {
-    let commands = [
-        Command::Reserve(100),
-        Command::InsertUnique(FOO),
-        Command::Shrink,
+fn shrinking(alloc: Global) -> Rows<Named, [u8; 3]> {
+    let rows = [
+        (Command::Reserve(100), Reply::Done),
+        (Command::InsertUnique(FOO), Reply::Inserted),
+        (Command::Shrink, Reply::Done),
     ];
-    Ok(Vec::from_array(alloc, commands)?)
+    Ok(Vec::from_array(alloc, rows)?)
 }
 
 #[test]
 fn room_by_commands(rt: HostRuntime) -> Result<(), Fail> {
-    let alloc = rt.alloc();
-    let rooms = rooms_after(&rt, alloc, u32::MAX, reserving, &[Reply::Done])?;
-    check(&rt, rooms == (100, 100));
-    let replies = [Reply::Done, Reply::Inserted, Reply::Done];
-    let rooms = rooms_after(&rt, alloc, u32::MAX, shrinking, &replies)?;
-    check(&rt, rooms == (1, 1));
+    check(&rt, rooms_after(&rt, u32::MAX, reserving)? == (100, 100));
+    check(&rt, rooms_after(&rt, u32::MAX, shrinking)? == (1, 1));
     Ok(())
 }

@@ -1,15 +1,20 @@
 //! Rows of insertions, of each kind of map from one text.
-use crate::checks::{BAR, FOO, OTHER_FOO, check, filled, has_only, named, numbered, wide_item};
+use crate::checks::{BAR, FOO, Host, OTHER_FOO, check, filled, has_only, named, numbered};
 use iddqd::{IdHashItem, IdOrdItem};
-use std::alloc::Global;
 use std::hash::Hash;
 use std::process::Abort;
-use test_support::items::Named;
+use test_support::items::{Filed, Named};
 use test_support::maps::{Copying, Inserted, by_hash, in_order};
 use test_support::walks::Walked;
 
+/// An item that holds more than its key.
+pub(crate) type Wide = Filed<u8, [char; 3]>;
+
+/// Items, each with what its insertion leaves.
+pub(crate) type Rows<'a, T> = &'a [(T, Inserted<T>)];
+
 /// Inserts each item with this outcome.
-pub(crate) fn insert_each<T, M>(rt: &impl Abort, map: &mut M, rows: &[(T, Inserted<T>)])
+pub(crate) fn insert_each<T, M>(rt: &impl Abort, map: &mut M, rows: Rows<'_, T>)
 where
     T: IdOrdItem + Copy + PartialEq + Drop,
     M: Copying<T, T::Key>,
@@ -20,13 +25,7 @@ where
 }
 
 // The map has these items then, and none of the absent key.
-fn inserts<T, M>(
-    rt: &impl Abort,
-    mut map: M,
-    rows: &[(T, Inserted<T>)],
-    items: &[T],
-    absent: &T::Key,
-)
+fn inserts<T, M>(rt: &impl Abort, mut map: M, rows: Rows<'_, T>, items: &[T], absent: &T::Key)
 where
     T: IdOrdItem + Copy + PartialEq + Drop,
     M: Copying<T, T::Key> + Drop,
@@ -36,19 +35,13 @@ where
     check(rt, map.get(absent).is_none());
 }
 
-fn both_insert<K, T>(
-    rt: &impl Abort,
-    alloc: Global,
-    rows: &[(T, Inserted<T>)],
-    items: &[T],
-    absent: &K,
-)
+fn both_insert<K, T>(rt: &impl Host, rows: Rows<'_, T>, items: &[T], absent: &K)
 where
     K: Ord + Hash,
     T: IdOrdItem<Key = K> + IdHashItem<Key = K> + Copy + PartialEq + Drop,
 {
-    inserts(rt, in_order(alloc), rows, items, absent);
-    inserts(rt, by_hash(alloc), rows, items, absent);
+    inserts(rt, in_order(rt.alloc()), rows, items, absent);
+    inserts(rt, by_hash(rt.alloc()), rows, items, absent);
 }
 
 #[test]
@@ -58,13 +51,19 @@ fn insert_unique(rt: HostRuntime) {
         (BAR, Inserted::Done),
         (OTHER_FOO, Inserted::Duplicate(OTHER_FOO, Some(FOO))),
     ];
-    both_insert(&rt, rt.alloc(), &rows, &[FOO, BAR], b"baz");
+    both_insert(&rt, &rows, &[FOO, BAR], b"baz");
+}
+
+/// An item of this number with three letters.
+pub(crate) fn wide(key: u8, letter: char, first: char) -> Wide {
+    let value = [letter, first, 'v'];
+    Filed { key, value }
 }
 
 #[test]
 fn duplicate_chain(rt: HostRuntime) {
-    let (first, fourth) = (wide_item(20, 'a', 'x'), wide_item(5, 'a', 'y'));
-    let (third, fifth) = (wide_item(20, 'b', 'y'), wide_item(5, 'b', 'x'));
+    let (first, third) = (wide(20, 'a', 'x'), wide(20, 'b', 'y'));
+    let (fourth, fifth) = (wide(5, 'a', 'y'), wide(5, 'b', 'x'));
     let rows = [
         (first, Inserted::Done),
         (first, Inserted::Duplicate(first, Some(first))),
@@ -72,19 +71,11 @@ fn duplicate_chain(rt: HostRuntime) {
         (fourth, Inserted::Done),
         (fifth, Inserted::Duplicate(fifth, Some(fourth))),
     ];
-    both_insert(&rt, rt.alloc(), &rows, &[first, fourth], &6);
+    both_insert(&rt, &rows, &[first, fourth], &6);
 }
 
 pub(crate) fn double(item: &mut Named) {
     item.value = item.value.wrapping_mul(2);
-}
-
-// The first two values in order, once a walk has doubled two.
-fn doubled(rt: &impl Abort, alloc: Global) -> [Option<u32>; 2] {
-    let map = filled(rt, in_order(alloc), &[FOO, named(*b"bar", 99)]);
-    let (map, _) = map.written(2, double);
-    let mut walk = map.iter();
-    [walk.next(), walk.next()].map(|item| item.map(|item| item.value))
 }
 
 #[test]
@@ -95,17 +86,18 @@ fn get_and_double(rt: HostRuntime) {
         (two, Inserted::Done),
         (other, Inserted::Duplicate(other, Some(one))),
     ];
-    both_insert(&rt, rt.alloc(), &rows, &[one, two], &3);
-    check(&rt, doubled(&rt, rt.alloc()) == [Some(198), Some(84)]);
+    both_insert(&rt, &rows, &[one, two], &3);
+    let map = filled(&rt, in_order(rt.alloc()), &[FOO, named(*b"bar", 99)]);
+    let (map, _) = map.written(2, double);
+    let mut walk = map.iter();
+    check(&rt, walk.next().is_some_and(|item| item.value == 198));
+    check(&rt, walk.next().is_some_and(|item| item.value == 84));
 }
 
 // A removed item is not found, and the others are.
 fn coming_and_going<M: Copying<Named, [u8; 3]> + Drop>(rt: &impl Abort, mut map: M) {
-    insert_each(
-        rt,
-        &mut map,
-        &[(FOO, Inserted::Done), (BAR, Inserted::Done)],
-    );
+    let both = [(FOO, Inserted::Done), (BAR, Inserted::Done)];
+    insert_each(rt, &mut map, &both);
     check(rt, map.remove(b"baz") == None);
     check(rt, map.remove(b"foo") == Some(FOO));
     check(rt, map.get(b"foo").is_none() && has_only(&map, &[BAR]));

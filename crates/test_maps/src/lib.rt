@@ -15,24 +15,16 @@ mod commands;
 #[cfg(test)]
 mod drops;
 #[cfg(test)]
-mod entries;
-#[cfg(test)]
 mod errors;
-#[cfg(test)]
-mod first_last;
 #[cfg(test)]
 mod insertions;
 #[cfg(test)]
 mod limits;
-#[cfg(test)]
-mod loops;
 #[cfg(test)]
 mod queries;
 #[cfg(test)]
 mod ranges;
 #[cfg(test)]
 mod texts;
-#[cfg(test)]
-mod tickets;
 #[cfg(test)]
 mod visits;

@@ -34,11 +34,10 @@ fn full_at_none<M: Copying<Named, [u8; 3]> + Drop>(rt: &impl Abort, mut map: M) 
 
 #[test]
 fn limit_two(rt: HostRuntime) {
-    let alloc = rt.alloc();
-    full_at_two(&rt, in_order_of(alloc, 2));
-    full_at_none(&rt, in_order_of(alloc, 0));
-    full_at_two(&rt, by_hash_of(alloc, 2));
-    full_at_none(&rt, by_hash_of(alloc, 0));
+    full_at_two(&rt, in_order_of(rt.alloc(), 2));
+    full_at_none(&rt, in_order_of(rt.alloc(), 0));
+    full_at_two(&rt, by_hash_of(rt.alloc(), 2));
+    full_at_none(&rt, by_hash_of(rt.alloc(), 0));
 }
 
 // Of a limit of four, three are there.
@@ -48,26 +47,22 @@ fn limit_four(rt: HostRuntime) {
     let mut map = filled(&rt, by_hash_of(rt.alloc(), 4), &[FOO, BAR, BAZ]);
     check(&rt, map.reserve(1) == Ok(()) && map.room() == 1);
     check(&rt, map.reserve(2) == Err(full) && map.room() == 1);
-    let past: Result<IdHashMap<Named>, TryReserveError> = IdHashMap::with_capacity(
-        rt.alloc(),
-        4_294_967_296,
-    );
+    let past = IdHashMap::<Named>::with_capacity(rt.alloc(), 4_294_967_296);
     check(&rt, past.err() == Some(full));
 }
 
 // With memory at hand a map is made with the room that is asked for, and with no more in the store.
 #[test]
 fn made_with_room(rt: HostRuntime) -> Result<(), Fail> {
-    let ordered: IdOrdMap<Named> = IdOrdMap::with_capacity(rt.alloc(), 100)?;
+    let ordered = IdOrdMap::<Named>::with_capacity(rt.alloc(), 100)?;
     check(&rt, ordered.capacity() == 100);
-    let hashed: IdHashMap<Named> = IdHashMap::with_capacity(rt.alloc(), 100)?;
+    let hashed = IdHashMap::<Named>::with_capacity(rt.alloc(), 100)?;
     check(&rt, hashed.capacity() == 100);
     check(&rt, hashed.spare() >= 100 && hashed.spare() < 200);
     Ok(())
 }
 
-// Shrinks a map that was made with room for 100. The store keeps room for what is asked for or there, and for no more. How
-// much room is left for ten at least is told apart.
+// Shrinks a map that was made with room for 100. The store keeps room for what is asked for or there, and for no more.
 fn shrunk<M: UnderTest<Named, [u8; 3]> + Drop>(rt: &impl Abort, map: M, room_of_ten: usize) {
     let mut map = filled(rt, map, &[FOO, BAR]);
     for (min, capacity) in [(usize::MAX, 100), (60, 60), (10, 10)] {
@@ -107,12 +102,8 @@ fn empty_map(rt: HostRuntime) {
 
 // Room for ten is full but for four vacant slots. They serve a reservation of four, and four of a reservation of fourteen.
 fn reserves_beside_vacant<M: UnderTest<Numbered, u32> + Drop>(rt: &impl Abort, mut map: M) {
-    for number in 0..10 {
-        check(rt, map.is_put(numbered(number, 0)));
-    }
-    for number in 3..7 {
-        check(rt, map.remove(&number).is_some());
-    }
+    check(rt, (0..10).all(|number| map.is_put(numbered(number, 0))));
+    check(rt, (3..7).all(|number| map.remove(&number).is_some()));
     check(rt, map.capacity() == 10 && map.vacant() == 4);
     check(rt, map.reserve(4) == Ok(()));
     check(rt, map.capacity() == 10);

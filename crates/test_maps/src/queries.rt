@@ -1,53 +1,53 @@
 //! Rows of lookups by texts, by keys of two fields, and among items that are boxed or lent.
-use crate::checks::{check, titled};
-use std::alloc::{AllocError, Global};
+use crate::checks::{Host, check, titled};
 use std::ops::Deref;
 use std::process::Abort;
 use std::rc::Rc;
 use std::test::Fail;
-use test_support::items::{Artifact, Release, Titled};
+use test_support::items::{Filed, Titled};
 use test_support::maps::{AskedByText, UnderTest, by_hash, in_order};
 
-fn query_by_text<M: UnderTest<Titled, String> + AskedByText<Item = Titled> + Drop>(
-    rt: &impl Abort,
-    name: &String,
-    item: Titled,
-    mut map: M,
-) {
-    check(rt, map.is_put(item));
-    check(rt, map.find("foo").map(|item| item.value) == Some(42));
+fn query_by_text<M>(rt: &impl Host, mut map: M)
+where
+    M: UnderTest<Titled, String> + AskedByText<Item = Titled> + Drop,
+{
+    check(rt, map.is_put(titled(rt, "foo", 42)));
+    check(rt, map.find("foo").is_some_and(|item| item.value == 42));
     check(rt, !map.has_name("fo"));
-    check(rt, map.get(name).map(|item| item.value) == Some(42));
-    check(rt, map.take_out("foo").map(|item| item.value) == Some(42));
+    let name = titled(rt, "foo", 0).name;
+    check(rt, map.get(&name).is_some_and(|item| item.value == 42));
+    check(rt, map.take_out("foo").is_some_and(|item| item.value == 42));
     check(rt, map.len() == 0);
 }
 
 #[test]
-fn text_queries(rt: HostRuntime) -> Result<(), Fail> {
-    let alloc = rt.alloc();
-    let name = "foo".to_string(alloc)?;
-    query_by_text(&rt, &name, titled(alloc, "foo", 42)?, in_order(alloc));
-    query_by_text(&rt, &name, titled(alloc, "foo", 42)?, by_hash(alloc));
-    Ok(())
+fn text_queries(rt: HostRuntime) {
+    query_by_text(&rt, in_order(rt.alloc()));
+    query_by_text(&rt, by_hash(rt.alloc()));
 }
 
-fn released(name: [u8; 9], data: u32) -> Artifact {
-    Artifact {
-        release: Release { name, version: 10 },
-        data,
-    }
+// A key of two fields.
+#[derive(Clone, Copy, PartialEq, Eq, PartialOrd, Ord, Hash)]
+struct Release {
+    name: [u8; 9],
+    version: u32,
 }
 
-fn query_by_release<M: UnderTest<Artifact, Release> + Drop>(rt: &impl Abort, mut map: M) {
-    let first = released(*b"artifact1", 1);
-    let other = Release {
-        name: *b"artifact1",
-        version: 20,
-    };
+fn released(name: [u8; 9], version: u32, value: u32) -> Filed<Release, u32> {
+    let key = Release { name, version };
+    Filed { key, value }
+}
+
+fn query_by_release<M>(rt: &impl Abort, mut map: M)
+where
+    M: UnderTest<Filed<Release, u32>, Release> + Drop,
+{
+    let first = released(*b"artifact1", 10, 1);
     check(rt, map.is_put(first));
-    check(rt, map.is_put(released(*b"artifact2", 2)));
-    check(rt, map.get(&first.release).copied() == Some(first));
-    check(rt, map.get(&other).copied() == None);
+    check(rt, map.is_put(released(*b"artifact2", 10, 2)));
+    check(rt, map.get(&first.key) == Some(&first));
+    let other = released(*b"artifact1", 20, 0).key;
+    check(rt, map.get(&other) == None);
 }
 
 #[test]
@@ -56,35 +56,25 @@ fn key_of_two_fields(rt: HostRuntime) {
     query_by_release(&rt, by_hash(rt.alloc()));
 }
 
-// Whether the item is inserted, and what is found by its name shows 42.
-fn is_found<
-    T: Deref<Target = Titled> + Drop,
+// The item is inserted, and what is found by its name shows 42.
+fn is_found<T: Deref<Target = Titled> + Drop, M>(rt: &impl Host, item: T, mut map: M)
+where
     M: UnderTest<T, String> + AskedByText<Item = T> + Drop,
->(item: T, mut map: M) -> bool {
-    map.is_put(item) && map.find("foo").map(|item| item.value) == Some(42)
-}
-
-// The same of a boxed item, in a map of either kind.
-fn boxed_is_found(alloc: Global) -> Result<bool, AllocError> {
-    let is_ordered = is_found(Box::new(alloc, titled(alloc, "foo", 42)?)?, in_order(alloc));
-    let is_hashed = is_found(Box::new(alloc, titled(alloc, "foo", 42)?)?, by_hash(alloc));
-    Ok(is_ordered && is_hashed)
-}
-
-// The same of an item that is counted.
-fn counted_is_found(alloc: Global) -> Result<bool, AllocError> {
-    let is_ordered = is_found(Rc::new(alloc, titled(alloc, "foo", 42)?)?, in_order(alloc));
-    let is_hashed = is_found(Rc::new(alloc, titled(alloc, "foo", 42)?)?, by_hash(alloc));
-    Ok(is_ordered && is_hashed)
+{
+    check(rt, map.is_put(item));
+    check(rt, map.find("foo").is_some_and(|item| item.value == 42));
 }
 
 #[test]
 fn boxed_and_lent_items(rt: HostRuntime) -> Result<(), Fail> {
     let alloc = rt.alloc();
-    check(&rt, boxed_is_found(alloc)?);
-    check(&rt, counted_is_found(alloc)?);
-    let item = titled(alloc, "foo", 42)?;
-    check(&rt, is_found(&item, in_order(alloc)));
-    check(&rt, is_found(&item, by_hash(alloc)));
+    let item = || titled(&rt, "foo", 42);
+    is_found(&rt, Box::new(alloc, item())?, in_order(alloc));
+    is_found(&rt, Box::new(alloc, item())?, by_hash(alloc));
+    is_found(&rt, Rc::new(alloc, item())?, in_order(alloc));
+    is_found(&rt, Rc::new(alloc, item())?, by_hash(alloc));
+    let item = item();
+    is_found(&rt, &item, in_order(alloc));
+    is_found(&rt, &item, by_hash(alloc));
     Ok(())
 }

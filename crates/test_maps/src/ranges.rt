@@ -1,14 +1,12 @@
-//! Rows of positions, ranges and walks from the back, each against a plain list.
-use crate::checks::{check, filled, numbered, titled};
+//! Rows of the ordered map's ends, positions, ranges and walks from the back, against plain lists.
+use crate::checks::{BAR, BAZ, FOO, Host, check, filled, has_only, named, numbered, titled};
 use crate::drops::go_in;
 use iddqd::Text;
-use std::alloc::{AllocError, Global};
 use std::cell::Cell;
 use std::ops::{Bound, RangeBounds};
 use std::process::Abort;
-use std::test::Fail;
 use test_support::caseless::{Caseless, item_of};
-use test_support::items::{Numbered, Titled};
+use test_support::items::{Named, Numbered, Titled};
 use test_support::maps::{Ordered, UnderTest, in_order};
 use test_support::ordered::Bounds;
 
@@ -18,44 +16,34 @@ fn even(half: u32) -> Numbered {
 }
 
 // The even numbers below twice the count, inserted at one end or the other in turn.
-fn evens(alloc: Global, count: u32) -> Result<Ordered<Numbered>, Fail> {
-    let mut map = in_order(alloc);
+fn evens(rt: &impl Host, count: u32) -> Ordered<Numbered> {
+    let mut map = in_order(rt.alloc());
     for half in 0..count {
         let placed = if half % 2 == 0 {
             half
         } else {
             count.wrapping_sub(half).wrapping_sub(count % 2)
         };
-        if !map.is_put(even(placed)) {
-            return Err(Fail::from("not filled"));
-        }
+        check(rt, map.is_put(even(placed)));
     }
-    Ok(map)
+    map
 }
 
 // The even numbers below twice the count that lie between the bounds, or those that do not.
-fn listed(
-    alloc: Global,
-    count: u32,
-    bounds: Bounds<'_, u32>,
-    between: bool,
-) -> Result<Vec<Numbered>, AllocError> {
-    let mut items = Vec::new(alloc);
-    for half in 0..count {
-        let item = even(half);
+fn listed(rt: &impl Host, count: u32, bounds: Bounds<'_, u32>, between: bool) -> Vec<Numbered> {
+    let mut items = Vec::new(rt.alloc());
+    for item in (0..count).map(even) {
         if bounds.contains(&item.number) == between {
-            items.push(item)?;
+            items.push(item).expect(rt, "no memory");
         }
     }
-    Ok(items)
+    items
 }
 
 // The greatest count of comparisons of a search among this many items.
 fn most(count: u32) -> u32 {
-    32_u32
-        .wrapping_sub(count.leading_zeros())
-        .wrapping_mul(2)
-        .wrapping_add(4)
+    let digits = 32_u32.wrapping_sub(count.leading_zeros());
+    digits.wrapping_mul(2).wrapping_add(4)
 }
 
 // The greatest count of comparisons for the bound.
@@ -66,168 +54,94 @@ fn most_of(bound: Bound<&u32>, count: u32) -> u32 {
     }
 }
 
-// Whether these are the items between the bounds, and are counted within the greatest number of comparisons.
-fn has_between(
-    map: &Ordered<Numbered>,
-    count: u32,
-    (low, high): Bounds<'_, u32>,
-    items: &[Numbered],
-) -> bool {
+// The range is that of the plain list, and is counted within the greatest number of comparisons. So are the first item
+// from the lower bound on, and the last one before the upper.
+fn is_range(rt: &impl Host, map: &Ordered<Numbered>, count: u32, (low, high): Bounds<'_, u32>) {
+    let from = listed(rt, count, (low, Bound::Unbounded), true);
+    check(rt, map.lower_bound(low) == from.as_slice().first());
+    let to = listed(rt, count, (Bound::Unbounded, high), true);
+    check(rt, map.upper_bound(high) == to.as_slice().last());
+    let items = listed(rt, count, (low, high), true);
+    check(rt, map.has_between((low, high), items.as_slice()));
     let (number, steps) = map.count_between((low, high));
-    map.has_between((low, high), items)
-        && number == items.len()
-        && steps <= most_of(low, count).wrapping_add(most_of(high, count))
+    check(rt, number == items.len());
+    let most = most_of(low, count).wrapping_add(most_of(high, count));
+    check(rt, steps <= most);
 }
 
-// Whether the range is that of the plain list, and so are the first item from the lower bound on, and the last one before the
-// upper.
-fn is_range(
-    alloc: Global,
-    map: &Ordered<Numbered>,
-    count: u32,
-    (low, high): Bounds<'_, u32>,
-) -> Result<bool, AllocError> {
-    let from = listed(alloc, count, (low, Bound::Unbounded), true)?;
-    let to = listed(alloc, count, (Bound::Unbounded, high), true)?;
-    let items = listed(alloc, count, (low, high), true)?;
-    Ok(
-        map.lower_bound(low) == from.as_slice().first()
-            && map.upper_bound(high) == to.as_slice().last()
-            && has_between(map, count, (low, high), items.as_slice()),
-    )
-}
-
-// Whether the removal of a range leaves these items, and tells how many of this count it removed.
-fn leaves(
-    map: &mut Ordered<Numbered>,
-    count: u32,
-    bounds: Bounds<'_, u32>,
-    left: &[Numbered],
-) -> bool {
+// The removal of a range of the even numbers leaves the others, and tells how many it removed.
+fn is_removed(rt: &impl Host, count: u32, bounds: Bounds<'_, u32>) {
+    let left = listed(rt, count, bounds, false);
     let gone = (count as usize).saturating_sub(left.len());
-    map.remove_range(bounds) == gone && map.has_items(left) && map.map().vacant() as usize == gone
+    let mut map = evens(rt, count);
+    check(rt, map.remove_range(bounds) == gone);
+    check(rt, map.has_items(left.as_slice()));
+    check(rt, map.map().vacant() as usize == gone);
 }
 
-// The same of a range of the even numbers.
-fn is_removed(alloc: Global, count: u32, bounds: Bounds<'_, u32>) -> Result<bool, Fail> {
-    let left = listed(alloc, count, bounds, false)?;
-    let mut map = evens(alloc, count)?;
-    Ok(leaves(&mut map, count, bounds, left.as_slice()))
-}
-
-// What is asked of a range of even numbers.
-#[derive(Clone, Copy)]
-enum Asked<'a> {
-    Range(&'a Ordered<Numbered>),
-    Removal,
-}
-
-// Whether that holds of the lower bound with each upper one.
-fn are_from(
-    alloc: Global,
-    asked: Asked<'_>,
-    count: u32,
-    low: Bound<&u32>,
-    bounds: &[Bound<u32>],
-) -> Result<bool, Fail> {
-    for high in bounds {
-        let high = high.as_ref();
-        let is_so = match asked {
-            Asked::Range(map) => is_range(alloc, map, count, (low, high))?,
-            Asked::Removal => is_removed(alloc, count, (low, high))?,
-        };
-        if !is_so {
-            return Ok(false);
-        }
+// Each pair of bounds, of this many numbers a step apart: of pairs that run backwards too.
+fn pairs(rt: &impl Host, points: u32, step: u32) -> Vec<(Bound<u32>, Bound<u32>)> {
+    let (mut bounds, mut pairs) = (Vec::new(rt.alloc()), Vec::new(rt.alloc()));
+    bounds.push(Bound::Unbounded).expect(rt, "no memory");
+    for number in (0..points).map(|point| point.wrapping_mul(step)) {
+        bounds.push(Bound::Included(number)).expect(rt, "no memory");
+        bounds.push(Bound::Excluded(number)).expect(rt, "no memory");
     }
-    Ok(true)
-}
-
-// Bounds of each kind, of this many numbers a step apart.
-fn bounds_of(alloc: Global, points: u32, step: u32) -> Result<Vec<Bound<u32>>, AllocError> {
-    let mut bounds = Vec::from_array(alloc, [Bound::Unbounded])?;
-    for point in 0..points {
-        let number = point.wrapping_mul(step);
-        bounds.push(Bound::Included(number))?;
-        bounds.push(Bound::Excluded(number))?;
-    }
-    Ok(bounds)
-}
-
-// Whether it holds of each pair of these bounds: of pairs that run backwards too.
-fn are_so(
-    alloc: Global,
-    asked: Asked<'_>,
-    count: u32,
-    (points, step): (u32, u32),
-) -> Result<bool, Fail> {
-    let bounds = bounds_of(alloc, points, step)?;
     for low in bounds.as_slice() {
-        if !are_from(alloc, asked, count, low.as_ref(), bounds.as_slice())? {
-            return Ok(false);
+        for high in bounds.as_slice() {
+            pairs.push((*low, *high)).expect(rt, "no memory");
         }
     }
-    Ok(true)
+    pairs
 }
 
-fn are_ranges(alloc: Global, count: u32, points: u32, step: u32) -> Result<bool, Fail> {
-    let map = evens(alloc, count)?;
-    are_so(alloc, Asked::Range(&map), count, (points, step))
-}
-
-#[test]
-fn ranges_of_few(rt: HostRuntime) -> Result<(), Fail> {
-    for (count, points) in [(0, 2), (1, 4), (13, 28)] {
-        check(&rt, are_ranges(rt.alloc(), count, points, 1)?);
+fn are_ranges(rt: &impl Host, count: u32, points: u32, step: u32) {
+    let map = evens(rt, count);
+    for (low, high) in pairs(rt, points, step) {
+        is_range(rt, &map, count, (low.as_ref(), high.as_ref()));
     }
-    Ok(())
 }
 
 #[test]
-fn ranges_of_many(rt: HostRuntime) -> Result<(), Fail> {
-    check(&rt, are_ranges(rt.alloc(), 200, 18, 23)?);
-    Ok(())
+fn ranges_of_few(rt: HostRuntime) {
+    are_ranges(&rt, 0, 2, 1);
+    are_ranges(&rt, 1, 4, 1);
+    are_ranges(&rt, 13, 28, 1);
 }
 
-// Whether each item is found at its position, and the next number belongs behind it, by no more comparisons than `get`.
-fn are_positions(map: &Ordered<Numbered>, most: u32, items: &[Numbered]) -> bool {
-    for (position, item) in items.iter().enumerate() {
+#[test]
+fn ranges_of_many(rt: HostRuntime) {
+    are_ranges(&rt, 200, 18, 23);
+}
+
+// Each item is found at its position, and the next number belongs behind it, by no more comparisons than `get`.
+fn positions_among(rt: &impl Host, count: u32) {
+    let items = listed(rt, count, (Bound::Unbounded, Bound::Unbounded), true);
+    let map = evens(rt, count);
+    for (position, item) in items.as_slice().iter().enumerate() {
         let (found, steps) = map.index_of(&item.number);
         let (absent, more) = map.index_of(&item.number.wrapping_add(1));
-        let is_so = found == Ok(position)
-            && absent == Err(position.wrapping_add(1))
-            && steps <= most
-            && more <= most
-            && map.get_index(position) == Some(item);
-        if !is_so {
-            return false;
-        }
+        check(rt, found == Ok(position));
+        check(rt, absent == Err(position.wrapping_add(1)));
+        check(rt, steps <= most(count) && more <= most(count));
+        check(rt, map.get_index(position) == Some(item));
     }
-    map.get_index(items.len()).is_none()
-}
-
-fn positions_among(rt: &impl Abort, alloc: Global, count: u32) -> Result<(), Fail> {
-    let items = listed(alloc, count, (Bound::Unbounded, Bound::Unbounded), true)?;
-    let map = evens(alloc, count)?;
-    check(rt, are_positions(&map, most(count), items.as_slice()));
+    check(rt, map.get_index(items.len()).is_none());
     check(rt, map.has_items(items.as_slice()));
-    Ok(())
 }
 
 // Positions and walks from the back, from both ends in turn and of a clone of a walk.
 #[test]
-fn positions(rt: HostRuntime) -> Result<(), Fail> {
+fn positions(rt: HostRuntime) {
     for count in [0, 1, 2, 12, 40, 300] {
-        positions_among(&rt, rt.alloc(), count)?;
+        positions_among(&rt, count);
     }
-    Ok(())
 }
 
-// Whether a walk that ends the map gives its items from both ends in turn.
+// A walk that ends the map gives its items from both ends in turn.
 #[test]
-fn owned_walk_from_both_ends(rt: HostRuntime) -> Result<(), Fail> {
-    let map = evens(rt.alloc(), 40)?;
-    let mut walk = map.into_map().into_iter();
+fn owned_walk_from_both_ends(rt: HostRuntime) {
+    let mut walk = evens(&rt, 40).into_map().into_iter();
     for half in 0..20 {
         check(&rt, walk.next() == Some(even(half)));
         let last = even(39_u32.wrapping_sub(half));
@@ -235,13 +149,12 @@ fn owned_walk_from_both_ends(rt: HostRuntime) -> Result<(), Fail> {
     }
     check(&rt, walk.len() == 0);
     check(&rt, walk.next_back().is_none() && walk.next().is_none());
-    Ok(())
 }
 
-// Whether the removals by position leave the others in order.
+// The removals by position leave the others in order.
 #[test]
-fn removals_by_position(rt: HostRuntime) -> Result<(), Fail> {
-    let mut map = evens(rt.alloc(), 5)?;
+fn removals_by_position(rt: HostRuntime) {
+    let mut map = evens(&rt, 5);
     check(&rt, map.remove_index(5).is_none());
     check(&rt, map.take_index(5).is_none());
     check(&rt, map.remove_index(2) == Some(even(2)));
@@ -252,15 +165,15 @@ fn removals_by_position(rt: HostRuntime) -> Result<(), Fail> {
     check(&rt, map.remove_index(0) == Some(even(1)));
     check(&rt, map.remove_index(0).is_none());
     check(&rt, map.map().vacant() == 5);
-    Ok(())
 }
 
 #[test]
-fn removed_ranges(rt: HostRuntime) -> Result<(), Fail> {
-    for (count, points) in [(0, (2, 1)), (1, (4, 1)), (6, (14, 1)), (60, (12, 11))] {
-        check(&rt, are_so(rt.alloc(), Asked::Removal, count, points)?);
+fn removed_ranges(rt: HostRuntime) {
+    for (count, points, step) in [(0, 2, 1), (1, 4, 1), (6, 14, 1), (60, 12, 11)] {
+        for (low, high) in pairs(&rt, points, step) {
+            is_removed(&rt, count, (low.as_ref(), high.as_ref()));
+        }
     }
-    Ok(())
 }
 
 // Each item of the range is dropped once, and no other.
@@ -294,13 +207,12 @@ fn ask_by_texts<'a>(rt: &impl Abort, map: &Ordered<Titled>, low: &'a Text<'a>, h
 }
 
 #[test]
-fn ranges_of_texts(rt: HostRuntime) -> Result<(), Fail> {
+fn ranges_of_texts(rt: HostRuntime) {
     let mut map = in_order(rt.alloc());
     for (name, value) in [("pear", 4), ("apple", 1), ("fig", 2), ("melon", 3)] {
-        check(&rt, map.is_put(titled(rt.alloc(), name, value)?));
+        check(&rt, map.is_put(titled(&rt, name, value)));
     }
     ask_by_texts(&rt, &map, &Text("b"), &Text("melon"));
-    Ok(())
 }
 
 // Keys that are equal without regard to case, as bounds.
@@ -318,4 +230,55 @@ fn ranges_of_coarse_keys(rt: HostRuntime) {
     check(&rt, map.index_of(&high).0 == Ok(2));
     check(&rt, map.remove_range((after, to)) == 2);
     check(&rt, map.has_items(&[bar]));
+}
+
+fn three(rt: &impl Host) -> Ordered<Named> {
+    filled(rt, in_order(rt.alloc()), &[FOO, BAR, BAZ])
+}
+
+#[test]
+fn ends(rt: HostRuntime) {
+    let mut map = three(&rt);
+    check(&rt, map.map().first() == Some(&BAR));
+    check(&rt, map.map().last() == Some(&FOO));
+    check(&rt, map.pop_first() == Some(BAR));
+    check(&rt, map.len() == 2);
+    check(&rt, map.pop_first() == Some(BAZ));
+    check(&rt, map.pop_first() == Some(FOO));
+    check(&rt, map.pop_first() == None);
+}
+
+#[test]
+fn ends_from_behind(rt: HostRuntime) {
+    let mut map = three(&rt);
+    check(&rt, map.pop_last() == Some(FOO));
+    check(&rt, map.pop_last() == Some(BAZ));
+    check(&rt, map.pop_last() == Some(BAR));
+    check(&rt, map.pop_last() == None);
+}
+
+// The map, once the value of its first item is written through the entry.
+#[tactic(auto, using(iddqd::proofs::GuardLemmas::same_key_kept))]
+fn first_written(map: Ordered<Named>, value: u32) -> Option<Ordered<Named>> {
+    let mut map = map.into_map();
+    let mut lent = map.first_entry()?.into_mut();
+    lent.value = value;
+    lent.finish();
+    Some(Ordered::new(map))
+}
+
+#[test]
+fn ends_by_entries(rt: HostRuntime) {
+    let map = first_written(three(&rt), 100).expect(&rt, "no first entry");
+    check(&rt, has_only(&map, &[named(*b"bar", 100), BAZ, FOO]));
+}
+
+#[test]
+fn ends_of_empty_map(rt: HostRuntime) {
+    let mut map: Ordered<Named> = in_order(rt.alloc());
+    check(&rt, map.map().first().is_none());
+    check(&rt, map.map().last().is_none());
+    check(&rt, map.pop_first().is_none() && map.pop_last().is_none());
+    check(&rt, map.remove_last().is_none());
+    check(&rt, first_written(map, 100).is_none());
 }

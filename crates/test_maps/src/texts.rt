@@ -2,7 +2,7 @@
 ghost use Rattle.std.specs.Ordering.{nat_cmp};
 ghost use Rattle.iddqd.specs.Contents.{Ascends};
 
-use crate::checks::check;
+use crate::checks::{Host, check};
 use iddqd::errors::{
     DuplicateItem, ExtendError, ExtendUniqueError, Few, FromIterError, InsertError, Refused,
     TryReserveError,
@@ -46,19 +46,16 @@ fn shut(number: u32) -> Door {
     }
 }
 
-pub(crate) fn is_debugged(alloc: Global, value: &impl Debug, expected: &str) -> bool {
-    format!(in alloc; "{value:?}").is_ok_and(|text| text.as_str() == expected)
+/// The value is written so by `Debug`.
+pub(crate) fn debugs(rt: &impl Host, value: &impl Debug, expected: &str) {
+    let text = format!(in rt.alloc(); "{value:?}");
+    check(rt, text.is_ok_and(|text| text.as_str() == expected));
 }
 
-// Whether the first door is written open, in one line and over several.
-fn is_open_door(alloc: Global, door: &impl Debug) -> bool {
-    let lines = "Door {\n    number: 1,\n    open: true,\n}";
-    let is_over_lines = format!(in alloc; "{door:#?}").is_ok_and(|text| text.as_str() == lines);
-    is_over_lines && is_debugged(alloc, door, "Door { number: 1, open: true }")
-}
-
-pub(crate) fn is_displayed(alloc: Global, value: &impl Display, expected: &str) -> bool {
-    format!(in alloc; "{value}").is_ok_and(|text| text.as_str() == expected)
+/// The value is written so by `Display`.
+pub(crate) fn displays(rt: &impl Host, value: &impl Display, expected: &str) {
+    let text = format!(in rt.alloc(); "{value}");
+    check(rt, text.is_ok_and(|text| text.as_str() == expected));
 }
 
 // Two doors, the greater number first.
@@ -82,136 +79,105 @@ fn one_by_hash(alloc: Global) -> IdHashMap<Door>
 // A set of the items, in the order of the keys.
 #[test]
 fn ordered_map_for_debugging(rt: HostRuntime) {
-    let alloc = rt.alloc();
-    let doors = two_in_order(alloc);
+    let doors = two_in_order(rt.alloc());
     let items = "{Door { number: 1, open: false }, Door { number: 2, open: false }}";
-    check(&rt, is_debugged(alloc, &doors, items));
+    debugs(&rt, &doors, items);
     let keyed = "{1: Door { number: 1, open: false }, 2: Door { number: 2, open: false }}";
-    check(&rt, is_debugged(alloc, &doors.debug_with_keys(), keyed));
+    debugs(&rt, &doors.debug_with_keys(), keyed);
 }
 
 #[test]
 fn hash_map_for_debugging(rt: HostRuntime) {
-    let alloc = rt.alloc();
-    let doors = one_by_hash(alloc);
-    let items = "{Door { number: 1, open: false }}";
-    check(&rt, is_debugged(alloc, &doors, items));
+    let doors = one_by_hash(rt.alloc());
+    debugs(&rt, &doors, "{Door { number: 1, open: false }}");
     let keyed = "{1: Door { number: 1, open: false }}";
-    check(&rt, is_debugged(alloc, &doors.debug_with_keys(), keyed));
-}
-
-// The entry of the number.
-fn is_entry_in_order(alloc: Global, number: u32, expected: &str) -> bool {
-    is_debugged(alloc, &two_in_order(alloc).entry(&number), expected)
-}
-
-fn is_entry_by_hash(alloc: Global, number: u32, expected: &str) -> bool {
-    is_debugged(alloc, &one_by_hash(alloc).entry(&number), expected)
+    debugs(&rt, &doors.debug_with_keys(), keyed);
 }
 
 #[test]
 fn entries_for_debugging(rt: HostRuntime) {
-    let alloc = rt.alloc();
     let occupied = "Occupied(OccupiedEntry { item: Door { number: 1, open: false }, .. })";
-    check(&rt, is_entry_in_order(alloc, 1, occupied));
-    check(&rt, is_entry_by_hash(alloc, 1, occupied));
-    let vacant = "Vacant(VacantEntry { .. })";
-    check(&rt, is_entry_in_order(alloc, 3, vacant));
-    check(&rt, is_entry_by_hash(alloc, 3, vacant));
+    for (number, text) in [(1, occupied), (3, "Vacant(VacantEntry { .. })")] {
+        debugs(&rt, &two_in_order(rt.alloc()).entry(&number), text);
+        debugs(&rt, &one_by_hash(rt.alloc()).entry(&number), text);
+    }
+}
+
+// The first door is written open, in one line and over several.
+fn shows_open(rt: &impl Host, door: &impl Debug) {
+    debugs(rt, door, "Door { number: 1, open: true }");
+    let text = format!(in rt.alloc(); "{door:#?}");
+    let lines = "Door {\n    number: 1,\n    open: true,\n}";
+    check(rt, text.is_ok_and(|text| text.as_str() == lines));
 }
 
 // Opens the first door, and shows its guard, before it is spent and after.
-macro_rules! is_guard {
-    ($alloc:ident, $doors:expr) => {
-        match $doors.get_mut(&1) {
-            Some(mut door) => {
-                door.open = true;
-                let is_before = is_open_door($alloc, &door);
-                let door = door.into_ref();
-                is_before && is_open_door($alloc, &door)
-            }
-            None => false,
-        }
-    };
+macro_rules! open_first {
+    ($rt:ident, $doors:expr) => {{
+        let mut doors = $doors;
+        let mut door = doors.get_mut(&1).expect($rt, "no door");
+        door.open = true;
+        shows_open($rt, &door);
+        let door = door.into_ref();
+        shows_open($rt, &door);
+    }};
 }
 
 #[tactic(auto, using(iddqd::proofs::GuardLemmas::same_key_kept))]
-fn is_guard_in_order(alloc: Global) -> bool {
-    is_guard!(alloc, two_in_order(alloc))
+fn open_in_order(rt: &impl Host) {
+    open_first!(rt, two_in_order(rt.alloc()));
 }
 
 #[tactic(auto, using(iddqd::proofs::GuardLemmas::hash_key_kept))]
-fn is_guard_by_hash(alloc: Global) -> bool {
-    is_guard!(alloc, one_by_hash(alloc))
+fn open_by_hash(rt: &impl Host) {
+    open_first!(rt, one_by_hash(rt.alloc()));
 }
 
 // A guard is written as its item.
 #[test]
 fn guards_for_debugging(rt: HostRuntime) {
-    let alloc = rt.alloc();
-    check(&rt, is_guard_in_order(alloc));
-    check(&rt, is_guard_by_hash(alloc));
+    open_in_order(&rt);
+    open_by_hash(&rt);
 }
 
 #[test]
 fn walks_for_debugging(rt: HostRuntime) {
-    let alloc = rt.alloc();
-    let walk = "IterMut { .. }";
-    let (mut ordered, mut hashed) = (two_in_order(alloc), one_by_hash(alloc));
-    check(&rt, is_debugged(alloc, &ordered.iter_mut(), walk));
-    check(&rt, is_debugged(alloc, &hashed.iter_mut(), walk));
-}
-
-fn refused(item: u32) -> Refused<u32> {
-    Refused {
-        item,
-        error: TryReserveError::capacity_overflow(),
-    }
+    debugs(&rt, &two_in_order(rt.alloc()).iter_mut(), "IterMut { .. }");
+    debugs(&rt, &one_by_hash(rt.alloc()).iter_mut(), "IterMut { .. }");
 }
 
 // A refusal is written with its item and its reason, and a duplicate with both items.
 #[test]
 fn text_of_refused_insertion(rt: HostRuntime) {
-    let alloc = rt.alloc();
+    let error = TryReserveError::capacity_overflow();
+    let refused = Refused { item: 5, error };
     let text = "item 5 was refused: capacity overflow";
-    check(&rt, is_displayed(alloc, &refused(5), text));
-    let error = InsertError::Refused(refused(5));
-    check(&rt, is_displayed(alloc, &error, text));
+    displays(&rt, &refused, text);
+    displays(&rt, &InsertError::Refused(refused), text);
     let there = 5;
     let error = InsertError::Duplicate(DuplicateItem::internal_new(5, Few::One(&there)));
-    let text = "new item: 5 conflicts with existing: [5]";
-    check(&rt, is_displayed(alloc, &error, text));
+    displays(&rt, &error, "new item: 5 conflicts with existing: [5]");
 }
 
 #[test]
 fn text_of_refused_extension(rt: HostRuntime) {
-    let alloc = rt.alloc();
     let error = TryReserveError::alloc_error();
-    let at_item = ExtendError {
-        item: Some(5),
-        error,
-    };
+    let item = Some(5);
+    let at_item = ExtendError { item, error };
     let text = "item 5 was refused: memory allocation failed";
-    check(&rt, is_displayed(alloc, &at_item, text));
-    let error = ExtendUniqueError::Refused(at_item);
-    check(&rt, is_displayed(alloc, &error, text));
-    let before: ExtendError<u32> = ExtendError {
-        item: None,
-        error: TryReserveError::alloc_error(),
-    };
+    displays(&rt, &at_item, text);
+    displays(&rt, &ExtendUniqueError::Refused(at_item), text);
+    let item: Option<u32> = None;
     let text = "room was refused: memory allocation failed";
-    check(&rt, is_displayed(alloc, &before, text));
+    displays(&rt, &ExtendError { item, error }, text);
 }
 
 #[test]
 fn text_of_refused_collection(rt: HostRuntime) {
-    let alloc = rt.alloc();
     let error: FromIterError<u32> = FromIterError::Refused(TryReserveError::capacity_overflow());
-    let text = "room was refused: capacity overflow";
-    check(&rt, is_displayed(alloc, &error, text));
+    displays(&rt, &error, "room was refused: capacity overflow");
     let error = FromIterError::Duplicate(DuplicateItem::internal_new(5, Few::One(7)));
-    let text = "new item: 5 conflicts with existing: [7]";
-    check(&rt, is_displayed(alloc, &error, text));
+    displays(&rt, &error, "new item: 5 conflicts with existing: [7]");
 }
 
 // By `?`, a refusal becomes std's: its kind is that of memory, whichever it was.

@@ -1,10 +1,10 @@
 //! Rows of visitors, and of walks that write and that retain.
-use crate::checks::{BAR, BAZ, FOO, check, filled, has_only, numbered};
-use crate::commands::gives;
+use crate::checks::{BAR, BAZ, FOO, Host, check, filled, has_only, numbered};
+use crate::commands::{Rows, replies};
 use crate::insertions::double;
 use iddqd::{IdHashMap, IdOrdMap};
 use idtable_commands::{Command, Reply};
-use std::alloc::{AllocError, Global};
+use std::alloc::Global;
 use std::process::Abort;
 use std::test::Fail;
 use test_support::items::{Named, Numbered};
@@ -23,30 +23,17 @@ fn odd_of_three<M: UnderTest<Numbered, u32> + Drop + Visited>(rt: &impl Abort, m
     visitor
 }
 
-fn visiting_commands(alloc: Global) -> Result<Vec<Command<Numbered, u32, Change>>, AllocError> {
-    Ok(Vec::from_array(
-        alloc,
-        [
-            Command::InsertUnique(numbered(3, 30)),
-            Command::InsertUnique(numbered(1, 10)),
-            Command::InsertUnique(numbered(2, 20)),
-            Command::Visit(1, Change::DenyAll),
-            Command::Get(1),
-        ],
-    )?)
-}
-
 // A visit that writes 0 and returns false removes nothing.
-const VISITED: [Reply<Numbered>; 5] = [
-    Reply::Inserted,
-    Reply::Inserted,
-    Reply::Inserted,
-    Reply::Visited(false),
-    Reply::Found(Numbered {
-        number: 1,
-        value: 0,
-    }),
-];
+fn visiting_rows(alloc: Global) -> Rows<Numbered, u32, Change> {
+    let rows = [
+        (Command::InsertUnique(numbered(3, 30)), Reply::Inserted),
+        (Command::InsertUnique(numbered(1, 10)), Reply::Inserted),
+        (Command::InsertUnique(numbered(2, 20)), Reply::Inserted),
+        (Command::Visit(1, Change::DenyAll), Reply::Visited(false)),
+        (Command::Get(1), Reply::Found(numbered(1, 0))),
+    ];
+    Ok(Vec::from_array(alloc, rows)?)
+}
 
 #[test]
 fn visitor(rt: HostRuntime) -> Result<(), Fail> {
@@ -54,20 +41,20 @@ fn visitor(rt: HostRuntime) -> Result<(), Fail> {
     let seen = odd_of_three(&rt, in_order(alloc));
     check(&rt, seen == Change::KeepOdd(123));
     let _ = odd_of_three(&rt, by_hash(alloc));
-    let (one, other) = (visiting_commands(alloc)?, visiting_commands(alloc)?);
-    let (ordered, hashed) = (&mut IdOrdMap::new(alloc), &mut IdHashMap::new(alloc));
-    check(&rt, gives(alloc, ordered, one, &VISITED));
-    check(&rt, gives(alloc, hashed, other, &VISITED));
+    let (given, expected) = replies(alloc, &mut IdOrdMap::new(alloc), visiting_rows(alloc))?;
+    check(&rt, given == expected);
+    let (given, expected) = replies(alloc, &mut IdHashMap::new(alloc), visiting_rows(alloc))?;
+    check(&rt, given == expected);
     Ok(())
 }
 
-// The names that were asked about, in the vector that has room for them, once the greater values were kept.
-fn kept_by_value<M: UnderTest<Named, [u8; 3]> + Drop>(
-    rt: &impl Abort,
-    mut asked: Vec<[u8; 3]>,
-    map: M,
-) -> Vec<[u8; 3]> {
+// The names that were asked about, once the greater values were kept.
+fn kept_by_value<M>(rt: &impl Host, map: M) -> Vec<[u8; 3]>
+where
+    M: UnderTest<Named, [u8; 3]> + Drop,
+{
     let mut map = filled(rt, map, &[FOO, BAR, BAZ]);
+    let mut asked = Vec::new(rt.alloc());
     map.retain(|item| {
         let _ = asked.push(item.name);
         item.value > 30
@@ -78,30 +65,21 @@ fn kept_by_value<M: UnderTest<Named, [u8; 3]> + Drop>(
 }
 
 #[test]
-fn retain_by_value(rt: HostRuntime) -> Result<(), Fail> {
-    let alloc = rt.alloc();
-    let asked = kept_by_value(&rt, Vec::with_capacity(alloc, 3)?, in_order(alloc));
+fn retain_by_value(rt: HostRuntime) {
+    let asked = kept_by_value(&rt, in_order(rt.alloc()));
     let in_order = [*b"bar", *b"baz", *b"foo"];
     check(&rt, asked.as_slice() == in_order.as_slice());
-    let asked = kept_by_value(&rt, Vec::with_capacity(alloc, 3)?, by_hash(alloc));
-    check(&rt, asked.len() == 3);
-    Ok(())
+    check(&rt, kept_by_value(&rt, by_hash(rt.alloc())).len() == 3);
 }
 
-// The value of the name, by a walk that reads: the map need not be keyed for it.
-macro_rules! value_in {
-    ($map:ident, $name:literal) => {
-        $map.iter()
-            .find(|item| item.name == *$name)
-            .map(|item| item.value)
-    };
-}
-
-// The values of foo and bar, and how many items the walk had left, once it has doubled this many.
+// The values of foo and bar, and how many items the walk had left, once it has doubled this many. What reads them is a
+// walk, for which the map need not be keyed.
 macro_rules! doubled {
     ($rt:ident, $map:expr, $most:literal) => {{
         let (map, left) = filled(&$rt, $map, &[FOO, BAR]).written($most, double);
-        (value_in!(map, b"foo"), value_in!(map, b"bar"), left)
+        let foo = map.iter().find(|item| item.name == *b"foo");
+        let bar = map.iter().find(|item| item.name == *b"bar");
+        (foo.map(|item| item.value), bar.map(|item| item.value), left)
     }};
 }
 
@@ -120,6 +98,28 @@ fn writing_walk_of_one_item(rt: HostRuntime) {
     let told = doubled!(rt, by_hash(rt.alloc()), 1);
     let (foo, bar) = ((Some(84), Some(20), 1), (Some(42), Some(40), 1));
     check(&rt, told == foo || told == bar);
+}
+
+// A `for` over a map that is only read.
+#[test]
+fn for_over_ordered_map(rt: HostRuntime) {
+    let map = filled(&rt, in_order(rt.alloc()), &[FOO, BAR, BAZ]);
+    let mut expected = [BAR, BAZ, FOO].iter();
+    for item in map.map() {
+        check(&rt, expected.next() == Some(item));
+    }
+    check(&rt, expected.next().is_none());
+}
+
+// If nothing was removed, the items come as they were inserted.
+#[test]
+fn for_over_hash_map(rt: HostRuntime) {
+    let map = filled(&rt, by_hash(rt.alloc()), &[FOO, BAR, BAZ]);
+    let mut expected = [FOO, BAR, BAZ].iter();
+    for item in map.map() {
+        check(&rt, expected.next() == Some(item));
+    }
+    check(&rt, expected.next().is_none());
 }
 
 fn nine_left<M: UnderTest<Numbered, u32> + Drop>(rt: &impl Abort, mut map: M) {

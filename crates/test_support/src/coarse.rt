@@ -59,14 +59,14 @@ pub enum Way {
 pub type Put = Result<Option<Coarse>, Refused<Coarse>>;
 
 /// A map of either kind with keys that are equal in any case. What lends returns a copy. If the entry is not of the
-/// kind needed, or if memory was refused, a call that returns no `Put` returns `None` or false.
+/// kind needed, or if memory was refused, a call that returns no `Put` returns `None` or false. A call without a comment is
+/// the map's of that name.
 pub trait CoarseMap: Copying<Coarse, Caseless> {
     /// `get`: the spelling and the value.
     fn spelled_at(&self, name: [u8; 3]) -> Option<([u8; 3], u32)> {
         self.get(&Caseless(name)).map(spelled)
     }
 
-    /// `limit`.
     fn limit(&self) -> u32;
 
     /// Whether `validate` and `validate_structural` return the same: an error exactly if slots are vacant and none
@@ -121,6 +121,30 @@ pub trait CoarseMap: Copying<Coarse, Caseless> {
     fn respell(&mut self, asked: &Caseless, item: Coarse, way: Way) -> bool;
 }
 
+// What `respell` does, by the functions that write by a guard and in a walk.
+macro_rules! respelled {
+    ($map:ident, $module:ident, $put:ident, $put_in_walk:ident, $asked:ident, $item:ident, $way:ident) => {
+        match $way {
+            Way::Guard => {
+                if !matches!($map.map.get($asked), Some(found) if found.name == $item.name) {
+                    return false;
+                }
+                $put(&mut $map.map, $asked, $item);
+                true
+            }
+            Way::Entry => {
+                let entry = $map.map.entry($asked).and_modify(&mut Respells($item));
+                matches!(entry, $module::Entry::Occupied(_))
+            }
+            Way::Visitor => {
+                $map.map.retain_mut(&mut Respells($item));
+                true
+            }
+            Way::Walk => $put_in_walk(&mut $map.map, $item),
+        }
+    };
+}
+
 impl CoarseMap for Ordered<Coarse> {
     fn limit(&self) -> u32 {
         self.map.limit()
@@ -145,8 +169,7 @@ impl CoarseMap for Ordered<Coarse> {
         let inner = outer.reborrow();
         inner.value = value;
         let read = *outer;
-        let shown = outer.into_ref();
-        Some((old, read, *shown))
+        Some((old, read, *outer.into_ref()))
     }
 
     fn write_by_entry(self, name: &Caseless, value: u32) -> Option<(Coarse, Coarse)> {
@@ -155,8 +178,7 @@ impl CoarseMap for Ordered<Coarse> {
             id_ord_map::Entry::Occupied(mut entry) => {
                 let old = *entry.get();
                 entry.get_mut().value = value;
-                let shown = entry.into_ref();
-                Some((old, *shown))
+                Some((old, *entry.into_ref()))
             }
             id_ord_map::Entry::Vacant(_) => None,
         }
@@ -176,8 +198,7 @@ impl CoarseMap for Ordered<Coarse> {
         let id_ord_map::Entry::Vacant(entry) = self.map.entry(asked) else {
             return Ok(None);
         };
-        let shown = entry.insert(item)?.into_ref();
-        Ok(Some(*shown))
+        Ok(Some(*entry.insert(item)?.into_ref()))
     }
 
     fn put_and_remove(&mut self, item: Coarse) -> Put {
@@ -207,8 +228,7 @@ impl CoarseMap for Ordered<Coarse> {
 
     fn double_or_put(&mut self, item: Coarse) -> Put {
         let entry = self.map.entry(&item.name).and_modify(&mut DoublesAndDenies);
-        let shown = entry.or_insert(item)?.into_ref();
-        Ok(Some(*shown))
+        Ok(Some(*entry.or_insert(item)?.into_ref()))
     }
 
     #[tactic(auto, using(iddqd::proofs::GuardLemmas::same_key_kept))]
@@ -226,30 +246,13 @@ impl CoarseMap for Ordered<Coarse> {
             *asked = asked.saturating_add(1);
             item
         };
-        let shown = self.map.entry(&item.name).or_insert_with(make)?.into_ref();
-        Ok(Some(*shown))
+        let entry = self.map.entry(&item.name);
+        Ok(Some(*entry.or_insert_with(make)?.into_ref()))
     }
 
     #[tactic(auto, using(crate::proofs::RespelledLemmas::respelled_keeps_key))]
     fn respell(&mut self, asked: &Caseless, item: Coarse, way: Way) -> bool {
-        match way {
-            Way::Guard => {
-                if !matches!(self.map.get(asked), Some(found) if found.name == item.name) {
-                    return false;
-                }
-                put(&mut self.map, asked, item);
-                true
-            }
-            Way::Entry => {
-                let entry = self.map.entry(asked).and_modify(&mut Respells(item));
-                matches!(entry, id_ord_map::Entry::Occupied(_))
-            }
-            Way::Visitor => {
-                self.map.retain_mut(&mut Respells(item));
-                true
-            }
-            Way::Walk => put_in_walk(&mut self.map, item),
-        }
+        respelled!(self, id_ord_map, put, put_in_walk, asked, item, way)
     }
 }
 
@@ -277,8 +280,7 @@ impl<S: BuildHasher + Drop> CoarseMap for Hashed<Coarse, S> {
         let inner = outer.reborrow();
         inner.value = value;
         let read = *outer;
-        let shown = outer.into_ref();
-        Some((old, read, *shown))
+        Some((old, read, *outer.into_ref()))
     }
 
     fn write_by_entry(self, name: &Caseless, value: u32) -> Option<(Coarse, Coarse)> {
@@ -287,8 +289,7 @@ impl<S: BuildHasher + Drop> CoarseMap for Hashed<Coarse, S> {
             id_hash_map::Entry::Occupied(mut entry) => {
                 let old = *entry.get();
                 entry.get_mut().value = value;
-                let shown = entry.into_ref();
-                Some((old, *shown))
+                Some((old, *entry.into_ref()))
             }
             id_hash_map::Entry::Vacant(_) => None,
         }
@@ -308,8 +309,7 @@ impl<S: BuildHasher + Drop> CoarseMap for Hashed<Coarse, S> {
         let id_hash_map::Entry::Vacant(entry) = self.map.entry(asked) else {
             return Ok(None);
         };
-        let shown = entry.insert(item)?.into_ref();
-        Ok(Some(*shown))
+        Ok(Some(*entry.insert(item)?.into_ref()))
     }
 
     fn put_and_remove(&mut self, item: Coarse) -> Put {
@@ -339,8 +339,7 @@ impl<S: BuildHasher + Drop> CoarseMap for Hashed<Coarse, S> {
 
     fn double_or_put(&mut self, item: Coarse) -> Put {
         let entry = self.map.entry(&item.name).and_modify(&mut DoublesAndDenies);
-        let shown = entry.or_insert(item)?.into_ref();
-        Ok(Some(*shown))
+        Ok(Some(*entry.or_insert(item)?.into_ref()))
     }
 
     #[tactic(auto, using(iddqd::proofs::GuardLemmas::same_key_kept))]
@@ -358,30 +357,21 @@ impl<S: BuildHasher + Drop> CoarseMap for Hashed<Coarse, S> {
             *asked = asked.saturating_add(1);
             item
         };
-        let shown = self.map.entry(&item.name).or_insert_with(make)?.into_ref();
-        Ok(Some(*shown))
+        let entry = self.map.entry(&item.name);
+        Ok(Some(*entry.or_insert_with(make)?.into_ref()))
     }
 
     #[tactic(auto, using(crate::proofs::RespelledLemmas::respelled_keeps_key))]
     fn respell(&mut self, asked: &Caseless, item: Coarse, way: Way) -> bool {
-        match way {
-            Way::Guard => {
-                if !matches!(self.map.get(asked), Some(found) if found.name == item.name) {
-                    return false;
-                }
-                hash_put(&mut self.map, asked, item);
-                true
-            }
-            Way::Entry => {
-                let entry = self.map.entry(asked).and_modify(&mut Respells(item));
-                matches!(entry, id_hash_map::Entry::Occupied(_))
-            }
-            Way::Visitor => {
-                self.map.retain_mut(&mut Respells(item));
-                true
-            }
-            Way::Walk => hash_put_in_walk(&mut self.map, item),
-        }
+        respelled!(
+            self,
+            id_hash_map,
+            hash_put,
+            hash_put_in_walk,
+            asked,
+            item,
+            way
+        )
     }
 }
 

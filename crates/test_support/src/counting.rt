@@ -46,11 +46,9 @@ impl Counts {
         first: u32,
         count: u32,
     ) -> Result<Vec<Tallied<'_>>, AllocError> {
-        let mut items = Vec::new(alloc);
-        for place in 0..count {
-            items.push(self.item(place.wrapping_mul(2).wrapping_add(first)))?;
-        }
-        Ok(items)
+        (0..count)
+            .map(|place| self.item(place.wrapping_mul(2).wrapping_add(first)))
+            .collect(alloc)
     }
 
     /// How often keys were hashed and how often compared since this was asked last.

@@ -1,5 +1,6 @@
 //! The items of the rows. Each shows its key to both maps.
 use iddqd::{IdHashItem, IdOrdItem};
+use std::hash::Hash;
 
 /// A name of three letters and a value.
 #[derive(Clone, Copy, PartialEq, Eq)]
@@ -66,35 +67,6 @@ impl IdHashItem for Numbered {
     }
 }
 
-/// A number, which is the key, and three fields beside it.
-#[derive(Clone, Copy, PartialEq, Eq)]
-pub struct Wide {
-    pub number: u8,
-    pub letter: char,
-    pub first: char,
-    pub second: char,
-}
-
-impl IdOrdItem for Wide {
-    type Key = u8;
-
-    ghost key = { λ item. item.number };
-
-    fn key(&self) -> &u8 {
-        &self.number
-    }
-}
-
-impl IdHashItem for Wide {
-    type Key = u8;
-
-    ghost key = { λ item. item.number };
-
-    fn key(&self) -> &u8 {
-        &self.number
-    }
-}
-
 /// A name in memory of its own, and a value.
 #[derive(Drop)]
 pub struct Titled {
@@ -122,36 +94,29 @@ impl IdHashItem for Titled {
     }
 }
 
-/// A key of two fields.
-#[derive(Clone, Copy, PartialEq, Eq, PartialOrd, Ord, Hash)]
-pub struct Release {
-    pub name: [u8; 9],
-    pub version: u32,
-}
-
-/// What was released.
+/// A value and the key that it is found by.
 #[derive(Clone, Copy, PartialEq, Eq)]
-pub struct Artifact {
-    pub release: Release,
-    pub data: u32,
+pub struct Filed<K, V> {
+    pub key: K,
+    pub value: V,
 }
 
-impl IdOrdItem for Artifact {
-    type Key = Release;
+impl<K: Ord, V> IdOrdItem for Filed<K, V> {
+    type Key = K;
 
-    ghost key = { λ artifact. artifact.release };
+    ghost key = { λ item. item.key };
 
-    fn key(&self) -> &Release {
-        &self.release
+    fn key(&self) -> &K {
+        &self.key
     }
 }
 
-impl IdHashItem for Artifact {
-    type Key = Release;
+impl<K: Eq + Hash, V> IdHashItem for Filed<K, V> {
+    type Key = K;
 
-    ghost key = { λ artifact. artifact.release };
+    ghost key = { λ item. item.key };
 
-    fn key(&self) -> &Release {
-        &self.release
+    fn key(&self) -> &K {
+        &self.key
     }
 }

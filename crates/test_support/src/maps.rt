@@ -15,7 +15,6 @@ use iddqd::{
     DefaultHashBuilder, IdHashItem, IdHashMap, IdOrdItem, IdOrdMap, Keyed, Steps, Text,
     id_hash_map, id_ord_map,
 };
-use idtable_commands::KeyedMap;
 use std::alloc::{AllocError, Global};
 use std::hash::BuildHasher;
 use std::marker::Model;
@@ -30,21 +29,19 @@ pub enum Inserted<T> {
 
 // The new item of a duplicate and the one that is there, copied.
 fn both<T: Copy>(duplicate: &DuplicateItem<T, &T>) -> (T, Option<T>) {
-    let there = match duplicate.duplicates().get(0) {
-        Some(there) => Some(**there),
-        None => None,
-    };
+    let there = duplicate.duplicates().get(0).map(|there| **there);
     (*duplicate.new_item(), there)
 }
 
-// What keeps an item out, with what is lent copied.
-pub(crate) fn kept_out<T: Copy>(error: InsertError<T>) -> Inserted<T> {
+// What an insertion with this error left, with what is lent copied.
+pub(crate) fn outcome<T: Copy>(error: Option<InsertError<T>>) -> Inserted<T> {
     match error {
-        InsertError::Duplicate(duplicate) => {
+        None => Inserted::Done,
+        Some(InsertError::Duplicate(duplicate)) => {
             let (new, there) = both(&duplicate);
             Inserted::Duplicate(new, there)
         }
-        InsertError::Refused(refused) => Inserted::Refused(refused.item, refused.error),
+        Some(InsertError::Refused(refused)) => Inserted::Refused(refused.item, refused.error),
     }
 }
 
@@ -56,14 +53,15 @@ pub enum Added<T> {
     Stopped(Option<T>, TryReserveError),
 }
 
-// What ends the adding, with what is lent copied.
-fn stopped<T: Copy>(error: ExtendUniqueError<T>) -> Added<T> {
+// The same of adding many.
+fn ending<T: Copy>(error: Option<ExtendUniqueError<T>>) -> Added<T> {
     match error {
-        ExtendUniqueError::Duplicate(conflict) => {
+        None => Added::All,
+        Some(ExtendUniqueError::Duplicate(conflict)) => {
             let (new, there) = both(&conflict);
             Added::Conflict(new, there)
         }
-        ExtendUniqueError::Refused(stopped) => Added::Stopped(stopped.item, stopped.error),
+        Some(ExtendUniqueError::Refused(stopped)) => Added::Stopped(stopped.item, stopped.error),
     }
 }
 
@@ -454,17 +452,11 @@ pub trait Copying<T: Copy + Drop, K>: UnderTest<T, K> {
 
 impl<T: IdOrdItem + Copy + Drop> Copying<T, T::Key> for Ordered<T> {
     fn insert(&mut self, item: T) -> Inserted<T> {
-        match self.map.insert_unique(item) {
-            Ok(_) => Inserted::Done,
-            Err(error) => kept_out(error),
-        }
+        outcome(self.map.insert_unique(item).err())
     }
 
     fn add_each<U: IntoIterator<Item = T>>(&mut self, items: U) -> Added<T> {
-        match self.map.extend_unique(items) {
-            Ok(_) => Added::All,
-            Err(error) => stopped(error),
-        }
+        ending(self.map.extend_unique(items).err())
     }
 
     fn listed(&self, alloc: Global) -> Result<Vec<T>, AllocError> {
@@ -481,13 +473,11 @@ impl<T: IdOrdItem + Copy + Drop> Copying<T, T::Key> for Ordered<T> {
 
     #[tactic(auto, using(iddqd::proofs::GuardLemmas::same_key_kept))]
     fn spend(&mut self, key: &T::Key) -> bool {
-        match self.map.get_mut(key) {
-            Some(lent) => {
-                lent.finish();
-                true
-            }
-            None => false,
-        }
+        let Some(lent) = self.map.get_mut(key) else {
+            return false;
+        };
+        lent.finish();
+        true
     }
 
     fn enter(self, item: T, call: ByEntry) -> bool {
@@ -498,17 +488,11 @@ impl<T: IdOrdItem + Copy + Drop> Copying<T, T::Key> for Ordered<T> {
 
 impl<T: IdHashItem + Copy + Drop, S: BuildHasher + Drop> Copying<T, T::Key> for Hashed<T, S> {
     fn insert(&mut self, item: T) -> Inserted<T> {
-        match self.map.insert_unique(item) {
-            Ok(_) => Inserted::Done,
-            Err(error) => kept_out(error),
-        }
+        outcome(self.map.insert_unique(item).err())
     }
 
     fn add_each<U: IntoIterator<Item = T>>(&mut self, items: U) -> Added<T> {
-        match self.map.extend_unique(items) {
-            Ok(_) => Added::All,
-            Err(error) => stopped(error),
-        }
+        ending(self.map.extend_unique(items).err())
     }
 
     fn listed(&self, alloc: Global) -> Result<Vec<T>, AllocError> {
@@ -525,13 +509,11 @@ impl<T: IdHashItem + Copy + Drop, S: BuildHasher + Drop> Copying<T, T::Key> for 
 
     #[tactic(auto, using(iddqd::proofs::GuardLemmas::same_key_kept))]
     fn spend(&mut self, key: &T::Key) -> bool {
-        match self.map.get_mut(key) {
-            Some(lent) => {
-                lent.finish();
-                true
-            }
-            None => false,
-        }
+        let Some(lent) = self.map.get_mut(key) else {
+            return false;
+        };
+        lent.finish();
+        true
     }
 
     fn enter(self, item: T, call: ByEntry) -> bool {
@@ -585,14 +567,4 @@ impl<T: IdHashItem<Key = String>> AskedByText for Hashed<T> {
     fn take_out(&mut self, name: &str) -> Option<T> {
         self.map.remove(&Text(name))
     }
-}
-
-/// Whether the item is inserted, if no item of its key exists, and the map is keyed as before.
-pub fn is_put<M: KeyedMap>(map: &mut M, item: M::Item) -> bool
-where
-    M::Item: Drop,
-    requires { M.keyed map.old }
-    ensures { M.keyed map.new }
-{
-    map.insert_unique(item).is_ok()
 }

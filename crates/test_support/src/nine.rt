@@ -13,21 +13,15 @@ const LEFT: [u32; 9] = [1, 5, 7, 11, 13, 17, 23, 25, 31];
 /// Inserts the twenty-five, each with its number for its value, and retains the odd ones that three does not divide.
 /// Whether each was inserted.
 pub fn retain_nine<M: UnderTest<Numbered, u32>>(map: &mut M) -> bool {
-    for id in IDS {
-        if !map.is_put(numbered(id, id)) {
-            return false;
-        }
-    }
+    let are_put = IDS.iter().all(|id| map.is_put(numbered(*id, *id)));
     map.retain(|item| item.number % 2 == 1 && item.number % 3 != 0);
-    true
+    are_put
 }
 
 /// Whether the nine are there, and no others.
 pub fn are_left<M: UnderTest<Numbered, u32>>(map: &M) -> bool {
-    for id in LEFT {
-        if map.get(&id) != Some(&numbered(id, id)) {
-            return false;
-        }
-    }
-    map.len() == 9
+    let are_there = LEFT
+        .iter()
+        .all(|id| map.get(id) == Some(&numbered(*id, *id)));
+    are_there && map.len() == 9
 }

@@ -1,7 +1,7 @@
 //! What tests ask of an ordered map alone: at its ends, by positions, between bounds, and by what shows an item.
 use crate::caseless::Coarse;
 use crate::coarse::Put;
-use crate::maps::{Inserted, Ordered, kept_out};
+use crate::maps::{Inserted, Ordered, outcome};
 use iddqd::id_ord_map::{Entry, Iter};
 use iddqd::{Comparable, IdOrdItem, Steps};
 use std::ops::Bound;
@@ -10,13 +10,12 @@ use std::slice;
 /// Two bounds, by reference.
 pub type Bounds<'a, Q> = (Bound<&'a Q>, Bound<&'a Q>);
 
+// A call without a comment is the map's of that name.
 impl<T: IdOrdItem> Ordered<T> {
-    /// `pop_first`.
     pub fn pop_first(&mut self) -> Option<T> {
         self.map.pop_first()
     }
 
-    /// `pop_last`.
     pub fn pop_last(&mut self) -> Option<T> {
         self.map.pop_last()
     }
@@ -38,7 +37,6 @@ impl<T: IdOrdItem> Ordered<T> {
         (gone, steps.count())
     }
 
-    /// `get_index`.
     pub fn get_index(&self, index: usize) -> Option<&T> {
         self.map.get_index(index)
     }
@@ -50,12 +48,10 @@ impl<T: IdOrdItem> Ordered<T> {
         (place, steps.count())
     }
 
-    /// `lower_bound`.
     pub fn lower_bound<Q: Comparable<T::Key>>(&self, from: Bound<&Q>) -> Option<&T> {
         self.map.lower_bound(from)
     }
 
-    /// `upper_bound`.
     pub fn upper_bound<Q: Comparable<T::Key>>(&self, to: Bound<&Q>) -> Option<&T> {
         self.map.upper_bound(to)
     }
@@ -67,7 +63,6 @@ impl<T: IdOrdItem> Ordered<T> {
         (count, steps.count())
     }
 
-    /// `remove_index`.
     pub fn remove_index(&mut self, index: usize) -> Option<T> {
         self.map.remove_index(index)
     }
@@ -77,7 +72,6 @@ impl<T: IdOrdItem> Ordered<T> {
         Some(self.map.get_index_entry(index)?.remove())
     }
 
-    /// `remove_range`.
     pub fn remove_range<Q: Comparable<T::Key>>(&mut self, bounds: Bounds<'_, Q>) -> usize
     where
         T: Drop,
@@ -97,10 +91,7 @@ impl<T: IdOrdItem + PartialEq> Ordered<T> {
     /// The same of `iter`, and of its clone.
     pub fn has_items(&self, items: &[T]) -> bool {
         let walk = self.map.iter();
-        let from_clone = match walk.clone() {
-            Ok(clone) => clone.eq(items),
-            Err(_) => false,
-        };
+        let from_clone = walk.clone().is_ok_and(|clone| clone.eq(items));
         from_clone && self.map.iter().rev().eq(items.iter().rev()) && meets(walk, items.iter())
     }
 }
@@ -109,11 +100,8 @@ impl<T: IdOrdItem + Copy> Ordered<T> {
     /// `insert_unique_counted`, with what is lent copied, and how many comparisons it took.
     pub fn insert_counted(&mut self, item: T) -> (Inserted<T>, u32) {
         let mut steps = Steps::new();
-        let inserted = match self.map.insert_unique_counted(item, &mut steps) {
-            Ok(_) => Inserted::Done,
-            Err(error) => kept_out(error),
-        };
-        (inserted, steps.count())
+        let error = self.map.insert_unique_counted(item, &mut steps).err();
+        (outcome(error), steps.count())
     }
 
     /// `get_index_mut`, and the guard is spent. Whether there was one. The map is dropped then.
@@ -122,13 +110,11 @@ impl<T: IdOrdItem + Copy> Ordered<T> {
         T: Drop,
     {
         let mut map = self.map;
-        match map.get_index_mut(index) {
-            Some(lent) => {
-                lent.finish();
-                true
-            }
-            None => false,
-        }
+        let Some(lent) = map.get_index_mut(index) else {
+            return false;
+        };
+        lent.finish();
+        true
     }
 
     /// `first`, `last`, `pop_first` and `pop_last`: whether each found an item.
@@ -159,8 +145,8 @@ impl Ordered<Coarse> {
 
     /// `or_insert_with_ref`.
     pub fn show_or_put_made(&mut self, item: Coarse) -> Put {
-        let shown = self.map.entry(&item.name).or_insert_with_ref(|| item)?;
-        Ok(Some(*shown))
+        let entry = self.map.entry(&item.name);
+        Ok(Some(*entry.or_insert_with_ref(|| item)?))
     }
 }
 
