@@ -1,9 +1,6 @@
 //! Calls of one item compare as often as one search, which `get_counted` tells, and hash as it does.
-use crate::meter::{ByZero, Cost, Meter, Metered, Tally};
-use std::alloc::Global;
-use std::test::Fail;
-use test_support::counting::{CountingKey, Tallied};
-use test_support::maps::{ByEntry, Ordered};
+use crate::prelude::*;
+use test_support::maps::ByEntry;
 
 // A lookup of the key.
 fn looks<'a, M: Metered<'a>>(map: &M, key: &CountingKey<'a>, is_there: bool, meter: Meter<'a>) {

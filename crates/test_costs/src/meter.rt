@@ -2,7 +2,7 @@
 use iddqd::errors::TryReserveError;
 use std::alloc::Global;
 use std::cell::Cell;
-use std::hash::BuildHasherDefault;
+use std::hash::{BuildHasher, BuildHasherDefault};
 use std::test::Fail;
 use test_support::bulk::{Bulk, Hinted};
 use test_support::counting::{CountingKey, Counts, Tallied};
@@ -17,7 +17,7 @@ pub(crate) trait Metered<'a>: Copying<Tallied<'a>, CountingKey<'a>> + Bulk<Talli
 
 impl<'a> Metered<'a> for Ordered<Tallied<'a>> {}
 
-impl<'a> Metered<'a> for ByZero<'a> {}
+impl<'a, S: BuildHasher + Default + Drop> Metered<'a> for Hashed<Tallied<'a>, S> {}
 
 /// Hashings, and comparisons.
 pub(crate) type Cost = (u32, u32);

@@ -1,40 +1,28 @@
 //! Maps that are made, of either kind, with a request refused: then nothing is.
 use crate::maps::{fill, holds};
+use crate::prelude::*;
 use crate::rooms::numbers;
-use crate::words::{Word, tell, unique, word_by_refusal, word_without_memory};
-use iddqd::errors::TryReserveError;
 use iddqd::{DefaultHashBuilder, IdHashMap, IdOrdMap};
-use std::alloc::Global;
-use std::test::Fail;
 use test_support::bulk::Bulk;
-use test_support::heap::{arm, is_met};
-use test_support::items::Numbered;
-use test_support::maps::{Hashed, Ordered, UnderTest};
 
 // Ends the count: the word for a map that was made, if it is right.
 fn word(alloc: Global, made: Result<bool, TryReserveError>) -> Word {
-    word_by_refusal(made, is_met(alloc), ("made", "nothing_made"))
-}
-
-fn is_made<M: Drop>(made: Result<M, TryReserveError>) -> Result<bool, TryReserveError> {
-    match made {
-        Ok(_) => Ok(true),
-        Err(error) => Err(error),
-    }
+    let is_met = is_met(alloc);
+    word_by_refusal(is_due(made, is_met), is_met, ("made", "nothing_made"))
 }
 
 #[test]
 fn with_capacity(rt: HostRuntime) -> Result<(), Fail> {
     arm(rt.alloc());
     let made = IdOrdMap::<Numbered>::with_capacity(rt.alloc(), 20);
-    tell(&rt, word(rt.alloc(), is_made(made)))
+    tell(&rt, word(rt.alloc(), made.map(|_| true)))
 }
 
 #[test]
 fn hash_with_capacity(rt: HostRuntime) -> Result<(), Fail> {
     arm(rt.alloc());
     let made = IdHashMap::<Numbered>::with_capacity(rt.alloc(), 20);
-    tell(&rt, word(rt.alloc(), is_made(made)))
+    tell(&rt, word(rt.alloc(), made.map(|_| true)))
 }
 
 #[test]
@@ -42,7 +30,7 @@ fn with_capacity_and_hasher(rt: HostRuntime) -> Result<(), Fail> {
     let hasher = DefaultHashBuilder::new();
     arm(rt.alloc());
     let made = IdHashMap::<Numbered>::with_capacity_and_hasher(rt.alloc(), 20, hasher);
-    tell(&rt, word(rt.alloc(), is_made(made)))
+    tell(&rt, word(rt.alloc(), made.map(|_| true)))
 }
 
 // What `with_capacity` made room for goes in, and asks for nothing.
@@ -54,29 +42,25 @@ fn hash_room_without_memory(rt: HostRuntime) -> Result<(), Fail> {
     tell(&rt, word_without_memory(rt.alloc(), is_full))
 }
 
-// Whether a map that was made of twenty numbers has them.
-fn is_whole<M: UnderTest<Numbered, u32> + Drop>(
-    made: Result<M, TryReserveError>,
-) -> Result<bool, TryReserveError> {
-    match made {
-        Ok(map) => Ok(holds(&map, 20)),
-        Err(error) => Err(error),
-    }
+// The word for a map that was made of twenty numbers.
+fn word_of_twenty<M>(alloc: Global, made: Result<M, TryReserveError>) -> Word
+where
+    M: UnderTest<Numbered, u32> + Drop,
+{
+    word(alloc, made.map(|map| holds(&map, 20)))
 }
 
-// Collects twenty numbers.
 fn collection<M: UnderTest<Numbered, u32> + Bulk<Numbered> + Drop>(alloc: Global) -> Word {
     let items = numbers(alloc, 0, 20)?;
     arm(alloc);
-    word(alloc, is_whole(M::collected(alloc, items)))
+    word_of_twenty::<M>(alloc, M::collected(alloc, items))
 }
 
 // The same, where no number may repeat.
 fn unique_collection<M: UnderTest<Numbered, u32> + Bulk<Numbered> + Drop>(alloc: Global) -> Word {
     let items = numbers(alloc, 0, 20)?;
     arm(alloc);
-    let made: Result<M, TryReserveError> = unique(M::collected_unique(alloc, items));
-    word(alloc, is_whole(made))
+    word_of_twenty::<M>(alloc, unique(M::collected_unique(alloc, items)))
 }
 
 #[test]

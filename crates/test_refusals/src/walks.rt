@@ -1,12 +1,6 @@
 //! Walks, for reading and for writing, which ask for no memory.
 use crate::maps::fill;
-use crate::words::{Word, tell, word_without_memory};
-use std::alloc::Global;
-use std::test::Fail;
-use test_support::heap::arm;
-use test_support::items::Numbered;
-use test_support::maps::{Copying, UnderTest, by_hash, in_order};
-use test_support::new_items::numbered;
+use crate::prelude::*;
 use test_support::walks::Walked;
 
 fn write(item: &mut Numbered) {

@@ -1,8 +1,14 @@
-//! The words that the sweeps read.
-use iddqd::errors::{FromIterError, TryReserveError};
-use std::alloc::Global;
-use std::test::Fail;
-use test_support::heap::is_met;
+//! What most tests here name, and the words that the sweeps read.
+use iddqd::errors::FromIterError;
+pub(crate) use iddqd::errors::TryReserveError;
+pub(crate) use std::alloc::{AllocError, Global};
+pub(crate) use std::test::Fail;
+pub(crate) use test_support::heap::{arm, is_met};
+pub(crate) use test_support::items::Numbered;
+pub(crate) use test_support::maps::{
+    Copying, Hashed, Inserted, Ordered, UnderTest, by_hash, in_order,
+};
+pub(crate) use test_support::new_items::numbered;
 
 /// The word for what a test saw, or what was wrong.
 pub(crate) type Word = Result<&'static str, Fail>;
@@ -32,25 +38,32 @@ pub(crate) fn word_of<S: PartialEq>(rows: &[(&'static str, S)], seen: &S) -> Wor
     Err(Fail::from("what was seen is no row"))
 }
 
-/// The first word if the call did what it should, the second if it was refused memory because a request was.
+/// The first word if all is well and no request was refused, the second if one was.
 pub(crate) fn word_by_refusal(
-    outcome: Result<bool, TryReserveError>,
+    is_well: bool,
     is_met: bool,
     (done, refused): (&'static str, &'static str),
 ) -> Word {
+    word_of(
+        &[(done, (true, false)), (refused, (true, true))],
+        &(is_well, is_met),
+    )
+}
+
+/// Whether a call did what it should, or was refused memory because a request was.
+pub(crate) fn is_due(outcome: Result<bool, TryReserveError>, is_met: bool) -> bool {
     match outcome {
-        Ok(true) if !is_met => Ok(done),
-        Err(error) if is_met && !error.is_capacity_overflow() => Ok(refused),
-        _ => Err(Fail::from("a call went wrong, was refused for nothing, or tells no refusal")),
+        Ok(is_well) => is_well && !is_met,
+        Err(error) => is_met && error == TryReserveError::alloc_error(),
     }
 }
 
 /// Ends the count: the word for calls that went well and met no request.
 pub(crate) fn word_without_memory(alloc: Global, is_well: bool) -> Word {
-    if is_met(alloc) || !is_well {
-        return Err(Fail::from("a call went wrong, or asked for memory"));
-    }
-    Ok("asked_nothing")
+    word_of(
+        &[("asked_nothing", (true, false))],
+        &(is_well, is_met(alloc)),
+    )
 }
 
 /// What `from_iter_unique` made, where no key repeats: a duplicate counts as a full map, which no row allows.
