@@ -37,11 +37,7 @@ fn ordered_steps_are_comparisons(rt: HostRuntime) -> Result<(), Fail> {
 }
 
 // Each lookup in a hash map of so many even numbers, and of the odd ones beside them.
-fn hashed_counts<'a, M: Metered<'a>>(
-    alloc: Global,
-    count: u32,
-    meter: Meter<'a>,
-) -> Result<(), Fail> {
+fn hash_steps<'a, M: Metered<'a>>(alloc: Global, count: u32, meter: Meter<'a>) -> Result<(), Fail> {
     let items = meter.counts.items(alloc, 0, count)?;
     let map = meter.map_of::<M>(alloc, items.as_slice())?;
     for item in items {
@@ -57,8 +53,8 @@ fn hashed_counts<'a, M: Metered<'a>>(
 fn hashed_steps_are_comparisons(rt: HostRuntime) -> Result<(), Fail> {
     let tally = Tally::default();
     for count in [30, 100] {
-        hashed_counts::<ByZero<'_>>(rt.alloc(), count, tally.of_hashes())?;
-        hashed_counts::<Hashed<Tallied<'_>>>(rt.alloc(), count, tally.of_hashes())?;
+        hash_steps::<ByZero<'_>>(rt.alloc(), count, tally.of_hashes())?;
+        hash_steps::<Hashed<Tallied<'_>>>(rt.alloc(), count, tally.of_hashes())?;
     }
     tally.end()
 }

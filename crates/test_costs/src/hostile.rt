@@ -1,5 +1,5 @@
 //! Rows of writes that spell a key anew, of guards lent once more, of equal hashes, and of walks that end early.
-use crate::numbers::{are_found, are_numbers_put, numbered, of_equal_hashes};
+use crate::numbers::{are_found, are_put, numbered, of_equal_hashes};
 use crate::prelude::*;
 use test_support::caseless::{Caseless, Coarse, item_of, spelled};
 use test_support::coarse::{CoarseMap, Copied, Way};
@@ -108,35 +108,27 @@ fn fifty_are_put<M: UnderTest<Numbered, u32>>(map: &mut M, first: u32) -> bool {
 #[test]
 fn equal_hashes_shrunk(rt: HostRuntime) {
     let mut map = of_equal_hashes(rt.alloc());
-    check(
-        &rt,
-        fifty_are_put(&mut map, 0) && fifty_are_put(&mut map, 1),
-    );
-    check(
-        &rt,
-        (0..50u32).all(|half| map.remove(&half.wrapping_mul(2)).is_some()),
-    );
+    check(&rt, fifty_are_put(&mut map, 0));
+    check(&rt, fifty_are_put(&mut map, 1));
+    for half in 0..50u32 {
+        check(&rt, map.remove(&half.wrapping_mul(2)).is_some());
+    }
     check(&rt, map.shrink_to_fit().is_ok() && map.is_compact());
-    check(
-        &rt,
-        fifty_are_put(&mut map, 0) && are_found(&map, (0, 100), 100),
-    );
+    check(&rt, fifty_are_put(&mut map, 0));
+    check(&rt, are_found(&map, (0, 100), 100));
 }
 
 // The values of the first ten of thirty numbers are one more than they were.
 #[test]
 fn writing_walk_stopped(rt: HostRuntime) {
     let mut map = in_order(rt.alloc());
-    check(&rt, are_numbers_put(&mut map, 1, 31));
+    check(&rt, are_put(&mut map, 1, 31));
     let (map, left) = map.written(10, |item: &mut Numbered| {
         item.value = item.value.wrapping_add(1);
     });
     check(&rt, left == 20 && map.len() == 30);
     for item in map.iter() {
-        let old = numbered(item.number).value;
-        check(
-            &rt,
-            item.value == old.wrapping_add(u32::from(item.number <= 10)),
-        );
+        let raise = u32::from(item.number <= 10);
+        check(&rt, item.value == (item.number ^ 5).wrapping_add(raise));
     }
 }

@@ -1,5 +1,5 @@
 //! Maps of many items, hash maps over other hashers, and the numbers of a map.
-use crate::numbers::{are_numbers_put, by_factor, numbered, of_equal_hashes};
+use crate::numbers::{are_put, by_factor, numbered, of_equal_hashes};
 use crate::prelude::*;
 use iddqd::IdHashMap;
 use std::collections::hash_map::RandomState;
@@ -31,10 +31,8 @@ fn is_twice_refused<M: Copying<Numbered, u32>>(map: &mut M, again: Numbered) -> 
 
 // Whether the numbers from 1 to 100 are inserted, 50 cannot be inserted twice, and it is removed.
 fn hundred<M: Copying<Numbered, u32>>(map: &mut M, items: &[Numbered]) -> bool {
-    let again = Numbered {
-        number: 50,
-        value: 0,
-    };
+    let mut again = numbered(50);
+    again.value = 0;
     all_go_in(map, items)
         && map.get(&101).is_none()
         && is_twice_refused(map, again)
@@ -64,28 +62,24 @@ fn hashers_of_few_bits(rt: HostRuntime) -> Result<(), Fail> {
 }
 
 // Whether ten thousand keys are inserted in one order, and removed in another.
-fn ten_thousand<M: UnderTest<Numbered, u32> + Drop>(
-    alloc: Global,
-    mut map: M,
-) -> Result<bool, Fail> {
+fn in_and_out<M: UnderTest<Numbered, u32> + Drop>(alloc: Global, mut map: M) -> Result<bool, Fail> {
     let coming = by_factor(alloc, 10_007, 7)?;
     let going = by_factor(alloc, 10_007, 11)?;
     let (front, rest) = going.as_slice().split_at(going.len().min(5_000));
-    Ok(
-        all_go_in(&mut map, coming.as_slice())
-            && map.len() == 10_006
-            && all_come_out(&mut map, front)
-            && map.len() == 5_006
-            && all_are_found(&map, rest)
-            && all_come_out(&mut map, rest)
-            && map.len() == 0,
-    )
+    let is_well = all_go_in(&mut map, coming.as_slice())
+        && map.len() == 10_006
+        && all_come_out(&mut map, front)
+        && map.len() == 5_006
+        && all_are_found(&map, rest)
+        && all_come_out(&mut map, rest)
+        && map.len() == 0;
+    Ok(is_well)
 }
 
 #[test]
 fn ten_thousand_keys(rt: HostRuntime) -> Result<(), Fail> {
-    check(&rt, ten_thousand(rt.alloc(), in_order(rt.alloc()))?);
-    check(&rt, ten_thousand(rt.alloc(), by_hash(rt.alloc()))?);
+    check(&rt, in_and_out(rt.alloc(), in_order(rt.alloc()))?);
+    check(&rt, in_and_out(rt.alloc(), by_hash(rt.alloc()))?);
     Ok(())
 }
 
@@ -96,10 +90,8 @@ fn random_hasher(rt: HostRuntime) -> Result<(), Fail> {
     let items = list.as_slice();
     let map = IdHashMap::with_hasher(rt.alloc(), RandomState::new(&rt)?);
     let mut map = Hashed::new(map);
-    check(
-        &rt,
-        all_go_in(&mut map, items) && is_twice_refused(&mut map, numbered(7)),
-    );
+    check(&rt, all_go_in(&mut map, items));
+    check(&rt, is_twice_refused(&mut map, numbered(7)));
     check(&rt, all_come_out(&mut map, items));
     Ok(())
 }
@@ -127,7 +119,7 @@ fn hash_numbers_of_an_empty_map(rt: HostRuntime) {
 
 // Whether the numbers are right after one of two items has left.
 fn counts_the_one_left<M: UnderTest<Numbered, u32>>(map: &mut M) -> bool {
-    are_numbers_put(map, 1, 3)
+    are_put(map, 1, 3)
         && map.remove(&1) == Some(numbered(1))
         && map.vacant() == 1
         && map.capacity() >= 2
@@ -147,7 +139,7 @@ fn hash_numbers_after_a_removal(rt: HostRuntime) {
 
 // Six hundred thousand items are inserted, more than 65,536 groups of nine hold.
 fn go_in_by_number<M: UnderTest<Numbered, u32>>(map: &mut M) -> bool {
-    are_numbers_put(map, 0, 600_000)
+    are_put(map, 0, 600_000)
         && map.len() == 600_000
         && map.get(&599_999) == Some(&numbered(599_999))
 }

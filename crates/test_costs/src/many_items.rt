@@ -66,7 +66,7 @@ fn leave_and_move<'a, M: Metered<'a>>(alloc: Global, meter: Meter<'a>) -> Result
     let items = meter.counts.items(alloc, 0, 50)?;
     let mut map = meter.map_of::<M>(alloc, items.as_slice())?;
     map.retain(|item| item.key.number >= 14);
-    meter.tell_hashed(map.len() == 43, 7);
+    meter.tell(map.len() == 43, (meter.hashings.saturating_mul(7), 0));
     let is_shrunk = map.shrink_to(60).is_ok();
     meter.hold(is_shrunk && meter.counts.since().0 == meter.hashings.saturating_mul(7));
     meter.hold(map.remove(&meter.counts.key(60)).is_some());
@@ -74,7 +74,7 @@ fn leave_and_move<'a, M: Metered<'a>>(alloc: Global, meter: Meter<'a>) -> Result
     let moved = if meter.hashings == 0 { once } else { (1, 0) };
     meter.tell(map.shrink_to_fit().is_ok(), moved);
     map.visit_all(false);
-    meter.tell_hashed(map.len() == 0, 42);
+    meter.tell(map.len() == 0, (meter.hashings.saturating_mul(42), 0));
     Ok(())
 }
 

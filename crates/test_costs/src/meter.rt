@@ -78,11 +78,6 @@ impl<'a> Meter<'a> {
         self.hold(is_done && self.counts.since() == cost);
     }
 
-    /// A call did what it should, and compared no keys. It hashed each of so many.
-    pub(crate) fn tell_hashed(self, is_done: bool, keys: u32) {
-        self.tell(is_done, (self.hashings.saturating_mul(keys), 0));
-    }
-
     /// The cost of one search for the key, as `get_counted` tells it.
     pub(crate) fn once<T: Copy + Drop, K, M: Copying<T, K>>(self, map: &M, key: &K) -> Cost {
         let _ = self.counts.since();

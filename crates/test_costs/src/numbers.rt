@@ -12,25 +12,18 @@ pub(crate) fn numbered(number: u32) -> Numbered {
     }
 }
 
-/// The items of all numbers below the prime, in an order that the factor gives.
-pub(crate) fn by_factor(
-    alloc: Global,
-    prime: u32,
-    factor: u32,
-) -> Result<Vec<Numbered>, AllocError> {
+/// The items of all numbers below a prime, in an order that the factor gives.
+pub(crate) fn by_factor(alloc: Global, end: u32, factor: u32) -> Result<Vec<Numbered>, AllocError> {
     let mut items = Vec::new(alloc);
-    for place in 1..prime {
-        let number = u64::from(place) * u64::from(factor) % u64::from(prime);
+    for place in 1..end {
+        let number = u64::from(place) * u64::from(factor) % u64::from(end);
         items.push(numbered(number as u32))?;
     }
     Ok(items)
 }
 
 /// Whether each of the numbers from one to below another goes into the map.
-pub(crate) fn are_numbers_put<M>(map: &mut M, first: u32, end: u32) -> bool
-where
-    M: UnderTest<Numbered, u32>,
-{
+pub(crate) fn are_put<M: UnderTest<Numbered, u32>>(map: &mut M, first: u32, end: u32) -> bool {
     (first..end).all(|number| map.is_put(numbered(number)))
 }
 

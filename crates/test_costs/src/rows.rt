@@ -1,5 +1,5 @@
 //! The most comparisons of a call, by how many items there are.
-use crate::numbers::{are_found, are_numbers_put, find, numbered, of_equal_hashes, put, take};
+use crate::numbers::{are_found, are_put, find, numbered, of_equal_hashes, put, take};
 use crate::prelude::*;
 
 // Whether the lookup of each of this many numbers, and its removal from the full map, take no more steps.
@@ -16,7 +16,7 @@ fn each_is_bound(map: &mut Ordered<Numbered>, (count, bound): (u32, u32)) -> boo
 // too.
 fn is_bound(alloc: Global, (count, bound): (u32, u32)) -> bool {
     let mut map = in_order(alloc);
-    let is_full = are_numbers_put(&mut map, 0, count);
+    let is_full = are_put(&mut map, 0, count);
     let (_, of_absent) = find(&map, &count);
     let is_each_bound = each_is_bound(&mut map, (count, bound));
     let (is_put, of_put) = put(&mut map, numbered(count));
@@ -42,10 +42,8 @@ fn growth_refused(rt: HostRuntime) {
 #[test]
 fn equal_hashes(rt: HostRuntime) {
     let mut map = of_equal_hashes(rt.alloc());
-    check(
-        &rt,
-        are_numbers_put(&mut map, 0, 100) && are_found(&map, (0, 100), 100),
-    );
+    check(&rt, are_put(&mut map, 0, 100));
+    check(&rt, are_found(&map, (0, 100), 100));
     let (is_found, steps) = find(&map, &100);
     check(&rt, !is_found && steps <= 100);
 }

@@ -1,5 +1,5 @@
 //! Ordered maps of many items, in and out in several orders.
-use crate::numbers::{are_found, are_numbers_put, by_factor, take};
+use crate::numbers::{are_found, are_put, by_factor, take};
 use crate::prelude::*;
 
 // The most comparisons of a call among this many: 4 and twice the binary digits of the number.
@@ -66,7 +66,7 @@ fn removals_in_mixed_order(rt: HostRuntime) -> Result<(), Fail> {
 #[test]
 fn removals_in_order(rt: HostRuntime) {
     let mut map = in_order(rt.alloc());
-    check(&rt, are_numbers_put(&mut map, 1, 13));
+    check(&rt, are_put(&mut map, 1, 13));
     for number in 1..13u32 {
         check(&rt, map.remove(&number).is_some());
         check(&rt, walks(&map, number.wrapping_add(1), 13));

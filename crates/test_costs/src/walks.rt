@@ -41,24 +41,18 @@ where
 #[test]
 fn reading_walk(rt: HostRuntime) {
     let mut map = in_order(rt.alloc());
-    check(
-        &rt,
-        is_filled(&mut map) && gives_three(&mut map.map().iter()),
-    );
+    check(&rt, is_filled(&mut map));
+    check(&rt, gives_three(&mut map.map().iter()));
     let mut walk = map.into_map().into_iter();
-    check(
-        &rt,
-        walk.next() == Some(named(*b"bar", 20)) && walk.len() == 2,
-    );
+    check(&rt, walk.next() == Some(named(*b"bar", 20)));
+    check(&rt, walk.len() == 2);
 }
 
 #[test]
 fn hash_reading_walk(rt: HostRuntime) {
     let mut map = by_hash(rt.alloc());
-    check(
-        &rt,
-        is_filled(&mut map) && gives_three(&mut map.map().iter()),
-    );
+    check(&rt, is_filled(&mut map));
+    check(&rt, gives_three(&mut map.map().iter()));
     let mut walk = map.into_map().into_iter();
     check(&rt, walk.next().is_some() && walk.len() == 2);
 }
@@ -70,19 +64,15 @@ fn walks_of_empty_maps(rt: HostRuntime) {
     check(&rt, ordered == IdOrdMap::new(rt.alloc()));
     check(&rt, gives_none(&mut ordered.iter()));
     let mut walk = ordered.iter_mut();
-    check(
-        &rt,
-        walk.len() == 0 && walk.next().is_none() && walk.next().is_none(),
-    );
+    check(&rt, walk.len() == 0 && walk.next().is_none());
+    check(&rt, walk.next().is_none());
     check(&rt, gives_none(&mut ordered.into_iter()));
     let mut hashed: IdHashMap<Named> = IdHashMap::new(rt.alloc());
     check(&rt, hashed.eq(&IdHashMap::new(rt.alloc())));
     check(&rt, gives_none(&mut hashed.iter()));
     let mut walk = hashed.iter_mut();
-    check(
-        &rt,
-        walk.len() == 0 && walk.next().is_none() && walk.next().is_none(),
-    );
+    check(&rt, walk.len() == 0 && walk.next().is_none());
+    check(&rt, walk.next().is_none());
     check(&rt, gives_none(&mut hashed.into_iter()));
 }
 
@@ -131,13 +121,9 @@ fn are_put<M: UnderTest<Valued, u32>>(one: &mut M, other: &mut M) -> bool {
 #[test]
 fn equality_ignores_key(rt: HostRuntime) {
     let (mut one, mut other) = (in_order(rt.alloc()), in_order(rt.alloc()));
-    check(
-        &rt,
-        are_put(&mut one, &mut other) && one.map() == other.map(),
-    );
+    check(&rt, are_put(&mut one, &mut other));
+    check(&rt, one.map() == other.map());
     let (mut one, mut other) = (by_hash(rt.alloc()), by_hash(rt.alloc()));
-    check(
-        &rt,
-        are_put(&mut one, &mut other) && !one.map().eq(other.map()),
-    );
+    check(&rt, are_put(&mut one, &mut other));
+    check(&rt, !one.map().eq(other.map()));
 }

@@ -10,7 +10,7 @@ use test_support::kept::Kept;
 fn word(alloc: Global, copied: Result<bool, TryReserveError>, is_kept: bool) -> Word {
     let is_met = is_met(alloc);
     let is_well = is_due(copied, is_met) && is_kept && !has_leaked(alloc);
-    word_by_refusal(is_well, is_met, ("cloned", "nothing_made"))
+    word_by_refusal(is_well, is_met, ["cloned", "nothing_made"])
 }
 
 // A clone that is equal.
@@ -43,10 +43,11 @@ fn fill_with_kept<M: UnderTest<Kept, u32>>(alloc: Global, map: &mut M) -> Result
 
 // Whether the map is sound and has those four, and no other.
 fn holds_kept<M: UnderTest<Kept, u32>>(map: &M) -> bool {
-    (0..4u32).all(|name| map.get(&name).map(|kept| (kept.name, *kept.value))
-        == Some((name, name ^ 5)))
-        && map.len() == 4
-        && map.is_sound()
+    let are_there = (0..4u32).all(|name| {
+        let found = map.get(&name).map(|kept| (kept.name, *kept.value));
+        found == Some((name, name ^ 5))
+    });
+    are_there && map.len() == 4 && map.is_sound()
 }
 
 #[test]

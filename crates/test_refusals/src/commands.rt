@@ -8,34 +8,6 @@ use idtable_commands::{Command, KeyedMap, Reply, run};
 use test_support::kept::{Kept, make_kept};
 use test_support::visitors::Untouched;
 
-type Commands = Vec<Command<Kept, u32, Untouched>>;
-
-// Six commands, all of one name.
-fn commands(alloc: Global) -> Result<Commands, AllocError> {
-    let commands = [
-        Command::InsertUnique(make_kept(alloc, 1)?),
-        Command::InsertUnique(make_kept(alloc, 2)?),
-        Command::Get(7),
-        Command::InsertOverwrite(make_kept(alloc, 3)?),
-        Command::Remove(7),
-        Command::Len,
-    ];
-    Ok(Vec::from_array(alloc, commands)?)
-}
-
-// Six more, of the same name: many items at once, and room.
-fn bulk_commands(alloc: Global) -> Result<Commands, AllocError> {
-    let commands = [
-        Command::ExtendUnique(Vec::from_array(alloc, [make_kept(alloc, 1)?])?),
-        Command::ExtendUnique(Vec::from_array(alloc, [make_kept(alloc, 2)?])?),
-        Command::Reserve(100),
-        Command::Shrink,
-        Command::Remove(7),
-        Command::Len,
-    ];
-    Ok(Vec::from_array(alloc, commands)?)
-}
-
 fn value(kept: &Option<Kept>) -> u32 {
     kept.as_ref().map_or(0, |kept| *kept.value)
 }
@@ -60,12 +32,10 @@ fn text_of(alloc: Global, replies: &[Reply<Kept>], others: usize) -> Result<Stri
                 new,
                 existing,
                 after,
-            } => write!(
-                text,
-                "conflict {} {} {after}, ",
-                *new.value,
-                value(existing)
-            )?,
+            } => {
+                let (new, existing) = (*new.value, value(existing));
+                write!(text, "conflict {new} {existing} {after}, ")?
+            }
             Reply::Stopped { item, error, after } if !error.is_capacity_overflow() => {
                 write!(text, "stopped {} {after}, ", value(item))?
             }
@@ -81,7 +51,7 @@ fn text_of(alloc: Global, replies: &[Reply<Kept>], others: usize) -> Result<Stri
 // A word, what the six replies say, and whether a request was refused.
 type Row = (&'static str, (&'static str, bool));
 
-const ROWS: [Row; 4] = rows! {
+static ROWS: [Row; 4] = rows! {
     "answered": ("inserted, duplicate 2 1, found 1, replaced 1, removed 3, others", false);
     "insertion_refused": ("refused 1, inserted, found 2, replaced 2, removed 3, others", true);
     "duplicate_not_shown": ("inserted, duplicate 2 0, found 1, replaced 1, removed 3, others", true);
@@ -90,7 +60,7 @@ const ROWS: [Row; 4] = rows! {
 
 // If the first item is not in, the second is. If a shrink is refused, the store keeps its room, and the reply does not
 // say so.
-const BULK_ROWS: [Row; 7] = rows! {
+static BULK_ROWS: [Row; 7] = rows! {
     "answered": ("extended 1, conflict 2 1 0, done, done, removed 1, others", false);
     "shrunk_without": ("extended 1, conflict 2 1 0, done, done, removed 1, others", true);
     "none_added": ("stopped 0 0, extended 1, done, done, removed 2, others", true);
@@ -100,54 +70,77 @@ const BULK_ROWS: [Row; 7] = rows! {
     "shrink_refused": ("extended 1, conflict 2 1 0, done, refused 0, removed 1, others", true);
 };
 
+type Swept = (Vec<Command<Kept, u32, Untouched>>, &'static [Row]);
+
+// Six commands, all of one name, and the rows of their replies.
+fn commands(alloc: Global) -> Result<Swept, AllocError> {
+    let commands = [
+        Command::InsertUnique(make_kept(alloc, 1)?),
+        Command::InsertUnique(make_kept(alloc, 2)?),
+        Command::Get(7),
+        Command::InsertOverwrite(make_kept(alloc, 3)?),
+        Command::Remove(7),
+        Command::Len,
+    ];
+    Ok((Vec::from_array(alloc, commands)?, &ROWS))
+}
+
+// Six more, of the same name: many items at once, and room.
+fn bulk_commands(alloc: Global) -> Result<Swept, AllocError> {
+    let commands = [
+        Command::ExtendUnique(Vec::from_array(alloc, [make_kept(alloc, 1)?])?),
+        Command::ExtendUnique(Vec::from_array(alloc, [make_kept(alloc, 2)?])?),
+        Command::Reserve(100),
+        Command::Shrink,
+        Command::Remove(7),
+        Command::Len,
+    ];
+    Ok((Vec::from_array(alloc, commands)?, &BULK_ROWS))
+}
+
 // Runs the commands with a request refused. Commands that come back are run again. In the end the map has the others that
 // it had before.
 fn swept_run<M: KeyedMap<Item = Kept, Key = u32>>(
     alloc: Global,
     map: &mut M,
     others: usize,
-    commands: Commands,
-    rows: &[Row],
+    swept: Swept,
 ) -> Word
     requires keyed { M.keyed map.old }
     requires keeps_keys { VisitsKeepKeys M.key nat_eq ⟦<Untouched as Visit<Kept>>⟧.visits }
 {
+    let (commands, rows) = swept;
     arm(alloc);
     let outcome = run(alloc, map, commands);
     let is_met = is_met(alloc);
     if map.len() != others {
         return Err(Fail::from("an item is gone, or stays"));
     }
-    match outcome {
-        Ok(replies) => {
-            let text = text_of(alloc, replies.as_slice(), others)?;
-            word_of(rows, &(text.as_str(), is_met))
-        }
-        Err(stop) => {
-            let Ok(replies) = run(alloc, map, stop.commands) else {
-                return Err(Fail::from("no memory for the replies"));
-            };
-            let text = text_of(alloc, replies.as_slice(), others)?;
-            if is_met && word_of(rows, &(text.as_str(), false))? == "answered" {
-                return Ok("commands_back");
-            }
-            Err(Fail::from("the commands did not come back whole"))
-        }
+    let (replies, is_back) = match outcome {
+        Ok(replies) => (replies, false),
+        Err(stop) => match run(alloc, map, stop.commands) {
+            Ok(replies) => (replies, true),
+            Err(_) => return Err(Fail::from("no memory for the replies")),
+        },
+    };
+    let text = text_of(alloc, replies.as_slice(), others)?;
+    let word = word_of(rows, &(text.as_str(), is_met && !is_back))?;
+    if is_back && !(is_met && word == "answered") {
+        return Err(Fail::from("the commands did not come back whole"));
     }
+    Ok(if is_back { "commands_back" } else { word })
 }
 
 #[test]
 fn run_of_commands(rt: HostRuntime) -> Result<(), Fail> {
-    let (alloc, commands) = (rt.alloc(), commands(rt.alloc())?);
-    let map = &mut IdOrdMap::new(alloc);
-    tell(&rt, swept_run(alloc, map, 0, commands, &ROWS))
+    let map = &mut IdOrdMap::new(rt.alloc());
+    tell(&rt, swept_run(rt.alloc(), map, 0, commands(rt.alloc())?))
 }
 
 #[test]
 fn hash_run_of_commands(rt: HostRuntime) -> Result<(), Fail> {
-    let (alloc, commands) = (rt.alloc(), commands(rt.alloc())?);
-    let map = &mut IdHashMap::new(alloc);
-    tell(&rt, swept_run(alloc, map, 0, commands, &ROWS))
+    let map = &mut IdHashMap::new(rt.alloc());
+    tell(&rt, swept_run(rt.alloc(), map, 0, commands(rt.alloc())?))
 }
 
 // The map has eleven items of other names, as many as a node has room for. The store and the node are full, so both ask
@@ -160,13 +153,14 @@ fn run_of_bulk_commands(rt: HostRuntime) -> Result<(), Fail> {
         let value = Box::new(alloc, 0)?;
         let _ = map.is_put(Kept { name, value });
     }
-    let map = &mut map.into_map();
-    tell(&rt, swept_run(alloc, map, 11, commands, &BULK_ROWS))
+    tell(&rt, swept_run(alloc, &mut map.into_map(), 11, commands))
 }
 
 #[test]
 fn hash_run_of_bulk_commands(rt: HostRuntime) -> Result<(), Fail> {
     let (alloc, commands) = (rt.alloc(), bulk_commands(rt.alloc())?);
-    let map = &mut IdHashMap::new(alloc);
-    tell(&rt, swept_run(alloc, map, 0, commands, &BULK_ROWS))
+    tell(
+        &rt,
+        swept_run(alloc, &mut IdHashMap::new(alloc), 0, commands),
+    )
 }

@@ -52,7 +52,7 @@ where
         done => !is_met && is_shown(done),
     };
     let is_well = is_full && is_right && holds(&map, count, true);
-    word_by_refusal(is_well, is_met, ("inserted", refused))
+    word_by_refusal(is_well, is_met, ["inserted", refused])
 }
 
 /// The word for an insertion into an ordered map of this many items.

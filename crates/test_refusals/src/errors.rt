@@ -27,7 +27,7 @@ fn owned_or_back(alloc: Global, lent: DuplicateItem<Kept, &Kept>) -> Word {
         }
     };
     let is_well = is_right && is_whole(&owned, |kept| *kept.value);
-    word_by_refusal(is_well, is_met, ("owned", "handed_back"))
+    word_by_refusal(is_well, is_met, ["owned", "handed_back"])
 }
 
 #[test]

@@ -5,18 +5,20 @@ use iddqd::{DefaultHashBuilder, IdHashMap, IdOrdMap};
 
 // Fills a map up to its limit, and tries two insertions of a new number and a reservation. Each is refused since the map
 // is full.
-fn insertions<M: Copying<Numbered, u32> + Drop>(alloc: Global, mut map: M, limit: u32) -> Word {
+fn insertions<M: OfNumbers>(alloc: Global, mut map: M, limit: u32) -> Word {
     let is_full = fill(&mut map, limit);
     let new = numbered(1000, 6);
     let error = TryReserveError::capacity_overflow();
     arm(alloc);
     let is_kept_out = map.insert(new) == Inserted::Refused(new, error);
-    let is_back = match map.overwrite(new) {
-        Ok(_) => false,
-        Err(refused) => refused.item == new && refused.error == error,
-    };
-    let is_well = is_full && is_kept_out && is_back && map.reserve(1).is_err();
-    word_without_memory(alloc, is_well && holds(&map, limit))
+    let overwritten = map
+        .overwrite(new)
+        .map_err(|refused| (refused.item, refused.error));
+    let is_refused = overwritten == Err((new, error)) && map.reserve(1).is_err();
+    word_without_memory(
+        alloc,
+        is_full && is_kept_out && is_refused && holds(&map, limit),
+    )
 }
 
 fn ordered_insertions(alloc: Global, limit: u32) -> Word {

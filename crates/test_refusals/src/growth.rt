@@ -31,7 +31,7 @@ fn growth(alloc: Global, mut map: Ordered<Numbered>) -> Word {
     }
     let is_met = is_met(alloc);
     let is_well = is_refused == is_met && walks(&map, 12);
-    word_by_refusal(is_well, is_met, ("all_in", "key_back"))
+    word_by_refusal(is_well, is_met, ["all_in", "key_back"])
 }
 
 #[test]

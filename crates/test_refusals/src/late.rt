@@ -1,7 +1,7 @@
 //! Items that come unannounced, of which one is refused when others are in. Each owns memory.
 use crate::prelude::*;
 use iddqd::errors::ExtendError;
-use test_support::bulk::{Announced, Bulk};
+use test_support::bulk::Announced;
 use test_support::kept::Kept;
 
 // Twenty items, from the name 19 on down.
@@ -16,10 +16,6 @@ fn twenty(alloc: Global) -> Result<Announced<Kept>, AllocError> {
 
 // How many items a call took, or why it stopped.
 type Outcome = Result<usize, TryReserveError>;
-
-fn taken_by<M: UnderTest<Kept, u32> + Drop>(made: Result<M, TryReserveError>) -> Outcome {
-    Ok(made?.len())
-}
 
 // The refused item comes back, and those before it are in.
 fn extend<M: UnderTest<Kept, u32>>(map: &mut M, items: Announced<Kept>) -> Outcome {
@@ -39,8 +35,8 @@ fn takes_late<M: UnderTest<Kept, u32> + Bulk<Kept> + Drop>(alloc: Global, mut ma
     let refused = Err(TryReserveError::alloc_error());
     arm(alloc);
     let taken = [
-        taken_by::<M>(M::collected(alloc, first)),
-        taken_by::<M>(unique(M::collected_unique(alloc, second))),
+        M::collected(alloc, first).map(|map: M| map.len()),
+        unique(M::collected_unique(alloc, second)).map(|map: M| map.len()),
         extend(&mut map, third),
     ];
     let rows = rows! {

@@ -29,11 +29,8 @@ fn lives<M: CoarseMap + Copied + Drop>(mut map: M) {
 // The word for what is held when all is dropped.
 fn word(alloc: Global) -> Word {
     let is_met = is_met(alloc);
-    word_by_refusal(
-        !has_leaked(alloc),
-        is_met,
-        ("all_given_back", "nothing_held"),
-    )
+    let is_free = !has_leaked(alloc);
+    word_by_refusal(is_free, is_met, ["all_given_back", "nothing_held"])
 }
 
 #[test]

@@ -5,7 +5,7 @@ use test_support::maps::ByEntry;
 use test_support::visitors::{Change, Visited};
 
 // Fills the map with numbers, visits them, one by `get_mut` and one by its entry.
-fn visits<M: Copying<Numbered, u32> + Visited + Drop>(alloc: Global, mut map: M) -> Word {
+fn visits<M: OfNumbers + Visited>(alloc: Global, mut map: M) -> Word {
     let is_full = fill(&mut map, 78);
     arm(alloc);
     let is_visited = map.visit(7, &mut Change::KeepOdd(0)) == Some(true);

@@ -3,12 +3,11 @@ use crate::maps::{fill, holds};
 use crate::prelude::*;
 use crate::rooms::numbers;
 use iddqd::{DefaultHashBuilder, IdHashMap, IdOrdMap};
-use test_support::bulk::Bulk;
 
 // Ends the count: the word for a map that was made, if it is right.
 fn word(alloc: Global, made: Result<bool, TryReserveError>) -> Word {
     let is_met = is_met(alloc);
-    word_by_refusal(is_due(made, is_met), is_met, ("made", "nothing_made"))
+    word_by_refusal(is_due(made, is_met), is_met, ["made", "nothing_made"])
 }
 
 #[test]
@@ -42,43 +41,34 @@ fn hash_room_without_memory(rt: HostRuntime) -> Result<(), Fail> {
     tell(&rt, word_without_memory(rt.alloc(), is_full))
 }
 
-// The word for a map that was made of twenty numbers.
-fn word_of_twenty<M>(alloc: Global, made: Result<M, TryReserveError>) -> Word
-where
-    M: UnderTest<Numbered, u32> + Drop,
-{
+// Collects twenty numbers, of which none may repeat if the map is to be unique.
+fn collection<M: OfNumbers>(alloc: Global, is_unique: bool) -> Word {
+    let items = numbers(alloc, 0, 20)?;
+    arm(alloc);
+    let made: Result<M, TryReserveError> = if is_unique {
+        unique(M::collected_unique(alloc, items))
+    } else {
+        M::collected(alloc, items)
+    };
     word(alloc, made.map(|map| holds(&map, 20)))
-}
-
-fn collection<M: UnderTest<Numbered, u32> + Bulk<Numbered> + Drop>(alloc: Global) -> Word {
-    let items = numbers(alloc, 0, 20)?;
-    arm(alloc);
-    word_of_twenty::<M>(alloc, M::collected(alloc, items))
-}
-
-// The same, where no number may repeat.
-fn unique_collection<M: UnderTest<Numbered, u32> + Bulk<Numbered> + Drop>(alloc: Global) -> Word {
-    let items = numbers(alloc, 0, 20)?;
-    arm(alloc);
-    word_of_twenty::<M>(alloc, unique(M::collected_unique(alloc, items)))
 }
 
 #[test]
 fn from_iter(rt: HostRuntime) -> Result<(), Fail> {
-    tell(&rt, collection::<Ordered<Numbered>>(rt.alloc()))
+    tell(&rt, collection::<Ordered<Numbered>>(rt.alloc(), false))
 }
 
 #[test]
 fn hash_from_iter(rt: HostRuntime) -> Result<(), Fail> {
-    tell(&rt, collection::<Hashed<Numbered>>(rt.alloc()))
+    tell(&rt, collection::<Hashed<Numbered>>(rt.alloc(), false))
 }
 
 #[test]
 fn from_iter_unique(rt: HostRuntime) -> Result<(), Fail> {
-    tell(&rt, unique_collection::<Ordered<Numbered>>(rt.alloc()))
+    tell(&rt, collection::<Ordered<Numbered>>(rt.alloc(), true))
 }
 
 #[test]
 fn hash_from_iter_unique(rt: HostRuntime) -> Result<(), Fail> {
-    tell(&rt, unique_collection::<Hashed<Numbered>>(rt.alloc()))
+    tell(&rt, collection::<Hashed<Numbered>>(rt.alloc(), true))
 }

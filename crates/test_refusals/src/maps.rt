@@ -81,7 +81,7 @@ pub(crate) fn holds<M: UnderTest<Numbered, u32>>(map: &M, count: u32) -> bool {
 }
 
 // Fills the map with this many numbers, inserts each again by both insertions, and clears the map.
-fn akin<M: Copying<Numbered, u32> + Drop>(alloc: Global, mut map: M, count: u32) -> Word {
+fn akin<M: OfNumbers>(alloc: Global, mut map: M, count: u32) -> Word {
     let is_full = fill(&mut map, count);
     arm(alloc);
     let are_akin = (0..count).all(|number| {

@@ -3,12 +3,20 @@ use iddqd::errors::FromIterError;
 pub(crate) use iddqd::errors::TryReserveError;
 pub(crate) use std::alloc::{AllocError, Global};
 pub(crate) use std::test::Fail;
+pub(crate) use test_support::bulk::Bulk;
 pub(crate) use test_support::heap::{arm, is_met};
 pub(crate) use test_support::items::Numbered;
 pub(crate) use test_support::maps::{
     Copying, Hashed, Inserted, Ordered, UnderTest, by_hash, in_order,
 };
 pub(crate) use test_support::new_items::numbered;
+
+/// A map of either kind, of numbers.
+pub(crate) trait OfNumbers: Copying<Numbered, u32> + Bulk<Numbered> + Drop {}
+
+impl OfNumbers for Ordered<Numbered> {}
+
+impl OfNumbers for Hashed<Numbered> {}
 
 /// The word for what a test saw, or what was wrong.
 pub(crate) type Word = Result<&'static str, Fail>;
@@ -39,15 +47,10 @@ pub(crate) fn word_of<S: PartialEq>(rows: &[(&'static str, S)], seen: &S) -> Wor
 }
 
 /// The first word if all is well and no request was refused, the second if one was.
-pub(crate) fn word_by_refusal(
-    is_well: bool,
-    is_met: bool,
-    (done, refused): (&'static str, &'static str),
-) -> Word {
-    word_of(
-        &[(done, (true, false)), (refused, (true, true))],
-        &(is_well, is_met),
-    )
+pub(crate) fn word_by_refusal(is_well: bool, is_met: bool, words: [&'static str; 2]) -> Word {
+    let [done, refused] = words;
+    let rows = [(done, (true, false)), (refused, (true, true))];
+    word_of(&rows, &(is_well, is_met))
 }
 
 /// Whether a call did what it should, or was refused memory because a request was.

@@ -5,10 +5,7 @@ use test_support::maps::Added;
 use test_support::nine::{are_left, retain_nine};
 
 // Room for a thousand, by `try_reserve` or `reserve`.
-fn make_room<M>(map: &mut M, is_tried: bool) -> Result<(), TryReserveError>
-where
-    M: UnderTest<Numbered, u32>,
-{
+fn make_room<M: OfNumbers>(map: &mut M, is_tried: bool) -> Result<(), TryReserveError> {
     match is_tried {
         true => map.try_reserve(1000),
         false => map.reserve(1000),
@@ -16,7 +13,7 @@ where
 }
 
 // The word for a reservation on a map of four numbers. It succeeds once it is made again.
-fn room<M: Copying<Numbered, u32> + Drop>(alloc: Global, mut map: M, is_tried: bool) -> Word {
+fn room<M: OfNumbers>(alloc: Global, mut map: M, is_tried: bool) -> Word {
     let is_full = fill(&mut map, 4);
     let walk = map.listed(alloc)?;
     let room = map.room();
@@ -24,12 +21,9 @@ fn room<M: Copying<Numbered, u32> + Drop>(alloc: Global, mut map: M, is_tried: b
     let made = make_room(&mut map, is_tried).map(|()| true);
     let is_met = is_met(alloc);
     let is_kept = holds(&map, 4) && map.lists(walk.as_slice()) && map.room() >= room;
-    let is_well = is_full && is_kept && make_room(&mut map, is_tried).is_ok();
-    word_by_refusal(
-        is_due(made, is_met) && is_well,
-        is_met,
-        ("made", "room_refused"),
-    )
+    let is_again = make_room(&mut map, is_tried).is_ok();
+    let is_well = is_full && is_due(made, is_met) && is_kept && is_again;
+    word_by_refusal(is_well, is_met, ["made", "room_refused"])
 }
 
 #[test]
@@ -48,10 +42,7 @@ fn hash_try_reserve(rt: HostRuntime) -> Result<(), Fail> {
 }
 
 // The word for a shrink of a map of nine numbers, with vacant slots among them: to the capacity, or to fit.
-fn shrink<M>(alloc: Global, mut map: M, capacity: Option<usize>) -> Word
-where
-    M: UnderTest<Numbered, u32> + Drop,
-{
+fn shrink<M: OfNumbers>(alloc: Global, mut map: M, capacity: Option<usize>) -> Word {
     let is_full = retain_nine(&mut map);
     arm(alloc);
     let shrunk = match capacity {
@@ -101,10 +92,7 @@ const EXTEND: Extension = (false, ["extended", "none_taken", "item_back"]);
 const UNIQUE: Extension = (true, ["added", "none_added", "added_back"]);
 
 // `extend_unique` or `extend`.
-fn extend_by<M>(map: &mut M, items: Vec<Numbered>, is_unique: bool) -> Added<Numbered>
-where
-    M: Copying<Numbered, u32>,
-{
+fn extend_by<M: OfNumbers>(map: &mut M, items: Vec<Numbered>, is_unique: bool) -> Added<Numbered> {
     if is_unique {
         return map.add_each(items);
     }
@@ -115,10 +103,8 @@ where
 }
 
 // The word for the numbers 5 to 24 put into a map of five numbers. Those before the refused one are in.
-fn extension<M>(alloc: Global, mut map: M, (is_unique, [all, none, some]): Extension) -> Word
-where
-    M: Copying<Numbered, u32> + Drop,
-{
+fn extension<M: OfNumbers>(alloc: Global, mut map: M, (is_unique, words): Extension) -> Word {
+    let [all, none, some] = words;
     let is_full = fill(&mut map, 5);
     let items = numbers(alloc, 5, 25)?;
     arm(alloc);
@@ -131,10 +117,7 @@ where
         Added::Conflict(_, _) => return Err(Fail::from("a number is told twice")),
     };
     let is_told = refused == is_met.then_some(TryReserveError::alloc_error());
-    if is_full && is_told && holds(&map, count) {
-        return Ok(word);
-    }
-    Err(Fail::from("an item is gone, or was refused for nothing"))
+    word_of(&[(word, true)], &(is_full && is_told && holds(&map, count)))
 }
 
 #[test]

@@ -10,7 +10,7 @@ fn write(item: &mut Numbered) {
 // Fills the map with numbers, walks it, retains all of them but one, and writes to 70 of the 77.
 fn walks<M>(alloc: Global, mut map: M) -> Word
 where
-    M: Copying<Numbered, u32> + Walked<Numbered> + Drop,
+    M: OfNumbers + Walked<Numbered>,
     M::Map: Drop,
 {
     let is_full = fill(&mut map, 78);
