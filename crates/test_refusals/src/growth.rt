@@ -22,19 +22,19 @@ fn grow(map: &mut Ordered<Numbered>, number: u32) -> Result<bool, Fail> {
     Err(Fail::from("a number is gone, or is not back"))
 }
 
-// The word for twelve numbers, of which one was refused if a request was.
-fn growth(alloc: Global, mut map: Ordered<Numbered>) -> Word {
+// Of twelve numbers one is refused if a request is.
+#[test]
+fn growth_refused(rt: HostRuntime) -> Result<(), Fail> {
+    let mut map = in_order(rt.alloc());
     let mut is_refused = false;
-    arm(alloc);
+    arm(rt.alloc());
     for number in 0..12 {
         is_refused = grow(&mut map, number)? || is_refused;
     }
-    let is_met = is_met(alloc);
+    let is_met = is_met(rt.alloc());
     let is_well = is_refused == is_met && walks(&map, 12);
-    word_by_refusal(is_well, is_met, ["all_in", "key_back"])
-}
-
-#[test]
-fn growth_refused(rt: HostRuntime) -> Result<(), Fail> {
-    tell(&rt, growth(rt.alloc(), in_order(rt.alloc())))
+    tell(
+        &rt,
+        word_by_refusal(is_well, is_met, ["all_in", "key_back"]),
+    )
 }

@@ -2,17 +2,15 @@
 use crate::prelude::*;
 use iddqd_run::{Fault, Kind, serve};
 
-// A word, the text that `serve` writes then, what it returns, and whether a request was refused.
+// A word, and what `serve` does then.
 type Row = (&'static str, (&'static [u8], Result<u64, Fault>, bool));
 
 type Lines = (&'static [u8], &'static [Row]);
 
-// What `serve` does with the lines. Room for the text is reserved first.
-fn served(
-    alloc: Global,
-    kind: Kind,
-    mut lines: &[u8],
-) -> Result<(Vec<u8>, Result<u64, Fault>, bool), Fail> {
+// The text that `serve` writes, with room for it reserved first, what it returns, and whether a request was refused.
+type Served = (Vec<u8>, Result<u64, Fault>, bool);
+
+fn served(alloc: Global, kind: Kind, mut lines: &[u8]) -> Result<Served, Fail> {
     let mut text = Vec::with_capacity(alloc, 200)?;
     arm(alloc);
     let outcome = serve(alloc, kind, &mut lines, &mut text);

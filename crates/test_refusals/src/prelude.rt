@@ -38,12 +38,8 @@ pub(crate) use rows;
 
 /// The word of the row that was seen.
 pub(crate) fn word_of<S: PartialEq>(rows: &[(&'static str, S)], seen: &S) -> Word {
-    for (word, row) in rows {
-        if row == seen {
-            return Ok(*word);
-        }
-    }
-    Err(Fail::from("what was seen is no row"))
+    let found = rows.iter().find(|(_, row)| row == seen);
+    Ok(found.ok_or("what was seen is no row")?.0)
 }
 
 /// The first word if all is well and no request was refused, the second if one was.
