@@ -91,7 +91,7 @@ where
         Err(FromIterError::Refused(error)) => error == TryReserveError::capacity_overflow(),
         _ => false,
     };
-    few == (None, false) && one.len() == 1 && many == few && other.len() == 100 && refused
+    few == (None, false) && one.len() == 1 && many == (None, false) && other.len() == 100 && refused
 }
 
 #[test]
