@@ -1,22 +1,15 @@
 //! The calls of an ordered map alone: a position and a bound cost one search, the ends of the map none.
-use crate::checks::check;
-use crate::meter::{Meter, Tally};
+use crate::prelude::*;
 use iddqd::IdOrdItem;
 use std::ops::Bound;
-use std::process::Abort;
-use std::test::Fail;
-use test_support::maps::{Ordered, UnderTest};
-
-fn ends<T: IdOrdItem + Copy + Drop>(mut map: Ordered<T>, meter: Meter<'_>) {
-    meter.tell(map.use_ends(), (0, 0));
-}
 
 #[test]
 fn ends_compare_none(rt: HostRuntime) -> Result<(), Fail> {
     let tally = Tally::default();
     let meter = tally.of_order();
     let items = meter.counts.items(rt.alloc(), 0, 50)?;
-    ends(meter.map_of(rt.alloc(), items.as_slice())?, meter);
+    let mut map: Ordered<Tallied<'_>> = meter.map_of(rt.alloc(), items.as_slice())?;
+    meter.tell(map.use_ends(), (0, 0));
     tally.end()
 }
 
@@ -54,29 +47,19 @@ fn finds_ranges<T: IdOrdItem + Copy + Drop>(
     meter.tell(map.remove_range(between) == 3, (0, both));
 }
 
-fn bounds<T: IdOrdItem + Copy + Drop>(
-    rt: &impl Abort,
-    mut map: Ordered<T>,
-    items: &[T],
-    absent: &[T],
-    meter: Meter<'_>,
-) {
-    check(rt, items.len() == 50 && absent.len() == 50);
-    for at in 0..50 {
-        finds_bounds(&map, items[at].key(), meter);
-        finds_bounds(&map, absent[at].key(), meter);
-    }
-    finds_ranges(&mut map, items[7].key(), items[10].key(), meter);
-    finds_ranges(&mut map, absent[20].key(), absent[23].key(), meter);
-}
-
+// The even numbers are there, and the odd ones are not.
 #[test]
 fn bounds_search_once(rt: HostRuntime) -> Result<(), Fail> {
     let tally = Tally::default();
     let meter = tally.of_order();
     let items = meter.counts.items(rt.alloc(), 0, 50)?;
-    let absent = meter.counts.items(rt.alloc(), 1, 50)?;
-    let (there, others) = (items.as_slice(), absent.as_slice());
-    bounds(&rt, meter.map_of(rt.alloc(), there)?, there, others, meter);
+    let mut map: Ordered<Tallied<'_>> = meter.map_of(rt.alloc(), items.as_slice())?;
+    for number in 0..100 {
+        finds_bounds(&map, &meter.counts.key(number), meter);
+    }
+    for (low, high) in [(14, 20), (41, 47)] {
+        let (low, high) = (meter.counts.key(low), meter.counts.key(high));
+        finds_ranges(&mut map, &low, &high, meter);
+    }
     tally.end()
 }

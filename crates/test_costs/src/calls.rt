@@ -1,9 +1,6 @@
 //! Calls of one item compare as often as one search, which `get_counted` tells, and hash as it does.
-use crate::meter::{ByZero, Cost, Meter, Metered, Tally};
-use std::alloc::Global;
-use std::test::Fail;
-use test_support::counting::{CountingKey, Tallied};
-use test_support::maps::{ByEntry, Ordered};
+use crate::prelude::*;
+use test_support::maps::ByEntry;
 
 // A lookup of the key.
 fn looks<'a, M: Metered<'a>>(map: &M, key: &CountingKey<'a>, is_there: bool, meter: Meter<'a>) {
@@ -33,11 +30,7 @@ fn comes_and_goes<'a, M: Metered<'a>>(map: &mut M, item: Tallied<'a>, meter: Met
     meter.tell(matches!(map.overwrite(item), Ok(None)), once);
 }
 
-fn calls_of_each<'a, M: Metered<'a>>(
-    alloc: Global,
-    count: u32,
-    meter: Meter<'a>,
-) -> Result<(), Fail> {
+fn each_call<'a, M: Metered<'a>>(alloc: Global, count: u32, meter: Meter<'a>) -> Result<(), Fail> {
     let items = meter.counts.items(alloc, 0, count)?;
     let mut map = meter.map_of::<M>(alloc, items.as_slice())?;
     for item in items.as_slice() {
@@ -53,15 +46,24 @@ fn calls_of_each<'a, M: Metered<'a>>(
 #[test]
 fn calls_search_once(rt: HostRuntime) -> Result<(), Fail> {
     let tally = Tally::default();
-    calls_of_each::<Ordered<Tallied<'_>>>(rt.alloc(), 300, tally.of_order())?;
+    each_call::<Ordered<Tallied<'_>>>(rt.alloc(), 300, tally.of_order())?;
     tally.end()
 }
 
 #[test]
 fn hash_calls_search_once(rt: HostRuntime) -> Result<(), Fail> {
     let tally = Tally::default();
-    calls_of_each::<ByZero<'_>>(rt.alloc(), 40, tally.of_hashes())?;
+    each_call::<ByZero<'_>>(rt.alloc(), 40, tally.of_hashes())?;
     tally.end()
+}
+
+// What a search and an insertion behind it cost: the insertion hashes its key, or in an ordered map searches for it.
+fn twice((hashings, comparisons): Cost) -> Cost {
+    if hashings == 0 {
+        (0, comparisons.saturating_mul(2))
+    } else {
+        (2, comparisons)
+    }
 }
 
 // A guard of the item, and each call on its entry: a search costs `once`, and the calls that may insert `used`.
@@ -69,10 +71,11 @@ fn by_guard_and_entry<'a, M: Metered<'a>>(
     alloc: Global,
     items: &[Tallied<'a>],
     (item, is_there): (Tallied<'a>, bool),
-    (once, used): (Cost, Cost),
     meter: Meter<'a>,
 ) -> Result<(), Fail> {
     let mut map = meter.map_of::<M>(alloc, items)?;
+    let once = meter.once(&map, &item.key);
+    let used = if is_there { once } else { twice(once) };
     meter.tell(map.spend(&item.key) == is_there, once);
     for (call, wanted, cost) in [
         (ByEntry::Nothing, is_there, once),
@@ -87,27 +90,14 @@ fn by_guard_and_entry<'a, M: Metered<'a>>(
     Ok(())
 }
 
-// What a search and an insertion behind it cost: the insertion hashes its key, or in an ordered map searches for it.
-fn twice((hashings, comparisons): Cost) -> Cost {
-    if hashings == 0 {
-        (0, comparisons.saturating_mul(2))
-    } else {
-        (2, comparisons)
-    }
-}
-
 fn guards_and_entries<'a, M: Metered<'a>>(alloc: Global, meter: Meter<'a>) -> Result<(), Fail> {
-    let items = meter.counts.items(alloc, 0, 50)?;
-    let map = meter.map_of::<M>(alloc, items.as_slice())?;
-    for item in items.as_slice() {
-        let once = meter.once(&map, &item.key);
-        let sought = (*item, true);
-        by_guard_and_entry::<M>(alloc, items.as_slice(), sought, (once, once), meter)?;
+    let list = meter.counts.items(alloc, 0, 50)?;
+    let items = list.as_slice();
+    for item in items {
+        by_guard_and_entry::<M>(alloc, items, (*item, true), meter)?;
     }
     for item in meter.counts.items(alloc, 1, 50)? {
-        let once = meter.once(&map, &item.key);
-        let costs = (once, twice(once));
-        by_guard_and_entry::<M>(alloc, items.as_slice(), (item, false), costs, meter)?;
+        by_guard_and_entry::<M>(alloc, items, (item, false), meter)?;
     }
     Ok(())
 }

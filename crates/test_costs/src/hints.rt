@@ -1,11 +1,9 @@
 //! Rows of iterators whose hints lie, and of maps that are full.
-use crate::checks::check;
+use crate::prelude::*;
 use iddqd::errors::{ExtendError, FromIterError, TryReserveError};
 use iddqd::{DefaultHashBuilder, IdHashMap, IdOrdMap};
-use std::alloc::Global;
 use test_support::bulk::{Bulk, Hinted};
-use test_support::items::Numbered;
-use test_support::maps::{Added, Copying, Hashed, Ordered, UnderTest, by_hash, in_order};
+use test_support::maps::Added;
 use test_support::new_items::numbered;
 
 // The item that was refused for the limit, and whether there was such a refusal.
@@ -62,9 +60,9 @@ fn hints_at_the_limit(rt: HostRuntime) {
 }
 
 // Whether a map without items reserves for all that is announced, if it has some room too, and whatever comes.
-fn reserves_all<M: Copying<Numbered, u32>>(one: &mut M, other: &mut M) -> bool {
+fn reserves_all<M: Copying<Numbered, u32> + Drop>(mut one: M, mut other: M) -> bool {
     one.reserve(4).is_ok()
-        && announced(one, 100) == (None, false)
+        && announced(&mut one, 100) == (None, false)
         && one.room() >= 100
         && matches!(other.add_each(Hinted::new(&[], 100)), Added::All)
         && other.room() >= 100
@@ -73,46 +71,32 @@ fn reserves_all<M: Copying<Numbered, u32>>(one: &mut M, other: &mut M) -> bool {
 #[test]
 fn hints_to_empty_maps(rt: HostRuntime) {
     let alloc = rt.alloc();
-    let (one, other) = (&mut in_order(alloc), &mut in_order(alloc));
-    check(&rt, reserves_all(one, other));
-    check(&rt, reserves_all(&mut by_hash(alloc), &mut by_hash(alloc)));
+    check(&rt, reserves_all(in_order(alloc), in_order(alloc)));
+    check(&rt, reserves_all(by_hash(alloc), by_hash(alloc)));
 }
 
-fn few_come<M: UnderTest<Numbered, u32>>(map: &mut M) -> bool {
-    stopped_at(map.extend(Hinted::new(&[numbered(1, 1)], 5))) == (None, false) && map.len() == 1
-}
-
-fn many_come<M: UnderTest<Numbered, u32>>(map: &mut M) -> bool {
+// Whether a few items are taken that are announced as more, and many that are not announced. An announcement that passes
+// what a map ever holds is refused for that.
+fn few_or_many<M>(alloc: Global, mut one: M, mut other: M) -> bool
+where
+    M: UnderTest<Numbered, u32> + Bulk<Numbered> + Drop,
+{
+    let few = stopped_at(one.extend(Hinted::new(&[numbered(1, 1)], 5)));
     let mut hundred = [numbered(0, 0); 100];
-    let mut number = 0u32;
-    for item in hundred.iter_mut() {
+    for (item, number) in hundred.iter_mut().zip(0..100) {
         item.number = number;
-        number = number.wrapping_add(1);
     }
-    stopped_at(map.extend(Hinted::new(&hundred, 0))) == (None, false) && map.len() == 100
-}
-
-// Whether an announcement that passes what a map ever holds is refused for that.
-fn is_refused_whole<M: Bulk<Numbered> + Drop>(alloc: Global) -> bool {
-    match M::collected_unique(alloc, Hinted::new(&[], 4_294_967_296)) {
+    let many = stopped_at(other.extend(Hinted::new(&hundred, 0)));
+    let refused = match M::collected_unique(alloc, Hinted::new(&[], 4_294_967_296)) {
         Err(FromIterError::Refused(error)) => error == TryReserveError::capacity_overflow(),
         _ => false,
-    }
-}
-
-fn few_or_many<M: UnderTest<Numbered, u32> + Bulk<Numbered> + Drop>(
-    alloc: Global,
-    one: &mut M,
-    other: &mut M,
-) -> bool {
-    few_come(one) && many_come(other) && is_refused_whole::<M>(alloc)
+    };
+    few == (None, false) && one.len() == 1 && many == (None, false) && other.len() == 100 && refused
 }
 
 #[test]
 fn few_or_many_items(rt: HostRuntime) {
     let alloc = rt.alloc();
-    let (one, other) = (&mut in_order(alloc), &mut in_order(alloc));
-    check(&rt, few_or_many(alloc, one, other));
-    let (one, other) = (&mut by_hash(alloc), &mut by_hash(alloc));
-    check(&rt, few_or_many(alloc, one, other));
+    check(&rt, few_or_many(alloc, in_order(alloc), in_order(alloc)));
+    check(&rt, few_or_many(alloc, by_hash(alloc), by_hash(alloc)));
 }

@@ -1,12 +1,8 @@
 //! Rows of writes that spell a key anew, of guards lent once more, of equal hashes, and of walks that end early.
-use crate::checks::check;
-use crate::numbers::{are_found, are_numbers_put, numbered, of_equal_hashes};
-use iddqd::{IdHashMap, IdOrdMap};
-use std::alloc::Global;
+use crate::numbers::{are_found, are_put, numbered, of_equal_hashes};
+use crate::prelude::*;
 use test_support::caseless::{Caseless, Coarse, item_of, spelled};
 use test_support::coarse::{CoarseMap, Copied, Way};
-use test_support::items::Numbered;
-use test_support::maps::{Copying, Inserted, UnderTest, by_hash, in_order};
 use test_support::walks::Walked;
 
 // Whether bar 1 and Foo 2 are inserted.
@@ -14,48 +10,36 @@ fn has_bar_and_foo<M: UnderTest<Coarse, Caseless>>(map: &mut M) -> bool {
     map.is_put(item_of(*b"bar", 1)) && map.is_put(item_of(*b"Foo", 2))
 }
 
-const RESPELLED: Coarse = Coarse {
-    name: Caseless(*b"fOO"),
-    value: 7,
-};
+const BAR: ([u8; 3], u32) = (*b"bar", 1);
+
+const FOO: ([u8; 3], u32) = (*b"fOO", 7);
 
 // Whether another item of FOO is a duplicate of fOO 7 once that is written over Foo, and bar is as it was.
 fn is_respelled<M: CoarseMap>(map: &mut M, way: Way) -> bool {
     let asked = Caseless(*b"FOO");
-    let is_written = has_bar_and_foo(map) && map.respell(&asked, RESPELLED, way);
+    let is_written = has_bar_and_foo(map) && map.respell(&asked, item_of(*b"fOO", 7), way);
     let existing = match map.insert(item_of(*b"FOO", 9)) {
         Inserted::Duplicate(_, existing) => existing,
         Inserted::Done | Inserted::Refused(_, _) => None,
     };
     is_written
-        && existing.as_ref().map(spelled) == Some((*b"fOO", 7))
-        && map.spelled_at(*b"BAR") == Some((*b"bar", 1))
+        && existing.as_ref().map(spelled) == Some(FOO)
+        && map.spelled_at(*b"BAR") == Some(BAR)
         && map.len() == 2
 }
 
-// Whether the walk shows bar 1, and fOO 7 behind it.
-fn is_in_order(map: &IdOrdMap<Coarse>) -> bool {
-    let mut walk = map.iter();
-    let (one, other) = (walk.next().map(spelled), walk.next().map(spelled));
-    one == Some((*b"bar", 1)) && other == Some((*b"fOO", 7)) && walk.next().is_none()
-}
-
-// Whether the walk shows bar 1 and fOO 7, in whatever order.
-fn has_both(map: &IdHashMap<Coarse>) -> bool {
-    let mut walk = map.iter();
-    let (one, other) = (walk.next().map(spelled), walk.next().map(spelled));
-    let (bar, foo) = (Some((*b"bar", 1)), Some((*b"fOO", 7)));
-    walk.next().is_none() && ((one == bar && other == foo) || (one == foo && other == bar))
-}
-
+// The walk shows bar 1, and fOO 7 behind it.
 fn respells_in_order(alloc: Global, way: Way) -> bool {
-    let mut map = in_order(alloc);
-    is_respelled(&mut map, way) && is_in_order(map.map())
+    let mut map: Ordered<Coarse> = in_order(alloc);
+    is_respelled(&mut map, way) && map.map().iter().map(spelled).eq([BAR, FOO])
 }
 
+// The walk shows bar 1 and fOO 7, in whatever order.
 fn respells_by_hash(alloc: Global, way: Way) -> bool {
-    let mut map = by_hash(alloc);
-    is_respelled(&mut map, way) && has_both(map.map())
+    let mut map: Hashed<Coarse> = by_hash(alloc);
+    let is_respelled = is_respelled(&mut map, way);
+    let is_bar_first = map.map().iter().map(spelled).eq([BAR, FOO]);
+    is_respelled && (is_bar_first || map.map().iter().map(spelled).eq([FOO, BAR]))
 }
 
 #[test]
@@ -106,10 +90,7 @@ fn equals_its_clone<M: CoarseMap + Copied + Drop>(map: &mut M) -> bool {
     let is_full = has_bar_and_foo(map);
     let copy = map.copied();
     let is_spent = map.spend(&Caseless(*b"Foo"));
-    match copy {
-        Ok(copy) => is_full && is_spent && map.equals(&copy),
-        Err(_) => false,
-    }
+    is_full && is_spent && copy.is_ok_and(|copy| map.equals(&copy))
 }
 
 #[test]
@@ -120,62 +101,34 @@ fn guard_spent_unwritten(rt: HostRuntime) {
 
 // Whether fifty numbers are inserted, each two above the one before.
 fn fifty_are_put<M: UnderTest<Numbered, u32>>(map: &mut M, first: u32) -> bool {
-    for half in 0..50u32 {
-        if !map.is_put(numbered(half.wrapping_mul(2).wrapping_add(first))) {
-            return false;
-        }
-    }
-    true
-}
-
-// Whether the fifty even numbers are removed.
-fn evens_are_taken<M: UnderTest<Numbered, u32>>(map: &mut M) -> bool {
-    for half in 0..50u32 {
-        if map.remove(&half.wrapping_mul(2)).is_none() {
-            return false;
-        }
-    }
-    true
+    (0..50u32).all(|half| map.is_put(numbered(half.wrapping_mul(2).wrapping_add(first))))
 }
 
 // Whether a hundred numbers are found after a shrink without the even ones.
-fn is_shrunk_and_filled<M: UnderTest<Numbered, u32>>(map: &mut M) -> bool {
-    fifty_are_put(map, 0)
-        && fifty_are_put(map, 1)
-        && evens_are_taken(map)
-        && map.shrink_to_fit().is_ok()
-        && map.is_compact()
-        && fifty_are_put(map, 0)
-        && are_found(map, (0, 100), 100)
-}
-
 #[test]
 fn equal_hashes_shrunk(rt: HostRuntime) {
-    check(&rt, is_shrunk_and_filled(&mut of_equal_hashes(rt.alloc())));
-}
-
-// Whether the values of the first ten of thirty numbers are one more than they were.
-fn is_raised_to_ten(map: &IdOrdMap<Numbered>) -> bool {
-    for item in map.iter() {
-        let mut wanted = numbered(item.number);
-        if item.number <= 10 {
-            raise(&mut wanted);
-        }
-        if *item != wanted {
-            return false;
-        }
+    let mut map = of_equal_hashes(rt.alloc());
+    check(&rt, fifty_are_put(&mut map, 0));
+    check(&rt, fifty_are_put(&mut map, 1));
+    for half in 0..50u32 {
+        check(&rt, map.remove(&half.wrapping_mul(2)).is_some());
     }
-    map.len() == 30
+    check(&rt, map.shrink_to_fit().is_ok() && map.is_compact());
+    check(&rt, fifty_are_put(&mut map, 0));
+    check(&rt, are_found(&map, (0, 100), 100));
 }
 
-fn raise(item: &mut Numbered) {
-    item.value = item.value.wrapping_add(1);
-}
-
+// The values of the first ten of thirty numbers are one more than they were.
 #[test]
 fn writing_walk_stopped(rt: HostRuntime) {
     let mut map = in_order(rt.alloc());
-    check(&rt, are_numbers_put(&mut map, 1, 31));
-    let (map, left) = map.written(10, raise);
-    check(&rt, left == 20 && is_raised_to_ten(&map));
+    check(&rt, are_put(&mut map, 1, 31));
+    let (map, left) = map.written(10, |item: &mut Numbered| {
+        item.value = item.value.wrapping_add(1);
+    });
+    check(&rt, left == 20 && map.len() == 30);
+    for item in map.iter() {
+        let raise = u32::from(item.number <= 10);
+        check(&rt, item.value == (item.number ^ 5).wrapping_add(raise));
+    }
 }

@@ -9,8 +9,6 @@ mod bounds;
 #[cfg(test)]
 mod calls;
 #[cfg(test)]
-mod checks;
-#[cfg(test)]
 mod counting;
 #[cfg(test)]
 mod hints;
@@ -24,6 +22,8 @@ mod many_items;
 mod meter;
 #[cfg(test)]
 mod numbers;
+#[cfg(test)]
+mod prelude;
 #[cfg(test)]
 mod rows;
 #[cfg(test)]

@@ -1,59 +1,27 @@
 //! Maps of many items, hash maps over other hashers, and the numbers of a map.
-use crate::checks::check;
-use crate::numbers::{are_numbers_put, numbered, of_equal_hashes};
+use crate::numbers::{are_put, by_factor, numbered, of_equal_hashes};
+use crate::prelude::*;
 use iddqd::IdHashMap;
-use std::alloc::{AllocError, Global};
 use std::collections::hash_map::RandomState;
-use std::test::Fail;
 use test_support::caseless::{Caseless, Coarse};
 use test_support::coarse::CoarseMap;
 use test_support::hashers::{FewBits, Varying};
-use test_support::items::Numbered;
-use test_support::maps::{Copying, Hashed, Inserted, Ordered, UnderTest, by_hash, in_order};
-
-// The items of all numbers below the prime, in an order that the factor gives.
-fn by_factor(alloc: Global, prime: u32, factor: u32) -> Result<Vec<Numbered>, AllocError> {
-    let mut items = Vec::new(alloc);
-    for place in 1..prime {
-        let number = u64::from(place) * u64::from(factor) % u64::from(prime);
-        items.push(numbered(number as u32))?;
-    }
-    Ok(items)
-}
-
-// The items before the place, and those from it on.
-fn parted(items: &[Numbered], place: usize) -> (&[Numbered], &[Numbered]) {
-    items.split_at(place.min(items.len()))
-}
 
 // Whether each of the items is inserted, and then all are found.
 fn all_go_in<M: UnderTest<Numbered, u32>>(map: &mut M, items: &[Numbered]) -> bool {
-    for item in items {
-        if !map.is_put(*item) {
-            return false;
-        }
-    }
-    all_are_found(map, items)
+    items.iter().all(|item| map.is_put(*item)) && all_are_found(map, items)
 }
 
 // Whether each of the items is found under its key.
 fn all_are_found<M: UnderTest<Numbered, u32>>(map: &M, items: &[Numbered]) -> bool {
-    for item in items {
-        if map.get(&item.number) != Some(item) {
-            return false;
-        }
-    }
-    true
+    items.iter().all(|item| map.get(&item.number) == Some(item))
 }
 
 // Whether each of the items comes out, and is not there any more.
 fn all_come_out<M: UnderTest<Numbered, u32>>(map: &mut M, items: &[Numbered]) -> bool {
-    for item in items {
-        if map.remove(&item.number) != Some(*item) || map.get(&item.number).is_some() {
-            return false;
-        }
-    }
-    true
+    items.iter().all(|item| {
+        map.remove(&item.number) == Some(*item) && map.get(&item.number).is_none()
+    })
 }
 
 // Whether another item of the number is refused as a duplicate of the one that is there.
@@ -63,18 +31,14 @@ fn is_twice_refused<M: Copying<Numbered, u32>>(map: &mut M, again: Numbered) -> 
 
 // Whether the numbers from 1 to 100 are inserted, 50 cannot be inserted twice, and it is removed.
 fn hundred<M: Copying<Numbered, u32>>(map: &mut M, items: &[Numbered]) -> bool {
-    let (front, rest) = parted(items, 50);
-    let again = Numbered {
-        number: 50,
-        value: 0,
-    };
+    let mut again = numbered(50);
+    again.value = 0;
     all_go_in(map, items)
         && map.get(&101).is_none()
         && is_twice_refused(map, again)
         && map.remove(&50) == Some(numbered(50))
         && map.get(&50).is_none()
-        && all_are_found(map, parted(front, 49).0)
-        && all_are_found(map, rest)
+        && items.iter().all(|item| item.number == 50 || map.get(&item.number) == Some(item))
 }
 
 #[test]
@@ -98,41 +62,37 @@ fn hashers_of_few_bits(rt: HostRuntime) -> Result<(), Fail> {
 }
 
 // Whether ten thousand keys are inserted in one order, and removed in another.
-fn ten_thousand<M: UnderTest<Numbered, u32>>(
-    map: &mut M,
-    coming: &[Numbered],
-    going: &[Numbered],
-) -> bool {
-    let (front, rest) = parted(going, 5_000);
-    all_go_in(map, coming)
+fn in_and_out<M: UnderTest<Numbered, u32> + Drop>(alloc: Global, mut map: M) -> Result<bool, Fail> {
+    let coming = by_factor(alloc, 10_007, 7)?;
+    let going = by_factor(alloc, 10_007, 11)?;
+    let (front, rest) = going.as_slice().split_at(going.len().min(5_000));
+    let is_well = all_go_in(&mut map, coming.as_slice())
         && map.len() == 10_006
-        && all_come_out(map, front)
+        && all_come_out(&mut map, front)
         && map.len() == 5_006
-        && all_are_found(map, rest)
-        && all_come_out(map, rest)
-        && map.len() == 0
+        && all_are_found(&map, rest)
+        && all_come_out(&mut map, rest)
+        && map.len() == 0;
+    Ok(is_well)
 }
 
 #[test]
 fn ten_thousand_keys(rt: HostRuntime) -> Result<(), Fail> {
-    let coming = by_factor(rt.alloc(), 10_007, 7)?;
-    let going = by_factor(rt.alloc(), 10_007, 11)?;
-    let (coming, going) = (coming.as_slice(), going.as_slice());
-    check(&rt, ten_thousand(&mut in_order(rt.alloc()), coming, going));
-    check(&rt, ten_thousand(&mut by_hash(rt.alloc()), coming, going));
+    check(&rt, in_and_out(rt.alloc(), in_order(rt.alloc()))?);
+    check(&rt, in_and_out(rt.alloc(), by_hash(rt.alloc()))?);
     Ok(())
 }
 
-// Whether the items are inserted, 7 cannot be inserted twice, and all are removed.
-fn come_and_go<M: Copying<Numbered, u32>>(map: &mut M, items: &[Numbered]) -> bool {
-    all_go_in(map, items) && is_twice_refused(map, numbered(7)) && all_come_out(map, items)
-}
-
+// The items are inserted, 7 cannot be inserted twice, and all are removed.
 #[test]
 fn random_hasher(rt: HostRuntime) -> Result<(), Fail> {
-    let items = by_factor(rt.alloc(), 13, 2)?;
+    let list = by_factor(rt.alloc(), 13, 2)?;
+    let items = list.as_slice();
     let map = IdHashMap::with_hasher(rt.alloc(), RandomState::new(&rt)?);
-    check(&rt, come_and_go(&mut Hashed::new(map), items.as_slice()));
+    let mut map = Hashed::new(map);
+    check(&rt, all_go_in(&mut map, items));
+    check(&rt, is_twice_refused(&mut map, numbered(7)));
+    check(&rt, all_come_out(&mut map, items));
     Ok(())
 }
 
@@ -159,7 +119,7 @@ fn hash_numbers_of_an_empty_map(rt: HostRuntime) {
 
 // Whether the numbers are right after one of two items has left.
 fn counts_the_one_left<M: UnderTest<Numbered, u32>>(map: &mut M) -> bool {
-    are_numbers_put(map, 1, 3)
+    are_put(map, 1, 3)
         && map.remove(&1) == Some(numbered(1))
         && map.vacant() == 1
         && map.capacity() >= 2
@@ -179,7 +139,7 @@ fn hash_numbers_after_a_removal(rt: HostRuntime) {
 
 // Six hundred thousand items are inserted, more than 65,536 groups of nine hold.
 fn go_in_by_number<M: UnderTest<Numbered, u32>>(map: &mut M) -> bool {
-    are_numbers_put(map, 0, 600_000)
+    are_put(map, 0, 600_000)
         && map.len() == 600_000
         && map.get(&599_999) == Some(&numbered(599_999))
 }

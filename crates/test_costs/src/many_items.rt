@@ -1,68 +1,28 @@
 //! Calls of many items cost as many insertions or removals, and walks, room and copies no comparison.
-use crate::meter::{ByZero, Cost, Meter, Metered, Tally};
-use iddqd::errors::TryReserveError;
-use std::alloc::Global;
-use std::test::Fail;
+use crate::prelude::*;
 use test_support::bulk::Hinted;
-use test_support::counting::Tallied;
-use test_support::maps::{Added, Ordered};
+use test_support::maps::Added;
 use test_support::walks::Walked;
-
-// What it costs to insert the items one by one.
-fn one_by_one<'a, M: Metered<'a>>(
-    alloc: Global,
-    items: &[Tallied<'a>],
-    meter: Meter<'a>,
-) -> Result<Cost, TryReserveError> {
-    let mut map = meter.map_of::<M>(alloc, &[])?;
-    for item in items {
-        let _ = map.overwrite(*item);
-    }
-    Ok(meter.counts.since())
-}
-
-// A call that takes many items.
-#[derive(Clone, Copy)]
-enum Call {
-    Extend,
-    ExtendUnique,
-    FromIter,
-    FromIterUnique,
-}
-
-// Whether all items are taken, by the map or by a new one.
-fn are_taken<'a, M: Metered<'a>>(
-    alloc: Global,
-    map: &mut M,
-    items: &[Tallied<'a>],
-    call: Call,
-) -> bool {
-    let items = Hinted::new(items, 0);
-    match call {
-        Call::Extend => map.extend(items).is_ok(),
-        Call::ExtendUnique => matches!(map.add_each(items), Added::All),
-        Call::FromIter => M::collected(alloc, items).is_ok(),
-        Call::FromIterUnique => M::collected_unique(alloc, items).is_ok(),
-    }
-}
 
 fn takes_many<'a, M: Metered<'a>>(alloc: Global, meter: Meter<'a>) -> Result<(), Fail> {
     let list = meter.counts.items(alloc, 0, 50)?;
     let items = list.as_slice();
-    let each = one_by_one::<M>(alloc, items, meter)?;
-    meter.hold(each.0 == meter.hashings.saturating_mul(50));
-    for call in [
-        Call::Extend,
-        Call::ExtendUnique,
-        Call::FromIter,
-        Call::FromIterUnique,
-    ] {
-        let mut map = meter.map_of::<M>(alloc, &[])?;
-        meter.tell(are_taken(alloc, &mut map, items, call), each);
+    let mut map = meter.map_of::<M>(alloc, &[])?;
+    for item in items {
+        let _ = map.overwrite(*item);
     }
-    let mut map = meter.map_of::<M>(alloc, items)?;
-    let are_replaced = are_taken(alloc, &mut map, items, Call::Extend);
+    let each = meter.counts.since();
+    meter.hold(each.0 == meter.hashings.saturating_mul(50));
+    let are_replaced = map.extend(Hinted::new(items, 0)).is_ok();
     meter.hold(are_replaced && meter.counts.since().0 == each.0);
+    let mut map = meter.map_of::<M>(alloc, &[])?;
+    meter.tell(map.extend(Hinted::new(items, 0)).is_ok(), each);
+    let mut map = meter.map_of::<M>(alloc, &[])?;
+    let added = map.add_each(Hinted::new(items, 0));
+    meter.tell(matches!(added, Added::All), each);
+    meter.tell(M::collected(alloc, Hinted::new(items, 0)).is_ok(), each);
+    let made = M::collected_unique(alloc, Hinted::new(items, 0));
+    meter.tell(made.is_ok(), each);
     Ok(())
 }
 
@@ -106,7 +66,7 @@ fn leave_and_move<'a, M: Metered<'a>>(alloc: Global, meter: Meter<'a>) -> Result
     let items = meter.counts.items(alloc, 0, 50)?;
     let mut map = meter.map_of::<M>(alloc, items.as_slice())?;
     map.retain(|item| item.key.number >= 14);
-    meter.tell_hashed(map.len() == 43, 7);
+    meter.tell(map.len() == 43, (meter.hashings.saturating_mul(7), 0));
     let is_shrunk = map.shrink_to(60).is_ok();
     meter.hold(is_shrunk && meter.counts.since().0 == meter.hashings.saturating_mul(7));
     meter.hold(map.remove(&meter.counts.key(60)).is_some());
@@ -114,7 +74,7 @@ fn leave_and_move<'a, M: Metered<'a>>(alloc: Global, meter: Meter<'a>) -> Result
     let moved = if meter.hashings == 0 { once } else { (1, 0) };
     meter.tell(map.shrink_to_fit().is_ok(), moved);
     map.visit_all(false);
-    meter.tell_hashed(map.len() == 0, 42);
+    meter.tell(map.len() == 0, (meter.hashings.saturating_mul(42), 0));
     Ok(())
 }
 

@@ -2,7 +2,7 @@
 use iddqd::errors::TryReserveError;
 use std::alloc::Global;
 use std::cell::Cell;
-use std::hash::BuildHasherDefault;
+use std::hash::{BuildHasher, BuildHasherDefault};
 use std::test::Fail;
 use test_support::bulk::{Bulk, Hinted};
 use test_support::counting::{CountingKey, Counts, Tallied};
@@ -17,7 +17,7 @@ pub(crate) trait Metered<'a>: Copying<Tallied<'a>, CountingKey<'a>> + Bulk<Talli
 
 impl<'a> Metered<'a> for Ordered<Tallied<'a>> {}
 
-impl<'a> Metered<'a> for ByZero<'a> {}
+impl<'a, S: BuildHasher + Default + Drop> Metered<'a> for Hashed<Tallied<'a>, S> {}
 
 /// Hashings, and comparisons.
 pub(crate) type Cost = (u32, u32);
@@ -76,11 +76,6 @@ impl<'a> Meter<'a> {
     /// A call did what it should, and cost this since the last one was told.
     pub(crate) fn tell(self, is_done: bool, cost: Cost) {
         self.hold(is_done && self.counts.since() == cost);
-    }
-
-    /// A call did what it should, and compared no keys. It hashed each of so many.
-    pub(crate) fn tell_hashed(self, is_done: bool, keys: u32) {
-        self.tell(is_done, (self.hashings.saturating_mul(keys), 0));
     }
 
     /// The cost of one search for the key, as `get_counted` tells it.

@@ -1,10 +1,8 @@
 //! Items by their numbers, and calls with how many steps they took.
+use crate::prelude::*;
 use iddqd::{IdHashItem, IdHashMap, IdOrdItem};
-use std::alloc::Global;
 use std::hash::BuildHasherDefault;
 use test_support::hashers::ZeroHasher;
-use test_support::items::Numbered;
-use test_support::maps::{Hashed, Inserted, Ordered, UnderTest};
 
 /// The item of a number.
 pub(crate) fn numbered(number: u32) -> Numbered {
@@ -14,33 +12,30 @@ pub(crate) fn numbered(number: u32) -> Numbered {
     }
 }
 
-/// Whether each of the numbers from one to below another goes into the map.
-pub(crate) fn are_numbers_put<M: UnderTest<Numbered, u32>>(
-    map: &mut M,
-    first: u32,
-    end: u32,
-) -> bool {
-    for number in first..end {
-        if !map.is_put(numbered(number)) {
-            return false;
-        }
+/// The items of all numbers below a prime, in an order that the factor gives.
+pub(crate) fn by_factor(alloc: Global, end: u32, factor: u32) -> Result<Vec<Numbered>, AllocError> {
+    let mut items = Vec::new(alloc);
+    for place in 1..end {
+        let number = u64::from(place) * u64::from(factor) % u64::from(end);
+        items.push(numbered(number as u32))?;
     }
-    true
+    Ok(items)
+}
+
+/// Whether each of the numbers from one to below another goes into the map.
+pub(crate) fn are_put<M: UnderTest<Numbered, u32>>(map: &mut M, first: u32, end: u32) -> bool {
+    (first..end).all(|number| map.is_put(numbered(number)))
 }
 
 /// Whether each of those numbers is found within this many steps.
-pub(crate) fn are_found<M: UnderTest<Numbered, u32>>(
-    map: &M,
-    (first, end): (u32, u32),
-    most: u32,
-) -> bool {
-    for number in first..end {
+pub(crate) fn are_found<M>(map: &M, (first, end): (u32, u32), most: u32) -> bool
+where
+    M: UnderTest<Numbered, u32>,
+{
+    (first..end).all(|number| {
         let (is_found, steps) = find(map, &number);
-        if !is_found || steps > most {
-            return false;
-        }
-    }
-    true
+        is_found && steps <= most
+    })
 }
 
 /// An empty hash map whose every hash is 0.

@@ -2,11 +2,9 @@
 ghost use Rattle.std.specs.Prelude.{nat_eq};
 ghost use Rattle.std.specs.Cmp.{on_equiv, on_per, nat_eq_equiv, partial_equiv_from_equiv};
 
-use crate::checks::check;
+use crate::prelude::*;
 use iddqd::{IdHashItem, IdHashMap, IdOrdItem, IdOrdMap};
-use std::alloc::Global;
 use test_support::items::Named;
-use test_support::maps::{Hashed, Ordered, UnderTest, by_hash, in_order};
 use test_support::new_items::named;
 
 // Whether foo, bar and baz are inserted.
@@ -39,64 +37,43 @@ where
     gives_none(walk)
 }
 
-// Whether the walks show the three items, and the walk that ends the map its first one, with two left.
-fn walks_in_order(mut map: Ordered<Named>) -> bool {
-    let shows_three = is_filled(&mut map) && gives_three(&mut map.map().iter());
-    let mut walk = map.into_map().into_iter();
-    shows_three && walk.next() == Some(named(*b"bar", 20)) && walk.len() == 2
-}
-
-fn walks_by_hash(mut map: Hashed<Named>) -> bool {
-    let shows_three = is_filled(&mut map) && gives_three(&mut map.map().iter());
-    let mut walk = map.into_map().into_iter();
-    shows_three && walk.next().is_some() && walk.len() == 2
-}
-
+// The walks show the three items, and the walk that ends the map its first one, with two left.
 #[test]
 fn reading_walk(rt: HostRuntime) {
-    check(&rt, walks_in_order(in_order(rt.alloc())));
+    let mut map = in_order(rt.alloc());
+    check(&rt, is_filled(&mut map));
+    check(&rt, gives_three(&mut map.map().iter()));
+    let mut walk = map.into_map().into_iter();
+    check(&rt, walk.next() == Some(named(*b"bar", 20)));
+    check(&rt, walk.len() == 2);
 }
 
 #[test]
 fn hash_reading_walk(rt: HostRuntime) {
-    check(&rt, walks_by_hash(by_hash(rt.alloc())));
+    let mut map = by_hash(rt.alloc());
+    check(&rt, is_filled(&mut map));
+    check(&rt, gives_three(&mut map.map().iter()));
+    let mut walk = map.into_map().into_iter();
+    check(&rt, walk.next().is_some() && walk.len() == 2);
 }
 
-// Whether neither walk over a map without items shows one, again and again.
-fn gives_none_in_order(alloc: Global) -> bool {
-    let map: IdOrdMap<Named> = IdOrdMap::new(alloc);
-    let shows_none = gives_none(&mut map.iter());
-    shows_none && gives_none(&mut map.into_iter())
-}
-
-fn gives_none_by_hash(alloc: Global) -> bool {
-    let map: IdHashMap<Named> = IdHashMap::new(alloc);
-    let shows_none = gives_none(&mut map.iter());
-    shows_none && gives_none(&mut map.into_iter())
-}
-
-// Whether the writing walk over a map without items lends none.
-fn lends_none_in_order(alloc: Global) -> bool {
-    let mut map: IdOrdMap<Named> = IdOrdMap::new(alloc);
-    let mut walk = map.iter_mut();
-    walk.len() == 0 && walk.next().is_none() && walk.next().is_none()
-}
-
-fn lends_none_by_hash(alloc: Global) -> bool {
-    let mut map: IdHashMap<Named> = IdHashMap::new(alloc);
-    let mut walk = map.iter_mut();
-    walk.len() == 0 && walk.next().is_none() && walk.next().is_none()
-}
-
+// No walk over a map without items shows or lends one, again and again.
 #[test]
 fn walks_of_empty_maps(rt: HostRuntime) {
-    let alloc = rt.alloc();
-    check(&rt, gives_none_in_order(alloc) && gives_none_by_hash(alloc));
-    check(&rt, lends_none_in_order(alloc) && lends_none_by_hash(alloc));
-    let ordered: IdOrdMap<Named> = IdOrdMap::new(alloc);
-    check(&rt, ordered == IdOrdMap::new(alloc));
-    let hashed: IdHashMap<Named> = IdHashMap::new(alloc);
-    check(&rt, hashed.eq(&IdHashMap::new(alloc)));
+    let mut ordered: IdOrdMap<Named> = IdOrdMap::new(rt.alloc());
+    check(&rt, ordered == IdOrdMap::new(rt.alloc()));
+    check(&rt, gives_none(&mut ordered.iter()));
+    let mut walk = ordered.iter_mut();
+    check(&rt, walk.len() == 0 && walk.next().is_none());
+    check(&rt, walk.next().is_none());
+    check(&rt, gives_none(&mut ordered.into_iter()));
+    let mut hashed: IdHashMap<Named> = IdHashMap::new(rt.alloc());
+    check(&rt, hashed.eq(&IdHashMap::new(rt.alloc())));
+    check(&rt, gives_none(&mut hashed.iter()));
+    let mut walk = hashed.iter_mut();
+    check(&rt, walk.len() == 0 && walk.next().is_none());
+    check(&rt, walk.next().is_none());
+    check(&rt, gives_none(&mut hashed.into_iter()));
 }
 
 /// Items whose equality ignores the key.
@@ -141,18 +118,12 @@ fn are_put<M: UnderTest<Valued, u32>>(one: &mut M, other: &mut M) -> bool {
     one.is_put(Valued { key: 1, value: 7 }) && other.is_put(Valued { key: 2, value: 7 })
 }
 
-fn are_equal_in_order(alloc: Global) -> bool {
-    let (mut one, mut other) = (in_order(alloc), in_order(alloc));
-    are_put(&mut one, &mut other) && one.map() == other.map()
-}
-
-fn differ_by_hash(alloc: Global) -> bool {
-    let (mut one, mut other) = (by_hash(alloc), by_hash(alloc));
-    are_put(&mut one, &mut other) && !one.map().eq(other.map())
-}
-
 #[test]
 fn equality_ignores_key(rt: HostRuntime) {
-    check(&rt, are_equal_in_order(rt.alloc()));
-    check(&rt, differ_by_hash(rt.alloc()));
+    let (mut one, mut other) = (in_order(rt.alloc()), in_order(rt.alloc()));
+    check(&rt, are_put(&mut one, &mut other));
+    check(&rt, one.map() == other.map());
+    let (mut one, mut other) = (by_hash(rt.alloc()), by_hash(rt.alloc()));
+    check(&rt, are_put(&mut one, &mut other));
+    check(&rt, !one.map().eq(other.map()));
 }

@@ -2,234 +2,165 @@
 ghost use Rattle.std.specs.Prelude.{nat_eq};
 ghost use Rattle.iddqd.specs.Visiting.{VisitsKeepKeys};
 
-use crate::errors::items;
-use crate::words::{Word, rows, tell};
+use crate::prelude::*;
 use iddqd::{IdHashMap, IdOrdMap, Visit};
 use idtable_commands::{Command, KeyedMap, Reply, run};
-use std::alloc::{AllocError, Global};
-use std::test::Fail;
-use test_support::heap::{arm, is_met};
 use test_support::kept::{Kept, make_kept};
-use test_support::maps::{Ordered, UnderTest};
 use test_support::visitors::Untouched;
 
-type Commands = Vec<Command<Kept, u32, Untouched>>;
+fn value(kept: &Option<Kept>) -> u32 {
+    kept.as_ref().map_or(0, |kept| *kept.value)
+}
 
-// Six commands, all of one name.
-fn commands(alloc: Global) -> Result<Commands, AllocError> {
-    let (first, second, third) = items(alloc)?;
+// What the replies say: a word each, the values of the items that they show, 0 for none, and counts. The length has to be
+// that of the others.
+fn text_of(alloc: Global, replies: &[Reply<Kept>], others: usize) -> Result<String, AllocError> {
+    let mut text = String::new(alloc);
+    for reply in replies {
+        match reply {
+            Reply::Inserted => write!(text, "inserted, ")?,
+            Reply::Duplicate { new, existing } => {
+                write!(text, "duplicate {} {}, ", *new.value, value(existing))?
+            }
+            Reply::Replaced(kept) => write!(text, "replaced {}, ", *kept.value)?,
+            Reply::Found(kept) => write!(text, "found {}, ", *kept.value)?,
+            Reply::Removed(kept) => write!(text, "removed {}, ", *kept.value)?,
+            Reply::Length(count) if *count == others => write!(text, "others")?,
+            Reply::Done => write!(text, "done, ")?,
+            Reply::Extended(count) => write!(text, "extended {count}, ")?,
+            Reply::Conflict {
+                new,
+                existing,
+                after,
+            } => {
+                let (new, existing) = (*new.value, value(existing));
+                write!(text, "conflict {new} {existing} {after}, ")?
+            }
+            Reply::Stopped { item, error, after } if !error.is_capacity_overflow() => {
+                write!(text, "stopped {} {after}, ", value(item))?
+            }
+            Reply::Refused { item, error } if !error.is_capacity_overflow() => {
+                write!(text, "refused {}, ", value(item))?
+            }
+            _ => write!(text, "other, ")?,
+        }
+    }
+    Ok(text)
+}
+
+// A word, what the six replies say, and whether a request was refused.
+type Row = (&'static str, (&'static str, bool));
+
+static ROWS: [Row; 4] = rows! {
+    "answered": ("inserted, duplicate 2 1, found 1, replaced 1, removed 3, others", false);
+    "insertion_refused": ("refused 1, inserted, found 2, replaced 2, removed 3, others", true);
+    "duplicate_not_shown": ("inserted, duplicate 2 0, found 1, replaced 1, removed 3, others", true);
+    "clone_refused": ("inserted, duplicate 2 1, refused 0, replaced 1, removed 3, others", true);
+};
+
+// If the first item is not in, the second is. If a shrink is refused, the store keeps its room, and the reply does not
+// say so.
+static BULK_ROWS: [Row; 7] = rows! {
+    "answered": ("extended 1, conflict 2 1 0, done, done, removed 1, others", false);
+    "shrunk_without": ("extended 1, conflict 2 1 0, done, done, removed 1, others", true);
+    "none_added": ("stopped 0 0, extended 1, done, done, removed 2, others", true);
+    "added_back": ("stopped 1 0, extended 1, done, done, removed 2, others", true);
+    "conflict_not_shown": ("extended 1, conflict 2 0 0, done, done, removed 1, others", true);
+    "room_refused": ("extended 1, conflict 2 1 0, refused 0, done, removed 1, others", true);
+    "shrink_refused": ("extended 1, conflict 2 1 0, done, refused 0, removed 1, others", true);
+};
+
+type Swept = (Vec<Command<Kept, u32, Untouched>>, &'static [Row]);
+
+// Six commands, all of one name, and the rows of their replies.
+fn commands(alloc: Global) -> Result<Swept, AllocError> {
     let commands = [
-        Command::InsertUnique(first),
-        Command::InsertUnique(second),
+        Command::InsertUnique(make_kept(alloc, 1)?),
+        Command::InsertUnique(make_kept(alloc, 2)?),
         Command::Get(7),
-        Command::InsertOverwrite(third),
+        Command::InsertOverwrite(make_kept(alloc, 3)?),
         Command::Remove(7),
         Command::Len,
     ];
-    Ok(Vec::from_array(alloc, commands)?)
+    Ok((Vec::from_array(alloc, commands)?, &ROWS))
 }
 
 // Six more, of the same name: many items at once, and room.
-fn bulk_commands(alloc: Global) -> Result<Commands, AllocError> {
-    let (first, second, _) = items(alloc)?;
-    let first = Vec::from_array(alloc, [first])?;
-    let second = Vec::from_array(alloc, [second])?;
+fn bulk_commands(alloc: Global) -> Result<Swept, AllocError> {
     let commands = [
-        Command::ExtendUnique(first),
-        Command::ExtendUnique(second),
+        Command::ExtendUnique(Vec::from_array(alloc, [make_kept(alloc, 1)?])?),
+        Command::ExtendUnique(Vec::from_array(alloc, [make_kept(alloc, 2)?])?),
         Command::Reserve(100),
         Command::Shrink,
         Command::Remove(7),
         Command::Len,
     ];
-    Ok(Vec::from_array(alloc, commands)?)
+    Ok((Vec::from_array(alloc, commands)?, &BULK_ROWS))
 }
 
-// What a reply says: a word, the values of up to two items, 0 for none, and a count.
-type Said = (&'static str, [u32; 2], usize);
-
-fn value(kept: &Option<Kept>) -> u32 {
-    match kept {
-        Some(kept) => *kept.value,
-        None => 0,
-    }
-}
-
-// If memory was refused, the item is the one that came back.
-fn reply_says(reply: &Reply<Kept>) -> Said {
-    match reply {
-        Reply::Inserted => ("inserted", [0, 0], 0),
-        Reply::Duplicate { new, existing } => ("duplicate", [*new.value, value(existing)], 0),
-        Reply::Replaced(kept) => ("replaced", [*kept.value, 0], 0),
-        Reply::Found(kept) => ("found", [*kept.value, 0], 0),
-        Reply::Removed(kept) => ("removed", [*kept.value, 0], 0),
-        Reply::Length(count) => ("length", [0, 0], *count),
-        Reply::Done => ("done", [0, 0], 0),
-        Reply::Extended(count) => ("extended", [0, 0], *count),
-        Reply::Conflict {
-            new,
-            existing,
-            after,
-        } => ("conflict", [*new.value, value(existing)], *after),
-        Reply::Stopped { item, error, after } if !error.is_capacity_overflow() => {
-            ("stopped", [value(item), 0], *after)
-        }
-        Reply::Refused { item, error } if !error.is_capacity_overflow() => {
-            ("no_memory", [value(item), 0], 0)
-        }
-        _ => ("other", [0, 0], 0),
-    }
-}
-
-const PUT: Said = ("inserted", [0, 0], 0);
-
-const MET: Said = ("duplicate", [2, 1], 0);
-
-const MET_UNSHOWN: Said = ("duplicate", [2, 0], 0);
-
-const FOUND: Said = ("found", [1, 0], 0);
-
-const SECOND_FOUND: Said = ("found", [2, 0], 0);
-
-const OLD: Said = ("replaced", [1, 0], 0);
-
-const SECOND_OLD: Said = ("replaced", [2, 0], 0);
-
-const GONE: Said = ("removed", [3, 0], 0);
-
-const BACK: Said = ("no_memory", [1, 0], 0);
-
-const NO_MEMORY: Said = ("no_memory", [0, 0], 0);
-
-const EMPTY: Said = ("length", [0, 0], 0);
-
-// A word, what the six replies say, and whether a request was refused.
-type Row = (&'static str, ([Said; 6], bool));
-
-const ROWS: [Row; 4] = rows! {
-    "answered": ([PUT, MET, FOUND, OLD, GONE, EMPTY], false);
-    "insertion_refused": ([BACK, PUT, SECOND_FOUND, SECOND_OLD, GONE, EMPTY], true);
-    "duplicate_not_shown": ([PUT, MET_UNSHOWN, FOUND, OLD, GONE, EMPTY], true);
-    "clone_refused": ([PUT, MET, NO_MEMORY, OLD, GONE, EMPTY], true);
-};
-
-const ADDED: Said = ("extended", [0, 0], 1);
-
-const NONE_ADDED: Said = ("stopped", [0, 0], 0);
-
-const ADDED_BACK: Said = ("stopped", [1, 0], 0);
-
-const CONFLICT: Said = ("conflict", [2, 1], 0);
-
-const UNSHOWN: Said = ("conflict", [2, 0], 0);
-
-const DONE: Said = ("done", [0, 0], 0);
-
-const FIRST_GONE: Said = ("removed", [1, 0], 0);
-
-const SECOND_GONE: Said = ("removed", [2, 0], 0);
-
-// The rows of the six others over an empty map. If the first item is not in, the second is. If a shrink is refused, the
-// store keeps its room, and the reply does not say so.
-const BULK_ROWS: [Row; 7] = rows! {
-    "answered": ([ADDED, CONFLICT, DONE, DONE, FIRST_GONE, EMPTY], false);
-    "shrunk_without": ([ADDED, CONFLICT, DONE, DONE, FIRST_GONE, EMPTY], true);
-    "none_added": ([NONE_ADDED, ADDED, DONE, DONE, SECOND_GONE, EMPTY], true);
-    "added_back": ([ADDED_BACK, ADDED, DONE, DONE, SECOND_GONE, EMPTY], true);
-    "conflict_not_shown": ([ADDED, UNSHOWN, DONE, DONE, FIRST_GONE, EMPTY], true);
-    "room_refused": ([ADDED, CONFLICT, NO_MEMORY, DONE, FIRST_GONE, EMPTY], true);
-    "shrink_refused": ([ADDED, CONFLICT, DONE, NO_MEMORY, FIRST_GONE, EMPTY], true);
-};
-
-// The same over a map of eleven other items.
-fn bulk_rows_beside_others() -> [Row; 7] {
-    let mut rows = BULK_ROWS;
-    for (_, (said, _)) in rows.iter_mut() {
-        let [.., length] = said;
-        *length = ("length", [0, 0], 11);
-    }
-    rows
-}
-
-// The word for the replies.
-fn word(rows: &[Row], replies: &[Reply<Kept>], is_met: bool) -> Word {
-    for (word, (row, is_told)) in rows {
-        if *is_told == is_met && replies.iter().map(reply_says).eq(*row) {
-            return Ok(*word);
-        }
-    }
-    Err(Fail::from("the replies are no row"))
-}
-
-// Runs the commands with a request refused. Commands that come back are run again. In the end the map has as many
-// items as before.
+// Runs the commands with a request refused. Commands that come back are run again. In the end the map has the others that
+// it had before.
 fn swept_run<M: KeyedMap<Item = Kept, Key = u32>>(
     alloc: Global,
     map: &mut M,
-    commands: Commands,
-    rows: &[Row],
+    others: usize,
+    swept: Swept,
 ) -> Word
     requires keyed { M.keyed map.old }
     requires keeps_keys { VisitsKeepKeys M.key nat_eq ⟦<Untouched as Visit<Kept>>⟧.visits }
 {
-    let others = map.len();
+    let (commands, rows) = swept;
     arm(alloc);
     let outcome = run(alloc, map, commands);
     let is_met = is_met(alloc);
     if map.len() != others {
         return Err(Fail::from("an item is gone, or stays"));
     }
-    match outcome {
-        Ok(replies) => word(rows, replies.as_slice(), is_met),
-        Err(stop) => {
-            let Ok(replies) = run(alloc, map, stop.commands) else {
-                return Err(Fail::from("no memory for the replies"));
-            };
-            if is_met && word(rows, replies.as_slice(), false)? == "answered" {
-                return Ok("commands_back");
-            }
-            Err(Fail::from("the commands did not come back whole"))
-        }
+    let (replies, is_back) = match outcome {
+        Ok(replies) => (replies, false),
+        Err(stop) => match run(alloc, map, stop.commands) {
+            Ok(replies) => (replies, true),
+            Err(_) => return Err(Fail::from("no memory for the replies")),
+        },
+    };
+    let text = text_of(alloc, replies.as_slice(), others)?;
+    let word = word_of(rows, &(text.as_str(), is_met && !is_back))?;
+    if is_back && !(is_met && word == "answered") {
+        return Err(Fail::from("the commands did not come back whole"));
     }
+    Ok(if is_back { "commands_back" } else { word })
 }
 
 #[test]
 fn run_of_commands(rt: HostRuntime) -> Result<(), Fail> {
-    let (alloc, commands) = (rt.alloc(), commands(rt.alloc())?);
-    let map = &mut IdOrdMap::new(alloc);
-    tell(&rt, swept_run(alloc, map, commands, &ROWS))
+    let map = &mut IdOrdMap::new(rt.alloc());
+    tell(&rt, swept_run(rt.alloc(), map, 0, commands(rt.alloc())?))
 }
 
 #[test]
 fn hash_run_of_commands(rt: HostRuntime) -> Result<(), Fail> {
-    let (alloc, commands) = (rt.alloc(), commands(rt.alloc())?);
-    let map = &mut IdHashMap::new(alloc);
-    tell(&rt, swept_run(alloc, map, commands, &ROWS))
+    let map = &mut IdHashMap::new(rt.alloc());
+    tell(&rt, swept_run(rt.alloc(), map, 0, commands(rt.alloc())?))
 }
 
-// Puts eleven items of other names into the map, as many as a node has room for.
-fn fill_with_others(alloc: Global, map: &mut Ordered<Kept>) -> Result<(), AllocError> {
-    for name in 8..19 {
-        let mut item = make_kept(alloc, 0)?;
-        item.name = name;
-        let _ = map.is_put(item);
-    }
-    Ok(())
-}
-
-// The store and the node are full, so both ask for memory.
+// The map has eleven items of other names, as many as a node has room for. The store and the node are full, so both ask
+// for memory.
 #[test]
 fn run_of_bulk_commands(rt: HostRuntime) -> Result<(), Fail> {
     let (alloc, commands) = (rt.alloc(), bulk_commands(rt.alloc())?);
     let mut map = Ordered::new(IdOrdMap::with_capacity(alloc, 11)?);
-    fill_with_others(alloc, &mut map)?;
-    let (map, rows) = (&mut map.into_map(), bulk_rows_beside_others());
-    tell(&rt, swept_run(alloc, map, commands, &rows))
+    for name in 8..19 {
+        let value = Box::new(alloc, 0)?;
+        let _ = map.is_put(Kept { name, value });
+    }
+    tell(&rt, swept_run(alloc, &mut map.into_map(), 11, commands))
 }
 
 #[test]
 fn hash_run_of_bulk_commands(rt: HostRuntime) -> Result<(), Fail> {
     let (alloc, commands) = (rt.alloc(), bulk_commands(rt.alloc())?);
-    let map = &mut IdHashMap::new(alloc);
-    tell(&rt, swept_run(alloc, map, commands, &BULK_ROWS))
+    tell(
+        &rt,
+        swept_run(alloc, &mut IdHashMap::new(alloc), 0, commands),
+    )
 }

@@ -1,39 +1,37 @@
 //! Maps at their limit: an insertion is refused for that, and no request is made for it.
 use crate::maps::{fill, holds};
-use crate::words::{Word, tell, word_without_memory};
-use iddqd::errors::TryReserveError;
+use crate::prelude::*;
 use iddqd::{DefaultHashBuilder, IdHashMap, IdOrdMap};
-use std::alloc::Global;
-use std::test::Fail;
-use test_support::heap::arm;
-use test_support::items::Numbered;
-use test_support::maps::{Copying, Hashed, Inserted, Ordered, UnderTest};
-use test_support::new_items::numbered;
 
 // Fills a map up to its limit, and tries two insertions of a new number and a reservation. Each is refused since the map
 // is full.
-fn insertions<M: Copying<Numbered, u32>>(alloc: Global, map: &mut M, limit: u32) -> Word {
-    let is_full = fill(map, limit);
+fn insertions<M: OfNumbers>(alloc: Global, mut map: M, limit: u32) -> Word {
+    let is_full = fill(&mut map, limit);
     let new = numbered(1000, 6);
     let error = TryReserveError::capacity_overflow();
     arm(alloc);
     let is_kept_out = map.insert(new) == Inserted::Refused(new, error);
-    let is_back = match map.overwrite(new) {
-        Ok(_) => false,
-        Err(refused) => refused.item == new && refused.error == error,
-    };
-    let is_well = is_full && is_kept_out && is_back && map.reserve(1).is_err();
-    word_without_memory(alloc, is_well && holds(map, limit))
+    let overwritten = map
+        .overwrite(new)
+        .map_err(|refused| (refused.item, refused.error));
+    let is_refused = overwritten == Err((new, error)) && map.reserve(1).is_err();
+    word_without_memory(
+        alloc,
+        is_full && is_kept_out && is_refused && holds(&map, limit),
+    )
 }
 
 fn ordered_insertions(alloc: Global, limit: u32) -> Word {
-    let map = IdOrdMap::with_limit(alloc, limit);
-    insertions(alloc, &mut Ordered::new(map), limit)
+    insertions(
+        alloc,
+        Ordered::new(IdOrdMap::with_limit(alloc, limit)),
+        limit,
+    )
 }
 
 fn hash_insertions(alloc: Global, limit: u32) -> Word {
     let map = IdHashMap::with_limit(alloc, limit, DefaultHashBuilder::new());
-    insertions(alloc, &mut Hashed::new(map), limit)
+    insertions(alloc, Hashed::new(map), limit)
 }
 
 // With 8 items the store is full; with 78 the tree has no unused block; with 9 the hash index is full.

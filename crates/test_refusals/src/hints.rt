@@ -1,38 +1,27 @@
 //! Iterators whose hints lie, with a request refused.
-use crate::words::{Word, rows, tell, word_of};
-use std::alloc::Global;
-use std::test::Fail;
+use crate::prelude::*;
 use test_support::bulk::is_not_taken_in;
-use test_support::heap::{arm, is_met};
 use test_support::items::{BAR, FOO, Named};
-use test_support::maps::{Copying, Inserted, UnderTest, by_hash, in_order};
 
 // Inserts the item, again if it is refused: whether it was refused, or `None` if it is not in.
 fn put_at_last<M: Copying<Named, [u8; 3]>>(map: &mut M, item: Named) -> Option<bool> {
     match map.insert(item) {
         Inserted::Done => Some(false),
-        Inserted::Refused(back, _) if back == item && map.insert(item) == Inserted::Done => Some(
-            true,
-        ),
+        Inserted::Refused(back, _) if back == item => map.is_put(item).then_some(true),
         _ => None,
     }
 }
 
-// Whether the map is sound and has foo and bar.
-fn has_both<M: UnderTest<Named, [u8; 3]>>(map: &M) -> bool {
-    let are_found = map.get(b"foo") == Some(&FOO) && map.get(b"bar") == Some(&BAR);
-    are_found && map.len() == 2 && map.is_sound()
-}
-
 // The word for a map that an iterator lies to before and after it has two items. A request that is refused is one
 // of theirs.
-fn lied_to<M: Copying<Named, [u8; 3]>>(alloc: Global, map: &mut M) -> Word {
+fn lied_to<M: Copying<Named, [u8; 3]> + Drop>(alloc: Global, mut map: M) -> Word {
     arm(alloc);
-    let is_empty_kept = is_not_taken_in(map) && map.len() == 0;
-    let refused = (put_at_last(map, FOO), put_at_last(map, BAR));
-    let is_kept = is_empty_kept && is_not_taken_in(map);
+    let is_empty_kept = is_not_taken_in(&mut map) && map.len() == 0;
+    let refused = (put_at_last(&mut map, FOO), put_at_last(&mut map, BAR));
+    let is_kept = is_empty_kept && is_not_taken_in(&mut map);
     let is_met = is_met(alloc);
-    let is_whole = is_kept && has_both(map);
+    let has_both = map.get(b"foo") == Some(&FOO) && map.get(b"bar") == Some(&BAR);
+    let is_whole = is_kept && has_both && map.len() == 2 && map.is_sound();
     let rows = rows! {
         "no_item_refused": ((Some(false), Some(false)), false, true);
         "hint_refused": ((Some(true), Some(false)), true, true);
@@ -43,10 +32,10 @@ fn lied_to<M: Copying<Named, [u8; 3]>>(alloc: Global, map: &mut M) -> Word {
 
 #[test]
 fn lying_hints(rt: HostRuntime) -> Result<(), Fail> {
-    tell(&rt, lied_to(rt.alloc(), &mut in_order(rt.alloc())))
+    tell(&rt, lied_to(rt.alloc(), in_order(rt.alloc())))
 }
 
 #[test]
 fn hash_lying_hints(rt: HostRuntime) -> Result<(), Fail> {
-    tell(&rt, lied_to(rt.alloc(), &mut by_hash(rt.alloc())))
+    tell(&rt, lied_to(rt.alloc(), by_hash(rt.alloc())))
 }

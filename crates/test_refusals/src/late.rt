@@ -1,12 +1,8 @@
 //! Items that come unannounced, of which one is refused when others are in. Each owns memory.
-use crate::words::{Word, rows, tell, unique, word_of};
-use iddqd::errors::{ExtendError, TryReserveError};
-use std::alloc::{AllocError, Global};
-use std::test::Fail;
-use test_support::bulk::{Announced, Bulk};
-use test_support::heap::{arm, is_met};
+use crate::prelude::*;
+use iddqd::errors::ExtendError;
+use test_support::bulk::Announced;
 use test_support::kept::Kept;
-use test_support::maps::{UnderTest, by_hash, in_order};
 
 // Twenty items, from the name 19 on down.
 fn twenty(alloc: Global) -> Result<Announced<Kept>, AllocError> {
@@ -21,15 +17,6 @@ fn twenty(alloc: Global) -> Result<Announced<Kept>, AllocError> {
 // How many items a call took, or why it stopped.
 type Outcome = Result<usize, TryReserveError>;
 
-const TAKEN: Outcome = Ok(20);
-
-fn taken_by<M: UnderTest<Kept, u32> + Drop>(made: Result<M, TryReserveError>) -> Outcome {
-    match made {
-        Ok(map) => Ok(map.len()),
-        Err(error) => Err(error),
-    }
-}
-
 // The refused item comes back, and those before it are in.
 fn extend<M: UnderTest<Kept, u32>>(map: &mut M, items: Announced<Kept>) -> Outcome {
     match map.extend(items) {
@@ -43,30 +30,30 @@ fn extend<M: UnderTest<Kept, u32>>(map: &mut M, items: Announced<Kept>) -> Outco
 }
 
 // Three maps of the items. One call was refused if a request was.
-fn takes_late<M: UnderTest<Kept, u32> + Bulk<Kept> + Drop>(alloc: Global, map: &mut M) -> Word {
+fn takes_late<M: UnderTest<Kept, u32> + Bulk<Kept> + Drop>(alloc: Global, mut map: M) -> Word {
     let (first, second, third) = (twenty(alloc)?, twenty(alloc)?, twenty(alloc)?);
     let refused = Err(TryReserveError::alloc_error());
     arm(alloc);
     let taken = [
-        taken_by::<M>(M::collected(alloc, first)),
-        taken_by::<M>(unique(M::collected_unique(alloc, second))),
-        extend(map, third),
+        M::collected(alloc, first).map(|map: M| map.len()),
+        unique(M::collected_unique(alloc, second)).map(|map: M| map.len()),
+        extend(&mut map, third),
     ];
     let rows = rows! {
-        "all_taken": ([TAKEN, TAKEN, TAKEN], false);
-        "collection_refused": ([refused, TAKEN, TAKEN], true);
-        "unique_collection_refused": ([TAKEN, refused, TAKEN], true);
-        "extension_refused": ([TAKEN, TAKEN, refused], true);
+        "all_taken": ([Ok(20), Ok(20), Ok(20)], false);
+        "collection_refused": ([refused, Ok(20), Ok(20)], true);
+        "unique_collection_refused": ([Ok(20), refused, Ok(20)], true);
+        "extension_refused": ([Ok(20), Ok(20), refused], true);
     };
     word_of(&rows, &(taken, is_met(alloc)))
 }
 
 #[test]
 fn unannounced(rt: HostRuntime) -> Result<(), Fail> {
-    tell(&rt, takes_late(rt.alloc(), &mut in_order(rt.alloc())))
+    tell(&rt, takes_late(rt.alloc(), in_order(rt.alloc())))
 }
 
 #[test]
 fn hash_unannounced(rt: HostRuntime) -> Result<(), Fail> {
-    tell(&rt, takes_late(rt.alloc(), &mut by_hash(rt.alloc())))
+    tell(&rt, takes_late(rt.alloc(), by_hash(rt.alloc())))
 }

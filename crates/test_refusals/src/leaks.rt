@@ -1,12 +1,9 @@
 //! What is held of a map's memory once it is dropped: nothing, whatever was refused on the way.
 use crate::entries::name;
-use crate::words::{Word, tell};
-use std::alloc::Global;
-use std::test::Fail;
+use crate::prelude::*;
 use test_support::caseless::{Caseless, Coarse, item_of};
 use test_support::coarse::{CoarseMap, Copied};
-use test_support::heap::{arm, has_leaked, is_met};
-use test_support::maps::{Hashed, Ordered, UnderTest, by_hash, in_order};
+use test_support::heap::has_leaked;
 
 // Inserts the items of the numbers from the one up to the other, but for those that are refused.
 fn put_in<M: UnderTest<Coarse, Caseless>>(map: &mut M, from: u8, to: u8) {
@@ -15,18 +12,13 @@ fn put_in<M: UnderTest<Coarse, Caseless>>(map: &mut M, from: u8, to: u8) {
     }
 }
 
-// Takes out the items of the numbers from the one up to the other.
-fn take_out<M: UnderTest<Coarse, Caseless>>(map: &mut M, from: u8, to: u8) {
-    for number in from..to {
-        let _ = map.remove(&Caseless(name(number)));
-    }
-}
-
 // Fills the map, so that its index grows, takes most out again, so that it falls, and gives memory back. A copy of it is
 // dropped before it.
 fn lives<M: CoarseMap + Copied + Drop>(mut map: M) {
     put_in(&mut map, 0, 100);
-    take_out(&mut map, 10, 90);
+    for number in 10..90 {
+        let _ = map.remove(&Caseless(name(number)));
+    }
     let _ = map.shrink_to_fit();
     put_in(&mut map, 40, 60);
     let _ = map.copied();
@@ -37,14 +29,8 @@ fn lives<M: CoarseMap + Copied + Drop>(mut map: M) {
 // The word for what is held when all is dropped.
 fn word(alloc: Global) -> Word {
     let is_met = is_met(alloc);
-    if has_leaked(alloc) {
-        return Err(Fail::from("memory is held that nothing gives back"));
-    }
-    Ok(if is_met {
-        "nothing_held"
-    } else {
-        "all_given_back"
-    })
+    let is_free = !has_leaked(alloc);
+    word_by_refusal(is_free, is_met, ["all_given_back", "nothing_held"])
 }
 
 #[test]
@@ -62,30 +48,20 @@ fn hash_map_dropped(rt: HostRuntime) -> Result<(), Fail> {
 }
 
 // Two items of an owned walk are taken, and the rest is dropped with it.
-fn walked_in_order(mut map: Ordered<Coarse>) {
-    put_in(&mut map, 0, 100);
-    let mut walk = map.into_map().into_iter();
-    let _ = walk.next();
-    let _ = walk.next();
-}
-
-fn walked_by_hash(mut map: Hashed<Coarse>) {
-    put_in(&mut map, 0, 100);
-    let mut walk = map.into_map().into_iter();
-    let _ = walk.next();
-    let _ = walk.next();
-}
-
 #[test]
 fn owned_walk_dropped(rt: HostRuntime) -> Result<(), Fail> {
     arm(rt.alloc());
-    walked_in_order(in_order(rt.alloc()));
+    let mut map: Ordered<Coarse> = in_order(rt.alloc());
+    put_in(&mut map, 0, 100);
+    let _ = map.into_map().into_iter().take(2).count();
     tell(&rt, word(rt.alloc()))
 }
 
 #[test]
 fn hash_owned_walk_dropped(rt: HostRuntime) -> Result<(), Fail> {
     arm(rt.alloc());
-    walked_by_hash(by_hash(rt.alloc()));
+    let mut map: Hashed<Coarse> = by_hash(rt.alloc());
+    put_in(&mut map, 0, 100);
+    let _ = map.into_map().into_iter().take(2).count();
     tell(&rt, word(rt.alloc()))
 }

@@ -30,6 +30,8 @@ mod made;
 #[cfg(test)]
 mod maps;
 #[cfg(test)]
+mod prelude;
+#[cfg(test)]
 mod ranges;
 #[cfg(test)]
 mod reservations;
@@ -37,5 +39,3 @@ mod reservations;
 mod rooms;
 #[cfg(test)]
 mod walks;
-#[cfg(test)]
-mod words;

@@ -1,47 +1,34 @@
 //! `serve` with a request refused: nothing is written, or the lines whose item was refused say so.
-use crate::words::{Word, rows, tell, word_of};
+use crate::prelude::*;
 use iddqd_run::{Fault, Kind, serve};
-use std::alloc::Global;
-use std::test::Fail;
-use test_support::heap::{arm, is_met};
 
-// What `serve` returns, and whether a request was refused.
-type Outcome = (Result<u64, Fault>, bool);
+// A word, and what `serve` does then.
+type Row = (&'static str, (&'static [u8], Result<u64, Fault>, bool));
 
-const DONE: Outcome = (Ok(0), false);
+type Lines = (&'static [u8], &'static [Row]);
 
-const REFUSED: Outcome = (Ok(1), true);
+// The text that `serve` writes, with room for it reserved first, what it returns, and whether a request was refused.
+type Served = (Vec<u8>, Result<u64, Fault>, bool);
 
-const NO_MEMORY: Outcome = (Err(Fault::Memory), true);
-
-// Lines, and each text that `serve` writes then, with its word.
-type Lines = (
-    &'static [u8],
-    &'static [(&'static str, (&'static [u8], Outcome))],
-);
-
-// The text that `serve` writes, with room for it reserved first, and what it came to.
-fn served(alloc: Global, kind: Kind, mut lines: &[u8]) -> Result<(Vec<u8>, Outcome), Fail> {
+fn served(alloc: Global, kind: Kind, mut lines: &[u8]) -> Result<Served, Fail> {
     let mut text = Vec::with_capacity(alloc, 200)?;
     arm(alloc);
     let outcome = serve(alloc, kind, &mut lines, &mut text);
-    let is_met = is_met(alloc);
-    Ok((text, (outcome, is_met)))
+    Ok((text, outcome, is_met(alloc)))
 }
 
-// The word for what `serve` does with the lines.
 fn word(alloc: Global, kind: Kind, (lines, rows): Lines) -> Word {
-    let (text, outcome) = served(alloc, kind, lines)?;
-    word_of(rows, &(text.as_slice(), outcome))
+    let (text, outcome, is_met) = served(alloc, kind, lines)?;
+    word_of(rows, &(text.as_slice(), outcome, is_met))
 }
 
 const ONE_NAME: Lines = (
     b"add bob 2\nadd bob 9\nget bob\ndel bob\nlen\n",
     &rows! {
-        "answered": (b"added\nduplicate bob 2\n2\nremoved 2\n0\n", DONE);
-        "first_item_refused": (b"refused memory\nadded\n9\nremoved 9\n0\n", REFUSED);
-        "second_item_refused": (b"added\nrefused memory\n2\nremoved 2\n0\n", REFUSED);
-        "no_memory": (b"", NO_MEMORY);
+        "answered": (b"added\nduplicate bob 2\n2\nremoved 2\n0\n", Ok(0), false);
+        "first_item_refused": (b"refused memory\nadded\n9\nremoved 9\n0\n", Ok(1), true);
+        "second_item_refused": (b"added\nrefused memory\n2\nremoved 2\n0\n", Ok(1), true);
+        "no_memory": (b"", Err(Fault::Memory), true);
     },
 );
 
@@ -65,11 +52,11 @@ fn hash_lines(rt: HostRuntime) -> Result<(), Fail> {
 const THREE_ITEMS: Lines = (
     b"put a 1\nadd b 2\nput c 3\nlen\n",
     &rows! {
-        "answered": (b"new\nadded\nnew\n3\n", DONE);
-        "line_refused": (b"refused memory\nadded\nnew\n2\n", REFUSED);
-        "line_refused": (b"new\nrefused memory\nnew\n2\n", REFUSED);
-        "line_refused": (b"new\nadded\nrefused memory\n2\n", REFUSED);
-        "no_memory": (b"", NO_MEMORY);
+        "answered": (b"new\nadded\nnew\n3\n", Ok(0), false);
+        "line_refused": (b"refused memory\nadded\nnew\n2\n", Ok(1), true);
+        "line_refused": (b"new\nrefused memory\nnew\n2\n", Ok(1), true);
+        "line_refused": (b"new\nadded\nrefused memory\n2\n", Ok(1), true);
+        "no_memory": (b"", Err(Fault::Memory), true);
     },
 );
 
@@ -87,11 +74,11 @@ fn hash_served_lines(rt: HostRuntime) -> Result<(), Fail> {
 const LIST: Lines = (
     b"add b 1\nadd a 2\nlist\nlen\n",
     &rows! {
-        "listed": (b"added\nadded\nlist 2 a=2 b=1\n2\n", DONE);
-        "list_refused": (b"added\nadded\nrefused memory\n2\n", REFUSED);
-        "item_refused": (b"refused memory\nadded\nlist 1 a=2\n1\n", REFUSED);
-        "item_refused": (b"added\nrefused memory\nlist 1 b=1\n1\n", REFUSED);
-        "no_memory": (b"", NO_MEMORY);
+        "listed": (b"added\nadded\nlist 2 a=2 b=1\n2\n", Ok(0), false);
+        "list_refused": (b"added\nadded\nrefused memory\n2\n", Ok(1), true);
+        "item_refused": (b"refused memory\nadded\nlist 1 a=2\n1\n", Ok(1), true);
+        "item_refused": (b"added\nrefused memory\nlist 1 b=1\n1\n", Ok(1), true);
+        "no_memory": (b"", Err(Fault::Memory), true);
     },
 );
 
@@ -104,11 +91,11 @@ fn hash_list(rt: HostRuntime) -> Result<(), Fail> {
 const PAIRS: Lines = (
     b"addall a 1 b 2 c 3\nlen\n",
     &rows! {
-        "added": (b"added 3\n3\n", DONE);
-        "none_added": (b"refused memory\n0\n", REFUSED);
-        "some_added": (b"refused memory\n1\n", REFUSED);
-        "some_added": (b"refused memory\n2\n", REFUSED);
-        "no_memory": (b"", NO_MEMORY);
+        "added": (b"added 3\n3\n", Ok(0), false);
+        "none_added": (b"refused memory\n0\n", Ok(1), true);
+        "some_added": (b"refused memory\n1\n", Ok(1), true);
+        "some_added": (b"refused memory\n2\n", Ok(1), true);
+        "no_memory": (b"", Err(Fault::Memory), true);
     },
 );
 
@@ -127,10 +114,10 @@ fn hash_added_pairs(rt: HostRuntime) -> Result<(), Fail> {
 const MANY: Lines = (
     b"add z 0\naddall a 1 b 2 c 3 d 4 e 5 f 6 g 7 h 8 i 9 j 10 k 11 l 12 m 13 n 14 o 15 p 16 q 17 r 18 s 19 t 20\nlen\n",
     &rows! {
-        "added": (b"added\nadded 20\n21\n", DONE);
-        "first_refused": (b"refused memory\nadded 20\n20\n", REFUSED);
-        "none_added": (b"added\nrefused memory\n1\n", REFUSED);
-        "no_memory": (b"", NO_MEMORY);
+        "added": (b"added\nadded 20\n21\n", Ok(0), false);
+        "first_refused": (b"refused memory\nadded 20\n20\n", Ok(1), true);
+        "none_added": (b"added\nrefused memory\n1\n", Ok(1), true);
+        "no_memory": (b"", Err(Fault::Memory), true);
     },
 );
 
@@ -138,14 +125,14 @@ const MANY: Lines = (
 // are in.
 fn word_of_many(alloc: Global, kind: Kind) -> Word {
     let (lines, rows) = MANY;
-    let (text, outcome) = served(alloc, kind, lines)?;
+    let (text, outcome, is_met) = served(alloc, kind, lines)?;
     for len in 2..21u32 {
         let wanted = format!(in alloc; "added\nrefused memory\n{len}\n")?;
-        if outcome == REFUSED && text.as_slice() == wanted.as_bytes() {
+        if outcome == Ok(1) && is_met && text.as_slice() == wanted.as_bytes() {
             return Ok("some_added");
         }
     }
-    word_of(rows, &(text.as_slice(), outcome))
+    word_of(rows, &(text.as_slice(), outcome, is_met))
 }
 
 #[test]
@@ -163,12 +150,12 @@ fn hash_many_pairs(rt: HostRuntime) -> Result<(), Fail> {
 const ROOM: Lines = (
     b"add a 1\nreserve 100\nshrink\nget a\n",
     &rows! {
-        "answered": (b"added\nok\nok\n1\n", DONE);
-        "shrunk_without": (b"added\nok\nok\n1\n", (Ok(0), true));
-        "item_refused": (b"refused memory\nok\nok\nnone\n", REFUSED);
-        "reserve_refused": (b"added\nrefused memory\nok\n1\n", REFUSED);
-        "shrink_refused": (b"added\nok\nrefused memory\n1\n", REFUSED);
-        "no_memory": (b"", NO_MEMORY);
+        "answered": (b"added\nok\nok\n1\n", Ok(0), false);
+        "shrunk_without": (b"added\nok\nok\n1\n", Ok(0), true);
+        "item_refused": (b"refused memory\nok\nok\nnone\n", Ok(1), true);
+        "reserve_refused": (b"added\nrefused memory\nok\n1\n", Ok(1), true);
+        "shrink_refused": (b"added\nok\nrefused memory\n1\n", Ok(1), true);
+        "no_memory": (b"", Err(Fault::Memory), true);
     },
 );
 

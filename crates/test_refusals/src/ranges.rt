@@ -1,12 +1,7 @@
 //! Positions, ranges and walks from the back, which ask for no memory.
 use crate::maps::fill;
-use crate::words::{Word, tell, word_without_memory};
-use std::alloc::Global;
+use crate::prelude::*;
 use std::ops::Bound;
-use std::test::Fail;
-use test_support::heap::arm;
-use test_support::items::Numbered;
-use test_support::maps::{Copying, Ordered, UnderTest, in_order};
 
 // Whether positions, bounds and walks from both ends are those of the list of the numbers below 78.
 fn are_read(map: &Ordered<Numbered>, items: &[Numbered]) -> bool {
@@ -29,16 +24,13 @@ fn are_removed(map: &mut Ordered<Numbered>, items: &[Numbered]) -> bool {
         && map.len() == 0
 }
 
-fn ranges(alloc: Global, mut map: Ordered<Numbered>) -> Word {
-    let is_full = fill(&mut map, 78);
-    let listed = map.listed(alloc)?;
-    let items = listed.as_slice();
-    arm(alloc);
-    let is_well = is_full && are_read(&map, items) && are_removed(&mut map, items);
-    word_without_memory(alloc, is_well)
-}
-
 #[test]
 fn ranges_without_memory(rt: HostRuntime) -> Result<(), Fail> {
-    tell(&rt, ranges(rt.alloc(), in_order(rt.alloc())))
+    let mut map = in_order(rt.alloc());
+    let is_full = fill(&mut map, 78);
+    let listed = map.listed(rt.alloc())?;
+    let items = listed.as_slice();
+    arm(rt.alloc());
+    let is_well = is_full && are_read(&map, items) && are_removed(&mut map, items);
+    tell(&rt, word_without_memory(rt.alloc(), is_well))
 }

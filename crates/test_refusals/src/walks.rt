@@ -1,12 +1,6 @@
 //! Walks, for reading and for writing, which ask for no memory.
 use crate::maps::fill;
-use crate::words::{Word, tell, word_without_memory};
-use std::alloc::Global;
-use std::test::Fail;
-use test_support::heap::arm;
-use test_support::items::Numbered;
-use test_support::maps::{Copying, UnderTest, by_hash, in_order};
-use test_support::new_items::numbered;
+use crate::prelude::*;
 use test_support::walks::Walked;
 
 fn write(item: &mut Numbered) {
@@ -16,7 +10,7 @@ fn write(item: &mut Numbered) {
 // Fills the map with numbers, walks it, retains all of them but one, and writes to 70 of the 77.
 fn walks<M>(alloc: Global, mut map: M) -> Word
 where
-    M: Copying<Numbered, u32> + Walked<Numbered> + Drop,
+    M: OfNumbers + Walked<Numbered>,
     M::Map: Drop,
 {
     let is_full = fill(&mut map, 78);
