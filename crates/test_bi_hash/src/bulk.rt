@@ -85,7 +85,7 @@ fn hints_at_the_limit(rt: HostRuntime) {
 
 /// Room for what is announced is there, whatever comes: for all of it in an empty map, for half in a map with hosts.
 pub(crate) fn hints_reserve(rt: &impl Abort, mut all: Hosts, way: Way) {
-    check(rt, all.reserve(4).is_ok());
+    check(rt, all.map.reserve(4).is_ok());
     all.run(rt, &[Step::Extend(way, &[], 100, None)]);
     check(rt, all.map.spare() >= 100);
     let new = Step::Insert(Way::Unique, host(1), NONE);

@@ -148,20 +148,15 @@ fn refused_by_extend_unique(rt: HostRuntime) {
     extend(&rt, rt.alloc(), Way::Unique, REPEATED, (2, 4, 6));
 }
 
-// A copy of five items, which is cleared.
-fn clear_copy(rt: &impl Abort, all: &Held<Ticket<'_>>, dropped: &Cell<u32>) {
-    let mut copy = Held::over(all.map.clone().expect(rt, "memory"));
-    check(rt, copy.map.len() == 5 && dropped.get() == 0);
-    copy.clear();
-    drop_all(rt, copy, dropped, (5, 0, 5));
-}
-
 // What is cleared of a clone is its own.
 #[test]
 fn cleared_clone(rt: HostRuntime) {
     let dropped = Cell::new(0);
     let all = below(&rt, rt.alloc(), 5, &dropped);
-    clear_copy(&rt, &all, &dropped);
+    let mut copy = Held::over(all.map.clone().expect(&rt, "memory"));
+    check(&rt, copy.map.len() == 5 && dropped.get() == 0);
+    copy.map.clear();
+    drop_all(&rt, copy, &dropped, (5, 0, 5));
     drop_all(&rt, all, &dropped, (5, 5, 10));
 }
 

@@ -192,10 +192,6 @@ impl<T: BiHashItem + Drop, S: BuildHasher> Held<T, S> {
         self.map.insert_unique(item).is_ok()
     }
 
-    pub(crate) fn insert_overwrite(&mut self, item: T) -> Result<Option<Few<T>>, Refused<T>> {
-        self.map.insert_overwrite(item)
-    }
-
     /// Whether a repeat ends `extend` or `extend_unique`, and not a refusal. It is `None` if all items are in.
     pub(crate) fn meets_repeat<U: IntoIterator<Item = T>>(
         &mut self,
@@ -260,27 +256,12 @@ impl<T: BiHashItem + Drop, S: BuildHasher> Held<T, S> {
         self.map.retain(keep)
     }
 
-    pub(crate) fn clear(&mut self) {
-        self.map.clear()
-    }
-
-    pub(crate) fn reserve(&mut self, additional: usize) -> Result<(), TryReserveError> {
-        self.map.reserve(additional)
-    }
-
     /// `shrink_to`, or `shrink_to_fit`.
     pub(crate) fn shrink(&mut self, min: Option<usize>) -> Result<(), TryReserveError> {
         match min {
             Some(min) => self.map.shrink_to(min),
             None => self.map.shrink_to_fit(),
         }
-    }
-
-    pub(crate) fn eq(&self, other: &Held<T, S>) -> bool
-    where
-        T: PartialEq,
-    {
-        self.map.eq(&other.map)
     }
 
     /// How many keys of each kind the walks over keys show.
@@ -320,22 +301,13 @@ impl<S: BuildHasher> Held<Host, S> {
 
     /// Whether each host of a number below this one is found by both keys, and the map has no other.
     pub(crate) fn holds_below(&self, count: u32) -> bool {
-        for number in 0..count {
-            if !self.has_host(host(number)) {
-                return false;
-            }
-        }
-        self.has(count as usize) && self.is_compact()
+        let are_found = (0..count).all(|number| self.has_host(host(number)));
+        are_found && self.has(count as usize) && self.is_compact()
     }
 
     /// Whether each of the hosts is found by both keys, and the map has no other.
     pub(crate) fn holds(&self, hosts: &[Host]) -> bool {
-        for wanted in hosts {
-            if !self.has_host(*wanted) {
-                return false;
-            }
-        }
-        self.has(hosts.len())
+        hosts.iter().all(|wanted| self.has_host(*wanted)) && self.has(hosts.len())
     }
 }
 
@@ -346,28 +318,26 @@ fn raise(host: &mut Host)
     host.load = host.load.saturating_add(1);
 }
 
+// Raises the load of the next host of the walk, or returns how many were lent.
+macro_rules! raise_next {
+    ($walk:ident, $lent:expr) => {
+        match $walk.next() {
+            Some(host) => raise(host),
+            None => return $lent,
+        }
+    };
+}
+
 // Adds one to the loads of the first four hosts of a walk, and returns how many it lends, four at most.
 fn raise_four(map: &mut BiHashMap<Host>) -> u32
     requires keyed { ⟦<BiHashMap<Host> as Keyed>⟧.keyed map.old }
     ensures keyed { ⟦<BiHashMap<Host> as Keyed>⟧.keyed map.new }
 {
     let mut walk = map.iter_mut();
-    let Some(first) = walk.next() else {
-        return 0;
-    };
-    raise(first);
-    let Some(second) = walk.next() else {
-        return 1;
-    };
-    raise(second);
-    let Some(third) = walk.next() else {
-        return 2;
-    };
-    raise(third);
-    let Some(fourth) = walk.next() else {
-        return 3;
-    };
-    raise(fourth);
+    raise_next!(walk, 0);
+    raise_next!(walk, 1);
+    raise_next!(walk, 2);
+    raise_next!(walk, 3);
     4
 }
 
@@ -410,11 +380,11 @@ impl Held<Host> {
                 Err(InsertError::Duplicate(both)) => Ok(shown(both.duplicates())),
                 Err(InsertError::Refused(refused)) => Err(refused),
             },
-            Way::Overwrite => match self.map.insert_overwrite(new) {
-                Ok(Some(replaced)) => Ok(met(&replaced)),
-                Ok(None) => Ok(NONE),
-                Err(refused) => Err(refused),
-            },
+            Way::Overwrite => Ok(
+                self.map
+                    .insert_overwrite(new)?
+                    .map_or(NONE, |few| met(&few)),
+            ),
         }
     }
 
@@ -466,10 +436,8 @@ impl Held<Host> {
 
     /// `clone`.
     pub(crate) fn copied(&self) -> Made<Host> {
-        match self.map.clone() {
-            Ok(map) => Ok(Held::over(map)),
-            Err(error) => Err(FromIterError::Refused(error)),
-        }
+        let map = self.map.clone().map_err(FromIterError::Refused)?;
+        Ok(Held::over(map))
     }
 }
 

@@ -42,14 +42,18 @@ impl Pair {
 
     // The list's host of the number.
     fn by_number(&self, number: u32) -> Option<Host> {
-        let mut hosts = self.plain.iter();
-        hosts.find(|host| host.number == number).copied()
+        self.plain
+            .iter()
+            .find(|host| host.number == number)
+            .copied()
     }
 
     // The list's host of the address.
     fn by_address(&self, address: u64) -> Option<Host> {
-        let mut hosts = self.plain.iter();
-        hosts.find(|host| host.address == address).copied()
+        self.plain
+            .iter()
+            .find(|host| host.address == address)
+            .copied()
     }
 
     // Drops the list's hosts that have one of the keys.
@@ -73,10 +77,10 @@ impl Pair {
             Some(_) => (by_number, by_address),
         };
         let replaces = matches!(way, Way::Overwrite);
-        match self.hosts.insert(way, host) {
-            Ok(met) => check(rt, met == (one, other) || !replaces && met == (other, one)),
-            Err(_) => check(rt, false),
-        }
+        let inserted = self.hosts.insert(way, host);
+        let is_met = inserted.is_ok_and(|met| met == (one, other)
+            || !replaces && met == (other, one));
+        check(rt, is_met);
         if replaces || one.is_none() {
             self.put(rt, host);
         }
@@ -108,27 +112,6 @@ impl Pair {
             check(rt, found == self.by_address(address));
         }
     }
-
-    // Inserts three hosts into both, one after the other, in place of those that have one of the keys.
-    fn extend(&mut self, rt: &impl Abort, coming: [Host; 3]) {
-        check(rt, self.hosts.stopped(Way::Overwrite, &coming, 3).is_none());
-        for host in coming {
-            self.put(rt, host);
-        }
-    }
-
-    // A copy is equal, and finds what the list does.
-    fn copy(&self, rt: &impl Abort) {
-        let copy = self.hosts.copied().expect(rt, "memory");
-        check(rt, self.hosts.eq(&copy));
-        self.is_same(rt, &copy);
-    }
-
-    // Closes up the slots.
-    fn close_up(&mut self, rt: &impl Abort) {
-        check(rt, self.hosts.shrink(None).is_ok());
-        check(rt, self.hosts.map.vacant() == 0);
-    }
 }
 
 // So many calls, drawn from the first kinds.
@@ -141,9 +124,22 @@ fn calls(rt: &impl Abort, alloc: Global, state: u64, count: u32, kinds: u32) {
             0 => pair.insert(rt, Way::Unique, host),
             1 => pair.insert(rt, Way::Overwrite, host),
             2 => pair.remove(rt, host),
-            3 => pair.extend(rt, [draws.host(), draws.host(), draws.host()]),
-            4 => pair.close_up(rt),
-            _ => pair.copy(rt),
+            3 => {
+                let coming = [draws.host(), draws.host(), draws.host()];
+                check(rt, pair.hosts.stopped(Way::Overwrite, &coming, 3).is_none());
+                for host in coming {
+                    pair.put(rt, host);
+                }
+            }
+            4 => {
+                check(rt, pair.hosts.shrink(None).is_ok());
+                check(rt, pair.hosts.map.vacant() == 0);
+            }
+            _ => {
+                let copy = pair.hosts.copied().expect(rt, "memory");
+                check(rt, pair.hosts.map.eq(&copy.map));
+                pair.is_same(rt, &copy);
+            }
         }
         pair.is_same(rt, &pair.hosts);
     }
