@@ -44,12 +44,9 @@ pub(crate) type Counts = (u32, u32, u32, u32);
 pub(crate) enum Act {
     Get(By),
     Contains(By),
-    /// A guard.
     Lend(By),
     Remove(By),
-    /// `insert_unique`
     Put,
-    /// `insert_overwrite`
     Overwrite,
 }
 
@@ -64,7 +61,6 @@ pub(crate) struct Tallies {
 }
 
 impl Tallies {
-    /// An item.
     pub(crate) fn item(&self, one: u32, other: u32) -> Counted<'_> {
         Counted {
             one: self.first.key(one),
@@ -126,10 +122,8 @@ impl Tallies {
 
 /// How many items a map has that is made of these, of which none is announced. It is `None` if no map is made.
 pub(crate) fn length_collected(alloc: Global, way: Way, items: &[Counted<'_>]) -> Option<usize> {
-    match Held::collected(alloc, way, items, 0) {
-        Ok(all) => Some(all.map.len()),
-        Err(_error) => None,
-    }
+    let made = Held::collected(alloc, way, items, 0).ok();
+    made.map(|all| all.map.len())
 }
 
 // The calls on a map of the items (1, 2), (2, 4) and (3, 6).
@@ -213,7 +207,7 @@ fn many(rt: HostRuntime) {
     let mut all = tallies.hundred(&rt, rt.alloc(), Way::Unique);
     check(&rt, all.map.reserve(1000).is_ok());
     tallies.tell(&rt, all.map.iter().count() == 100, (0, 0, 0, 0));
-    all.retain(|item| item.one.number >= 10);
+    all.map.retain(|item| item.one.number >= 10);
     tallies.tell(&rt, all.map.len() == 90, (0, 10, 0, 10));
     all.map.clear();
     tallies.tell(&rt, all.map.len() == 0, (0, 0, 0, 0));

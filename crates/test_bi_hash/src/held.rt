@@ -250,12 +250,6 @@ impl<T: BiHashItem + Drop, S: BuildHasher> Held<T, S> {
         }
     }
 
-    pub(crate) fn retain<F: FnMut(&T) -> bool>(&mut self, keep: F)
-        requires { F.IsAlwaysCallable keep }
-    {
-        self.map.retain(keep)
-    }
-
     /// `shrink_to`, or `shrink_to_fit`.
     pub(crate) fn shrink(&mut self, min: Option<usize>) -> Result<(), TryReserveError> {
         match min {

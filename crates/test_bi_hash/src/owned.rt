@@ -26,7 +26,7 @@ fn removed(rt: HostRuntime) {
         check(&rt, all.remove(by, &number, &address).is_some());
     }
     check(&rt, !all.is_put(boxed(&rt, rt.alloc(), host(4))));
-    all.retain(|there| there.number < 10);
+    all.map.retain(|there| there.number < 10);
     check(&rt, all.map.len() == 7);
 }
 

@@ -40,20 +40,14 @@ impl Pair {
         }
     }
 
-    // The list's host of the number.
-    fn by_number(&self, number: u32) -> Option<Host> {
-        self.plain
-            .iter()
-            .find(|host| host.number == number)
-            .copied()
-    }
-
-    // The list's host of the address.
-    fn by_address(&self, address: u64) -> Option<Host> {
-        self.plain
-            .iter()
-            .find(|host| host.address == address)
-            .copied()
+    // The list's host of the key.
+    fn find(&self, by: By, wanted: Host) -> Option<Host> {
+        let mut hosts = self.plain.iter();
+        let found = match by {
+            By::First => hosts.find(|host| host.number == wanted.number),
+            _ => hosts.find(|host| host.address == wanted.address),
+        };
+        found.copied()
     }
 
     // Drops the list's hosts that have one of the keys.
@@ -70,7 +64,7 @@ impl Pair {
     // Inserts the host into both. The map shows those that have one of its keys, that of the number first. Of
     // `insert_unique` either order is right.
     fn insert(&mut self, rt: &impl Abort, way: Way, host: Host) {
-        let (by_number, by_address) = (self.by_number(host.number), self.by_address(host.address));
+        let (by_number, by_address) = (self.find(By::First, host), self.find(By::Second, host));
         let (one, other) = match by_number {
             None => (by_address, None),
             Some(_) if by_address == by_number => (by_number, None),
@@ -88,14 +82,14 @@ impl Pair {
 
     // Removes by either key.
     fn remove(&mut self, rt: &impl Abort, host: Host) {
-        let (by, there) = if host.load % 2 == 0 {
-            (By::First, self.by_number(host.number))
+        let by = if host.load % 2 == 0 {
+            By::First
         } else {
-            (By::Second, self.by_address(host.address))
+            By::Second
         };
         let gone = self.hosts.remove(by, &host.number, &host.address);
-        check(rt, gone == there);
-        if let Some(gone) = there {
+        check(rt, gone == self.find(by, host));
+        if let Some(gone) = gone {
             self.drop_met(gone);
         }
     }
@@ -104,12 +98,12 @@ impl Pair {
     fn is_same(&self, rt: &impl Abort, hosts: &Hosts) {
         check(rt, hosts.map.len() == self.plain.len());
         check(rt, hosts.map.iter().count() == self.plain.len());
-        for key in 0..12u32 {
-            let address = u64::from(key);
-            let found = hosts.get(By::First, &key, &address).copied();
-            check(rt, found == self.by_number(key));
-            let found = hosts.get(By::Second, &key, &address).copied();
-            check(rt, found == self.by_address(address));
+        for key in 0..12 {
+            let asked = host_of(key, u64::from(key), 0);
+            for by in [By::First, By::Second] {
+                let found = hosts.get(by, &asked.number, &asked.address).copied();
+                check(rt, found == self.find(by, asked));
+            }
         }
     }
 }

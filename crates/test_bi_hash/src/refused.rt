@@ -182,7 +182,7 @@ fn looked_up_without_memory(rt: HostRuntime) {
         Step::Remove(By::Both, 2, 102, Some(host_of(2, 102, 5))),
     ];
     all.run(&rt, &steps);
-    all.retain(|there| there.load < 6);
+    all.map.retain(|there| there.load < 6);
     check(&rt, all.map.len() == 4);
     all.map.clear();
     check(&rt, all.map.into_iter().next().is_none());

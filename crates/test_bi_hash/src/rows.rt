@@ -103,7 +103,7 @@ fn guards_and_visits(rt: HostRuntime) {
     all.run(&rt, &steps);
     // the host whose load is 50 leaves
     let asked = Cell::new(0u32);
-    all.retain(|there| {
+    all.map.retain(|there| {
         asked.set(asked.get().saturating_add(1));
         there.load < 50
     });

@@ -81,7 +81,7 @@ fn many_move(rt: HostRuntime) {
     for number in 0..300u32 {
         check(&rt, all.is_put(host(299u32.saturating_sub(number))));
     }
-    all.retain(|there| there.number < 150);
+    all.map.retain(|there| there.number < 150);
     check(&rt, all.map.vacant() == 150);
     check(&rt, all.shrink(None).is_ok());
     check(&rt, all.holds_below(150));
