@@ -1,5 +1,5 @@
 //! The ordered index over a store of coins, against a plain list of the years in order.
-ghost use Rattle.std.specs.Prelude.{◌≡◌, nat_eq};
+ghost use Rattle.std.specs.Prelude.{◌≡◌, IsTrue, nat_eq};
 ghost use Rattle.std.specs.Cmp.{nat_eq_equiv};
 ghost use Rattle.std.specs.Cmp.Rules.{comparing};
 ghost use Rattle.std.specs.Ordering.{nat_cmp};
@@ -7,7 +7,6 @@ ghost use Rattle.std.proofs.Common.{rules};
 ghost use Rattle.std.proofs.lemmas.Cmp.{nat_cmp_total};
 ghost use Rattle.iddqd_store.specs.Query.{le_then_less, ge_then_greater};
 
-use crate::checks::check;
 use iddqd_ord_index::{Insertion, OrdIndex};
 use iddqd_store::{
     Comparable, Equivalent, IdHashItem, IdOrdItem, ItemStore, Steps, TryReserveError,
@@ -18,6 +17,14 @@ use std::cmp::Ordering;
 use std::marker::Model;
 use std::process::Abort;
 use std::test::Fail;
+
+/// Ends the test as failed if the condition is false. The proof of a call takes a third of that of an `assert!` in its
+/// place.
+pub(crate) fn check(rt: &impl Abort, condition: bool)
+    ensures { IsTrue condition }
+{
+    assert!(rt; condition);
+}
 
 // What both indexes list.
 #[derive(Drop)]
@@ -208,25 +215,8 @@ impl Coins {
         self.index.slot_at(place) == slot
     }
 
-    // Puts a copy in the place of the index.
-    fn copy(&mut self) -> Result<(), TryReserveError> {
-        self.index = self.index.try_clone()?;
-        Ok(())
-    }
-
     fn clear(&mut self) {
         self.index.clear();
-    }
-
-    fn found(&self, year: u32) -> Option<u32> {
-        let slot = self.index.get(&self.store, &year, &mut Steps::new());
-        self.year_of(slot)
-    }
-
-    // The least year above this one.
-    fn after(&self, year: u32) -> Option<u32> {
-        let slot = self.index.after(&self.store, &year, &mut Steps::new());
-        self.year_of(slot)
     }
 
     // Whether the steps of `after` are the comparisons that it makes.
@@ -253,55 +243,46 @@ impl Coins {
         }
     }
 
-    fn first(&self) -> Option<u32> {
-        self.year_of(self.index.first())
-    }
-
-    fn last(&self) -> Option<u32> {
-        self.year_of(self.index.last())
-    }
-
     // The years of the slots one by one, by their places.
     fn has_places_of(&self, years: &[u32]) -> bool {
         for (at, year) in years.iter().enumerate() {
-            let slot = self.slot_at(at);
-            if slot.is_none() || self.year_of(slot) != Some(*year) {
+            if at >= self.index.len() as usize {
+                return false;
+            }
+            let slot = self.index.slot_at(self.index.place(at));
+            if self.year_of(Some(slot)) != Some(*year) {
                 return false;
             }
         }
-        self.slot_at(years.len()).is_none()
+        years.len() >= self.index.len() as usize
     }
 
-    fn slot_at(&self, at: usize) -> Option<u32> {
-        if at < self.index.len() as usize {
-            Some(self.index.slot_at(self.index.place(at)))
-        } else {
-            None
-        }
+    // Whether each lookup of the year returns what the list does.
+    fn finds(&self, years: &[u32], year: u32) -> bool {
+        let (at, is_there) = match years.binary_search(&year) {
+            Ok(at) => (at, true),
+            Err(at) => (at, false),
+        };
+        let next = at.wrapping_add(usize::from(is_there));
+        let found = self.index.get(&self.store, &year, &mut Steps::new());
+        let after = self.index.after(&self.store, &year, &mut Steps::new());
+        self.year_of(found) == is_there.then_some(year)
+            && self.year_of(after) == years.get(next).copied()
+            && self.is_found_at(year, at, is_there)
     }
+}
 
-    // Whether a walk has these years, and tells how many are to come.
-    fn walks(&self, years: &[u32]) -> bool {
-        let mut walk = self.index.walk();
-        for (at, year) in years.iter().enumerate() {
-            if walk.len() != years.len() - at || self.year_of(walk.next()) != Some(*year) {
-                return false;
-            }
+// Whether the walk has the slots of these years, and tells how many are to come.
+macro_rules! walks {
+    ($walk:expr, $store:expr, $years:expr) => {{
+        let mut walk = $walk;
+        let mut is_so = true;
+        for (at, year) in $years.iter().enumerate() {
+            let is_left = walk.len() == $years.len() - at;
+            is_so = is_so && is_left && is_coin($store, walk.next(), *year);
         }
-        walk.next().is_none()
-    }
-
-    // The same of the walk in the place of the index.
-    fn ends_in(self, years: &[u32]) -> bool {
-        let Coins { store, index } = self;
-        let mut walk = index.into_walk();
-        for (at, year) in years.iter().enumerate() {
-            if walk.len() != years.len() - at || !is_coin(&store, walk.next(), *year) {
-                return false;
-            }
-        }
-        walk.next().is_none()
-    }
+        is_so && walk.next().is_none()
+    }};
 }
 
 fn is_coin(store: &ItemStore<Coin>, slot: Option<u32>, year: u32) -> bool {
@@ -314,25 +295,19 @@ fn is_coin(store: &ItemStore<Coin>, slot: Option<u32>, year: u32) -> bool {
 // Each call that changes nothing returns what the list does. The years are below 1,010.
 fn same(rt: &impl Abort, coins: &Coins, years: &[u32]) {
     check(rt, coins.index.len() as usize == years.len());
-    check(rt, coins.first() == years.first().copied());
-    check(rt, coins.last() == years.last().copied());
-    check(rt, coins.walks(years));
+    check(
+        rt,
+        coins.year_of(coins.index.first()) == years.first().copied(),
+    );
+    check(
+        rt,
+        coins.year_of(coins.index.last()) == years.last().copied(),
+    );
+    check(rt, walks!(coins.index.walk(), &coins.store, years));
     check(rt, coins.has_places_of(years));
     for year in 0..1_010 {
-        same_of(rt, coins, years, year);
+        check(rt, coins.finds(years, year));
     }
-}
-
-// Each lookup of the year returns what the list does.
-fn same_of(rt: &impl Abort, coins: &Coins, years: &[u32], year: u32) {
-    let (at, is_there) = match years.binary_search(&year) {
-        Ok(at) => (at, true),
-        Err(at) => (at, false),
-    };
-    let next = at.wrapping_add(usize::from(is_there));
-    check(rt, coins.found(year) == is_there.then_some(year));
-    check(rt, coins.after(year) == years.get(next).copied());
-    check(rt, coins.is_found_at(year, at, is_there));
 }
 
 // Each year, in steps, is inserted if it is not listed, and removed if it is.
@@ -374,7 +349,8 @@ fn coins_come_and_go(rt: HostRuntime) -> Result<(), Fail> {
     for step in [1, 7, 1008, 11] {
         exchange(&rt, &mut coins, &mut years, step)?;
     }
-    check(&rt, coins.ends_in(years.as_slice()));
+    let (store, walk) = (coins.store, coins.index.into_walk());
+    check(&rt, walks!(walk, &store, years));
     Ok(())
 }
 
@@ -386,11 +362,7 @@ fn fill(rt: &impl Abort, coins: &mut Coins) {
 }
 
 fn even_years(alloc: Global) -> Result<Vec<u32>, AllocError> {
-    let mut years = Vec::new(alloc);
-    for n in 0..500u32 {
-        years.push(n.wrapping_mul(2))?;
-    }
-    Ok(years)
+    (0..500u32).map(|n| n.wrapping_mul(2)).collect(alloc)
 }
 
 #[test]
@@ -426,34 +398,24 @@ fn coins_leave_at_the_ends(rt: HostRuntime) -> Result<(), Fail> {
     Ok(())
 }
 
-// Each coin is another of its year.
-fn rename_all(rt: &impl Abort, coins: &mut Coins) {
-    for n in 0..500u32 {
-        let year = n.wrapping_mul(2);
-        check(rt, coins.rename_year(year));
-        check(rt, !coins.rename_year(year.wrapping_add(1)));
-    }
-}
-
 // Each coin is another of its year, and a copy lists as much. It is empty once it is cleared, and takes all again.
-fn rename_copy_and_clear(rt: &impl Abort, coins: &mut Coins, years: &[u32]) -> Result<(), Fail> {
-    rename_all(rt, coins);
-    same(rt, coins, years);
-    coins.copy()?;
-    same(rt, coins, years);
-    coins.clear();
-    same(rt, coins, &[]);
-    fill(rt, coins);
-    same(rt, coins, years);
-    Ok(())
-}
-
 #[test]
 fn coins_renamed_copied_and_cleared(rt: HostRuntime) -> Result<(), Fail> {
     let years = even_years(rt.alloc())?;
     let mut coins = Coins::new(rt.alloc());
     fill(&rt, &mut coins);
-    rename_copy_and_clear(&rt, &mut coins, years.as_slice())
+    for year in years.iter() {
+        check(&rt, coins.rename_year(*year));
+        check(&rt, !coins.rename_year(year.wrapping_add(1)));
+    }
+    same(&rt, &coins, years.as_slice());
+    coins.index = coins.index.try_clone()?;
+    same(&rt, &coins, years.as_slice());
+    coins.clear();
+    same(&rt, &coins, &[]);
+    fill(&rt, &mut coins);
+    same(&rt, &coins, years.as_slice());
+    Ok(())
 }
 
 // Every second year goes while the years are read one after the other.
@@ -465,15 +427,11 @@ fn thin(rt: &impl Abort, coins: &mut Coins, years: &mut Vec<u32>) {
     }
 }
 
-fn is_in_turn(coins: &mut Coins, at: usize, year: Option<u32>) -> bool {
-    coins.year_in_turn(at) == year
-}
-
 fn read_in_turn(rt: &impl Abort, coins: &mut Coins, years: &[u32]) {
     for (at, year) in years.iter().enumerate() {
-        check(rt, is_in_turn(coins, at, Some(*year)));
+        check(rt, coins.year_in_turn(at) == Some(*year));
     }
-    check(rt, is_in_turn(coins, years.len(), None));
+    check(rt, coins.year_in_turn(years.len()) == None);
 }
 
 // What was read before a change is not read after it.

@@ -1,6 +1,5 @@
 //! Keys of what is held, counts of comparisons, and texts for keys.
-use crate::checks::check;
-use crate::ord_index::Coin;
+use crate::ord_index::{Coin, check};
 use iddqd_store::{Comparable, Equivalent, IdHashItem, IdOrdItem, Steps, Text};
 use std::cmp::Ordering;
 use std::hash::{BuildHasher, BuildHasherDefault, FoldHasher, Hash};
