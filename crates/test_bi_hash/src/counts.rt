@@ -39,7 +39,6 @@ impl Load for Counted<'_> {
 /// How often first keys were compared and hashed, and second keys.
 pub(crate) type Counts = (u32, u32, u32, u32);
 
-/// A call on a map of such items.
 #[derive(Clone, Copy)]
 pub(crate) enum Act {
     Get(By),
@@ -53,7 +52,6 @@ pub(crate) enum Act {
 /// A call, the numbers of its keys, whether it finds or inserts an item, and how keys count.
 pub(crate) type Row = (Act, (u32, u32), bool, Counts);
 
-/// What the first keys count, and what the second ones do.
 #[derive(Default, Drop)]
 pub(crate) struct Tallies {
     pub(crate) first: Tally,
@@ -126,7 +124,6 @@ pub(crate) fn length_collected(alloc: Global, way: Way, items: &[Counted<'_>]) -
     made.map(|all| all.map.len())
 }
 
-// The calls on a map of the items (1, 2), (2, 4) and (3, 6).
 fn tell_each(rt: &impl Abort, alloc: Global, rows: &[Row]) {
     let tallies = Tallies::default();
     let mut all = tallies.three(rt, alloc);

@@ -3,7 +3,6 @@ use crate::held::{Held, Host, Hosts, Met, check, host, host_of, met, shown};
 use iddqd_bi_hash::bi_hash_map::Entry;
 use std::process::Abort;
 
-// What is done with an entry.
 #[derive(Clone, Copy)]
 enum Use {
     Show,
@@ -55,7 +54,6 @@ impl Held<Host> {
         }
     }
 
-    // Does this with the entry of each host, and looks whether it has these.
     fn enter(&mut self, rt: &impl Abort, rows: &[(Use, Host, Option<(Met, bool)>)]) {
         for (what, new, wanted) in rows {
             check(rt, self.entered(*what, *new) == *wanted);
@@ -63,7 +61,6 @@ impl Held<Host> {
     }
 }
 
-// With memory at hand a vacant entry inserts.
 #[test]
 fn a_vacant_entry_inserts(rt: HostRuntime) {
     let mut all = Hosts::new(rt.alloc());

@@ -8,7 +8,6 @@ use test_support::bulk::Hinted;
 
 const COUNT: u32 = 300;
 
-// Inserts the hosts one after the other.
 fn fill(rt: &impl Abort, mut all: Hosts, way: Way) {
     check(rt, put_all(rt, &mut all, way, COUNT) == 0);
     check(rt, all.holds_below(COUNT));

@@ -1,7 +1,6 @@
 //! Hosts, by number and by address.
 use iddqd_bi_hash::BiHashItem;
 
-/// A host, which its number tells from others, and its address.
 #[derive(Clone, Copy, Debug, Drop, PartialEq, Eq)]
 pub(crate) struct Host {
     pub(crate) number: u32,

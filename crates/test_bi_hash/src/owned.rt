@@ -4,12 +4,10 @@ use iddqd_bi_hash::BiHashMap;
 use std::alloc::Global;
 use std::process::Abort;
 
-// A host that owns a block of memory.
 fn boxed(rt: &impl Abort, alloc: Global, host: Host) -> Box<Host> {
     Box::new(alloc, host).expect(rt, "memory")
 }
 
-// Twelve such hosts.
 fn dozen(rt: &impl Abort, alloc: Global) -> Held<Box<Host>> {
     let mut all = Held::new(alloc);
     for number in 0..12 {

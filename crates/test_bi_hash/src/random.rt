@@ -33,14 +33,6 @@ struct Pair {
 }
 
 impl Pair {
-    fn new(rt: &impl Abort, alloc: Global) -> Pair {
-        Pair {
-            hosts: Hosts::new(alloc),
-            plain: Vec::with_capacity(alloc, 12).expect(rt, "room"),
-        }
-    }
-
-    // The list's host of the key.
     fn find(&self, by: By, wanted: Host) -> Option<Host> {
         let mut hosts = self.plain.iter();
         let found = match by {
@@ -80,7 +72,6 @@ impl Pair {
         }
     }
 
-    // Removes by either key.
     fn remove(&mut self, rt: &impl Abort, host: Host) {
         let by = if host.load % 2 == 0 {
             By::First
@@ -108,9 +99,11 @@ impl Pair {
     }
 }
 
-// So many calls, drawn from the first kinds.
 fn calls(rt: &impl Abort, alloc: Global, state: u64, count: u32, kinds: u32) {
-    let mut pair = Pair::new(rt, alloc);
+    let mut pair = Pair {
+        hosts: Hosts::new(alloc),
+        plain: Vec::with_capacity(alloc, 12).expect(rt, "room"),
+    };
     let mut draws = Draws { state };
     for _ in 0..count {
         let host = draws.host();
@@ -144,7 +137,6 @@ fn many_calls(rt: HostRuntime) {
     calls(&rt, rt.alloc(), 77, 2000, 3);
 }
 
-// The same with calls on many hosts among them.
 #[test]
 fn calls_on_many(rt: HostRuntime) {
     calls(&rt, rt.alloc(), 99, 1000, 6);

@@ -71,7 +71,6 @@ fn replaced_without_memory(rt: HostRuntime) {
     check(&rt, all.map.len() == 2);
 }
 
-/// Prints the word for what a test saw.
 pub(crate) fn tell(rt: &(impl Abort + Print), word: &str) {
     check(rt, println!(rt; "{}", word).is_ok());
 }

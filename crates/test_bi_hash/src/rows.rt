@@ -149,7 +149,6 @@ fn at(sign: [u8; 3], frequency: u32) -> Station {
     }
 }
 
-// The spelling of a station, and its frequency.
 fn spelled(station: &Station) -> ([u8; 3], u32) {
     (station.sign.0, station.frequency)
 }

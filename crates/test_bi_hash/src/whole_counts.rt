@@ -18,7 +18,6 @@ impl<'a> Visit<Counted<'a>> for KeepsAboveOne {
     }
 }
 
-// Walks and checks of the structure.
 #[test]
 fn walks(rt: HostRuntime) {
     let tallies = Tallies::default();

@@ -21,16 +21,6 @@ fn drawn(alloc: Global, draws: &mut Draws) -> Result<Vec<Coarse>, AllocError> {
     Ok(items)
 }
 
-// Whether there is room for as many of the items as a map takes for new, before it takes any.
-fn has_room_for(plain: &Plain, items: &[Coarse]) -> bool {
-    let new = if plain.len() == 0 {
-        items.len()
-    } else {
-        items.len().div_ceil(2)
-    };
-    plain.has_room(new)
-}
-
 // Puts the items into the list, each in the place of the one of its name, up to the first that finds it full. If they
 // are to be unique, the first whose name is there ends it too.
 fn put_all(
@@ -102,7 +92,13 @@ impl<M: CoarseMap> Pair<M> {
     /// `extend`, or `extend_unique`.
     pub(crate) fn extend(&mut self, alloc: Global, is_unique: bool) -> Answer {
         let items = drawn(alloc, &mut self.draws)?;
-        let expected = if has_room_for(&self.plain, items.as_slice()) {
+        // a map reserves room for as many as it takes for new
+        let new = if self.plain.len() == 0 {
+            items.len()
+        } else {
+            items.len().div_ceil(2)
+        };
+        let expected = if self.plain.has_room(new) {
             put_all(&mut self.plain, items.as_slice(), is_unique)?
         } else {
             full(None)
@@ -115,20 +111,6 @@ impl<M: CoarseMap> Pair<M> {
             Err(refused) => Added::Stopped(refused.item, refused.error),
         };
         Ok(is_told(&added, &expected))
-    }
-
-    // Whether the copy equals the map just as long as it is not written; then what was written is undone.
-    fn equals_unwritten(&mut self, copy: &mut M) -> bool {
-        let is_equal = self.map.equals(copy) && copy.equals(&self.map);
-        let (name, value) = (self.draws.name(), self.draws.below(1000));
-        let old = self.plain.find(&name);
-        let _ = copy.write_by_reborrow(&name, value);
-        let is_changed = matches!(old, Some(item) if item.value != value);
-        let is_told = self.map.equals(copy) != is_changed;
-        if let Some(item) = old {
-            let _ = copy.write_by_reborrow(&name, item.value);
-        }
-        is_equal && is_told
     }
 }
 
@@ -162,9 +144,17 @@ impl<M: CoarseMap + Copied + Written + Drop> Pair<M> {
         let Ok(mut copy) = self.map.copied() else {
             return Ok(false);
         };
-        let is_equal = self.equals_unwritten(&mut copy);
+        let is_equal = self.map.equals(&copy) && copy.equals(&self.map);
+        let (name, value) = (self.draws.name(), self.draws.below(1000));
+        let old = self.plain.find(&name);
+        let _ = copy.write_by_reborrow(&name, value);
+        let is_changed = matches!(old, Some(item) if item.value != value);
+        let is_told = self.map.equals(&copy) != is_changed;
+        if let Some(item) = old {
+            let _ = copy.write_by_reborrow(&name, item.value);
+        }
         let walked = copy.walked_out(alloc)?;
-        Ok(is_equal && holds_the_same(&self.map, &self.plain, walked.as_slice()))
+        Ok(is_equal && is_told && holds_the_same(&self.map, &self.plain, walked.as_slice()))
     }
 
     /// An entry of a clone reads the item there, and shows what it wrote.

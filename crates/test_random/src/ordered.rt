@@ -101,10 +101,7 @@ impl Pair<Ordered<Coarse>> {
         let name = self.draws.name();
         let index = drawn_index(&self.plain, &mut self.draws);
         let less = rank(&self.plain, &name);
-        let expected = match self.plain.find(&name) {
-            Some(_) => Ok(less),
-            None => Err(less),
-        };
+        let expected = self.plain.find(&name).map(|_| less).ok_or(less);
         let (place, steps) = self.map.index_of(&name);
         place == expected
             && steps <= bound(self.plain.len())

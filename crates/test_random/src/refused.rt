@@ -45,13 +45,14 @@ impl<M: CoarseMap> Pair<M> {
     }
 }
 
-// How many of the calls were refused. The list has its room from the beginning.
-fn refusals<M: CoarseMap + Drop>(
-    rt: &impl Abort,
+// Makes the calls, and prints whether one was refused. The list has its room from the beginning.
+fn run<M: CoarseMap + Drop>(
+    rt: &(impl Abort + Print),
     alloc: Global,
     map: M,
     seed: u64,
-) -> Result<u32, Fail> {
+) -> Result<(), Fail> {
+    println!(rt; "seed {seed}")?;
     let mut plain = Plain::new(alloc, MAX_ITEMS);
     plain.items.reserve(125)?;
     let draws = Draws::new(seed, 5);
@@ -70,18 +71,7 @@ fn refusals<M: CoarseMap + Drop>(
     if pair.plain.refusals > u32::from(is_met(alloc)) {
         return Err(Fail::from("a refusal is told, and none was met"));
     }
-    Ok(pair.plain.refusals)
-}
-
-// Prints the row that the calls' results are.
-fn tell<M: CoarseMap + Drop>(
-    rt: &(impl Abort + Print),
-    alloc: Global,
-    map: M,
-    seed: u64,
-) -> Result<(), Fail> {
-    println!(rt; "seed {seed}")?;
-    match refusals(rt, alloc, map, seed)? {
+    match pair.plain.refusals {
         0 => println!(rt; "answered")?,
         _ => println!(rt; "call_refused")?,
     }
@@ -90,10 +80,10 @@ fn tell<M: CoarseMap + Drop>(
 
 #[test]
 fn ordered_calls(rt: HostRuntime) -> Result<(), Fail> {
-    tell(&rt, rt.alloc(), in_order(rt.alloc()), 91)
+    run(&rt, rt.alloc(), in_order(rt.alloc()), 91)
 }
 
 #[test]
 fn hash_calls(rt: HostRuntime) -> Result<(), Fail> {
-    tell(&rt, rt.alloc(), by_hash(rt.alloc()), 92)
+    run(&rt, rt.alloc(), by_hash(rt.alloc()), 92)
 }

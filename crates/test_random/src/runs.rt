@@ -26,22 +26,13 @@ struct Run {
     limit: u32,
 }
 
-// The run, once it is printed what it is made of.
-fn announced(
-    rt: &impl Print,
-    seed: u64,
-    calls: u32,
-    letters: u32,
-    limit: u32,
-) -> Result<Run, Fail> {
-    let run = Run {
+fn run_of(seed: u64, calls: u32, letters: u32, limit: u32) -> Run {
+    Run {
         seed,
         calls,
         letters,
         limit,
-    };
-    println!(rt; "{run:?}")?;
-    Ok(run)
+    }
 }
 
 impl<M: CoarseMap + Copied + Written + Drop> Pair<M> {
@@ -85,11 +76,12 @@ impl<M: CoarseMap + Copied + Written + Drop> Pair<M> {
 
 // Runs the calls on a hash map.
 fn run_hashed<M: CoarseMap + Copied + Written + Drop>(
-    rt: &impl Abort,
+    rt: &(impl Abort + Print),
     alloc: Global,
     run: Run,
     map: M,
-) -> Result<(), AllocError> {
+) -> Result<(), Fail> {
+    println!(rt; "{run:?}")?;
     let mut pair = Pair::new(alloc, run, map);
     for number in 0..run.calls {
         let drawn = pair.draws.below(200);
@@ -128,7 +120,8 @@ impl Pair<Ordered<Coarse>> {
 }
 
 // Runs the calls on an ordered map.
-fn run_ordered(rt: &impl Abort, alloc: Global, run: Run) -> Result<(), AllocError> {
+fn run_ordered(rt: &(impl Abort + Print), alloc: Global, run: Run) -> Result<(), Fail> {
+    println!(rt; "{run:?}")?;
     let map = Ordered::new(IdOrdMap::with_limit(alloc, run.limit));
     let mut pair = Pair::new(alloc, run, map);
     for number in 0..run.calls {
@@ -148,8 +141,7 @@ fn run_ordered(rt: &impl Abort, alloc: Global, run: Run) -> Result<(), AllocErro
 #[test]
 fn ordered_calls(rt: HostRuntime) -> Result<(), Fail> {
     for seed in [11, 12, 13] {
-        let run = announced(&rt, seed, CALLS, 3, MAX_ITEMS)?;
-        run_ordered(&rt, rt.alloc(), run)?;
+        run_ordered(&rt, rt.alloc(), run_of(seed, CALLS, 3, MAX_ITEMS))?;
     }
     Ok(())
 }
@@ -157,8 +149,7 @@ fn ordered_calls(rt: HostRuntime) -> Result<(), Fail> {
 #[test]
 fn ordered_calls_of_many_names(rt: HostRuntime) -> Result<(), Fail> {
     for seed in [21, 22] {
-        let run = announced(&rt, seed, MANY_CALLS, 7, MAX_ITEMS)?;
-        run_ordered(&rt, rt.alloc(), run)?;
+        run_ordered(&rt, rt.alloc(), run_of(seed, MANY_CALLS, 7, MAX_ITEMS))?;
     }
     Ok(())
 }
@@ -166,7 +157,7 @@ fn ordered_calls_of_many_names(rt: HostRuntime) -> Result<(), Fail> {
 #[test]
 fn ordered_calls_at_the_limit(rt: HostRuntime) -> Result<(), Fail> {
     for seed in [31, 32] {
-        run_ordered(&rt, rt.alloc(), announced(&rt, seed, CALLS, 3, 14)?)?;
+        run_ordered(&rt, rt.alloc(), run_of(seed, CALLS, 3, 14))?;
     }
     Ok(())
 }
@@ -174,7 +165,7 @@ fn ordered_calls_at_the_limit(rt: HostRuntime) -> Result<(), Fail> {
 #[test]
 fn hash_calls(rt: HostRuntime) -> Result<(), Fail> {
     for seed in [41, 42] {
-        let run = announced(&rt, seed, MANY_CALLS, 7, MAX_ITEMS)?;
+        let run = run_of(seed, MANY_CALLS, 7, MAX_ITEMS);
         run_hashed(&rt, rt.alloc(), run, by_hash::<Coarse>(rt.alloc()))?;
     }
     Ok(())
@@ -183,7 +174,7 @@ fn hash_calls(rt: HostRuntime) -> Result<(), Fail> {
 #[test]
 fn hash_calls_at_the_limit(rt: HostRuntime) -> Result<(), Fail> {
     for seed in [51, 52] {
-        let run = announced(&rt, seed, CALLS, 3, 14)?;
+        let run = run_of(seed, CALLS, 3, 14);
         let hasher = iddqd::DefaultHashBuilder::new();
         let map = Hashed::new(IdHashMap::<Coarse>::with_limit(rt.alloc(), 14, hasher));
         run_hashed(&rt, rt.alloc(), run, map)?;
@@ -194,7 +185,7 @@ fn hash_calls_at_the_limit(rt: HostRuntime) -> Result<(), Fail> {
 #[test]
 fn calls_of_equal_hashes(rt: HostRuntime) -> Result<(), Fail> {
     for seed in [61, 62, 63] {
-        let run = announced(&rt, seed, CALLS, 3, MAX_ITEMS)?;
+        let run = run_of(seed, CALLS, 3, MAX_ITEMS);
         let hasher: BuildHasherDefault<ZeroHasher> = BuildHasherDefault::new();
         let map = Hashed::new(IdHashMap::with_hasher(rt.alloc(), hasher));
         run_hashed(&rt, rt.alloc(), run, map)?;
@@ -205,7 +196,7 @@ fn calls_of_equal_hashes(rt: HostRuntime) -> Result<(), Fail> {
 #[test]
 fn calls_of_random_hashes(rt: HostRuntime) -> Result<(), Fail> {
     for seed in [71, 72] {
-        let run = announced(&rt, seed, CALLS, 7, MAX_ITEMS)?;
+        let run = run_of(seed, CALLS, 7, MAX_ITEMS);
         let map = Hashed::new(IdHashMap::with_hasher(rt.alloc(), RandomState::new(&rt)?));
         run_hashed(&rt, rt.alloc(), run, map)?;
     }
