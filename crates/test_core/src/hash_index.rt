@@ -37,7 +37,6 @@ impl CoinMap {
         }
     }
 
-    // The slot of a new coin.
     fn put(&mut self, rt: &impl Abort, hash: u64, year: u32) -> u32 {
         assert!(rt; self.index.try_reserve(1).is_ok());
         assert!(rt; self.store.try_reserve(1).is_ok());
@@ -104,7 +103,6 @@ impl CoinMap {
         self.index.shrink(min).is_ok()
     }
 
-    // Puts a copy in the place of the index.
     fn copy(&mut self) -> Result<(), TryReserveError> {
         self.index = self.index.try_clone()?;
         Ok(())

@@ -8,9 +8,7 @@ ghost use Rattle.std.proofs.lemmas.Cmp.{nat_cmp_total};
 ghost use Rattle.iddqd_store.specs.Query.{le_then_less, ge_then_greater};
 
 use iddqd_ord_index::{Insertion, OrdIndex};
-use iddqd_store::{
-    Comparable, Equivalent, IdHashItem, IdOrdItem, ItemStore, Steps, TryReserveError,
-};
+use iddqd_store::{Comparable, Equivalent, IdHashItem, IdOrdItem, ItemStore, Steps};
 use std::alloc::{AllocError, Global};
 use std::cell::Cell;
 use std::cmp::Ordering;
@@ -148,7 +146,6 @@ impl Coins {
         }
     }
 
-    // The year of the slot.
     fn year_of(&self, slot: Option<u32>) -> Option<u32> {
         Some(self.store.get(slot?)?.year)
     }
@@ -190,13 +187,11 @@ impl Coins {
         self.year_of(Some(slot))
     }
 
-    // The year that `remove_first` took out.
     fn take_first(&mut self) -> Option<u32> {
         let slot = self.index.remove_first();
         self.year_of(slot)
     }
 
-    // The year that `remove_last` took out.
     fn take_last(&mut self) -> Option<u32> {
         let slot = self.index.remove_last();
         self.year_of(slot)
@@ -231,18 +226,6 @@ impl Coins {
         steps.count() > 0 && steps.count() == compared.get()
     }
 
-    // Whether `find` has this place for the year, as that of its slot or as the one where it belongs.
-    fn is_found_at(&self, year: u32, at: usize, is_there: bool) -> bool {
-        if at > self.index.len() as usize {
-            return false;
-        }
-        let place = self.index.place(at);
-        match self.index.find(&self.store, &year, &mut Steps::new()) {
-            Ok(found) => is_there && found == place,
-            Err(found) => !is_there && found == place,
-        }
-    }
-
     // The years of the slots one by one, by their places.
     fn has_places_of(&self, years: &[u32]) -> bool {
         for (at, year) in years.iter().enumerate() {
@@ -266,9 +249,18 @@ impl Coins {
         let next = at.wrapping_add(usize::from(is_there));
         let found = self.index.get(&self.store, &year, &mut Steps::new());
         let after = self.index.after(&self.store, &year, &mut Steps::new());
+        if at > self.index.len() as usize {
+            return false;
+        }
+        let place = self.index.place(at);
+        // the place of its slot, or the one where it belongs
+        let is_found_at = match self.index.find(&self.store, &year, &mut Steps::new()) {
+            Ok(found) => is_there && found == place,
+            Err(found) => !is_there && found == place,
+        };
         self.year_of(found) == is_there.then_some(year)
             && self.year_of(after) == years.get(next).copied()
-            && self.is_found_at(year, at, is_there)
+            && is_found_at
     }
 }
 
@@ -295,14 +287,9 @@ fn is_coin(store: &ItemStore<Coin>, slot: Option<u32>, year: u32) -> bool {
 // Each call that changes nothing returns what the list does. The years are below 1,010.
 fn same(rt: &impl Abort, coins: &Coins, years: &[u32]) {
     check(rt, coins.index.len() as usize == years.len());
-    check(
-        rt,
-        coins.year_of(coins.index.first()) == years.first().copied(),
-    );
-    check(
-        rt,
-        coins.year_of(coins.index.last()) == years.last().copied(),
-    );
+    let (first, last) = (coins.index.first(), coins.index.last());
+    check(rt, coins.year_of(first) == years.first().copied());
+    check(rt, coins.year_of(last) == years.last().copied());
     check(rt, walks!(coins.index.walk(), &coins.store, years));
     check(rt, coins.has_places_of(years));
     for year in 0..1_010 {
