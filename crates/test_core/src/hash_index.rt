@@ -72,10 +72,7 @@ impl CoinMap {
     // The same by one search, and whether its steps are the comparisons that it makes.
     fn take_by(&mut self, hash: u64, year: u32) -> (Option<u32>, bool) {
         let compared = Cell::new(0);
-        let query = Asked {
-            year,
-            compared: &compared,
-        };
+        let query = Asked(year, &compared);
         let mut steps = Steps::new();
         let slot = self
             .index

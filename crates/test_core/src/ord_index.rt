@@ -50,36 +50,33 @@ impl IdHashItem for Coin {
     }
 }
 
-// A year that counts its comparisons.
+// A year, and the count of its comparisons.
 #[derive(Clone, Copy)]
-pub(crate) struct Asked<'a> {
-    pub(crate) year: u32,
-    pub(crate) compared: &'a Cell<u32>,
-}
+pub(crate) struct Asked<'a>(pub(crate) u32, pub(crate) &'a Cell<u32>);
 
 impl Equivalent<u32> for Asked<'_> {
-    ghost equivalent = { λ q k. nat_eq q.year k };
+    ghost equivalent = { λ q k. nat_eq q.0 k };
 
-    ghost one_key = { λ q x y. nat_eq_equiv.congr q.year x y };
+    ghost one_key = { λ q x y. nat_eq_equiv.congr q.0 x y };
 
     fn equivalent(&self, key: &u32) -> bool {
-        self.compared.set(self.compared.get().saturating_add(1));
-        self.year == *key
+        self.1.set(self.1.get().saturating_add(1));
+        self.0 == *key
     }
 }
 
 impl Comparable<u32> for Asked<'_> {
-    ghost compare = { λ q k. nat_cmp q.year k };
+    ghost compare = { λ q k. nat_cmp q.0 k };
 
     ghost equal_where_equivalent = { Prim.search (comparing, rules) };
 
-    ghost less_above = { λ q x y. le_then_less nat_cmp_total q.year x y };
+    ghost less_above = { λ q x y. le_then_less nat_cmp_total q.0 x y };
 
-    ghost greater_below = { λ q x y. ge_then_greater nat_cmp_total q.year x y };
+    ghost greater_below = { λ q x y. ge_then_greater nat_cmp_total q.0 x y };
 
     fn compare(&self, key: &u32) -> Ordering {
-        self.compared.set(self.compared.get().saturating_add(1));
-        self.year.cmp(key)
+        self.1.set(self.1.get().saturating_add(1));
+        self.0.cmp(key)
     }
 }
 
@@ -217,10 +214,7 @@ impl Coins {
     // Whether the steps of `after` are the comparisons that it makes.
     fn counts_after(&self, year: u32) -> bool {
         let compared = Cell::new(0);
-        let query = Asked {
-            year,
-            compared: &compared,
-        };
+        let query = Asked(year, &compared);
         let mut steps = Steps::new();
         let _ = self.index.after(&self.store, &query, &mut steps);
         steps.count() > 0 && steps.count() == compared.get()
@@ -362,25 +356,22 @@ fn coins_after_counted(rt: HostRuntime) {
 }
 
 // From either end, in turns.
-fn leave(rt: &impl Abort, coins: &mut Coins, years: &[u32]) {
-    check(rt, years.len() == 500);
-    for n in 0..250 {
-        check(rt, coins.take_first() == Some(years[n]));
-        check(rt, coins.take_last() == Some(years[499 - n]));
-        if n % 60 == 0 {
-            same(rt, coins, &years[n + 1..499 - n]);
-        }
-    }
-    check(rt, coins.take_first().is_none());
-    check(rt, coins.take_last().is_none());
-}
-
 #[test]
 fn coins_leave_at_the_ends(rt: HostRuntime) -> Result<(), Fail> {
     let mut coins = Coins::new(rt.alloc());
     fill(&rt, &mut coins);
     let years = even_years(rt.alloc())?;
-    leave(&rt, &mut coins, years.as_slice());
+    let years = years.as_slice();
+    check(&rt, years.len() == 500);
+    for n in 0..250 {
+        check(&rt, coins.take_first() == Some(years[n]));
+        check(&rt, coins.take_last() == Some(years[499 - n]));
+        if n % 60 == 0 {
+            same(&rt, &coins, &years[n + 1..499 - n]);
+        }
+    }
+    check(&rt, coins.take_first().is_none());
+    check(&rt, coins.take_last().is_none());
     same(&rt, &coins, &[]);
     Ok(())
 }
@@ -405,15 +396,6 @@ fn coins_renamed_copied_and_cleared(rt: HostRuntime) -> Result<(), Fail> {
     Ok(())
 }
 
-// Every second year goes while the years are read one after the other.
-fn thin(rt: &impl Abort, coins: &mut Coins, years: &mut Vec<u32>) {
-    for at in 0..250 {
-        check(rt, at < years.len());
-        check(rt, coins.year_in_turn(at) == Some(years.as_slice()[at]));
-        check(rt, coins.take_at(at) == Some(years.remove(at)));
-    }
-}
-
 fn read_in_turn(rt: &impl Abort, coins: &mut Coins, years: &[u32]) {
     for (at, year) in years.iter().enumerate() {
         check(rt, coins.year_in_turn(at) == Some(*year));
@@ -428,7 +410,12 @@ fn coins_read_in_turn(rt: HostRuntime) -> Result<(), Fail> {
     fill(&rt, &mut coins);
     let mut years = even_years(rt.alloc())?;
     read_in_turn(&rt, &mut coins, years.as_slice());
-    thin(&rt, &mut coins, &mut years);
+    // every second year goes while the years are read one after the other
+    for at in 0..250 {
+        check(&rt, at < years.len());
+        check(&rt, coins.year_in_turn(at) == Some(years.as_slice()[at]));
+        check(&rt, coins.take_at(at) == Some(years.remove(at)));
+    }
     read_in_turn(&rt, &mut coins, years.as_slice());
     check(&rt, coins.year_in_turn(0) == Some(2) && coins.put(0));
     check(&rt, coins.year_in_turn(0) == Some(0));
