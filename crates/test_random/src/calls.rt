@@ -18,11 +18,10 @@ impl<M: CoarseMap> Pair<M> {
                 self.plain.overwrite(item)?;
                 Ok(fits && is_same(answer, old))
             }
-            Err(refused) => Ok(
-                old.is_none()
-                    && is_same(Some(refused.item), Some(item))
-                    && self.plain.refuses(refused.error),
-            ),
+            Err(refused) => {
+                let is_back = old.is_none() && is_same(Some(refused.item), Some(item));
+                Ok(is_back && self.plain.refuses(refused.error))
+            }
         }
     }
 

@@ -28,7 +28,6 @@ fn drawn_index(plain: &Plain, draws: &mut Draws) -> usize {
     (draws.next() as usize).checked_rem(positions).unwrap_or(0)
 }
 
-// One of the bounds of the name.
 fn drawn_bound<'a>(name: &'a Caseless, draws: &mut Draws) -> Bound<&'a Caseless> {
     match draws.below(5) {
         0..=1 => Bound::Included(name),
@@ -38,7 +37,6 @@ fn drawn_bound<'a>(name: &'a Caseless, draws: &mut Draws) -> Bound<&'a Caseless>
 }
 
 impl Pair<Ordered<Coarse>> {
-    // The ends are those of the list.
     pub(crate) fn has_ends(&self) -> bool {
         let map = self.map.map();
         is_same(map.first().copied(), self.plain.end(true))
@@ -88,11 +86,9 @@ impl Pair<Ordered<Coarse>> {
 
     pub(crate) fn show_inserted(&mut self) -> Answer {
         let item = self.draws.item();
-        let is_new = self.plain.find(&item.name).is_none();
-        let expected = if is_new {
-            self.plain.shown(item)?
-        } else {
-            None
+        let expected = match self.plain.find(&item.name) {
+            None => self.plain.shown(item)?,
+            Some(_) => None,
         };
         Ok(is_same(self.map.put_shown(item).unwrap_or(None), expected))
     }
@@ -145,7 +141,6 @@ impl Pair<Ordered<Coarse>> {
     }
 }
 
-// The names ascend.
 pub(crate) fn ascends(walked: &[Coarse]) -> bool {
     walked.is_sorted_by(|one, next| one.name < next.name)
 }

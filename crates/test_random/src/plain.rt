@@ -43,7 +43,6 @@ impl Draws {
         self.next().checked_rem(bound).unwrap_or(0)
     }
 
-    /// Either of two.
     pub(crate) fn coin(&mut self) -> bool {
         self.below(2) == 0
     }
@@ -67,7 +66,6 @@ impl Draws {
     }
 }
 
-/// What a map is held against.
 #[derive(Drop)]
 pub(crate) struct Plain {
     /// In no order.
@@ -97,12 +95,10 @@ impl Plain {
         self.items.len()
     }
 
-    /// Whether this many more items fit.
     pub(crate) fn has_room(&self, additional: usize) -> bool {
         self.len().saturating_add(additional) <= self.limit as usize
     }
 
-    /// The item of the name.
     pub(crate) fn find(&self, name: &Caseless) -> Option<Coarse> {
         self.items.iter().find(|item| item.name == *name).copied()
     }
@@ -119,7 +115,6 @@ impl Plain {
         end
     }
 
-    /// Takes out the item of the name.
     pub(crate) fn take(&mut self, name: &Caseless) -> Option<Coarse> {
         let found = self.find(name)?;
         self.items.retain(|item| item.name != *name);
@@ -143,7 +138,6 @@ impl Plain {
         }
     }
 
-    /// Writes the value of the name.
     pub(crate) fn write(&mut self, name: &Caseless, value: u32) {
         if let Some(item) = self.find(name) {
             self.replace(Coarse { value, ..item });

@@ -17,7 +17,6 @@ use test_support::coarse::{CoarseMap, Copied};
 use test_support::hashers::ZeroHasher;
 use test_support::maps::{Copying, Hashed, Ordered, by_hash};
 
-// What a run is made of.
 #[derive(Clone, Copy, Debug)]
 struct Run {
     seed: u64,
@@ -74,7 +73,6 @@ impl<M: CoarseMap + Copied + Written + Drop> Pair<M> {
     }
 }
 
-// Runs the calls on a hash map.
 fn run_hashed<M: CoarseMap + Copied + Written + Drop>(
     rt: &(impl Abort + Print),
     alloc: Global,
@@ -119,7 +117,6 @@ impl Pair<Ordered<Coarse>> {
     }
 }
 
-// Runs the calls on an ordered map.
 fn run_ordered(rt: &(impl Abort + Print), alloc: Global, run: Run) -> Result<(), Fail> {
     println!(rt; "{run:?}")?;
     let map = Ordered::new(IdOrdMap::with_limit(alloc, run.limit));
