@@ -32,11 +32,12 @@ fn removed(rt: HostRuntime) {
 #[test]
 fn overwritten(rt: HostRuntime) {
     let mut all = dozen(&rt, rt.alloc());
-    let new = || boxed(&rt, rt.alloc(), host_of(1, 102, 3));
-    check(&rt, all.map.insert_overwrite(new()).is_ok());
+    let new = host_of(1, 102, 3);
+    let first = boxed(&rt, rt.alloc(), new);
+    check(&rt, all.map.insert_overwrite(first).is_ok());
     check(&rt, all.map.len() == 11);
     all.map.clear();
-    check(&rt, all.is_put(new()));
+    check(&rt, all.is_put(boxed(&rt, rt.alloc(), new)));
 }
 
 #[test]
