@@ -1,13 +1,129 @@
-//! How often each call compares and hashes the keys.
-use crate::held::{By, Held, Way, check};
-use crate::tallies::{Act, Counted, Row, Tallies, length_collected};
-use iddqd_bi_hash::BiHashMap;
+//! How often each call compares and hashes the keys, of items whose two keys count that.
+use crate::held::{By, Held, Load, Way, check};
+use iddqd_bi_hash::{BiHashItem, BiHashMap};
 use std::alloc::Global;
-use std::hash::BuildHasherDefault;
+use std::hash::{BuildHasher, BuildHasherDefault};
 use std::process::Abort;
+use test_support::counting::{CountingKey, Counts as Tally};
 use test_support::hashers::ZeroHasher;
 
-// The calls on a map of the items (1, 2), (2, 4) and (3, 6).
+/// An item of two such keys. Its `==` compares the first keys, and then the second ones if those are equal.
+#[derive(Clone, Copy, PartialEq, Eq)]
+pub(crate) struct Counted<'a> {
+    pub(crate) one: CountingKey<'a>,
+    pub(crate) other: CountingKey<'a>,
+}
+
+impl<'a> BiHashItem for Counted<'a> {
+    type K1 = CountingKey<'a>;
+
+    type K2 = CountingKey<'a>;
+
+    ghost key1 = { λ item. item.one };
+
+    ghost key2 = { λ item. item.other };
+
+    fn key1(&self) -> &CountingKey<'a> {
+        &self.one
+    }
+
+    fn key2(&self) -> &CountingKey<'a> {
+        &self.other
+    }
+}
+
+impl Load for Counted<'_> {
+    fn set_load(&mut self, _load: u32) {}
+}
+
+/// How often first keys were compared and hashed, and second keys.
+pub(crate) type Counts = (u32, u32, u32, u32);
+
+#[derive(Clone, Copy)]
+pub(crate) enum Act {
+    Get(By),
+    Contains(By),
+    Lend(By),
+    Remove(By),
+    Put,
+    Overwrite,
+}
+
+/// A call, the numbers of its keys, whether it finds or inserts an item, and how keys count.
+pub(crate) type Row = (Act, (u32, u32), bool, Counts);
+
+#[derive(Default, Drop)]
+pub(crate) struct Tallies {
+    pub(crate) first: Tally,
+    pub(crate) second: Tally,
+}
+
+impl Tallies {
+    pub(crate) fn item(&self, one: u32, other: u32) -> Counted<'_> {
+        Counted {
+            one: self.first.key(one),
+            other: self.second.key(other),
+        }
+    }
+
+    /// A map that is made of a hundred items, of which none is announced. Growth hashes no key.
+    pub(crate) fn hundred(&self, rt: &impl Abort, alloc: Global, way: Way) -> Held<Counted<'_>> {
+        let mut items = Vec::new(alloc);
+        for number in 0..100u32 {
+            check(rt, items.push(self.item(number, number)).is_ok());
+        }
+        let made = Held::collected(alloc, way, items.as_slice(), 0);
+        let all = made.ok().expect(rt, "a map");
+        self.tell(rt, all.map.len() == 100, (0, 100, 0, 100));
+        all
+    }
+
+    /// A map of the items (1, 2), (2, 4) and (3, 6).
+    pub(crate) fn three(&self, rt: &impl Abort, alloc: Global) -> Held<Counted<'_>> {
+        let mut all = Held::new(alloc);
+        for number in 1..4u32 {
+            check(rt, all.is_put(self.item(number, number.wrapping_mul(2))));
+        }
+        self.tell(rt, true, (0, 3, 0, 3));
+        all
+    }
+
+    /// Makes each call, and looks whether it does so and keys count so.
+    pub(crate) fn tell_each<'a, S: BuildHasher>(
+        &'a self,
+        rt: &impl Abort,
+        all: &mut Held<Counted<'a>, S>,
+        rows: &[Row],
+    ) {
+        for row in rows {
+            let (act, (one, other), is_done, counts) = *row;
+            let item = self.item(one, other);
+            let does = match act {
+                Act::Get(by) => all.get(by, &item.one, &item.other).is_some(),
+                Act::Contains(by) => all.contains(by, &item.one, &item.other),
+                Act::Lend(by) => all.load(by, &item.one, &item.other, 0),
+                Act::Remove(by) => all.remove(by, &item.one, &item.other).is_some(),
+                Act::Put => all.is_put(item),
+                Act::Overwrite => all.map.insert_overwrite(item).is_ok(),
+            };
+            self.tell(rt, does == is_done, counts);
+        }
+    }
+
+    /// A call did what it should, and since this was asked last keys counted so.
+    pub(crate) fn tell(&self, rt: &impl Abort, is_done: bool, wanted: Counts) {
+        check(rt, is_done);
+        let (first, second) = (self.first.since(), self.second.since());
+        check(rt, (first.1, first.0, second.1, second.0) == wanted);
+    }
+}
+
+/// How many items a map has that is made of these, of which none is announced. It is `None` if no map is made.
+pub(crate) fn length_collected(alloc: Global, way: Way, items: &[Counted<'_>]) -> Option<usize> {
+    let made = Held::collected(alloc, way, items, 0).ok();
+    made.map(|all| all.map.len())
+}
+
 fn tell_each(rt: &impl Abort, alloc: Global, rows: &[Row]) {
     let tallies = Tallies::default();
     let mut all = tallies.three(rt, alloc);
@@ -82,20 +198,16 @@ fn equal_hashes(rt: HostRuntime) {
 }
 
 // What looks at all items hashes those that it removes.
-fn look_at_all(rt: &impl Abort, all: &mut Held<Counted<'_>>, tallies: &Tallies) {
-    check(rt, all.reserve(1000).is_ok());
-    tallies.tell(rt, all.map.iter().count() == 100, (0, 0, 0, 0));
-    all.retain(|item| item.one.number >= 10);
-    tallies.tell(rt, all.map.len() == 90, (0, 10, 0, 10));
-    all.clear();
-    tallies.tell(rt, all.map.len() == 0, (0, 0, 0, 0));
-}
-
 #[test]
 fn many(rt: HostRuntime) {
     let tallies = Tallies::default();
     let mut all = tallies.hundred(&rt, rt.alloc(), Way::Unique);
-    look_at_all(&rt, &mut all, &tallies);
+    check(&rt, all.map.reserve(1000).is_ok());
+    tallies.tell(&rt, all.map.iter().count() == 100, (0, 0, 0, 0));
+    all.map.retain(|item| item.one.number >= 10);
+    tallies.tell(&rt, all.map.len() == 90, (0, 10, 0, 10));
+    all.map.clear();
+    tallies.tell(&rt, all.map.len() == 0, (0, 0, 0, 0));
 }
 
 // At the repeat, the third, both earlier items go.

@@ -83,18 +83,8 @@ fn even<'a>(rt: &impl Abort, alloc: Global, dropped: &'a Cell<u32>) -> Held<Tick
 
 type Keys = [(u32, u32); 3];
 
-// Items of these keys.
-fn tickets<'a>(
-    rt: &impl Abort,
-    alloc: Global,
-    all_keys: Keys,
-    dropped: &'a Cell<u32>,
-) -> Vec<Ticket<'a>> {
-    let mut tickets = Vec::new(alloc);
-    for keys in all_keys {
-        check(rt, tickets.push(Ticket { keys, dropped }).is_ok());
-    }
-    tickets
+fn tickets(all_keys: Keys, dropped: &Cell<u32>) -> [Ticket<'_>; 3] {
+    all_keys.map(|keys| Ticket { keys, dropped })
 }
 
 // The second and the third item have a key of the first.
@@ -120,7 +110,7 @@ fn retained_by_a_visitor(rt: HostRuntime) {
 fn extend(rt: &impl Abort, alloc: Global, way: Way, all_keys: Keys, wanted: Wanted) {
     let dropped = Cell::new(0);
     let mut all = below(rt, alloc, 3, &dropped);
-    let items = tickets(rt, alloc, all_keys, &dropped);
+    let items = tickets(all_keys, &dropped);
     let is_repeated = matches!(way, Way::Unique).then_some(true);
     check(rt, all.meets_repeat(way, items) == is_repeated);
     drop_all(rt, all, &dropped, wanted);
@@ -137,7 +127,7 @@ fn displaced_by_extend(rt: HostRuntime) {
 #[test]
 fn displaced_by_from_iter(rt: HostRuntime) {
     let dropped = Cell::new(0);
-    let items = tickets(&rt, rt.alloc(), REPEATED, &dropped);
+    let items = tickets(REPEATED, &dropped);
     let map = BiHashMap::from_iter(rt.alloc(), items).expect(&rt, "memory");
     drop_all(&rt, Held::over(map), &dropped, (1, 2, 3));
 }
@@ -148,20 +138,15 @@ fn refused_by_extend_unique(rt: HostRuntime) {
     extend(&rt, rt.alloc(), Way::Unique, REPEATED, (2, 4, 6));
 }
 
-// A copy of five items, which is cleared.
-fn clear_copy(rt: &impl Abort, all: &Held<Ticket<'_>>, dropped: &Cell<u32>) {
-    let mut copy = Held::over(all.map.clone().expect(rt, "memory"));
-    check(rt, copy.map.len() == 5 && dropped.get() == 0);
-    copy.clear();
-    drop_all(rt, copy, dropped, (5, 0, 5));
-}
-
 // What is cleared of a clone is its own.
 #[test]
 fn cleared_clone(rt: HostRuntime) {
     let dropped = Cell::new(0);
     let all = below(&rt, rt.alloc(), 5, &dropped);
-    clear_copy(&rt, &all, &dropped);
+    let mut copy = Held::over(all.map.clone().expect(&rt, "memory"));
+    check(&rt, copy.map.len() == 5 && dropped.get() == 0);
+    copy.map.clear();
+    drop_all(&rt, copy, &dropped, (5, 0, 5));
     drop_all(&rt, all, &dropped, (5, 5, 10));
 }
 

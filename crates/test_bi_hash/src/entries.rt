@@ -1,10 +1,8 @@
 //! Entries: what they find, and what they insert, replace and remove.
 use crate::held::{Held, Host, Hosts, Met, check, host, host_of, met, shown};
 use iddqd_bi_hash::bi_hash_map::Entry;
-use iddqd_bi_hash::{BiHashMap, Keyed};
 use std::process::Abort;
 
-// What is done with the hosts of an entry.
 #[derive(Clone, Copy)]
 enum Use {
     Show,
@@ -12,15 +10,33 @@ enum Use {
     Replace,
     // Writes the load of the host that has both keys.
     Load,
+    // `insert` of a vacant one.
+    Insert,
+    // `insert_entry` of a vacant one, and `remove` of that.
+    InsertAndRemove,
 }
 
 impl Held<Host> {
     // Does this with the entry of the host's keys: the hosts that it has, and whether it is one that has both. It is
-    // `None` if the entry is vacant.
+    // `None` if the entry is of the other kind.
     #[tactic(auto, using(iddqd_bi_hash::proofs::GuardLemmas::both_keys_kept))]
     fn entered(&mut self, what: Use, new: Host) -> Option<(Met, bool)> {
         match self.map.entry(&new.number, &new.address) {
-            Entry::Vacant(_) => None,
+            Entry::Vacant(entry) => match what {
+                Use::Insert => match entry.insert(new) {
+                    Ok(added) => {
+                        let shown = *added;
+                        added.finish();
+                        Some(((Some(shown), None), true))
+                    }
+                    Err(_refused) => None,
+                },
+                Use::InsertAndRemove => match entry.insert_entry(new) {
+                    Ok(added) => Some((met(&added.remove()), true)),
+                    Err(_refused) => None,
+                },
+                _ => None,
+            },
             Entry::Occupied(mut entry) => {
                 let is_unique = entry.is_unique();
                 let hosts = match what {
@@ -31,13 +47,13 @@ impl Held<Host> {
                         (Some(new), None)
                     }
                     Use::Show | Use::Load => shown(&entry.items()),
+                    Use::Insert | Use::InsertAndRemove => return None,
                 };
                 Some((hosts, is_unique))
             }
         }
     }
 
-    // Does this with the entry of each host, and looks whether it has these.
     fn enter(&mut self, rt: &impl Abort, rows: &[(Use, Host, Option<(Met, bool)>)]) {
         for (what, new, wanted) in rows {
             check(rt, self.entered(*what, *new) == *wanted);
@@ -45,40 +61,12 @@ impl Held<Host> {
     }
 }
 
-// Inserts the host as an entry, and removes it by that again. It is `None` if it was not inserted.
-fn passed_through(map: &mut BiHashMap<Host>, new: Host) -> Option<Host>
-    requires keyed { ⟦<BiHashMap<Host> as Keyed>⟧.keyed map.old }
-    ensures keyed { ⟦<BiHashMap<Host> as Keyed>⟧.keyed map.new }
-{
-    match map.entry(&new.number, &new.address) {
-        Entry::Vacant(entry) => match entry.insert_entry(new) {
-            Ok(added) => added.remove().get(0).copied(),
-            Err(_refused) => None,
-        },
-        Entry::Occupied(_) => None,
-    }
-}
-
-// Whether a vacant entry inserts the host.
-fn is_inserted(all: Hosts, new: Host) -> bool {
-    let mut map = all.map;
-    let is_in = match map.entry(&new.number, &new.address) {
-        Entry::Vacant(entry) => match entry.insert(new) {
-            Ok(added) => {
-                added.finish();
-                true
-            }
-            Err(_refused) => false,
-        },
-        Entry::Occupied(_) => false,
-    };
-    is_in && map.len() == 1
-}
-
-// With memory at hand a vacant entry inserts.
 #[test]
 fn a_vacant_entry_inserts(rt: HostRuntime) {
-    check(&rt, is_inserted(Hosts::new(rt.alloc()), host(1)));
+    let mut all = Hosts::new(rt.alloc());
+    let lent = ((Some(host(1)), None), true);
+    all.enter(&rt, &[(Use::Insert, host(1), Some(lent))]);
+    check(&rt, all.holds(&[host(1)]));
 }
 
 // The keys of one host, of two, of one alone, and of none.
@@ -121,9 +109,12 @@ fn an_entry_of_two_is_replaced(rt: HostRuntime) {
 #[test]
 fn an_inserted_entry_has_the_item(rt: HostRuntime) {
     let mut all = Hosts::below(&rt, rt.alloc(), 2);
-    for (new, back) in [(host(2), Some(host(2))), (host(1), None)] {
-        check(&rt, passed_through(&mut all.map, new) == back);
-    }
+    let lent = ((Some(host(2)), None), true);
+    let rows = [
+        (Use::InsertAndRemove, host(2), Some(lent)),
+        (Use::InsertAndRemove, host(1), None),
+    ];
+    all.enter(&rt, &rows);
     check(&rt, all.holds(&[host(0), host(1)]));
 }
 
@@ -131,17 +122,14 @@ fn an_inserted_entry_has_the_item(rt: HostRuntime) {
 #[test]
 fn a_unique_entry_is_written(rt: HostRuntime) {
     let mut all = Hosts::below(&rt, rt.alloc(), 3);
-    let (written, other) = (host_of(1, 101, 7), Some(host(2)));
+    let (new, two) = (host_of(1, 101, 7), Some(host(2)));
+    let written = Some(new);
     let rows = [
-        (Use::Load, written, Some(((Some(written), None), true))),
-        (
-            Use::Load,
-            host_of(1, 102, 8),
-            Some(((Some(written), other), false)),
-        ),
-        (Use::Load, host_of(9, 102, 8), Some(((other, None), false))),
+        (Use::Load, new, Some(((written, None), true))),
+        (Use::Load, host_of(1, 102, 8), Some(((written, two), false))),
+        (Use::Load, host_of(9, 102, 8), Some(((two, None), false))),
         (Use::Load, host_of(9, 109, 8), None),
     ];
     all.enter(&rt, &rows);
-    check(&rt, all.holds(&[host(0), written, host(2)]));
+    check(&rt, all.holds(&[host(0), new, host(2)]));
 }

@@ -1,29 +1,26 @@
 //! Calls that allocate succeed while memory is at hand: with some hundred hosts the store and both indexes grow often.
-ghost use Rattle.std.specs.Prelude.{IfOk};
-
-use crate::held::{Held, Host, Hosts, Way, check, host, hosts_between};
+use crate::held::{Held, Hosts, Way, check, host, hosts_between};
 use crate::refused::{is_unmade, made_twice, put_all};
-use iddqd_bi_hash::{BiHashMap, DefaultHashBuilder, Keyed, TryReserveError};
+use iddqd_bi_hash::{BiHashMap, DefaultHashBuilder};
 use std::alloc::Global;
 use std::process::Abort;
 use test_support::bulk::Hinted;
 
 const COUNT: u32 = 300;
 
-// Inserts the hosts one after the other.
-fn fill(rt: &impl Abort, all: &mut Hosts, way: Way) {
-    check(rt, put_all(rt, all, way, COUNT) == 0);
+fn fill(rt: &impl Abort, mut all: Hosts, way: Way) {
+    check(rt, put_all(rt, &mut all, way, COUNT) == 0);
     check(rt, all.holds_below(COUNT));
 }
 
 #[test]
 fn inserted(rt: HostRuntime) {
-    fill(&rt, &mut Held::new(rt.alloc()), Way::Unique);
+    fill(&rt, Hosts::new(rt.alloc()), Way::Unique);
 }
 
 #[test]
 fn overwritten(rt: HostRuntime) {
-    fill(&rt, &mut Held::new(rt.alloc()), Way::Overwrite);
+    fill(&rt, Hosts::new(rt.alloc()), Way::Overwrite);
 }
 
 #[test]
@@ -45,20 +42,13 @@ fn announced_room(rt: HostRuntime) {
     check(&rt, made.is_ok_and(|all| all.map.spare() >= 100));
 }
 
-fn fill_made(rt: &impl Abort, made: Result<BiHashMap<Host>, TryReserveError>)
-    requires keyed { IfOk made ⟦<BiHashMap<Host> as Keyed>⟧.keyed }
-{
-    let mut all = Held::over(made.expect(rt, "memory"));
-    check(rt, put_all(rt, &mut all, Way::Unique, COUNT) == 0);
-    check(rt, all.holds_below(COUNT));
-}
-
 #[test]
 fn made_with_room(rt: HostRuntime) {
-    fill_made(&rt, BiHashMap::with_capacity(rt.alloc(), 300));
+    let made = BiHashMap::with_capacity(rt.alloc(), 300);
+    fill(&rt, Held::over(made.expect(&rt, "memory")), Way::Unique);
     let hasher = DefaultHashBuilder::new();
     let made = BiHashMap::with_capacity_and_hasher(rt.alloc(), 300, hasher);
-    fill_made(&rt, made);
+    fill(&rt, Held::over(made.expect(&rt, "memory")), Way::Unique);
 }
 
 // `extend` or `extend_unique` by the hosts, of which none is announced, and then all.
@@ -68,7 +58,7 @@ fn extend(rt: &impl Abort, alloc: Global, way: Way, mut all: Hosts) {
     check(rt, all.meets_repeat(way, coming).is_none());
     check(rt, all.holds_below(COUNT));
     if let Way::Unique = way {
-        all.clear();
+        all.map.clear();
     }
     check(rt, all.meets_repeat(way, hosts).is_none());
     check(rt, all.holds_below(COUNT));
@@ -92,19 +82,16 @@ fn cloned(rt: HostRuntime) {
     check(&rt, all.holds_below(COUNT));
 }
 
-fn shrink(rt: &impl Abort, all: &mut Hosts) {
-    check(rt, all.reserve(2000).is_ok());
-    check(rt, put_all(rt, all, Way::Unique, COUNT) == 0);
-    check(rt, all.holds_below(COUNT));
-    check(rt, all.shrink(Some(1000)).is_ok());
-    check(rt, all.has_room(1000, 2000) && all.map.spare() >= 700);
-    check(rt, all.holds_below(COUNT));
-    check(rt, all.shrink(None).is_ok());
-    check(rt, all.has_room(300, 1000) && all.holds_below(COUNT));
-}
-
 // The first hosts stay, and room for them.
 #[test]
 fn shrunk(rt: HostRuntime) {
-    shrink(&rt, &mut Hosts::new(rt.alloc()));
+    let mut all = Hosts::new(rt.alloc());
+    check(&rt, all.map.reserve(2000).is_ok());
+    check(&rt, put_all(&rt, &mut all, Way::Unique, COUNT) == 0);
+    check(&rt, all.holds_below(COUNT));
+    check(&rt, all.shrink(Some(1000)).is_ok());
+    check(&rt, all.has_room(1000, 2000) && all.map.spare() >= 700);
+    check(&rt, all.holds_below(COUNT));
+    check(&rt, all.shrink(None).is_ok());
+    check(&rt, all.has_room(300, 1000) && all.holds_below(COUNT));
 }

@@ -16,12 +16,10 @@ use std::marker::{Model, PhantomData};
 use std::process::Abort;
 use test_support::bulk::Hinted;
 
-/// Ends the test as failed if the condition is false.
 pub(crate) fn check(rt: &impl Abort, condition: bool) {
     assert!(rt; condition);
 }
 
-/// A host of these keys and this load.
 pub(crate) fn host_of(number: u32, address: u64, load: u32) -> Host {
     Host {
         number,
@@ -35,7 +33,6 @@ pub(crate) fn host(number: u32) -> Host {
     host_of(number, u64::from(number).wrapping_add(100), number)
 }
 
-/// The hosts of the numbers from the first to before the end.
 pub(crate) fn hosts_between(rt: &impl Abort, alloc: Global, first: u32, end: u32) -> Vec<Host> {
     let mut hosts = Vec::new(alloc);
     for number in first..end {
@@ -51,7 +48,6 @@ pub(crate) enum Way {
     Overwrite,
 }
 
-/// By which key a call finds an item, or by both.
 #[derive(Clone, Copy)]
 pub(crate) enum By {
     First,
@@ -62,7 +58,6 @@ pub(crate) enum By {
 /// The one or two hosts that have a key of another, in the order in which they are shown.
 pub(crate) type Met = (Option<Host>, Option<Host>);
 
-/// No host.
 pub(crate) const NONE: Met = (None, None);
 
 /// What stops the insertion of many hosts: the one that is returned, those in its way, and whether that is the limit.
@@ -91,12 +86,10 @@ pub(crate) enum Step<'a> {
     Holds(&'a [Host]),
 }
 
-/// These hosts.
 pub(crate) fn met(few: &Few<Host>) -> Met {
     (few.get(0).copied(), few.get(1).copied())
 }
 
-/// The hosts that are shown.
 pub(crate) fn shown(few: &Few<&Host>) -> Met {
     match few {
         Few::One(one) => (Some(**one), None),
@@ -106,7 +99,6 @@ pub(crate) fn shown(few: &Few<&Host>) -> Met {
 
 /// An item whose load can be written, if it has one.
 pub(crate) trait Load: BiHashItem {
-    /// Writes the load, and leaves both keys.
     fn set_load(&mut self, load: u32)
         ensures first { Self.key1 self.new ≡ Self.key1 self.old }
         ensures second { Self.key2 self.new ≡ Self.key2 self.old };
@@ -134,10 +126,8 @@ impl<T: BiHashItem, S: BuildHasher> Model for Held<T, S> {
     ghost invariant = { λ held. IsKeyedByBoth T.key1 T.key2 T.K1.eq T.K2.eq T.K1.hash_input T.K2.hash_input (hash_under S.BuildHasher S.Hasher.Hasher) held.map };
 }
 
-/// A map of hosts.
 pub(crate) type Hosts = Held<Host>;
 
-/// A map that is made, or why none is.
 pub(crate) type Made<T> = Result<Held<T>, FromIterError<T>>;
 
 impl<T: BiHashItem + Drop> Held<T> {
@@ -175,9 +165,7 @@ macro_rules! write_load {
     };
 }
 
-// Each call without a comment is the map's of this name.
 impl<T: BiHashItem + Drop, S: BuildHasher> Held<T, S> {
-    /// The map, under test.
     pub(crate) fn over(map: BiHashMap<T, S>) -> Held<T, S>
         requires keyed { ⟦<BiHashMap<T, S> as Keyed>⟧.keyed map }
     {
@@ -187,13 +175,8 @@ impl<T: BiHashItem + Drop, S: BuildHasher> Held<T, S> {
         }
     }
 
-    /// Whether `insert_unique` inserts the item.
     pub(crate) fn is_put(&mut self, item: T) -> bool {
         self.map.insert_unique(item).is_ok()
-    }
-
-    pub(crate) fn insert_overwrite(&mut self, item: T) -> Result<Option<Few<T>>, Refused<T>> {
-        self.map.insert_overwrite(item)
     }
 
     /// Whether a repeat ends `extend` or `extend_unique`, and not a refusal. It is `None` if all items are in.
@@ -214,7 +197,6 @@ impl<T: BiHashItem + Drop, S: BuildHasher> Held<T, S> {
         }
     }
 
-    /// `get1`, `get2` or `get_unique`.
     pub(crate) fn get(&self, by: By, one: &T::K1, other: &T::K2) -> Option<&T> {
         match by {
             By::First => self.map.get1(one),
@@ -223,7 +205,6 @@ impl<T: BiHashItem + Drop, S: BuildHasher> Held<T, S> {
         }
     }
 
-    /// `contains_key1`, `contains_key2` or `contains_key_unique`.
     pub(crate) fn contains(&self, by: By, one: &T::K1, other: &T::K2) -> bool {
         match by {
             By::First => self.map.contains_key1(one),
@@ -232,7 +213,6 @@ impl<T: BiHashItem + Drop, S: BuildHasher> Held<T, S> {
         }
     }
 
-    /// `remove1`, `remove2` or `remove_unique`.
     pub(crate) fn remove(&mut self, by: By, one: &T::K1, other: &T::K2) -> Option<T> {
         match by {
             By::First => self.map.remove1(one),
@@ -254,21 +234,6 @@ impl<T: BiHashItem + Drop, S: BuildHasher> Held<T, S> {
         }
     }
 
-    pub(crate) fn retain<F: FnMut(&T) -> bool>(&mut self, keep: F)
-        requires { F.IsAlwaysCallable keep }
-    {
-        self.map.retain(keep)
-    }
-
-    pub(crate) fn clear(&mut self) {
-        self.map.clear()
-    }
-
-    pub(crate) fn reserve(&mut self, additional: usize) -> Result<(), TryReserveError> {
-        self.map.reserve(additional)
-    }
-
-    /// `shrink_to`, or `shrink_to_fit`.
     pub(crate) fn shrink(&mut self, min: Option<usize>) -> Result<(), TryReserveError> {
         match min {
             Some(min) => self.map.shrink_to(min),
@@ -276,74 +241,55 @@ impl<T: BiHashItem + Drop, S: BuildHasher> Held<T, S> {
         }
     }
 
-    pub(crate) fn eq(&self, other: &Held<T, S>) -> bool
-    where
-        T: PartialEq,
-    {
-        self.map.eq(&other.map)
-    }
-
-    /// How many keys of each kind the walks over keys show.
     pub(crate) fn key_counts(&self) -> (usize, usize) {
         (self.map.keys1().count(), self.map.keys2().count())
     }
 
-    /// Whether `validate_structural` finds no error.
     pub(crate) fn is_sound(&self, compact: ValidateCompact) -> bool {
         self.map.validate_structural(compact).is_ok()
     }
 
-    /// Whether `validate` finds no error, where no slot may be vacant.
     pub(crate) fn is_compact(&self) -> bool {
         self.map.validate(ValidateCompact::Compact).is_ok()
     }
 }
 
 impl<S: BuildHasher> Held<Host, S> {
-    /// Inserts the hosts below this number.
     pub(crate) fn fill(&mut self, rt: &impl Abort, count: u32) {
         for number in 0..count {
             check(rt, self.is_put(host(number)));
         }
     }
 
-    // Whether each key of the host finds it.
     fn has_host(&self, wanted: Host) -> bool {
         self.map.get1(&wanted.number).copied() == Some(wanted)
             && self.map.get2(&wanted.address).copied() == Some(wanted)
     }
 
-    // Whether so many hosts are counted.
     fn has(&self, count: usize) -> bool {
         self.map.len() == count && self.map.iter().count() == count
     }
 
     /// Whether each host of a number below this one is found by both keys, and the map has no other.
     pub(crate) fn holds_below(&self, count: u32) -> bool {
-        for number in 0..count {
-            if !self.has_host(host(number)) {
-                return false;
-            }
-        }
-        self.has(count as usize) && self.is_compact()
+        let are_found = (0..count).all(|number| self.has_host(host(number)));
+        are_found && self.has(count as usize) && self.is_compact()
     }
 
     /// Whether each of the hosts is found by both keys, and the map has no other.
     pub(crate) fn holds(&self, hosts: &[Host]) -> bool {
-        for wanted in hosts {
-            if !self.has_host(*wanted) {
-                return false;
-            }
-        }
-        self.has(hosts.len())
+        hosts.iter().all(|wanted| self.has_host(*wanted)) && self.has(hosts.len())
     }
 }
 
-// Adds one to a load.
-fn raise(host: &mut Host)
-    ensures { host.new ≡ record host.old { load = host.new.load } }
-{
-    host.load = host.load.saturating_add(1);
+// Raises the load of the next host of the walk, or returns how many were lent.
+macro_rules! raise_next {
+    ($walk:ident, $lent:expr) => {
+        match $walk.next() {
+            Some(host) => host.load = host.load.saturating_add(1),
+            None => return $lent,
+        }
+    };
 }
 
 // Adds one to the loads of the first four hosts of a walk, and returns how many it lends, four at most.
@@ -352,27 +298,14 @@ fn raise_four(map: &mut BiHashMap<Host>) -> u32
     ensures keyed { ⟦<BiHashMap<Host> as Keyed>⟧.keyed map.new }
 {
     let mut walk = map.iter_mut();
-    let Some(first) = walk.next() else {
-        return 0;
-    };
-    raise(first);
-    let Some(second) = walk.next() else {
-        return 1;
-    };
-    raise(second);
-    let Some(third) = walk.next() else {
-        return 2;
-    };
-    raise(third);
-    let Some(fourth) = walk.next() else {
-        return 3;
-    };
-    raise(fourth);
+    raise_next!(walk, 0);
+    raise_next!(walk, 1);
+    raise_next!(walk, 2);
+    raise_next!(walk, 3);
     4
 }
 
 impl Held<Host> {
-    /// The hosts below this number.
     pub(crate) fn below(rt: &impl Abort, alloc: Global, count: u32) -> Hosts {
         let mut all = Hosts::new(alloc);
         all.fill(rt, count);
@@ -381,14 +314,12 @@ impl Held<Host> {
 
     /// The hosts 0 to 5, of which 1 and 4 leave, so that slots are vacant.
     pub(crate) fn with_gaps(rt: &impl Abort, alloc: Global) -> Hosts {
-        let hosts = [host(0), host(1), host(2), host(3), host(4), host(5)];
-        let mut all = Hosts::of(rt, alloc, &hosts);
+        let mut all = Hosts::below(rt, alloc, 6);
         check(rt, all.remove(By::First, &1, &0).is_some());
         check(rt, all.remove(By::Second, &0, &104).is_some());
         all
     }
 
-    /// A map with this limit.
     pub(crate) fn with_limit(alloc: Global, limit: u32) -> Hosts {
         Held::over(BiHashMap::with_limit(alloc, limit, Default::default()))
     }
@@ -410,11 +341,11 @@ impl Held<Host> {
                 Err(InsertError::Duplicate(both)) => Ok(shown(both.duplicates())),
                 Err(InsertError::Refused(refused)) => Err(refused),
             },
-            Way::Overwrite => match self.map.insert_overwrite(new) {
-                Ok(Some(replaced)) => Ok(met(&replaced)),
-                Ok(None) => Ok(NONE),
-                Err(refused) => Err(refused),
-            },
+            Way::Overwrite => Ok(
+                self.map
+                    .insert_overwrite(new)?
+                    .map_or(NONE, |few| met(&few)),
+            ),
         }
     }
 
@@ -464,12 +395,9 @@ impl Held<Host> {
         self.map.capacity() >= least && self.map.capacity() < too_many
     }
 
-    /// `clone`.
     pub(crate) fn copied(&self) -> Made<Host> {
-        match self.map.clone() {
-            Ok(map) => Ok(Held::over(map)),
-            Err(error) => Err(FromIterError::Refused(error)),
-        }
+        let map = self.map.clone().map_err(FromIterError::Refused)?;
+        Ok(Held::over(map))
     }
 }
 

@@ -1,14 +1,10 @@
 //! Hosts, by number and by address.
 use iddqd_bi_hash::BiHashItem;
 
-/// A host, which its number tells from others, and its address.
 #[derive(Clone, Copy, Debug, Drop, PartialEq, Eq)]
 pub(crate) struct Host {
-    /// The first key.
     pub(crate) number: u32,
-    /// The second key.
     pub(crate) address: u64,
-    /// What is known of it.
     pub(crate) load: u32,
 }
 

@@ -30,15 +30,9 @@ mod refused;
 #[cfg(test)]
 mod rows;
 #[cfg(test)]
-mod shapes;
-#[cfg(test)]
 mod short;
 #[cfg(test)]
 mod shrinks;
-#[cfg(test)]
-mod tallies;
-#[cfg(test)]
-mod texts;
 #[cfg(test)]
 mod walks;
 #[cfg(test)]

@@ -4,12 +4,10 @@ use iddqd_bi_hash::BiHashMap;
 use std::alloc::Global;
 use std::process::Abort;
 
-// A host that owns a block of memory.
 fn boxed(rt: &impl Abort, alloc: Global, host: Host) -> Box<Host> {
     Box::new(alloc, host).expect(rt, "memory")
 }
 
-// Twelve such hosts.
 fn dozen(rt: &impl Abort, alloc: Global) -> Held<Box<Host>> {
     let mut all = Held::new(alloc);
     for number in 0..12 {
@@ -18,33 +16,28 @@ fn dozen(rt: &impl Abort, alloc: Global) -> Held<Box<Host>> {
     all
 }
 
-// Removes three by a key or by both, offers one that repeats, and keeps those of numbers below ten.
-fn remove(rt: &impl Abort, alloc: Global, all: &mut Held<Box<Host>>) {
-    for (by, number, address) in [(By::First, 1, 0), (By::Second, 0, 102), (By::Both, 3, 103)] {
-        check(rt, all.remove(by, &number, &address).is_some());
-    }
-    check(rt, !all.is_put(boxed(rt, alloc, host(4))));
-    all.retain(|there| there.number < 10);
-    check(rt, all.map.len() == 7);
-}
-
+// Three leave by a key or by both, one that repeats is offered, and those of numbers below ten are kept.
 #[test]
 fn removed(rt: HostRuntime) {
-    remove(&rt, rt.alloc(), &mut dozen(&rt, rt.alloc()));
+    let mut all = dozen(&rt, rt.alloc());
+    for (by, number, address) in [(By::First, 1, 0), (By::Second, 0, 102), (By::Both, 3, 103)] {
+        check(&rt, all.remove(by, &number, &address).is_some());
+    }
+    check(&rt, !all.is_put(boxed(&rt, rt.alloc(), host(4))));
+    all.map.retain(|there| there.number < 10);
+    check(&rt, all.map.len() == 7);
 }
 
-// Puts one in the place of two, and again into the map without items.
-fn overwrite(rt: &impl Abort, alloc: Global, all: &mut Held<Box<Host>>) {
-    let both = host_of(1, 102, 3);
-    check(rt, all.insert_overwrite(boxed(rt, alloc, both)).is_ok());
-    check(rt, all.map.len() == 11);
-    all.clear();
-    check(rt, all.is_put(boxed(rt, alloc, both)));
-}
-
+// One is put in the place of two, and again into the map without items.
 #[test]
 fn overwritten(rt: HostRuntime) {
-    overwrite(&rt, rt.alloc(), &mut dozen(&rt, rt.alloc()));
+    let mut all = dozen(&rt, rt.alloc());
+    let new = host_of(1, 102, 3);
+    let first = boxed(&rt, rt.alloc(), new);
+    check(&rt, all.map.insert_overwrite(first).is_ok());
+    check(&rt, all.map.len() == 11);
+    all.map.clear();
+    check(&rt, all.is_put(boxed(&rt, rt.alloc(), new)));
 }
 
 #[test]
@@ -55,18 +48,13 @@ fn walked(rt: HostRuntime) {
 }
 
 // The fourth host has a key of the first and one of the third.
-fn with_repeat(rt: &impl Abort, alloc: Global) -> Vec<Box<Host>> {
-    let mut hosts = Vec::new(alloc);
-    for (number, address) in [(0, 100), (1, 101), (2, 102), (0, 102), (4, 104)] {
-        let host = boxed(rt, alloc, host_of(number, address, number));
-        check(rt, hosts.push(host).is_ok());
-    }
-    hosts
-}
-
 #[test]
 fn repeated(rt: HostRuntime) {
-    let hosts = with_repeat(&rt, rt.alloc());
+    let mut hosts = Vec::new(rt.alloc());
+    for (number, address) in [(0, 100), (1, 101), (2, 102), (0, 102), (4, 104)] {
+        let host = boxed(&rt, rt.alloc(), host_of(number, address, number));
+        check(&rt, hosts.push(host).is_ok());
+    }
     let made = BiHashMap::<Box<Host>>::from_iter_unique(rt.alloc(), hosts);
     check(&rt, made.is_err());
 }

@@ -33,23 +33,13 @@ struct Pair {
 }
 
 impl Pair {
-    fn new(rt: &impl Abort, alloc: Global) -> Pair {
-        Pair {
-            hosts: Hosts::new(alloc),
-            plain: Vec::with_capacity(alloc, 12).expect(rt, "room"),
-        }
-    }
-
-    // The list's host of the number.
-    fn by_number(&self, number: u32) -> Option<Host> {
+    fn find(&self, by: By, wanted: Host) -> Option<Host> {
         let mut hosts = self.plain.iter();
-        hosts.find(|host| host.number == number).copied()
-    }
-
-    // The list's host of the address.
-    fn by_address(&self, address: u64) -> Option<Host> {
-        let mut hosts = self.plain.iter();
-        hosts.find(|host| host.address == address).copied()
+        let found = match by {
+            By::First => hosts.find(|host| host.number == wanted.number),
+            _ => hosts.find(|host| host.address == wanted.address),
+        };
+        found.copied()
     }
 
     // Drops the list's hosts that have one of the keys.
@@ -66,32 +56,31 @@ impl Pair {
     // Inserts the host into both. The map shows those that have one of its keys, that of the number first. Of
     // `insert_unique` either order is right.
     fn insert(&mut self, rt: &impl Abort, way: Way, host: Host) {
-        let (by_number, by_address) = (self.by_number(host.number), self.by_address(host.address));
+        let (by_number, by_address) = (self.find(By::First, host), self.find(By::Second, host));
         let (one, other) = match by_number {
             None => (by_address, None),
             Some(_) if by_address == by_number => (by_number, None),
             Some(_) => (by_number, by_address),
         };
         let replaces = matches!(way, Way::Overwrite);
-        match self.hosts.insert(way, host) {
-            Ok(met) => check(rt, met == (one, other) || !replaces && met == (other, one)),
-            Err(_) => check(rt, false),
-        }
+        let inserted = self.hosts.insert(way, host);
+        let is_met = inserted.is_ok_and(|met| met == (one, other)
+            || !replaces && met == (other, one));
+        check(rt, is_met);
         if replaces || one.is_none() {
             self.put(rt, host);
         }
     }
 
-    // Removes by either key.
     fn remove(&mut self, rt: &impl Abort, host: Host) {
-        let (by, there) = if host.load % 2 == 0 {
-            (By::First, self.by_number(host.number))
+        let by = if host.load % 2 == 0 {
+            By::First
         } else {
-            (By::Second, self.by_address(host.address))
+            By::Second
         };
         let gone = self.hosts.remove(by, &host.number, &host.address);
-        check(rt, gone == there);
-        if let Some(gone) = there {
+        check(rt, gone == self.find(by, host));
+        if let Some(gone) = gone {
             self.drop_met(gone);
         }
     }
@@ -100,40 +89,21 @@ impl Pair {
     fn is_same(&self, rt: &impl Abort, hosts: &Hosts) {
         check(rt, hosts.map.len() == self.plain.len());
         check(rt, hosts.map.iter().count() == self.plain.len());
-        for key in 0..12u32 {
-            let address = u64::from(key);
-            let found = hosts.get(By::First, &key, &address).copied();
-            check(rt, found == self.by_number(key));
-            let found = hosts.get(By::Second, &key, &address).copied();
-            check(rt, found == self.by_address(address));
+        for key in 0..12 {
+            let asked = host_of(key, u64::from(key), 0);
+            for by in [By::First, By::Second] {
+                let found = hosts.get(by, &asked.number, &asked.address).copied();
+                check(rt, found == self.find(by, asked));
+            }
         }
-    }
-
-    // Inserts three hosts into both, one after the other, in place of those that have one of the keys.
-    fn extend(&mut self, rt: &impl Abort, coming: [Host; 3]) {
-        check(rt, self.hosts.stopped(Way::Overwrite, &coming, 3).is_none());
-        for host in coming {
-            self.put(rt, host);
-        }
-    }
-
-    // A copy is equal, and finds what the list does.
-    fn copy(&self, rt: &impl Abort) {
-        let copy = self.hosts.copied().expect(rt, "memory");
-        check(rt, self.hosts.eq(&copy));
-        self.is_same(rt, &copy);
-    }
-
-    // Closes up the slots.
-    fn close_up(&mut self, rt: &impl Abort) {
-        check(rt, self.hosts.shrink(None).is_ok());
-        check(rt, self.hosts.map.vacant() == 0);
     }
 }
 
-// So many calls, drawn from the first kinds.
 fn calls(rt: &impl Abort, alloc: Global, state: u64, count: u32, kinds: u32) {
-    let mut pair = Pair::new(rt, alloc);
+    let mut pair = Pair {
+        hosts: Hosts::new(alloc),
+        plain: Vec::with_capacity(alloc, 12).expect(rt, "room"),
+    };
     let mut draws = Draws { state };
     for _ in 0..count {
         let host = draws.host();
@@ -141,9 +111,22 @@ fn calls(rt: &impl Abort, alloc: Global, state: u64, count: u32, kinds: u32) {
             0 => pair.insert(rt, Way::Unique, host),
             1 => pair.insert(rt, Way::Overwrite, host),
             2 => pair.remove(rt, host),
-            3 => pair.extend(rt, [draws.host(), draws.host(), draws.host()]),
-            4 => pair.close_up(rt),
-            _ => pair.copy(rt),
+            3 => {
+                let coming = [draws.host(), draws.host(), draws.host()];
+                check(rt, pair.hosts.stopped(Way::Overwrite, &coming, 3).is_none());
+                for host in coming {
+                    pair.put(rt, host);
+                }
+            }
+            4 => {
+                check(rt, pair.hosts.shrink(None).is_ok());
+                check(rt, pair.hosts.map.vacant() == 0);
+            }
+            _ => {
+                let copy = pair.hosts.copied().expect(rt, "memory");
+                check(rt, pair.hosts.map.eq(&copy.map));
+                pair.is_same(rt, &copy);
+            }
         }
         pair.is_same(rt, &pair.hosts);
     }
@@ -154,7 +137,6 @@ fn many_calls(rt: HostRuntime) {
     calls(&rt, rt.alloc(), 77, 2000, 3);
 }
 
-// The same with calls on many hosts among them.
 #[test]
 fn calls_on_many(rt: HostRuntime) {
     calls(&rt, rt.alloc(), 99, 1000, 6);

@@ -49,7 +49,7 @@ fn insert_overwrite(rt: HostRuntime) {
 #[test]
 fn reservation_holds(rt: HostRuntime) {
     let mut all = Hosts::new(rt.alloc());
-    check(&rt, all.reserve(14).is_ok());
+    check(&rt, all.map.reserve(14).is_ok());
     arm(rt.alloc());
     let refused = put_all(&rt, &mut all, Way::Unique, 14);
     check(&rt, !is_met(rt.alloc()) && refused == 0);
@@ -71,7 +71,6 @@ fn replaced_without_memory(rt: HostRuntime) {
     check(&rt, all.map.len() == 2);
 }
 
-/// Prints the word for what a test saw.
 pub(crate) fn tell(rt: &(impl Abort + Print), word: &str) {
     check(rt, println!(rt; "{}", word).is_ok());
 }
@@ -92,7 +91,7 @@ pub(crate) fn tell_refused(rt: &(impl Abort + Print), is_met: bool, refused: (bo
 fn reservations(rt: HostRuntime) {
     let mut all = Hosts::below(&rt, rt.alloc(), 4);
     arm(rt.alloc());
-    let one = all.reserve(100).is_err();
+    let one = all.map.reserve(100).is_err();
     let other = all.map.try_reserve(300).is_err();
     let is_met = is_met(rt.alloc());
     check(&rt, all.holds_below(4));
@@ -110,20 +109,13 @@ fn made_with_room(rt: HostRuntime) {
 
 /// Whether no map of the hosts below this number was made because memory was refused.
 pub(crate) fn is_unmade(rt: &impl Abort, made: Made<Host>, count: u32) -> bool {
-    match made {
-        Ok(all) => {
-            check(rt, all.holds_below(count));
-            false
-        }
-        Err(FromIterError::Refused(error)) => {
-            check(rt, !error.is_capacity_overflow());
-            true
-        }
-        Err(FromIterError::Duplicate(_)) => {
-            check(rt, false);
-            false
-        }
-    }
+    let (is_right, is_refused) = match made {
+        Ok(all) => (all.holds_below(count), false),
+        Err(FromIterError::Refused(error)) => (!error.is_capacity_overflow(), true),
+        Err(FromIterError::Duplicate(_)) => (false, false),
+    };
+    check(rt, is_right);
+    is_refused
 }
 
 /// Makes two maps of the hosts below this number, of which none is announced, and then all are: whether either was
@@ -167,7 +159,7 @@ fn full_map(rt: HostRuntime) {
     for way in [Way::Unique, Way::Overwrite] {
         all.run(&rt, &[Step::Refuse(way, host(9))]);
     }
-    check(&rt, all.reserve(1).is_err());
+    check(&rt, all.map.reserve(1).is_err());
     check(&rt, !is_met(rt.alloc()));
     check(&rt, all.holds_below(9));
 }
@@ -189,23 +181,20 @@ fn looked_up_without_memory(rt: HostRuntime) {
         Step::Remove(By::Both, 2, 102, Some(host_of(2, 102, 5))),
     ];
     all.run(&rt, &steps);
-    all.retain(|there| there.load < 6);
+    all.map.retain(|there| there.load < 6);
     check(&rt, all.map.len() == 4);
-    all.clear();
+    all.map.clear();
     check(&rt, all.map.into_iter().next().is_none());
     check(&rt, !is_met(rt.alloc()));
-}
-
-fn fill_and_drop(rt: &impl Abort, mut all: Hosts) {
-    check(rt, put_all(rt, &mut all, Way::Unique, 14) <= 1);
 }
 
 // Whatever was refused, no block is held once the map is dropped.
 #[test]
 fn map_dropped(rt: HostRuntime) {
-    let all = Hosts::new(rt.alloc());
+    let mut all = Hosts::new(rt.alloc());
     arm(rt.alloc());
-    fill_and_drop(&rt, all);
+    check(&rt, put_all(&rt, &mut all, Way::Unique, 14) <= 1);
+    drop(all);
     let is_met = is_met(rt.alloc());
     check(&rt, !has_leaked(rt.alloc()));
     tell(&rt, if is_met { "none_held" } else { "all_in" });

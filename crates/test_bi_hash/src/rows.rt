@@ -1,19 +1,17 @@
-//! Worked examples on few hosts, some slots vacant.
-use crate::held::{By, Hosts, NONE, Step, Way, check, host, host_of};
-use iddqd_bi_hash::ValidateCompact;
+//! Worked examples on few hosts, some slots vacant, and keys that are equal though spelled differently.
+use crate::held::{By, Held, Hosts, NONE, Step, Way, check, host, host_of};
+use iddqd_bi_hash::{BiHashItem, Few, ValidateCompact};
 use std::alloc::Global;
 use std::cell::Cell;
 use std::process::Abort;
+use test_support::caseless::Caseless;
 
 /// Hosts 1 to 3, of which 2 and 3 leave, so that slots are vacant; 4 and 5 come.
 pub(crate) fn hosts(rt: &impl Abort, alloc: Global) -> Hosts {
     let mut all = Hosts::of(rt, alloc, &[host(1), host(2), host(3)]);
-    for (by, number, address) in [(By::Second, 0, 102), (By::First, 3, 0)] {
-        check(rt, all.remove(by, &number, &address).is_some());
-    }
-    for number in 4..6 {
-        check(rt, all.is_put(host(number)));
-    }
+    check(rt, all.remove(By::Second, &0, &102).is_some());
+    check(rt, all.remove(By::First, &3, &0).is_some());
+    check(rt, all.is_put(host(4)) && all.is_put(host(5)));
     all
 }
 
@@ -72,10 +70,10 @@ fn one_or_two_overwritten(rt: HostRuntime) {
 #[test]
 fn room_and_limit(rt: HostRuntime) {
     let mut all = hosts(&rt, rt.alloc());
-    check(&rt, all.reserve(1000).is_ok());
+    check(&rt, all.map.reserve(1000).is_ok());
     check(&rt, all.map.spare() >= 1000);
     check(&rt, all.map.try_reserve(2000).is_ok());
-    all.clear();
+    all.map.clear();
     check(&rt, all.map.is_empty() && all.map.spare() >= 2000);
     // the second host is one too many
     let (one, new) = (host_of(1, 1, 1), host_of(1, 2, 3));
@@ -100,23 +98,77 @@ fn guards_and_visits(rt: HostRuntime) {
         Step::Get(By::First, 1, 0, Some(host_of(1, 101, 10))),
     ];
     all.run(&rt, &steps);
-    visit(&rt, all);
-}
-
-// The host whose load is 50 leaves.
-fn visit(rt: &impl Abort, mut all: Hosts) {
+    // the host whose load is 50 leaves
     let asked = Cell::new(0u32);
-    all.retain(|there| {
+    all.map.retain(|there| {
         asked.set(asked.get().saturating_add(1));
         there.load < 50
     });
-    check(rt, asked.get() == 3);
-    check(rt, all.map.len() == 2);
-    check(rt, !all.contains(By::Second, &0, &105));
-    check(rt, all.map.validate(ValidateCompact::NonCompact).is_ok());
+    check(&rt, asked.get() == 3 && all.map.len() == 2);
+    check(&rt, !all.contains(By::Second, &0, &105));
+    check(&rt, all.map.validate(ValidateCompact::NonCompact).is_ok());
     let mut loads = 0;
     for there in all.map {
         loads = there.load.saturating_add(loads);
     }
-    check(rt, loads == 50);
+    check(&rt, loads == 50);
+}
+
+// A call sign in whatever case, and a frequency.
+#[derive(Clone, Copy)]
+struct Station {
+    sign: Caseless,
+    frequency: u32,
+}
+
+impl BiHashItem for Station {
+    type K1 = Caseless;
+
+    type K2 = u32;
+
+    ghost key1 = { λ station. station.sign };
+
+    ghost key2 = { λ station. station.frequency };
+
+    fn key1(&self) -> &Caseless {
+        &self.sign
+    }
+
+    fn key2(&self) -> &u32 {
+        &self.frequency
+    }
+}
+
+fn at(sign: [u8; 3], frequency: u32) -> Station {
+    Station {
+        sign: Caseless(sign),
+        frequency,
+    }
+}
+
+fn spelled(station: &Station) -> ([u8; 3], u32) {
+    (station.sign.0, station.frequency)
+}
+
+// The one item that the new one replaces.
+fn overwritten(all: &mut Held<Station>, new: Station) -> Option<([u8; 3], u32)> {
+    match all.map.insert_overwrite(new) {
+        Ok(Some(Few::One(back))) => Some(spelled(&back)),
+        _ => None,
+    }
+}
+
+// A key in another case is met, and an item that overwrites brings its spelling.
+#[test]
+fn coarse_first_key(rt: HostRuntime) {
+    let mut all = Held::new(rt.alloc());
+    let (sign, other) = (Caseless(*b"aNN"), at(*b"Ann", 8));
+    check(&rt, all.is_put(at(*b"ann", 7)));
+    check(&rt, !all.is_put(at(*b"ANN", 8)));
+    let there = Some((*b"ann", 7));
+    check(&rt, all.get(By::First, &sign, &0).map(spelled) == there);
+    check(&rt, overwritten(&mut all, other) == there);
+    check(&rt, !all.contains(By::Second, &sign, &7));
+    let there = all.get(By::Second, &sign, &8).map(spelled);
+    check(&rt, there == Some((*b"Ann", 8)));
 }

@@ -68,7 +68,7 @@ fn from_iter(rt: HostRuntime) {
 // no slot is vacant. If a smaller block is refused to the store alone, the call succeeds.
 fn shrink(rt: &(impl Abort + Print), alloc: Global, min: Option<usize>) {
     let mut all = Hosts::below(rt, alloc, 40);
-    all.retain(|there| there.number % 8 == 7);
+    all.map.retain(|there| there.number % 8 == 7);
     arm(alloc);
     let shrunk = all.shrink(min);
     let is_met = is_met(alloc);

@@ -6,7 +6,7 @@ use std::process::Abort;
 // Hosts with vacant slots among them, and room for a hundred more.
 fn with_room(rt: &impl Abort, alloc: Global) -> Hosts {
     let mut all = Hosts::with_gaps(rt, alloc);
-    check(rt, all.reserve(100).is_ok());
+    check(rt, all.map.reserve(100).is_ok());
     check(rt, all.map.spare() >= 100 && all.map.capacity() >= 104);
     check(rt, all.map.vacant() == 2);
     all
@@ -66,7 +66,7 @@ fn changed_after_it(rt: HostRuntime) {
 #[test]
 fn without_hosts(rt: HostRuntime) {
     let mut all = with_room(&rt, rt.alloc());
-    all.clear();
+    all.map.clear();
     check(&rt, all.shrink(Some(10)).is_ok());
     check(&rt, all.map.capacity() >= 10 && all.map.spare() >= 10);
     check(&rt, all.shrink(None).is_ok());
@@ -81,7 +81,7 @@ fn many_move(rt: HostRuntime) {
     for number in 0..300u32 {
         check(&rt, all.is_put(host(299u32.saturating_sub(number))));
     }
-    all.retain(|there| there.number < 150);
+    all.map.retain(|there| there.number < 150);
     check(&rt, all.map.vacant() == 150);
     check(&rt, all.shrink(None).is_ok());
     check(&rt, all.holds_below(150));

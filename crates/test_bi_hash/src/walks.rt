@@ -2,40 +2,30 @@
 use crate::held::{By, Host, Hosts, NONE, Step, Way, check, host_of as host, left};
 use iddqd_bi_hash::{ValidateCompact, Visit};
 use std::cell::Cell;
-use std::process::Abort;
 use test_support::heap::{arm, is_met};
-
-fn keys_in_order(rt: &impl Abort, all: &Hosts) {
-    let (mut numbers, mut addresses) = (all.map.keys1(), all.map.keys2());
-    check(rt, numbers.len() == 4 && addresses.len() == 4);
-    for host in all.map.iter() {
-        check(rt, numbers.next() == Some(&host.number));
-        check(rt, addresses.next() == Some(&host.address));
-    }
-    check(rt, numbers.next().is_none() && addresses.next().is_none());
-}
 
 #[test]
 fn keys_in_the_order_of_iter(rt: HostRuntime) {
     let all = Hosts::with_gaps(&rt, rt.alloc());
-    keys_in_order(&rt, &all);
+    let (mut numbers, mut addresses) = (all.map.keys1(), all.map.keys2());
+    check(&rt, numbers.len() == 4 && addresses.len() == 4);
+    for host in all.map.iter() {
+        check(&rt, numbers.next() == Some(&host.number));
+        check(&rt, addresses.next() == Some(&host.address));
+    }
+    check(&rt, numbers.next().is_none() && addresses.next().is_none());
     check(&rt, all.holds(&left()));
-}
-
-// Four keys are announced, and then three.
-fn are_announced<K: Drop, W: Iterator<Item = K> + Drop>(rt: &impl Abort, mut keys: W)
-    requires asked_freely { (at : W) → W.can_next at }
-{
-    check(rt, keys.size_hint() == (4, Some(4)));
-    check(rt, keys.next().is_some());
-    check(rt, keys.size_hint() == (3, Some(3)));
 }
 
 #[test]
 fn keys_announce_how_many_come(rt: HostRuntime) {
     let all = Hosts::with_gaps(&rt, rt.alloc());
-    are_announced(&rt, all.map.keys1());
-    are_announced(&rt, all.map.keys2());
+    let (mut numbers, mut addresses) = (all.map.keys1(), all.map.keys2());
+    for to_come in [4, 3] {
+        check(&rt, numbers.size_hint() == (to_come, Some(to_come)));
+        check(&rt, addresses.size_hint() == (to_come, Some(to_come)));
+        check(&rt, numbers.next().is_some() && addresses.next().is_some());
+    }
 }
 
 // What is written is read by both keys.
@@ -53,7 +43,7 @@ fn each_host_is_lent_once(rt: HostRuntime) {
     ];
     all.run(&rt, &steps);
     check(&rt, all.holds(&[host(0, 100, 2), host(5, 105, 7)]));
-    all.clear();
+    all.map.clear();
     all.run(&rt, &[Step::Raise(0)]);
 }
 
@@ -87,21 +77,13 @@ impl Visit<Host> for KeepsEven<'_> {
     }
 }
 
-impl Hosts {
-    // Writes 7 to each load, keeps the hosts of even numbers, and returns how many are visited.
-    fn keep_even(&mut self) -> u32 {
-        let asked = Cell::new(0u32);
-        self.map.retain_mut(&mut KeepsEven { asked: &asked });
-        asked.get()
-    }
-}
-
 // What a visit wrote is read by both keys, and what goes is found by neither.
 #[test]
 fn each_host_is_visited_once(rt: HostRuntime) {
     let mut all = Hosts::with_gaps(&rt, rt.alloc());
-    check(&rt, all.keep_even() == 4);
-    check(&rt, all.map.vacant() == 4);
+    let asked = Cell::new(0);
+    all.map.retain_mut(&mut KeepsEven { asked: &asked });
+    check(&rt, asked.get() == 4 && all.map.vacant() == 4);
     let (zero, two) = (host(0, 100, 7), host(2, 102, 7));
     let (nine, five) = (host(9, 103, 9), host(5, 109, 5));
     check(&rt, all.holds(&[zero, two]));
@@ -134,12 +116,14 @@ fn walked_without_memory(rt: HostRuntime) {
     let mut all = Hosts::with_gaps(&rt, rt.alloc());
     let other = Hosts::with_gaps(&rt, rt.alloc());
     arm(rt.alloc());
-    check(&rt, all.eq(&other));
+    check(&rt, all.map.eq(&other.map));
     check(&rt, all.key_counts() == (4, 4));
     check(&rt, !all.is_sound(ValidateCompact::Compact));
     all.run(&rt, &[Step::Raise(4)]);
-    check(&rt, !all.eq(&other));
-    check(&rt, all.keep_even() == 4);
+    check(&rt, !all.map.eq(&other.map));
+    let asked = Cell::new(0);
+    all.map.retain_mut(&mut KeepsEven { asked: &asked });
+    check(&rt, asked.get() == 4);
     check(&rt, all.holds(&[host(0, 100, 7), host(2, 102, 7)]));
     check(&rt, !is_met(rt.alloc()));
 }

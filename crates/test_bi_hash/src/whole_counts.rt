@@ -1,8 +1,7 @@
 //! How often the calls on all items, or on many, compare and hash the keys.
-use crate::held::{Held, Way, check};
-use crate::tallies::{Counted, Tallies, length_collected};
+use crate::counts::{Counted, Tallies, length_collected};
+use crate::held::{Way, check};
 use iddqd_bi_hash::{ValidateCompact, Visit};
-use std::process::Abort;
 use test_support::bulk::Hinted;
 
 // Keeps the items of first keys above one.
@@ -19,26 +18,6 @@ impl<'a> Visit<Counted<'a>> for KeepsAboveOne {
     }
 }
 
-impl<'a> Held<Counted<'a>> {
-    // How many items are left by `retain_mut`.
-    fn keep_above_one(&mut self) -> usize {
-        self.map.retain_mut(&mut KeepsAboveOne);
-        self.map.len()
-    }
-}
-
-// Whether `iter_mut` lends three items.
-fn lends_three(all: Held<Counted<'_>>) -> bool {
-    let mut map = all.map;
-    let mut walk = map.iter_mut();
-    let mut is_so = true;
-    for is_lent in [true, true, true, false] {
-        is_so = is_so && walk.next().is_some() == is_lent;
-    }
-    is_so
-}
-
-// Walks and checks of the structure.
 #[test]
 fn walks(rt: HostRuntime) {
     let tallies = Tallies::default();
@@ -46,25 +25,28 @@ fn walks(rt: HostRuntime) {
     check(&rt, all.key_counts() == (3, 3));
     let is_sound = all.is_sound(ValidateCompact::Compact);
     tallies.tell(&rt, is_sound, (0, 0, 0, 0));
-    tallies.tell(&rt, lends_three(all), (0, 0, 0, 0));
-}
-
-fn visit_and_shrink(rt: &impl Abort, tallies: &Tallies, all: &mut Held<Counted<'_>>) {
-    for counts in [(0, 1, 0, 1), (0, 0, 0, 0)] {
-        tallies.tell(rt, all.keep_above_one() == 2, counts);
-        check(rt, all.map.vacant() == 1);
+    let mut map = all.map;
+    let mut walk = map.iter_mut();
+    for is_lent in [true, true, true, false] {
+        check(&rt, walk.next().is_some() == is_lent);
     }
-    for (min, counts) in [(Some(3), (0, 1, 0, 1)), (None, (0, 0, 0, 0))] {
-        let is_shrunk = all.shrink(min).is_ok();
-        tallies.tell(rt, is_shrunk && all.map.vacant() == 0, counts);
-    }
+    tallies.tell(&rt, true, (0, 0, 0, 0));
 }
 
 // Both keys of the one that goes are hashed, and then those of the one that moves into its slot.
 #[test]
 fn visits_and_shrinks(rt: HostRuntime) {
     let tallies = Tallies::default();
-    visit_and_shrink(&rt, &tallies, &mut tallies.three(&rt, rt.alloc()));
+    let mut all = tallies.three(&rt, rt.alloc());
+    for counts in [(0, 1, 0, 1), (0, 0, 0, 0)] {
+        all.map.retain_mut(&mut KeepsAboveOne);
+        tallies.tell(&rt, all.map.len() == 2, counts);
+        check(&rt, all.map.vacant() == 1);
+    }
+    for (min, counts) in [(Some(3), (0, 1, 0, 1)), (None, (0, 0, 0, 0))] {
+        let is_shrunk = all.shrink(min).is_ok();
+        tallies.tell(&rt, is_shrunk && all.map.vacant() == 0, counts);
+    }
 }
 
 #[test]
@@ -75,25 +57,16 @@ fn copies(rt: HostRuntime) {
     tallies.tell(&rt, is_made, (0, 0, 0, 0));
 }
 
-// Two equal maps, of which one gets an item more.
-fn compare<'a>(
-    rt: &impl Abort,
-    tallies: &'a Tallies,
-    one: &Held<Counted<'a>>,
-    other: &mut Held<Counted<'a>>,
-) {
-    tallies.tell(rt, one.eq(other), (6, 3, 3, 0));
-    tallies.tell(rt, other.is_put(tallies.item(4, 8)), (0, 1, 0, 1));
-    let is_equal = one.eq(other) || other.eq(one);
-    tallies.tell(rt, !is_equal, (0, 0, 0, 0));
-}
-
 // Each first key is hashed once and finds one. Then the items' own `==` compares both keys once.
 #[test]
 fn equality(rt: HostRuntime) {
     let tallies = Tallies::default();
     let one = tallies.three(&rt, rt.alloc());
-    compare(&rt, &tallies, &one, &mut tallies.three(&rt, rt.alloc()));
+    let mut other = tallies.three(&rt, rt.alloc());
+    tallies.tell(&rt, one.map.eq(&other.map), (6, 3, 3, 0));
+    tallies.tell(&rt, other.is_put(tallies.item(4, 8)), (0, 1, 0, 1));
+    let is_equal = one.map.eq(&other.map) || other.map.eq(&one.map);
+    tallies.tell(&rt, !is_equal, (0, 0, 0, 0));
 }
 
 // As the insertions one by one: the last displaces two, and their other keys are hashed.

@@ -1,8 +1,7 @@
 //! The hash index, over a store of coins.
 ghost use Rattle.std.specs.Prelude.{◌≡◌};
 
-use crate::checks::check;
-use crate::ord_index::{Asked, Coin};
+use crate::ord_index::{Asked, Coin, check};
 use iddqd_hash_index::HashIndex;
 use iddqd_store::{ItemStore, OwnKey, Steps, TryReserveError};
 use std::alloc::Global;
@@ -38,7 +37,6 @@ impl CoinMap {
         }
     }
 
-    // The slot of a new coin.
     fn put(&mut self, rt: &impl Abort, hash: u64, year: u32) -> u32 {
         assert!(rt; self.index.try_reserve(1).is_ok());
         assert!(rt; self.store.try_reserve(1).is_ok());
@@ -74,24 +72,12 @@ impl CoinMap {
     // The same by one search, and whether its steps are the comparisons that it makes.
     fn take_by(&mut self, hash: u64, year: u32) -> (Option<u32>, bool) {
         let compared = Cell::new(0);
-        let query = Asked {
-            year,
-            compared: &compared,
-        };
+        let query = Asked(year, &compared);
         let mut steps = Steps::new();
         let slot = self
             .index
             .remove_by_key::<Coin, OwnKey, Asked<'_>>(&self.store, hash, &query, &mut steps);
         (slot, steps.count() == compared.get())
-    }
-
-    // By a search and a removal if the year is even, and else by one search.
-    fn take_in_turns(&mut self, hash: u64, year: u32) -> Option<u32> {
-        if year % 2 == 0 {
-            self.take(hash, year)
-        } else {
-            self.take_by(hash, year).0
-        }
     }
 
     // The new slot of a coin of the same year.
@@ -114,11 +100,6 @@ impl CoinMap {
         self.index.shrink(min).is_ok()
     }
 
-    fn clear(&mut self) {
-        self.index.clear();
-    }
-
-    // Puts a copy in the place of the index.
     fn copy(&mut self) -> Result<(), TryReserveError> {
         self.index = self.index.try_clone()?;
         Ok(())
@@ -135,7 +116,11 @@ fn exchange(rt: &impl Abort, mint: &mut CoinMap, there: &mut [bool], step: u32) 
     check(rt, there.len() == 10_000);
     for n in 0..10_000u32 {
         let year = n.wrapping_mul(step) % 10_000;
-        let slot = mint.take_in_turns(hash_of(year), year);
+        let slot = if year % 2 == 0 {
+            mint.take(hash_of(year), year)
+        } else {
+            mint.take_by(hash_of(year), year).0
+        };
         check(rt, slot.is_some() == there[year as usize]);
         if slot.is_none() {
             mint.put(rt, hash_of(year), year);
@@ -168,20 +153,6 @@ fn thousands(rt: HostRuntime) -> Result<(), Fail> {
     Ok(())
 }
 
-// A hundred years are found by the hash 5, and none by another.
-fn finds_under_five(rt: &impl Abort, mint: &CoinMap) {
-    for year in 0..100 {
-        check(rt, mint.finds(5, year, Some(year), 100));
-        check(rt, mint.finds(6, year, None, 0));
-    }
-}
-
-fn takes_from_the_last(rt: &impl Abort, mint: &mut CoinMap) {
-    for year in (0..100).rev() {
-        check(rt, mint.take(5, year) == Some(year));
-    }
-}
-
 // Where all hashes are equal, only time is lost.
 #[test]
 fn pairs_of_one_hash(rt: HostRuntime) {
@@ -189,8 +160,13 @@ fn pairs_of_one_hash(rt: HostRuntime) {
     for year in 0..100 {
         check(&rt, mint.put(&rt, 5, year) == year);
     }
-    finds_under_five(&rt, &mint);
-    takes_from_the_last(&rt, &mut mint);
+    for year in 0..100 {
+        check(&rt, mint.finds(5, year, Some(year), 100));
+        check(&rt, mint.finds(6, year, None, 0));
+    }
+    for year in (0..100).rev() {
+        check(&rt, mint.take(5, year) == Some(year));
+    }
     check(&rt, mint.finds(5, 50, None, 0));
 }
 
@@ -226,39 +202,27 @@ fn pairs_removed_by_key(rt: HostRuntime) {
     check(&rt, mint.index.len() == 0);
 }
 
-fn puts_a_hundred(rt: &impl Abort, mint: &mut CoinMap) {
-    for year in 0..100 {
-        mint.put(rt, hash_of(year), year);
-    }
-}
-
-// Ninety of a hundred years leave: the room stays, until half of it is given back.
-fn keeps_room(rt: &impl Abort, mint: &mut CoinMap) {
-    let room = mint.room();
-    for year in 0..90 {
-        mint.take(hash_of(year), year);
-    }
-    check(rt, mint.index.len() == 10);
-    check(rt, mint.room() == room);
-    check(rt, mint.shrink(30));
-    check(rt, mint.room() >= 30 && mint.room() < room);
-}
-
-// A copy finds what the index finds, and nothing once it is cleared.
-fn copies_and_clears(rt: &impl Abort, mint: &mut CoinMap) {
-    check(rt, mint.copy().is_ok());
-    check(rt, mint.finds(hash_of(95), 95, Some(95), 1));
-    mint.clear();
-    check(rt, mint.index.spare() >= 10);
-    check(rt, mint.finds(hash_of(95), 95, None, 0));
-    check(rt, mint.shrink(0));
-}
-
 #[test]
 fn room(rt: HostRuntime) {
     let mut mint = CoinMap::new(rt.alloc());
     check(&rt, mint.index.spare() == 0);
-    puts_a_hundred(&rt, &mut mint);
-    keeps_room(&rt, &mut mint);
-    copies_and_clears(&rt, &mut mint);
+    for year in 0..100 {
+        mint.put(&rt, hash_of(year), year);
+    }
+    // ninety leave: the room stays, until half of it is given back
+    let room = mint.room();
+    for year in 0..90 {
+        mint.take(hash_of(year), year);
+    }
+    check(&rt, mint.index.len() == 10);
+    check(&rt, mint.room() == room);
+    check(&rt, mint.shrink(30));
+    check(&rt, mint.room() >= 30 && mint.room() < room);
+    // a copy finds what the index finds, and nothing once it is cleared
+    check(&rt, mint.copy().is_ok());
+    check(&rt, mint.finds(hash_of(95), 95, Some(95), 1));
+    mint.index.clear();
+    check(&rt, mint.index.spare() >= 10);
+    check(&rt, mint.finds(hash_of(95), 95, None, 0));
+    check(&rt, mint.shrink(0));
 }

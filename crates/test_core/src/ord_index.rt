@@ -1,5 +1,5 @@
 //! The ordered index over a store of coins, against a plain list of the years in order.
-ghost use Rattle.std.specs.Prelude.{◌≡◌, nat_eq};
+ghost use Rattle.std.specs.Prelude.{◌≡◌, IsTrue, nat_eq};
 ghost use Rattle.std.specs.Cmp.{nat_eq_equiv};
 ghost use Rattle.std.specs.Cmp.Rules.{comparing};
 ghost use Rattle.std.specs.Ordering.{nat_cmp};
@@ -7,17 +7,22 @@ ghost use Rattle.std.proofs.Common.{rules};
 ghost use Rattle.std.proofs.lemmas.Cmp.{nat_cmp_total};
 ghost use Rattle.iddqd_store.specs.Query.{le_then_less, ge_then_greater};
 
-use crate::checks::check;
 use iddqd_ord_index::{Insertion, OrdIndex};
-use iddqd_store::{
-    Comparable, Equivalent, IdHashItem, IdOrdItem, ItemStore, Steps, TryReserveError,
-};
+use iddqd_store::{Comparable, Equivalent, IdHashItem, IdOrdItem, ItemStore, Steps};
 use std::alloc::{AllocError, Global};
 use std::cell::Cell;
 use std::cmp::Ordering;
 use std::marker::Model;
 use std::process::Abort;
 use std::test::Fail;
+
+/// Ends the test as failed if the condition is false. The proof of a call takes a third of that of an `assert!` in its
+/// place.
+pub(crate) fn check(rt: &impl Abort, condition: bool)
+    ensures { IsTrue condition }
+{
+    assert!(rt; condition);
+}
 
 // What both indexes list.
 #[derive(Drop)]
@@ -45,36 +50,33 @@ impl IdHashItem for Coin {
     }
 }
 
-// A year that counts its comparisons.
+// A year, and the count of its comparisons.
 #[derive(Clone, Copy)]
-pub(crate) struct Asked<'a> {
-    pub(crate) year: u32,
-    pub(crate) compared: &'a Cell<u32>,
-}
+pub(crate) struct Asked<'a>(pub(crate) u32, pub(crate) &'a Cell<u32>);
 
 impl Equivalent<u32> for Asked<'_> {
-    ghost equivalent = { λ q k. nat_eq q.year k };
+    ghost equivalent = { λ q k. nat_eq q.0 k };
 
-    ghost one_key = { λ q x y. nat_eq_equiv.congr q.year x y };
+    ghost one_key = { λ q x y. nat_eq_equiv.congr q.0 x y };
 
     fn equivalent(&self, key: &u32) -> bool {
-        self.compared.set(self.compared.get().saturating_add(1));
-        self.year == *key
+        self.1.set(self.1.get().saturating_add(1));
+        self.0 == *key
     }
 }
 
 impl Comparable<u32> for Asked<'_> {
-    ghost compare = { λ q k. nat_cmp q.year k };
+    ghost compare = { λ q k. nat_cmp q.0 k };
 
     ghost equal_where_equivalent = { Prim.search (comparing, rules) };
 
-    ghost less_above = { λ q x y. le_then_less nat_cmp_total q.year x y };
+    ghost less_above = { λ q x y. le_then_less nat_cmp_total q.0 x y };
 
-    ghost greater_below = { λ q x y. ge_then_greater nat_cmp_total q.year x y };
+    ghost greater_below = { λ q x y. ge_then_greater nat_cmp_total q.0 x y };
 
     fn compare(&self, key: &u32) -> Ordering {
-        self.compared.set(self.compared.get().saturating_add(1));
-        self.year.cmp(key)
+        self.1.set(self.1.get().saturating_add(1));
+        self.0.cmp(key)
     }
 }
 
@@ -141,7 +143,6 @@ impl Coins {
         }
     }
 
-    // The year of the slot.
     fn year_of(&self, slot: Option<u32>) -> Option<u32> {
         Some(self.store.get(slot?)?.year)
     }
@@ -183,13 +184,11 @@ impl Coins {
         self.year_of(Some(slot))
     }
 
-    // The year that `remove_first` took out.
     fn take_first(&mut self) -> Option<u32> {
         let slot = self.index.remove_first();
         self.year_of(slot)
     }
 
-    // The year that `remove_last` took out.
     fn take_last(&mut self) -> Option<u32> {
         let slot = self.index.remove_last();
         self.year_of(slot)
@@ -208,100 +207,68 @@ impl Coins {
         self.index.slot_at(place) == slot
     }
 
-    // Puts a copy in the place of the index.
-    fn copy(&mut self) -> Result<(), TryReserveError> {
-        self.index = self.index.try_clone()?;
-        Ok(())
-    }
-
     fn clear(&mut self) {
         self.index.clear();
-    }
-
-    fn found(&self, year: u32) -> Option<u32> {
-        let slot = self.index.get(&self.store, &year, &mut Steps::new());
-        self.year_of(slot)
-    }
-
-    // The least year above this one.
-    fn after(&self, year: u32) -> Option<u32> {
-        let slot = self.index.after(&self.store, &year, &mut Steps::new());
-        self.year_of(slot)
     }
 
     // Whether the steps of `after` are the comparisons that it makes.
     fn counts_after(&self, year: u32) -> bool {
         let compared = Cell::new(0);
-        let query = Asked {
-            year,
-            compared: &compared,
-        };
+        let query = Asked(year, &compared);
         let mut steps = Steps::new();
         let _ = self.index.after(&self.store, &query, &mut steps);
         steps.count() > 0 && steps.count() == compared.get()
     }
 
-    // Whether `find` has this place for the year, as that of its slot or as the one where it belongs.
-    fn is_found_at(&self, year: u32, at: usize, is_there: bool) -> bool {
+    // The years of the slots one by one, by their places.
+    fn has_places_of(&self, years: &[u32]) -> bool {
+        for (at, year) in years.iter().enumerate() {
+            if at >= self.index.len() as usize {
+                return false;
+            }
+            let slot = self.index.slot_at(self.index.place(at));
+            if self.year_of(Some(slot)) != Some(*year) {
+                return false;
+            }
+        }
+        years.len() >= self.index.len() as usize
+    }
+
+    // Whether each lookup of the year returns what the list does.
+    fn finds(&self, years: &[u32], year: u32) -> bool {
+        let (at, is_there) = match years.binary_search(&year) {
+            Ok(at) => (at, true),
+            Err(at) => (at, false),
+        };
+        let next = at.wrapping_add(usize::from(is_there));
+        let found = self.index.get(&self.store, &year, &mut Steps::new());
+        let after = self.index.after(&self.store, &year, &mut Steps::new());
         if at > self.index.len() as usize {
             return false;
         }
         let place = self.index.place(at);
-        match self.index.find(&self.store, &year, &mut Steps::new()) {
+        // the place of its slot, or the one where it belongs
+        let is_found_at = match self.index.find(&self.store, &year, &mut Steps::new()) {
             Ok(found) => is_there && found == place,
             Err(found) => !is_there && found == place,
+        };
+        self.year_of(found) == is_there.then_some(year)
+            && self.year_of(after) == years.get(next).copied()
+            && is_found_at
+    }
+}
+
+// Whether the walk has the slots of these years, and tells how many are to come.
+macro_rules! walks {
+    ($walk:expr, $store:expr, $years:expr) => {{
+        let mut walk = $walk;
+        let mut is_so = true;
+        for (at, year) in $years.iter().enumerate() {
+            let is_left = walk.len() == $years.len() - at;
+            is_so = is_so && is_left && is_coin($store, walk.next(), *year);
         }
-    }
-
-    fn first(&self) -> Option<u32> {
-        self.year_of(self.index.first())
-    }
-
-    fn last(&self) -> Option<u32> {
-        self.year_of(self.index.last())
-    }
-
-    // The years of the slots one by one, by their places.
-    fn has_places_of(&self, years: &[u32]) -> bool {
-        for (at, year) in years.iter().enumerate() {
-            let slot = self.slot_at(at);
-            if slot.is_none() || self.year_of(slot) != Some(*year) {
-                return false;
-            }
-        }
-        self.slot_at(years.len()).is_none()
-    }
-
-    fn slot_at(&self, at: usize) -> Option<u32> {
-        if at < self.index.len() as usize {
-            Some(self.index.slot_at(self.index.place(at)))
-        } else {
-            None
-        }
-    }
-
-    // Whether a walk has these years, and tells how many are to come.
-    fn walks(&self, years: &[u32]) -> bool {
-        let mut walk = self.index.walk();
-        for (at, year) in years.iter().enumerate() {
-            if walk.len() != years.len() - at || self.year_of(walk.next()) != Some(*year) {
-                return false;
-            }
-        }
-        walk.next().is_none()
-    }
-
-    // The same of the walk in the place of the index.
-    fn ends_in(self, years: &[u32]) -> bool {
-        let Coins { store, index } = self;
-        let mut walk = index.into_walk();
-        for (at, year) in years.iter().enumerate() {
-            if walk.len() != years.len() - at || !is_coin(&store, walk.next(), *year) {
-                return false;
-            }
-        }
-        walk.next().is_none()
-    }
+        is_so && walk.next().is_none()
+    }};
 }
 
 fn is_coin(store: &ItemStore<Coin>, slot: Option<u32>, year: u32) -> bool {
@@ -314,25 +281,14 @@ fn is_coin(store: &ItemStore<Coin>, slot: Option<u32>, year: u32) -> bool {
 // Each call that changes nothing returns what the list does. The years are below 1,010.
 fn same(rt: &impl Abort, coins: &Coins, years: &[u32]) {
     check(rt, coins.index.len() as usize == years.len());
-    check(rt, coins.first() == years.first().copied());
-    check(rt, coins.last() == years.last().copied());
-    check(rt, coins.walks(years));
+    let (first, last) = (coins.index.first(), coins.index.last());
+    check(rt, coins.year_of(first) == years.first().copied());
+    check(rt, coins.year_of(last) == years.last().copied());
+    check(rt, walks!(coins.index.walk(), &coins.store, years));
     check(rt, coins.has_places_of(years));
     for year in 0..1_010 {
-        same_of(rt, coins, years, year);
+        check(rt, coins.finds(years, year));
     }
-}
-
-// Each lookup of the year returns what the list does.
-fn same_of(rt: &impl Abort, coins: &Coins, years: &[u32], year: u32) {
-    let (at, is_there) = match years.binary_search(&year) {
-        Ok(at) => (at, true),
-        Err(at) => (at, false),
-    };
-    let next = at.wrapping_add(usize::from(is_there));
-    check(rt, coins.found(year) == is_there.then_some(year));
-    check(rt, coins.after(year) == years.get(next).copied());
-    check(rt, coins.is_found_at(year, at, is_there));
 }
 
 // Each year, in steps, is inserted if it is not listed, and removed if it is.
@@ -374,7 +330,8 @@ fn coins_come_and_go(rt: HostRuntime) -> Result<(), Fail> {
     for step in [1, 7, 1008, 11] {
         exchange(&rt, &mut coins, &mut years, step)?;
     }
-    check(&rt, coins.ends_in(years.as_slice()));
+    let (store, walk) = (coins.store, coins.index.into_walk());
+    check(&rt, walks!(walk, &store, years));
     Ok(())
 }
 
@@ -386,11 +343,7 @@ fn fill(rt: &impl Abort, coins: &mut Coins) {
 }
 
 fn even_years(alloc: Global) -> Result<Vec<u32>, AllocError> {
-    let mut years = Vec::new(alloc);
-    for n in 0..500u32 {
-        years.push(n.wrapping_mul(2))?;
-    }
-    Ok(years)
+    (0..500u32).map(|n| n.wrapping_mul(2)).collect(alloc)
 }
 
 #[test]
@@ -403,77 +356,51 @@ fn coins_after_counted(rt: HostRuntime) {
 }
 
 // From either end, in turns.
-fn leave(rt: &impl Abort, coins: &mut Coins, years: &[u32]) {
-    check(rt, years.len() == 500);
-    for n in 0..250 {
-        check(rt, coins.take_first() == Some(years[n]));
-        check(rt, coins.take_last() == Some(years[499 - n]));
-        if n % 60 == 0 {
-            same(rt, coins, &years[n + 1..499 - n]);
-        }
-    }
-    check(rt, coins.take_first().is_none());
-    check(rt, coins.take_last().is_none());
-}
-
 #[test]
 fn coins_leave_at_the_ends(rt: HostRuntime) -> Result<(), Fail> {
     let mut coins = Coins::new(rt.alloc());
     fill(&rt, &mut coins);
     let years = even_years(rt.alloc())?;
-    leave(&rt, &mut coins, years.as_slice());
+    let years = years.as_slice();
+    check(&rt, years.len() == 500);
+    for n in 0..250 {
+        check(&rt, coins.take_first() == Some(years[n]));
+        check(&rt, coins.take_last() == Some(years[499 - n]));
+        if n % 60 == 0 {
+            same(&rt, &coins, &years[n + 1..499 - n]);
+        }
+    }
+    check(&rt, coins.take_first().is_none());
+    check(&rt, coins.take_last().is_none());
     same(&rt, &coins, &[]);
     Ok(())
 }
 
-// Each coin is another of its year.
-fn rename_all(rt: &impl Abort, coins: &mut Coins) {
-    for n in 0..500u32 {
-        let year = n.wrapping_mul(2);
-        check(rt, coins.rename_year(year));
-        check(rt, !coins.rename_year(year.wrapping_add(1)));
-    }
-}
-
 // Each coin is another of its year, and a copy lists as much. It is empty once it is cleared, and takes all again.
-fn rename_copy_and_clear(rt: &impl Abort, coins: &mut Coins, years: &[u32]) -> Result<(), Fail> {
-    rename_all(rt, coins);
-    same(rt, coins, years);
-    coins.copy()?;
-    same(rt, coins, years);
-    coins.clear();
-    same(rt, coins, &[]);
-    fill(rt, coins);
-    same(rt, coins, years);
-    Ok(())
-}
-
 #[test]
 fn coins_renamed_copied_and_cleared(rt: HostRuntime) -> Result<(), Fail> {
     let years = even_years(rt.alloc())?;
     let mut coins = Coins::new(rt.alloc());
     fill(&rt, &mut coins);
-    rename_copy_and_clear(&rt, &mut coins, years.as_slice())
-}
-
-// Every second year goes while the years are read one after the other.
-fn thin(rt: &impl Abort, coins: &mut Coins, years: &mut Vec<u32>) {
-    for at in 0..250 {
-        check(rt, at < years.len());
-        check(rt, coins.year_in_turn(at) == Some(years.as_slice()[at]));
-        check(rt, coins.take_at(at) == Some(years.remove(at)));
+    for year in years.iter() {
+        check(&rt, coins.rename_year(*year));
+        check(&rt, !coins.rename_year(year.wrapping_add(1)));
     }
-}
-
-fn is_in_turn(coins: &mut Coins, at: usize, year: Option<u32>) -> bool {
-    coins.year_in_turn(at) == year
+    same(&rt, &coins, years.as_slice());
+    coins.index = coins.index.try_clone()?;
+    same(&rt, &coins, years.as_slice());
+    coins.clear();
+    same(&rt, &coins, &[]);
+    fill(&rt, &mut coins);
+    same(&rt, &coins, years.as_slice());
+    Ok(())
 }
 
 fn read_in_turn(rt: &impl Abort, coins: &mut Coins, years: &[u32]) {
     for (at, year) in years.iter().enumerate() {
-        check(rt, is_in_turn(coins, at, Some(*year)));
+        check(rt, coins.year_in_turn(at) == Some(*year));
     }
-    check(rt, is_in_turn(coins, years.len(), None));
+    check(rt, coins.year_in_turn(years.len()) == None);
 }
 
 // What was read before a change is not read after it.
@@ -483,7 +410,12 @@ fn coins_read_in_turn(rt: HostRuntime) -> Result<(), Fail> {
     fill(&rt, &mut coins);
     let mut years = even_years(rt.alloc())?;
     read_in_turn(&rt, &mut coins, years.as_slice());
-    thin(&rt, &mut coins, &mut years);
+    // every second year goes while the years are read one after the other
+    for at in 0..250 {
+        check(&rt, at < years.len());
+        check(&rt, coins.year_in_turn(at) == Some(years.as_slice()[at]));
+        check(&rt, coins.take_at(at) == Some(years.remove(at)));
+    }
     read_in_turn(&rt, &mut coins, years.as_slice());
     check(&rt, coins.year_in_turn(0) == Some(2) && coins.put(0));
     check(&rt, coins.year_in_turn(0) == Some(0));

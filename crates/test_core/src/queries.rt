@@ -1,32 +1,25 @@
 //! Keys of what is held, counts of comparisons, and texts for keys.
-use crate::checks::check;
-use crate::ord_index::Coin;
+use crate::ord_index::{Coin, check};
 use iddqd_store::{Comparable, Equivalent, IdHashItem, IdOrdItem, Steps, Text};
 use std::cmp::Ordering;
 use std::hash::{BuildHasher, BuildHasherDefault, FoldHasher, Hash};
 use std::rc::Rc;
 use std::test::Fail;
 
-fn hash_key<T: IdHashItem<Key = u32>>(item: &T) -> u32 {
-    *item.key()
-}
-
-fn ord_key<T: IdOrdItem<Key = u32>>(item: &T) -> u32 {
-    *item.key()
+// The keys that a hash map sees and an ordered map does.
+fn keys<T: IdHashItem<Key = u32> + IdOrdItem<Key = u32>>(item: &T) -> (u32, u32) {
+    (*IdHashItem::key(item), *IdOrdItem::key(item))
 }
 
 // What holds an item shows the key of what it holds.
 #[test]
 fn keys_of_what_is_held(rt: HostRuntime) -> Result<(), Fail> {
     let coin = Coin { year: 1806 };
-    check(&rt, hash_key(&&coin) == 1806);
-    check(&rt, ord_key(&&coin) == 1806);
+    check(&rt, keys(&&coin) == (1806, 1806));
     let boxed = Box::new(rt.alloc(), Coin { year: 1807 })?;
-    check(&rt, hash_key(&boxed) == 1807);
-    check(&rt, ord_key(&boxed) == 1807);
+    check(&rt, keys(&boxed) == (1807, 1807));
     let shared = Rc::new(rt.alloc(), Coin { year: 1808 })?;
-    check(&rt, hash_key(&shared) == 1808);
-    check(&rt, ord_key(&shared) == 1808);
+    check(&rt, keys(&shared) == (1808, 1808));
     Ok(())
 }
 

@@ -1,17 +1,7 @@
 //! Calls of either map, one method a call: whether the map returns what the plain list does.
 use crate::plain::{Answer, Pair, Plain, is_same};
-use test_support::caseless::{Caseless, Coarse, spelled};
+use test_support::caseless::{Coarse, spelled};
 use test_support::coarse::{CoarseMap, Way};
-
-// A lookup, whose comparisons are counted too, among this many items at most.
-fn is_found<M: CoarseMap>(map: &M, plain: &Plain, name: &Caseless) -> bool {
-    let item = plain.find(name);
-    let (counted, steps) = map.get_counted(name);
-    is_same(map.get(name).copied(), item)
-        && is_same(counted.copied(), item)
-        && map.contains(name) == item.is_some()
-        && steps as usize <= plain.len().saturating_add(4)
-}
 
 impl<M: CoarseMap> Pair<M> {
     pub(crate) fn insert(&mut self) -> Answer {
@@ -24,15 +14,14 @@ impl<M: CoarseMap> Pair<M> {
         let old = self.plain.find(&item.name);
         match self.map.overwrite(item) {
             Ok(answer) => {
-                let fits = old.is_some() || !self.plain.is_full();
+                let fits = old.is_some() || self.plain.has_room(1);
                 self.plain.overwrite(item)?;
                 Ok(fits && is_same(answer, old))
             }
-            Err(refused) => Ok(
-                old.is_none()
-                    && is_same(Some(refused.item), Some(item))
-                    && self.plain.refuses(refused.error),
-            ),
+            Err(refused) => {
+                let is_back = old.is_none() && is_same(Some(refused.item), Some(item));
+                Ok(is_back && self.plain.refuses(refused.error))
+            }
         }
     }
 
@@ -48,7 +37,13 @@ impl<M: CoarseMap> Pair<M> {
 
     pub(crate) fn find(&mut self) -> bool {
         let name = self.draws.name();
-        is_found(&self.map, &self.plain, &name)
+        let item = self.plain.find(&name);
+        // the comparisons are counted too, among this many items at most
+        let (counted, steps) = self.map.get_counted(&name);
+        is_same(self.map.get(&name).copied(), item)
+            && is_same(counted.copied(), item)
+            && self.map.contains(&name) == item.is_some()
+            && steps as usize <= self.plain.len().saturating_add(4)
     }
 
     pub(crate) fn write(&mut self) -> bool {
@@ -82,19 +77,18 @@ impl<M: CoarseMap> Pair<M> {
 
     pub(crate) fn retain(&mut self) -> bool {
         let (part, rest) = (self.draws.below(8).saturating_add(3), self.draws.below(3));
-        let (map, plain) = (&mut self.map, &mut self.plain);
-        let before = plain.len();
-        let items = &mut plain.items;
-        items.retain(|item| item.value.checked_rem(part) != Some(rest));
-        let gone = before.saturating_sub(plain.len()).min(4_294_967_295);
-        plain.vacant = plain.vacant.saturating_add(gone as u32);
-        map.retain(|item| item.value.checked_rem(part) != Some(rest));
+        let keeps = |item: &Coarse| item.value.checked_rem(part) != Some(rest);
+        let before = self.plain.len();
+        self.plain.items.retain(keeps);
+        let gone = before.saturating_sub(self.plain.len()).min(4_294_967_295);
+        self.plain.vacant = self.plain.vacant.saturating_add(gone as u32);
+        self.map.retain(keeps);
         true
     }
 
     pub(crate) fn insert_by_entry(&mut self) -> Answer {
         let item = self.draws.item();
-        let fits = self.plain.find(&item.name).is_none() && !self.plain.is_full();
+        let fits = self.plain.find(&item.name).is_none() && self.plain.has_room(1);
         if self.draws.coin() {
             let inserted = self.map.put_vacant(&item.name, item).unwrap_or(None);
             if fits {
@@ -180,30 +174,17 @@ impl<M: CoarseMap> Pair<M> {
     }
 }
 
-// Whether the list has each item of the walk.
-fn are_listed(plain: &Plain, walked: &[Coarse]) -> bool {
-    for item in walked {
-        if !is_same(plain.find(&item.name), Some(*item)) {
-            return false;
-        }
-    }
-    true
-}
-
 // Whether the map finds each item of the list.
 pub(crate) fn are_found<M: CoarseMap>(map: &M, plain: &Plain) -> bool {
-    for item in plain.items.iter() {
-        if map.get(&item.name).map(spelled) != Some(spelled(item)) {
-            return false;
-        }
-    }
-    true
+    let mut items = plain.items.iter();
+    items.all(|item| map.get(&item.name).map(spelled) == Some(spelled(item)))
 }
 
 // Whether the map holds just what the list does, by what it finds and by its walk, and tells the numbers of the list.
 pub(crate) fn holds_the_same<M: CoarseMap>(map: &M, plain: &Plain, walked: &[Coarse]) -> bool {
     let count = plain.len();
-    are_listed(plain, walked)
+    let mut items = walked.iter();
+    items.all(|item| is_same(plain.find(&item.name), Some(*item)))
         && are_found(map, plain)
         && walked.len() == count
         && map.len() == count
@@ -211,4 +192,5 @@ pub(crate) fn holds_the_same<M: CoarseMap>(map: &M, plain: &Plain, walked: &[Coa
         && map.limit() == plain.limit
         && map.vacant() == plain.vacant
         && map.is_valid()
+        && plain.refusals == 0
 }

@@ -2,11 +2,7 @@
 #![tactic(auto)]
 
 #[cfg(test)]
-mod adding;
-#[cfg(test)]
 mod calls;
-#[cfg(test)]
-mod draws;
 #[cfg(test)]
 mod lengths;
 #[cfg(test)]
@@ -16,10 +12,6 @@ mod ordered;
 #[cfg(test)]
 mod plain;
 #[cfg(test)]
-mod ranged;
-#[cfg(test)]
 mod refused;
 #[cfg(test)]
 mod runs;
-#[cfg(test)]
-mod writing;

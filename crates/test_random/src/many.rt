@@ -1,15 +1,18 @@
-//! Calls on many items, and copies of a map: whether they return what the plain list does.
+//! Calls on many items, and copies of a map, which a walk writes too: whether they return what the plain list does.
 use crate::calls::holds_the_same;
-use crate::draws::Draws;
-use crate::plain::{Answer, Pair, Plain, is_same};
-use iddqd::errors::{DuplicateItem, FromIterError};
+use crate::plain::{Answer, Draws, Pair, Plain, is_same};
+use iddqd::MAX_ITEMS;
+use iddqd::errors::{FromIterError, TryReserveError};
 use std::alloc::{AllocError, Global};
+use std::hash::BuildHasher;
 use test_support::bulk::Bulk;
-use test_support::caseless::Coarse;
+use test_support::caseless::{Coarse, spelled};
 use test_support::coarse::{CoarseMap, Copied};
+use test_support::maps::{Added, Hashed, Ordered};
+use test_support::walks::Walked;
 
 // Some items, of which some have equal names.
-pub(crate) fn drawn(alloc: Global, draws: &mut Draws) -> Result<Vec<Coarse>, AllocError> {
+fn drawn(alloc: Global, draws: &mut Draws) -> Result<Vec<Coarse>, AllocError> {
     let count = draws.below(12);
     let mut items = Vec::with_capacity(alloc, count as usize)?;
     for _ in 0..count {
@@ -18,129 +21,143 @@ pub(crate) fn drawn(alloc: Global, draws: &mut Draws) -> Result<Vec<Coarse>, All
     Ok(items)
 }
 
-// Whether there is room for as many of the items as a map takes for new, before it takes any.
-pub(crate) fn has_room_for(plain: &Plain, items: &[Coarse]) -> bool {
-    let new = if plain.len() == 0 {
-        items.len()
-    } else {
-        items.len().div_ceil(2)
-    };
-    plain.has_room(new)
-}
-
-// Overwrites the items into the list up to the first that finds it full, which it returns.
-fn overwrite_all(plain: &mut Plain, items: &[Coarse]) -> Result<Option<Coarse>, AllocError> {
+// Puts the items into the list, each in the place of the one of its name, up to the first that finds it full. If they
+// are to be unique, the first whose name is there ends it too.
+fn put_all(
+    plain: &mut Plain,
+    items: &[Coarse],
+    is_unique: bool,
+) -> Result<Added<Coarse>, AllocError> {
     for item in items {
-        if plain.is_full() && plain.find(&item.name).is_none() {
-            return Ok(Some(*item));
+        let there = plain.find(&item.name);
+        if is_unique && there.is_some() {
+            return Ok(Added::Conflict(*item, there));
+        }
+        if there.is_none() && !plain.has_room(1) {
+            return Ok(full(Some(*item)));
         }
         plain.overwrite(*item)?;
     }
-    Ok(None)
+    Ok(Added::All)
 }
 
-// The first item whose name came before, and the one that it came with.
-fn first_repeat(
-    plain: &mut Plain,
-    items: &[Coarse],
-) -> Result<Option<(Coarse, Coarse)>, AllocError> {
-    for item in items {
-        if let Some(earlier) = plain.find(&item.name) {
-            return Ok(Some((*item, earlier)));
+fn full(item: Option<Coarse>) -> Added<Coarse> {
+    Added::Stopped(item, TryReserveError::capacity_overflow())
+}
+
+// By the spelling of names too.
+fn is_told(added: &Added<Coarse>, expected: &Added<Coarse>) -> bool {
+    match (added, expected) {
+        (Added::All, Added::All) => true,
+        (Added::Conflict(new, there), Added::Conflict(item, earlier)) => {
+            is_same(Some(*new), Some(*item)) && is_same(*there, *earlier)
         }
-        plain.put(*item)?;
+        (Added::Stopped(item, error), Added::Stopped(refused, kind)) => {
+            is_same(*item, *refused) && error == kind
+        }
+        _ => false,
     }
-    Ok(None)
 }
 
-// A map of its own that is made of many items.
+/// Makes a map of its own of many items: by `from_iter`, or by `from_iter_unique`.
 pub(crate) fn collect<M: CoarseMap + Bulk<Coarse> + Drop>(
     alloc: Global,
     draws: &mut Draws,
+    is_unique: bool,
 ) -> Answer {
     let items = drawn(alloc, draws)?;
-    let mut plain = Plain::new(alloc, 4_294_967_295);
-    let _ = overwrite_all(&mut plain, items.as_slice())?;
-    let Ok(map) = M::collected(alloc, items) else {
-        return Ok(false);
+    let mut plain = Plain::new(alloc, MAX_ITEMS);
+    let expected = put_all(&mut plain, items.as_slice(), is_unique)?;
+    let made = if is_unique {
+        M::collected_unique(alloc, items)
+    } else {
+        M::collected(alloc, items).map_err(FromIterError::Refused)
     };
-    let walked = map.listed(alloc)?;
-    Ok(holds_the_same(&map, &plain, walked.as_slice()))
-}
-
-// The same of different items, or the first repeat.
-pub(crate) fn collect_unique<M: CoarseMap + Bulk<Coarse> + Drop>(
-    alloc: Global,
-    draws: &mut Draws,
-) -> Answer {
-    let items = drawn(alloc, draws)?;
-    let mut plain = Plain::new(alloc, 4_294_967_295);
-    let repeat = first_repeat(&mut plain, items.as_slice())?;
-    match M::collected_unique(alloc, items) {
+    match made {
         Ok(map) => {
             let walked = map.listed(alloc)?;
-            Ok(repeat.is_none() && holds_the_same(&map, &plain, walked.as_slice()))
+            let is_held = holds_the_same(&map, &plain, walked.as_slice());
+            Ok(is_held && is_told(&Added::All, &expected))
         }
-        Err(FromIterError::Duplicate(both)) => Ok(is_told(&both, repeat)),
+        Err(FromIterError::Duplicate(both)) => {
+            let earlier = both.duplicates();
+            let told = Added::Conflict(*both.new_item(), earlier.get(0).copied());
+            Ok(is_told(&told, &expected) && earlier.len() == 1)
+        }
         Err(FromIterError::Refused(_)) => Ok(false),
     }
 }
 
-// Whether these are the new item of the first repeat and the one that it came with.
-fn is_told(both: &DuplicateItem<Coarse>, repeat: Option<(Coarse, Coarse)>) -> bool {
-    let Some((new, earlier)) = repeat else {
-        return false;
-    };
-    let is_new = is_same(Some(*both.new_item()), Some(new));
-    let is_earlier = is_same(both.duplicates().get(0).copied(), Some(earlier));
-    is_new && is_earlier && both.duplicates().len() == 1
-}
-
 impl<M: CoarseMap> Pair<M> {
-    pub(crate) fn extend(&mut self, alloc: Global) -> Answer {
+    /// `extend`, or `extend_unique`.
+    pub(crate) fn extend(&mut self, alloc: Global, is_unique: bool) -> Answer {
         let items = drawn(alloc, &mut self.draws)?;
-        let is_reserved = has_room_for(&self.plain, items.as_slice());
-        let stopped = if is_reserved {
-            overwrite_all(&mut self.plain, items.as_slice())?
+        // a map reserves room for as many as it takes for new
+        let new = if self.plain.len() == 0 {
+            items.len()
         } else {
-            None
+            items.len().div_ceil(2)
         };
-        match self.map.extend(items) {
-            Ok(()) => Ok(is_reserved && stopped.is_none()),
-            Err(refused) => {
-                let fits = !is_reserved || stopped.is_some();
-                Ok(fits && is_same(refused.item, stopped) && refused.error.is_capacity_overflow())
-            }
+        let expected = if self.plain.has_room(new) {
+            put_all(&mut self.plain, items.as_slice(), is_unique)?
+        } else {
+            full(None)
+        };
+        if is_unique {
+            return Ok(is_told(&self.map.add_each(items), &expected));
         }
-    }
-
-    // Whether the copy equals the map just as long as it is not written; then what was written is undone.
-    fn equals_unwritten(&mut self, copy: &mut M) -> bool {
-        let is_equal = self.map.equals(copy) && copy.equals(&self.map);
-        let (name, value) = (self.draws.name(), self.draws.below(1000));
-        let old = self.plain.find(&name);
-        let _ = copy.write_by_reborrow(&name, value);
-        let is_changed = matches!(old, Some(item) if item.value != value);
-        let is_told = self.map.equals(copy) != is_changed;
-        if let Some(item) = old {
-            let _ = copy.write_by_reborrow(&name, item.value);
-        }
-        is_equal && is_told
+        let added = match self.map.extend(items) {
+            Ok(()) => Added::All,
+            Err(refused) => Added::Stopped(refused.item, refused.error),
+        };
+        Ok(is_told(&added, &expected))
     }
 }
 
-impl<M: CoarseMap + Copied + Drop> Pair<M> {
-    // A clone holds the same, equals the map as long as it is not written, and lets its items out.
+/// A map of either kind that a walk writes.
+pub(crate) trait Written: Sized {
+    /// The items of the map once `iter_mut` has raised this many of them, and how many it had left then.
+    fn raised(self, alloc: Global, most: usize) -> Result<(Vec<Coarse>, usize), AllocError>;
+}
+
+impl Written for Ordered<Coarse> {
+    fn raised(self, alloc: Global, most: usize) -> Result<(Vec<Coarse>, usize), AllocError> {
+        let (map, left) = self.written(most, raise);
+        Ok((map.into_iter().collect(alloc)?, left))
+    }
+}
+
+impl<S: BuildHasher + Drop> Written for Hashed<Coarse, S> {
+    fn raised(self, alloc: Global, most: usize) -> Result<(Vec<Coarse>, usize), AllocError> {
+        let (map, left) = self.written(most, raise);
+        Ok((map.into_iter().collect(alloc)?, left))
+    }
+}
+
+fn raise(item: &mut Coarse) {
+    item.value = item.value.wrapping_add(1);
+}
+
+impl<M: CoarseMap + Copied + Written + Drop> Pair<M> {
+    /// A clone holds the same, equals the map as long as it is not written, and lets its items out.
     pub(crate) fn copy(&mut self, alloc: Global) -> Answer {
         let Ok(mut copy) = self.map.copied() else {
             return Ok(false);
         };
-        let is_equal = self.equals_unwritten(&mut copy);
+        let is_equal = self.map.equals(&copy) && copy.equals(&self.map);
+        let (name, value) = (self.draws.name(), self.draws.below(1000));
+        let old = self.plain.find(&name);
+        let _ = copy.write_by_reborrow(&name, value);
+        let is_changed = matches!(old, Some(item) if item.value != value);
+        let is_told = self.map.equals(&copy) != is_changed;
+        if let Some(item) = old {
+            let _ = copy.write_by_reborrow(&name, item.value);
+        }
         let walked = copy.walked_out(alloc)?;
-        Ok(is_equal && holds_the_same(&self.map, &self.plain, walked.as_slice()))
+        Ok(is_equal && is_told && holds_the_same(&self.map, &self.plain, walked.as_slice()))
     }
 
-    // An entry of a clone reads the item there, and shows what it wrote.
+    /// An entry of a clone reads the item there, and shows what it wrote.
     pub(crate) fn write_copy(&mut self) -> bool {
         let Ok(copy) = self.map.copied() else {
             return false;
@@ -155,5 +172,20 @@ impl<M: CoarseMap + Copied + Drop> Pair<M> {
             (None, None) => true,
             _ => false,
         }
+    }
+
+    /// A walk over a clone writes the first items alone.
+    pub(crate) fn write_first(&mut self, alloc: Global) -> Answer {
+        let Ok(copy) = self.map.copied() else {
+            return Ok(false);
+        };
+        let most = self.draws.below(40) as usize;
+        let mut expected = self.map.listed(alloc)?;
+        for item in expected.iter_mut().take(most) {
+            raise(item);
+        }
+        let (written, left) = copy.raised(alloc, most)?;
+        let is_left = left == expected.len().saturating_sub(most);
+        Ok(is_left && written.iter().map(spelled).eq(expected.iter().map(spelled)))
     }
 }

@@ -1,16 +1,42 @@
-//! Calls of an ordered map alone.
-use crate::plain::{Answer, Pair, is_same};
-use test_support::caseless::Coarse;
-use test_support::maps::Ordered;
+//! Calls of an ordered map alone, by positions and between bounds too.
+use crate::plain::{Answer, Draws, Pair, Plain, is_same};
+use std::alloc::Global;
+use std::ops::{Bound, RangeBounds};
+use test_support::caseless::{Caseless, Coarse};
+use test_support::maps::{Copying, Ordered};
 
 // The greatest count of comparisons among this many items: four, and two more for each binary digit of the count.
-pub(crate) fn bound(count: usize) -> u32 {
+fn bound(count: usize) -> u32 {
     let digits = 64_u32.saturating_sub((count as u64).leading_zeros());
     digits.saturating_mul(2).saturating_add(4)
 }
 
+// How many names of the list are less.
+fn rank(plain: &Plain, name: &Caseless) -> usize {
+    plain.items.iter().filter(|item| item.name < *name).count()
+}
+
+// The item of the list that has this many less.
+fn nth(plain: &Plain, index: usize) -> Option<Coarse> {
+    let mut items = plain.items.iter();
+    items.find(|item| rank(plain, &item.name) == index).copied()
+}
+
+// A position of the list, or one of the two past its end.
+fn drawn_index(plain: &Plain, draws: &mut Draws) -> usize {
+    let positions = plain.len().saturating_add(2);
+    (draws.next() as usize).checked_rem(positions).unwrap_or(0)
+}
+
+fn drawn_bound<'a>(name: &'a Caseless, draws: &mut Draws) -> Bound<&'a Caseless> {
+    match draws.below(5) {
+        0..=1 => Bound::Included(name),
+        2..=3 => Bound::Excluded(name),
+        _ => Bound::Unbounded,
+    }
+}
+
 impl Pair<Ordered<Coarse>> {
-    // The ends are those of the list.
     pub(crate) fn has_ends(&self) -> bool {
         let map = self.map.map();
         is_same(map.first().copied(), self.plain.end(true))
@@ -60,26 +86,61 @@ impl Pair<Ordered<Coarse>> {
 
     pub(crate) fn show_inserted(&mut self) -> Answer {
         let item = self.draws.item();
-        let is_new = self.plain.find(&item.name).is_none();
-        let expected = if is_new {
-            self.plain.shown(item)?
-        } else {
-            None
+        let expected = match self.plain.find(&item.name) {
+            None => self.plain.shown(item)?,
+            Some(_) => None,
         };
         Ok(is_same(self.map.put_shown(item).unwrap_or(None), expected))
     }
+
+    pub(crate) fn position(&mut self) -> bool {
+        let name = self.draws.name();
+        let index = drawn_index(&self.plain, &mut self.draws);
+        let less = rank(&self.plain, &name);
+        let expected = self.plain.find(&name).map(|_| less).ok_or(less);
+        let (place, steps) = self.map.index_of(&name);
+        place == expected
+            && steps <= bound(self.plain.len())
+            && is_same(self.map.get_index(index).copied(), nth(&self.plain, index))
+    }
+
+    pub(crate) fn remove_position(&mut self) -> bool {
+        let index = drawn_index(&self.plain, &mut self.draws);
+        let item = nth(&self.plain, index);
+        if let Some(item) = item {
+            let _ = self.plain.take(&item.name);
+        }
+        let gone = if self.draws.coin() {
+            self.map.remove_index(index)
+        } else {
+            self.map.take_index(index)
+        };
+        is_same(gone, item)
+    }
+
+    /// Removes the items between two bounds, or looks at them. If a bound is open, `lower_bound` or `upper_bound` shows the
+    /// item at the other end.
+    pub(crate) fn range(&mut self, alloc: Global, removes: bool) -> Answer {
+        let (one, other) = (self.draws.name(), self.draws.name());
+        let low = drawn_bound(&one, &mut self.draws);
+        let high = drawn_bound(&other, &mut self.draws);
+        let mut items = self.map.listed(alloc)?;
+        items.retain(|item| (low, high).contains(&item.name));
+        if removes {
+            for item in items.iter() {
+                let _ = self.plain.take(&item.name);
+            }
+            return Ok(self.map.remove_range((low, high)) == items.len());
+        }
+        let (first, last) = (items.first().copied(), items.last().copied());
+        Ok(
+            self.map.has_between((low, high), items.as_slice())
+                && (low != Bound::Unbounded || is_same(self.map.upper_bound(high).copied(), last))
+                && (high != Bound::Unbounded || is_same(self.map.lower_bound(low).copied(), first)),
+        )
+    }
 }
 
-// The names ascend.
 pub(crate) fn ascends(walked: &[Coarse]) -> bool {
-    let mut last: Option<Coarse> = None;
-    for item in walked {
-        if let Some(before) = last {
-            if before.name >= item.name {
-                return false;
-            }
-        }
-        last = Some(*item);
-    }
-    true
+    walked.is_sorted_by(|one, next| one.name < next.name)
 }

@@ -1,5 +1,4 @@
-//! A plain list of items that is searched, and the numbers that a map tells beside its items.
-use crate::draws::Draws;
+//! A plain list of items that is searched, and the random numbers that calls are drawn from, the same at each run.
 use iddqd::errors::TryReserveError;
 use std::alloc::{AllocError, Global};
 use test_support::caseless::{Caseless, Coarse, spelled};
@@ -16,13 +15,65 @@ pub(crate) struct Pair<M> {
     pub(crate) draws: Draws,
 }
 
-/// What a map is held against.
+/// A generator by shifts (Marsaglia's of 64 bits).
+#[derive(Clone, Copy)]
+pub(crate) struct Draws {
+    state: u64,
+    letters: u32,
+}
+
+impl Draws {
+    /// From the seed, for names of this many different letters.
+    pub(crate) fn new(seed: u64, letters: u32) -> Draws {
+        Draws {
+            state: seed.wrapping_mul(2).wrapping_add(1),
+            letters,
+        }
+    }
+
+    pub(crate) fn next(&mut self) -> u32 {
+        self.state ^= self.state.wrapping_shl(13);
+        self.state ^= self.state.wrapping_shr(7);
+        self.state ^= self.state.wrapping_shl(17);
+        (self.state.wrapping_shr(16) % 4_294_967_296) as u32
+    }
+
+    /// A number below the bound, or 0 where that is 0.
+    pub(crate) fn below(&mut self, bound: u32) -> u32 {
+        self.next().checked_rem(bound).unwrap_or(0)
+    }
+
+    pub(crate) fn coin(&mut self) -> bool {
+        self.below(2) == 0
+    }
+
+    /// A name, each letter in either case.
+    pub(crate) fn name(&mut self) -> Caseless {
+        Caseless([self.letter(), self.letter(), self.letter()])
+    }
+
+    pub(crate) fn item(&mut self) -> Coarse {
+        Coarse {
+            name: self.name(),
+            value: self.below(1000),
+        }
+    }
+
+    fn letter(&mut self) -> u8 {
+        let bound = self.letters.min(26);
+        let first: u32 = if self.coin() { 97 } else { 65 };
+        first.saturating_add(self.below(bound)).min(122) as u8
+    }
+}
+
 #[derive(Drop)]
 pub(crate) struct Plain {
     /// In no order.
     pub(crate) items: Vec<Coarse>,
     pub(crate) vacant: u32,
     pub(crate) limit: u32,
+    /// How often memory was refused to the map.
+    pub(crate) refusals: u32,
 }
 
 /// Whether both are the same item, by its spelling too, or neither is one.
@@ -31,38 +82,23 @@ pub(crate) fn is_same(one: Option<Coarse>, other: Option<Coarse>) -> bool {
 }
 
 impl Plain {
-    /// Without items.
     pub(crate) fn new(alloc: Global, limit: u32) -> Plain {
         Plain {
             items: Vec::new(alloc),
             vacant: 0,
             limit,
+            refusals: 0,
         }
-    }
-
-    /// The same, with room for this many items.
-    pub(crate) fn with_room(alloc: Global, limit: u32, count: usize) -> Result<Plain, AllocError> {
-        Ok(Plain {
-            items: Vec::with_capacity(alloc, count)?,
-            vacant: 0,
-            limit,
-        })
     }
 
     pub(crate) fn len(&self) -> usize {
         self.items.len()
     }
 
-    pub(crate) fn is_full(&self) -> bool {
-        self.items.len() >= self.limit as usize
-    }
-
-    /// Whether this many more items fit.
     pub(crate) fn has_room(&self, additional: usize) -> bool {
         self.len().saturating_add(additional) <= self.limit as usize
     }
 
-    /// The item of the name.
     pub(crate) fn find(&self, name: &Caseless) -> Option<Coarse> {
         self.items.iter().find(|item| item.name == *name).copied()
     }
@@ -79,7 +115,6 @@ impl Plain {
         end
     }
 
-    /// Takes out the item of the name.
     pub(crate) fn take(&mut self, name: &Caseless) -> Option<Coarse> {
         let found = self.find(name)?;
         self.items.retain(|item| item.name != *name);
@@ -103,19 +138,25 @@ impl Plain {
         }
     }
 
-    /// Writes the value of the name.
     pub(crate) fn write(&mut self, name: &Caseless, value: u32) {
-        for item in self.items.iter_mut() {
-            if item.name == *name {
-                item.value = value;
-            }
+        if let Some(item) = self.find(name) {
+            self.replace(Coarse { value, ..item });
         }
+    }
+
+    /// Inserts the item, or puts it in the place of the one of its name.
+    pub(crate) fn overwrite(&mut self, item: Coarse) -> Result<(), AllocError> {
+        if self.find(&item.name).is_none() {
+            return self.put(item);
+        }
+        self.replace(item);
+        Ok(())
     }
 
     /// Whether an insertion of the item has this result. The list makes it too.
     pub(crate) fn inserts(&mut self, item: Coarse, answer: Inserted<Coarse>) -> Answer {
         match (self.find(&item.name), answer) {
-            (None, Inserted::Done) if !self.is_full() => {
+            (None, Inserted::Done) if self.has_room(1) => {
                 self.put(item)?;
                 Ok(true)
             }
@@ -129,27 +170,22 @@ impl Plain {
         }
     }
 
-    /// Whether a new item may be refused so, with memory at hand.
-    pub(crate) fn refuses(&self, error: TryReserveError) -> bool {
-        self.is_full() && error.is_capacity_overflow()
+    /// Whether room for a new item may be refused so. A refusal of memory is counted.
+    pub(crate) fn refuses(&mut self, error: TryReserveError) -> bool {
+        if error.is_capacity_overflow() {
+            return !self.has_room(1);
+        }
+        self.refusals = self.refusals.saturating_add(1);
+        true
     }
 
     /// The item that `or_insert` and its like show: the one there, or the new one, where there is room.
     pub(crate) fn shown(&mut self, item: Coarse) -> Result<Option<Coarse>, AllocError> {
         let old = self.find(&item.name);
-        if old.is_none() && !self.is_full() {
+        if old.is_none() && self.has_room(1) {
             self.put(item)?;
             return Ok(Some(item));
         }
         Ok(old)
-    }
-
-    /// Overwrites the item into the list.
-    pub(crate) fn overwrite(&mut self, item: Coarse) -> Result<(), AllocError> {
-        if self.find(&item.name).is_some() {
-            self.replace(item);
-            return Ok(());
-        }
-        self.put(item)
     }
 }

@@ -1,22 +1,38 @@
 //! The runs: lists of calls from fixed seeds. After each call the whole contents and the numbers are compared too, and
 //! `validate`.
 use crate::calls::holds_the_same;
-use crate::draws::Draws;
 use crate::lengths::{CALLS, MANY_CALLS, MAPS};
-use crate::many;
+use crate::many::{Written, collect};
 use crate::ordered::ascends;
-use crate::plain::{Answer, Pair, Plain};
-use crate::writing::Written;
+use crate::plain::{Answer, Draws, Pair, Plain};
 use iddqd::{IdHashMap, IdOrdMap, MAX_ITEMS};
 use std::alloc::{AllocError, Global};
 use std::collections::hash_map::RandomState;
 use std::hash::BuildHasherDefault;
 use std::process::Abort;
 use std::test::Fail;
+use test_support::bulk::Bulk;
 use test_support::caseless::Coarse;
 use test_support::coarse::{CoarseMap, Copied};
 use test_support::hashers::ZeroHasher;
 use test_support::maps::{Copying, Hashed, Ordered, by_hash};
+
+#[derive(Clone, Copy, Debug)]
+struct Run {
+    seed: u64,
+    calls: u32,
+    letters: u32,
+    limit: u32,
+}
+
+fn run_of(seed: u64, calls: u32, letters: u32, limit: u32) -> Run {
+    Run {
+        seed,
+        calls,
+        letters,
+        limit,
+    }
+}
 
 impl<M: CoarseMap + Copied + Written + Drop> Pair<M> {
     fn new(alloc: Global, run: Run, map: M) -> Pair<M> {
@@ -46,8 +62,8 @@ impl<M: CoarseMap + Copied + Written + Drop> Pair<M> {
             170..=177 => self.insert_and_write(),
             178..=182 => Ok(self.reserve()),
             183..=185 => Ok(self.shrink()),
-            186..=190 => self.extend(alloc),
-            191..=194 => self.extend_unique(alloc),
+            186..=190 => self.extend(alloc, false),
+            191..=194 => self.extend(alloc, true),
             195..=196 => self.copy(alloc),
             197 => Ok(self.write_copy()),
             198 => self.write_first(alloc),
@@ -55,36 +71,22 @@ impl<M: CoarseMap + Copied + Written + Drop> Pair<M> {
             _ => Ok(self.find()),
         }
     }
-
-    // Whether the map holds what the list does.
-    fn is_held(&self, walked: &[Coarse]) -> bool {
-        holds_the_same(&self.map, &self.plain, walked)
-    }
 }
 
-// What a run is made of.
-#[derive(Clone, Copy, Debug)]
-struct Run {
-    seed: u64,
-    calls: u32,
-    letters: u32,
-    limit: u32,
-}
-
-// Runs the calls on a hash map.
 fn run_hashed<M: CoarseMap + Copied + Written + Drop>(
-    rt: &impl Abort,
+    rt: &(impl Abort + Print),
     alloc: Global,
     run: Run,
     map: M,
-) -> Result<(), AllocError> {
+) -> Result<(), Fail> {
+    println!(rt; "{run:?}")?;
     let mut pair = Pair::new(alloc, run, map);
     for number in 0..run.calls {
         let drawn = pair.draws.below(200);
         let answered = pair.is_answered(alloc, drawn)?;
         assert!(rt; answered, "{run:?}: call {number}, {drawn}, is wrong");
         let walked = pair.map.listed(alloc)?;
-        let held = pair.is_held(walked.as_slice());
+        let held = holds_the_same(&pair.map, &pair.plain, walked.as_slice());
         assert!(rt; held, "{run:?}: call {number}, {drawn}, leaves others");
     }
     Ok(())
@@ -109,14 +111,14 @@ impl Pair<Ordered<Coarse>> {
             214..=215 => self.show_inserted(),
             216..=218 => Ok(self.position()),
             219 => Ok(self.remove_position()),
-            220..=222 => self.range(alloc),
-            _ => self.remove_range(alloc),
+            220..=222 => self.range(alloc, false),
+            _ => self.range(alloc, true),
         }
     }
 }
 
-// Runs the calls on an ordered map.
-fn run_ordered(rt: &impl Abort, alloc: Global, run: Run) -> Result<(), AllocError> {
+fn run_ordered(rt: &(impl Abort + Print), alloc: Global, run: Run) -> Result<(), Fail> {
+    println!(rt; "{run:?}")?;
     let map = Ordered::new(IdOrdMap::with_limit(alloc, run.limit));
     let mut pair = Pair::new(alloc, run, map);
     for number in 0..run.calls {
@@ -125,65 +127,42 @@ fn run_ordered(rt: &impl Abort, alloc: Global, run: Run) -> Result<(), AllocErro
         assert!(rt; answered, "{run:?}: call {number}, {drawn}, is wrong");
         let walked = pair.map.listed(alloc)?;
         let walked = walked.as_slice();
-        let held = pair.is_held(walked) && ascends(walked) && pair.has_ends();
+        let held = ascends(walked)
+            && pair.has_ends()
+            && holds_the_same(&pair.map, &pair.plain, walked);
         assert!(rt; held, "{run:?}: call {number}, {drawn}, leaves others");
-    }
-    Ok(())
-}
-
-// Runs of one kind, that differ in their seeds.
-fn of_kind(calls: u32, letters: u32, limit: u32) -> Run {
-    Run {
-        seed: 0,
-        calls,
-        letters,
-        limit,
-    }
-}
-
-// The run of the seed, once it is printed what it is made of.
-fn announced(rt: &impl Print, seed: u64, run: Run) -> Result<Run, Fail> {
-    let run = Run { seed, ..run };
-    println!(rt; "{run:?}")?;
-    Ok(run)
-}
-
-fn run_seeds(
-    rt: &(impl Abort + Print),
-    alloc: Global,
-    seeds: &[u64],
-    run: Run,
-) -> Result<(), Fail> {
-    for seed in seeds {
-        run_ordered(rt, alloc, announced(rt, *seed, run)?)?;
     }
     Ok(())
 }
 
 #[test]
 fn ordered_calls(rt: HostRuntime) -> Result<(), Fail> {
-    run_seeds(&rt, rt.alloc(), &[11, 12, 13], of_kind(CALLS, 3, MAX_ITEMS))
+    for seed in [11, 12, 13] {
+        run_ordered(&rt, rt.alloc(), run_of(seed, CALLS, 3, MAX_ITEMS))?;
+    }
+    Ok(())
 }
 
 #[test]
 fn ordered_calls_of_many_names(rt: HostRuntime) -> Result<(), Fail> {
-    run_seeds(
-        &rt,
-        rt.alloc(),
-        &[21, 22],
-        of_kind(MANY_CALLS, 7, MAX_ITEMS),
-    )
+    for seed in [21, 22] {
+        run_ordered(&rt, rt.alloc(), run_of(seed, MANY_CALLS, 7, MAX_ITEMS))?;
+    }
+    Ok(())
 }
 
 #[test]
 fn ordered_calls_at_the_limit(rt: HostRuntime) -> Result<(), Fail> {
-    run_seeds(&rt, rt.alloc(), &[31, 32], of_kind(CALLS, 3, 14))
+    for seed in [31, 32] {
+        run_ordered(&rt, rt.alloc(), run_of(seed, CALLS, 3, 14))?;
+    }
+    Ok(())
 }
 
 #[test]
 fn hash_calls(rt: HostRuntime) -> Result<(), Fail> {
     for seed in [41, 42] {
-        let run = announced(&rt, seed, of_kind(MANY_CALLS, 7, MAX_ITEMS))?;
+        let run = run_of(seed, MANY_CALLS, 7, MAX_ITEMS);
         run_hashed(&rt, rt.alloc(), run, by_hash::<Coarse>(rt.alloc()))?;
     }
     Ok(())
@@ -192,7 +171,7 @@ fn hash_calls(rt: HostRuntime) -> Result<(), Fail> {
 #[test]
 fn hash_calls_at_the_limit(rt: HostRuntime) -> Result<(), Fail> {
     for seed in [51, 52] {
-        let run = announced(&rt, seed, of_kind(CALLS, 3, 14))?;
+        let run = run_of(seed, CALLS, 3, 14);
         let hasher = iddqd::DefaultHashBuilder::new();
         let map = Hashed::new(IdHashMap::<Coarse>::with_limit(rt.alloc(), 14, hasher));
         run_hashed(&rt, rt.alloc(), run, map)?;
@@ -203,7 +182,7 @@ fn hash_calls_at_the_limit(rt: HostRuntime) -> Result<(), Fail> {
 #[test]
 fn calls_of_equal_hashes(rt: HostRuntime) -> Result<(), Fail> {
     for seed in [61, 62, 63] {
-        let run = announced(&rt, seed, of_kind(CALLS, 3, MAX_ITEMS))?;
+        let run = run_of(seed, CALLS, 3, MAX_ITEMS);
         let hasher: BuildHasherDefault<ZeroHasher> = BuildHasherDefault::new();
         let map = Hashed::new(IdHashMap::with_hasher(rt.alloc(), hasher));
         run_hashed(&rt, rt.alloc(), run, map)?;
@@ -214,7 +193,7 @@ fn calls_of_equal_hashes(rt: HostRuntime) -> Result<(), Fail> {
 #[test]
 fn calls_of_random_hashes(rt: HostRuntime) -> Result<(), Fail> {
     for seed in [71, 72] {
-        let run = announced(&rt, seed, of_kind(CALLS, 7, MAX_ITEMS))?;
+        let run = run_of(seed, CALLS, 7, MAX_ITEMS);
         let map = Hashed::new(IdHashMap::with_hasher(rt.alloc(), RandomState::new(&rt)?));
         run_hashed(&rt, rt.alloc(), run, map)?;
     }
@@ -222,17 +201,17 @@ fn calls_of_random_hashes(rt: HostRuntime) -> Result<(), Fail> {
 }
 
 // Maps that are made of many items, each compared with its list.
-fn make_many<M: CoarseMap + test_support::bulk::Bulk<Coarse> + Drop>(
+fn make_many<M: CoarseMap + Bulk<Coarse> + Drop>(
     rt: &impl Abort,
     alloc: Global,
     seed: u64,
 ) -> Result<(), AllocError> {
     let mut draws = Draws::new(seed, 3);
     for number in 0..MAPS {
-        let collected = many::collect::<M>(alloc, &mut draws)?;
-        assert!(rt; collected, "seed {seed}: from_iter, map {number}");
-        let unique = many::collect_unique::<M>(alloc, &mut draws)?;
-        assert!(rt; unique, "seed {seed}: from_iter_unique, map {number}");
+        for is_unique in [false, true] {
+            let made = collect::<M>(alloc, &mut draws, is_unique)?;
+            assert!(rt; made, "seed {seed}: map {number}, unique: {is_unique}");
+        }
     }
     Ok(())
 }
