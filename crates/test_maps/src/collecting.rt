@@ -22,7 +22,7 @@ fn repeats<M: Bulk<T> + Drop, T: Copy + PartialEq + Drop>(
     };
     check(rt, *repeat.new_item() == later);
     check(rt, repeat.duplicates().len() == 1);
-    check(rt, repeat.duplicates().get(0) == Some(&items[0]));
+    check(rt, repeat.duplicates().get(0) == items.as_slice().first());
     Ok(())
 }
 

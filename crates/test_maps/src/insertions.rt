@@ -8,7 +8,7 @@ use test_support::maps::{Copying, Inserted, by_hash, in_order};
 use test_support::walks::Walked;
 
 /// An item that holds more than its key.
-pub(crate) type Wide = Filed<u8, [char; 3]>;
+pub(crate) type Wide = Filed<u8, (char, char, char)>;
 
 /// Items, each with what its insertion leaves.
 pub(crate) type Rows<'a, T> = &'a [(T, Inserted<T>)];
@@ -56,7 +56,7 @@ fn insert_unique(rt: HostRuntime) {
 
 /// An item of this number with three letters.
 pub(crate) fn wide(key: u8, letter: char, first: char) -> Wide {
-    let value = [letter, first, 'v'];
+    let value = (letter, first, 'v');
     Filed { key, value }
 }
 

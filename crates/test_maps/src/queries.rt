@@ -45,9 +45,9 @@ where
     let first = released(*b"artifact1", 10, 1);
     check(rt, map.is_put(first));
     check(rt, map.is_put(released(*b"artifact2", 10, 2)));
-    check(rt, map.get(&first.key) == Some(&first));
+    check(rt, map.get(&first.key).copied() == Some(first));
     let other = released(*b"artifact1", 20, 0).key;
-    check(rt, map.get(&other) == None);
+    check(rt, map.get(&other).copied() == None);
 }
 
 #[test]
