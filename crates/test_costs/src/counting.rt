@@ -1,10 +1,10 @@
 //! A key that counts its own comparisons shows the number that `Steps` shows, so no comparison goes past it.
-use crate::numbers::{Outcome, find, put, take};
+use crate::numbers::{find, put, take};
 use crate::prelude::*;
 use iddqd::IdOrdItem;
 
 // The call did what is wanted, and its steps are the comparisons that the keys have counted.
-fn tell((is_done, steps): Outcome, wanted: bool, meter: Meter<'_>) {
+fn tell((is_done, steps): (bool, u32), wanted: bool, meter: Meter<'_>) {
     meter.hold(is_done == wanted && meter.counts.since().1 == steps);
 }
 
@@ -37,12 +37,8 @@ fn ordered_steps_are_comparisons(rt: HostRuntime) -> Result<(), Fail> {
     for count in [0, 1, 12, 100] {
         let items = meter.counts.items(rt.alloc(), 0, count)?;
         let absent = meter.counts.items(rt.alloc(), 1, count)?;
-        ordered_steps(
-            in_order(rt.alloc()),
-            items.as_slice(),
-            absent.as_slice(),
-            meter,
-        );
+        let (items, absent) = (items.as_slice(), absent.as_slice());
+        ordered_steps(in_order(rt.alloc()), items, absent, meter);
     }
     tally.end()
 }
@@ -70,38 +66,27 @@ fn hashed_steps_are_comparisons(rt: HostRuntime) -> Result<(), Fail> {
     tally.end()
 }
 
-// A plain lookup of each of the items, its removal if it is there, and its insertion keep within the bound. If it was
-// not there, it is taken out again.
-fn all_keep_bound<'a, M: Metered<'a>>(
-    map: &mut M,
-    items: &[Tallied<'a>],
-    are_there: bool,
-    bound: u32,
-    meter: Meter<'a>,
-) {
-    for item in items {
-        meter.hold(map.get(&item.key).is_some() == are_there && meter.counts.since().1 <= bound);
-        let gone = map.remove(&item.key);
-        meter.hold(gone.is_some() == are_there && meter.counts.since().1 <= bound);
-        meter.hold(map.is_put(*item) && meter.counts.since().1 <= bound);
-        if !are_there {
-            let _ = map.remove(&item.key);
-            let _ = meter.counts.since();
-        }
-    }
-}
-
-// The insertion of an item that is there is into a map with one item less.
+// Plain lookups, removals and insertions keep within the bound. The insertion of an item that is there is into a map with
+// one item less.
 fn plain_calls<'a, M: Metered<'a>>(
     alloc: Global,
     (count, bound): (u32, u32),
     meter: Meter<'a>,
 ) -> Result<(), Fail> {
     let items = meter.counts.items(alloc, 0, count)?;
-    let absent = meter.counts.items(alloc, 1, count.max(1))?;
     let mut map = meter.map_of::<M>(alloc, items.as_slice())?;
-    all_keep_bound(&mut map, items.as_slice(), true, bound, meter);
-    all_keep_bound(&mut map, absent.as_slice(), false, bound, meter);
+    for item in items {
+        meter.tell_within(map.get(&item.key).is_some(), bound);
+        meter.tell_within(map.remove(&item.key).is_some(), bound);
+        meter.tell_within(map.is_put(item), bound);
+    }
+    for item in meter.counts.items(alloc, 1, count.max(1))? {
+        meter.tell_within(map.get(&item.key).is_none(), bound);
+        meter.tell_within(map.remove(&item.key).is_none(), bound);
+        meter.tell_within(map.is_put(item), bound);
+        let _ = map.remove(&item.key);
+        let _ = meter.counts.since();
+    }
     Ok(())
 }
 
