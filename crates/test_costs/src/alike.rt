@@ -1,5 +1,9 @@
 //! Equality and copies of maps: what they cost, and how often items are compared.
+ghost use Rattle.iddqd.specs.Contents.{ClonesKeepKeys};
+
 use crate::prelude::*;
+use iddqd::{IdHashItem, IdOrdItem};
+use std::hash::BuildHasher;
 
 // Two maps of twenty items. No key has counted since.
 fn both<'a, M: Metered<'a>>(alloc: Global, meter: Meter<'a>) -> Result<(M, M), Fail> {
@@ -8,31 +12,55 @@ fn both<'a, M: Metered<'a>>(alloc: Global, meter: Meter<'a>) -> Result<(M, M), F
     Ok((one, meter.map_of(alloc, items.as_slice())?))
 }
 
+fn equal_in_order<T>((one, other): (Ordered<T>, Ordered<T>), meter: Meter<'_>)
+where
+    T: IdOrdItem + Drop + PartialEq,
+{
+    meter.tell(one.map() == other.map(), (0, 0));
+    meter.hold(meter.counts.items_compared() == 20);
+}
+
 // Each of the twenty items is compared once.
 #[test]
 fn equality_compares_no_keys(rt: HostRuntime) -> Result<(), Fail> {
     let tally = Tally::default();
-    let meter = tally.of_order();
-    let (one, other) = both::<Ordered<Tallied<'_>>>(rt.alloc(), meter)?;
-    meter.tell(one.map() == other.map(), (0, 0));
-    meter.hold(meter.counts.items_compared() == 20);
+    equal_in_order(both(rt.alloc(), tally.of_order())?, tally.of_order());
     tally.end()
+}
+
+fn equal_by_hash<T, S>((one, other): (Hashed<T, S>, Hashed<T, S>), meter: Meter<'_>)
+where
+    T: IdHashItem + Copy + Drop + PartialEq,
+    S: BuildHasher + Drop,
+{
+    for item in one.map().iter() {
+        let _ = other.get_counted(item.key());
+    }
+    let each = meter.counts.since();
+    meter.hold(each.0 == 20);
+    meter.tell(one.map().eq(other.map()), each);
+    meter.hold(meter.counts.items_compared() == 20);
 }
 
 // Each item of one map is looked up in the other, once, and compared with what is found.
 #[test]
 fn hash_equality_looks_each_item_up(rt: HostRuntime) -> Result<(), Fail> {
     let tally = Tally::default();
-    let meter = tally.of_hashes();
-    let (one, other) = both::<ByZero<'_>>(rt.alloc(), meter)?;
-    for item in one.map().iter() {
-        let _ = other.get_counted(&item.key);
-    }
-    let each = meter.counts.since();
-    meter.hold(each.0 == 20);
-    meter.tell(one.map().eq(other.map()), each);
-    meter.hold(meter.counts.items_compared() == 20);
+    let maps: (ByZero<'_>, ByZero<'_>) = both(rt.alloc(), tally.of_hashes())?;
+    equal_by_hash(maps, tally.of_hashes());
     tally.end()
+}
+
+fn copied_in_order<T: IdOrdItem + Copy + Drop>(map: Ordered<T>, meter: Meter<'_>)
+    requires keeps_keys { ClonesKeepKeys T.key T.Key.eq T.is_clone }
+{
+    meter.tell(map.map().clone().is_ok_and(|copy| copy.len() == 50), (0, 0));
+}
+
+fn copied_by_hash<T: IdHashItem + Copy + Drop>(map: Hashed<T>, meter: Meter<'_>)
+    requires keeps_keys { ClonesKeepKeys T.key T.Key.eq T.is_clone }
+{
+    meter.tell(map.map().clone().is_ok_and(|copy| copy.len() == 50), (0, 0));
 }
 
 #[test]
@@ -40,9 +68,7 @@ fn copies_cost_none(rt: HostRuntime) -> Result<(), Fail> {
     let tally = Tally::default();
     let meter = tally.of_order();
     let items = meter.counts.items(rt.alloc(), 0, 50)?;
-    let map: Ordered<Tallied<'_>> = meter.map_of(rt.alloc(), items.as_slice())?;
-    meter.tell(map.map().clone().is_ok_and(|copy| copy.len() == 50), (0, 0));
-    let map: Hashed<Tallied<'_>> = meter.map_of(rt.alloc(), items.as_slice())?;
-    meter.tell(map.map().clone().is_ok_and(|copy| copy.len() == 50), (0, 0));
+    copied_in_order(meter.map_of(rt.alloc(), items.as_slice())?, meter);
+    copied_by_hash(meter.map_of(rt.alloc(), items.as_slice())?, meter);
     tally.end()
 }

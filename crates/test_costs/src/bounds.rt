@@ -3,13 +3,16 @@ use crate::prelude::*;
 use iddqd::IdOrdItem;
 use std::ops::Bound;
 
+fn ends<T: IdOrdItem + Copy + Drop>(mut map: Ordered<T>, meter: Meter<'_>) {
+    meter.tell(map.use_ends(), (0, 0));
+}
+
 #[test]
 fn ends_compare_none(rt: HostRuntime) -> Result<(), Fail> {
     let tally = Tally::default();
     let meter = tally.of_order();
     let items = meter.counts.items(rt.alloc(), 0, 50)?;
-    let mut map: Ordered<Tallied<'_>> = meter.map_of(rt.alloc(), items.as_slice())?;
-    meter.tell(map.use_ends(), (0, 0));
+    ends(meter.map_of(rt.alloc(), items.as_slice())?, meter);
     tally.end()
 }
 
@@ -22,7 +25,7 @@ fn finds_bounds<T: IdOrdItem + Copy + Drop>(map: &Ordered<T>, key: &T::Key, mete
     meter.tell(true, once);
     let from = (Bound::Included(key), Bound::Unbounded);
     let _ = map.map().range::<T::Key, _>(from);
-    meter.tell(true, once);
+    meter.tell(matches!(from, (_, Bound::Unbounded)), once);
     for bound in [Bound::Included(key), Bound::Excluded(key)] {
         let _ = map.lower_bound(bound);
         meter.tell(true, once);
@@ -32,19 +35,25 @@ fn finds_bounds<T: IdOrdItem + Copy + Drop>(map: &Ordered<T>, key: &T::Key, mete
 }
 
 // Both bounds of a range are, and the removal of a range compares no more.
-fn finds_ranges<T: IdOrdItem + Copy + Drop>(
-    map: &mut Ordered<T>,
-    low: &T::Key,
-    high: &T::Key,
+fn bounds<T: IdOrdItem + Copy + Drop>(
+    mut map: Ordered<T>,
+    items: &[T],
+    absent: &[T],
+    ranges: [(T, T); 2],
     meter: Meter<'_>,
 ) {
-    let (_, of_low) = meter.once(map, low);
-    let (_, of_high) = meter.once(map, high);
-    let both = of_low.saturating_add(of_high);
-    let between = (Bound::Included(low), Bound::Excluded(high));
-    let (_, steps) = map.count_between(between);
-    meter.tell(steps == both, (0, both));
-    meter.tell(map.remove_range(between) == 3, (0, both));
+    for item in items.iter().chain(absent) {
+        finds_bounds(&map, item.key(), meter);
+    }
+    for (low, high) in ranges {
+        let (_, of_low) = meter.once(&map, low.key());
+        let (_, of_high) = meter.once(&map, high.key());
+        let both = of_low.saturating_add(of_high);
+        let between = (Bound::Included(low.key()), Bound::Excluded(high.key()));
+        let (_, steps) = map.count_between(between);
+        meter.tell(steps == both, (0, both));
+        meter.tell(map.remove_range(between) == 3, (0, both));
+    }
 }
 
 // The even numbers are there, and the odd ones are not.
@@ -53,13 +62,16 @@ fn bounds_search_once(rt: HostRuntime) -> Result<(), Fail> {
     let tally = Tally::default();
     let meter = tally.of_order();
     let items = meter.counts.items(rt.alloc(), 0, 50)?;
-    let mut map: Ordered<Tallied<'_>> = meter.map_of(rt.alloc(), items.as_slice())?;
-    for number in 0..100 {
-        finds_bounds(&map, &meter.counts.key(number), meter);
-    }
-    for (low, high) in [(14, 20), (41, 47)] {
-        let (low, high) = (meter.counts.key(low), meter.counts.key(high));
-        finds_ranges(&mut map, &low, &high, meter);
-    }
+    let absent = meter.counts.items(rt.alloc(), 1, 50)?;
+    let (items, absent) = (items.as_slice(), absent.as_slice());
+    let item = |number| meter.counts.item(number);
+    let ranges = [(item(14), item(20)), (item(41), item(47))];
+    bounds(
+        meter.map_of(rt.alloc(), items)?,
+        items,
+        absent,
+        ranges,
+        meter,
+    );
     tally.end()
 }

@@ -1,37 +1,44 @@
 //! A key that counts its own comparisons shows the number that `Steps` shows, so no comparison goes past it.
-use crate::numbers::{Outcome, find, put, take};
+use crate::numbers::{find, put, take};
 use crate::prelude::*;
+use iddqd::IdOrdItem;
 
 // The call did what is wanted, and its steps are the comparisons that the keys have counted.
-fn tell((is_done, steps): Outcome, wanted: bool, meter: Meter<'_>) {
+fn tell((is_done, steps): (bool, u32), wanted: bool, meter: Meter<'_>) {
     meter.hold(is_done == wanted && meter.counts.since().1 == steps);
 }
 
 // Each item is inserted, and then a duplicate. Then absent ones and those that are there are looked up and removed.
-fn ordered_counts(alloc: Global, count: u32, meter: Meter<'_>) -> Result<(), Fail> {
-    let items = meter.counts.items(alloc, 0, count)?;
-    let mut map = in_order(alloc);
-    for item in items.as_slice() {
+fn ordered_steps<T: IdOrdItem + Copy + Drop>(
+    mut map: Ordered<T>,
+    items: &[T],
+    absent: &[T],
+    meter: Meter<'_>,
+) {
+    for item in items {
         tell(put(&mut map, *item), true, meter);
         tell(put(&mut map, *item), false, meter);
     }
-    for item in meter.counts.items(alloc, 1, count)? {
-        tell(find(&map, &item.key), false, meter);
-        tell(take(&mut map, &item.key), false, meter);
+    for item in absent {
+        tell(find(&map, item.key()), false, meter);
+        tell(take(&mut map, item.key()), false, meter);
     }
     for item in items {
-        tell(find(&map, &item.key), true, meter);
-        tell(take(&mut map, &item.key), true, meter);
+        tell(find(&map, item.key()), true, meter);
+        tell(take(&mut map, item.key()), true, meter);
     }
     meter.hold(map.len() == 0);
-    Ok(())
 }
 
 #[test]
 fn ordered_steps_are_comparisons(rt: HostRuntime) -> Result<(), Fail> {
     let tally = Tally::default();
+    let meter = tally.of_order();
     for count in [0, 1, 12, 100] {
-        ordered_counts(rt.alloc(), count, tally.of_order())?;
+        let items = meter.counts.items(rt.alloc(), 0, count)?;
+        let absent = meter.counts.items(rt.alloc(), 1, count)?;
+        let (items, absent) = (items.as_slice(), absent.as_slice());
+        ordered_steps(in_order(rt.alloc()), items, absent, meter);
     }
     tally.end()
 }
@@ -59,37 +66,35 @@ fn hashed_steps_are_comparisons(rt: HostRuntime) -> Result<(), Fail> {
     tally.end()
 }
 
-// A plain lookup of each of the items, its removal if it is there, and its insertion keep within the bound. If it was
-// not there, it is taken out again.
-fn all_keep_bound<'a, M: Metered<'a>>(
-    map: &mut M,
-    items: &[Tallied<'a>],
-    are_there: bool,
-    bound: u32,
+// Plain lookups, removals and insertions keep within the bound. The insertion of an item that is there is into a map with
+// one item less.
+fn plain_calls<'a, M: Metered<'a>>(
+    alloc: Global,
+    (count, bound): (u32, u32),
     meter: Meter<'a>,
-) {
+) -> Result<(), Fail> {
+    let items = meter.counts.items(alloc, 0, count)?;
+    let mut map = meter.map_of::<M>(alloc, items.as_slice())?;
     for item in items {
-        meter.hold(map.get(&item.key).is_some() == are_there && meter.counts.since().1 <= bound);
-        meter.hold(map.remove(&item.key).is_some() == are_there && meter.counts.since().1 <= bound);
-        meter.hold(map.is_put(*item) && meter.counts.since().1 <= bound);
-        if !are_there {
-            let _ = map.remove(&item.key);
-            let _ = meter.counts.since();
-        }
+        meter.tell_within(map.get(&item.key).is_some(), bound);
+        meter.tell_within(map.remove(&item.key).is_some(), bound);
+        meter.tell_within(map.is_put(item), bound);
     }
+    for item in meter.counts.items(alloc, 1, count.max(1))? {
+        meter.tell_within(map.get(&item.key).is_none(), bound);
+        meter.tell_within(map.remove(&item.key).is_none(), bound);
+        meter.tell_within(map.is_put(item), bound);
+        let _ = map.remove(&item.key);
+        let _ = meter.counts.since();
+    }
+    Ok(())
 }
 
-// The insertion of an item that is there is into a map with one item less.
 #[test]
 fn plain_calls_keep_the_bound(rt: HostRuntime) -> Result<(), Fail> {
     let tally = Tally::default();
-    let meter = tally.of_order();
-    for (count, bound) in [(0, 4), (1, 6), (11, 12), (12, 12), (1000, 24)] {
-        let items = meter.counts.items(rt.alloc(), 0, count)?;
-        let absent = meter.counts.items(rt.alloc(), 1, count.max(1))?;
-        let mut map: Ordered<Tallied<'_>> = meter.map_of(rt.alloc(), items.as_slice())?;
-        all_keep_bound(&mut map, items.as_slice(), true, bound, meter);
-        all_keep_bound(&mut map, absent.as_slice(), false, bound, meter);
+    for row in [(0, 4), (1, 6), (11, 12), (12, 12), (1000, 24)] {
+        plain_calls::<Ordered<Tallied<'_>>>(rt.alloc(), row, tally.of_order())?;
     }
     tally.end()
 }

@@ -2,7 +2,6 @@
 use crate::prelude::*;
 use iddqd::errors::{ExtendError, FromIterError, TryReserveError};
 use iddqd::{DefaultHashBuilder, IdHashMap, IdOrdMap};
-use test_support::bulk::{Bulk, Hinted};
 use test_support::maps::Added;
 use test_support::new_items::numbered;
 

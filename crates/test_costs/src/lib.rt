@@ -19,8 +19,6 @@ mod many;
 #[cfg(test)]
 mod many_items;
 #[cfg(test)]
-mod meter;
-#[cfg(test)]
 mod numbers;
 #[cfg(test)]
 mod prelude;

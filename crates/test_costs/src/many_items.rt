@@ -1,6 +1,5 @@
 //! Calls of many items cost as many insertions or removals, and walks, room and copies no comparison.
 use crate::prelude::*;
-use test_support::bulk::Hinted;
 use test_support::maps::Added;
 use test_support::walks::Walked;
 

@@ -1,6 +1,6 @@
 //! Items by their numbers, and calls with how many steps they took.
 use crate::prelude::*;
-use iddqd::{IdHashItem, IdHashMap, IdOrdItem};
+use iddqd::{IdHashMap, IdOrdItem};
 use std::hash::BuildHasherDefault;
 use test_support::hashers::ZeroHasher;
 
@@ -39,26 +39,22 @@ where
 }
 
 /// An empty hash map whose every hash is 0.
-pub(crate) fn of_equal_hashes<T: IdHashItem>(
-    alloc: Global,
-) -> Hashed<T, BuildHasherDefault<ZeroHasher>> {
+pub(crate) fn of_equal_hashes(alloc: Global) -> Hashed<Numbered, BuildHasherDefault<ZeroHasher>> {
     Hashed::new(IdHashMap::with_hasher(alloc, BuildHasherDefault::new()))
 }
 
-/// Whether a call found, inserted or removed an item, and how many steps it took.
-pub(crate) type Outcome = (bool, u32);
-
-pub(crate) fn find<T: Drop, K, M: UnderTest<T, K>>(map: &M, key: &K) -> Outcome {
+/// Whether a call found an item, and how many steps it took. `put` and `take` tell the same of theirs.
+pub(crate) fn find<T: Drop, K, M: UnderTest<T, K>>(map: &M, key: &K) -> (bool, u32) {
     let (found, steps) = map.get_counted(key);
     (found.is_some(), steps)
 }
 
-pub(crate) fn put<T: IdOrdItem + Copy>(map: &mut Ordered<T>, item: T) -> Outcome {
+pub(crate) fn put<T: IdOrdItem + Copy>(map: &mut Ordered<T>, item: T) -> (bool, u32) {
     let (inserted, steps) = map.insert_counted(item);
     (matches!(inserted, Inserted::Done), steps)
 }
 
-pub(crate) fn take<T: IdOrdItem + Copy>(map: &mut Ordered<T>, key: &T::Key) -> Outcome {
+pub(crate) fn take<T: IdOrdItem + Copy>(map: &mut Ordered<T>, key: &T::Key) -> (bool, u32) {
     let (taken, steps) = map.remove_counted(key);
     (taken.is_some(), steps)
 }

@@ -1,18 +1,21 @@
 //! A hash map keeps the hash of each key, and grows by it.
 use crate::prelude::*;
-use test_support::counting::Counts;
 use test_support::nine::IDS;
 
 // The map of those that are kept makes room twice and hashes none of their keys.
-#[test]
-fn stored_hashes(rt: HostRuntime) {
-    let counts = Counts::default();
-    let mut map = by_hash(rt.alloc());
+fn makes_room_unhashed<'a, M: Metered<'a>>(mut map: M, meter: Meter<'a>) {
     for number in IDS {
-        check(&rt, map.is_put(counts.item(number)));
+        meter.hold(map.is_put(meter.counts.item(number)));
     }
-    map.retain(|item: &Tallied<'_>| item.key.number % 2 == 1 && item.key.number % 3 != 0);
-    check(&rt, map.len() == 9 && counts.since().0 >= 25);
+    map.retain(|item| item.key.number % 2 == 1 && item.key.number % 3 != 0);
+    meter.hold(map.len() == 9 && meter.counts.since().0 >= 25);
     let has_room = map.reserve(10).is_ok() && map.reserve(1000).is_ok();
-    check(&rt, has_room && counts.since().0 == 0);
+    meter.hold(has_room && meter.counts.since().0 == 0);
+}
+
+#[test]
+fn stored_hashes(rt: HostRuntime) -> Result<(), Fail> {
+    let tally = Tally::default();
+    makes_room_unhashed::<Hashed<Tallied<'_>>>(by_hash(rt.alloc()), tally.of_hashes());
+    tally.end()
 }

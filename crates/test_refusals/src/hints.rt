@@ -20,7 +20,7 @@ fn lied_to<M: Copying<Named, [u8; 3]> + Drop>(alloc: Global, mut map: M) -> Word
     let refused = (put_at_last(&mut map, FOO), put_at_last(&mut map, BAR));
     let is_kept = is_empty_kept && is_not_taken_in(&mut map);
     let is_met = is_met(alloc);
-    let has_both = map.get(b"foo") == Some(&FOO) && map.get(b"bar") == Some(&BAR);
+    let has_both = map.get(b"foo").copied() == Some(FOO) && map.get(b"bar").copied() == Some(BAR);
     let is_whole = is_kept && has_both && map.len() == 2 && map.is_sound();
     let rows = rows! {
         "no_item_refused": ((Some(false), Some(false)), false, true);
