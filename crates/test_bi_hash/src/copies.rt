@@ -146,13 +146,15 @@ fn keys_for_debugging(rt: HostRuntime) {
     let falling =
         "{(2, 102): Host { number: 2, address: 102, load: 8 }, (1, 101): Host { number: 1, address: 101, load: 7 }}";
     let alloc = rt.alloc();
-    for (hosts, texts) in [
-        (Hosts::new(alloc), &["{}"][..]),
-        (one(&rt, alloc), &[keyed]),
-        (two(&rt, alloc), &[rising, falling]),
-    ] {
-        check(&rt, is_debugged(alloc, &hosts.map.debug_with_keys(), texts));
-    }
+    let hosts = Hosts::new(alloc);
+    let shown = hosts.map.debug_with_keys();
+    check(&rt, is_debugged(alloc, &shown, &["{}"]));
+    let hosts = one(&rt, alloc);
+    let shown = hosts.map.debug_with_keys();
+    check(&rt, is_debugged(alloc, &shown, &[keyed]));
+    let hosts = two(&rt, alloc);
+    let shown = hosts.map.debug_with_keys();
+    check(&rt, is_debugged(alloc, &shown, &[rising, falling]));
 }
 
 // Writes a load, and shows the guard, before it is spent and after.

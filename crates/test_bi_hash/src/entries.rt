@@ -1,6 +1,7 @@
 //! Entries: what they find, and what they insert, replace and remove.
 use crate::held::{Held, Host, Hosts, Met, check, host, host_of, met, shown};
 use iddqd_bi_hash::bi_hash_map::Entry;
+use iddqd_bi_hash::{BiHashMap, Keyed};
 use std::process::Abort;
 
 #[derive(Clone, Copy)]
@@ -10,33 +11,15 @@ enum Use {
     Replace,
     // Writes the load of the host that has both keys.
     Load,
-    // `insert` of a vacant one.
-    Insert,
-    // `insert_entry` of a vacant one, and `remove` of that.
-    InsertAndRemove,
 }
 
 impl Held<Host> {
     // Does this with the entry of the host's keys: the hosts that it has, and whether it is one that has both. It is
-    // `None` if the entry is of the other kind.
+    // `None` if the entry is vacant.
     #[tactic(auto, using(iddqd_bi_hash::proofs::GuardLemmas::both_keys_kept))]
     fn entered(&mut self, what: Use, new: Host) -> Option<(Met, bool)> {
         match self.map.entry(&new.number, &new.address) {
-            Entry::Vacant(entry) => match what {
-                Use::Insert => match entry.insert(new) {
-                    Ok(added) => {
-                        let shown = *added;
-                        added.finish();
-                        Some(((Some(shown), None), true))
-                    }
-                    Err(_refused) => None,
-                },
-                Use::InsertAndRemove => match entry.insert_entry(new) {
-                    Ok(added) => Some((met(&added.remove()), true)),
-                    Err(_refused) => None,
-                },
-                _ => None,
-            },
+            Entry::Vacant(_) => None,
             Entry::Occupied(mut entry) => {
                 let is_unique = entry.is_unique();
                 let hosts = match what {
@@ -47,7 +30,6 @@ impl Held<Host> {
                         (Some(new), None)
                     }
                     Use::Show | Use::Load => shown(&entry.items()),
-                    Use::Insert | Use::InsertAndRemove => return None,
                 };
                 Some((hosts, is_unique))
             }
@@ -61,12 +43,39 @@ impl Held<Host> {
     }
 }
 
+// Inserts the host as an entry, and removes it by that again. It is `None` if it was not inserted.
+fn passed_through(map: &mut BiHashMap<Host>, new: Host) -> Option<Host>
+    requires keyed { ⟦<BiHashMap<Host> as Keyed>⟧.keyed map.old }
+    ensures keyed { ⟦<BiHashMap<Host> as Keyed>⟧.keyed map.new }
+{
+    match map.entry(&new.number, &new.address) {
+        Entry::Vacant(entry) => match entry.insert_entry(new) {
+            Ok(added) => added.remove().get(0).copied(),
+            Err(_refused) => None,
+        },
+        Entry::Occupied(_) => None,
+    }
+}
+
+// Whether a vacant entry inserts the host.
+fn is_inserted(all: Hosts, new: Host) -> bool {
+    let mut map = all.map;
+    let is_in = match map.entry(&new.number, &new.address) {
+        Entry::Vacant(entry) => match entry.insert(new) {
+            Ok(added) => {
+                added.finish();
+                true
+            }
+            Err(_refused) => false,
+        },
+        Entry::Occupied(_) => false,
+    };
+    is_in && map.len() == 1
+}
+
 #[test]
 fn a_vacant_entry_inserts(rt: HostRuntime) {
-    let mut all = Hosts::new(rt.alloc());
-    let lent = ((Some(host(1)), None), true);
-    all.enter(&rt, &[(Use::Insert, host(1), Some(lent))]);
-    check(&rt, all.holds(&[host(1)]));
+    check(&rt, is_inserted(Hosts::new(rt.alloc()), host(1)));
 }
 
 // The keys of one host, of two, of one alone, and of none.
@@ -109,12 +118,9 @@ fn an_entry_of_two_is_replaced(rt: HostRuntime) {
 #[test]
 fn an_inserted_entry_has_the_item(rt: HostRuntime) {
     let mut all = Hosts::below(&rt, rt.alloc(), 2);
-    let lent = ((Some(host(2)), None), true);
-    let rows = [
-        (Use::InsertAndRemove, host(2), Some(lent)),
-        (Use::InsertAndRemove, host(1), None),
-    ];
-    all.enter(&rt, &rows);
+    for (new, back) in [(host(2), Some(host(2))), (host(1), None)] {
+        check(&rt, passed_through(&mut all.map, new) == back);
+    }
     check(&rt, all.holds(&[host(0), host(1)]));
 }
 

@@ -1,6 +1,7 @@
 //! `or_insert` and `or_insert_with`: what an entry of no host, of one, and of two lends.
-use crate::held::{Held, Host, Hosts, Met, check, host, host_of, shown};
+use crate::held::{Host, Hosts, Met, check, host, host_of, shown};
 use iddqd_bi_hash::bi_hash_map::OccupiedEntryMut;
+use iddqd_bi_hash::{BiHashMap, Keyed};
 
 // The hosts that are lent, before a write, and whether that is by a guard, which writes the load. It is `None` if memory
 // is refused.
@@ -21,25 +22,26 @@ macro_rules! written {
     };
 }
 
-impl Held<Host> {
-    #[tactic(auto, using(iddqd_bi_hash::proofs::GuardLemmas::both_keys_kept))]
-    fn or_insert(&mut self, new: Host, load: u32) -> Option<(Met, bool)> {
-        written!(
-            self.map.entry(&new.number, &new.address).or_insert(new),
-            load
-        )
-    }
+#[tactic(auto, using(iddqd_bi_hash::proofs::GuardLemmas::both_keys_kept))]
+fn or_insert(map: &mut BiHashMap<Host>, new: Host, load: u32) -> Option<(Met, bool)>
+    requires keyed { ⟦<BiHashMap<Host> as Keyed>⟧.keyed map.old }
+    ensures keyed { ⟦<BiHashMap<Host> as Keyed>⟧.keyed map.new }
+{
+    written!(map.entry(&new.number, &new.address).or_insert(new), load)
+}
 
-    // Counts how often it asks for the host, and writes the number for the load.
-    #[tactic(auto, using(iddqd_bi_hash::proofs::GuardLemmas::both_keys_kept))]
-    fn or_insert_with(&mut self, new: Host, asked: &mut u32) -> Option<(Met, bool)> {
-        let make = || {
-            *asked = asked.saturating_add(1);
-            new
-        };
-        let entry = self.map.entry(&new.number, &new.address);
-        written!(entry.or_insert_with(make), new.number)
-    }
+// Counts how often it asks for the host, and writes the number for the load.
+#[tactic(auto, using(iddqd_bi_hash::proofs::GuardLemmas::both_keys_kept))]
+fn or_insert_with(map: &mut BiHashMap<Host>, new: Host, asked: &mut u32) -> Option<(Met, bool)>
+    requires keyed { ⟦<BiHashMap<Host> as Keyed>⟧.keyed map.old }
+    ensures keyed { ⟦<BiHashMap<Host> as Keyed>⟧.keyed map.new }
+{
+    let make = || {
+        *asked = asked.saturating_add(1);
+        new
+    };
+    let entry = map.entry(&new.number, &new.address);
+    written!(entry.or_insert_with(make), new.number)
 }
 
 // A new host is inserted and lent, one of both keys is lent, and two are left as they are, or one of one key.
@@ -53,7 +55,7 @@ fn an_entry_inserts_if_vacant(rt: HostRuntime) {
         (host_of(1, 102, 9), 9, ((Some(written), two), false)),
         (host_of(9, 102, 9), 9, ((two, None), false)),
     ] {
-        check(&rt, all.or_insert(new, load) == Some(lent));
+        check(&rt, or_insert(&mut all.map, new, load) == Some(lent));
     }
     let last = host_of(3, 103, 7);
     check(&rt, all.holds(&[host(0), written, host(2), last]));
@@ -70,7 +72,10 @@ fn a_host_is_made_if_vacant(rt: HostRuntime) {
         (host_of(1, 102, 9), ((one, two), false), 0, 3),
         (host(3), ((Some(host(3)), None), true), 1, 4),
     ] {
-        check(&rt, all.or_insert_with(new, &mut asked) == Some(lent));
+        check(
+            &rt,
+            or_insert_with(&mut all.map, new, &mut asked) == Some(lent),
+        );
         check(&rt, asked == count && all.holds_below(length));
     }
 }
