@@ -1,11 +1,12 @@
 //! Walks: a caller's loop is a loop over the plain list of the items.
-ghost use Rattle.std.specs.Prelude.{◌≡◌, ◌≤◌, sum_by};
+ghost use Rattle.std.specs.Prelude.{◌≡◌, ◌≤◌, filter, nat_lt, sum_by};
 ghost use Rattle.std.specs.Ordering.{nat_cmp};
 ghost use Rattle.iddqd.specs.Contents.{Ascends};
+ghost use Rattle.iddqd.specs.IdHashMap.{IsKeyedByText};
 ghost use Rattle.test_writers.specs.Zeroed.{zeroed, changed_to};
 
 use iddqd::{IdHashMap, IdOrdMap};
-use test_writers::items::Pair;
+use test_writers::items::{Named, Pair};
 
 /// The sum of the values, along the ordered map.
 fn sum_in_order(all: &IdOrdMap<Pair>) -> u64
@@ -53,4 +54,13 @@ fn zero_first(all: &mut IdOrdMap<Pair>)
     if let Some(pair) = walk.next() {
         pair.value = 0;
     }
+}
+
+/// Keeps the items of greater value.
+fn keep_greater(all: &mut IdHashMap<Named>, least: u32)
+    requires keyed { IsKeyedByText (λ x. x.name) all.old }
+    ensures kept { all.new.items ≡ filter (λ x. nat_lt least x.value) all.old.items }
+    ensures keyed { IsKeyedByText (λ x. x.name) all.new }
+{
+    all.retain(|x| least < x.value);
 }
