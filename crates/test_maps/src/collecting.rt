@@ -17,7 +17,8 @@ fn repeats<M: Bulk<T> + Drop, T: Copy + PartialEq + Drop>(
     items: [T; 3],
     later: T,
 ) -> Result<(), Fail> {
-    let Err(FromIterError::Duplicate(repeat)) = M::collected_unique(rt.alloc(), items) else {
+    let made = M::collected_unique(rt.alloc(), items.iter().copied());
+    let Err(FromIterError::Duplicate(repeat)) = made else {
         return Err(Fail::from("no duplicate"));
     };
     check(rt, *repeat.new_item() == later);
