@@ -1,8 +1,7 @@
-//! Copies of a map, equality of two, and what `Debug` writes of a map, of its guards and of its writing walk.
+//! Copies of a map, and equality of two.
 use crate::held::{By, Held, Host, Hosts, NONE, Step, Way, check, host, host_of, left};
 use iddqd_bi_hash::BiHashMap;
 use std::alloc::Global;
-use std::fmt::Debug;
 use std::process::Abort;
 use test_support::hashers::{FewBits, Varying};
 
@@ -104,83 +103,4 @@ fn unequal_by_a_key(rt: HostRuntime) {
 fn unequal_by_length(rt: HostRuntime) {
     differs(&rt, rt.alloc(), &[host(1), host(2), host(3)]);
     differs(&rt, rt.alloc(), &[]);
-}
-
-// Whether it is written as one of the texts.
-fn is_debugged(alloc: Global, value: &impl Debug, texts: &[&str]) -> bool {
-    let written = format!(in alloc; "{value:?}");
-    written.is_ok_and(|text| texts.contains(&text.as_str()))
-}
-
-fn one(rt: &impl Abort, alloc: Global) -> Hosts {
-    Hosts::of(rt, alloc, &[host_of(1, 101, 7)])
-}
-
-fn two(rt: &impl Abort, alloc: Global) -> Hosts {
-    Hosts::of(rt, alloc, &[host_of(1, 101, 7), host_of(2, 102, 8)])
-}
-
-#[test]
-fn map_for_debugging(rt: HostRuntime) {
-    let alloc = rt.alloc();
-    check(&rt, is_debugged(alloc, &Hosts::new(alloc).map, &["{}"]));
-    let items = "{Host { number: 1, address: 101, load: 7 }}";
-    check(&rt, is_debugged(alloc, &one(&rt, alloc).map, &[items]));
-}
-
-#[test]
-fn two_hosts_for_debugging(rt: HostRuntime) {
-    let rising =
-        "{Host { number: 1, address: 101, load: 7 }, Host { number: 2, address: 102, load: 8 }}";
-    let falling =
-        "{Host { number: 2, address: 102, load: 8 }, Host { number: 1, address: 101, load: 7 }}";
-    let hosts = two(&rt, rt.alloc());
-    check(&rt, is_debugged(rt.alloc(), &hosts.map, &[rising, falling]));
-}
-
-#[test]
-fn keys_for_debugging(rt: HostRuntime) {
-    let keyed = "{(1, 101): Host { number: 1, address: 101, load: 7 }}";
-    let rising =
-        "{(1, 101): Host { number: 1, address: 101, load: 7 }, (2, 102): Host { number: 2, address: 102, load: 8 }}";
-    let falling =
-        "{(2, 102): Host { number: 2, address: 102, load: 8 }, (1, 101): Host { number: 1, address: 101, load: 7 }}";
-    let alloc = rt.alloc();
-    let hosts = Hosts::new(alloc);
-    let shown = hosts.map.debug_with_keys();
-    check(&rt, is_debugged(alloc, &shown, &["{}"]));
-    let hosts = one(&rt, alloc);
-    let shown = hosts.map.debug_with_keys();
-    check(&rt, is_debugged(alloc, &shown, &[keyed]));
-    let hosts = two(&rt, alloc);
-    let shown = hosts.map.debug_with_keys();
-    check(&rt, is_debugged(alloc, &shown, &[rising, falling]));
-}
-
-// Writes a load, and shows the guard, before it is spent and after.
-fn is_guard(alloc: Global, hosts: Hosts, number: u32, expected: &str) -> bool {
-    let mut map = hosts.map;
-    match map.get1_mut(&number) {
-        Some(mut found) => {
-            found.load = 9;
-            let is_before = is_debugged(alloc, &found, &[expected]);
-            let found = found.into_ref();
-            is_before && is_debugged(alloc, &found, &[expected])
-        }
-        None => false,
-    }
-}
-
-#[test]
-fn guards_for_debugging(rt: HostRuntime) {
-    let text = "Host { number: 1, address: 101, load: 9 }";
-    check(&rt, is_guard(rt.alloc(), one(&rt, rt.alloc()), 1, text));
-    check(&rt, !is_guard(rt.alloc(), one(&rt, rt.alloc()), 2, text));
-}
-
-#[test]
-fn writing_walk_for_debugging(rt: HostRuntime) {
-    let mut map = one(&rt, rt.alloc()).map;
-    let walk = map.iter_mut();
-    check(&rt, is_debugged(rt.alloc(), &walk, &["IterMut { .. }"]));
 }

@@ -4,6 +4,7 @@ use iddqd_bi_hash::bi_hash_map::Entry;
 use iddqd_bi_hash::{BiHashMap, Keyed};
 use std::process::Abort;
 
+// What is done with the hosts of an entry.
 #[derive(Clone, Copy)]
 enum Use {
     Show,
@@ -36,6 +37,7 @@ impl Held<Host> {
         }
     }
 
+    // Does this with the entry of each host, and looks whether it has these.
     fn enter(&mut self, rt: &impl Abort, rows: &[(Use, Host, Option<(Met, bool)>)]) {
         for (what, new, wanted) in rows {
             check(rt, self.entered(*what, *new) == *wanted);
@@ -73,6 +75,7 @@ fn is_inserted(all: Hosts, new: Host) -> bool {
     is_in && map.len() == 1
 }
 
+// With memory at hand a vacant entry inserts.
 #[test]
 fn a_vacant_entry_inserts(rt: HostRuntime) {
     check(&rt, is_inserted(Hosts::new(rt.alloc()), host(1)));
@@ -128,14 +131,17 @@ fn an_inserted_entry_has_the_item(rt: HostRuntime) {
 #[test]
 fn a_unique_entry_is_written(rt: HostRuntime) {
     let mut all = Hosts::below(&rt, rt.alloc(), 3);
-    let (new, two) = (host_of(1, 101, 7), Some(host(2)));
-    let written = Some(new);
+    let (written, other) = (host_of(1, 101, 7), Some(host(2)));
     let rows = [
-        (Use::Load, new, Some(((written, None), true))),
-        (Use::Load, host_of(1, 102, 8), Some(((written, two), false))),
-        (Use::Load, host_of(9, 102, 8), Some(((two, None), false))),
+        (Use::Load, written, Some(((Some(written), None), true))),
+        (
+            Use::Load,
+            host_of(1, 102, 8),
+            Some(((Some(written), other), false)),
+        ),
+        (Use::Load, host_of(9, 102, 8), Some(((other, None), false))),
         (Use::Load, host_of(9, 109, 8), None),
     ];
     all.enter(&rt, &rows);
-    check(&rt, all.holds(&[host(0), new, host(2)]));
+    check(&rt, all.holds(&[host(0), written, host(2)]));
 }

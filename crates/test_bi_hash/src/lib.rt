@@ -34,6 +34,8 @@ mod short;
 #[cfg(test)]
 mod shrinks;
 #[cfg(test)]
+mod texts;
+#[cfg(test)]
 mod walks;
 #[cfg(test)]
 mod whole_counts;

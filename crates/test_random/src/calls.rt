@@ -1,7 +1,17 @@
 //! Calls of either map, one method a call: whether the map returns what the plain list does.
 use crate::plain::{Answer, Pair, Plain, is_same};
-use test_support::caseless::{Coarse, spelled};
+use test_support::caseless::{Caseless, Coarse, spelled};
 use test_support::coarse::{CoarseMap, Way};
+
+// A lookup, whose comparisons are counted too, among this many items at most.
+fn is_found<M: CoarseMap>(map: &M, plain: &Plain, name: &Caseless) -> bool {
+    let item = plain.find(name);
+    let (counted, steps) = map.get_counted(name);
+    is_same(map.get(name).copied(), item)
+        && is_same(counted.copied(), item)
+        && map.contains(name) == item.is_some()
+        && steps as usize <= plain.len().saturating_add(4)
+}
 
 impl<M: CoarseMap> Pair<M> {
     pub(crate) fn insert(&mut self) -> Answer {
@@ -37,13 +47,7 @@ impl<M: CoarseMap> Pair<M> {
 
     pub(crate) fn find(&mut self) -> bool {
         let name = self.draws.name();
-        let item = self.plain.find(&name);
-        // the comparisons are counted too, among this many items at most
-        let (counted, steps) = self.map.get_counted(&name);
-        is_same(self.map.get(&name).copied(), item)
-            && is_same(counted.copied(), item)
-            && self.map.contains(&name) == item.is_some()
-            && steps as usize <= self.plain.len().saturating_add(4)
+        is_found(&self.map, &self.plain, &name)
     }
 
     pub(crate) fn write(&mut self) -> bool {
