@@ -16,7 +16,7 @@ fn sides<T: Copy>(difference: &Difference<&T>) -> Sides<T> {
 }
 
 // Lists the differences.
-fn listed<'o, 'n, T: Copy + 'o + 'n, D: Iterator<Item = Difference<&'o T, &'n T>>>(
+fn all_sides<'o, 'n, T: Copy + 'o + 'n, D: Iterator<Item = Difference<&'o T, &'n T>>>(
     alloc: Global,
     differences: D,
 ) -> Result<Vec<Sides<T>>, AllocError> {
@@ -62,7 +62,7 @@ impl<T: IdOrdItem + Copy + PartialEq + Drop> Listed<T, T::Key> for Ordered<T> {
     }
 
     fn differences(&self, after: &Ordered<T>, alloc: Global) -> Result<Vec<Sides<T>>, AllocError> {
-        listed(alloc, self.map().diff(after.map()))
+        all_sides(alloc, self.map().diff(after.map()))
     }
 
     fn hint(&self, after: &Ordered<T>) -> (usize, Option<usize>) {
@@ -84,7 +84,7 @@ impl<T: IdHashItem + Copy + PartialEq + Drop> Listed<T, T::Key> for Hashed<T> {
     }
 
     fn differences(&self, after: &Hashed<T>, alloc: Global) -> Result<Vec<Sides<T>>, AllocError> {
-        listed(alloc, self.map().diff(after.map()))
+        all_sides(alloc, self.map().diff(after.map()))
     }
 
     fn hint(&self, after: &Hashed<T>) -> (usize, Option<usize>) {
