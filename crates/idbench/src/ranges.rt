@@ -132,10 +132,10 @@ fn times_of<S: Ranged>(
     // as if each key began a range
     let range_1000 = hundredth.saturating_mul(APART as u64);
     let (get_index, found) = clocked(clock, || sum_positions(map, positions))?;
-    let (index_of, _) = clocked(clock, || sum_places(map, keys))?;
-    let nanos = match found {
-        Some(_) => [backwards, range_10, range_1000, get_index, index_of],
-        None => [backwards, range_10, range_1000, 0, 0],
+    let (index_of, places) = clocked(clock, || sum_places(map, keys))?;
+    let nanos = match (found, places) {
+        (Some(_), Some(_)) => [backwards, range_10, range_1000, get_index, index_of],
+        _ => [backwards, range_10, range_1000, 0, 0],
     };
     Ok((nanos, sum.wrapping_add(near).wrapping_add(far)))
 }

@@ -1,5 +1,5 @@
 -- What a change does to a node. No public clause cites this module.
---     AddsIn, SplitsIn      the same of the branches and slots of a node
+--     AddsIn      the same of the branches and slots of a node
 --     AddsTo all width new result      a slot, or a slot and a branch, were put in: all is there, or an upper half was split off
 use Rattle.std.specs.Prelude.{◌≡◌, ℕ, ◌+◌, ◌-◌, ◌<◌, ◌≤◌, List, ◌∷◌, ◌++◌, All, length, min, slice_index, slice_set, Option, Some, None}
 use Rattle.std.proofs.Common.{Box, Global}
@@ -27,10 +27,7 @@ abbrev pub AddsTo : List ℕ → ℕ → Subtree → Option (ℕ × Node) → Ty
 AddsTo all width new None = IsGrown all width new
 AddsTo all width new (Some r) = IsSplit all new r.0 r.1
 
--- a slot and a branch behind it were put in at place i of a node, and an upper half was split off, or may have been
-abbrev pub SplitsIn : ℕ → ℕ → Subtree → Branches → ArrayVec ℕ → Branches → ArrayVec ℕ → ℕ → Subtree → Type 0
-SplitsIn i middle upper bs ss cs ts top half = IsSplit (slots_with bs ss i middle upper) (tree (below cs) ts.items) top half
-
+-- a slot and a branch behind it were put in at place i of a node, and an upper half may have been split off
 abbrev pub AddsIn : ℕ → ℕ → Subtree → Branches → ArrayVec ℕ → Branches → ArrayVec ℕ → Option (ℕ × Node) → Type 0
 AddsIn i middle upper bs ss cs ts result = AddsTo (slots_with bs ss i middle upper) (length ss.items) (tree (below cs) ts.items) result
 

@@ -30,6 +30,8 @@ fn walks(rt: HostRuntime) {
     for is_lent in [true, true, true, false] {
         check(&rt, walk.next().is_some() == is_lent);
     }
+    drop(walk);
+    drop(map);
     tallies.tell(&rt, true, (0, 0, 0, 0));
 }
 

@@ -89,6 +89,20 @@ fn set_first(map: &mut IdOrdMap<Pair>, value: u32)
     }
 }
 
+/// Writes a value through the entry, and another one through its guard.
+#[tactic(auto, using(iddqd::proofs::GuardLemmas::same_key_kept))]
+fn write_and_lend(map: &mut IdOrdMap<Named>, name: &str, value: u32, then: u32)
+    requires keyed { Ascends (λ x. x.name) string_cmp map.old.items }
+    ensures keyed { Ascends (λ x. x.name) string_cmp map.new.items }
+{
+    if let Entry::Occupied(mut entry) = map.entry(&Text(name)) {
+        entry.get_mut().value = value;
+        let mut found = entry.into_mut();
+        found.value = then;
+        found.finish();
+    }
+}
+
 /// Removes the item of the greatest name, if its value is this one.
 fn take_last_of(map: &mut IdOrdMap<Named>, value: u32) -> Option<Named>
     requires keyed { Ascends (λ x. x.name) string_cmp map.old.items }

@@ -43,6 +43,17 @@ fn set_value(map: &mut IdOrdMap<Named>, name: &str, value: u32) -> bool
     }
 }
 
+/// Writes by a plain reference at the end.
+fn set_plainly(map: &mut IdOrdMap<Pair>, key: u32, value: u32)
+    requires keyed { Ascends (λ p. p.key) nat_cmp map.old.items }
+    ensures written { SetsPair key value map.old.items map.new.items }
+{
+    if let Some(found) = map.get_mut(&key) {
+        let item = found.into_mut();
+        item.value = value;
+    }
+}
+
 /// Writes by a function that takes the item.
 fn set_by_function(map: &mut IdOrdMap<Pair>, key: u32, value: u32)
     requires keyed { Ascends (λ p. p.key) nat_cmp map.old.items }

@@ -46,3 +46,13 @@ fn remove_first(all: &mut IdOrdMap<Named>) -> Option<Named>
 {
     all.pop_first()
 }
+
+/// After `clear` nothing is found.
+fn clear(all: &mut IdOrdMap<Named>, name: &str) -> usize
+    ensures none { of_name name.now all.new.items ≡ None }
+    ensures len { result ≡ 0 }
+    ensures keyed { Ascends (λ x. x.name) string_cmp all.new.items }
+{
+    all.clear();
+    all.len()
+}

@@ -1,4 +1,4 @@
-//! Walks: a caller's loop is a loop over the plain list of the items.
+//! Walks: a caller's loop is a loop over the plain list of the items; a walk that writes, and one that retains.
 ghost use Rattle.std.specs.Prelude.{◌≡◌, ◌≤◌, filter, nat_lt, sum_by};
 ghost use Rattle.std.specs.Ordering.{nat_cmp};
 ghost use Rattle.iddqd.specs.Contents.{Ascends};

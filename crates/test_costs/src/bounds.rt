@@ -42,6 +42,7 @@ fn bounds<T: IdOrdItem + Copy + Drop>(
     ranges: [(T, T); 2],
     meter: Meter<'_>,
 ) {
+    meter.hold(items.len() == 50 && absent.len() == 50);
     for item in items.iter().chain(absent) {
         finds_bounds(&map, item.key(), meter);
     }

@@ -94,7 +94,7 @@ fn lying_hints(rt: HostRuntime) {
     lied_to(&rt, by_hash(rt.alloc()));
 }
 
-// Adds what comes, so much of it announced. That returns what is to be added, and the map has these items then.
+// Adds what comes, so much of it announced. That has this outcome, and the map has these items then.
 fn adds<M: Copying<Named, [u8; 3]> + Drop>(
     rt: &impl Abort,
     mut map: M,

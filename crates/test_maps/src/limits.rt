@@ -4,6 +4,7 @@ use crate::checks::{
 };
 use crate::insertions::insert_each;
 use iddqd::errors::TryReserveError;
+use iddqd::internal::ValidateCompact;
 use iddqd::{IdHashMap, IdOrdMap};
 use std::process::Abort;
 use std::test::Fail;
@@ -21,7 +22,11 @@ fn full_at_two<M: Copying<Named, [u8; 3]> + Drop>(rt: &impl Abort, mut map: M) {
     insert_each(rt, &mut map, &rows);
     let old = map.overwrite(OTHER_FOO);
     check(rt, matches!(old, Ok(Some(old)) if old == FOO));
-    check(rt, map.remove(b"bar") == Some(BAR) && !map.is_compact());
+    check(rt, map.remove(b"bar") == Some(BAR));
+    check(
+        rt,
+        map.validates(ValidateCompact::Compact) == (false, false),
+    );
     insert_each(rt, &mut map, &[(BAZ, Inserted::Done)]);
     check(rt, map.is_compact() && map.reserve(1) == Err(full));
 }

@@ -54,8 +54,8 @@ fn most_of(bound: Bound<&u32>, count: u32) -> u32 {
     }
 }
 
-// The range is that of the plain list, and is counted within the greatest number of comparisons. So are the first item
-// from the lower bound on, and the last one before the upper.
+// The range is that of the plain list, and so are the first item from the lower bound on, and the last one before the
+// upper. It is counted within the greatest number of comparisons.
 fn is_range(rt: &impl Host, map: &Ordered<Numbered>, count: u32, (low, high): Bounds<'_, u32>) {
     let from = listed(rt, count, (low, Bound::Unbounded), true);
     check(rt, map.lower_bound(low) == from.as_slice().first());

@@ -117,7 +117,7 @@ pub trait CoarseMap: Copying<Coarse, Caseless> {
     /// `or_insert_with`, which counts how often it is asked for the item.
     fn find_or_put(&mut self, item: Coarse, asked: &mut u32) -> Put;
 
-    /// Writes the item whole. False if a guard or an entry finds none of the key.
+    /// Writes the item whole. False if none of the key is there; by a visitor always true.
     fn respell(&mut self, asked: &Caseless, item: Coarse, way: Way) -> bool;
 }
 

@@ -1,4 +1,5 @@
-//! What the tests of more than one crate stand on: items, a map under test, fakes, and the count of requests for memory.
+//! What the tests of more than one crate stand on: items, a map under test, hashers, iterators that lie, and the count
+//! of requests for memory.
 #![tactic(auto)]
 
 pub mod bulk;

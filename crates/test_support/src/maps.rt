@@ -29,8 +29,7 @@ pub enum Inserted<T> {
 
 // The new item of a duplicate and the one that is there, copied.
 fn both<T: Copy>(duplicate: &DuplicateItem<T, &T>) -> (T, Option<T>) {
-    let there = duplicate.duplicates().get(0).map(|there| **there);
-    (*duplicate.new_item(), there)
+    (*duplicate.new_item(), Some(**duplicate.duplicates().first()))
 }
 
 // What an insertion with this error left, with what is lent copied.
@@ -202,7 +201,7 @@ pub trait UnderTest<T: Drop, K>: Sized {
 
     fn vacant(&self) -> u32;
 
-    /// Whether `validate` finds no error, and whether `validate_structural` does not.
+    /// Whether `validate` finds no error, and whether `validate_structural` finds none.
     fn validates(&self, compact: ValidateCompact) -> (bool, bool);
 
     /// Whether there is no error, where slots may be vacant.
@@ -425,7 +424,7 @@ macro_rules! entered {
 }
 
 /// A map of either kind under test, whose items are copied where a call lends or takes some.
-pub trait Copying<T: Copy + Drop, K>: UnderTest<T, K> {
+pub trait Copying<T: Drop, K>: UnderTest<T, K> {
     /// `insert_unique`.
     fn insert(&mut self, item: T) -> Inserted<T>;
 

@@ -2,7 +2,6 @@
 use crate::items::Numbered;
 use crate::maps::{Hashed, Ordered};
 use iddqd::Visit;
-use idtable_commands::KeyedMap;
 
 /// Leaves each item as it is, and keeps all or none.
 #[derive(Clone, Copy, PartialEq, Eq)]
@@ -56,8 +55,12 @@ pub trait Visited {
 }
 
 impl Visited for Ordered<Numbered> {
+    #[tactic(auto, using(iddqd::proofs::GuardLemmas::same_key_kept))]
     fn visit(&mut self, number: u32, visitor: &mut Change) -> Option<bool> {
-        self.map.visit(&number, visitor)
+        let mut found = self.map.get_mut(&number)?;
+        let is_kept = visitor.visit(&mut found);
+        found.finish();
+        Some(is_kept)
     }
 
     fn retain_mut(&mut self, visitor: &mut Change) {
@@ -66,8 +69,12 @@ impl Visited for Ordered<Numbered> {
 }
 
 impl Visited for Hashed<Numbered> {
+    #[tactic(auto, using(iddqd::proofs::GuardLemmas::hash_key_kept))]
     fn visit(&mut self, number: u32, visitor: &mut Change) -> Option<bool> {
-        self.map.visit(&number, visitor)
+        let mut found = self.map.get_mut(&number)?;
+        let is_kept = visitor.visit(&mut found);
+        found.finish();
+        Some(is_kept)
     }
 
     fn retain_mut(&mut self, visitor: &mut Change) {

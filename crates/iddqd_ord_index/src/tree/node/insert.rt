@@ -1,7 +1,7 @@
 //! Insertion: a node without room gives its upper half away.
-ghost use Rattle.std.specs.Prelude.{◌≡◌, ◌+◌, ◌^◌, ◌<◌, ◌≤◌, [], ◌∷◌, ◌++◌, length, insert, nat_lt, OnSome, if◌then◌else◌};
+ghost use Rattle.std.specs.Prelude.{◌≡◌, ◌+◌, ◌^◌, ◌<◌, ◌≤◌, [], ◌∷◌, ◌++◌, length, insert, nat_lt, OnSome, Some, if◌then◌else◌};
 ghost use Rattle.arrayvec.specs.ArrayVec.{array_vec_len};
-ghost use Rattle.iddqd_ord_index.specs.Changes.{AddsIn as Adds, AddsTo, SplitsIn};
+ghost use Rattle.iddqd_ord_index.specs.Changes.{AddsIn as Adds, AddsTo};
 ghost use Rattle.iddqd_ord_index.specs.Nodes.{below, AreBranches, IsBare};
 ghost use Rattle.iddqd_ord_index.specs.Shape.{lists, levels, tree, unused, in_order, IsBranch, IsDense, IsForked};
 
@@ -35,8 +35,8 @@ fn split_slots(slots: &mut Slots, i: usize, slot: u32, upper: &mut Slots) -> u32
     middle
 }
 
-// Inserts `middle` at place `i` of a full inner node and `upper` behind it, and moves the upper half into `half`,
-// which is unused, with its branches in this block. Returns the slot between the halves.
+// Inserts `middle` at place `i` of a full inner node and `upper` behind it. Returns the upper half, whose branches lie in
+// this block, and the slot before it.
 fn split_inner(
     slots: &mut Slots,
     branches: &mut Branches,
@@ -44,9 +44,8 @@ fn split_inner(
     middle: u32,
     upper: Node,
     count: u32,
-    half: &mut Node,
     block: Box<Block>,
-) -> u32
+) -> (u32, Node)
     requires branches { AreBranches branches.old }
     requires forked { IsForked (below branches.old) slots.old.items }
     requires full { array_vec_len slots.old ≡ MOST_SLOTS }
@@ -54,7 +53,6 @@ fn split_inner(
     requires in_bounds { i ≤ MOST_SLOTS }
     requires upper { IsBranch (levels (below branches.old)) upper }
     requires count { count ≡ length upper.slots }
-    requires half { half.old ≡ unused }
     requires bare { IsBare block.value }
 
     // the branches
@@ -63,11 +61,15 @@ fn split_inner(
     ensures levels { levels (below branches.new) ≡ levels (below branches.old) }
 
     // the slots
-    ensures split { SplitsIn i middle upper branches.old slots.old branches.new slots.new result half.new }
+    ensures split { Adds i middle upper branches.old slots.old branches.new slots.new (Some result) }
 {
-    let top = split_slots(slots, i, middle, &mut half.slots);
-    half.branches = branches.split(i, upper, count, block);
-    top
+    let mut half = Slots::new();
+    let top = split_slots(slots, i, middle, &mut half);
+    let half = Node {
+        slots: half,
+        branches: branches.split(i, upper, count, block),
+    };
+    (top, half)
 }
 
 // Inserts `middle` at place `i` of an inner node and `upper` behind it.
@@ -103,18 +105,8 @@ pub(super) fn add_branch(
         branches.insert(i + 1, upper, count);
         return None;
     }
-    let mut half = Node::new();
-    let top = split_inner(
-        slots,
-        branches,
-        i,
-        middle,
-        upper,
-        count,
-        &mut half,
-        pool.take(),
-    );
-    Some((top, half))
+    let block = pool.take();
+    Some(split_inner(slots, branches, i, middle, upper, count, block))
 }
 
 impl Node {

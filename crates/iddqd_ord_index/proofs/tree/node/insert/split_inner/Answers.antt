@@ -6,7 +6,7 @@ use Rattle.iddqd_ord_index.proofs.HalfLemmas.{one_more_lower, one_more_upper, le
 use Rattle.iddqd_ord_index.proofs.tree.node.insert.split_inner.Goals as goal
 
 -- both halves have a branch more than slots
-record AreHalves (c : goal.Joined-half-split) : Type 0 where
+record AreHalves (c : goal.After-split) : Type 0 where
   lower : length (below c.split.new.self) ≡ length c.split_slots-top.new.slots.items + 1
   upper : length (below c.split.result) ≡ length c.split_slots-top.new.upper.items + 1
   lower_forked : IsForked (below c.split.new.self) c.split_slots-top.new.slots.items
@@ -14,7 +14,7 @@ record AreHalves (c : goal.Joined-half-split) : Type 0 where
   lower_levels : levels (below c.split.new.self) ≡ levels (below c.args.branches.now)
   upper_levels : levels (below c.split.result) ≡ levels (below c.args.branches.now)
 
-halves : (c : goal.Joined-half-split) → AreHalves c
+halves : (c : goal.After-split) → AreHalves c
 halves c =
     let ts = below c.args.branches.now in
     let h = levels ts in

@@ -1,7 +1,7 @@
 //! Rows: maps that are equal, that share no key, of which one is empty, and keys that are equal though spelled
 //! differently.
+use super::held::{Listed, Sides};
 use crate::checks::check;
-use crate::held::{Listed, Sides};
 use std::alloc::Global;
 use std::process::Abort;
 use std::test::Fail;

@@ -1,9 +1,9 @@
 //! Maps that are brought up to others by `apply`.
 ghost use Rattle.iddqd.specs.Contents.{ClonesKeepKeys};
 
-use crate::cases::hundreds;
+use super::cases::hundreds;
+use super::held::Listed;
 use crate::checks::check;
-use crate::held::Listed;
 use iddqd::errors::TryReserveError;
 use iddqd::{IdHashItem, IdOrdItem};
 use iddqd_diff::{id_hash_map, id_ord_map};

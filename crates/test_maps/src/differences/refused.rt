@@ -1,8 +1,8 @@
 //! Applying a difference with requests for memory refused, and what a difference asks for.
-use crate::applied::{brought_up, brought_up_by_hash};
-use crate::cases::hundreds;
+use super::applied::{brought_up, brought_up_by_hash};
+use super::cases::hundreds;
+use super::held::Listed;
 use crate::checks::check;
-use crate::held::Listed;
 use std::alloc::Global;
 use std::process::Abort;
 use std::test::Fail;

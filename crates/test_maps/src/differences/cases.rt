@@ -1,6 +1,6 @@
 //! Each case of five keys, and one of hundreds, against plain lists.
+use super::held::{Listed, Sides};
 use crate::checks::check;
-use crate::held::{Listed, Sides};
 use std::alloc::{AllocError, Global};
 use std::process::Abort;
 use std::test::Fail;

@@ -15,29 +15,6 @@ fn sides<T: Copy>(difference: &Difference<&T>) -> Sides<T> {
     }
 }
 
-// Lists the differences.
-fn all_sides<'o, 'n, T: Copy + 'o + 'n, D: Iterator<Item = Difference<&'o T, &'n T>>>(
-    alloc: Global,
-    differences: D,
-) -> Result<Vec<Sides<T>>, AllocError> {
-    let mut all = Vec::new(alloc);
-    for difference in differences {
-        all.push(sides(&difference))?;
-    }
-    Ok(all)
-}
-
-// Returns how many differences are changes.
-fn count_changes<'o, 'n, T: PartialEq + 'o + 'n, D: Iterator<Item = Difference<&'o T, &'n T>>>(
-    differences: D,
-) -> usize {
-    let mut count = 0usize;
-    for difference in differences {
-        count = count.saturating_add(usize::from(difference.is_changed()));
-    }
-    count
-}
-
 /// A map of either kind, whose difference to one that came after it is listed.
 pub(crate) trait Listed<T: Drop, K>: UnderTest<T, K> {
     /// A map without items.
@@ -62,7 +39,11 @@ impl<T: IdOrdItem + Copy + PartialEq + Drop> Listed<T, T::Key> for Ordered<T> {
     }
 
     fn differences(&self, after: &Ordered<T>, alloc: Global) -> Result<Vec<Sides<T>>, AllocError> {
-        all_sides(alloc, self.map().diff(after.map()))
+        let mut all = Vec::new(alloc);
+        for difference in self.map().diff(after.map()) {
+            all.push(sides(&difference))?;
+        }
+        Ok(all)
     }
 
     fn hint(&self, after: &Ordered<T>) -> (usize, Option<usize>) {
@@ -74,7 +55,11 @@ impl<T: IdOrdItem + Copy + PartialEq + Drop> Listed<T, T::Key> for Ordered<T> {
     }
 
     fn changes(&self, after: &Ordered<T>) -> usize {
-        count_changes(self.map().diff(after.map()))
+        let mut count = 0usize;
+        for difference in self.map().diff(after.map()) {
+            count = count.saturating_add(usize::from(difference.is_changed()));
+        }
+        count
     }
 }
 
@@ -84,7 +69,11 @@ impl<T: IdHashItem + Copy + PartialEq + Drop> Listed<T, T::Key> for Hashed<T> {
     }
 
     fn differences(&self, after: &Hashed<T>, alloc: Global) -> Result<Vec<Sides<T>>, AllocError> {
-        all_sides(alloc, self.map().diff(after.map()))
+        let mut all = Vec::new(alloc);
+        for difference in self.map().diff(after.map()) {
+            all.push(sides(&difference))?;
+        }
+        Ok(all)
     }
 
     fn hint(&self, after: &Hashed<T>) -> (usize, Option<usize>) {
@@ -96,6 +85,10 @@ impl<T: IdHashItem + Copy + PartialEq + Drop> Listed<T, T::Key> for Hashed<T> {
     }
 
     fn changes(&self, after: &Hashed<T>) -> usize {
-        count_changes(self.map().diff(after.map()))
+        let mut count = 0usize;
+        for difference in self.map().diff(after.map()) {
+            count = count.saturating_add(usize::from(difference.is_changed()));
+        }
+        count
     }
 }
