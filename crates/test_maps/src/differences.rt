@@ -1,5 +1,5 @@
-//! Rows of the difference of two maps: each case of a few keys against plain lists, what it costs, and what `apply`
-//! leaves if memory is refused.
+//! Rows of the difference of two maps: each case of a few keys, what it costs, and what `apply` leaves if memory is
+//! refused.
 mod applied;
 mod cases;
 mod counts;

@@ -1,5 +1,5 @@
-//! What the tests of more than one crate stand on: items, a map under test, hashers, iterators that lie, and the count
-//! of requests for memory.
+//! What the tests of more than one crate stand on: items, maps under test, hashers, iterators that lie, and the count of
+//! requests.
 #![tactic(auto)]
 
 pub mod bulk;

@@ -29,7 +29,10 @@ pub enum Inserted<T> {
 
 // The new item of a duplicate and the one that is there, copied.
 fn both<T: Copy>(duplicate: &DuplicateItem<T, &T>) -> (T, Option<T>) {
-    (*duplicate.new_item(), Some(**duplicate.duplicates().first()))
+    (
+        *duplicate.new_item(),
+        Some(**duplicate.duplicates().first()),
+    )
 }
 
 // What an insertion with this error left, with what is lent copied.
