@@ -5,7 +5,7 @@
 --     split_start, ends_all      where the items begin that an unbounded start lets through, and end that an unbounded end does
 --     ends_where      where those end that another test does not let through
 --     between_places      the elements that pass from one position on and up to another stand between them
---     places_out, front_less      what is left if the items between two positions are taken out from the back
+--     places_out      what is left if the items between two positions are taken out
 --     first_passing, last_before, last_none      the first item that passes, and the last
 --     rank_is      how many items are less than a query
 --     part_up_to, part_cut, part_within, take_to, length-part, sum-part      what stands between two positions, its length and its sum
@@ -150,12 +150,19 @@ module _ {X : Type 0} where
         rw (a zero x (omega arith) (omega arith))
         (ap (λ ys. x ∷ ys) (stay xs low high (omega arith) (λ k d i h. a (suc k) d (suc-le-suc i) (suc-le-suc h)) (λ k d i h. b (suc k) d (suc-le-suc i) (suc-le-suc h)) (λ k d i h. e (suc k) d (suc-le-suc i) (suc-le-suc h))))
 
-    -- what is left where those between the places were taken out, down to a place that is not above the first
-    pub places_out : (xs ys : List X) (low high end : ℕ) → SplitsAt p xs low → EndsAt q xs high → ys ≡ take end xs ++ drop high xs → end ≤ low → (end ≡ low) ⊎ (end ≡ high) → end ≤ high → ys ≡ filter (λ x. not (p x && q x)) xs
-    places_out xs ys low high end s t is le (inl e) h =
-        is ∙ (ap (λ n. take n xs ++ drop high xs) e ∙ sym (out xs low high (omega arith) (λ k d i h. s.before k d i) s.behind (λ k d i h. t.before k d i) t.behind))
-    places_out xs ys low high end s t is le (inr e) h =
-        is ∙ (ap (λ n. take n xs ++ drop high xs) e ∙ (take-append-drop high xs ∙ sym (stay xs low high (omega arith) (λ k d i h. s.before k d i) s.behind t.behind)))
+    -- what is left where those between the places were taken out, if the second is not before the first
+    pub places_out : (xs ys : List X) (low high : ℕ) → SplitsAt p xs low → EndsAt q xs high → ys ≡ take low xs ++ drop (max high low) xs → ys ≡ filter (λ x. not (p x && q x)) xs
+    places_out xs ys low high s t is =
+        elim (cases_lt high low) [
+          | inl lt ↦ (
+              let m : max high low ≡ low = omega arith in
+              is ∙ (ap (λ n. take low xs ++ drop n xs) m ∙ (take-append-drop low xs ∙ sym (stay xs low high (omega arith) (λ k d i h. s.before k d i) s.behind t.behind)))
+              )
+          | inr ge ↦ (
+              let m : max high low ≡ high = omega arith in
+              is ∙ (ap (λ n. take low xs ++ drop n xs) m ∙ sym (out xs low high (omega arith) (λ k d i h. s.before k d i) s.behind (λ k d i h. t.before k d i) t.behind))
+              )
+        ]
 
     pub between_places : (xs : List X) (low high : ℕ) → SplitsAt p xs low → EndsAt q xs high → filter (λ x. p x && q x) xs ≡ drop low (take high xs)
     between_places xs low high s t = cut xs low high (λ k d i h. s.before k d i) s.behind (λ k d i h. t.before k d i) t.behind
@@ -164,23 +171,6 @@ module _ {X : Type 0} where
   pub part_backward : (xs : List X) (low high : ℕ) → high ≤ low → drop low (take low xs) ≡ drop low (take high xs)
   part_backward xs low high le =
       drop_all low (take low xs) (omega (arith, length-take low xs)) ∙ sym (drop_all low (take high xs) (omega (arith, length-take high xs)))
-
-  remove_last : (xs : List X) (y : X) → remove (xs ++ y ∷ []) (length xs) ≡ xs
-  remove_last [] y = refl
-  remove_last (x ∷ xs) y = ap (λ l. x ∷ l) (remove_last xs y)
-
-  -- the last of the front part taken out
-  pub front_less : (xs : List X) (end high : ℕ) → 0 < end → end ≤ length xs → remove (take end xs ++ drop high xs) (end - 1) ≡ take (end - 1) xs ++ drop high xs
-  front_less [] end high some fits = absurd (omega arith)
-  front_less (x ∷ xs) end high some fits =
-      let m : end ≡ end - 1 + 1 = omega arith in
-      let last : end - 1 ≤ length (x ∷ xs) = omega arith in
-      let long = length-take-le end (x ∷ xs) fits in
-      let n = length-take-le (end - 1) (x ∷ xs) last in
-      let y = get_or (x ∷ xs) (end - 1) x in
-      let whole : take end (x ∷ xs) ≡ take (end - 1) (x ∷ xs) ++ y ∷ [] = ap (λ k. take k (x ∷ xs)) m ∙ take_more (x ∷ xs) (end - 1) x (omega arith) in
-      let gone : remove (take end (x ∷ xs)) (end - 1) ≡ take (end - 1) (x ∷ xs) = ap (λ l. remove l (end - 1)) whole ∙ (ap (λ k. remove (take (end - 1) (x ∷ xs) ++ y ∷ []) k) (sym n) ∙ remove_last (take (end - 1) (x ∷ xs)) y) in
-      remove-append_left (take end (x ∷ xs)) (drop high (x ∷ xs)) (end - 1) (omega arith) ∙ ap (λ l. l ++ drop high (x ∷ xs)) gone
 
   pub part_up_to : (xs : List X) (low high end : ℕ) → end ≡ max high low → drop low (take end xs) ≡ drop low (take high xs)
   part_up_to xs low high end e =

@@ -1,7 +1,12 @@
 -- A slot was taken out of the index, and its item out of the store.
 --     IsTakenOut, taken_out      the item at the place, and what is left
+--     still_listed      a list of which a part is being taken out, from its front
+--     part_taken_out      the first of that part is taken out
 --     taken_absent      no item that is left has a key equal to the one's that was taken out
-use Rattle.std.proofs.Common.{◌≡◌, ℕ, ◌+◌, Bool, not, List, Some, None, refl, sym, ap, subst, ◌∙◌}
+use Rattle.std.proofs.Common.{◌≡◌, ℕ, ◌+◌, ◌-◌, ◌≤◌, Bool, not, List, ◌∷◌, ◌++◌, length, take, drop, Some, None, refl, sym, ap, subst, ◌∙◌, arith, append_assoc}
+use Rattle.std.proofs.lemmas.Grind.{common_steps}
+use Rattle.std.proofs.lemmas.List.{take-append-drop, take-take}
+use Rattle.std.proofs.lemmas.List.Edits.{remove-append_right}
 use Rattle.std.proofs.lemmas.Option.{get_or_from_slice_get, slice_get_within}
 use Rattle.std.specs.Cmp.{IsEquivalence}
 use Rattle.std.specs.List.{remove, slice_get}
@@ -28,6 +33,27 @@ taken_out old new slots left i slot x paired at gone item updates len = record {
   item = get-listed old slots paired.occupied i ∙ ap (option_and_then (item_at old)) at ∙ item;
   items = ap (listed_items new) gone ∙ items_removed old new slots paired slot i at updates;
 }
+
+-- the slots before `from`, those of the part that are left, and those from `to` on
+abbrev pub still_listed : ℕ → ℕ → List ℕ → List ℕ → List ℕ
+still_listed from to slots part = take from slots ++ (part ++ drop to slots)
+
+-- all of the part is left
+pub all_listed : (from to : ℕ) (slots : List ℕ) → from ≤ to → still_listed from to slots (drop from (take to slots)) ≡ slots
+all_listed from to slots le =
+    sym (append_assoc (take from slots) (drop from (take to slots)) (drop to slots))
+    ∙ (ap (λ l. (l ++ drop from (take to slots)) ++ drop to slots) (sym (take-take from to slots le))
+    ∙ (ap (λ l. l ++ drop to slots) (take-append-drop from (take to slots)) ∙ take-append-drop to slots))
+
+-- the first of the part is taken out
+module _ {X : Type 0} (front : List X) (x : X) (back : List X) (at : ℕ) (long : length front ≡ at) where
+  pub get_first : slice_get (front ++ x ∷ back) at ≡ Some x
+  get_first = grind (arith, common_steps)
+
+  pub remove_first : remove (front ++ x ∷ back) at ≡ front ++ back
+  remove_first =
+      let z : at - at ≡ 0 = omega arith in
+      remove-append_right front (x ∷ back) at at long (omega arith) ∙ ap (λ k. front ++ remove (x ∷ back) k) z
 
 pub taken_absent : {T K : Type 0} (key : T → K) {eq : K → K → Bool} → IsEquivalence eq → (items : List T) → NoTwoAkin key eq items → (i : ℕ) (x : T) → slice_get items i ≡ Some x → IsAbsent key (eq (key x)) (remove items i)
 taken_absent key {eq} equivalence items differ i x there =

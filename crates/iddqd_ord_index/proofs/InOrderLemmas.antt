@@ -1,6 +1,7 @@
 -- The list of a node from those of its branches.
-use Rattle.std.proofs.Common.{◌≡◌, ℕ, suc, zero, ◌+◌, ◌<◌, ◌≤◌, List, [], ◌∷◌, ◌++◌, length, take, drop, get_or, refl, ap, sym, inl, inr, ◌∙◌, arith, append_assoc, length-append, add-one}
-use Rattle.std.proofs.lemmas.List.{append-nil, take-append-drop, drop_more, length-take-le, get_or-append-add, get_or_append_left, get_or_at, drop_all}
+use Rattle.std.proofs.Common.{◌≡◌, ℕ, suc, zero, ◌+◌, ◌<◌, ◌≤◌, List, [], ◌∷◌, ◌++◌, length, take, drop, set, get_or, refl, ap, sym, inl, inr, ◌∙◌, arith, append_assoc, length-append, add-one}
+use Rattle.std.specs.List.{remove}
+use Rattle.std.proofs.lemmas.List.{append-nil, take-append-drop, drop_more, length-take-le, get_or-append-add, get_or_append_left, get_or_at, drop_all, set_at, take_more}
 use Rattle.std.proofs.lemmas.Bool.{cases_lt}
 use Rattle.iddqd_ord_index.specs.Shape.{behind, in_order, starts, IsBranchAt}
 
@@ -50,6 +51,38 @@ in_order_cut ls ss i lt e =
     let m = length-take-le i ss (omega arith) in
     ap (λ r. in_order r ss) c ∙ (ap (λ r. in_order (take i ls ++ get_or ls i [] ∷ drop (suc i) ls) r) d
     ∙ in_order_at (take i ls) (get_or ls i []) (drop (suc i) ls) (take i ss) (drop i ss) (n ∙ sym m))
+
+-- the list at two neighbours
+pub two_at : (ls : List (List ℕ)) (ss : List ℕ) (j d : ℕ) → length ls ≡ length ss + 1 → j < length ss
+    → in_order ls ss ≡ pairs (take j ls) (take j ss) ++ ((get_or ls j [] ++ get_or ss j d ∷ get_or ls (j + 1) []) ++ behind (drop (j + 1 + 1) ls) (drop (j + 1) ss))
+two_at ls ss j d n lt =
+    let o : suc j ≡ j + 1 = omega arith in
+    let l : drop (suc j) ls ≡ get_or ls (j + 1) [] ∷ drop (j + 1 + 1) ls = ap (λ k. drop k ls) o ∙ drop_more ls (j + 1) [] (omega arith) in
+    let s : drop j ss ≡ get_or ss j d ∷ drop (j + 1) ss = drop_more ss j d lt in
+    in_order_cut ls ss j (omega arith) n ∙ rw (l, s, append_assoc) refl
+
+-- the list with one in the place of both
+pub with_next : (ls : List (List ℕ)) (ss : List ℕ) (j : ℕ) (l : List ℕ) → length ls ≡ length ss + 1 → j < length ss
+    → in_order (set (remove ls (j + 1)) j l) (remove ss j) ≡ pairs (take j ls) (take j ss) ++ (l ++ behind (drop (j + 1 + 1) ls) (drop (j + 1) ss))
+with_next ls ss j l n lt =
+    let o : suc (j + 1) ≡ j + 1 + 1 = omega arith in
+    let p : suc j ≡ j + 1 = omega arith in
+    let m = length-take-le j ls (omega arith) in
+    let r : remove ls (j + 1) ≡ take j ls ++ get_or ls j [] ∷ drop (j + 1 + 1) ls = rw (take_more ls j [] (omega arith), append_assoc, o) refl in
+    ap (λ k. in_order (set k j l) (remove ss j)) r
+    ∙ rw (set_at (take j ls) (get_or ls j []) (drop (j + 1 + 1) ls) l j m, p)
+    (in_order_at (take j ls) l (drop (j + 1 + 1) ls) (take j ss) (drop (j + 1) ss) (m ∙ sym (length-take-le j ss (omega arith))))
+
+-- the list without the second of them, and the slot before it
+pub without_next : (ls : List (List ℕ)) (ss : List ℕ) (j : ℕ) → length ls ≡ length ss + 1 → j < length ss
+    → in_order (remove ls (j + 1)) (remove ss j) ≡ pairs (take j ls) (take j ss) ++ (get_or ls j [] ++ behind (drop (j + 1 + 1) ls) (drop (j + 1) ss))
+without_next ls ss j n lt =
+    let o : suc (j + 1) ≡ j + 1 + 1 = omega arith in
+    let p : suc j ≡ j + 1 = omega arith in
+    let r : remove ls (j + 1) ≡ take j ls ++ get_or ls j [] ∷ drop (j + 1 + 1) ls = rw (take_more ls j [] (omega arith), append_assoc, o) refl in
+    ap (λ k. in_order k (remove ss j)) r
+    ∙ rw (p)
+    (in_order_at (take j ls) (get_or ls j []) (drop (j + 1 + 1) ls) (take j ss) (drop (j + 1) ss) (length-take-le j ls (omega arith) ∙ sym (length-take-le j ss (omega arith))))
 
 pub starts_take : (ls : List (List ℕ)) (i : ℕ) → i < length ls → starts (take (i + 1) ls) ≡ starts (take i ls) + (length (get_or ls i []) + 1)
 starts_take [] i lt = absurd (omega arith)

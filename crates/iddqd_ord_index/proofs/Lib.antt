@@ -21,6 +21,7 @@ pub mod RemoveByLemmas
 pub mod OrderLemmas
 pub mod PackedLemmas
 pub mod PairLemmas
+pub mod PartLemmas
 pub mod RemoveLemmas
 pub mod RunLemmas
 pub mod SearchedLemmas

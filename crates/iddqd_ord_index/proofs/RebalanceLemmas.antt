@@ -19,7 +19,7 @@ use Rattle.iddqd_ord_index.specs.declared.tree.node.Node.{Node}
 use Rattle.iddqd_ord_index.proofs.BelowLemmas.{length-lists, list_at, subtree_at}
 use Rattle.iddqd_ord_index.proofs.EditLemmas.{IsMade, put_packed, put_subtrees}
 use Rattle.iddqd_ord_index.proofs.HalfLemmas.{forked_of, levels_of}
-use Rattle.iddqd_ord_index.proofs.InOrderLemmas.{pairs, in_order_at, in_order_cut, starts_drop, starts_split}
+use Rattle.iddqd_ord_index.proofs.InOrderLemmas.{starts_drop, starts_split, two_at, with_next}
 use Rattle.iddqd_ord_index.proofs.PackedLemmas.{map-remove}
 
 -- two branches that are set
@@ -87,15 +87,6 @@ module _ (ts us : List Subtree) (j middle top : ℕ) (s : IsShiftedAt j middle t
         let b : first + second - len ≡ length s.upper.slots = omega (arith, same_sum _ _ _ _ _ _ s.shifted) in
         rw (n, b, a) (sym (ap (λ l. map (λ t. length t.slots) l) s.branches ∙ map_two (λ t. length t.slots) ts j s.lower s.upper))
 
--- the list at two neighbours
-two_at : (ls : List (List ℕ)) (ss : List ℕ) (j d : ℕ) → length ls ≡ length ss + 1 → j < length ss
-    → in_order ls ss ≡ pairs (take j ls) (take j ss) ++ ((get_or ls j [] ++ get_or ss j d ∷ get_or ls (j + 1) []) ++ behind (drop (j + 1 + 1) ls) (drop (j + 1) ss))
-two_at ls ss j d n lt =
-    let o : suc j ≡ j + 1 = omega arith in
-    let l : drop (suc j) ls ≡ get_or ls (j + 1) [] ∷ drop (j + 1 + 1) ls = ap (λ k. drop k ls) o ∙ drop_more ls (j + 1) [] (omega arith) in
-    let s : drop j ss ≡ get_or ss j d ∷ drop (j + 1) ss = drop_more ss j d lt in
-    in_order_cut ls ss j (omega arith) n ∙ rw (l, s, append_assoc) refl
-
 shifted_list : (ls : List (List ℕ)) (ss : List ℕ) (j : ℕ) (l u : List ℕ) (s t : ℕ) → length ls ≡ length ss + 1 → j < length ss → s ≡ get_or ss j s
     → get_or ls j [] ++ s ∷ get_or ls (j + 1) [] ≡ l ++ t ∷ u
     → in_order (set (set ls j l) (j + 1) u) (set ss j t) ≡ in_order ls ss
@@ -111,14 +102,7 @@ shifted_list ls ss j l u s t n lt e h =
 merged_list : (ls : List (List ℕ)) (ss : List ℕ) (j : ℕ) (l : List ℕ) (s : ℕ) → length ls ≡ length ss + 1 → j < length ss → s ≡ get_or ss j s
     → l ≡ get_or ls j [] ++ s ∷ get_or ls (j + 1) []
     → in_order (set (remove ls (j + 1)) j l) (remove ss j) ≡ in_order ls ss
-merged_list ls ss j l s n lt e h =
-    let o : suc (j + 1) ≡ j + 1 + 1 = omega arith in
-    let p : suc j ≡ j + 1 = omega arith in
-    let m = length-take-le j ls (omega arith) in
-    let r : remove ls (j + 1) ≡ take j ls ++ get_or ls j [] ∷ drop (j + 1 + 1) ls = rw (take_more ls j [] (omega arith), append_assoc, o) refl in
-    ap (λ k. in_order (set k j l) (remove ss j)) r
-    ∙ rw (set_at (take j ls) (get_or ls j []) (drop (j + 1 + 1) ls) l j m, p)
-    (in_order_at (take j ls) l (drop (j + 1 + 1) ls) (take j ss) (drop (j + 1) ss) (m ∙ sym (length-take-le j ss (omega arith))) ∙ rw h (rw (← e) refl ∙ sym (two_at ls ss j s n lt)))
+merged_list ls ss j l s n lt e h = with_next ls ss j l n lt ∙ rw h (rw (← e) refl ∙ sym (two_at ls ss j s n lt))
 
 -- what holds of an element, if one is set of which it holds
 set_holds : (P : Subtree → Type 0) (ts : List Subtree) (i k : ℕ) (t d : Subtree) → i < length ts → P t → (k ≢ i → P (get_or ts k d)) → P (get_or (set ts i t) k d)

@@ -1,5 +1,5 @@
--- What a removal by key does to the slots of a node. No public clause cites this module.
-use Rattle.std.specs.Prelude.{◌≡◌, ℕ, ◌+◌, ◌-◌, List, remove, slice_index, take, Option, Some, None, Ok, Err}
+-- What a removal does to the slots of a node. No public clause cites this module.
+use Rattle.std.specs.Prelude.{◌≡◌, ℕ, ◌+◌, ◌-◌, ◌≤◌, ◌++◌, List, length, remove, slice_index, take, Option, Some, None, Ok, Err}
 use Rattle.std.specs.declared.cmp.Ordering.{Ordering}
 use Rattle.arrayvec.specs.ArrayVec.{ArrayVec}
 use Rattle.iddqd_ord_index.specs.Changes.{Stock, GivesBack}
@@ -29,3 +29,14 @@ Loses order old (Some slot) new = (i : ℕ) × (slot ≡ slice_index old i) × I
 -- the same of a query and the slots of two nodes
 abbrev pub LosesEqual : {T K : Type 0} → (T → K) → (K → Ordering) → Store T → Subtree → Option ℕ → Subtree → Type 0
 LosesEqual key compare store old slot new = Loses (slot_standing key compare store) old.slots slot new.slots
+
+-- `count` of the `most` elements from place `at` on have left a list: a part of it, which lies within these
+pub record LosesPart (at most count : ℕ) (old new : List ℕ) : Type 0 where
+  pub front : List ℕ
+  pub part : List ℕ
+  pub back : List ℕ
+  pub old_is : old ≡ front ++ (part ++ back)
+  pub new_is : new ≡ front ++ back
+  pub from : at ≤ length front
+  pub to : length front + length part ≤ at + most
+  pub number : count ≡ length part

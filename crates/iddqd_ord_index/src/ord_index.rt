@@ -1,5 +1,5 @@
 //! The ordered index: slots in an order that its caller keeps, searched by the keys of their items.
-ghost use Rattle.std.specs.Prelude.{◌≡◌, ◌-◌, ◌<◌, ◌≤◌, true, [], length, take, drop, insert, remove, slice_get, slice_set, nat_eq, IsTrue, OnOk, OnErr, IfOk, IfErr, Contains};
+ghost use Rattle.std.specs.Prelude.{◌≡◌, ◌-◌, ◌<◌, ◌≤◌, true, [], ◌++◌, length, take, drop, insert, remove, slice_get, slice_set, nat_eq, IsTrue, OnOk, OnErr, IfOk, IfErr, Contains};
 ghost use Rattle.std.specs.List.{IsDistinct};
 ghost use Rattle.iddqd_ord_index.specs.Listed.{unprepared};
 ghost use Rattle.iddqd_store.specs.Refusal.{memory_refused};
@@ -186,6 +186,26 @@ impl OrdIndex {
         self.levels = levels;
         self.len -= 1;
         slot
+    }
+
+    /// Removes the slots from one place on up to another. It removes whole nodes where it can, so that it goes down the
+    /// tree less often than there are nodes to remove. Does not allocate.
+    pub fn remove_between(&mut self, from: Place, to: Place)
+        requires forward { from ≤ to }
+        requires in_list { to ≤ length self.old.slots }
+        ensures { self.new ≡ unprepared (take from self.old.slots ++ drop to self.old.slots) }
+    {
+        self.prepared = false;
+        self.cache.clear();
+        let count = to.position - from.position;
+        self.levels = root::remove_part(
+            &mut self.root,
+            self.levels,
+            from.position,
+            count,
+            &mut self.pool,
+        );
+        self.len -= count;
     }
 
     /// Returns the first slot, or `None` if there is none. It goes down the tree.

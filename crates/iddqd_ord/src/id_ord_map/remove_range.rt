@@ -10,8 +10,8 @@ use std::ops::RangeBounds;
 
 impl<T: IdOrdItem> IdOrdMap<T> {
     /// Removes and drops the items whose keys lie in the range, and returns how many there were. Their slots become
-    /// vacant. It makes as many comparisons as `range`, and goes down the index once for each item that it removes. Does
-    /// not allocate.
+    /// vacant. It makes as many comparisons as `range`. It walks over these items once, and cuts their nodes off the
+    /// index. Does not allocate.
     pub fn remove_range<Q: Comparable<T::Key>, R: RangeBounds<Q>>(&mut self, range: R) -> usize
     where
         T: Drop,
@@ -25,12 +25,8 @@ impl<T: IdOrdItem> IdOrdMap<T> {
         let before = self.len();
         let mut steps = Steps::new();
         let low = before - self.walk_from(range.start_bound(), &mut steps).len();
-        let high = self.end_of(range.end_bound(), &mut steps);
-        let mut end = high;
-        while low < end {
-            end -= 1;
-            self.take_at_position(end);
-        }
+        let high = self.end_of(range.end_bound(), &mut steps).max(low);
+        self.remove_between(low, high);
         before - self.len()
     }
 }

@@ -1,12 +1,13 @@
 //! The items of slots: read, lent for writing, removed.
-ghost use Rattle.std.specs.Prelude.{◌≡◌, ◌<◌, IsSome, Some, length, remove, slice_get};
+ghost use Rattle.std.specs.Prelude.{◌≡◌, ◌<◌, ◌≤◌, IsSome, Some, length, remove, slice_get};
 ghost use Rattle.std.specs.Borrow.{sem};
 ghost use Rattle.iddqd_store.specs.Contents.{Ascends};
-ghost use Rattle.iddqd_store.specs.Holding.{Removes};
+ghost use Rattle.iddqd_store.specs.Holding.{LeavesSlots, Removes};
 ghost use Rattle.iddqd_store.specs.SlotItems.{HaveSlots};
+ghost use Rattle.iddqd_ord.specs.StoreAndIndex.{LosesBetween};
 
 use super::IdOrdMap;
-use super::store_and_index::remove_from_both;
+use super::store_and_index::{remove_from_both, remove_part_from_both};
 use iddqd_ord_index::Place;
 use iddqd_store::IdOrdItem;
 
@@ -81,5 +82,21 @@ impl<T: IdOrdItem> IdOrdMap<T> {
         ensures keyed { Ascends T.key T.Key.cmp self.new.items }
     {
         remove_from_both(&mut self.store, &mut self.index, place)
+    }
+
+    // Removes and drops the items from one position on up to another.
+    pub(super) fn remove_between(&mut self, from: usize, to: usize)
+    where
+        T: Drop,
+        requires keyed { Ascends T.key T.Key.cmp self.old.items }
+        requires forward { from ≤ to }
+        requires in_list { to ≤ length self.old.items }
+        ensures items { LosesBetween from to self.old.items self.new.items }
+        ensures leaves { LeavesSlots self.old self.new }
+        ensures keyed { Ascends T.key T.Key.cmp self.new.items }
+    {
+        let from = self.index.place(from);
+        let to = self.index.place(to);
+        remove_part_from_both(&mut self.store, &mut self.index, from, to);
     }
 }

@@ -2,7 +2,7 @@
 ghost use Rattle.std.specs.Prelude.{◌≡◌, ◌+◌, ◌-◌, ◌<◌, ◌≤◌, length, insert, remove, IsTrue, IfErr, OnErr, OnOk, Err, Some, slice_get};
 ghost use Rattle.iddqd_store.specs.Refusal.{IsKindOf, memory_refused, refusal_kind};
 ghost use Rattle.iddqd_store.specs.Store.{vacant, HasRoomFor};
-ghost use Rattle.iddqd_ord.specs.StoreAndIndex.{KeepsBounds, ListsOccupied, NeedsMemory, items_in};
+ghost use Rattle.iddqd_ord.specs.StoreAndIndex.{KeepsBounds, ListsOccupied, LosesBetween, NeedsMemory, items_in};
 
 use iddqd_ord_index::{OrdIndex, Place};
 use iddqd_store::{ItemStore, TryReserveError};
@@ -103,4 +103,28 @@ pub(super) fn remove_from_both<T>(store: &mut ItemStore<T>, index: &mut OrdIndex
 {
     let slot = index.remove(place);
     store.remove(slot)
+}
+
+// Removes the slots from one place on up to another from the index, and drops their items.
+pub(super) fn remove_part_from_both<T: Drop>(
+    store: &mut ItemStore<T>,
+    index: &mut OrdIndex,
+    from: Place,
+    to: Place,
+)
+    requires paired { ListsOccupied store.old index.old.slots }
+    requires forward { from ≤ to }
+    requires in_list { to ≤ length index.old.slots }
+
+    // what is left
+    ensures paired { ListsOccupied store.new index.new.slots }
+    ensures items { LosesBetween from to (items_in store.old index.old) (items_in store.new index.new) }
+    ensures vacant { vacant store.new + length index.new.slots ≡ vacant store.old + length index.old.slots }
+    ensures bounds { KeepsBounds store.old store.new }
+{
+    let mut walk = index.walk_between(from, to);
+    'drop: while let Some(slot) = walk.next() {
+        store.remove(slot);
+    }
+    index.remove_between(from, to);
 }

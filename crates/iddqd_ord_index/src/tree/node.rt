@@ -7,6 +7,7 @@ ghost use Rattle.iddqd_ord_index.specs.Shape.{unused};
 mod branch_block;
 mod by_position;
 mod clone;
+mod cut;
 mod find;
 mod first_last;
 mod insert;

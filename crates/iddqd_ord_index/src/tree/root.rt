@@ -1,8 +1,8 @@
 //! The root of a tree: it rises a level if it is split, and falls one if it has no slot of its own.
-ghost use Rattle.std.specs.Prelude.{◌≡◌, ◌+◌, ◌*◌, ◌^◌, ◌<◌, ◌≤◌, ◌∷◌, ◌++◌, length, insert, remove, slice_index};
+ghost use Rattle.std.specs.Prelude.{◌≡◌, ◌+◌, ◌*◌, ◌^◌, ◌<◌, ◌≤◌, ◌∷◌, ◌++◌, length, take, drop, insert, remove, slice_index};
 ghost use Rattle.iddqd_ord_index.specs.Changes.{WantsFor};
 ghost use Rattle.iddqd_ord_index.specs.Listed.{AreOccupied};
-ghost use Rattle.iddqd_ord_index.specs.NodeRemoval.{LosesEqual};
+ghost use Rattle.iddqd_ord_index.specs.NodeRemoval.{LosesEqual, LosesPart};
 ghost use Rattle.iddqd_ord_index.specs.Shape.{IsBranch, IsDense, most_levels};
 ghost use Rattle.iddqd_ord_index.specs.Standing.{StandsMonotone};
 
@@ -95,6 +95,72 @@ pub(crate) fn remove(root: &mut Node, levels: usize, at: u32, pool: &mut BlockPo
 {
     let slot = root.remove(at, pool);
     (slot, pop_root_level(root, levels, pool))
+}
+
+// Removes `count` slots from the position on, and returns the number of levels. Whole branches go where they may.
+pub(crate) fn remove_part(
+    root: &mut Node,
+    mut levels: usize,
+    at: u32,
+    count: u32,
+    pool: &mut BlockPool,
+) -> usize
+    requires levels { levels ≡ root.old.height }
+    requires in_list { at + count ≤ length root.old.slots }
+    requires room { length root.old.slots < 2 ^ 32 }
+    requires dense { IsDense root.old }
+    requires top { 1 < root.old.height → 1 ≤ root.old.width }
+    requires wanted { 1 < levels → WantsFor levels pool.old }
+
+    // the tree
+    ensures slots { root.new.slots ≡ take at root.old.slots ++ drop (at + count) root.old.slots }
+    ensures levels { result ≡ root.new.height }
+    ensures top { 1 < root.new.height → 1 ≤ root.new.width }
+
+    // the blocks
+    ensures dense { IsDense root.new }
+    ensures wanted { 1 < result → WantsFor result pool.new }
+{
+    let mut left = count;
+    'cut: while left > 0 {
+        let (removed, now) = remove_some(root, levels, at, left, pool);
+        levels = now;
+        left -= removed;
+    }
+    levels
+}
+
+// Removes some of the `most` slots from the position on. Returns how many, and the number of levels.
+fn remove_some(
+    root: &mut Node,
+    levels: usize,
+    at: u32,
+    most: u32,
+    pool: &mut BlockPool,
+) -> (u32, usize)
+    requires levels { levels ≡ root.old.height }
+    requires in_list { at + most ≤ length root.old.slots }
+    requires some { 0 < most }
+    requires room { length root.old.slots < 2 ^ 32 }
+    requires top { 1 < root.old.height → 1 ≤ root.old.width }
+    requires wanted { 1 < levels → WantsFor levels pool.old }
+
+    // the tree
+    ensures part { LosesPart at most result.0 root.old.slots root.new.slots }
+    ensures some { 0 < result.0 }
+    ensures levels { result.1 ≡ root.new.height }
+    ensures top { 1 < root.new.height → 1 ≤ root.new.width }
+
+    // the blocks
+    ensures dense { IsDense root.new }
+    ensures wanted { 1 < result.1 → WantsFor result.1 pool.new }
+{
+    let removed = root.cut(at, most);
+    if removed > 0 {
+        return (removed, levels);
+    }
+    let (_, levels) = remove(root, levels, at, pool);
+    (1, levels)
 }
 
 // Removes the slot whose item has the query's key, and returns it with the number of levels. If there is none, it returns

@@ -1,5 +1,5 @@
 //! The own slots of a node. Their number takes four bytes, so that a leaf is small.
-ghost use Rattle.std.specs.Prelude.{true, ◌≡◌, ◌+◌, ◌-◌, ◌<◌, ◌≤◌, ◌↔◌, [], ◌∷◌, ◌++◌, length, take, insert, remove, slice_index, slice_index_or, slice_set, option_to_list, IsSome, OnSome};
+ghost use Rattle.std.specs.Prelude.{true, ◌≡◌, ◌+◌, ◌-◌, ◌<◌, ◌≤◌, ◌↔◌, [], ◌∷◌, ◌++◌, length, take, drop, insert, remove, slice_index, slice_index_or, slice_set, option_to_list, IsSome, OnSome};
 ghost use Rattle.arrayvec.specs.ArrayVec.{array_vec_len};
 
 use super::cells;
@@ -79,6 +79,16 @@ impl Slots {
         cells::rotate_out(&mut self.cells[..len], i);
         self.len -= 1;
         slot
+    }
+
+    // Removes `count` slots from place `i` on, and moves the later ones down.
+    pub(crate) fn remove_part(&mut self, i: usize, count: usize)
+        requires { i + count ≤ array_vec_len self.old }
+        ensures { self.new.items ≡ take i self.old.items ++ drop (i + count) self.old.items }
+    {
+        let len = self.len as usize;
+        self.cells.copy_within(i + count..len, i);
+        self.len -= count as u32;
     }
 
     pub(crate) fn push(&mut self, slot: u32)

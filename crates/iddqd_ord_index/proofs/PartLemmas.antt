@@ -1,0 +1,166 @@
+-- A part that leaves a list: slots of a leaf, or a branch with the own slot before it.
+use Rattle.std.proofs.Common.{◌≡◌, ℕ, Bool, false, suc, ◌+◌, ◌-◌, ◌<◌, ◌≤◌, List, [], ◌∷◌, ◌++◌, length, take, drop, set, get_or, refl, ap, sym, ◌∙◌, inl, inr, subst, arith, append_assoc, add-one, length-append, length-drop, length-set}
+use Rattle.std.specs.List.{copy_within, remove, All, AllByRecursion, IsDistinct}
+use Rattle.std.proofs.Math.Seq.{drop-append-add}
+use Rattle.std.proofs.lemmas.Bool.{cases_lt}
+use Rattle.std.proofs.lemmas.List.{drop-drop, drop-set-lt, drop-take, drop_more, get_or-set_same, length-take-le, nil_from_length, take-append-drop, take-append-le, take-set, take-take}
+use Rattle.std.proofs.lemmas.List.Edits.{length-remove, take-paste}
+use Rattle.std.proofs.lemmas.List.Elements.{All-append, All-drop, All-take}
+use Rattle.iddqd_ord_index.specs.NodeRemoval.{LosesPart}
+use Rattle.iddqd_ord_index.specs.Shape.{Subtree, behind, in_order, levels, lists, starts, unused, IsBranch, IsBranchAt, IsForked}
+use Rattle.iddqd_ord_index.proofs.BelowLemmas.{length-lists, list_at}
+use Rattle.iddqd_ord_index.proofs.HalfLemmas.{forked_of, levels_of}
+use Rattle.iddqd_ord_index.proofs.InOrderLemmas.{pairs, in_order_cut, length-pairs, two_at, without_next}
+use Rattle.iddqd_ord_index.proofs.PackedLemmas.{map-remove}
+
+-- slots in the front of an array, without a part of them
+pub front_without_part : (xs : List ℕ) (i count len : ℕ) → i + count ≤ len → len ≤ length xs
+    → take (len - count) (copy_within xs (i + count) len i) ≡ take i (take len xs) ++ drop (i + count) (take len xs)
+front_without_part xs i count len le fits =
+    let m = len - (i + count) in
+    let a : len - count ≡ i + m = omega arith in
+    let b : len ≡ (i + count) + m = omega arith in
+    ap (λ k. take k (copy_within xs (i + count) len i)) a
+    ∙ (take-paste xs i (drop (i + count) xs) m (omega arith) (omega (arith, length-drop (i + count) xs))
+    ∙ (ap (λ l. l ++ take m (drop (i + count) xs)) (sym (take-take i len xs (omega arith)))
+    ∙ ap (λ l. take i (take len xs) ++ l) (sym (ap (λ k. drop (i + count) (take k xs)) b ∙ drop-take (i + count) m xs))))
+
+-- a node that has fewer slots of its own only if it has enough
+pub still_wide : (old new : ℕ) → (new < old → 5 ≤ new) → 5 ≤ old → 5 ≤ new
+still_wide old new least wide = elim (cases_lt new old) [ | inl lt ↦ least lt | inr ge ↦ omega arith ]
+
+-- some slots of a leaf
+pub leaf_part : (at most count : ℕ) (ss old new : List ℕ) → old ≡ ss → new ≡ take at ss ++ drop (at + count) ss → count ≤ most → at + count ≤ length ss → LosesPart at most count old new
+leaf_part at most count ss old new e f le fits =
+    let n = length-take-le count (drop at ss) (omega (arith, length-drop at ss)) in
+    record {
+      front = take at ss;
+      part = take count (drop at ss);
+      back = drop (at + count) ss;
+      old_is = e ∙ sym (ap (λ l. take at ss ++ (take count (drop at ss) ++ l)) (sym (drop-drop count at ss)) ∙ (ap (λ l. take at ss ++ l) (take-append-drop count (drop at ss)) ∙ take-append-drop at ss));
+      new_is = f;
+      from = omega (arith, length-take-le at ss (omega arith));
+      to = omega (arith, n, length-take-le at ss (omega arith));
+      number = sym n;
+    }
+
+module _ (ls : List (List ℕ)) (ss : List ℕ) (at most i rest : ℕ) (branch_at : IsBranchAt ls at i rest) (e : length ls ≡ length ss + 1) where
+  abbrev before : List ℕ
+  before = pairs (take i ls) (take i ss)
+
+  abbrev after : List ℕ
+  after = behind (drop (suc i) ls) (drop i ss)
+
+  length-before : length before ≡ starts (take i ls)
+  length-before = length-pairs (take i ls) (take i ss) (length-take-le i ls (omega (arith, branch_at.branch)) ∙ sym (length-take-le i ss (omega (arith, branch_at.branch))))
+
+  -- a part of the i-th branch
+  pub branch_part : (below count : ℕ) (new : List ℕ) → below ≤ most → LosesPart rest below count (get_or ls i []) new → LosesPart at most count (in_order ls ss) (in_order (set ls i new) ss)
+  branch_part below count new le p =
+      let n = length-before in
+      let m = length-append before p.front in
+      record {
+        front = before ++ p.front;
+        part = p.part;
+        back = p.back ++ after;
+        old_is = in_order_cut ls ss i branch_at.branch e ∙ rw (p.old_is, append_assoc, append_assoc, append_assoc) refl;
+        new_is = in_order_cut (set ls i new) ss i (omega (arith, branch_at.branch, length-set ls i new)) (length-set ls i new ∙ e)
+            ∙ rw (take-set ls i new, get_or-set_same ls i new [] branch_at.branch, drop-set-lt (suc i) ls i new (omega arith), p.new_is, append_assoc, append_assoc) refl;
+        from = omega (arith, p.from, branch_at.sum);
+        to = omega (arith, p.to, branch_at.sum);
+        number = p.number;
+      }
+
+  -- the next branch, and the own slot before it
+  pub next_part : (len : ℕ) → len ≡ length (get_or ls i []) → i < length ss → length (get_or ls (i + 1) []) < most - (len - rest) → LosesPart at most (length (get_or ls (i + 1) []) + 1) (in_order ls ss) (in_order (remove ls (i + 1)) (remove ss i))
+  next_part len n lt fits =
+      let b = length-before in
+      let m = length-append before (get_or ls i []) in
+      record {
+        front = before ++ get_or ls i [];
+        part = get_or ss i 0 ∷ get_or ls (i + 1) [];
+        back = behind (drop (i + 1 + 1) ls) (drop (i + 1) ss);
+        old_is = two_at ls ss i 0 e lt ∙ rw (append_assoc, append_assoc) refl;
+        new_is = without_next ls ss i e lt ∙ sym (append_assoc before (get_or ls i []) _);
+        from = omega (arith, branch_at.sum, branch_at.within);
+        to = omega (arith, branch_at.sum, branch_at.within);
+        number = omega arith;
+      }
+
+-- the node without them
+module _ (ts : List Subtree) (ss : List ℕ) (i : ℕ) (f : IsForked ts ss) (e : length ts ≡ length ss + 1) (lt : i < length ss) where
+  all_without : All (IsBranch (levels ts)) (remove ts (i + 1))
+  all_without = All-append (IsBranch (levels ts)) (take (i + 1) ts) (drop (suc (i + 1)) ts) (All-take (IsBranch (levels ts)) (i + 1) ts f.branches) (All-drop (IsBranch (levels ts)) (suc (i + 1)) ts f.branches)
+
+  length_without : length (remove ts (i + 1)) ≡ length (remove ss i) + 1
+  length_without = omega (arith, length-remove ts (i + 1) (omega arith), length-remove ss i lt)
+
+  pub forked_without : IsForked (remove ts (i + 1)) (remove ss i)
+  forked_without = forked_of (levels ts) (remove ts (i + 1)) (remove ss i) all_without length_without
+
+  pub levels_without : levels (remove ts (i + 1)) ≡ levels ts
+  levels_without = levels_of (levels ts) (remove ts (i + 1)) (omega (arith, length_without)) all_without
+
+  pub lists_without : lists (remove ts (i + 1)) ≡ remove (lists ts) (i + 1)
+  lists_without = map-remove (λ t. t.slots) ts (i + 1)
+
+-- what is left to remove, when a part of it is gone
+module _ (at most count : ℕ) (old new : List ℕ) (p : LosesPart at most count old new) where
+  abbrev rest : ℕ
+  rest = at + most - (length p.front + length p.part)
+
+  front_kept : take at new ≡ take at old
+  front_kept =
+      ap (take at) p.new_is ∙ (take-append-le at p.front p.back p.from
+      ∙ (sym (take-append-le at p.front (p.part ++ p.back) p.from) ∙ ap (take at) (sym p.old_is)))
+
+  back_kept : drop (at + (most - count)) new ≡ drop (at + most) old
+  back_kept =
+      let a : at + (most - count) ≡ length p.front + rest = omega (arith, p.from, p.to, p.number) in
+      let b : at + most ≡ length p.front + (length p.part + rest) = omega (arith, p.to) in
+      ap (λ n. drop n new) a ∙ (ap (drop (length p.front + rest)) p.new_is ∙ (drop-append-add p.front p.back rest
+      ∙ (sym (drop-append-add p.part p.back rest) ∙ (sym (drop-append-add p.front (p.part ++ p.back) (length p.part + rest))
+      ∙ (ap (λ n. drop n (p.front ++ (p.part ++ p.back))) (sym b) ∙ ap (drop (at + most)) (sym p.old_is))))))
+
+  pub rest_alike : take at new ++ drop (at + (most - count)) new ≡ take at old ++ drop (at + most) old
+  rest_alike = ap (λ l. l ++ drop (at + (most - count)) new) front_kept ∙ ap (λ l. take at old ++ l) back_kept
+
+  pub part_within : count ≤ most
+  part_within = omega (arith, p.from, p.to, p.number)
+
+  pub part_length : length new + count ≡ length old
+  part_length = omega (arith, ap length p.old_is, ap length p.new_is, length-append p.front (p.part ++ p.back), length-append p.part p.back, length-append p.front p.back, p.number)
+
+-- no slot is gone, if none was removed
+pub none_gone : (at most : ℕ) (old new : List ℕ) → LosesPart at most 0 old new → new ≡ old
+none_gone at most old new p =
+    p.new_is ∙ (ap (λ l. p.front ++ (l ++ p.back)) (sym (nil_from_length p.part (sym p.number))) ∙ sym p.old_is)
+
+-- one slot is a part
+pub one_part : (at most : ℕ) (old new : List ℕ) → 0 < most → at < length old → new ≡ remove old at → LosesPart at most 1 old new
+one_part at most old new some lt e =
+    let n : suc at ≡ at + 1 = omega arith in
+    leaf_part at most 1 old old new refl (e ∙ ap (λ k. take at old ++ drop k old) n) (omega arith) (omega arith)
+
+-- different slots stay different when a part of them goes
+module _ (eq : ℕ → ℕ → Bool) where
+  all_back : (P : ℕ → Type 0) (xs ys : List ℕ) → AllByRecursion P (xs ++ ys) → AllByRecursion P ys
+  all_back P [] ys all = all
+  all_back P (x ∷ xs) ys all = all_back P xs ys all.1
+
+  all_parted : (P : ℕ → Type 0) (xs ys zs : List ℕ) → AllByRecursion P (xs ++ (ys ++ zs)) → AllByRecursion P (xs ++ zs)
+  all_parted P [] ys zs all = all_back P ys zs all
+  all_parted P (x ∷ xs) ys zs all = (all.0, all_parted P xs ys zs all.1)
+
+  distinct_back : (xs ys : List ℕ) → IsDistinct eq (xs ++ ys) → IsDistinct eq ys
+  unfolding IsDistinct
+  distinct_back [] ys d = d
+  distinct_back (x ∷ xs) ys d = distinct_back xs ys d.1
+
+  distinct_parted : (xs ys zs : List ℕ) → IsDistinct eq (xs ++ (ys ++ zs)) → IsDistinct eq (xs ++ zs)
+  unfolding IsDistinct
+  distinct_parted [] ys zs d = distinct_back ys zs d
+  distinct_parted (x ∷ xs) ys zs d = (all_parted (λ z. eq x z ≡ false) xs ys zs d.0, distinct_parted xs ys zs d.1)
+
+  pub distinct_part : (at most count : ℕ) (old new : List ℕ) → LosesPart at most count old new → IsDistinct eq old → IsDistinct eq new
+  distinct_part at most count old new p d = subst (IsDistinct eq) (sym p.new_is) (distinct_parted p.front p.part p.back (subst (IsDistinct eq) p.old_is d))
