@@ -3,11 +3,11 @@
 --     still_listed      a list of which a part is being taken out, from its front
 --     part_taken_out      the first of that part is taken out
 --     taken_absent      no item that is left has a key equal to the one's that was taken out
-use Rattle.std.proofs.Common.{◌≡◌, ℕ, ◌+◌, ◌-◌, ◌≤◌, Bool, not, List, ◌∷◌, ◌++◌, length, take, drop, Some, None, refl, sym, ap, subst, ◌∙◌, arith, append_assoc}
-use Rattle.std.proofs.lemmas.Grind.{common_steps}
+use Rattle.std.proofs.Common.{◌≡◌, ℕ, ◌+◌, ◌-◌, ◌≤◌, Bool, not, List, ◌∷◌, ◌++◌, length, take, drop, Some, None, refl, sym, ap, subst, ◌∙◌, arith, append_assoc, length-append}
+use Rattle.std.proofs.Math.Seq.{get_or-append_seam}
 use Rattle.std.proofs.lemmas.List.{take-append-drop, take-take}
 use Rattle.std.proofs.lemmas.List.Edits.{remove-append_right}
-use Rattle.std.proofs.lemmas.Option.{get_or_from_slice_get, slice_get_within}
+use Rattle.std.proofs.lemmas.Option.{get_or_from_slice_get, slice_get-get_or, slice_get_within}
 use Rattle.std.specs.Cmp.{IsEquivalence}
 use Rattle.std.specs.List.{remove, slice_get}
 use Rattle.std.specs.Option.{option_and_then}
@@ -48,7 +48,9 @@ all_listed from to slots le =
 -- the first of the part is taken out
 module _ {X : Type 0} (front : List X) (x : X) (back : List X) (at : ℕ) (long : length front ≡ at) where
   pub get_first : slice_get (front ++ x ∷ back) at ≡ Some x
-  get_first = grind (arith, common_steps)
+  get_first =
+      subst (λ n. slice_get (front ++ x ∷ back) n ≡ Some x) long
+      (slice_get-get_or (front ++ x ∷ back) (length front) x (omega (arith, length-append front (x ∷ back))) ∙ ap Some (get_or-append_seam front x back x))
 
   pub remove_first : remove (front ++ x ∷ back) at ≡ front ++ back
   remove_first =

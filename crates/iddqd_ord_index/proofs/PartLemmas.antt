@@ -1,7 +1,7 @@
 -- A part that leaves a list: slots of a leaf, or a branch with the own slot before it.
-use Rattle.std.proofs.Common.{◌≡◌, ℕ, Bool, false, suc, ◌+◌, ◌-◌, ◌<◌, ◌≤◌, List, [], ◌∷◌, ◌++◌, length, take, drop, set, get_or, refl, ap, sym, ◌∙◌, inl, inr, subst, arith, append_assoc, add-one, length-append, length-drop, length-set}
-use Rattle.std.specs.List.{copy_within, remove, All, AllByRecursion, IsDistinct}
-use Rattle.std.proofs.Math.Seq.{drop-append-add}
+use Rattle.std.proofs.Common.{◌≡◌, ℕ, zero, suc, ◌+◌, ◌-◌, ◌<◌, ◌≤◌, List, [], ◌∷◌, ◌++◌, length, take, drop, set, get_or, refl, ap, sym, ◌∙◌, inl, inr, subst, arith, append_assoc, add-one, length-append, length-drop, length-set}
+use Rattle.std.specs.List.{copy_within, remove, All}
+use Rattle.std.proofs.Math.Seq.{drop-append-add, drop-nil}
 use Rattle.std.proofs.lemmas.Bool.{cases_lt}
 use Rattle.std.proofs.lemmas.List.{drop-drop, drop-set-lt, drop-take, drop_more, get_or-set_same, length-take-le, nil_from_length, take-append-drop, take-append-le, take-set, take-take}
 use Rattle.std.proofs.lemmas.List.Edits.{length-remove, take-paste}
@@ -142,25 +142,23 @@ one_part at most old new some lt e =
     let n : suc at ≡ at + 1 = omega arith in
     leaf_part at most 1 old old new refl (e ∙ ap (λ k. take at old ++ drop k old) n) (omega arith) (omega arith)
 
--- different slots stay different when a part of them goes
-module _ (eq : ℕ → ℕ → Bool) where
-  all_back : (P : ℕ → Type 0) (xs ys : List ℕ) → AllByRecursion P (xs ++ ys) → AllByRecursion P ys
-  all_back P [] ys all = all
-  all_back P (x ∷ xs) ys all = all_back P xs ys all.1
+-- what holds of a list still holds without a part of it, if it does without any one element
+module _ {X : Type 0} where
+  part_after_one : (from to : ℕ) (xs : List X) → from ≤ to → take from (remove xs from) ++ drop to (remove xs from) ≡ take from xs ++ drop (suc to) xs
+  part_after_one zero to [] le = drop-nil to
+  part_after_one zero to (x ∷ xs) le = refl
+  part_after_one (suc from) zero xs le = absurd (omega arith)
+  part_after_one (suc from) (suc to) [] le = refl
+  part_after_one (suc from) (suc to) (x ∷ xs) le = ap (λ l. x ∷ l) (part_after_one from to xs (omega arith))
 
-  all_parted : (P : ℕ → Type 0) (xs ys zs : List ℕ) → AllByRecursion P (xs ++ (ys ++ zs)) → AllByRecursion P (xs ++ zs)
-  all_parted P [] ys zs all = all_back P ys zs all
-  all_parted P (x ∷ xs) ys zs all = (all.0, all_parted P xs ys zs all.1)
+  one_by_one : (P : List X → Type 0) → ((xs : List X) (i : ℕ) → P xs → P (remove xs i)) → (count from to : ℕ) (xs : List X) → from + count ≡ to → P xs → P (take from xs ++ drop to xs)
+  one_by_one P step zero from to xs e p =
+      let n : from ≡ to = omega arith in
+      subst (λ n. P (take from xs ++ drop n xs)) n (subst P (sym (take-append-drop from xs)) p)
+  one_by_one P step (suc count) from to xs e p =
+      let n : suc (to - 1) ≡ to = omega arith in
+      subst (λ n. P (take from xs ++ drop n xs)) n
+      (subst P (part_after_one from (to - 1) xs (omega arith)) (one_by_one P step count from (to - 1) (remove xs from) (omega arith) (step xs from p)))
 
-  distinct_back : (xs ys : List ℕ) → IsDistinct eq (xs ++ ys) → IsDistinct eq ys
-  unfolding IsDistinct
-  distinct_back [] ys d = d
-  distinct_back (x ∷ xs) ys d = distinct_back xs ys d.1
-
-  distinct_parted : (xs ys zs : List ℕ) → IsDistinct eq (xs ++ (ys ++ zs)) → IsDistinct eq (xs ++ zs)
-  unfolding IsDistinct
-  distinct_parted [] ys zs d = distinct_back ys zs d
-  distinct_parted (x ∷ xs) ys zs d = (all_parted (λ z. eq x z ≡ false) xs ys zs d.0, distinct_parted xs ys zs d.1)
-
-  pub distinct_part : (at most count : ℕ) (old new : List ℕ) → LosesPart at most count old new → IsDistinct eq old → IsDistinct eq new
-  distinct_part at most count old new p d = subst (IsDistinct eq) (sym p.new_is) (distinct_parted p.front p.part p.back (subst (IsDistinct eq) p.old_is d))
+  pub without_part : (P : List X → Type 0) → ((xs : List X) (i : ℕ) → P xs → P (remove xs i)) → (from to : ℕ) (xs : List X) → from ≤ to → P xs → P (take from xs ++ drop to xs)
+  without_part P step from to xs le p = one_by_one P step (to - from) from to xs (omega arith) p

@@ -184,6 +184,16 @@ impl Coins {
         self.year_of(Some(slot))
     }
 
+    // Whether there are such places, between which the slots are removed.
+    fn cut(&mut self, from: usize, to: usize) -> bool {
+        if from > to || to > self.index.len() as usize {
+            return false;
+        }
+        let (from, to) = (self.index.place(from), self.index.place(to));
+        self.index.remove_between(from, to);
+        true
+    }
+
     fn take_first(&mut self) -> Option<u32> {
         let slot = self.index.remove_first();
         self.year_of(slot)
@@ -373,6 +383,37 @@ fn coins_leave_at_the_ends(rt: HostRuntime) -> Result<(), Fail> {
     check(&rt, coins.take_first().is_none());
     check(&rt, coins.take_last().is_none());
     same(&rt, &coins, &[]);
+    Ok(())
+}
+
+// The even years below a thousand without those at the places from one on up to another.
+fn years_but(alloc: Global, from: u32, to: u32) -> Result<Vec<u32>, AllocError> {
+    (0..500u32)
+        .filter(|n| *n < from || to <= *n)
+        .map(|n| n.wrapping_mul(2))
+        .collect(alloc)
+}
+
+// A part leaves at either end or between, and coins come and go afterwards.
+#[test]
+fn coins_leave_between(rt: HostRuntime) -> Result<(), Fail> {
+    for (from, to) in [
+        (0, 0),
+        (3, 9),
+        (7, 47),
+        (0, 499),
+        (1, 500),
+        (100, 400),
+        (250, 500),
+        (0, 500),
+    ] {
+        let mut coins = Coins::new(rt.alloc());
+        fill(&rt, &mut coins);
+        check(&rt, coins.cut(from as usize, to as usize));
+        let mut years = years_but(rt.alloc(), from, to)?;
+        same(&rt, &coins, years.as_slice());
+        exchange(&rt, &mut coins, &mut years, 7)?;
+    }
     Ok(())
 }
 

@@ -8,10 +8,10 @@ use Rattle.iddqd_ord.proofs.id_ord_map.store_and_index.remove_part_from_both.Giv
 -- the slots that the walk has not given yet still belong to the store
 abbrev pub invariant-drop : goal.invariant-drop
 invariant-drop g l = record {
-  paired : ListsOccupied l.store (still_listed l.from l.to l.index.slots l.walk);
-  items : listed_items l.store (still_listed l.from l.to l.index.slots l.walk) ≡ take l.from (listed_items l.initial.store l.index.slots) ++ drop (l.to - length l.walk) (listed_items l.initial.store l.index.slots);
+  paired : ListsOccupied l.store (still_listed l.from l.to l.fn.index.slots l.walk);
+  items : listed_items l.store (still_listed l.from l.to l.fn.index.slots l.walk) ≡ take l.from (listed_items l.initial.store l.fn.index.slots) ++ drop (l.to - length l.walk) (listed_items l.initial.store l.fn.index.slots);
   within : l.from + length l.walk ≤ l.to;
-  vacant : vacant l.store + length (still_listed l.from l.to l.index.slots l.walk) ≡ vacant l.initial.store + length l.index.slots;
+  vacant : vacant l.store + length (still_listed l.from l.to l.fn.index.slots l.walk) ≡ vacant l.initial.store + length l.fn.index.slots;
   bounds : KeepsBounds l.initial.store l.store;
 }
 

@@ -1,7 +1,8 @@
-use Rattle.std.proofs.Common.{◌-◌, length, refl, sym, ap, subst, arith, nat_eq}
+use Rattle.std.proofs.Common.{◌+◌, ◌-◌, length, refl, sym, ap, subst, arith, nat_eq}
 use Rattle.std.specs.List.{IsDistinct}
+use Rattle.iddqd_store.proofs.DistinctLemmas.{distinct_remove}
 use Rattle.iddqd_ord_index.proofs.IndexLemmas.{empty_run, unready}
-use Rattle.iddqd_ord_index.proofs.PartLemmas.{distinct_part, leaf_part, part_length}
+use Rattle.iddqd_ord_index.proofs.PartLemmas.{leaf_part, part_length, without_part}
 use Rattle.iddqd_ord_index.proofs.ord_index.OrdIndex.remove_between.Goals as goal
 
 pub invariant_of-self : goal.invariant_of-self
@@ -14,7 +15,7 @@ invariant_of-self c =
     (omega (arith, c.from.view_is, c.to.view_is, c.requires.forward, c.requires.in_list, ap (λ i. length i.slots) c.self.view_is)) in
     let n = part_length from count count slots c.remove_part-self-inside.new.root.slots part in
     record {
-      each_once = distinct_part nat_eq from count count slots c.remove_part-self-inside.new.root.slots part c.self.invariant.each_once;
+      each_once = subst (IsDistinct nat_eq) (sym e.slots) (without_part (IsDistinct nat_eq) (distinct_remove nat_eq) from (from + count) slots (omega arith) c.self.invariant.each_once);
       numbered = omega (arith, n, c.self.invariant.numbered);
       len = omega (arith, n, c.self.invariant.len);
       levels = e.levels;
