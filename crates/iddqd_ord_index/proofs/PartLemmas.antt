@@ -3,10 +3,12 @@ use Rattle.std.proofs.Common.{◌≡◌, ℕ, zero, suc, ◌+◌, ◌-◌, ◌<�
 use Rattle.std.specs.List.{copy_within, remove, All}
 use Rattle.std.proofs.Math.Seq.{drop-append-add, drop-nil}
 use Rattle.std.proofs.lemmas.Bool.{cases_lt}
-use Rattle.std.proofs.lemmas.List.{drop-drop, drop-set-lt, drop-take, drop_more, get_or-set_same, length-take-le, nil_from_length, take-append-drop, take-append-le, take-set, take-take}
+use Rattle.std.proofs.lemmas.List.{drop-drop, drop-set-lt, drop-take, drop_more, get_or-set_same, length-take-le, nil_from_length, take-append-drop, take-append-le, take-set, take-take, take_at, take_more_set, drop_at}
 use Rattle.std.proofs.lemmas.List.Edits.{length-remove, take-paste}
 use Rattle.std.proofs.lemmas.List.Elements.{All-append, All-drop, All-take}
-use Rattle.iddqd_ord_index.specs.NodeRemoval.{LosesPart}
+use Rattle.std.proofs.lemmas.Slice.{take-put_mid, drop-put_mid}
+use borrow.Rule.Slice.PartMut.{put_mid}
+use Rattle.iddqd_ord_index.specs.NodeRemoval.{LosesPart, Writes}
 use Rattle.iddqd_ord_index.specs.Shape.{Subtree, behind, in_order, levels, lists, starts, unused, IsBranch, IsBranchAt, IsForked}
 use Rattle.iddqd_ord_index.proofs.BelowLemmas.{length-lists, list_at}
 use Rattle.iddqd_ord_index.proofs.HalfLemmas.{forked_of, levels_of}
@@ -24,6 +26,21 @@ front_without_part xs i count len le fits =
     ∙ (take-paste xs i (drop (i + count) xs) m (omega arith) (omega (arith, length-drop (i + count) xs))
     ∙ (ap (λ l. l ++ take m (drop (i + count) xs)) (sym (take-take i len xs (omega arith)))
     ∙ ap (λ l. take i (take len xs) ++ l) (sym (ap (λ k. drop (i + count) (take k xs)) b ∙ drop-take (i + count) m xs))))
+
+-- slots in the front of an array, some of them written
+pub front_written : (xs ys : List ℕ) (i k count len : ℕ) → k ≡ count → length ys ≡ count → i + count ≤ len → len ≤ length xs
+    → take len (put_mid i k xs ys) ≡ take i (take len xs) ++ (ys ++ drop (i + count) (take len xs))
+front_written xs ys i k count len e long le fits =
+    let m = len - (i + count) in
+    let b : len ≡ (i + count) + m = omega arith in
+    let new = put_mid i k xs ys in
+    let first : take (i + count) (take len new) ≡ take i (take len xs) ++ ys =
+    take-take (i + count) len new le ∙ (take-put_mid i k xs ys (i + count) (omega arith) (omega arith) ∙ ap (λ l. l ++ ys) (sym (take-take i len xs (omega arith)))) in
+    let last : drop (i + count) (take len new) ≡ drop (i + count) (take len xs) =
+    ap (λ n. drop (i + count) (take n new)) b ∙ (drop-take (i + count) m new ∙ (ap (take m) (drop-put_mid i k xs ys (i + count) (omega arith) (omega arith) (omega arith))
+    ∙ (sym (drop-take (i + count) m xs) ∙ ap (λ n. drop (i + count) (take n xs)) (sym b)))) in
+    sym (take-append-drop (i + count) (take len new)) ∙ (ap (λ l. l ++ drop (i + count) (take len new)) first
+    ∙ (ap (λ l. (take i (take len xs) ++ ys) ++ l) last ∙ append_assoc (take i (take len xs)) ys (drop (i + count) (take len xs))))
 
 -- a node that has fewer slots of its own only if it has enough
 pub still_wide : (old new : ℕ) → (new < old → 5 ≤ new) → 5 ≤ old → 5 ≤ new
@@ -43,6 +60,21 @@ leaf_part at most count ss old new e f le fits =
       to = omega (arith, n, length-take-le at ss (omega arith));
       number = sym n;
     }
+
+-- slots of a leaf that were written
+pub leaf_written : (at count : ℕ) (more ss old new : List ℕ) → old ≡ ss → new ≡ take at ss ++ (take count more ++ drop (at + count) ss) → at + count ≤ length ss → Writes at count more old new
+unfolding leaf_part
+leaf_written at count more ss old new e f fits =
+    let p = leaf_part at count count ss old (take at ss ++ drop (at + count) ss) e refl (omega arith) fits in
+    record { front = take at ss; part = p.part; back = drop (at + count) ss; old_is = p.old_is; new_is = f; place = length-take-le at ss (omega arith); number = sym p.number }
+
+-- one slot that was written
+pub one_written : (at slot : ℕ) (more old new : List ℕ) → new ≡ set old at slot → take 1 more ≡ slot ∷ [] → at < length old → Writes at 1 more old new
+one_written at slot more old new e f lt =
+    let n = length-set old at slot in
+    leaf_written at 1 more old old new refl
+    (e ∙ (sym (take-append-drop (at + 1) (set old at slot)) ∙ rw (take_more_set old at slot lt, drop-set-lt (at + 1) old at slot (omega arith), f, append_assoc) refl))
+    (omega arith)
 
 module _ (ls : List (List ℕ)) (ss : List ℕ) (at most i rest : ℕ) (branch_at : IsBranchAt ls at i rest) (e : length ls ≡ length ss + 1) where
   abbrev before : List ℕ
@@ -68,6 +100,23 @@ module _ (ls : List (List ℕ)) (ss : List ℕ) (at most i rest : ℕ) (branch_a
             ∙ rw (take-set ls i new, get_or-set_same ls i new [] branch_at.branch, drop-set-lt (suc i) ls i new (omega arith), p.new_is, append_assoc, append_assoc) refl;
         from = omega (arith, p.from, branch_at.sum);
         to = omega (arith, p.to, branch_at.sum);
+        number = p.number;
+      }
+
+  -- slots of the i-th branch that were written, at most `fits` of them
+  pub branch_written : (fits count : ℕ) (more new : List ℕ) → count ≤ fits → Writes rest count (take fits more) (get_or ls i []) new → Writes at count more (in_order ls ss) (in_order (set ls i new) ss)
+  branch_written fits count more new le p =
+      let n = length-before in
+      let m = length-append before p.front in
+      let written : new ≡ p.front ++ (take count more ++ p.back) = p.new_is ∙ ap (λ l. p.front ++ (l ++ p.back)) (take-take count fits more le) in
+      record {
+        front = before ++ p.front;
+        part = p.part;
+        back = p.back ++ after;
+        old_is = in_order_cut ls ss i branch_at.branch e ∙ rw (p.old_is, append_assoc, append_assoc, append_assoc) refl;
+        new_is = in_order_cut (set ls i new) ss i (omega (arith, branch_at.branch, length-set ls i new)) (length-set ls i new ∙ e)
+            ∙ rw (take-set ls i new, get_or-set_same ls i new [] branch_at.branch, drop-set-lt (suc i) ls i new (omega arith), written, append_assoc, append_assoc, append_assoc) refl;
+        place = omega (arith, p.place, branch_at.sum);
         number = p.number;
       }
 
@@ -130,6 +179,28 @@ module _ (at most count : ℕ) (old new : List ℕ) (p : LosesPart at most count
 
   pub part_length : length new + count ≡ length old
   part_length = omega (arith, ap length p.old_is, ap length p.new_is, length-append p.front (p.part ++ p.back), length-append p.part p.back, length-append p.front p.back, p.number)
+
+-- the list in which slots were written: up to the last of them, and behind it
+module _ (at count : ℕ) (more old new : List ℕ) (p : Writes at count more old new) (fits : count ≤ length more) where
+  pub written_front : take (at + count) new ≡ take at old ++ take count more
+  written_front =
+      let n = length-take-le count more fits in
+      let k : at + count ≡ length p.front + count = omega (arith, p.place) in
+      let seam = take_at (p.front ++ take count more) p.back (at + count) (omega (arith, length-append p.front (take count more), p.place)) in
+      ap (take (at + count)) (p.new_is ∙ sym (append_assoc p.front (take count more) p.back))
+      ∙ (seam ∙ ap (λ l. l ++ take count more) (sym (ap (take at) p.old_is ∙ take_at p.front (p.part ++ p.back) at p.place)))
+
+  pub written_back : drop (at + count) new ≡ drop (at + count) old
+  written_back =
+      let n = length-take-le count more fits in
+      ap (drop (at + count)) (p.new_is ∙ sym (append_assoc p.front (take count more) p.back))
+      ∙ (drop_at (p.front ++ take count more) p.back (at + count) (omega (arith, length-append p.front (take count more), p.place))
+      ∙ sym (ap (drop (at + count)) (p.old_is ∙ sym (append_assoc p.front p.part p.back))
+      ∙ drop_at (p.front ++ p.part) p.back (at + count) (omega (arith, length-append p.front p.part, p.place, p.number))))
+
+  pub written_length : length new ≡ length old
+  written_length =
+      omega (arith, ap length p.old_is, ap length p.new_is, length-append p.front (p.part ++ p.back), length-append p.part p.back, length-append p.front (take count more ++ p.back), length-append (take count more) p.back, length-take-le count more fits, p.number)
 
 -- no slot is gone, if none was removed
 pub none_gone : (at most : ℕ) (old new : List ℕ) → LosesPart at most 0 old new → new ≡ old

@@ -40,3 +40,13 @@ pub record LosesPart (at most count : ℕ) (old new : List ℕ) : Type 0 where
   pub from : at ≤ length front
   pub to : length front + length part ≤ at + most
   pub number : count ≡ length part
+
+-- the first `count` of these elements stand in the place of those from place `at` on
+pub record Writes (at count : ℕ) (more old new : List ℕ) : Type 0 where
+  pub front : List ℕ
+  pub part : List ℕ
+  pub back : List ℕ
+  pub old_is : old ≡ front ++ (part ++ back)
+  pub new_is : new ≡ front ++ (take count more ++ back)
+  pub place : length front ≡ at
+  pub number : length part ≡ count

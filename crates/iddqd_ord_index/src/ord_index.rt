@@ -256,7 +256,7 @@ impl OrdIndex {
     {
         self.prepared = false;
         self.cache.clear();
-        self.root.rename(place.position, new);
+        self.root.write(place.position, &[new]);
     }
 
     /// Removes every slot. It drops the nodes of the tree and keeps the unused blocks, and does not allocate.

@@ -1,5 +1,5 @@
 //! The own slots of a node. Their number takes four bytes, so that a leaf is small.
-ghost use Rattle.std.specs.Prelude.{true, ◌≡◌, ◌+◌, ◌-◌, ◌<◌, ◌≤◌, ◌↔◌, [], ◌∷◌, ◌++◌, length, take, drop, insert, remove, slice_index, slice_index_or, slice_set, option_to_list, IsSome, OnSome};
+ghost use Rattle.std.specs.Prelude.{true, ◌≡◌, ◌+◌, ◌-◌, ◌<◌, ◌≤◌, ◌↔◌, [], ◌∷◌, ◌++◌, length, min, take, drop, insert, remove, slice_index, slice_index_or, slice_set, option_to_list, IsSome, OnSome};
 ghost use Rattle.arrayvec.specs.ArrayVec.{array_vec_len};
 
 use super::cells;
@@ -135,6 +135,17 @@ impl Slots {
         let len = self.len as usize;
         self.cells[len..len + more.len()].copy_from_slice(more);
         self.len += more.len() as u32;
+    }
+
+    // Writes the first of these slots over those from place `i` on, as many as there are, and returns how many.
+    pub(crate) fn write(&mut self, i: usize, more: &[u32]) -> usize
+        requires { i ≤ array_vec_len self.old }
+        ensures number { result ≡ min (length more.now) (array_vec_len self.old - i) }
+        ensures items { self.new.items ≡ take i self.old.items ++ (take result more.now ++ drop (i + result) self.old.items) }
+    {
+        let count = more.len().min(self.len as usize - i);
+        self.cells[i..i + count].copy_from_slice(&more[..count]);
+        count
     }
 
     // Replaces the slot at place `i` by another, and returns it.

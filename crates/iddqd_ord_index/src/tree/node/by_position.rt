@@ -1,5 +1,6 @@
 //! The slots by their positions, which the counts lead to.
-ghost use Rattle.std.specs.Prelude.{◌≡◌, ◌<◌, length, slice_index, slice_set};
+ghost use Rattle.std.specs.Prelude.{◌≡◌, ◌+◌, ◌<◌, ◌≤◌, length, slice_index};
+ghost use Rattle.iddqd_ord_index.specs.NodeRemoval.{Writes};
 ghost use Rattle.iddqd_ord_index.specs.Shape.{IsDense};
 
 use super::Node;
@@ -23,26 +24,31 @@ impl Node {
         node.slots.as_slice()[place as usize]
     }
 
-    // Replaces the slot at the position by a new one.
-    pub(crate) fn rename(&mut self, at: u32, new: u32)
-        requires { at < length self.old.slots }
-        ensures slots { self.new.slots ≡ slice_set self.old.slots at new }
+    // Writes the first of these slots over those from the position on, and returns how many: those that stand side by
+    // side in a leaf, or one.
+    pub(crate) fn write(&mut self, at: u32, more: &[u32]) -> usize
+        requires some { 0 < length more.now }
+        requires in_list { at + length more.now ≤ length self.old.slots }
+        ensures slots { Writes at result more.now self.old.slots self.new.slots }
+        ensures some { 0 < result }
+        ensures most { result ≤ length more.now }
         ensures height { self.new.height ≡ self.old.height }
         ensures width { self.new.width ≡ self.old.width }
         ensures dense { IsDense self.new }
     {
         if self.branches.is_empty() {
-            self.slots.replace(at as usize, new);
-            return;
+            return self.slots.write(at as usize, more);
         }
         let (i, rest) = self.branches.branch_at(at);
         let count = self.branches.count(i);
         if rest == count {
-            self.slots.replace(i, new);
-            return;
+            self.slots.replace(i, more[0]);
+            return 1;
         }
+        let fits = more.len().min((count - rest) as usize);
         let mut node = self.branches.take(i);
-        node.rename(rest, new);
+        let written = node.write(rest, &more[..fits]);
         self.branches.put(i, node, count);
+        written
     }
 }
