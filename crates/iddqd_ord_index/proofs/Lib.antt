@@ -18,6 +18,7 @@ pub mod LeafLemmas
 pub mod ListedLemmas
 pub mod RebalanceLemmas
 pub mod RemoveByLemmas
+pub mod OccupiedLemmas
 pub mod OrderLemmas
 pub mod PackedLemmas
 pub mod PairLemmas

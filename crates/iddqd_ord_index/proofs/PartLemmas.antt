@@ -3,7 +3,7 @@ use Rattle.std.proofs.Common.{◌≡◌, ℕ, zero, suc, ◌+◌, ◌-◌, ◌<�
 use Rattle.std.specs.List.{copy_within, remove, All}
 use Rattle.std.proofs.Math.Seq.{drop-append-add, drop-nil}
 use Rattle.std.proofs.lemmas.Bool.{cases_lt}
-use Rattle.std.proofs.lemmas.List.{drop-drop, drop-set-lt, drop-take, drop_more, get_or-set_same, length-take-le, nil_from_length, take-append-drop, take-append-le, take-set, take-take, take_at, take_more_set, drop_at}
+use Rattle.std.proofs.lemmas.List.{drop-drop, drop-set-lt, drop-take, drop_more, get_or-set_same, length-take-le, nil_from_length, take-append-drop, take-append-le, take-set, take-take, take_at, take_more_set, drop_at, set_at}
 use Rattle.std.proofs.lemmas.List.Edits.{length-remove, take-paste}
 use Rattle.std.proofs.lemmas.List.Elements.{All-append, All-drop, All-take}
 use Rattle.std.proofs.lemmas.Slice.{take-put_mid, drop-put_mid}
@@ -201,6 +201,15 @@ module _ (at count : ℕ) (more old new : List ℕ) (p : Writes at count more ol
   pub written_length : length new ≡ length old
   written_length =
       omega (arith, ap length p.old_is, ap length p.new_is, length-append p.front (p.part ++ p.back), length-append p.part p.back, length-append p.front (take count more ++ p.back), length-append (take count more) p.back, length-take-le count more fits, p.number)
+
+-- one slot that was written is set
+pub written_set : (at count slot : ℕ) (old new : List ℕ) → Writes at count (slot ∷ []) old new → count ≡ 1 → new ≡ set old at slot
+written_set at count slot old new p e = p.new_is ∙ (ap (λ n. p.front ++ (take n (slot ∷ []) ++ p.back)) e ∙ (sym (of_one p.part (p.number ∙ e)) ∙ ap (λ l. set l at slot) (sym p.old_is)))
+  where
+    of_one : (part : List ℕ) → length part ≡ 1 → set (p.front ++ (part ++ p.back)) at slot ≡ p.front ++ slot ∷ p.back
+    of_one [] n = absurd (omega arith)
+    of_one (x ∷ []) n = set_at p.front x p.back slot at p.place
+    of_one (x ∷ (y ∷ part)) n = absurd (omega arith)
 
 -- no slot is gone, if none was removed
 pub none_gone : (at most : ℕ) (old new : List ℕ) → LosesPart at most 0 old new → new ≡ old

@@ -8,6 +8,7 @@ mod insert_by_key;
 mod into_walk;
 mod lookups;
 mod remove_by_key;
+mod retain_occupied;
 mod run_cache;
 mod walk;
 

@@ -7,7 +7,7 @@ use arrayvec::ArrayVec;
 use std::marker::Model;
 
 // How many slots a cache has room for.
-const RUN: usize = 64;
+pub(super) const RUN: usize = 64;
 
 /// Some slots that stand side by side in a list, and the position of the first.
 #[derive(Drop)]
@@ -128,7 +128,7 @@ fn append_through(slots: &mut ArrayVec<u32, RUN>, root: &Node, start: u32, at: u
 }
 
 // Goes down the tree once, and appends the slots from the position on that there is room for. Returns the first of them.
-fn append(slots: &mut ArrayVec<u32, RUN>, root: &Node, at: u32) -> u32
+pub(super) fn append(slots: &mut ArrayVec<u32, RUN>, root: &Node, at: u32) -> u32
     requires in_list { at < length root.now.slots }
     requires room { length slots.old.items < RUN }
     ensures slot { result ≡ slice_index root.now.slots at }
