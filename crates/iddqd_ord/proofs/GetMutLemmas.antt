@@ -1,6 +1,6 @@
 -- What a write to the item of a slot leaves, of the store and the index, and of the keys.
 --     item_in_slot      the item of a listed slot is what the store has there
---     lent_paired, lent_items, lent_vacant      the pair of store and index after the write
+--     written_paired, lent_paired, lent_items, lent_vacant      the pair of store and index after the write
 --     slot_is_at, found_is_at      the slot at a place has the item there
 use Rattle.std.proofs.Common.{◌≡◌, ℕ, zero, suc, ◌∙◌, ⊎_elim, Bool, true, false, cond, List, [], ◌∷◌, ◌<◌, length, get_or, slice_get, subst, Some, IsSome, is_some, refl, sym, ap, arith, true≢false, nat_eq, le_of_suc-le-suc, not-suc-le-zero, suc-le-suc}
 use Rattle.std.proofs.lemmas.Bool.{cases_eq, eqb-true}
@@ -31,6 +31,23 @@ module _ {T : Type 0} where
       by behind x e true q some = rw e (rw q (sym e ∙ ap (item_at store) (eqb-true s slot q)))
       by behind x e false q some = rw e (rw q (behind (rw q at some)))
 
+  -- an item that is written stays in its slot
+  pub written_paired : (store : Store T) (slots : List ℕ) (slot : ℕ) → ListsOccupied store slots → IsOccupied store slot → (w : T) → ListsOccupied (with_item store slot w) slots
+  written_paired store slots slot paired here w =
+      let updates = updates-set store slot (Some w) here in
+      record {
+        each_once = paired.each_once;
+        occupied = λ k d h. ⊎_elim
+            (λ e. ap (λ s. is_some (item_at (with_item store slot w) s)) e ∙ ap is_some updates.changed)
+            (λ n. ap is_some (updates.others _ n) ∙ paired.occupied k d h)
+            (cases_eq (get_or slots k d) slot);
+        listed = λ other there. paired.listed other (⊎_elim
+            (λ e. ap (λ s. is_some (item_at store s)) e ∙ here)
+            (λ n. ap is_some (sym (updates.others other n)) ∙ there)
+            (cases_eq other slot));
+        counted = paired.counted ∙ sym (len_lent store slot w here);
+      }
+
   module _ (store : Store T) (slots : List ℕ) (slot : ℕ) (paired : ListsOccupied store slots) (some : is_some (item_of_slot slots (listed_items store slots) slot) ≡ true) where
     pub here : IsOccupied store slot
     here = ap is_some (sym (item_in_slot store slots slot paired.occupied some)) ∙ some
@@ -39,20 +56,7 @@ module _ {T : Type 0} where
     lent_vacant w = vacant_lent store slot w here
 
     pub lent_paired : (w : T) → ListsOccupied (with_item store slot w) slots
-    lent_paired w =
-        let updates = updates-set store slot (Some w) here in
-        record {
-          each_once = paired.each_once;
-          occupied = λ k d h. ⊎_elim
-              (λ e. ap (λ s. is_some (item_at (with_item store slot w) s)) e ∙ ap is_some updates.changed)
-              (λ n. ap is_some (updates.others _ n) ∙ paired.occupied k d h)
-              (cases_eq (get_or slots k d) slot);
-          listed = λ other there. paired.listed other (⊎_elim
-              (λ e. ap (λ s. is_some (item_at store s)) e ∙ here)
-              (λ n. ap is_some (sym (updates.others other n)) ∙ there)
-              (cases_eq other slot));
-          counted = paired.counted ∙ sym (len_lent store slot w here);
-        }
+    lent_paired = written_paired store slots slot paired here
 
     pub lent_items : (w : T) → listed_items (with_item store slot w) slots ≡ written_to_slot slots (listed_items store slots) slot w
     lent_items w =

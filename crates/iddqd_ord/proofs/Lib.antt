@@ -7,4 +7,5 @@ pub mod InsertOrFindLemmas
 mod RangeLemmas
 pub mod StoreAndIndexLemmas
 mod TakenOutLemmas
+mod VisitingLemmas
 mod WalkLemmas

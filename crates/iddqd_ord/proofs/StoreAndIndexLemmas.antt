@@ -4,6 +4,7 @@
 --     listed_counted      there are as many items as listed slots
 --     bound_of      a bound by the number of listed slots is one by the number of items
 --     have_slots      each listed item has a slot of its own
+--     left_slots      each item that is gone has left a vacant slot
 --     paired_empty      nothing is listed where there is no slot
 --     listed_occupied      a listed slot is occupied
 --     paired_added, paired_removed      the pair after the change
@@ -18,10 +19,11 @@ use Rattle.std.specs.List.{All, Contains, IsDistinct, insert, remove, slice_get}
 use Rattle.iddqd_ord_index.specs.Digits.{digits}
 use Rattle.iddqd_ord_index.specs.Listed.{listed_items, AreOccupied}
 use Rattle.iddqd_store.specs.SlotItems.{HaveSlots}
-use Rattle.iddqd_store.specs.Store.{Store, item_at, IsOccupied, store_len, Updates}
+use Rattle.iddqd_store.specs.Holding.{Holding, LeavesSlots}
+use Rattle.iddqd_store.specs.Store.{Store, item_at, IsOccupied, store_len, Updates, vacant}
 use Rattle.iddqd_store.proofs.DistinctLemmas.{absent_apart, distinct_insert, distinct_remove}
 use Rattle.iddqd_ord_index.proofs.ListedLemmas.{length-listed, listed-same, listed-remove}
-use Rattle.iddqd_ord.specs.StoreAndIndex.{ListsOccupied}
+use Rattle.iddqd_ord.specs.StoreAndIndex.{KeepsBounds, ListsOccupied}
 
 -- a place in a list with one more element is its own, or that of an element that was there
 module _ {X : Type 0} (P : X → Type 0) (xs : List X) (i : ℕ) (x : X) (within : i ≤ length xs) where
@@ -91,6 +93,22 @@ module _ {T : Type 0} where
   -- each listed item has a slot of its own
   pub have_slots : (store : Store T) (slots : List ℕ) → ListsOccupied store slots → HaveSlots slots (listed_items store slots)
   have_slots store slots paired = record { as_many = sym (length-listed store slots paired.occupied); each_once = paired.each_once }
+
+  -- what contracts see of a store and its index
+  abbrev holding : Store T → List ℕ → Holding T
+  holding store slots = record { items = listed_items store slots; slots = slots; vacant = vacant store; capacity = store.capacity; limit = store.limit }
+
+  -- each item that is gone has left a vacant slot
+  pub left_slots : (old new : Store T) (slots left : List ℕ) → ListsOccupied old slots → ListsOccupied new left → vacant new + store_len new ≡ vacant old + store_len old → KeepsBounds old new
+      → (map : Holding T) → holding old slots ≡ map → LeavesSlots map (holding new left)
+  left_slots old new slots left before after many bounds map view =
+      let own = have_slots new left after in
+      record {
+        slots = own;
+        vacant = omega (arith, many, before.counted, after.counted, own.as_many, (have_slots old slots before).as_many, ap (λ m. m.vacant) view, ap (λ m. length m.items) view);
+        capacity = bounds.0 ∙ ap (λ m. m.capacity) view;
+        limit = bounds.1 ∙ ap (λ m. m.limit) view;
+      }
 
   -- there are as many items as occupied slots
   pub items_counted : (store : Store T) (slots : List ℕ) → ListsOccupied store slots → length (listed_items store slots) ≡ store_len store

@@ -1,21 +1,23 @@
 //! Keeping some of the items.
-ghost use Rattle.std.specs.Prelude.{◌≡◌, ◌<◌, length};
+ghost use Rattle.std.specs.Prelude.{◌≡◌, ◌+◌};
 ghost use Rattle.std.specs.Fn.{CalledAt};
 ghost use Rattle.std.specs.List.Retain.{IsFiltered};
 ghost use Rattle.iddqd_store.specs.Contents.{Ascends};
 ghost use Rattle.iddqd_store.specs.Holding.{LeavesSlots};
+ghost use Rattle.iddqd_store.specs.Store.{store_len, vacant};
 ghost use Rattle.iddqd_store.specs.Visiting.{VisitsKeepKeys, kept_by, visitor_after};
+ghost use Rattle.iddqd_ord_index.specs.Listed.{listed_items, occupied_slots};
+ghost use Rattle.iddqd_ord.specs.StoreAndIndex.{KeepsBounds, ListsOccupied, items_occupied};
 
 use super::IdOrdMap;
-use iddqd_store::{IdOrdItem, Visit};
+use iddqd_ord_index::Walk;
+use iddqd_store::{IdOrdItem, ItemStore, Visit};
 
 impl<T: IdOrdItem> IdOrdMap<T> {
-    ghost use Rattle.iddqd_ord.specs.OrdMap.{VisitsAt};
-
     /// Calls the closure once for each item, and drops each item for which it returns false. It goes in the order of
-    /// the keys. The closure only reads. Compares no keys. Does not allocate. It goes down the index once for an item
-    /// that goes, and once for several items.
-    pub fn retain<F: FnMut(&T) -> bool>(&mut self, mut keep: F)
+    /// the keys. The closure only reads. Compares no keys. Does not allocate. It goes through the index twice, once for
+    /// the calls, and once to keep what stays, however many items go.
+    pub fn retain<F: FnMut(&T) -> bool>(&mut self, keep: F)
     where
         T: Drop,
         requires callable { F.IsAlwaysCallable keep }
@@ -24,19 +26,12 @@ impl<T: IdOrdItem> IdOrdMap<T> {
         ensures leaves { LeavesSlots self.old self.new }
         ensures keyed { Ascends T.key T.Key.cmp self.new.items }
     {
-        let mut at = 0;
-        while at < self.len() {
-            let slot = self.slot_at_position(at);
-            if keep(self.item_in_slot(slot)) {
-                at += 1;
-            } else {
-                self.take_at_position(at);
-            }
-        }
+        retain_in_store(&mut self.store, self.index.walk(), keep);
+        self.index.retain_occupied(&self.store);
     }
 
     /// Visits each item once, and drops each item for which the visit returns false. It goes in the order of the keys.
-    /// No visit may change a key. Compares no keys. Does not allocate. It goes down the index as `retain` does.
+    /// No visit may change a key. Compares no keys. Does not allocate. It goes through the index as `retain` does.
     pub fn retain_mut<V: Visit<T>>(&mut self, visitor: &mut V)
     where
         T: Drop,
@@ -49,25 +44,60 @@ impl<T: IdOrdItem> IdOrdMap<T> {
         ensures leaves { LeavesSlots self.old self.new }
         ensures keyed { Ascends T.key T.Key.cmp self.new.items }
     {
-        let mut at = 0;
-        while at < self.len() {
-            if self.visit_at(at, visitor) {
-                at += 1;
-            } else {
-                self.take_at_position(at);
-            }
+        visit_in_store(&mut self.store, self.index.walk(), visitor);
+        self.index.retain_occupied(&self.store);
+    }
+}
+
+// Calls the closure for the item of each of these slots, in their order, and drops each item for which it returns false.
+fn retain_in_store<T: IdOrdItem + Drop, F: FnMut(&T) -> bool>(
+    store: &mut ItemStore<T>,
+    mut walk: Walk<'_>,
+    mut keep: F,
+)
+    requires callable { F.IsAlwaysCallable keep }
+    requires paired { ListsOccupied store.old walk }
+    requires keyed { Ascends T.key T.Key.cmp (listed_items store.old walk) }
+
+    // the items
+    ensures paired { ListsOccupied store.new (occupied_slots store.new walk.entry) }
+    ensures filtered { IsFiltered (CalledAt F.FnMut) keep (listed_items store.old walk.entry) (items_occupied store.new walk.entry) }
+    ensures keyed { Ascends T.key T.Key.cmp (items_occupied store.new walk.entry) }
+
+    // the numbers
+    ensures vacant { vacant store.new + store_len store.new ≡ vacant store.old + store_len store.old }
+    ensures bounds { KeepsBounds store.old store.new }
+{
+    'visit: while let Some(slot) = walk.next() {
+        if !keep(store.item(slot)) {
+            store.remove(slot);
         }
     }
+}
 
-    // Visits the item at this position.
-    fn visit_at<V: Visit<T>>(&mut self, at: usize, visitor: &mut V) -> bool
-        requires keyed { Ascends T.key T.Key.cmp self.old.items }
-        requires keeps_keys { VisitsKeepKeys T.key T.Key.eq V.visits }
-        requires in_list { at < length self.old.items }
-        ensures visited { VisitsAt V.visits at visitor.old self.old result visitor.new self.new }
-        ensures keyed { Ascends T.key T.Key.cmp self.new.items }
-    {
-        let slot = self.slot_at_position(at);
-        visitor.visit(self.item_in_slot_mut(slot))
+// Visits the item of each of these slots, in their order, and drops each item for which the visit returns false.
+fn visit_in_store<T: IdOrdItem + Drop, V: Visit<T>>(
+    store: &mut ItemStore<T>,
+    mut walk: Walk<'_>,
+    visitor: &mut V,
+)
+    requires paired { ListsOccupied store.old walk }
+    requires keyed { Ascends T.key T.Key.cmp (listed_items store.old walk) }
+    requires keeps_keys { VisitsKeepKeys T.key T.Key.eq V.visits }
+
+    // the items
+    ensures paired { ListsOccupied store.new (occupied_slots store.new walk.entry) }
+    ensures items { items_occupied store.new walk.entry ≡ kept_by V.visits visitor.old (listed_items store.old walk.entry) }
+    ensures visitor { visitor.new ≡ visitor_after V.visits visitor.old (listed_items store.old walk.entry) }
+    ensures keyed { Ascends T.key T.Key.cmp (items_occupied store.new walk.entry) }
+
+    // the numbers
+    ensures vacant { vacant store.new + store_len store.new ≡ vacant store.old + store_len store.old }
+    ensures bounds { KeepsBounds store.old store.new }
+{
+    'visit: while let Some(slot) = walk.next() {
+        if !visitor.visit(store.get_mut(slot)) {
+            store.remove(slot);
+        }
     }
 }

@@ -1,9 +1,8 @@
 use Rattle.std.proofs.Common.{◌≡◌, ◌+◌, ◌-◌, ◌++◌, ◌∙◌, ℕ, length, take, drop, sym, ap, subst, arith}
 use Rattle.iddqd_store.specs.Contents.{Ascends}
-use Rattle.iddqd_store.specs.SlotItems.{HaveSlots}
 use Rattle.iddqd_ord_index.proofs.PartLemmas.{without_part}
 use Rattle.iddqd_store.proofs.KeepsLemmas.{ascends_remove}
-use Rattle.iddqd_ord.proofs.StoreAndIndexLemmas.{have_slots}
+use Rattle.iddqd_ord.proofs.StoreAndIndexLemmas.{have_slots, left_slots}
 use Rattle.iddqd_ord.proofs.id_ord_map.IdOrdMap.remove_between.Goals as goal
 
 pub place-from-requires : goal.place-from-requires
@@ -25,14 +24,8 @@ pub returns-clause-leaves : goal.returns-clause-leaves
 returns-clause-leaves g c =
     let m = c.self.inside in
     let e = c.remove_part_from_both.ensures in
-    let old = have_slots m.store m.index.slots c.self.invariant in
-    let new = have_slots c.remove_part_from_both.new.store c.remove_part_from_both.new.index.slots e.paired in
-    record {
-      slots = new;
-      vacant = omega (arith, e.vacant, old.as_many, new.as_many, ap (λ v. length v.items) c.self.view_is, ap (λ v. v.vacant) c.self.view_is);
-      capacity = e.bounds.0 ∙ ap (λ v. v.capacity) c.self.view_is;
-      limit = e.bounds.1 ∙ ap (λ v. v.limit) c.self.view_is;
-    }
+    let new = c.remove_part_from_both.new in
+    left_slots m.store new.store m.index.slots new.index.slots c.self.invariant e.paired e.vacant e.bounds c.args.self.now c.self.view_is
 
 pub returns-clause-keyed : goal.returns-clause-keyed
 returns-clause-keyed g c =

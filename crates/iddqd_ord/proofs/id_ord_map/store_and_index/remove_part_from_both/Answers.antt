@@ -24,7 +24,7 @@ drop-init g c =
       paired = subst (ListsOccupied store) (sym all) c.requires.paired;
       items = ap (listed_items store) all ∙ sym (ap (λ k. take from items ++ drop k items) many ∙ take-append-drop from items);
       within = omega (arith, ap length walk.ensures.slots, length-drop from (take to slots), c.requires.forward);
-      vacant = omega (arith, ap length all);
+      vacant = refl;
       bounds = (refl, refl);
     }
 
@@ -65,6 +65,6 @@ drop-preserved g c =
       paired = out.paired;
       items = out.items ∙ (ap (λ l. remove l from) inv.items ∙ left);
       within = omega (arith, many, inv.within);
-      vacant = omega (arith, c.remove.ensures.vacant, inv.vacant, ap length listed, length-append front (slot ∷ back), length-append front back);
+      vacant = omega (arith, c.remove.ensures.vacant, c.remove.ensures.len, inv.vacant);
       bounds = (ap (λ s. s.capacity) c.remove.ensures.store ∙ inv.bounds.0, ap (λ s. s.limit) c.remove.ensures.store ∙ inv.bounds.1);
     }
