@@ -9,14 +9,13 @@
 --     first_passing, last_before, last_none      the first item that passes, and the last
 --     rank_is      how many items are less than a query
 --     part_up_to, part_cut, part_within, take_to, length-part, sum-part      what stands between two positions, its length and its sum
-use Rattle.std.proofs.Common.{◌≡◌, ℕ, zero, suc, ◌+◌, ◌-◌, ◌<◌, ◌≤◌, ⊎_elim, Bool, true, false, not, ◌&&◌, List, [], ◌∷◌, ◌++◌, length, map, take, drop, get_or, filter, sum_by, count_by, max, min, Some, None, Result, Ok, Err, is_ok, refl, sym, ap, ◌∙◌, subst, arith, Ordering, Less, Equal, Greater, below_more, true≢false, suc-le-suc, length-drop, length-take, take-append-drop, ◌⊎◌, inl, inr}
+use Rattle.std.proofs.Common.{◌≡◌, ℕ, zero, suc, ◌+◌, ◌-◌, ◌<◌, ◌≤◌, ⊎_elim, Bool, true, false, not, ◌&&◌, List, [], ◌∷◌, ◌++◌, length, map, take, drop, get_or, filter, sum_by, count_by, max, min, Some, None, Result, Ok, Err, is_ok, refl, sym, ap, ◌∙◌, subst, arith, Ordering, Less, Equal, Greater, below_more, true≢false, suc-le-suc, length-drop, length-take, take-append-drop, inl, inr}
 use Rattle.std.proofs.Math.Nat.{eq-or-lt_of_le}
 use Rattle.std.proofs.lemmas.Bool.{cases_lt}
-use Rattle.std.proofs.lemmas.List.{get_or-map, length-map, drop-take, drop_all, drop_min, take_all, take_more, take_min, get_or-take, length-take-le}
+use Rattle.std.proofs.lemmas.List.{get_or-map, length-map, drop-take, drop_all, drop_min, take_all, take_min, get_or-take, length-take-le}
 use Rattle.std.proofs.lemmas.List.Sums.{sum_by-take-drop, sum_by-take-le, length-filter}
-use Rattle.std.proofs.lemmas.List.Edits.{remove-append_left}
 use Rattle.std.proofs.lemmas.Option.{slice_get-get_or}
-use Rattle.std.specs.List.{AllWithin, HoldsAt, remove, slice_get}
+use Rattle.std.specs.List.{AllWithin, HoldsAt, slice_get}
 use Rattle.std.specs.Ordering.{is_lt, is_le, is_ge, is_gt}
 use Rattle.iddqd_store.specs.Contents.{Ascends, find_item}
 use Rattle.iddqd_store.specs.Holding.{Holding}

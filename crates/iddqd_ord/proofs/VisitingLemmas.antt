@@ -5,7 +5,7 @@
 --     visits_begin, visits_end      before the first visit, and after the last
 --     slot_there, item_there      the slot that is visited next, and its item
 --     visit_keeps, visit_drops, visit_writes      an item stays, leaves, or is written
-use Rattle.std.proofs.Common.{◌≡◌, ◌≢◌, ◌+◌, ℕ, suc, Bool, true, false, not, List, [], ◌∷◌, ◌++◌, length, filter, cond, set, get_or, take, drop, Ordering, Equal, Some, None, is_some, refl, sym, ap, ◌∙◌, inl, inr, subst, arith, append_assoc, length-append, true≢false, nat_eq, suc-le-suc}
+use Rattle.std.proofs.Common.{◌≡◌, ◌+◌, ℕ, suc, Bool, true, false, List, [], ◌∷◌, ◌++◌, length, filter, cond, set, take, drop, Ordering, Equal, Some, None, is_some, refl, sym, ap, ◌∙◌, inl, inr, subst, arith, append_assoc, length-append, true≢false, suc-le-suc}
 use Rattle.std.proofs.Math.Seq.{get_or-append_seam}
 use Rattle.std.proofs.lemmas.Bool.{cases_eq}
 use Rattle.std.proofs.lemmas.List.{append-nil}

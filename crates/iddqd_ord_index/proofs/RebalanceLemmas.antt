@@ -4,17 +4,17 @@
 --     len_within, counts_then      the counts beside them
 --     merged_node, shifted_node      the node afterwards
 --     neighbours      the two are neighbours that may be rebalanced
-use Rattle.std.proofs.Common.{◌≡◌, ℕ, suc, ◌+◌, ◌-◌, ◌^◌, ◌<◌, ◌≤◌, List, [], ◌∷◌, ◌++◌, length, map, take, drop, set, get_or, refl, ap, sym, ◌∙◌, inl, inr, subst, arith, append_assoc, length-append, length-set, min, Option, Some}
+use Rattle.std.proofs.Common.{◌≡◌, ℕ, ◌+◌, ◌-◌, ◌^◌, ◌<◌, ◌≤◌, List, [], ◌∷◌, ◌++◌, length, map, take, drop, set, get_or, refl, ap, sym, ◌∙◌, inl, inr, subst, arith, length-append, length-set, min, Option, Some}
 use Rattle.std.proofs.Common.{◌≢◌}
 use Rattle.std.specs.List.{remove, All}
 use Rattle.std.proofs.lemmas.Bool.{cases_eq, cases_lt}
 use Rattle.std.proofs.lemmas.Grind.{common_steps}
-use Rattle.std.proofs.lemmas.List.{length-take-le, take_more, take-set, take-set-le, drop_more, drop-set-lt, get_or-append-add, get_or_append_left, get_or-set_same, get_or_default, map-set, set_at, set-append_left, set-append_right}
+use Rattle.std.proofs.lemmas.List.{take-set, take-set-le, drop-set-lt, get_or-append-add, get_or_append_left, get_or-set_same, get_or_default, map-set, set-append_left, set-append_right}
 use Rattle.std.proofs.lemmas.List.Edits.{length-remove, get_or-remove_below, get_or-remove_above}
 use Rattle.iddqd_ord_index.specs.Cells.{IsPacked}
 use Rattle.iddqd_ord_index.specs.Neighbours.{AreNeighbours, IsMergedAt, IsNear, IsShifted, IsShiftedAt, IsShort}
 use Rattle.iddqd_ord_index.specs.Nodes.{subtrees}
-use Rattle.iddqd_ord_index.specs.Shape.{Subtree, behind, in_order, starts, lists, levels, unused, IsBranch}
+use Rattle.iddqd_ord_index.specs.Shape.{Subtree, in_order, starts, lists, levels, unused, IsBranch}
 use Rattle.iddqd_ord_index.specs.declared.tree.node.Node.{Node}
 use Rattle.iddqd_ord_index.proofs.BelowLemmas.{length-lists, list_at, subtree_at}
 use Rattle.iddqd_ord_index.proofs.EditLemmas.{IsMade, put_packed, put_subtrees}

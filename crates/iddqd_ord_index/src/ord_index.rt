@@ -50,9 +50,8 @@ impl Place {
 }
 
 /// Slots in order, each once. Only a search looks at items. Contracts see the list, and whether the index is
-/// prepared for one insertion. Only `prepare` prepares it. `add_prepared`, an `insert_by_key` that inserts, `remove`,
-/// `remove_by_key`, `remove_first`, `remove_last`, `rename` and `clear` leave it not prepared, even if the list stays the
-/// same. A clone is not prepared.
+/// prepared for one insertion. Only `prepare` prepares it. `add_prepared`, an `insert_by_key` that inserts, the removals,
+/// `rename` and `clear` leave it not prepared, even if the list stays the same. A clone is not prepared.
 #[derive(Drop)]
 pub struct OrdIndex {
     root: Node,
@@ -189,8 +188,8 @@ impl OrdIndex {
         slot
     }
 
-    /// Removes the slots from one place on up to another. It removes whole nodes where it can, so that it goes down the
-    /// tree less often than there are nodes to remove. Does not allocate.
+    /// Removes the slots from one place on up to another. Whole branches of the tree go at once where they may. Does not
+    /// allocate.
     pub fn remove_between(&mut self, from: Place, to: Place)
         requires forward { from ≤ to }
         requires in_list { to ≤ length self.old.slots }

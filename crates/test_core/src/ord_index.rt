@@ -417,6 +417,29 @@ fn coins_leave_between(rt: HostRuntime) -> Result<(), Fail> {
     Ok(())
 }
 
+// Each slot that a step divides is vacated, and the others stay in their order. `fill` puts year 2 k into slot
+// 143 k % 500.
+#[test]
+fn occupied_slots_stay(rt: HostRuntime) -> Result<(), Fail> {
+    for step in [1, 2, 3, 50, 501] {
+        let mut coins = Coins::new(rt.alloc());
+        fill(&rt, &mut coins);
+        let (mut store, mut index) = (coins.store, coins.index);
+        for slot in 0..500u32 {
+            if slot % step == 0 && store.get(slot).is_some() {
+                store.remove(slot);
+            }
+        }
+        index.retain_occupied(&store);
+        let years: Vec<u32> = (0..500u32)
+            .filter(|k| k.wrapping_mul(143) % 500 % step != 0)
+            .map(|k| k.wrapping_mul(2))
+            .collect(rt.alloc())?;
+        check(&rt, walks!(index.walk(), &store, years));
+    }
+    Ok(())
+}
+
 // Each coin is another of its year, and a copy lists as much. It is empty once it is cleared, and takes all again.
 #[test]
 fn coins_renamed_copied_and_cleared(rt: HostRuntime) -> Result<(), Fail> {

@@ -56,18 +56,6 @@ impl<T> IdOrdMap<T> {
 }
 
 impl<T: IdOrdItem> IdOrdMap<T> {
-    // Removes and returns the item at this position.
-    pub(super) fn take_at_position(&mut self, at: usize) -> T
-        requires keyed { Ascends T.key T.Key.cmp self.old.items }
-        requires in_list { at < length self.old.items }
-        ensures items { self.new.items ≡ remove self.old.items at }
-        ensures removed { Removes (Some result) self.old self.new }
-        ensures keyed { Ascends T.key T.Key.cmp self.new.items }
-    {
-        let place = self.index.place(at);
-        self.take_at_place(place)
-    }
-
     // Removes and returns the item at the place.
     pub(super) fn take_at_place(&mut self, place: Place) -> T
         requires keyed { Ascends T.key T.Key.cmp self.old.items }

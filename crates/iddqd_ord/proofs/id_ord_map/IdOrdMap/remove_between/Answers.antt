@@ -1,4 +1,4 @@
-use Rattle.std.proofs.Common.{◌≡◌, ◌+◌, ◌-◌, ◌++◌, ◌∙◌, ℕ, length, take, drop, sym, ap, subst, arith}
+use Rattle.std.proofs.Common.{◌++◌, ◌∙◌, length, take, drop, sym, ap, subst, arith}
 use Rattle.iddqd_store.specs.Contents.{Ascends}
 use Rattle.iddqd_ord_index.proofs.PartLemmas.{without_part}
 use Rattle.iddqd_store.proofs.KeepsLemmas.{ascends_remove}

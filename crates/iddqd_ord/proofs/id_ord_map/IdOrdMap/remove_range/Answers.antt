@@ -1,5 +1,4 @@
-use Rattle.std.proofs.Common.{◌≡◌, ◌-◌, ◌++◌, ◌∙◌, max, take, drop, ap, sym, arith}
-use Rattle.std.proofs.lemmas.Grind.{common_steps}
+use Rattle.std.proofs.Common.{◌≡◌, ◌-◌, ◌++◌, ◌∙◌, max, take, drop, ap, arith}
 use Rattle.iddqd_store.specs.Contents.{items_without}
 use Rattle.iddqd_ord.specs.Ranges.{bound_now, is_between, is_from, is_up_to}
 use Rattle.iddqd_ord.proofs.RangeLemmas.{places_out, walk_begins}

@@ -1,4 +1,4 @@
-use Rattle.std.proofs.Common.{◌≡◌, ◌∙◌, length, sym, ap, subst, arith}
+use Rattle.std.proofs.Common.{◌∙◌, sym, ap, subst}
 use Rattle.iddqd_ord_index.specs.Listed.{occupied_slots}
 use Rattle.iddqd_ord.specs.StoreAndIndex.{ListsOccupied}
 use Rattle.iddqd_ord.proofs.StoreAndIndexLemmas.{left_slots}

@@ -1,4 +1,4 @@
-use Rattle.std.proofs.Common.{◌≡◌, ◌+◌, List, ℕ, length}
+use Rattle.std.proofs.Common.{◌≡◌, ◌+◌, length}
 use Rattle.std.specs.Fn.{CalledAt}
 use Rattle.iddqd_store.specs.Contents.{Ascends}
 use Rattle.iddqd_store.specs.Store.{store_len, vacant}

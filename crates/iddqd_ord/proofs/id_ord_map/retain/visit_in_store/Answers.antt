@@ -1,7 +1,6 @@
-use Rattle.std.proofs.Common.{◌≡◌, ◌+◌, ◌∷◌, ◌++◌, ◌∙◌, [], ℕ, Bool, List, true, false, length, set, take, drop, refl, sym, ap, subst, arith}
+use Rattle.std.proofs.Common.{◌≡◌, ◌+◌, ◌∷◌, ◌++◌, ◌∙◌, ℕ, List, true, false, length, set, refl, sym, ap, subst, arith}
 use Rattle.std.specs.List.{remove}
 use Rattle.iddqd_store.specs.Store.{with_item}
-use Rattle.iddqd_store.specs.Visiting.{kept_by, visitor_after}
 use Rattle.iddqd_store.proofs.StoreLemmas.{len_lent, vacant_lent}
 use Rattle.iddqd_store.proofs.VisitLemmas.{ascends_remove, visited_dropped, visited_end, visited_kept, visitor_dropped, visitor_end, visitor_kept, written_then_removed}
 use Rattle.iddqd_ord_index.specs.Listed.{listed_items, occupied_slots}

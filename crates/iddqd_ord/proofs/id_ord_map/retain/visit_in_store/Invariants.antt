@@ -1,7 +1,5 @@
-use Rattle.std.proofs.Common.{◌≡◌, ◌+◌, ◌++◌, List, ℕ, length, take, drop}
-use Rattle.iddqd_store.specs.Contents.{Ascends}
+use Rattle.std.proofs.Common.{◌≡◌, ◌+◌, length}
 use Rattle.iddqd_store.specs.Store.{store_len, vacant}
-use Rattle.iddqd_store.specs.Visiting.{kept_by, visitor_after}
 use Rattle.iddqd_ord_index.specs.Listed.{listed_items}
 use Rattle.iddqd_ord.specs.StoreAndIndex.{KeepsBounds}
 use Rattle.iddqd_ord.proofs.VisitingLemmas.{IsVisited, IsVisiting}

@@ -1,4 +1,4 @@
-use Rattle.std.proofs.Common.{◌≡◌, ◌+◌, ◌-◌, ◌++◌, ◌∙◌, ℕ, length, take, drop, filter, is_some, refl, sym, ap, subst, arith, nat_eq}
+use Rattle.std.proofs.Common.{◌+◌, ◌-◌, ◌++◌, ◌∙◌, ℕ, length, take, is_some, refl, sym, ap, subst, arith, nat_eq}
 use Rattle.std.proofs.lemmas.List.{append-nil, drop_all, length-take-le}
 use Rattle.std.specs.List.{IsDistinct}
 use Rattle.iddqd_store.specs.Store.{item_at}

@@ -1,4 +1,4 @@
-use Rattle.std.proofs.Common.{◌≡◌, ◌+◌, ◌<◌, ◌≤◌, ◌^◌, ◌++◌, ℕ, length, take, drop, filter, is_some, ap, sym, ◌∙◌, arith}
+use Rattle.std.proofs.Common.{◌≡◌, ◌+◌, ◌++◌, length, take, drop, is_some, ap, sym, ◌∙◌, arith}
 use Rattle.iddqd_store.specs.Store.{item_at}
 use Rattle.iddqd_ord_index.specs.Listed.{occupied_slots}
 use Rattle.iddqd_ord_index.proofs.OccupiedLemmas.{few_filtered, moved, read_within}

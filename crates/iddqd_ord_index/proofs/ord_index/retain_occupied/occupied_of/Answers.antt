@@ -1,4 +1,4 @@
-use Rattle.std.proofs.Common.{◌<◌, ℕ, length, take, is_some, ap, arith}
+use Rattle.std.proofs.Common.{length, take, is_some, ap, arith}
 use Rattle.std.proofs.lemmas.List.{length-take-le}
 use Rattle.iddqd_store.specs.Store.{item_at}
 use Rattle.iddqd_ord_index.proofs.OccupiedLemmas.{few_filtered}

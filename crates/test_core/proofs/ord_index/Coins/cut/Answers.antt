@@ -1,4 +1,4 @@
-use Rattle.std.proofs.Common.{◌≡◌, ℕ, sym, ap, subst, arith, nat_cmp}
+use Rattle.std.proofs.Common.{ℕ, sym, ap, subst, arith, nat_cmp}
 use Rattle.iddqd_ord_index.proofs.PartLemmas.{without_part}
 use Rattle.test_core.specs.declared.ord_index.Coin.{Coin}
 use Rattle.test_core.specs.InOrder.{InOrder}
