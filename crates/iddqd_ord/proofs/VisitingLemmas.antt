@@ -103,7 +103,7 @@ module _ {T : Type 0} where
         let was = λ (s : ℕ). is_some (item_at store s) in
         let has = λ (s : ℕ). is_some (item_at new s) in
         let gone : has slot ≡ false = ap is_some updates.changed in
-        let weaker : (s : ℕ) → was s ≡ false → has s ≡ false = λ s none. elim (cases_eq s slot) [ | inl e ↦ ap has e ∙ gone | inr other ↦ ap is_some (updates.others s other) ∙ none ] in
+        let weaker : (s : ℕ) → was s ≡ false → has s ≡ false = λ s none. elim (cases_eq s slot) [ inl e ↦ ap has e ∙ gone | inr other ↦ ap is_some (updates.others s other) ∙ none ] in
         let some = filter_all has (v.kept ++ rest) out.paired.occupied in
         record {
           kept = v.kept;
@@ -121,7 +121,7 @@ module _ {T : Type 0} where
         let was = λ (s : ℕ). is_some (item_at store s) in
         let has = λ (s : ℕ). is_some (item_at new s) in
         let paired = written_paired store (v.kept ++ slot ∷ rest) slot v.paired slot_there w in
-        let weaker : (s : ℕ) → was s ≡ false → has s ≡ false = λ s none. elim (cases_eq s slot) [ | inl e ↦ absurd (true≢false (sym slot_there ∙ (ap was (sym e) ∙ none))) | inr other ↦ ap is_some (updates.others s other) ∙ none ] in
+        let weaker : (s : ℕ) → was s ≡ false → has s ≡ false = λ s none. elim (cases_eq s slot) [ inl e ↦ absurd (true≢false (sym slot_there ∙ (ap was (sym e) ∙ none))) | inr other ↦ ap is_some (updates.others s other) ∙ none ] in
         record {
           kept = v.kept;
           left = filter_again was has weaker all ∙ (ap (filter has) v.left ∙ filter_all has (v.kept ++ slot ∷ rest) paired.occupied);

@@ -43,7 +43,7 @@ front_written xs ys i k count len e long le fits =
 
 -- a node that has fewer slots of its own only if it has enough
 pub still_wide : (old new : ℕ) → (new < old → 5 ≤ new) → 5 ≤ old → 5 ≤ new
-still_wide old new least wide = elim (cases_lt new old) [ | inl lt ↦ least lt | inr ge ↦ omega arith ]
+still_wide old new least wide = elim (cases_lt new old) [ inl lt ↦ least lt | inr ge ↦ omega arith ]
 
 -- some slots of a leaf
 pub leaf_part : (at most count : ℕ) (ss old new : List ℕ) → old ≡ ss → new ≡ take at ss ++ drop (at + count) ss → count ≤ most → at + count ≤ length ss → LosesPart at most count old new

@@ -169,7 +169,13 @@ fn removals_by_position(rt: HostRuntime) {
 
 #[test]
 fn removed_ranges(rt: HostRuntime) {
-    for (count, points, step) in [(0, 2, 1), (1, 4, 1), (6, 14, 1), (60, 12, 11), (700, 5, 331)] {
+    for (count, points, step) in [
+        (0, 2, 1),
+        (1, 4, 1),
+        (6, 14, 1),
+        (60, 12, 11),
+        (700, 5, 331),
+    ] {
         for (low, high) in pairs(&rt, points, step) {
             is_removed(&rt, count, (low.as_ref(), high.as_ref()));
         }

@@ -20,13 +20,7 @@ impl OrdIndex {
         self.cache.clear();
         let kept = move_occupied(&mut self.root, self.len, store);
         let count = self.len - kept;
-        self.levels = root::remove_part(
-            &mut self.root,
-            self.levels,
-            kept,
-            count,
-            &mut self.pool,
-        );
+        self.levels = root::remove_part(&mut self.root, self.levels, kept, count, &mut self.pool);
         self.len = kept;
     }
 }

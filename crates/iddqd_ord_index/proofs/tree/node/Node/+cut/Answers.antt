@@ -49,8 +49,8 @@ without t c =
       subst (λ us. IsForked us c.remove.new.self.items) (sym below_is) (subst (λ l. IsForked (remove ts (i + 1)) l) (sym slots_are) (forked_without ts ss i f two lt)),
       ap levels below_is ∙ levels_without ts ss i f two lt,
       subst (λ n. LosesPart c.args.at c.args.most n c.args.self.now.slots (in_order (lists (below c.remove-count.new.self)) c.remove.new.self.items)) (sym count)
-      (subst (λ l. LosesPart c.args.at c.args.most (length (get_or (lists ts) (i + 1) []) + 1) c.args.self.now.slots l) (sym list)
-      (subst (λ s. LosesPart c.args.at c.args.most (length (get_or (lists ts) (i + 1) []) + 1) s.slots (in_order (remove (lists ts) (i + 1)) (remove ss i))) c.self.view_is part)),
+          (subst (λ l. LosesPart c.args.at c.args.most (length (get_or (lists ts) (i + 1) []) + 1) c.args.self.now.slots l) (sym list)
+          (subst (λ s. LosesPart c.args.at c.args.most (length (get_or (lists ts) (i + 1) []) + 1) s.slots (in_order (remove (lists ts) (i + 1)) (remove ss i))) c.self.view_is part)),
     )
 
 pub invariant_of-self-then-may_lose_next : goal.invariant_of-self-then-may_lose_next
@@ -93,7 +93,7 @@ made t c =
       subst (λ us. IsForked us ss) (sym b.1) (set_forked ts ss i new f branch),
       ap levels b.1 ∙ set_levels ts ss i new branch,
       subst (λ l. LosesPart c.args.at c.args.most c.cut-count.result c.args.self.now.slots l) (sym list)
-      (subst (λ s. LosesPart c.args.at c.args.most c.cut-count.result s.slots (in_order (set (lists ts) i new.slots) ss)) c.self.view_is part),
+          (subst (λ s. LosesPart c.args.at c.args.most c.cut-count.result s.slots (in_order (set (lists ts) i new.slots) ss)) c.self.view_is part),
     )
 
 pub invariant_of-self-2 : goal.invariant_of-self-2

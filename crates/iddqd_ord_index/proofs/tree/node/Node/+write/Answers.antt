@@ -94,7 +94,7 @@ made t c =
       subst (λ us. IsForked us ss) (sym b.1) (set_forked ts ss i new f branch),
       ap levels b.1 ∙ set_levels ts ss i new branch,
       subst (λ l. Writes c.args.at count more c.args.self.now.slots l) (sym list)
-      (subst (λ s. Writes c.args.at count more s.slots (in_order (set (lists ts) i new.slots) ss)) c.self.view_is part),
+          (subst (λ s. Writes c.args.at count more s.slots (in_order (set (lists ts) i new.slots) ss)) c.self.view_is part),
     )
 
 pub invariant_of-self-2 : goal.invariant_of-self-2
