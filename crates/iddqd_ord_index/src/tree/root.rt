@@ -74,6 +74,7 @@ pub(crate) fn push_root_level(
 
 // Removes the slot at the position, and returns it with the number of levels. If the root falls, there are as many
 // unused blocks as are wanted.
+#[inline]
 pub(crate) fn remove(root: &mut Node, levels: usize, at: u32, pool: &mut BlockPool) -> (u32, usize)
     requires levels { levels ≡ root.old.height }
     requires place { at < length root.old.slots }

@@ -9,7 +9,7 @@ use Rattle.iddqd_ord.proofs.VisitingLemmas.{IsVisiting, item_there, slot_there, 
 use Rattle.iddqd_ord.proofs.id_ord_map.retain.retain_in_store.Given.{Over}
 use Rattle.iddqd_ord.proofs.id_ord_map.retain.retain_in_store.Goals as goal
 
--- what is kept of the closure's answers, and of the keys
+-- what is kept of the closure's results, and of the keys
 abbrev held : (g : Over) → g.row.F.Denot → List g.row.T.Denot → g.row.F.Denot → List g.row.T.Denot → ℕ → Type 0
 held g first old now items at = IsAsked (CalledAt g.F.FnMut) first old now items at × Ascends g.T.IdOrdItem.key g.T.Key.Ord.cmp items
 
