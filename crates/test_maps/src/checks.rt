@@ -6,7 +6,7 @@ use std::alloc::Global;
 use std::process::Abort;
 pub(crate) use test_support::items::{BAR, FOO};
 use test_support::items::{Named, Titled};
-use test_support::maps::{Hashed, Ordered, UnderTest};
+use test_support::maps::{Hashed, Ordered, UnderTest, by_hash, in_order};
 pub(crate) use test_support::new_items::{named, numbered};
 
 pub(crate) const BAZ: Named = Named {
@@ -58,6 +58,17 @@ pub(crate) fn filled<T: IdOrdItem + Copy + Drop, M: UnderTest<T, T::Key> + Drop>
         check(rt, map.is_put(*item));
     }
     map
+}
+
+/// An ordered map of these items. A test that names the kind of its map takes it from here, so that one function proves
+/// the insertions into such a map.
+pub(crate) fn ordered_of(rt: &impl Host, items: &[Named]) -> Ordered<Named> {
+    filled(rt, in_order(rt.alloc()), items)
+}
+
+/// A hash map of these items.
+pub(crate) fn hashed_of(rt: &impl Host, items: &[Named]) -> Hashed<Named> {
+    filled(rt, by_hash(rt.alloc()), items)
 }
 
 /// Whether the map has these items, and no others.

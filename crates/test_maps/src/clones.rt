@@ -2,7 +2,7 @@
 use crate::checks::check;
 use std::process::Abort;
 use test_support::caseless::{Caseless, item_of};
-use test_support::coarse::{CoarseMap, Copied};
+use test_support::coarse::{CoarseMap, Copied, spelled_at};
 use test_support::maps::{by_hash, in_order};
 
 // A clone of two items with a vacant slot, and with room for more, equals its source. It has room for no more than its
@@ -18,7 +18,7 @@ fn cloned<M: CoarseMap + Copied + Drop>(rt: &impl Abort, mut map: M) {
     check(rt, twin.capacity() == 3);
     check(rt, twin.write_by_reborrow(&Caseless(*b"foo"), 7).is_some());
     check(rt, !twin.equals(&map));
-    check(rt, map.spelled_at(*b"foo") == Some((*b"foo", 42)));
+    check(rt, spelled_at(&map, *b"foo") == Some((*b"foo", 42)));
 }
 
 #[test]

@@ -7,7 +7,7 @@ use std::alloc::Global;
 use std::process::Abort;
 use std::test::Fail;
 use test_support::caseless::{Caseless, Coarse, item_of, spelled};
-use test_support::coarse::{CoarseMap, Put};
+use test_support::coarse::{CoarseMap, Put, spelled_at};
 use test_support::maps::{by_hash, in_order};
 
 // What a call returned is this item, spelled so.
@@ -19,7 +19,7 @@ fn overwrites<M: CoarseMap + Drop>(rt: &impl Abort, mut map: M) {
     check(rt, matches!(map.overwrite(item_of(*b"Foo", 1)), Ok(None)));
     let old = map.overwrite(item_of(*b"FOO", 2));
     check(rt, is_spelled(old, *b"Foo", 1));
-    check(rt, map.spelled_at(*b"foo") == Some((*b"FOO", 2)));
+    check(rt, spelled_at(&map, *b"foo") == Some((*b"FOO", 2)));
     check(rt, map.len() == 1);
 }
 
@@ -70,7 +70,7 @@ fn foo_by_entry<M: CoarseMap + Drop>(rt: &impl Abort, mut map: M) {
     let foo = map.put_vacant(&Caseless(*b"foo"), item_of(*b"foo", 42));
     check(rt, is_spelled(foo, *b"foo", 42));
     check(rt, map.write(&Caseless(*b"foo"), 99));
-    check(rt, map.spelled_at(*b"foo") == Some((*b"foo", 99)));
+    check(rt, spelled_at(&map, *b"foo") == Some((*b"foo", 99)));
     let mut asked = 0;
     let found = map.find_or_put(item_of(*b"foo", 7), &mut asked);
     check(rt, is_spelled(found, *b"foo", 99));
@@ -88,15 +88,15 @@ fn coarse_entries<M: CoarseMap + Drop>(rt: &impl Abort, mut map: M) -> M {
     let doubled = map.double_or_put(item_of(*b"foo", 0));
     check(rt, is_spelled(doubled, *b"foo", 84) && map.len() == 1);
     check(rt, map.insert_and_write(item_of(*b"bar", 5), 6));
-    check(rt, map.spelled_at(*b"bar") == Some((*b"bar", 6)));
+    check(rt, spelled_at(&map, *b"bar") == Some((*b"bar", 6)));
     let gone = map.put_and_remove(item_of(*b"baz", 1));
     check(rt, is_spelled(gone, *b"baz", 1) && map.len() == 2);
     let old = map.insert_occupied(item_of(*b"FOO", 7));
     check(rt, is_spelled(Ok(old), *b"foo", 84));
-    check(rt, map.spelled_at(*b"foo") == Some((*b"FOO", 7)));
+    check(rt, spelled_at(&map, *b"foo") == Some((*b"FOO", 7)));
     let new = map.put_vacant(&Caseless(*b"qux"), item_of(*b"aaa", 3));
     check(rt, is_spelled(new, *b"aaa", 3));
-    check(rt, map.spelled_at(*b"aaa") == Some((*b"aaa", 3)));
+    check(rt, spelled_at(&map, *b"aaa") == Some((*b"aaa", 3)));
     check(rt, map.get(&Caseless(*b"qux")).is_none());
     map
 }

@@ -1,5 +1,5 @@
 //! Rows of insertions, of each kind of map from one text.
-use crate::checks::{BAR, FOO, Host, OTHER_FOO, check, filled, has_only, named, numbered};
+use crate::checks::{BAR, FOO, Host, OTHER_FOO, check, has_only, named, numbered, ordered_of};
 use iddqd::{IdHashItem, IdOrdItem};
 use std::hash::Hash;
 use std::process::Abort;
@@ -87,7 +87,7 @@ fn get_and_double(rt: HostRuntime) {
         (other, Inserted::Duplicate(other, Some(one))),
     ];
     both_insert(&rt, &rows, &[one, two], &3);
-    let map = filled(&rt, in_order(rt.alloc()), &[FOO, named(*b"bar", 99)]);
+    let map = ordered_of(&rt, &[FOO, named(*b"bar", 99)]);
     let (map, _) = map.written(2, double);
     let mut walk = map.iter();
     check(&rt, walk.next().is_some_and(|item| item.value == 198));

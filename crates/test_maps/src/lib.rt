@@ -13,6 +13,8 @@ mod collecting;
 #[cfg(test)]
 mod commands;
 #[cfg(test)]
+mod commands_refused;
+#[cfg(test)]
 mod differences;
 #[cfg(test)]
 mod drops;

@@ -37,12 +37,16 @@ fn full_at_none<M: Copying<Named, [u8; 3]> + Drop>(rt: &impl Abort, mut map: M) 
     check(rt, map.insert(FOO) == Inserted::Refused(FOO, full));
 }
 
+// A map of a limit of two, and one of none.
+fn full<M: Copying<Named, [u8; 3]> + Drop>(rt: &impl Abort, of_two: M, of_none: M) {
+    full_at_two(rt, of_two);
+    full_at_none(rt, of_none);
+}
+
 #[test]
 fn limit_two(rt: HostRuntime) {
-    full_at_two(&rt, in_order_of(rt.alloc(), 2));
-    full_at_none(&rt, in_order_of(rt.alloc(), 0));
-    full_at_two(&rt, by_hash_of(rt.alloc(), 2));
-    full_at_none(&rt, by_hash_of(rt.alloc(), 0));
+    full(&rt, in_order_of(rt.alloc(), 2), in_order_of(rt.alloc(), 0));
+    full(&rt, by_hash_of(rt.alloc(), 2), by_hash_of(rt.alloc(), 0));
 }
 
 // Of a limit of four, three are there.

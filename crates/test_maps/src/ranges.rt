@@ -1,5 +1,7 @@
 //! Rows of the ordered map's ends, positions, ranges and walks from the back, against plain lists.
-use crate::checks::{BAR, BAZ, FOO, Host, check, filled, has_only, named, numbered, titled};
+use crate::checks::{
+    BAR, BAZ, FOO, Host, check, filled, has_only, named, numbered, ordered_of, titled,
+};
 use crate::drops::go_in;
 use iddqd::Text;
 use std::cell::Cell;
@@ -238,13 +240,9 @@ fn ranges_of_coarse_keys(rt: HostRuntime) {
     check(&rt, map.has_items(&[bar]));
 }
 
-fn three(rt: &impl Host) -> Ordered<Named> {
-    filled(rt, in_order(rt.alloc()), &[FOO, BAR, BAZ])
-}
-
 #[test]
 fn ends(rt: HostRuntime) {
-    let mut map = three(&rt);
+    let mut map = ordered_of(&rt, &[FOO, BAR, BAZ]);
     check(&rt, map.map().first() == Some(&BAR));
     check(&rt, map.map().last() == Some(&FOO));
     check(&rt, map.pop_first() == Some(BAR));
@@ -256,7 +254,7 @@ fn ends(rt: HostRuntime) {
 
 #[test]
 fn ends_from_behind(rt: HostRuntime) {
-    let mut map = three(&rt);
+    let mut map = ordered_of(&rt, &[FOO, BAR, BAZ]);
     check(&rt, map.pop_last() == Some(FOO));
     check(&rt, map.pop_last() == Some(BAZ));
     check(&rt, map.pop_last() == Some(BAR));
@@ -275,7 +273,7 @@ fn first_written(map: Ordered<Named>, value: u32) -> Option<Ordered<Named>> {
 
 #[test]
 fn ends_by_entries(rt: HostRuntime) {
-    let map = first_written(three(&rt), 100).expect(&rt, "no first entry");
+    let map = first_written(ordered_of(&rt, &[FOO, BAR, BAZ]), 100).expect(&rt, "no first entry");
     check(&rt, has_only(&map, &[named(*b"bar", 100), BAZ, FOO]));
 }
 

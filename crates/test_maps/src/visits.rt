@@ -1,11 +1,16 @@
 //! Rows of visitors, of walks that write and that retain, and of a `for` that reads.
-use crate::checks::{BAR, BAZ, FOO, Host, check, filled, has_only, numbered};
+ghost use Rattle.std.specs.Prelude.{nat_eq};
+ghost use Rattle.iddqd.specs.Visiting.{VisitsKeepKeys};
+
+use crate::checks::{
+    BAR, BAZ, FOO, Host, check, filled, has_only, hashed_of, numbered, ordered_of,
+};
 use crate::commands::{Rows, replies};
 use crate::insertions::double;
 use iddqd::internal::ValidateCompact;
-use iddqd::{IdHashMap, IdOrdMap};
-use idtable_commands::{Command, Reply};
-use std::alloc::Global;
+use iddqd::{IdHashMap, IdOrdMap, Visit};
+use idtable_commands::{Command, KeyedMap, Reply};
+use std::alloc::{AllocError, Global};
 use std::process::Abort;
 use std::test::Fail;
 use test_support::items::{Named, Numbered};
@@ -36,16 +41,26 @@ fn visiting_rows(alloc: Global) -> Rows<Numbered, u32, Change> {
     Ok(Vec::from_array(alloc, rows)?)
 }
 
+// Whether the commands have the replies of their rows.
+fn are_visited<M: KeyedMap<Item = Numbered, Key = u32>>(
+    alloc: Global,
+    map: &mut M,
+) -> Result<bool, AllocError>
+    requires keyed { M.keyed map.old }
+    requires keeps_keys { VisitsKeepKeys M.key nat_eq ⟦<Change as Visit<Numbered>>⟧.visits }
+{
+    let (given, expected) = replies(alloc, map, visiting_rows(alloc))?;
+    Ok(given == expected)
+}
+
 #[test]
 fn visitor(rt: HostRuntime) -> Result<(), Fail> {
     let alloc = rt.alloc();
     let seen = odd_of_three(&rt, in_order(alloc));
     check(&rt, seen == Change::KeepOdd(123));
     let _ = odd_of_three(&rt, by_hash(alloc));
-    let (given, expected) = replies(alloc, &mut IdOrdMap::new(alloc), visiting_rows(alloc))?;
-    check(&rt, given == expected);
-    let (given, expected) = replies(alloc, &mut IdHashMap::new(alloc), visiting_rows(alloc))?;
-    check(&rt, given == expected);
+    check(&rt, are_visited(alloc, &mut IdOrdMap::new(alloc))?);
+    check(&rt, are_visited(alloc, &mut IdHashMap::new(alloc))?);
     Ok(())
 }
 
@@ -73,30 +88,38 @@ fn retain_by_value(rt: HostRuntime) {
     check(&rt, kept_by_value(&rt, by_hash(rt.alloc())).len() == 3);
 }
 
-// The values of foo and bar, and how many items the walk had left, once it has doubled this many. What reads them is a
-// walk, for which the map need not be keyed.
+// The values of foo and bar, and how many items the walk had left.
+type Doubled = (Option<u32>, Option<u32>, usize);
+
+// Once a walk has doubled this many of the map's. What reads them is a walk too, for which the map need not be keyed.
 macro_rules! doubled {
-    ($rt:ident, $map:expr, $most:literal) => {{
-        let (map, left) = filled(&$rt, $map, &[FOO, BAR]).written($most, double);
+    ($map:expr, $most:ident) => {{
+        let (map, left) = $map.written($most, double);
         let foo = map.iter().find(|item| item.name == *b"foo");
         let bar = map.iter().find(|item| item.name == *b"bar");
         (foo.map(|item| item.value), bar.map(|item| item.value), left)
     }};
 }
 
+fn doubled_in_order(rt: &impl Host, most: usize) -> Doubled {
+    doubled!(ordered_of(rt, &[FOO, BAR]), most)
+}
+
+fn doubled_by_hash(rt: &impl Host, most: usize) -> Doubled {
+    doubled!(hashed_of(rt, &[FOO, BAR]), most)
+}
+
 #[test]
 fn writing_walk(rt: HostRuntime) {
-    let ordered = doubled!(rt, in_order(rt.alloc()), 3);
-    check(&rt, ordered == (Some(84), Some(40), 0));
-    let hashed = doubled!(rt, by_hash(rt.alloc()), 3);
-    check(&rt, hashed == (Some(84), Some(40), 0));
+    let all = (Some(84), Some(40), 0);
+    check(&rt, doubled_in_order(&rt, 3) == all);
+    check(&rt, doubled_by_hash(&rt, 3) == all);
 }
 
 #[test]
 fn writing_walk_of_one_item(rt: HostRuntime) {
-    let ordered = doubled!(rt, in_order(rt.alloc()), 1);
-    check(&rt, ordered == (Some(42), Some(40), 1));
-    let told = doubled!(rt, by_hash(rt.alloc()), 1);
+    check(&rt, doubled_in_order(&rt, 1) == (Some(42), Some(40), 1));
+    let told = doubled_by_hash(&rt, 1);
     let (foo, bar) = ((Some(84), Some(20), 1), (Some(42), Some(40), 1));
     check(&rt, told == foo || told == bar);
 }
@@ -104,7 +127,7 @@ fn writing_walk_of_one_item(rt: HostRuntime) {
 // A `for` over a map that is only read.
 #[test]
 fn for_over_ordered_map(rt: HostRuntime) {
-    let map = filled(&rt, in_order(rt.alloc()), &[FOO, BAR, BAZ]);
+    let map = ordered_of(&rt, &[FOO, BAR, BAZ]);
     let mut expected = [BAR, BAZ, FOO].iter();
     for item in map.map() {
         check(&rt, expected.next() == Some(item));
@@ -115,7 +138,7 @@ fn for_over_ordered_map(rt: HostRuntime) {
 // If nothing was removed, the items come as they were inserted.
 #[test]
 fn for_over_hash_map(rt: HostRuntime) {
-    let map = filled(&rt, by_hash(rt.alloc()), &[FOO, BAR, BAZ]);
+    let map = hashed_of(&rt, &[FOO, BAR, BAZ]);
     let mut expected = [FOO, BAR, BAZ].iter();
     for item in map.map() {
         check(&rt, expected.next() == Some(item));

@@ -2,7 +2,7 @@
 use crate::prelude::*;
 use iddqd::errors::Refused;
 use test_support::caseless::{Caseless, Coarse, item_of, spelled};
-use test_support::coarse::{CoarseMap, Put};
+use test_support::coarse::{CoarseMap, Put, spelled_at};
 
 /// Names that ascend with their numbers. Their last byte is no letter.
 pub(crate) fn name(number: u8) -> [u8; 3] {
@@ -18,10 +18,75 @@ pub(crate) fn fill<M: UnderTest<Coarse, Caseless>>(map: &mut M, count: u8) -> bo
 
 /// Whether the map is sound and has those items, the new one if it is in, and no other.
 pub(crate) fn holds<M: CoarseMap>(map: &M, count: u8, is_new_in: bool) -> bool {
-    (0..count).all(|number| map.spelled_at(name(number)) == Some((name(number), 5)))
-        && map.spelled_at(NEW.0) == is_new_in.then_some(NEW)
+    (0..count).all(|number| spelled_at(map, name(number)) == Some((name(number), 5)))
+        && spelled_at(map, NEW.0) == is_new_in.then_some(NEW)
         && map.len() == usize::from(count).saturating_add(usize::from(is_new_in))
         && map.is_sound()
+}
+
+/// The insertions. Those behind the first six are the ordered map's alone.
+#[derive(Clone, Copy)]
+pub(crate) enum By {
+    InsertUnique,
+    InsertOverwrite,
+    VacantInsert,
+    InsertEntry,
+    OrInsert,
+    OrInsertWith,
+    InsertUniqueCounted,
+    InsertRef,
+    OrInsertRef,
+    OrInsertWithRef,
+}
+
+/// A map of either kind, with the insertions that the ordered map alone has.
+pub(crate) trait Inserts: CoarseMap + Drop {
+    fn put_in_order(&mut self, item: Coarse, by: By) -> Put;
+}
+
+impl Inserts for Ordered<Coarse> {
+    fn put_in_order(&mut self, item: Coarse, by: By) -> Put {
+        match by {
+            By::InsertUniqueCounted => left(self.insert_counted(item).0, item),
+            By::InsertRef => self.put_shown(item),
+            By::OrInsertRef => self.show_or_put(item),
+            _ => self.show_or_put_made(item),
+        }
+    }
+}
+
+impl Inserts for Hashed<Coarse> {
+    fn put_in_order(&mut self, _item: Coarse, _by: By) -> Put {
+        Ok(None)
+    }
+}
+
+// The item that an insertion leaves in the map.
+fn left(inserted: Inserted<Coarse>, item: Coarse) -> Put {
+    match inserted {
+        Inserted::Done => Ok(Some(item)),
+        Inserted::Duplicate(_, _) => Ok(None),
+        Inserted::Refused(item, error) => Err(Refused { item, error }),
+    }
+}
+
+// The item is taken out at once, and goes in again.
+fn put_twice<M: CoarseMap>(map: &mut M, item: Coarse) -> Put {
+    let shown = map.put_and_remove(item)?;
+    Ok(shown.filter(|_| map.is_put(item)))
+}
+
+// The insertion of an item whose key is absent. A vacant entry is asked for by another name.
+fn put<M: Inserts>(map: &mut M, item: Coarse, by: By) -> Put {
+    match by {
+        By::InsertUnique => left(map.insert(item), item),
+        By::InsertOverwrite => Ok(map.overwrite(item)?.xor(Some(item))),
+        By::VacantInsert => map.put_vacant(&Caseless(*b"xyz"), item),
+        By::InsertEntry => put_twice(map, item),
+        By::OrInsert => map.double_or_put(item),
+        By::OrInsertWith => map.find_or_put(item, &mut 0),
+        _ => map.put_in_order(item, by),
+    }
 }
 
 // Whether the new item is shown.
@@ -31,23 +96,24 @@ fn is_shown(answer: Put) -> bool {
 
 // Fills the map with this many items, so that no slot is vacant. Then it tries the insertion of a new one with a
 // request refused. If the item is returned, the map is as it was, and the same call then succeeds.
-fn insertion<M, F>(alloc: Global, mut map: M, put: F, count: u8, refused: &'static str) -> Word
-where
-    M: CoarseMap + Drop,
-    F: Fn(&mut M, Coarse) -> Put,
-    requires { F.IsAlwaysCallable put }
-{
+fn insertion<M: Inserts>(
+    alloc: Global,
+    mut map: M,
+    by: By,
+    count: u8,
+    refused: &'static str,
+) -> Word {
     let is_full = fill(&mut map, count);
     let walk = map.listed(alloc)?;
     let (new_name, new_value) = NEW;
     arm(alloc);
-    let answer = put(&mut map, item_of(new_name, new_value));
+    let answer = put(&mut map, item_of(new_name, new_value), by);
     let is_met = is_met(alloc);
     let is_right = match answer {
         Err(Refused { item, error }) => {
             let is_kept = holds(&map, count, false) && map.lists(walk.as_slice());
             let is_back = spelled(&item) == NEW && !error.is_capacity_overflow();
-            is_met && is_back && is_kept && map.vacant() == 0 && is_shown(put(&mut map, item))
+            is_met && is_back && is_kept && map.vacant() == 0 && is_shown(put(&mut map, item, by))
         }
         done => !is_met && is_shown(done),
     };
@@ -56,102 +122,68 @@ where
 }
 
 /// The word for an insertion into an ordered map of this many items.
-pub(crate) fn put_in_order<F>(alloc: Global, put: F, count: u8, refused: &'static str) -> Word
-where
-    F: Fn(&mut Ordered<Coarse>, Coarse) -> Put,
-    requires { F.IsAlwaysCallable put }
-{
-    insertion(alloc, in_order(alloc), put, count, refused)
+pub(crate) fn put_in_order(alloc: Global, by: By, count: u8, refused: &'static str) -> Word {
+    insertion(alloc, in_order(alloc), by, count, refused)
 }
 
 /// The word for an insertion into a hash map.
-pub(crate) fn put_by_hash<F>(alloc: Global, put: F, count: u8, refused: &'static str) -> Word
-where
-    F: Fn(&mut Hashed<Coarse>, Coarse) -> Put,
-    requires { F.IsAlwaysCallable put }
-{
-    insertion(alloc, by_hash(alloc), put, count, refused)
+pub(crate) fn put_by_hash(alloc: Global, by: By, count: u8, refused: &'static str) -> Word {
+    insertion(alloc, by_hash(alloc), by, count, refused)
 }
 
 const ENTRY: &str = "entry_refused";
 
 #[test]
 fn insert_ref(rt: HostRuntime) -> Result<(), Fail> {
-    tell(&rt, put_in_order(rt.alloc(), Ordered::put_shown, 4, ENTRY))
+    tell(&rt, put_in_order(rt.alloc(), By::InsertRef, 4, ENTRY))
 }
 
 #[test]
 fn or_insert_ref(rt: HostRuntime) -> Result<(), Fail> {
-    tell(
-        &rt,
-        put_in_order(rt.alloc(), Ordered::show_or_put, 4, ENTRY),
-    )
+    tell(&rt, put_in_order(rt.alloc(), By::OrInsertRef, 4, ENTRY))
 }
 
 #[test]
 fn or_insert_with_ref(rt: HostRuntime) -> Result<(), Fail> {
-    tell(
-        &rt,
-        put_in_order(rt.alloc(), Ordered::show_or_put_made, 4, ENTRY),
-    )
-}
-
-fn put_vacant<M: CoarseMap>(map: &mut M, item: Coarse) -> Put {
-    map.put_vacant(&Caseless(*b"xyz"), item)
+    tell(&rt, put_in_order(rt.alloc(), By::OrInsertWithRef, 4, ENTRY))
 }
 
 #[test]
 fn vacant_insert(rt: HostRuntime) -> Result<(), Fail> {
-    tell(&rt, put_in_order(rt.alloc(), put_vacant, 4, ENTRY))
+    tell(&rt, put_in_order(rt.alloc(), By::VacantInsert, 4, ENTRY))
 }
 
 #[test]
 fn hash_vacant_insert(rt: HostRuntime) -> Result<(), Fail> {
-    tell(&rt, put_by_hash(rt.alloc(), put_vacant, 9, ENTRY))
-}
-
-// The item is taken out at once, and goes in again.
-fn put_twice<M: CoarseMap>(map: &mut M, item: Coarse) -> Put {
-    let shown = map.put_and_remove(item)?;
-    Ok(shown.filter(|_| map.is_put(item)))
+    tell(&rt, put_by_hash(rt.alloc(), By::VacantInsert, 9, ENTRY))
 }
 
 #[test]
 fn insert_entry(rt: HostRuntime) -> Result<(), Fail> {
-    tell(&rt, put_in_order(rt.alloc(), put_twice, 4, ENTRY))
+    tell(&rt, put_in_order(rt.alloc(), By::InsertEntry, 4, ENTRY))
 }
 
 #[test]
 fn hash_insert_entry(rt: HostRuntime) -> Result<(), Fail> {
-    tell(&rt, put_by_hash(rt.alloc(), put_twice, 9, ENTRY))
+    tell(&rt, put_by_hash(rt.alloc(), By::InsertEntry, 9, ENTRY))
 }
 
 #[test]
 fn or_insert(rt: HostRuntime) -> Result<(), Fail> {
-    tell(
-        &rt,
-        put_in_order(rt.alloc(), CoarseMap::double_or_put, 4, ENTRY),
-    )
+    tell(&rt, put_in_order(rt.alloc(), By::OrInsert, 4, ENTRY))
 }
 
 #[test]
 fn hash_or_insert(rt: HostRuntime) -> Result<(), Fail> {
-    tell(
-        &rt,
-        put_by_hash(rt.alloc(), CoarseMap::double_or_put, 9, ENTRY),
-    )
-}
-
-fn put_made<M: CoarseMap>(map: &mut M, item: Coarse) -> Put {
-    map.find_or_put(item, &mut 0)
+    tell(&rt, put_by_hash(rt.alloc(), By::OrInsert, 9, ENTRY))
 }
 
 #[test]
 fn or_insert_with(rt: HostRuntime) -> Result<(), Fail> {
-    tell(&rt, put_in_order(rt.alloc(), put_made, 4, ENTRY))
+    tell(&rt, put_in_order(rt.alloc(), By::OrInsertWith, 4, ENTRY))
 }
 
 #[test]
 fn hash_or_insert_with(rt: HostRuntime) -> Result<(), Fail> {
-    tell(&rt, put_by_hash(rt.alloc(), put_made, 9, ENTRY))
+    tell(&rt, put_by_hash(rt.alloc(), By::OrInsertWith, 9, ENTRY))
 }

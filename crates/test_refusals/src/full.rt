@@ -1,11 +1,10 @@
 //! Maps at their limit: an insertion is refused for that, and no request is made for it.
-use crate::maps::{fill, holds};
+use crate::numbers::{Row, fill, hashed, holds, ordered};
 use crate::prelude::*;
-use iddqd::{DefaultHashBuilder, IdHashMap, IdOrdMap};
 
-// Fills a map up to its limit, and tries two insertions of a new number and a reservation. Each is refused since the map
-// is full.
-fn insertions<M: OfNumbers>(alloc: Global, mut map: M, limit: u32) -> Word {
+/// Fills a map up to its limit, and tries two insertions of a new number and a reservation. Each is refused since the map
+/// is full.
+pub(crate) fn is_kept_full<M: OfNumbers>(alloc: Global, mut map: M, limit: u32) -> Word {
     let is_full = fill(&mut map, limit);
     let new = numbered(1000, 6);
     let error = TryReserveError::capacity_overflow();
@@ -21,36 +20,23 @@ fn insertions<M: OfNumbers>(alloc: Global, mut map: M, limit: u32) -> Word {
     )
 }
 
-fn ordered_insertions(alloc: Global, limit: u32) -> Word {
-    insertions(
-        alloc,
-        Ordered::new(IdOrdMap::with_limit(alloc, limit)),
-        limit,
-    )
-}
-
-fn hash_insertions(alloc: Global, limit: u32) -> Word {
-    let map = IdHashMap::with_limit(alloc, limit, DefaultHashBuilder::new());
-    insertions(alloc, Hashed::new(map), limit)
-}
-
 // With 8 items the store is full; with 78 the tree has no unused block; with 9 the hash index is full.
 #[test]
 fn full_store(rt: HostRuntime) -> Result<(), Fail> {
-    tell(&rt, ordered_insertions(rt.alloc(), 8))
+    tell(&rt, ordered(rt.alloc(), Row::Full(8)))
 }
 
 #[test]
 fn full_without_nodes(rt: HostRuntime) -> Result<(), Fail> {
-    tell(&rt, ordered_insertions(rt.alloc(), 78))
+    tell(&rt, ordered(rt.alloc(), Row::Full(78)))
 }
 
 #[test]
 fn hash_full_store(rt: HostRuntime) -> Result<(), Fail> {
-    tell(&rt, hash_insertions(rt.alloc(), 8))
+    tell(&rt, hashed(rt.alloc(), Row::Full(8)))
 }
 
 #[test]
 fn hash_full_index(rt: HostRuntime) -> Result<(), Fail> {
-    tell(&rt, hash_insertions(rt.alloc(), 9))
+    tell(&rt, hashed(rt.alloc(), Row::Full(9)))
 }

@@ -1,11 +1,11 @@
 //! Items that are lent, visited, and taken at the ends, which asks for no memory.
-use crate::maps::fill;
+use crate::numbers::{Row, fill, hashed, ordered};
 use crate::prelude::*;
 use test_support::maps::ByEntry;
 use test_support::visitors::{Change, Visited};
 
-// Fills the map with numbers, visits them, one by `get_mut` and one by its entry.
-fn visits<M: OfNumbers + Visited>(alloc: Global, mut map: M) -> Word {
+/// Fills the map with numbers, visits them, one by `get_mut` and one by its entry.
+pub(crate) fn visits<M: OfNumbers + Visited>(alloc: Global, mut map: M) -> Word {
     let is_full = fill(&mut map, 78);
     arm(alloc);
     let is_visited = map.visit(7, &mut Change::KeepOdd(0)) == Some(true);
@@ -16,12 +16,12 @@ fn visits<M: OfNumbers + Visited>(alloc: Global, mut map: M) -> Word {
 
 #[test]
 fn visits_without_memory(rt: HostRuntime) -> Result<(), Fail> {
-    tell(&rt, visits(rt.alloc(), in_order(rt.alloc())))
+    tell(&rt, ordered(rt.alloc(), Row::Visits))
 }
 
 #[test]
 fn hash_visits_without_memory(rt: HostRuntime) -> Result<(), Fail> {
-    tell(&rt, visits(rt.alloc(), by_hash(rt.alloc())))
+    tell(&rt, hashed(rt.alloc(), Row::Visits))
 }
 
 // The same of both ends, which are taken, and of an item by its position.

@@ -6,8 +6,6 @@
 #[cfg(test)]
 mod clones;
 #[cfg(test)]
-mod commands;
-#[cfg(test)]
 mod entries;
 #[cfg(test)]
 mod errors;
@@ -24,11 +22,11 @@ mod leaks;
 #[cfg(test)]
 mod lent;
 #[cfg(test)]
-mod lines;
-#[cfg(test)]
 mod made;
 #[cfg(test)]
 mod maps;
+#[cfg(test)]
+mod numbers;
 #[cfg(test)]
 mod prelude;
 #[cfg(test)]

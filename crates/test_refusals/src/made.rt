@@ -1,7 +1,6 @@
 //! Maps that are made, of either kind, with a request refused: then nothing is.
-use crate::maps::{fill, holds};
+use crate::numbers::{Row, fill, hashed, holds, numbers, ordered};
 use crate::prelude::*;
-use crate::rooms::numbers;
 use iddqd::{DefaultHashBuilder, IdHashMap, IdOrdMap};
 
 // Ends the count: the word for a map that was made, if it is right.
@@ -41,8 +40,8 @@ fn hash_room_without_memory(rt: HostRuntime) -> Result<(), Fail> {
     tell(&rt, word_without_memory(rt.alloc(), is_full))
 }
 
-// Collects twenty numbers, of which none may repeat if the map is to be unique.
-fn collection<M: OfNumbers>(alloc: Global, is_unique: bool) -> Word {
+/// Collects twenty numbers, of which none may repeat if the map is to be unique.
+pub(crate) fn collection<M: OfNumbers>(alloc: Global, is_unique: bool) -> Word {
     let items = numbers(alloc, 0, 20)?;
     arm(alloc);
     let made: Result<M, TryReserveError> = if is_unique {
@@ -55,20 +54,29 @@ fn collection<M: OfNumbers>(alloc: Global, is_unique: bool) -> Word {
 
 #[test]
 fn from_iter(rt: HostRuntime) -> Result<(), Fail> {
-    tell(&rt, collection::<Ordered<Numbered>>(rt.alloc(), false))
+    tell(
+        &rt,
+        ordered(rt.alloc(), Row::Collection { is_unique: false }),
+    )
 }
 
 #[test]
 fn hash_from_iter(rt: HostRuntime) -> Result<(), Fail> {
-    tell(&rt, collection::<Hashed<Numbered>>(rt.alloc(), false))
+    tell(
+        &rt,
+        hashed(rt.alloc(), Row::Collection { is_unique: false }),
+    )
 }
 
 #[test]
 fn from_iter_unique(rt: HostRuntime) -> Result<(), Fail> {
-    tell(&rt, collection::<Ordered<Numbered>>(rt.alloc(), true))
+    tell(
+        &rt,
+        ordered(rt.alloc(), Row::Collection { is_unique: true }),
+    )
 }
 
 #[test]
 fn hash_from_iter_unique(rt: HostRuntime) -> Result<(), Fail> {
-    tell(&rt, collection::<Hashed<Numbered>>(rt.alloc(), true))
+    tell(&rt, hashed(rt.alloc(), Row::Collection { is_unique: true }))
 }

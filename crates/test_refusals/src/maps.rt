@@ -1,87 +1,54 @@
 //! Insertions by a key that are refused, and calls that do not allocate, on both maps.
-use crate::entries::{put_by_hash, put_in_order};
+use crate::entries::{By, put_by_hash, put_in_order};
+use crate::numbers::{Row, fill, hashed, ordered};
 use crate::prelude::*;
-use iddqd::errors::Refused;
-use test_support::caseless::Coarse;
-use test_support::coarse::{CoarseMap, Put};
 use test_support::items::Titled;
 use test_support::maps::AskedByText;
 
 const BACK: &str = "item_back";
 
-// The item that an insertion leaves in the map.
-fn shown(inserted: Inserted<Coarse>, item: Coarse) -> Put {
-    match inserted {
-        Inserted::Done => Ok(Some(item)),
-        Inserted::Duplicate(_, _) => Ok(None),
-        Inserted::Refused(item, error) => Err(Refused { item, error }),
-    }
-}
-
-fn put<M: CoarseMap>(map: &mut M, item: Coarse) -> Put {
-    shown(map.insert(item), item)
-}
-
 // A store is full with 4 and with 8 items, the ordered index too; a hash index first with 9.
 #[test]
 fn insert_unique(rt: HostRuntime) -> Result<(), Fail> {
-    tell(&rt, put_in_order(rt.alloc(), put, 4, BACK))
-}
-
-fn put_counted(map: &mut Ordered<Coarse>, item: Coarse) -> Put {
-    shown(map.insert_counted(item).0, item)
+    tell(&rt, put_in_order(rt.alloc(), By::InsertUnique, 4, BACK))
 }
 
 #[test]
 fn insert_unique_counted(rt: HostRuntime) -> Result<(), Fail> {
-    tell(&rt, put_in_order(rt.alloc(), put_counted, 4, BACK))
+    tell(
+        &rt,
+        put_in_order(rt.alloc(), By::InsertUniqueCounted, 4, BACK),
+    )
 }
 
 // The 78th of ascending keys gives the tree its third level. With 83 the last leaf is full, and no unused block is left.
 #[test]
 fn prepare_of_three_levels(rt: HostRuntime) -> Result<(), Fail> {
-    tell(&rt, put_in_order(rt.alloc(), put, 83, BACK))
-}
-
-fn put_over<M: CoarseMap>(map: &mut M, item: Coarse) -> Put {
-    Ok(map.overwrite(item)?.xor(Some(item)))
+    tell(&rt, put_in_order(rt.alloc(), By::InsertUnique, 83, BACK))
 }
 
 #[test]
 fn insert_overwrite(rt: HostRuntime) -> Result<(), Fail> {
-    tell(&rt, put_in_order(rt.alloc(), put_over, 4, BACK))
+    tell(&rt, put_in_order(rt.alloc(), By::InsertOverwrite, 4, BACK))
 }
 
 #[test]
 fn hash_insert_unique(rt: HostRuntime) -> Result<(), Fail> {
-    tell(&rt, put_by_hash(rt.alloc(), put, 8, BACK))
+    tell(&rt, put_by_hash(rt.alloc(), By::InsertUnique, 8, BACK))
 }
 
 #[test]
 fn hash_insert_unique_into_full_index(rt: HostRuntime) -> Result<(), Fail> {
-    tell(&rt, put_by_hash(rt.alloc(), put, 9, BACK))
+    tell(&rt, put_by_hash(rt.alloc(), By::InsertUnique, 9, BACK))
 }
 
 #[test]
 fn hash_insert_overwrite(rt: HostRuntime) -> Result<(), Fail> {
-    tell(&rt, put_by_hash(rt.alloc(), put_over, 9, BACK))
+    tell(&rt, put_by_hash(rt.alloc(), By::InsertOverwrite, 9, BACK))
 }
 
-/// Whether the numbers below the count are inserted, each with the value 5.
-pub(crate) fn fill<M: Copying<Numbered, u32>>(map: &mut M, count: u32) -> bool {
-    (0..count).all(|number| map.insert(numbered(number, 5)) == Inserted::Done)
-}
-
-/// Whether the map is sound and holds those numbers, and no other.
-pub(crate) fn holds<M: UnderTest<Numbered, u32>>(map: &M, count: u32) -> bool {
-    (0..count).all(|number| map.get(&number) == Some(&numbered(number, 5)))
-        && !map.contains(&1000)
-        && map.len() == count as usize
-        && map.is_sound()
-}
-
-// Fills the map with this many numbers, inserts each again by both insertions, and clears the map.
-fn akin<M: OfNumbers>(alloc: Global, mut map: M, count: u32) -> Word {
+/// Fills the map with this many numbers, inserts each again by both insertions, and clears the map.
+pub(crate) fn akin<M: OfNumbers>(alloc: Global, mut map: M, count: u32) -> Word {
     let is_full = fill(&mut map, count);
     arm(alloc);
     let are_akin = (0..count).all(|number| {
@@ -96,24 +63,24 @@ fn akin<M: OfNumbers>(alloc: Global, mut map: M, count: u32) -> Word {
 
 #[test]
 fn akin_insertions_without_memory(rt: HostRuntime) -> Result<(), Fail> {
-    tell(&rt, akin(rt.alloc(), in_order(rt.alloc()), 8))
+    tell(&rt, ordered(rt.alloc(), Row::Akin(8)))
 }
 
 #[test]
 fn hash_akin_insertions_without_memory(rt: HostRuntime) -> Result<(), Fail> {
-    tell(&rt, akin(rt.alloc(), by_hash(rt.alloc()), 8))
+    tell(&rt, hashed(rt.alloc(), Row::Akin(8)))
 }
 
 // The last leaf is full and the tree has no unused block, as in `prepare_of_three_levels`: a greater key would ask for
 // some.
 #[test]
 fn akin_insertions_without_nodes(rt: HostRuntime) -> Result<(), Fail> {
-    tell(&rt, akin(rt.alloc(), in_order(rt.alloc()), 83))
+    tell(&rt, ordered(rt.alloc(), Row::Akin(83)))
 }
 
 #[test]
 fn hash_akin_insertions_into_full_index(rt: HostRuntime) -> Result<(), Fail> {
-    tell(&rt, akin(rt.alloc(), by_hash(rt.alloc()), 9))
+    tell(&rt, hashed(rt.alloc(), Row::Akin(9)))
 }
 
 // Fills the map with a hundred names, and then finds and takes out each, with the values in order.

@@ -1,5 +1,5 @@
 //! Positions, ranges and walks from the back, which ask for no memory.
-use crate::maps::fill;
+use crate::numbers::fill;
 use crate::prelude::*;
 use std::ops::Bound;
 

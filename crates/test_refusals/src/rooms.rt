@@ -1,5 +1,5 @@
 //! Reservations, shrinking and calls on many items that are refused, on both maps.
-use crate::maps::{fill, holds};
+use crate::numbers::{Row, fill, hashed, holds, numbers, ordered};
 use crate::prelude::*;
 use test_support::maps::Added;
 use test_support::nine::{are_left, retain_nine};
@@ -12,8 +12,8 @@ fn make_room<M: OfNumbers>(map: &mut M, is_tried: bool) -> Result<(), TryReserve
     }
 }
 
-// The word for a reservation on a map of four numbers. It succeeds once it is made again.
-fn room<M: OfNumbers>(alloc: Global, mut map: M, is_tried: bool) -> Word {
+/// The word for a reservation on a map of four numbers. It succeeds once it is made again.
+pub(crate) fn room<M: OfNumbers>(alloc: Global, mut map: M, is_tried: bool) -> Word {
     let is_full = fill(&mut map, 4);
     let walk = map.listed(alloc)?;
     let room = map.room();
@@ -28,21 +28,21 @@ fn room<M: OfNumbers>(alloc: Global, mut map: M, is_tried: bool) -> Word {
 
 #[test]
 fn reserve(rt: HostRuntime) -> Result<(), Fail> {
-    tell(&rt, room(rt.alloc(), in_order(rt.alloc()), false))
+    tell(&rt, ordered(rt.alloc(), Row::Room { is_tried: false }))
 }
 
 #[test]
 fn hash_reserve(rt: HostRuntime) -> Result<(), Fail> {
-    tell(&rt, room(rt.alloc(), by_hash(rt.alloc()), false))
+    tell(&rt, hashed(rt.alloc(), Row::Room { is_tried: false }))
 }
 
 #[test]
 fn hash_try_reserve(rt: HostRuntime) -> Result<(), Fail> {
-    tell(&rt, room(rt.alloc(), by_hash(rt.alloc()), true))
+    tell(&rt, hashed(rt.alloc(), Row::Room { is_tried: true }))
 }
 
-// The word for a shrink of a map of nine numbers, with vacant slots among them: to the capacity, or to fit.
-fn shrink<M: OfNumbers>(alloc: Global, mut map: M, capacity: Option<usize>) -> Word {
+/// The word for a shrink of a map of nine numbers, with vacant slots among them: to the capacity, or to fit.
+pub(crate) fn shrink<M: OfNumbers>(alloc: Global, mut map: M, capacity: Option<usize>) -> Word {
     let is_full = retain_nine(&mut map);
     arm(alloc);
     let shrunk = match capacity {
@@ -61,35 +61,28 @@ fn shrink<M: OfNumbers>(alloc: Global, mut map: M, capacity: Option<usize>) -> W
 
 #[test]
 fn shrink_to_fit(rt: HostRuntime) -> Result<(), Fail> {
-    tell(&rt, shrink(rt.alloc(), in_order(rt.alloc()), None))
+    tell(&rt, ordered(rt.alloc(), Row::Shrink(None)))
 }
 
 #[test]
 fn hash_shrink_to_fit(rt: HostRuntime) -> Result<(), Fail> {
-    tell(&rt, shrink(rt.alloc(), by_hash(rt.alloc()), None))
+    tell(&rt, hashed(rt.alloc(), Row::Shrink(None)))
 }
 
 #[test]
 fn shrink_to(rt: HostRuntime) -> Result<(), Fail> {
-    tell(&rt, shrink(rt.alloc(), in_order(rt.alloc()), Some(12)))
+    tell(&rt, ordered(rt.alloc(), Row::Shrink(Some(12))))
 }
 
 #[test]
 fn hash_shrink_to(rt: HostRuntime) -> Result<(), Fail> {
-    tell(&rt, shrink(rt.alloc(), by_hash(rt.alloc()), Some(12)))
+    tell(&rt, hashed(rt.alloc(), Row::Shrink(Some(12))))
 }
 
-/// The numbers from the one up to the other, each with the value 5.
-pub(crate) fn numbers(alloc: Global, from: u32, to: u32) -> Result<Vec<Numbered>, AllocError> {
-    (from..to).map(|number| numbered(number, 5)).collect(alloc)
-}
+// The words if all numbers are taken, if none is, and if one comes back.
+const EXTENDED: [&str; 3] = ["extended", "none_taken", "item_back"];
 
-// Whether no number may repeat, and the words if all are taken, if none is, and if one comes back.
-type Extension = (bool, [&'static str; 3]);
-
-const EXTEND: Extension = (false, ["extended", "none_taken", "item_back"]);
-
-const UNIQUE: Extension = (true, ["added", "none_added", "added_back"]);
+const ADDED: [&str; 3] = ["added", "none_added", "added_back"];
 
 // `extend_unique` or `extend`.
 fn extend_by<M: OfNumbers>(map: &mut M, items: Vec<Numbered>, is_unique: bool) -> Added<Numbered> {
@@ -102,9 +95,9 @@ fn extend_by<M: OfNumbers>(map: &mut M, items: Vec<Numbered>, is_unique: bool) -
     }
 }
 
-// The word for the numbers 5 to 24 put into a map of five numbers. Those before the refused one are in.
-fn extension<M: OfNumbers>(alloc: Global, mut map: M, (is_unique, words): Extension) -> Word {
-    let [all, none, some] = words;
+/// The word for the numbers 5 to 24 put into a map of five numbers. Those before the refused one are in.
+pub(crate) fn extension<M: OfNumbers>(alloc: Global, mut map: M, is_unique: bool) -> Word {
+    let [all, none, some] = if is_unique { ADDED } else { EXTENDED };
     let is_full = fill(&mut map, 5);
     let items = numbers(alloc, 5, 25)?;
     arm(alloc);
@@ -122,20 +115,23 @@ fn extension<M: OfNumbers>(alloc: Global, mut map: M, (is_unique, words): Extens
 
 #[test]
 fn extend(rt: HostRuntime) -> Result<(), Fail> {
-    tell(&rt, extension(rt.alloc(), in_order(rt.alloc()), EXTEND))
+    tell(
+        &rt,
+        ordered(rt.alloc(), Row::Extension { is_unique: false }),
+    )
 }
 
 #[test]
 fn hash_extend(rt: HostRuntime) -> Result<(), Fail> {
-    tell(&rt, extension(rt.alloc(), by_hash(rt.alloc()), EXTEND))
+    tell(&rt, hashed(rt.alloc(), Row::Extension { is_unique: false }))
 }
 
 #[test]
 fn extend_unique(rt: HostRuntime) -> Result<(), Fail> {
-    tell(&rt, extension(rt.alloc(), in_order(rt.alloc()), UNIQUE))
+    tell(&rt, ordered(rt.alloc(), Row::Extension { is_unique: true }))
 }
 
 #[test]
 fn hash_extend_unique(rt: HostRuntime) -> Result<(), Fail> {
-    tell(&rt, extension(rt.alloc(), by_hash(rt.alloc()), UNIQUE))
+    tell(&rt, hashed(rt.alloc(), Row::Extension { is_unique: true }))
 }

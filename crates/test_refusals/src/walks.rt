@@ -1,5 +1,5 @@
 //! Walks, for reading and for writing, which ask for no memory.
-use crate::maps::fill;
+use crate::numbers::{Row, fill, hashed, ordered};
 use crate::prelude::*;
 use test_support::walks::Walked;
 
@@ -7,8 +7,8 @@ fn write(item: &mut Numbered) {
     item.value = 7;
 }
 
-// Fills the map with numbers, walks it, retains all of them but one, and writes to 70 of the 77.
-fn walks<M>(alloc: Global, mut map: M) -> Word
+/// Fills the map with numbers, walks it, retains all of them but one, and writes to 70 of the 77.
+pub(crate) fn walks<M>(alloc: Global, mut map: M) -> Word
 where
     M: OfNumbers + Walked<Numbered>,
     M::Map: Drop,
@@ -25,10 +25,10 @@ where
 
 #[test]
 fn walks_without_memory(rt: HostRuntime) -> Result<(), Fail> {
-    tell(&rt, walks(rt.alloc(), in_order(rt.alloc())))
+    tell(&rt, ordered(rt.alloc(), Row::Walks))
 }
 
 #[test]
 fn hash_walks_without_memory(rt: HostRuntime) -> Result<(), Fail> {
-    tell(&rt, walks(rt.alloc(), by_hash(rt.alloc())))
+    tell(&rt, hashed(rt.alloc(), Row::Walks))
 }

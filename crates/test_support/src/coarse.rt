@@ -2,7 +2,7 @@
 //! guards and entries, and write whole an item of an equal key, which is spelled in another way.
 use crate::caseless::{Caseless, Coarse, spelled};
 use crate::hashers::ZeroHasher;
-use crate::maps::{Copying, Hashed, Ordered};
+use crate::maps::{Copying, Hashed, Ordered, UnderTest};
 use iddqd::errors::{Refused, TryReserveError};
 use iddqd::internal::ValidateCompact;
 use iddqd::{Visit, id_hash_map, id_ord_map};
@@ -62,19 +62,7 @@ pub type Put = Result<Option<Coarse>, Refused<Coarse>>;
 /// kind needed, or if memory was refused, a call that returns no `Put` returns `None` or false. A call without a comment is
 /// the map's of that name.
 pub trait CoarseMap: Copying<Coarse, Caseless> {
-    /// `get`: the spelling and the value.
-    fn spelled_at(&self, name: [u8; 3]) -> Option<([u8; 3], u32)> {
-        self.get(&Caseless(name)).map(spelled)
-    }
-
     fn limit(&self) -> u32;
-
-    /// Whether `validate` and `validate_structural` return the same: an error exactly if slots are vacant and none
-    /// may be.
-    fn is_valid(&self) -> bool {
-        let is_compact = self.vacant() == 0;
-        self.is_sound() && self.validates(ValidateCompact::Compact) == (is_compact, is_compact)
-    }
 
     /// The items of `into_iter`.
     fn walked_out(self, alloc: Global) -> Result<Vec<Coarse>, AllocError>;
@@ -119,6 +107,20 @@ pub trait CoarseMap: Copying<Coarse, Caseless> {
 
     /// Writes the item whole. False if none of the key is there; by a visitor always true.
     fn respell(&mut self, asked: &Caseless, item: Coarse, way: Way) -> bool;
+}
+
+/// `get`: the spelling and the value.
+pub fn spelled_at<M: UnderTest<Coarse, Caseless>>(
+    map: &M,
+    name: [u8; 3],
+) -> Option<([u8; 3], u32)> {
+    map.get(&Caseless(name)).map(spelled)
+}
+
+/// Whether `validate` and `validate_structural` return the same: an error exactly if slots are vacant and none may be.
+pub fn is_valid<M: UnderTest<Coarse, Caseless>>(map: &M) -> bool {
+    let is_compact = map.vacant() == 0;
+    map.is_sound() && map.validates(ValidateCompact::Compact) == (is_compact, is_compact)
 }
 
 // What `respell` does, by the functions that write by a guard and in a walk.

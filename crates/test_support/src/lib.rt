@@ -6,7 +6,6 @@ pub mod bulk;
 pub mod coarse;
 pub mod counting;
 pub mod hashers;
-pub mod heap;
 pub mod items;
 pub mod maps;
 pub mod new_items;
@@ -16,3 +15,4 @@ pub mod visitors;
 pub mod walks;
 
 pub use test_coarse::{caseless, kept};
+pub use test_sweeps::heap;

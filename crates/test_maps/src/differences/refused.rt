@@ -2,7 +2,7 @@
 use super::applied::{brought_up, brought_up_by_hash};
 use super::cases::hundreds;
 use super::held::Listed;
-use crate::checks::check;
+use crate::checks::{Host, check};
 use std::alloc::Global;
 use std::process::Abort;
 use std::test::Fail;
@@ -12,18 +12,27 @@ use test_support::kept::Kept;
 use test_support::maps::{Hashed, Ordered, UnderTest, by_hash, in_order};
 
 // Inserts items of these names, all of this value, whose clones ask for memory.
-fn filled<M: UnderTest<Kept, u32> + Drop>(
-    rt: &impl Abort,
-    alloc: Global,
-    mut map: M,
+fn fill<M: UnderTest<Kept, u32>>(
+    rt: &impl Host,
+    map: &mut M,
     names: &[u32],
     value: u32,
-) -> Result<M, Fail> {
+) -> Result<(), Fail> {
     for name in names {
-        let value = Box::new(alloc, value)?;
+        let value = Box::new(rt.alloc(), value)?;
         check(rt, map.is_put(Kept { name: *name, value }));
     }
-    Ok(map)
+    Ok(())
+}
+
+// The old names, and the new ones.
+fn fill_both<M: UnderTest<Kept, u32>>(
+    rt: &impl Host,
+    before: &mut M,
+    after: &mut M,
+) -> Result<(), Fail> {
+    fill(rt, before, &[1, 2, 3], 10)?;
+    fill(rt, after, &[2, 3, 4, 5], 20)
 }
 
 // The value of the name, or 0 if there is none.
@@ -49,8 +58,8 @@ fn word<M: UnderTest<Kept, u32>>(rt: &impl Abort, copy: &M, is_refused: bool) ->
 
 #[test]
 fn apply(rt: HostRuntime) -> Result<(), Fail> {
-    let before = filled(&rt, rt.alloc(), in_order(rt.alloc()), &[1, 2, 3], 10)?;
-    let after = filled(&rt, rt.alloc(), in_order(rt.alloc()), &[2, 3, 4, 5], 20)?;
+    let (mut before, mut after) = (in_order(rt.alloc()), in_order(rt.alloc()));
+    fill_both(&rt, &mut before, &mut after)?;
     let (copy, is_refused) = brought_up(rt.alloc(), &before, &after)?;
     check(&rt, is_refused == is_met(rt.alloc()));
     println!(rt; "{}", word(&rt, &copy, is_refused))?;
@@ -59,8 +68,8 @@ fn apply(rt: HostRuntime) -> Result<(), Fail> {
 
 #[test]
 fn hash_apply(rt: HostRuntime) -> Result<(), Fail> {
-    let before = filled(&rt, rt.alloc(), by_hash(rt.alloc()), &[1, 2, 3], 10)?;
-    let after = filled(&rt, rt.alloc(), by_hash(rt.alloc()), &[2, 3, 4, 5], 20)?;
+    let (mut before, mut after) = (by_hash(rt.alloc()), by_hash(rt.alloc()));
+    fill_both(&rt, &mut before, &mut after)?;
     let (copy, is_refused) = brought_up_by_hash(rt.alloc(), &before, &after)?;
     check(&rt, is_refused == is_met(rt.alloc()));
     println!(rt; "{}", word(&rt, &copy, is_refused))?;

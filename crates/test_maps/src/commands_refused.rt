@@ -2,11 +2,16 @@
 ghost use Rattle.std.specs.Prelude.{nat_eq};
 ghost use Rattle.iddqd.specs.Visiting.{VisitsKeepKeys};
 
-use crate::prelude::*;
 use iddqd::{IdHashMap, IdOrdMap, Visit};
 use idtable_commands::{Command, KeyedMap, Reply, run};
+use std::alloc::{AllocError, Global};
+use std::test::Fail;
 use test_support::kept::{Kept, make_kept};
+use test_support::maps::{Ordered, UnderTest};
 use test_support::visitors::Untouched;
+use test_sweeps::heap::{arm, is_met};
+use test_sweeps::rows;
+use test_sweeps::words::{Word, tell, word_of};
 
 fn value(kept: &Option<Kept>) -> u32 {
     kept.as_ref().map_or(0, |kept| *kept.value)

@@ -1,6 +1,10 @@
 //! `serve` with a request refused: nothing is written, or the lines whose item was refused say so.
-use crate::prelude::*;
 use iddqd_run::{Fault, Kind, serve};
+use std::alloc::Global;
+use std::test::Fail;
+use test_sweeps::heap::{arm, is_met};
+use test_sweeps::rows;
+use test_sweeps::words::{Word, tell, word_of};
 
 // A word, and what `serve` does then.
 type Row = (&'static str, (&'static [u8], Result<u64, Fault>, bool));
