@@ -1,5 +1,6 @@
 //! What calls of the maps cost, and the rows of hostile shapes. Keys are compared and hashed, hints lie, hashers
-//! tell little, items are many, and keys are spelled anew. Beside them: walks, equality and numbers.
+//! tell little, items are many, and keys are spelled anew. Beside them: walks, equality and numbers, and long random
+//! lists of calls.
 #![tactic(auto)]
 
 #[cfg(test)]
@@ -22,6 +23,8 @@ mod many_items;
 mod numbers;
 #[cfg(test)]
 mod prelude;
+#[cfg(test)]
+mod random;
 #[cfg(test)]
 mod rows;
 #[cfg(test)]

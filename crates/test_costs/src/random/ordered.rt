@@ -1,5 +1,5 @@
 //! Calls of an ordered map alone, by positions and between bounds too.
-use crate::plain::{Answer, Draws, Pair, Plain, is_same};
+use crate::random::plain::{Answer, Draws, Pair, Plain, is_same};
 use std::alloc::Global;
 use std::ops::{Bound, RangeBounds};
 use test_support::caseless::{Caseless, Coarse};

@@ -1,7 +1,7 @@
 //! Random lists of calls with one request for memory refused (`tools/sweep` runs them): a call that is refused leaves
 //! the items.
-use crate::calls::are_found;
-use crate::plain::{Answer, Draws, Pair, Plain};
+use crate::random::calls::are_found;
+use crate::random::plain::{Answer, Draws, Pair, Plain};
 use iddqd::MAX_ITEMS;
 use iddqd::errors::TryReserveError;
 use std::alloc::Global;

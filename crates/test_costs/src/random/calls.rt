@@ -1,5 +1,5 @@
 //! Calls of either map, one method a call: whether the map returns what the plain list does.
-use crate::plain::{Answer, Pair, Plain, is_same};
+use crate::random::plain::{Answer, Pair, Plain, is_same};
 use test_support::caseless::{Caseless, Coarse, spelled};
 use test_support::coarse::{CoarseMap, Way};
 

@@ -1,10 +1,10 @@
 //! The runs: lists of calls from fixed seeds. After each call the whole contents and the numbers are compared too, and
 //! `validate`.
-use crate::calls::holds_the_same;
-use crate::lengths::{CALLS, MANY_CALLS, MAPS};
-use crate::many::{Written, collect};
-use crate::ordered::ascends;
-use crate::plain::{Answer, Draws, Pair, Plain};
+use crate::random::calls::holds_the_same;
+use crate::random::lengths::{CALLS, MANY_CALLS, MAPS};
+use crate::random::many::{Written, collect};
+use crate::random::ordered::ascends;
+use crate::random::plain::{Answer, Draws, Pair, Plain};
 use iddqd::{IdHashMap, IdOrdMap, MAX_ITEMS};
 use std::alloc::{AllocError, Global};
 use std::collections::hash_map::RandomState;
