@@ -8,6 +8,10 @@ mod alike;
 #[cfg(test)]
 mod bounds;
 #[cfg(test)]
+mod by_name;
+#[cfg(test)]
+mod by_number;
+#[cfg(test)]
 mod calls;
 #[cfg(test)]
 mod counting;
@@ -19,6 +23,8 @@ mod hostile;
 mod many;
 #[cfg(test)]
 mod many_items;
+#[cfg(test)]
+mod metered;
 #[cfg(test)]
 mod numbers;
 #[cfg(test)]
