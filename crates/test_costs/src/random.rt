@@ -1,4 +1,5 @@
 //! Long random lists of calls of both maps, each result compared with that of a plain list that is searched.
+mod by_kind;
 mod calls;
 mod lengths;
 mod many;
