@@ -1,16 +1,10 @@
 //! Equality and copies of maps: what they cost, and how often items are compared.
 ghost use Rattle.iddqd.specs.Contents.{ClonesKeepKeys};
 
+use crate::metered::ordered;
 use crate::prelude::*;
 use iddqd::{IdHashItem, IdOrdItem};
 use std::hash::BuildHasher;
-
-// Two maps of twenty items. No key has counted since.
-fn both<'a, M: Metered<'a>>(alloc: Global, meter: Meter<'a>) -> Result<(M, M), Fail> {
-    let items = meter.counts.items(alloc, 0, 20)?;
-    let one = meter.map_of(alloc, items.as_slice())?;
-    Ok((one, meter.map_of(alloc, items.as_slice())?))
-}
 
 fn equal_in_order<T>((one, other): (Ordered<T>, Ordered<T>), meter: Meter<'_>)
 where
@@ -24,7 +18,11 @@ where
 #[test]
 fn equality_compares_no_keys(rt: HostRuntime) -> Result<(), Fail> {
     let tally = Tally::default();
-    equal_in_order(both(rt.alloc(), tally.of_order())?, tally.of_order());
+    let meter = tally.of_order();
+    let items = meter.counts.items(rt.alloc(), 0, 20)?;
+    let one = ordered(rt.alloc(), items.as_slice(), meter);
+    let other = ordered(rt.alloc(), items.as_slice(), meter);
+    equal_in_order((one, other), meter);
     tally.end()
 }
 
@@ -46,21 +44,32 @@ where
 #[test]
 fn hash_equality_looks_each_item_up(rt: HostRuntime) -> Result<(), Fail> {
     let tally = Tally::default();
-    let maps: (ByZero<'_>, ByZero<'_>) = both(rt.alloc(), tally.of_hashes())?;
-    equal_by_hash(maps, tally.of_hashes());
+    let meter = tally.of_hashes();
+    let items = meter.counts.items(rt.alloc(), 0, 20)?;
+    let one: ByZero<'_> = meter.map_of(rt.alloc(), items.as_slice());
+    let other = meter.map_of(rt.alloc(), items.as_slice());
+    equal_by_hash((one, other), meter);
     tally.end()
 }
 
 fn copied_in_order<T: IdOrdItem + Copy + Drop>(map: Ordered<T>, meter: Meter<'_>)
     requires keeps_keys { ClonesKeepKeys T.key T.Key.eq T.is_clone }
 {
-    meter.tell(map.map().clone().is_ok_and(|copy| copy.len() == 50), (0, 0));
+    let is_copied = match map.map().clone() {
+        Ok(copy) => copy.len() == 50,
+        Err(_) => false,
+    };
+    meter.tell(is_copied, (0, 0));
 }
 
 fn copied_by_hash<T: IdHashItem + Copy + Drop>(map: Hashed<T>, meter: Meter<'_>)
     requires keeps_keys { ClonesKeepKeys T.key T.Key.eq T.is_clone }
 {
-    meter.tell(map.map().clone().is_ok_and(|copy| copy.len() == 50), (0, 0));
+    let is_copied = match map.map().clone() {
+        Ok(copy) => copy.len() == 50,
+        Err(_) => false,
+    };
+    meter.tell(is_copied, (0, 0));
 }
 
 #[test]
@@ -68,7 +77,7 @@ fn copies_cost_none(rt: HostRuntime) -> Result<(), Fail> {
     let tally = Tally::default();
     let meter = tally.of_order();
     let items = meter.counts.items(rt.alloc(), 0, 50)?;
-    copied_in_order(meter.map_of(rt.alloc(), items.as_slice())?, meter);
-    copied_by_hash(meter.map_of(rt.alloc(), items.as_slice())?, meter);
+    copied_in_order(ordered(rt.alloc(), items.as_slice(), meter), meter);
+    copied_by_hash(meter.map_of(rt.alloc(), items.as_slice()), meter);
     tally.end()
 }

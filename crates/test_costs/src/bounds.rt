@@ -1,4 +1,5 @@
 //! The calls of an ordered map alone: a position and a bound cost one search, the ends of the map none.
+use crate::metered::ordered;
 use crate::prelude::*;
 use iddqd::IdOrdItem;
 use std::ops::Bound;
@@ -12,7 +13,7 @@ fn ends_compare_none(rt: HostRuntime) -> Result<(), Fail> {
     let tally = Tally::default();
     let meter = tally.of_order();
     let items = meter.counts.items(rt.alloc(), 0, 50)?;
-    ends(meter.map_of(rt.alloc(), items.as_slice())?, meter);
+    ends(ordered(rt.alloc(), items.as_slice(), meter), meter);
     tally.end()
 }
 
@@ -65,10 +66,13 @@ fn bounds_search_once(rt: HostRuntime) -> Result<(), Fail> {
     let items = meter.counts.items(rt.alloc(), 0, 50)?;
     let absent = meter.counts.items(rt.alloc(), 1, 50)?;
     let (items, absent) = (items.as_slice(), absent.as_slice());
-    let item = |number| meter.counts.item(number);
-    let ranges = [(item(14), item(20)), (item(41), item(47))];
+    let counts = meter.counts;
+    let ranges = [
+        (counts.item(14), counts.item(20)),
+        (counts.item(41), counts.item(47)),
+    ];
     bounds(
-        meter.map_of(rt.alloc(), items)?,
+        ordered(rt.alloc(), items, meter),
         items,
         absent,
         ranges,

@@ -1,4 +1,5 @@
 //! Calls of one item compare as often as one search, which `get_counted` tells, and hash as it does.
+use crate::metered::{Row, run_by_zero, run_in_order};
 use crate::prelude::*;
 use test_support::maps::ByEntry;
 
@@ -30,31 +31,30 @@ fn comes_and_goes<'a, M: Metered<'a>>(map: &mut M, item: Tallied<'a>, meter: Met
     meter.tell(matches!(map.overwrite(item), Ok(None)), once);
 }
 
-fn each_call<'a, M: Metered<'a>>(alloc: Global, count: u32, meter: Meter<'a>) -> Result<(), Fail> {
-    let items = meter.counts.items(alloc, 0, count)?;
-    let mut map = meter.map_of::<M>(alloc, items.as_slice())?;
-    for item in items.as_slice() {
+pub(crate) fn each_call<'a, M: Metered<'a>>(
+    alloc: Global,
+    items: &[Tallied<'a>],
+    absent: &[Tallied<'a>],
+    meter: Meter<'a>,
+) {
+    let mut map: M = meter.map_of(alloc, items);
+    for item in items {
         looks(&map, &item.key, true, meter);
         comes_and_goes(&mut map, *item, meter);
     }
-    for item in meter.counts.items(alloc, 1, count)? {
+    for item in absent {
         looks(&map, &item.key, false, meter);
     }
-    Ok(())
 }
 
 #[test]
 fn calls_search_once(rt: HostRuntime) -> Result<(), Fail> {
-    let tally = Tally::default();
-    each_call::<Ordered<Tallied<'_>>>(rt.alloc(), 300, tally.of_order())?;
-    tally.end()
+    run_in_order(rt.alloc(), Row::EachCall(300))
 }
 
 #[test]
 fn hash_calls_search_once(rt: HostRuntime) -> Result<(), Fail> {
-    let tally = Tally::default();
-    each_call::<ByZero<'_>>(rt.alloc(), 40, tally.of_hashes())?;
-    tally.end()
+    run_by_zero(rt.alloc(), Row::EachCall(40))
 }
 
 // What a search and an insertion behind it cost: the insertion hashes its key, or in an ordered map searches for it.
@@ -72,8 +72,8 @@ fn by_guard_and_entry<'a, M: Metered<'a>>(
     items: &[Tallied<'a>],
     (item, is_there): (Tallied<'a>, bool),
     meter: Meter<'a>,
-) -> Result<(), Fail> {
-    let mut map = meter.map_of::<M>(alloc, items)?;
+) {
+    let mut map: M = meter.map_of(alloc, items);
     let once = meter.once(&map, &item.key);
     let used = if is_there { once } else { twice(once) };
     meter.tell(map.spend(&item.key) == is_there, once);
@@ -84,34 +84,31 @@ fn by_guard_and_entry<'a, M: Metered<'a>>(
         (ByEntry::OrInsert, true, used),
         (ByEntry::OrInsertWith, true, used),
     ] {
-        let map = meter.map_of::<M>(alloc, items)?;
+        let map: M = meter.map_of(alloc, items);
         meter.tell(map.enter(item, call) == wanted, cost);
     }
-    Ok(())
 }
 
-fn guards_and_entries<'a, M: Metered<'a>>(alloc: Global, meter: Meter<'a>) -> Result<(), Fail> {
-    let list = meter.counts.items(alloc, 0, 50)?;
-    let items = list.as_slice();
+pub(crate) fn guards_and_entries<'a, M: Metered<'a>>(
+    alloc: Global,
+    items: &[Tallied<'a>],
+    absent: &[Tallied<'a>],
+    meter: Meter<'a>,
+) {
     for item in items {
-        by_guard_and_entry::<M>(alloc, items, (*item, true), meter)?;
+        by_guard_and_entry::<M>(alloc, items, (*item, true), meter);
     }
-    for item in meter.counts.items(alloc, 1, 50)? {
-        by_guard_and_entry::<M>(alloc, items, (item, false), meter)?;
+    for item in absent {
+        by_guard_and_entry::<M>(alloc, items, (*item, false), meter);
     }
-    Ok(())
 }
 
 #[test]
 fn guards_and_entries_search_once(rt: HostRuntime) -> Result<(), Fail> {
-    let tally = Tally::default();
-    guards_and_entries::<Ordered<Tallied<'_>>>(rt.alloc(), tally.of_order())?;
-    tally.end()
+    run_in_order(rt.alloc(), Row::GuardsAndEntries)
 }
 
 #[test]
 fn hash_guards_and_entries_search_once(rt: HostRuntime) -> Result<(), Fail> {
-    let tally = Tally::default();
-    guards_and_entries::<ByZero<'_>>(rt.alloc(), tally.of_hashes())?;
-    tally.end()
+    run_by_zero(rt.alloc(), Row::GuardsAndEntries)
 }

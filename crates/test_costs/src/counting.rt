@@ -1,4 +1,5 @@
 //! A key that counts its own comparisons shows the number that `Steps` shows, so no comparison goes past it.
+use crate::metered::{Row, run_by_hash, run_by_zero, run_in_order};
 use crate::numbers::{find, put, take};
 use crate::prelude::*;
 use iddqd::IdOrdItem;
@@ -44,57 +45,57 @@ fn ordered_steps_are_comparisons(rt: HostRuntime) -> Result<(), Fail> {
 }
 
 // Each lookup in a hash map of so many even numbers, and of the odd ones beside them.
-fn hash_steps<'a, M: Metered<'a>>(alloc: Global, count: u32, meter: Meter<'a>) -> Result<(), Fail> {
-    let items = meter.counts.items(alloc, 0, count)?;
-    let map = meter.map_of::<M>(alloc, items.as_slice())?;
+pub(crate) fn hash_steps<'a, M: Metered<'a>>(
+    alloc: Global,
+    items: &[Tallied<'a>],
+    absent: &[Tallied<'a>],
+    meter: Meter<'a>,
+) {
+    let map: M = meter.map_of(alloc, items);
     for item in items {
         tell(find(&map, &item.key), true, meter);
     }
-    for item in meter.counts.items(alloc, 1, count)? {
+    for item in absent {
         tell(find(&map, &item.key), false, meter);
     }
-    Ok(())
 }
 
 #[test]
 fn hashed_steps_are_comparisons(rt: HostRuntime) -> Result<(), Fail> {
-    let tally = Tally::default();
     for count in [30, 100] {
-        hash_steps::<ByZero<'_>>(rt.alloc(), count, tally.of_hashes())?;
-        hash_steps::<Hashed<Tallied<'_>>>(rt.alloc(), count, tally.of_hashes())?;
-    }
-    tally.end()
-}
-
-// Plain lookups, removals and insertions keep within the bound. The insertion of an item that is there is into a map with
-// one item less.
-fn plain_calls<'a, M: Metered<'a>>(
-    alloc: Global,
-    (count, bound): (u32, u32),
-    meter: Meter<'a>,
-) -> Result<(), Fail> {
-    let items = meter.counts.items(alloc, 0, count)?;
-    let mut map = meter.map_of::<M>(alloc, items.as_slice())?;
-    for item in items {
-        meter.tell_within(map.get(&item.key).is_some(), bound);
-        meter.tell_within(map.remove(&item.key).is_some(), bound);
-        meter.tell_within(map.is_put(item), bound);
-    }
-    for item in meter.counts.items(alloc, 1, count.max(1))? {
-        meter.tell_within(map.get(&item.key).is_none(), bound);
-        meter.tell_within(map.remove(&item.key).is_none(), bound);
-        meter.tell_within(map.is_put(item), bound);
-        let _ = map.remove(&item.key);
-        let _ = meter.counts.since();
+        run_by_zero(rt.alloc(), Row::HashSteps(count))?;
+        run_by_hash(rt.alloc(), Row::HashSteps(count))?;
     }
     Ok(())
 }
 
+// Plain lookups, removals and insertions keep within the bound. The insertion of an item that is there is into a map with
+// one item less.
+pub(crate) fn plain_calls<'a, M: Metered<'a>>(
+    alloc: Global,
+    items: &[Tallied<'a>],
+    absent: &[Tallied<'a>],
+    (bound, meter): (u32, Meter<'a>),
+) {
+    let mut map: M = meter.map_of(alloc, items);
+    for item in items {
+        meter.tell_within(map.get(&item.key).is_some(), bound);
+        meter.tell_within(map.remove(&item.key).is_some(), bound);
+        meter.tell_within(map.is_put(*item), bound);
+    }
+    for item in absent {
+        meter.tell_within(map.get(&item.key).is_none(), bound);
+        meter.tell_within(map.remove(&item.key).is_none(), bound);
+        meter.tell_within(map.is_put(*item), bound);
+        let _ = map.remove(&item.key);
+        let _ = meter.counts.since();
+    }
+}
+
 #[test]
 fn plain_calls_keep_the_bound(rt: HostRuntime) -> Result<(), Fail> {
-    let tally = Tally::default();
-    for row in [(0, 4), (1, 6), (11, 12), (12, 12), (1000, 24)] {
-        plain_calls::<Ordered<Tallied<'_>>>(rt.alloc(), row, tally.of_order())?;
+    for (count, bound) in [(0, 4), (1, 6), (11, 12), (12, 12), (1000, 24)] {
+        run_in_order(rt.alloc(), Row::PlainCalls(count, bound))?;
     }
-    tally.end()
+    Ok(())
 }

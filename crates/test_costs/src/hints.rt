@@ -1,4 +1,6 @@
 //! Rows of iterators whose hints lie, and of maps that are full.
+use crate::by_number::{Row, holds_by_hash, holds_in_order};
+use crate::numbers::by_factor;
 use crate::prelude::*;
 use iddqd::errors::{ExtendError, FromIterError, TryReserveError};
 use iddqd::{DefaultHashBuilder, IdHashMap, IdOrdMap};
@@ -22,8 +24,13 @@ fn two_by_hash(alloc: Global) -> Hashed<Numbered> {
     Hashed::new(IdHashMap::with_limit(alloc, 2, DefaultHashBuilder::new()))
 }
 
-fn is_filled_to_two<M: UnderTest<Numbered, u32>>(map: &mut M) -> bool {
-    let items = [(1, 1), (2, 2), (1, 3), (3, 4)].map(|(key, value)| numbered(key, value));
+pub(crate) fn is_filled_to_two<M: UnderTest<Numbered, u32>>(map: &mut M) -> bool {
+    let items = [
+        numbered(1, 1),
+        numbered(2, 2),
+        numbered(1, 3),
+        numbered(3, 4),
+    ];
     let stopped = stopped_at(map.extend(Hinted::new(&items, 0)));
     stopped == (Some(numbered(3, 4)), true)
         && map.len() == 2
@@ -33,8 +40,9 @@ fn is_filled_to_two<M: UnderTest<Numbered, u32>>(map: &mut M) -> bool {
 
 #[test]
 fn extend_to_the_limit(rt: HostRuntime) {
-    check(&rt, is_filled_to_two(&mut two_in_order(rt.alloc())));
-    check(&rt, is_filled_to_two(&mut two_by_hash(rt.alloc())));
+    let row = Row::IsFilledToTwo;
+    check(&rt, holds_in_order(&mut two_in_order(rt.alloc()), row));
+    check(&rt, holds_by_hash(&mut two_by_hash(rt.alloc()), row));
 }
 
 // What an announcement of this many comes to, of which none is there.
@@ -42,7 +50,7 @@ fn announced<M: UnderTest<Numbered, u32>>(map: &mut M, hint: usize) -> (Option<N
     stopped_at(map.extend(Hinted::new(&[], hint)))
 }
 
-fn keeps_to_two<M: UnderTest<Numbered, u32>>(map: &mut M) -> bool {
+pub(crate) fn keeps_to_two<M: UnderTest<Numbered, u32>>(map: &mut M) -> bool {
     announced(map, 3) == (None, true)
         && map.len() == 0
         && map.is_put(numbered(1, 1))
@@ -54,48 +62,57 @@ fn keeps_to_two<M: UnderTest<Numbered, u32>>(map: &mut M) -> bool {
 
 #[test]
 fn hints_at_the_limit(rt: HostRuntime) {
-    check(&rt, keeps_to_two(&mut two_in_order(rt.alloc())));
-    check(&rt, keeps_to_two(&mut two_by_hash(rt.alloc())));
+    let row = Row::KeepsToTwo;
+    check(&rt, holds_in_order(&mut two_in_order(rt.alloc()), row));
+    check(&rt, holds_by_hash(&mut two_by_hash(rt.alloc()), row));
 }
 
 // Whether a map without items reserves for all that is announced, if it has some room too, and whatever comes.
-fn reserves_all<M: Copying<Numbered, u32> + Drop>(mut one: M, mut other: M) -> bool {
-    one.reserve(4).is_ok()
-        && announced(&mut one, 100) == (None, false)
-        && one.room() >= 100
-        && matches!(other.add_each(Hinted::new(&[], 100)), Added::All)
-        && other.room() >= 100
+pub(crate) fn reserves_all<M: UnderTest<Numbered, u32>>(map: &mut M) -> bool {
+    map.reserve(4).is_ok() && announced(map, 100) == (None, false) && map.room() >= 100
+}
+
+// The same of `extend_unique`.
+pub(crate) fn adds_all<M: Copying<Numbered, u32>>(map: &mut M) -> bool {
+    matches!(map.add_each(Hinted::new(&[], 100)), Added::All) && map.room() >= 100
 }
 
 #[test]
 fn hints_to_empty_maps(rt: HostRuntime) {
-    let alloc = rt.alloc();
-    check(&rt, reserves_all(in_order(alloc), in_order(alloc)));
-    check(&rt, reserves_all(by_hash(alloc), by_hash(alloc)));
+    for row in [Row::ReservesAll, Row::AddsAll] {
+        check(&rt, holds_in_order(&mut in_order(rt.alloc()), row));
+        check(&rt, holds_by_hash(&mut by_hash(rt.alloc()), row));
+    }
 }
 
-// Whether a few items are taken that are announced as more, and many that are not announced. An announcement that passes
-// what a map ever holds is refused for that.
-fn few_or_many<M>(alloc: Global, mut one: M, mut other: M) -> bool
-where
-    M: UnderTest<Numbered, u32> + Bulk<Numbered> + Drop,
-{
-    let few = stopped_at(one.extend(Hinted::new(&[numbered(1, 1)], 5)));
-    let mut hundred = [numbered(0, 0); 100];
-    for (item, number) in hundred.iter_mut().zip(0..100) {
-        item.number = number;
-    }
-    let many = stopped_at(other.extend(Hinted::new(&hundred, 0)));
-    let refused = match M::collected_unique(alloc, Hinted::new(&[], 4_294_967_296)) {
+// Whether an item is taken that is announced as more.
+pub(crate) fn takes_few<M: UnderTest<Numbered, u32>>(map: &mut M) -> bool {
+    let few = stopped_at(map.extend(Hinted::new(&[numbered(1, 1)], 5)));
+    few == (None, false) && map.len() == 1
+}
+
+// Whether many items are taken that are not announced.
+pub(crate) fn takes_many<M: UnderTest<Numbered, u32>>(map: &mut M, items: &[Numbered]) -> bool {
+    let many = stopped_at(map.extend(Hinted::new(items, 0)));
+    many == (None, false) && map.len() == 100
+}
+
+// Whether an announcement that passes what a map ever holds is refused for that.
+fn is_too_many<M: Bulk<Numbered> + Drop>(alloc: Global) -> bool {
+    match M::collected_unique(alloc, Hinted::new(&[], 4_294_967_296)) {
         Err(FromIterError::Refused(error)) => error == TryReserveError::capacity_overflow(),
         _ => false,
-    };
-    few == (None, false) && one.len() == 1 && many == (None, false) && other.len() == 100 && refused
+    }
 }
 
 #[test]
-fn few_or_many_items(rt: HostRuntime) {
-    let alloc = rt.alloc();
-    check(&rt, few_or_many(alloc, in_order(alloc), in_order(alloc)));
-    check(&rt, few_or_many(alloc, by_hash(alloc), by_hash(alloc)));
+fn few_or_many_items(rt: HostRuntime) -> Result<(), Fail> {
+    let hundred = by_factor(rt.alloc(), 101, 1)?;
+    for row in [Row::TakesFew, Row::TakesMany(hundred.as_slice())] {
+        check(&rt, holds_in_order(&mut in_order(rt.alloc()), row));
+        check(&rt, holds_by_hash(&mut by_hash(rt.alloc()), row));
+    }
+    check(&rt, is_too_many::<Ordered<Numbered>>(rt.alloc()));
+    check(&rt, is_too_many::<Hashed<Numbered>>(rt.alloc()));
+    Ok(())
 }

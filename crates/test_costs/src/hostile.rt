@@ -1,8 +1,10 @@
 //! Rows of writes that spell a key anew, of guards lent once more, of equal hashes, and of walks that end early.
-use crate::numbers::{are_found, are_put, numbered, of_equal_hashes};
+use crate::by_name::{Row, holds_by_hash, holds_in_order};
+use crate::by_number;
+use crate::numbers::{are_found, numbered, of_equal_hashes};
 use crate::prelude::*;
 use test_support::caseless::{Caseless, Coarse, item_of, spelled};
-use test_support::coarse::{CoarseMap, Copied, Way};
+use test_support::coarse::{CoarseMap, Copied, Way, spelled_at};
 use test_support::walks::Walked;
 
 // Whether bar 1 and Foo 2 are inserted.
@@ -15,7 +17,7 @@ const BAR: ([u8; 3], u32) = (*b"bar", 1);
 const FOO: ([u8; 3], u32) = (*b"fOO", 7);
 
 // Whether another item of FOO is a duplicate of fOO 7 once that is written over Foo, and bar is as it was.
-fn is_respelled<M: CoarseMap>(map: &mut M, way: Way) -> bool {
+pub(crate) fn is_respelled<M: CoarseMap>(map: &mut M, way: Way) -> bool {
     let asked = Caseless(*b"FOO");
     let is_written = has_bar_and_foo(map) && map.respell(&asked, item_of(*b"fOO", 7), way);
     let existing = match map.insert(item_of(*b"FOO", 9)) {
@@ -24,20 +26,20 @@ fn is_respelled<M: CoarseMap>(map: &mut M, way: Way) -> bool {
     };
     is_written
         && existing.as_ref().map(spelled) == Some(FOO)
-        && map.spelled_at(*b"BAR") == Some(BAR)
+        && spelled_at(map, *b"BAR") == Some(BAR)
         && map.len() == 2
 }
 
 // The walk shows bar 1, and fOO 7 behind it.
 fn respells_in_order(alloc: Global, way: Way) -> bool {
     let mut map: Ordered<Coarse> = in_order(alloc);
-    is_respelled(&mut map, way) && map.map().iter().map(spelled).eq([BAR, FOO])
+    holds_in_order(&mut map, Row::IsRespelled(way)) && map.map().iter().map(spelled).eq([BAR, FOO])
 }
 
 // The walk shows bar 1 and fOO 7, in whatever order.
 fn respells_by_hash(alloc: Global, way: Way) -> bool {
     let mut map: Hashed<Coarse> = by_hash(alloc);
-    let is_respelled = is_respelled(&mut map, way);
+    let is_respelled = holds_by_hash(&mut map, Row::IsRespelled(way));
     let is_bar_first = map.map().iter().map(spelled).eq([BAR, FOO]);
     is_respelled && (is_bar_first || map.map().iter().map(spelled).eq([FOO, BAR]))
 }
@@ -71,7 +73,7 @@ fn hash_coarse_writes_by_walk(rt: HostRuntime) {
 }
 
 // The inner loan writes 5: the guard reads it then, and shows it once it is spent.
-fn reads_and_shows<M: CoarseMap>(map: &mut M) -> bool {
+pub(crate) fn reads_and_shows<M: CoarseMap>(map: &mut M) -> bool {
     let is_full = has_bar_and_foo(map);
     let five = (*b"Foo", 5);
     match map.write_by_reborrow(&Caseless(*b"Foo"), 5) {
@@ -82,47 +84,72 @@ fn reads_and_shows<M: CoarseMap>(map: &mut M) -> bool {
 
 #[test]
 fn reborrow(rt: HostRuntime) {
-    check(&rt, reads_and_shows(&mut in_order(rt.alloc())));
-    check(&rt, reads_and_shows(&mut by_hash(rt.alloc())));
+    let row = Row::ReadsAndShows;
+    check(&rt, holds_in_order(&mut in_order(rt.alloc()), row));
+    check(&rt, holds_by_hash(&mut by_hash(rt.alloc()), row));
 }
 
-fn equals_its_clone<M: CoarseMap + Copied + Drop>(map: &mut M) -> bool {
+pub(crate) fn equals_its_clone<M: CoarseMap + Copied + Drop>(map: &mut M) -> bool {
     let is_full = has_bar_and_foo(map);
     let copy = map.copied();
     let is_spent = map.spend(&Caseless(*b"Foo"));
-    is_full && is_spent && copy.is_ok_and(|copy| map.equals(&copy))
+    match copy {
+        Ok(copy) => is_full && is_spent && map.equals(&copy),
+        Err(_) => false,
+    }
 }
 
 #[test]
 fn guard_spent_unwritten(rt: HostRuntime) {
-    check(&rt, equals_its_clone(&mut in_order(rt.alloc())));
-    check(&rt, equals_its_clone(&mut by_hash(rt.alloc())));
+    let row = Row::EqualsItsClone;
+    check(&rt, holds_in_order(&mut in_order(rt.alloc()), row));
+    check(&rt, holds_by_hash(&mut by_hash(rt.alloc()), row));
 }
 
 // Whether fifty numbers are inserted, each two above the one before.
 fn fifty_are_put<M: UnderTest<Numbered, u32>>(map: &mut M, first: u32) -> bool {
-    (0..50u32).all(|half| map.is_put(numbered(half.wrapping_mul(2).wrapping_add(first))))
+    for half in 0..50u32 {
+        if !map.is_put(numbered(half.wrapping_mul(2).wrapping_add(first))) {
+            return false;
+        }
+    }
+    true
+}
+
+// Whether the even numbers below a hundred come out.
+fn fifty_come_out<M: UnderTest<Numbered, u32>>(map: &mut M) -> bool {
+    for half in 0..50u32 {
+        if map.remove(&half.wrapping_mul(2)).is_none() {
+            return false;
+        }
+    }
+    true
 }
 
 // Whether a hundred numbers are found after a shrink without the even ones.
+pub(crate) fn is_found_shrunk<M: UnderTest<Numbered, u32>>(map: &mut M) -> bool {
+    fifty_are_put(map, 0)
+        && fifty_are_put(map, 1)
+        && fifty_come_out(map)
+        && map.shrink_to_fit().is_ok()
+        && map.is_compact()
+        && fifty_are_put(map, 0)
+        && are_found(map, (0, 100), 100)
+}
+
 #[test]
 fn equal_hashes_shrunk(rt: HostRuntime) {
     let mut map = of_equal_hashes(rt.alloc());
-    check(&rt, fifty_are_put(&mut map, 0));
-    check(&rt, fifty_are_put(&mut map, 1));
-    for half in 0..50u32 {
-        check(&rt, map.remove(&half.wrapping_mul(2)).is_some());
-    }
-    check(&rt, map.shrink_to_fit().is_ok() && map.is_compact());
-    check(&rt, fifty_are_put(&mut map, 0));
-    check(&rt, are_found(&map, (0, 100), 100));
+    let row = by_number::Row::IsFoundShrunk;
+    check(&rt, by_number::holds_by_zero(&mut map, row));
 }
 
 // The values of the first ten of thirty numbers are one more than they were.
 #[test]
 fn writing_walk_stopped(rt: HostRuntime) {
     let mut map = in_order(rt.alloc());
-    check(&rt, are_put(&mut map, 1, 31));
+    let row = by_number::Row::ArePut(1, 31);
+    check(&rt, by_number::holds_in_order(&mut map, row));
     let (map, left) = map.written(10, |item: &mut Numbered| {
         item.value = item.value.wrapping_add(1);
     });

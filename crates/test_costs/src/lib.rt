@@ -1,11 +1,16 @@
 //! What calls of the maps cost, and the rows of hostile shapes. Keys are compared and hashed, hints lie, hashers
-//! tell little, items are many, and keys are spelled anew. Beside them: walks, equality and numbers.
+//! tell little, items are many, and keys are spelled anew. Beside them: walks, equality and numbers, and long random
+//! lists of calls.
 #![tactic(auto)]
 
 #[cfg(test)]
 mod alike;
 #[cfg(test)]
 mod bounds;
+#[cfg(test)]
+mod by_name;
+#[cfg(test)]
+mod by_number;
 #[cfg(test)]
 mod calls;
 #[cfg(test)]
@@ -19,9 +24,13 @@ mod many;
 #[cfg(test)]
 mod many_items;
 #[cfg(test)]
+mod metered;
+#[cfg(test)]
 mod numbers;
 #[cfg(test)]
 mod prelude;
+#[cfg(test)]
+mod random;
 #[cfg(test)]
 mod rows;
 #[cfg(test)]

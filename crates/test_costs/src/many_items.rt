@@ -1,12 +1,11 @@
 //! Calls of many items cost as many insertions or removals, and walks, room and copies no comparison.
+use crate::metered::{Row, run_by_zero, run_in_order};
 use crate::prelude::*;
 use test_support::maps::Added;
 use test_support::walks::Walked;
 
-fn takes_many<'a, M: Metered<'a>>(alloc: Global, meter: Meter<'a>) -> Result<(), Fail> {
-    let list = meter.counts.items(alloc, 0, 50)?;
-    let items = list.as_slice();
-    let mut map = meter.map_of::<M>(alloc, &[])?;
+// What the insertions of the items cost, one by one. `extend`, which replaces each then, hashes as often.
+fn overwrites<'a, M: Metered<'a>>(mut map: M, items: &[Tallied<'a>], meter: Meter<'a>) -> Cost {
     for item in items {
         let _ = map.overwrite(*item);
     }
@@ -14,56 +13,61 @@ fn takes_many<'a, M: Metered<'a>>(alloc: Global, meter: Meter<'a>) -> Result<(),
     meter.hold(each.0 == meter.hashings.saturating_mul(50));
     let are_replaced = map.extend(Hinted::new(items, 0)).is_ok();
     meter.hold(are_replaced && meter.counts.since().0 == each.0);
-    let mut map = meter.map_of::<M>(alloc, &[])?;
-    meter.tell(map.extend(Hinted::new(items, 0)).is_ok(), each);
-    let mut map = meter.map_of::<M>(alloc, &[])?;
-    let added = map.add_each(Hinted::new(items, 0));
+    each
+}
+
+// Both calls that add the items to a map without any.
+fn extends<'a, M: Metered<'a>>(
+    (mut one, mut other): (M, M),
+    items: &[Tallied<'a>],
+    each: Cost,
+    meter: Meter<'a>,
+) {
+    meter.tell(one.extend(Hinted::new(items, 0)).is_ok(), each);
+    let added = other.add_each(Hinted::new(items, 0));
     meter.tell(matches!(added, Added::All), each);
+}
+
+pub(crate) fn takes_many<'a, M: Metered<'a>>(
+    alloc: Global,
+    items: &[Tallied<'a>],
+    meter: Meter<'a>,
+) {
+    let each = overwrites(M::empty(alloc), items, meter);
+    extends((M::empty(alloc), M::empty(alloc)), items, each, meter);
     meter.tell(M::collected(alloc, Hinted::new(items, 0)).is_ok(), each);
     let made = M::collected_unique(alloc, Hinted::new(items, 0));
     meter.tell(made.is_ok(), each);
-    Ok(())
 }
 
 // Those that take new items, and `extend` where each replaces one.
 #[test]
 fn many_items_cost_as_insertions(rt: HostRuntime) -> Result<(), Fail> {
-    let tally = Tally::default();
-    takes_many::<Ordered<Tallied<'_>>>(rt.alloc(), tally.of_order())?;
-    takes_many::<ByZero<'_>>(rt.alloc(), tally.of_hashes())?;
-    tally.end()
+    run_in_order(rt.alloc(), Row::TakesMany)?;
+    run_by_zero(rt.alloc(), Row::TakesMany)
 }
 
-fn walks<'a, M: Metered<'a> + Walked<Tallied<'a>>>(
-    alloc: Global,
-    meter: Meter<'a>,
-) -> Result<(), Fail>
+pub(crate) fn walks<'a, M>(mut map: M, meter: Meter<'a>)
 where
+    M: Metered<'a> + Walked<Tallied<'a>>,
     M::Map: Drop,
 {
-    let items = meter.counts.items(alloc, 0, 50)?;
-    let mut map = meter.map_of::<M>(alloc, items.as_slice())?;
     meter.tell(map.walk() == 50, (0, 0));
     map.visit_all(true);
     let has_room = map.reserve(100).is_ok() && map.try_reserve(1000).is_ok();
     meter.tell(has_room && map.len() == 50, (0, 0));
     let (_, left) = map.written(20, |_| {});
     meter.tell(left == 30, (0, 0));
-    Ok(())
 }
 
 #[test]
 fn walks_and_room_cost_none(rt: HostRuntime) -> Result<(), Fail> {
-    let tally = Tally::default();
-    walks::<Ordered<Tallied<'_>>>(rt.alloc(), tally.of_order())?;
-    walks::<ByZero<'_>>(rt.alloc(), tally.of_hashes())?;
-    tally.end()
+    run_in_order(rt.alloc(), Row::Walks)?;
+    run_by_zero(rt.alloc(), Row::Walks)
 }
 
 // Seven items leave the first slots, and the last seven of the others move there. Then one leaves, and one moves.
-fn leave_and_move<'a, M: Metered<'a>>(alloc: Global, meter: Meter<'a>) -> Result<(), Fail> {
-    let items = meter.counts.items(alloc, 0, 50)?;
-    let mut map = meter.map_of::<M>(alloc, items.as_slice())?;
+pub(crate) fn leave_and_move<'a, M: Metered<'a>>(mut map: M, meter: Meter<'a>) {
     map.retain(|item| item.key.number >= 14);
     meter.tell(map.len() == 43, (meter.hashings.saturating_mul(7), 0));
     let is_shrunk = map.shrink_to(60).is_ok();
@@ -74,15 +78,12 @@ fn leave_and_move<'a, M: Metered<'a>>(alloc: Global, meter: Meter<'a>) -> Result
     meter.tell(map.shrink_to_fit().is_ok(), moved);
     map.visit_all(false);
     meter.tell(map.len() == 0, (meter.hashings.saturating_mul(42), 0));
-    Ok(())
 }
 
 // A removal hashes each key that goes, and a visit too. An ordered map searches for an item that moves, and a hash map hashes
 // its key.
 #[test]
 fn what_goes_or_moves_costs_once(rt: HostRuntime) -> Result<(), Fail> {
-    let tally = Tally::default();
-    leave_and_move::<Ordered<Tallied<'_>>>(rt.alloc(), tally.of_order())?;
-    leave_and_move::<ByZero<'_>>(rt.alloc(), tally.of_hashes())?;
-    tally.end()
+    run_in_order(rt.alloc(), Row::LeaveAndMove)?;
+    run_by_zero(rt.alloc(), Row::LeaveAndMove)
 }

@@ -24,7 +24,12 @@ pub(crate) fn by_factor(alloc: Global, end: u32, factor: u32) -> Result<Vec<Numb
 
 /// Whether each of the numbers from one to below another goes into the map.
 pub(crate) fn are_put<M: UnderTest<Numbered, u32>>(map: &mut M, first: u32, end: u32) -> bool {
-    (first..end).all(|number| map.is_put(numbered(number)))
+    for number in first..end {
+        if !map.is_put(numbered(number)) {
+            return false;
+        }
+    }
+    true
 }
 
 /// Whether each of those numbers is found within this many steps.
@@ -32,14 +37,20 @@ pub(crate) fn are_found<M>(map: &M, (first, end): (u32, u32), most: u32) -> bool
 where
     M: UnderTest<Numbered, u32>,
 {
-    (first..end).all(|number| {
+    for number in first..end {
         let (is_found, steps) = find(map, &number);
-        is_found && steps <= most
-    })
+        if !is_found || steps > most {
+            return false;
+        }
+    }
+    true
 }
 
-/// An empty hash map whose every hash is 0.
-pub(crate) fn of_equal_hashes(alloc: Global) -> Hashed<Numbered, BuildHasherDefault<ZeroHasher>> {
+/// A hash map of numbers whose every hash is 0.
+pub(crate) type ByZero = Hashed<Numbered, BuildHasherDefault<ZeroHasher>>;
+
+/// An empty one.
+pub(crate) fn of_equal_hashes(alloc: Global) -> ByZero {
     Hashed::new(IdHashMap::with_hasher(alloc, BuildHasherDefault::new()))
 }
 

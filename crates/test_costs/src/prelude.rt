@@ -1,7 +1,7 @@
 //! What most tests here name, and what calls cost: how often they hash keys, and how often they compare them.
 ghost use Rattle.std.specs.Prelude.{IsTrue};
 
-use iddqd::errors::TryReserveError;
+use iddqd::IdHashMap;
 pub(crate) use std::alloc::{AllocError, Global};
 use std::cell::Cell;
 use std::hash::{BuildHasher, BuildHasherDefault};
@@ -28,11 +28,22 @@ pub(crate) fn check(rt: &impl Abort, condition: bool)
 pub(crate) type ByZero<'a> = Hashed<Tallied<'a>, BuildHasherDefault<ZeroHasher>>;
 
 /// A map of either kind whose keys count.
-pub(crate) trait Metered<'a>: Copying<Tallied<'a>, CountingKey<'a>> + Bulk<Tallied<'a>> + Drop {}
+pub(crate) trait Metered<'a>: Copying<Tallied<'a>, CountingKey<'a>> + Bulk<Tallied<'a>> + Drop {
+    /// A map without items.
+    fn empty(alloc: Global) -> Self;
+}
 
-impl<'a> Metered<'a> for Ordered<Tallied<'a>> {}
+impl<'a> Metered<'a> for Ordered<Tallied<'a>> {
+    fn empty(alloc: Global) -> Self {
+        in_order(alloc)
+    }
+}
 
-impl<'a, S: BuildHasher + Default + Drop> Metered<'a> for Hashed<Tallied<'a>, S> {}
+impl<'a, S: BuildHasher + Default + Drop> Metered<'a> for Hashed<Tallied<'a>, S> {
+    fn empty(alloc: Global) -> Self {
+        Hashed::new(IdHashMap::with_hasher(alloc, S::default()))
+    }
+}
 
 /// Hashings, and comparisons.
 pub(crate) type Cost = (u32, u32);
@@ -106,12 +117,9 @@ impl<'a> Meter<'a> {
     }
 
     /// A map of the items. Its making is not told.
-    pub(crate) fn map_of<M: Bulk<Tallied<'a>>>(
-        self,
-        alloc: Global,
-        items: &[Tallied<'a>],
-    ) -> Result<M, TryReserveError> {
-        let map = M::collected(alloc, Hinted::new(items, 0));
+    pub(crate) fn map_of<M: Metered<'a>>(self, alloc: Global, items: &[Tallied<'a>]) -> M {
+        let mut map = M::empty(alloc);
+        self.hold(map.extend(Hinted::new(items, 0)).is_ok());
         let _ = self.counts.since();
         map
     }

@@ -1,9 +1,10 @@
 //! A hash map keeps the hash of each key, and grows by it.
+use crate::metered::{Row, run_by_hash};
 use crate::prelude::*;
 use test_support::nine::IDS;
 
 // The map of those that are kept makes room twice and hashes none of their keys.
-fn makes_room_unhashed<'a, M: Metered<'a>>(mut map: M, meter: Meter<'a>) {
+pub(crate) fn makes_room_unhashed<'a, M: Metered<'a>>(mut map: M, meter: Meter<'a>) {
     for number in IDS {
         meter.hold(map.is_put(meter.counts.item(number)));
     }
@@ -15,7 +16,5 @@ fn makes_room_unhashed<'a, M: Metered<'a>>(mut map: M, meter: Meter<'a>) {
 
 #[test]
 fn stored_hashes(rt: HostRuntime) -> Result<(), Fail> {
-    let tally = Tally::default();
-    makes_room_unhashed::<Hashed<Tallied<'_>>>(by_hash(rt.alloc()), tally.of_hashes());
-    tally.end()
+    run_by_hash(rt.alloc(), Row::MakesRoomUnhashed)
 }

@@ -1,5 +1,6 @@
 //! Ordered maps of many items, in and out in several orders.
-use crate::numbers::{are_found, are_put, by_factor, take};
+use crate::by_number::{Row, holds_in_order};
+use crate::numbers::{by_factor, take};
 use crate::prelude::*;
 
 // The most comparisons of a call among this many: 4 and twice the binary digits of the number.
@@ -35,20 +36,23 @@ fn ascends(map: &Ordered<Numbered>, count: usize) -> bool {
 #[test]
 fn three_orders(rt: HostRuntime) -> Result<(), Fail> {
     for factor in [1, 1008, 7] {
-        let map = filled(rt.alloc(), factor)?;
+        let mut map = filled(rt.alloc(), factor)?;
         check(&rt, walks(&map, 1, 1009));
-        check(&rt, are_found(&map, (1, 1009), 24));
+        check(&rt, holds_in_order(&mut map, Row::AreFound(1, 1009, 24)));
     }
     Ok(())
 }
 
 // Whether the items come out, each within the bound.
 fn are_taken(map: &mut Ordered<Numbered>, items: &[Numbered]) -> bool {
-    items.iter().all(|item| {
+    for item in items {
         let most = bound(map.len());
         let (is_taken, steps) = take(map, &item.number);
-        is_taken && steps <= most
-    })
+        if !is_taken || steps > most {
+            return false;
+        }
+    }
+    true
 }
 
 #[test]
@@ -66,7 +70,7 @@ fn removals_in_mixed_order(rt: HostRuntime) -> Result<(), Fail> {
 #[test]
 fn removals_in_order(rt: HostRuntime) {
     let mut map = in_order(rt.alloc());
-    check(&rt, are_put(&mut map, 1, 13));
+    check(&rt, holds_in_order(&mut map, Row::ArePut(1, 13)));
     for number in 1..13u32 {
         check(&rt, map.remove(&number).is_some());
         check(&rt, walks(&map, number.wrapping_add(1), 13));

@@ -4,6 +4,7 @@ ghost use Rattle.std.specs.Cmp.{on_equiv, on_per, nat_eq_equiv, partial_equiv_fr
 
 use crate::prelude::*;
 use iddqd::{IdHashItem, IdHashMap, IdOrdItem, IdOrdMap};
+use std::process::Abort;
 use test_support::items::Named;
 use test_support::new_items::named;
 
@@ -57,23 +58,31 @@ fn hash_reading_walk(rt: HostRuntime) {
     check(&rt, walk.next().is_some() && walk.len() == 2);
 }
 
-// No walk over a map without items shows or lends one, again and again.
+// No walk over a map without items shows or lends one, again and again. Such maps are equal.
+fn ordered_walks_give_none(rt: &impl Abort, alloc: Global) {
+    let mut map: IdOrdMap<Named> = IdOrdMap::new(alloc);
+    check(rt, map == IdOrdMap::new(alloc));
+    check(rt, gives_none(&mut map.iter()));
+    let mut walk = map.iter_mut();
+    check(rt, walk.len() == 0 && walk.next().is_none());
+    check(rt, walk.next().is_none());
+    check(rt, gives_none(&mut map.into_iter()));
+}
+
+fn hash_walks_give_none(rt: &impl Abort, alloc: Global) {
+    let mut map: IdHashMap<Named> = IdHashMap::new(alloc);
+    check(rt, map.eq(&IdHashMap::new(alloc)));
+    check(rt, gives_none(&mut map.iter()));
+    let mut walk = map.iter_mut();
+    check(rt, walk.len() == 0 && walk.next().is_none());
+    check(rt, walk.next().is_none());
+    check(rt, gives_none(&mut map.into_iter()));
+}
+
 #[test]
 fn walks_of_empty_maps(rt: HostRuntime) {
-    let mut ordered: IdOrdMap<Named> = IdOrdMap::new(rt.alloc());
-    check(&rt, ordered == IdOrdMap::new(rt.alloc()));
-    check(&rt, gives_none(&mut ordered.iter()));
-    let mut walk = ordered.iter_mut();
-    check(&rt, walk.len() == 0 && walk.next().is_none());
-    check(&rt, walk.next().is_none());
-    check(&rt, gives_none(&mut ordered.into_iter()));
-    let mut hashed: IdHashMap<Named> = IdHashMap::new(rt.alloc());
-    check(&rt, hashed.eq(&IdHashMap::new(rt.alloc())));
-    check(&rt, gives_none(&mut hashed.iter()));
-    let mut walk = hashed.iter_mut();
-    check(&rt, walk.len() == 0 && walk.next().is_none());
-    check(&rt, walk.next().is_none());
-    check(&rt, gives_none(&mut hashed.into_iter()));
+    ordered_walks_give_none(&rt, rt.alloc());
+    hash_walks_give_none(&rt, rt.alloc());
 }
 
 /// Items whose equality ignores the key.
@@ -118,12 +127,20 @@ fn are_put<M: UnderTest<Valued, u32>>(one: &mut M, other: &mut M) -> bool {
     one.is_put(Valued { key: 1, value: 7 }) && other.is_put(Valued { key: 2, value: 7 })
 }
 
+// Whether ordered maps of the one and of the other are equal.
+fn are_equal_in_order(alloc: Global) -> bool {
+    let (mut one, mut other) = (in_order(alloc), in_order(alloc));
+    are_put(&mut one, &mut other) && one.map() == other.map()
+}
+
+// Whether hash maps of them are not.
+fn differ_by_hash(alloc: Global) -> bool {
+    let (mut one, mut other) = (by_hash(alloc), by_hash(alloc));
+    are_put(&mut one, &mut other) && !one.map().eq(other.map())
+}
+
 #[test]
 fn equality_ignores_key(rt: HostRuntime) {
-    let (mut one, mut other) = (in_order(rt.alloc()), in_order(rt.alloc()));
-    check(&rt, are_put(&mut one, &mut other));
-    check(&rt, one.map() == other.map());
-    let (mut one, mut other) = (by_hash(rt.alloc()), by_hash(rt.alloc()));
-    check(&rt, are_put(&mut one, &mut other));
-    check(&rt, !one.map().eq(other.map()));
+    check(&rt, are_equal_in_order(rt.alloc()));
+    check(&rt, differ_by_hash(rt.alloc()));
 }

@@ -1,7 +1,7 @@
 //! Calls of either map, one method a call: whether the map returns what the plain list does.
-use crate::plain::{Answer, Pair, Plain, is_same};
+use crate::random::plain::{Answer, Pair, Plain, is_same};
 use test_support::caseless::{Caseless, Coarse, spelled};
-use test_support::coarse::{CoarseMap, Way};
+use test_support::coarse::{CoarseMap, Way, is_valid};
 
 // A lookup, whose comparisons are counted too, among this many items at most.
 fn is_found<M: CoarseMap>(map: &M, plain: &Plain, name: &Caseless) -> bool {
@@ -180,21 +180,28 @@ impl<M: CoarseMap> Pair<M> {
 
 // Whether the map finds each item of the list.
 pub(crate) fn are_found<M: CoarseMap>(map: &M, plain: &Plain) -> bool {
-    let mut items = plain.items.iter();
-    items.all(|item| map.get(&item.name).map(spelled) == Some(spelled(item)))
+    for item in plain.items.iter() {
+        if map.get(&item.name).map(spelled) != Some(spelled(item)) {
+            return false;
+        }
+    }
+    true
 }
 
 // Whether the map holds just what the list does, by what it finds and by its walk, and tells the numbers of the list.
 pub(crate) fn holds_the_same<M: CoarseMap>(map: &M, plain: &Plain, walked: &[Coarse]) -> bool {
     let count = plain.len();
-    let mut items = walked.iter();
-    items.all(|item| is_same(plain.find(&item.name), Some(*item)))
-        && are_found(map, plain)
+    for item in walked {
+        if !is_same(plain.find(&item.name), Some(*item)) {
+            return false;
+        }
+    }
+    are_found(map, plain)
         && walked.len() == count
         && map.len() == count
         && map.capacity() >= count
         && map.limit() == plain.limit
         && map.vacant() == plain.vacant
-        && map.is_valid()
+        && is_valid(map)
         && plain.refusals == 0
 }

@@ -1,5 +1,5 @@
 //! Calls of an ordered map alone, by positions and between bounds too.
-use crate::plain::{Answer, Draws, Pair, Plain, is_same};
+use crate::random::plain::{Answer, Draws, Pair, Plain, is_same};
 use std::alloc::Global;
 use std::ops::{Bound, RangeBounds};
 use test_support::caseless::{Caseless, Coarse};
@@ -13,7 +13,11 @@ fn bound(count: usize) -> u32 {
 
 // How many names of the list are less.
 fn rank(plain: &Plain, name: &Caseless) -> usize {
-    plain.items.iter().filter(|item| item.name < *name).count()
+    let mut count: usize = 0;
+    for item in plain.items.iter() {
+        count = count.saturating_add(usize::from(item.name < *name));
+    }
+    count
 }
 
 // The item of the list that has this many less.

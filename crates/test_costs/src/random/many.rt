@@ -1,6 +1,6 @@
 //! Calls on many items, and copies of a map, which a walk writes too: whether they return what the plain list does.
-use crate::calls::holds_the_same;
-use crate::plain::{Answer, Draws, Pair, Plain, is_same};
+use crate::random::calls::holds_the_same;
+use crate::random::plain::{Answer, Draws, Pair, Plain, is_same};
 use iddqd::MAX_ITEMS;
 use iddqd::errors::{FromIterError, TryReserveError};
 use std::alloc::{AllocError, Global};

@@ -1,10 +1,11 @@
 //! Random lists of calls with one request for memory refused (`tools/sweep` runs them): a call that is refused leaves
 //! the items.
-use crate::calls::are_found;
-use crate::plain::{Answer, Draws, Pair, Plain};
+use crate::random::by_kind::{List, run_by_hash, run_in_order};
+use crate::random::calls::are_found;
+use crate::random::plain::{Answer, Draws, Pair, Plain};
 use iddqd::MAX_ITEMS;
 use iddqd::errors::TryReserveError;
-use std::alloc::Global;
+use std::alloc::{AllocError, Global};
 use std::process::Abort;
 use std::test::Fail;
 use test_support::coarse::CoarseMap;
@@ -43,10 +44,27 @@ impl<M: CoarseMap> Pair<M> {
             }
         }
     }
+
+    // Makes the call of this number in the list.
+    fn refusable_call(
+        &mut self,
+        rt: &impl Abort,
+        seed: u64,
+        number: u32,
+    ) -> Result<(), AllocError> {
+        let drawn = self.draws.below(32);
+        let answered = self.made(drawn)?;
+        let held = finds_all(&self.map, &self.plain);
+        assert!(rt;
+            answered && held,
+            "seed {seed}: call {number}, of {drawn}, is answered otherwise, or the contents differ"
+        );
+        Ok(())
+    }
 }
 
 // Makes the calls, and prints whether one was refused. The list has its room from the beginning.
-fn run<M: CoarseMap + Drop>(
+pub(crate) fn run_refused<M: CoarseMap + Drop>(
     rt: &(impl Abort + Print),
     alloc: Global,
     map: M,
@@ -59,13 +77,7 @@ fn run<M: CoarseMap + Drop>(
     let mut pair = Pair { map, plain, draws };
     arm(alloc);
     for number in 0..400 {
-        let drawn = pair.draws.below(32);
-        let answered = pair.made(drawn)?;
-        let held = finds_all(&pair.map, &pair.plain);
-        assert!(rt;
-            answered && held,
-            "seed {seed}: call {number}, of {drawn}, is answered otherwise, or the contents differ"
-        );
+        pair.refusable_call(rt, seed, number)?;
     }
     // a shrink that keeps its memory need not tell
     if pair.plain.refusals > u32::from(is_met(alloc)) {
@@ -80,10 +92,10 @@ fn run<M: CoarseMap + Drop>(
 
 #[test]
 fn ordered_calls(rt: HostRuntime) -> Result<(), Fail> {
-    run(&rt, rt.alloc(), in_order(rt.alloc()), 91)
+    run_in_order(&rt, rt.alloc(), List::Refused(91), in_order(rt.alloc()))
 }
 
 #[test]
 fn hash_calls(rt: HostRuntime) -> Result<(), Fail> {
-    run(&rt, rt.alloc(), by_hash(rt.alloc()), 92)
+    run_by_hash(&rt, rt.alloc(), List::Refused(92), by_hash(rt.alloc()))
 }

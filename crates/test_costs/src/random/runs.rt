@@ -1,10 +1,11 @@
 //! The runs: lists of calls from fixed seeds. After each call the whole contents and the numbers are compared too, and
 //! `validate`.
-use crate::calls::holds_the_same;
-use crate::lengths::{CALLS, MANY_CALLS, MAPS};
-use crate::many::{Written, collect};
-use crate::ordered::ascends;
-use crate::plain::{Answer, Draws, Pair, Plain};
+use crate::random::by_kind::{List, run_by_hash, run_by_zero, run_in_order};
+use crate::random::calls::holds_the_same;
+use crate::random::lengths::{CALLS, MANY_CALLS, MAPS};
+use crate::random::many::{Written, collect};
+use crate::random::ordered::ascends;
+use crate::random::plain::{Answer, Draws, Pair, Plain};
 use iddqd::{IdHashMap, IdOrdMap, MAX_ITEMS};
 use std::alloc::{AllocError, Global};
 use std::collections::hash_map::RandomState;
@@ -14,11 +15,10 @@ use std::test::Fail;
 use test_support::bulk::Bulk;
 use test_support::caseless::Coarse;
 use test_support::coarse::{CoarseMap, Copied};
-use test_support::hashers::ZeroHasher;
-use test_support::maps::{Copying, Hashed, Ordered, by_hash};
+use test_support::maps::{Copying, Hashed, Ordered, by_hash, in_order};
 
 #[derive(Clone, Copy, Debug)]
-struct Run {
+pub(crate) struct Run {
     seed: u64,
     calls: u32,
     letters: u32,
@@ -32,6 +32,11 @@ fn run_of(seed: u64, calls: u32, letters: u32, limit: u32) -> Run {
         letters,
         limit,
     }
+}
+
+// Ends the test as failed, with the place of the call in its list, if the condition is false.
+fn check_call(rt: &impl Abort, condition: bool, run: Run, (number, drawn): (u32, u32), what: &str) {
+    assert!(rt; condition, "{run:?}: call {number}, {drawn}, {what}");
 }
 
 impl<M: CoarseMap + Copied + Written + Drop> Pair<M> {
@@ -71,9 +76,26 @@ impl<M: CoarseMap + Copied + Written + Drop> Pair<M> {
             _ => Ok(self.find()),
         }
     }
+
+    // Makes the call of this number in the list.
+    fn call(
+        &mut self,
+        rt: &impl Abort,
+        alloc: Global,
+        run: Run,
+        number: u32,
+    ) -> Result<(), AllocError> {
+        let drawn = self.draws.below(200);
+        let answered = self.is_answered(alloc, drawn)?;
+        check_call(rt, answered, run, (number, drawn), "is wrong");
+        let walked = self.map.listed(alloc)?;
+        let held = holds_the_same(&self.map, &self.plain, walked.as_slice());
+        check_call(rt, held, run, (number, drawn), "leaves others");
+        Ok(())
+    }
 }
 
-fn run_hashed<M: CoarseMap + Copied + Written + Drop>(
+pub(crate) fn run_hashed<M: CoarseMap + Copied + Written + Drop>(
     rt: &(impl Abort + Print),
     alloc: Global,
     run: Run,
@@ -82,12 +104,7 @@ fn run_hashed<M: CoarseMap + Copied + Written + Drop>(
     println!(rt; "{run:?}")?;
     let mut pair = Pair::new(alloc, run, map);
     for number in 0..run.calls {
-        let drawn = pair.draws.below(200);
-        let answered = pair.is_answered(alloc, drawn)?;
-        assert!(rt; answered, "{run:?}: call {number}, {drawn}, is wrong");
-        let walked = pair.map.listed(alloc)?;
-        let held = holds_the_same(&pair.map, &pair.plain, walked.as_slice());
-        assert!(rt; held, "{run:?}: call {number}, {drawn}, leaves others");
+        pair.call(rt, alloc, run, number)?;
     }
     Ok(())
 }
@@ -115,6 +132,26 @@ impl Pair<Ordered<Coarse>> {
             _ => self.range(alloc, true),
         }
     }
+
+    // Makes the call of this number in the list.
+    fn call_in_order(
+        &mut self,
+        rt: &impl Abort,
+        alloc: Global,
+        run: Run,
+        number: u32,
+    ) -> Result<(), AllocError> {
+        let drawn = self.drawn_in_order();
+        let answered = self.is_answered_in_order(alloc, drawn)?;
+        check_call(rt, answered, run, (number, drawn), "is wrong");
+        let walked = self.map.listed(alloc)?;
+        let walked = walked.as_slice();
+        let held = ascends(walked)
+            && self.has_ends()
+            && holds_the_same(&self.map, &self.plain, walked);
+        check_call(rt, held, run, (number, drawn), "leaves others");
+        Ok(())
+    }
 }
 
 fn run_ordered(rt: &(impl Abort + Print), alloc: Global, run: Run) -> Result<(), Fail> {
@@ -122,15 +159,7 @@ fn run_ordered(rt: &(impl Abort + Print), alloc: Global, run: Run) -> Result<(),
     let map = Ordered::new(IdOrdMap::with_limit(alloc, run.limit));
     let mut pair = Pair::new(alloc, run, map);
     for number in 0..run.calls {
-        let drawn = pair.drawn_in_order();
-        let answered = pair.is_answered_in_order(alloc, drawn)?;
-        assert!(rt; answered, "{run:?}: call {number}, {drawn}, is wrong");
-        let walked = pair.map.listed(alloc)?;
-        let walked = walked.as_slice();
-        let held = ascends(walked)
-            && pair.has_ends()
-            && holds_the_same(&pair.map, &pair.plain, walked);
-        assert!(rt; held, "{run:?}: call {number}, {drawn}, leaves others");
+        pair.call_in_order(rt, alloc, run, number)?;
     }
     Ok(())
 }
@@ -162,8 +191,8 @@ fn ordered_calls_at_the_limit(rt: HostRuntime) -> Result<(), Fail> {
 #[test]
 fn hash_calls(rt: HostRuntime) -> Result<(), Fail> {
     for seed in [41, 42] {
-        let run = run_of(seed, MANY_CALLS, 7, MAX_ITEMS);
-        run_hashed(&rt, rt.alloc(), run, by_hash::<Coarse>(rt.alloc()))?;
+        let list = List::Calls(run_of(seed, MANY_CALLS, 7, MAX_ITEMS));
+        run_by_hash(&rt, rt.alloc(), list, by_hash(rt.alloc()))?;
     }
     Ok(())
 }
@@ -171,10 +200,10 @@ fn hash_calls(rt: HostRuntime) -> Result<(), Fail> {
 #[test]
 fn hash_calls_at_the_limit(rt: HostRuntime) -> Result<(), Fail> {
     for seed in [51, 52] {
-        let run = run_of(seed, CALLS, 3, 14);
+        let list = List::Calls(run_of(seed, CALLS, 3, 14));
         let hasher = iddqd::DefaultHashBuilder::new();
-        let map = Hashed::new(IdHashMap::<Coarse>::with_limit(rt.alloc(), 14, hasher));
-        run_hashed(&rt, rt.alloc(), run, map)?;
+        let map = Hashed::new(IdHashMap::with_limit(rt.alloc(), 14, hasher));
+        run_by_hash(&rt, rt.alloc(), list, map)?;
     }
     Ok(())
 }
@@ -182,10 +211,9 @@ fn hash_calls_at_the_limit(rt: HostRuntime) -> Result<(), Fail> {
 #[test]
 fn calls_of_equal_hashes(rt: HostRuntime) -> Result<(), Fail> {
     for seed in [61, 62, 63] {
-        let run = run_of(seed, CALLS, 3, MAX_ITEMS);
-        let hasher: BuildHasherDefault<ZeroHasher> = BuildHasherDefault::new();
-        let map = Hashed::new(IdHashMap::with_hasher(rt.alloc(), hasher));
-        run_hashed(&rt, rt.alloc(), run, map)?;
+        let list = List::Calls(run_of(seed, CALLS, 3, MAX_ITEMS));
+        let map = Hashed::new(IdHashMap::with_hasher(rt.alloc(), BuildHasherDefault::new()));
+        run_by_zero(&rt, rt.alloc(), list, map)?;
     }
     Ok(())
 }
@@ -201,7 +229,7 @@ fn calls_of_random_hashes(rt: HostRuntime) -> Result<(), Fail> {
 }
 
 // Maps that are made of many items, each compared with its list.
-fn make_many<M: CoarseMap + Bulk<Coarse> + Drop>(
+pub(crate) fn make_many<M: CoarseMap + Bulk<Coarse> + Drop>(
     rt: &impl Abort,
     alloc: Global,
     seed: u64,
@@ -219,8 +247,8 @@ fn make_many<M: CoarseMap + Bulk<Coarse> + Drop>(
 #[test]
 fn maps_of_many_items(rt: HostRuntime) -> Result<(), Fail> {
     println!(rt; "seeds 81, 82, 83")?;
-    make_many::<Ordered<Coarse>>(&rt, rt.alloc(), 81)?;
-    make_many::<Hashed<Coarse>>(&rt, rt.alloc(), 82)?;
-    make_many::<Hashed<Coarse, BuildHasherDefault<ZeroHasher>>>(&rt, rt.alloc(), 83)?;
-    Ok(())
+    run_in_order(&rt, rt.alloc(), List::Made(81), in_order(rt.alloc()))?;
+    run_by_hash(&rt, rt.alloc(), List::Made(82), by_hash(rt.alloc()))?;
+    let map = Hashed::new(IdHashMap::with_hasher(rt.alloc(), BuildHasherDefault::new()));
+    run_by_zero(&rt, rt.alloc(), List::Made(83), map)
 }

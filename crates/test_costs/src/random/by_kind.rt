@@ -1,0 +1,68 @@
+//! A function for each kind of map that runs a list of calls. A test that named a list at its map would have the list's
+//! bounds proved of the map once more.
+use crate::random::many::Written;
+use crate::random::refused::run_refused;
+use crate::random::runs::{Run, make_many, run_hashed};
+use std::alloc::Global;
+use std::hash::BuildHasherDefault;
+use std::process::Abort;
+use std::test::Fail;
+use test_support::bulk::Bulk;
+use test_support::caseless::Coarse;
+use test_support::coarse::{CoarseMap, Copied};
+use test_support::hashers::ZeroHasher;
+use test_support::maps::{Hashed, Ordered};
+
+/// What is done with a map without items.
+#[derive(Clone, Copy)]
+pub(crate) enum List {
+    Calls(Run),
+    /// Calls from this seed, of which one is refused memory.
+    Refused(u64),
+    /// Maps that are made of many items, from this seed.
+    Made(u64),
+}
+
+fn run<M: CoarseMap + Copied + Written + Bulk<Coarse> + Drop>(
+    rt: &(impl Abort + Print),
+    alloc: Global,
+    list: List,
+    map: M,
+) -> Result<(), Fail> {
+    match list {
+        List::Calls(run) => run_hashed(rt, alloc, run, map),
+        List::Refused(seed) => run_refused(rt, alloc, map, seed),
+        List::Made(seed) => {
+            drop(map);
+            Ok(make_many::<M>(rt, alloc, seed)?)
+        }
+    }
+}
+
+pub(crate) fn run_in_order(
+    rt: &(impl Abort + Print),
+    alloc: Global,
+    list: List,
+    map: Ordered<Coarse>,
+) -> Result<(), Fail> {
+    run(rt, alloc, list, map)
+}
+
+pub(crate) fn run_by_hash(
+    rt: &(impl Abort + Print),
+    alloc: Global,
+    list: List,
+    map: Hashed<Coarse>,
+) -> Result<(), Fail> {
+    run(rt, alloc, list, map)
+}
+
+/// Over a hash map whose every hash is 0.
+pub(crate) fn run_by_zero(
+    rt: &(impl Abort + Print),
+    alloc: Global,
+    list: List,
+    map: Hashed<Coarse, BuildHasherDefault<ZeroHasher>>,
+) -> Result<(), Fail> {
+    run(rt, alloc, list, map)
+}
