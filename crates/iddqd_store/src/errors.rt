@@ -345,7 +345,8 @@ impl<T: Debug + Drop> Error for FromIterError<T> {}
 /// Why the items of an iterator were not all inserted by a call that replaces none.
 #[derive(Debug, Drop)]
 pub enum ExtendUniqueError<'a, T> {
-    /// An item of an equal key exists, from before or from the iterator: the new item, and that one alone.
+    /// An item of an equal key exists, from before or from the iterator: the new item, and the existing one. Of a map
+    /// of two keys it has both existing items that the new one meets.
     Duplicate(DuplicateItem<T, &'a T>),
     /// There was no room.
     Refused(ExtendError<T>),
