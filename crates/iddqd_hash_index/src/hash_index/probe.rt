@@ -32,7 +32,7 @@ fn find_at<T, K: KeyOf<T>, Q: Equivalent<K::Key>>(
     ensures compared { ComparedAt groups.now cells.now hash at steps.old steps.new }
     ensures never_resets { steps.old ≤ steps.new }
 {
-    let mut lanes = groups[at].matching(tag(hash));
+    let mut lanes = groups[at].matching(tag(hash, groups.len()));
     'search: while let Some(lane) = lanes.first() {
         let cell = &cells[LANES * at + lane];
         let slot = cell.slot();
