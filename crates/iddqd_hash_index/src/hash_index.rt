@@ -164,7 +164,7 @@ impl HashIndex {
     /// Returns the slot beside this hash whose item has the query's key, or `None`. It goes by the key that `K` names,
     /// and the hashes of this index must be of that key. Each slot that is listed beside the hash must have an item. It
     /// looks at each group at most once. It compares the keys of the pairs of exactly this hash, each at most once.
-    #[inline]
+    #[inline(always)]
     pub fn find_by_key<T, K: KeyOf<T>, Q: Equivalent<K::Key>>(
         &self,
         store: &ItemStore<T>,

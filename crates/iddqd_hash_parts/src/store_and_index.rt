@@ -12,7 +12,7 @@ use iddqd_store::{Equivalent, ItemStore, KeyOf, Steps, TryReserveError};
 
 /// Returns the slot of the item that the query finds by the key that `K` names, or `None`. Compares only keys whose
 /// slots are listed with this hash. Does not allocate.
-#[inline]
+#[inline(always)]
 pub fn find_slot<T, K: KeyOf<T>, Q: Equivalent<K::Key>>(
     store: &ItemStore<T>,
     index: &HashIndex,

@@ -49,7 +49,7 @@ impl<T: IdHashItem, S: BuildHasher> IdHashMap<T, S> {
     ghost use Rattle.iddqd_hash.specs.HashMap.{HashStays, LosesPlaceOf, SpareFits};
 
     // Returns the slot of the item that the query finds. The hash is that of each key for which the query stands.
-    #[inline]
+    #[inline(always)]
     pub(super) fn slot_by_key<Q: Equivalent<T::Key>>(
         &self,
         hash: u64,

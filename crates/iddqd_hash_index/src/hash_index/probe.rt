@@ -1,6 +1,7 @@
 //! The walk for the item that a query stands for.
 ghost use Rattle.std.specs.Prelude.{◌≡◌, ◌+◌, ◌*◌, ◌<◌, ◌≤◌, length, IfNone, IfSome};
-ghost use Rattle.iddqd_hash_index.specs.Groups.{pairs_of, ComparedAt, HoldsPair, IsPlaced, LacksAt, LacksIn};
+ghost use Rattle.iddqd_hash_index.specs.Groups.{hash_at, pairs_of, slot_at, ComparedAt, HoldsPair, IsPlaced, LacksAt, LacksIn};
+ghost use Rattle.iddqd_hash_index.specs.Lanes.{pair_in};
 ghost use Rattle.iddqd_hash_index.specs.HashPairs.{AreOccupied, HoldsMatch, of_hash};
 
 use super::cell::Cell;
@@ -8,8 +9,21 @@ use super::group::{Group, LANES};
 use super::probe_sequence::{after, home, tag};
 use iddqd_store::{Equivalent, ItemStore, KeyOf, Steps};
 
-// The lane in this group whose item has the query's key, and its slot. It compares keys at lanes of exactly this hash.
+// The cell of a lane. The group's cells come first, since their address is then reckoned once for all lanes.
 #[inline]
+fn cell_at(cells: &[Cell], at: usize, lane: usize) -> &Cell
+    requires within { LANES * at + LANES ≤ length cells.now }
+    requires small { lane < LANES }
+    ensures hash { (pair_in result.now).0 ≡ hash_at cells.now (LANES * at + lane) }
+    ensures slot { (pair_in result.now).1 ≡ slot_at cells.now (LANES * at + lane) }
+{
+    let group = &cells[LANES * at..LANES * at + LANES];
+    &group[lane]
+}
+
+// The lane in this group whose item has the query's key, and its slot. It compares keys at lanes of exactly this hash.
+// A search is always inlined into the map's call: to pass what it asks for takes a fifth of its instructions.
+#[inline(always)]
 fn find_at<T, K: KeyOf<T>, Q: Equivalent<K::Key>>(
     groups: &[Group],
     cells: &[Cell],
@@ -34,7 +48,7 @@ fn find_at<T, K: KeyOf<T>, Q: Equivalent<K::Key>>(
 {
     let mut lanes = groups[at].matching(tag(hash, groups.len()));
     'search: while let Some(lane) = lanes.first() {
-        let cell = &cells[LANES * at + lane];
+        let cell = cell_at(cells, at, lane);
         let slot = cell.slot();
         if cell.hash() == hash {
             let item = store.item(slot);
@@ -49,7 +63,7 @@ fn find_at<T, K: KeyOf<T>, Q: Equivalent<K::Key>>(
 
 // The group, lane and slot of the pair whose item has the query's key. It compares keys at pairs of exactly this hash,
 // and goes round once at most.
-#[inline]
+#[inline(always)]
 pub(super) fn find_among<T, K: KeyOf<T>, Q: Equivalent<K::Key>>(
     groups: &[Group],
     cells: &[Cell],

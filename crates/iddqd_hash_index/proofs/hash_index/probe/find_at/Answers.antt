@@ -19,7 +19,7 @@ pub item-item-requires : goal.item-item-requires
 item-item-requires g c =
     let hit = c.search.invariant.left.only c.in-Some.lane c.in-Some.ensures.some in
     let some = c.tag.ensures.some in
-    c.requires.occupied _ (listed _ _ c.args.at c.in-Some.lane _ _ c.requires.within hit.0 (λ z. omega (arith, hit.1, c.tag.ensures.value)) (sym c.hash.ensures ∙ c.if-hash.true) c.slot-slot.ensures)
+    c.requires.occupied _ (listed _ _ c.args.at c.in-Some.lane _ _ c.requires.within hit.0 (λ z. omega (arith, hit.1, c.tag.ensures.value)) (sym (c.hash.ensures ∙ c.cell_at-cell.ensures.hash) ∙ c.if-hash.true) (c.slot-slot.ensures ∙ c.cell_at-cell.ensures.slot))
 
 pub returns-then-equal-clause-lane : goal.returns-then-equal-clause-lane
 returns-then-equal-clause-lane g c =
@@ -29,8 +29,8 @@ returns-then-equal-clause-lane g c =
       within = c.requires.within;
       small = hit.0;
       taken = λ z. omega (arith, hit.1, c.tag.ensures.value);
-      has_hash = sym c.hash.ensures ∙ c.if-hash.true;
-      has_slot = c.slot-slot.ensures;
+      has_hash = sym (c.hash.ensures ∙ c.cell_at-cell.ensures.hash) ∙ c.if-hash.true;
+      has_slot = c.slot-slot.ensures ∙ c.cell_at-cell.ensures.slot;
     }
 
 pub returns-then-equal-clause-found : goal.returns-then-equal-clause-found
@@ -46,7 +46,7 @@ returns-then-equal-clause-compared g c =
     let within = c.requires.within in
     let small = hit.0 in
     Compared-one (12 * length gs) (tag_at gs) (pair_at c.args.cells.now) c.args.hash _ _ _ _ c.search.invariant.compared (λ _ visited. visited.0) (12 * c.args.at + c.in-Some.lane) _
-    (omega arith) (λ z. omega (arith, hit.1, c.tag.ensures.value, sym (cell_tag gs c.args.at c.in-Some.lane small) ∙ z)) (sym c.hash.ensures ∙ c.if-hash.true)
+    (omega arith) (λ z. omega (arith, hit.1, c.tag.ensures.value, sym (cell_tag gs c.args.at c.in-Some.lane small) ∙ z)) (sym (c.hash.ensures ∙ c.cell_at-cell.ensures.hash) ∙ c.if-hash.true)
     (IsVisited-new _ _ c.in-Some.lane small c.in-Some.ensures.some) (omega arith) (omega (arith, c.equal.ensures.step))
 
 pub search-preserved : goal.search-preserved
@@ -63,18 +63,18 @@ search-preserved g c =
     elim c.if-hash.branch [
       | then-hash+else-equal w ↦ record {
         left = LanesLeft-next _ _ Missed _ _ _ left c.search.invariant.left (λ _ passes.
-            let held = sym (sym w.item-item.ensures ∙ ap (item_at c.args.store.now) c.slot-slot.ensures) in
+            let held = sym (sym w.item-item.ensures ∙ ap (item_at c.args.store.now) (c.slot-slot.ensures ∙ c.cell_at-cell.ensures.slot)) in
             let passed = subst (λ o. IsSomeAnd o (λ x. g.Q.Equivalent.equivalent c.args.query.now (g.K.KeyOf.key x) ≡ true)) held passes in
             absurd (true≢false (sym passed ∙ ap (g.Q.Equivalent.equivalent c.args.query.now) (sym w.key_of.ensures) ∙ sym w.equal.ensures.value ∙ w.if-equal.false)));
         compared = Compared-one (12 * length gs) (tag_at gs) (pair_at c.args.cells.now) c.args.hash _ _ _ _ c.search.invariant.compared
             (IsVisited-wider _ _ lane _ small left) (12 * c.args.at + lane) _
-            (omega arith) (λ z. omega (arith, hit.1, c.tag.ensures.value, sym (cell_tag gs c.args.at lane small) ∙ z)) (sym c.hash.ensures ∙ w.if-hash.true)
+            (omega arith) (λ z. omega (arith, hit.1, c.tag.ensures.value, sym (cell_tag gs c.args.at lane small) ∙ z)) (sym (c.hash.ensures ∙ c.cell_at-cell.ensures.hash) ∙ w.if-hash.true)
             (IsVisited-new _ _ lane small c.in-Some.ensures.some)
             (IsVisited-lane _ _ lane _ small left) (omega (arith, w.steps-is, w.equal.ensures.step));
         never_resets = rw w.steps-is (omega (arith, c.search.invariant.never_resets, w.equal.ensures.never_resets));
       }
       | else-hash w ↦ record {
-        left = LanesLeft-next _ _ Missed _ _ _ left c.search.invariant.left (λ same. absurd (w.if-hash.false (c.hash.ensures ∙ same)));
+        left = LanesLeft-next _ _ Missed _ _ _ left c.search.invariant.left (λ same. absurd (w.if-hash.false (c.hash.ensures ∙ c.cell_at-cell.ensures.hash ∙ same)));
         compared = rw w.steps-is (Compared-wider (12 * length gs) (tag_at gs) (pair_at c.args.cells.now) c.args.hash _ _ _ _ c.search.invariant.compared (IsVisited-wider _ _ lane _ small left));
         never_resets = rw w.steps-is c.search.invariant.never_resets;
       }
