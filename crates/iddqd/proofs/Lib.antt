@@ -3,6 +3,7 @@ pub mod GivenLemmas
 pub mod GuardLemmas
 pub mod PermutationLemmas
 pub use Rattle.iddqd_store.proofs.AddingLemmas
+pub use Rattle.iddqd_store.proofs.CountingLemmas
 pub use Rattle.iddqd_store.proofs.DistinctLemmas
 pub use Rattle.iddqd_store.proofs.KeepsLemmas
 pub use Rattle.iddqd_store.proofs.MappedLemmas

@@ -4,6 +4,7 @@ pub mod IdOrdMap
 pub use Rattle.iddqd_store.specs.Adding
 pub use Rattle.iddqd_store.specs.Collecting
 pub use Rattle.iddqd_store.specs.Contents
+pub use Rattle.iddqd_store.specs.Counting
 pub use Rattle.iddqd_ord_index.specs.Digits
 pub use Rattle.iddqd_store.specs.Errors
 pub use Rattle.iddqd_store.specs.Hashing

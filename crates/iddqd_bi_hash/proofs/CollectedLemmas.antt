@@ -19,8 +19,9 @@ use Rattle.iddqd_store.proofs.OrderLemmas.{differ_moved, find_moved}
 use Rattle.iddqd_hash_parts.proofs.FoundLemmas.{without_absent}
 use Rattle.iddqd_bi_hash.specs.Extending.{HaltsAdding, HaltsAt}
 use Rattle.iddqd_bi_hash.specs.BiHashItems.{BiHashItems, IsKeyedByBoth, differ_by_key1, differ_by_key2, holding_of}
-use Rattle.iddqd_bi_hash.specs.Collecting.{DifferInBoth, Meets, MeetsNone}
+use Rattle.iddqd_bi_hash.specs.Collecting.{DifferInBoth, Meets, MeetsNone, OwnDiffer}
 use Rattle.iddqd_bi_hash.specs.TwoKeys.{as_list, items_displaced}
+use Rattle.iddqd_bi_hash.specs.declared.both.Both as both
 use Rattle.iddqd_bi_hash.specs.declared.bi_hash_map.extend_unique.Halted.{Halted}
 use Rattle.iddqd_bi_hash.specs.declared.bi_hash_map.extend_unique.Halted.TheVariants.{Met, NoRoom}
 use Rattle.iddqd_bi_hash.proofs.DisplacedLemmas.{at_none}
@@ -84,18 +85,18 @@ module _ {T K L : Type 0} (key1 : T → K) (key2 : T → L) {eq1 : K → K → B
         };
   }
 
-  module _ {S : Type 0} (gives : List T → T → Type 0) (old middle new : BiHashItems S T) (before : List T) (adds : AddsAll (DifferInBoth key1 key2 eq1 eq2) before old.items middle.items) (limit : middle.limit ≡ old.limit) (kept : KeepsItems (holding_of middle) (holding_of new)) (x : T) (came : gives before x) where
-    moved_on : AddsAll (DifferInBoth key1 key2 eq1 eq2) before old.items new.items
-    moved_on = subst (AddsAll (DifferInBoth key1 key2 eq1 eq2) before old.items) (sym kept.items) adds
+module _ {S T K L : Type 0} (keys : both.Ghosts T K L) (equivalence1 : IsEquivalence keys.eq1) (equivalence2 : IsEquivalence keys.eq2) (gives : List T → T → Type 0) (old middle new : BiHashItems S T) (before : List T) (adds : AddsAll (OwnDiffer keys) before old.items middle.items) (limit : middle.limit ≡ old.limit) (kept : KeepsItems (holding_of middle) (holding_of new)) (x : T) (came : gives before x) where
+  moved_on : AddsAll (OwnDiffer keys) before old.items new.items
+  moved_on = subst (AddsAll (OwnDiffer keys) before old.items) (sym kept.items) adds
 
-    pub halts : (h : Halted T) → HaltsAt key1 key2 eq1 eq2 x middle h → HaltsAdding key1 key2 eq1 eq2 gives old new h
-    halts (Met y slots) at =
-        let met = filter_map (item_of_slot middle.slots middle.items) (values_of slots) in
-        rw (kept.slots, kept.items, at.0) (
-          at.1,
-          (before, came, conflicts_first by_two_keys before old.items middle.items adds x met at.2, adds),
-        )
-    halts (NoRoom e) at =
-        let none = subst (MeetsNone key1 key2 eq1 eq2 x) (sym kept.items) at.1.0 in
-        let kind = at.1.1 ∙ ap (λ l. refusal_kind l middle.items) limit ∙ ap (refusal_kind old.limit) (sym kept.items) in
-        rw at.0 ((before, came, moved_on, (none, kind)), tt)
+  pub halts : (h : Halted T) → HaltsAt keys x middle h → HaltsAdding keys gives old new h
+  halts (Met y slots) at =
+      let met = filter_map (item_of_slot middle.slots middle.items) (values_of slots) in
+      rw (kept.slots, kept.items, at.0) (
+        at.1,
+        (before, came, conflicts_first (by_two_keys keys.key1 keys.key2 equivalence1 equivalence2) before old.items middle.items adds x met at.2, adds),
+      )
+  halts (NoRoom e) at =
+      let none = subst (MeetsNone keys x) (sym kept.items) at.1.0 in
+      let kind = at.1.1 ∙ ap (λ l. refusal_kind l middle.items) limit ∙ ap (refusal_kind old.limit) (sym kept.items) in
+      rw at.0 ((before, came, moved_on, (none, kind)), tt)

@@ -13,8 +13,9 @@ use Rattle.iddqd_store.specs.declared.errors.Few.TheVariants.{One, Two, Three}
 use Rattle.iddqd_hash_parts.proofs.FoundLemmas.{without_absent}
 use Rattle.iddqd_bi_hash.specs.BiHashItems.{BiHashItems, holding_of}
 use Rattle.iddqd_bi_hash.specs.BiHashMap.{BiKeeps, BiOverwrites, BiRefills, BiStays}
-use Rattle.iddqd_bi_hash.specs.Collecting.{MeetsNone, OverwritesAll, OverwritesItem}
+use Rattle.iddqd_bi_hash.specs.Collecting.{Meets, OverwritesAll, OverwritesItem}
 use Rattle.iddqd_bi_hash.specs.TwoKeys.{as_list, items_displaced, items_met, items_unmet}
+use Rattle.iddqd_bi_hash.specs.declared.both.Both as both
 use Rattle.iddqd_bi_hash.proofs.BothLemmas.{stays_on}
 use Rattle.iddqd_bi_hash.proofs.DisplacedLemmas.{at_none}
 use Rattle.iddqd_bi_hash.proofs.MetLemmas.{neither_found}
@@ -46,6 +47,25 @@ none_either p q (x ∷ xs) none1 none2 = by (p x) (q x) refl refl none1 none2 (n
     by false true e f none1 none2 rest = absurd (cc)
     by false false e f none1 none2 rest = rw (e, f) (rest none1 none2)
 
+module _ {S T K L : Type 0} (keys : both.Ghosts T K L) (x : T) where
+  pub overwritten : (old new : BiHashItems S T) (back : Option (Few T)) → BiOverwrites keys x old new back → OverwritesItem keys.key1 keys.key2 keys.eq1 keys.eq2 x (holding_of old) (holding_of new)
+  overwritten old new None did = record {
+    put = did.put;
+    room = λ none. did.inserted.room;
+    slots = did.slots;
+    vacant = omega (arith, did.inserted.vacant, ap length did.displaced);
+    capacity = did.inserted.capacity;
+    limit = did.limit;
+  }
+  overwritten old new (Some few) did = record {
+    put = did.put;
+    room = λ none. absurd (some_value few (did.displaced ∙ sym none));
+    slots = did.slots;
+    vacant = omega (arith, did.vacant, ap length did.displaced);
+    capacity = omega (arith, did.capacity);
+    limit = did.limit;
+  }
+
 module _ {T K L : Type 0} (key1 : T → K) (key2 : T → L) (eq1 : K → K → Bool) (eq2 : L → L → Bool) (x : T) where
   abbrev has1 : T → Bool
   has1 y = eq1 (key1 x) (key1 y)
@@ -53,7 +73,7 @@ module _ {T K L : Type 0} (key1 : T → K) (key2 : T → L) (eq1 : K → K → B
   abbrev has2 : T → Bool
   has2 y = eq2 (key2 x) (key2 y)
 
-  pub meets_none : (items : List T) → items_met key1 key2 eq1 eq2 x items ≡ [] → MeetsNone key1 key2 eq1 eq2 x items
+  pub meets_none : (items : List T) → items_met key1 key2 eq1 eq2 x items ≡ [] → Meets key1 key2 eq1 eq2 x items []
   meets_none items none =
       let absent = neither_found has1 has2 items none in
       sym (
@@ -62,31 +82,13 @@ module _ {T K L : Type 0} (key1 : T → K) (key2 : T → L) (eq1 : K → K → B
       ∙ ap as_list absent.1
       )
 
-  pub met_none : (items : List T) → MeetsNone key1 key2 eq1 eq2 x items → items_met key1 key2 eq1 eq2 x items ≡ []
+  pub met_none : (items : List T) → Meets key1 key2 eq1 eq2 x items [] → items_met key1 key2 eq1 eq2 x items ≡ []
   met_none items none =
       let left = items_without key1 (eq1 (key1 x)) items in
       let absent = at_none {P = (find has1 items ≡ None) × (find has2 left ≡ None)} None (find has1 items) (find has2 left) none (λ a b. (a, b)) in
       none_either has1 has2 items absent.0 (ap (find has2) (without_absent key1 (eq1 (key1 x)) items absent.0) ∙ absent.1)
 
   module _ {S : Type 0} where
-    pub overwritten : (old new : BiHashItems S T) (back : Option (Few T)) → BiOverwrites key1 key2 eq1 eq2 x old new back → OverwritesItem key1 key2 eq1 eq2 x (holding_of old) (holding_of new)
-    overwritten old new None did = record {
-      put = did.put;
-      room = λ none. did.inserted.room;
-      slots = did.slots;
-      vacant = omega (arith, did.inserted.vacant, ap length did.displaced);
-      capacity = did.inserted.capacity;
-      limit = did.limit;
-    }
-    overwritten old new (Some few) did = record {
-      put = did.put;
-      room = λ none. absurd (some_value few (did.displaced ∙ sym none));
-      slots = did.slots;
-      vacant = omega (arith, did.vacant, ap length did.displaced);
-      capacity = omega (arith, did.capacity);
-      limit = did.limit;
-    }
-
     pub refills_put : (IsKeyed : BiHashItems S T → Type 0) (old between new : BiHashItems S T) → BiRefills IsKeyed old between → OverwritesItem key1 key2 eq1 eq2 x (holding_of between) (holding_of new) → BiStays IsKeyed between new → BiRefills IsKeyed old new
     refills_put IsKeyed old between new first put stays = record {
       slots = put.slots;
@@ -99,7 +101,7 @@ module _ {T K L : Type 0} (key1 : T → K) (key2 : T → L) (eq1 : K → K → B
   put_after : (old between new : Holding T) → KeepsItems old between → OverwritesItem key1 key2 eq1 eq2 x between new → OverwritesItem key1 key2 eq1 eq2 x old new
   put_after old between new kept put = record {
     put = subst (λ items. AddsItem x (items_unmet key1 key2 eq1 eq2 x items) new.items) kept.items put.put;
-    room = λ none. (let room = put.room (subst (MeetsNone key1 key2 eq1 eq2 x) (sym kept.items) none) in omega (arith, room, ap length kept.items, kept.limit));
+    room = λ none. (let room = put.room (subst (λ items. Meets key1 key2 eq1 eq2 x items []) (sym kept.items) none) in omega (arith, room, ap length kept.items, kept.limit));
     slots = put.slots;
     vacant = subst (λ items. new.vacant ≡ between.vacant + length (items_displaced key1 key2 eq1 eq2 x items) - 1) kept.items put.vacant ∙ ap (λ n. n + length (items_displaced key1 key2 eq1 eq2 x old.items) - 1) kept.vacant;
     capacity = omega (arith, kept.capacity, put.capacity);

@@ -15,6 +15,7 @@
 --     IsOccupied, AreOccupied      a slot has an item, and each of several has
 --     AreItemsOf      the items of several slots are lent
 --     items_at, items_beside      the items of several slots, and the others
+--     AreHashes, HasNewKeys      of an item: these are the hashes of its keys; no item has one of its keys
 --     MeetsNoneBeside      of an item: none of those others has one of its keys
 --     AreSlotsMet, AreSlotsDisplaced      of an item: the slots of those that have one of its keys, in rising order, or by key
 --     Displaces, KeepsUnmet      of an item: those that have one of its keys are returned; the others stay
@@ -49,6 +50,7 @@ use Rattle.iddqd_hash_parts.specs.SlotsFound.{values_if_any}
 use Rattle.iddqd_hash_parts.specs.declared.keyed.Keyed as keyed
 use Rattle.iddqd_bi_hash.specs.BiHashItems.{BiHashItems, by_key1, holding_of}
 use Rattle.iddqd_bi_hash.specs.TwoKeys.{find_by_both, items_displaced, items_met, items_unmet, without_slots}
+use Rattle.iddqd_bi_hash.specs.declared.both.Both as both
 use Rattle.iddqd_bi_hash.specs.contracts.bi_hash_map.BiHashMap.{the_row}
 
 module _ {S T : Type 0} where
@@ -146,10 +148,6 @@ module _ {S T : Type 0} where
       pub hasher : new.hasher ≡ old.hasher
       pub keyed : IsKeyed new
 
--- what is returned are the items that have one of x's keys
-abbrev pub Displaces : {T K L : Type 0} (key1 : T → K) (key2 : T → L) (eq1 : K → K → Bool) (eq2 : L → L → Bool) → T → List T → Option (Few T) → Type 0
-Displaces key1 key2 eq1 eq2 x items back = values_if_any back ≡ items_displaced key1 key2 eq1 eq2 x items
-
 -- the item y, if this is one, is found by its key no more, unless x has the key
 abbrev pub LosesKey : {T K : Type 0} → (T → K) → (K → K → Bool) → T → Option T → List T → Type 0
 LosesKey {T} key eq x found items = (y : T) → found ≡ Some y → eq (key y) (key x) ≡ false → IsAbsent key (eq (key y)) items
@@ -159,49 +157,73 @@ module _ {S T K L : Type 0} (key1 : T → K) (key2 : T → L) where
   abbrev pub FindsSlotByBoth : (K → Bool) → (L → Bool) → BiHashItems S T → Option ℕ → Type 0
   FindsSlotByBoth test1 test2 m found = option_and_then (item_of_slot m.slots m.items) found ≡ find_by_both key1 key2 test1 test2 m.items
 
-module _ {S T K L : Type 0} (key1 : T → K) (key2 : T → L) (eq1 : K → K → Bool) (eq2 : L → L → Bool) where
+module _ {T K L : Type 0} (keys : both.Ghosts T K L) where
+  -- the items that have one of x's keys, that of the first key first or in their order, and the others
+  abbrev pub displaced_by : T → List T → List T
+  displaced_by = items_displaced keys.key1 keys.key2 keys.eq1 keys.eq2
+
+  abbrev pub met_by : T → List T → List T
+  met_by = items_met keys.key1 keys.key2 keys.eq1 keys.eq2
+
+  abbrev pub unmet_by : T → List T → List T
+  unmet_by = items_unmet keys.key1 keys.key2 keys.eq1 keys.eq2
+
+  -- what is returned are the items that have one of x's keys
+  abbrev pub Displaces : T → List T → Option (Few T) → Type 0
+  Displaces x items back = values_if_any back ≡ displaced_by x items
+
+  -- no item has one of x's keys
+  abbrev pub HasNewKeys : T → List T → Type 0
+  HasNewKeys x items = met_by x items ≡ []
+
+module _ {S T K L : Type 0} (keys : both.Ghosts T K L) where
+  -- the map's hasher gives these hashes for x's keys
+  pub record AreHashes (own : keyed.Ghosts (BiHashItems S T) T) (m : BiHashItems S T) (x : T) (hash1 hash2 : ℕ) : Type 0 where
+    pub one : hash1 ≡ own.hash m (keys.input1 (keys.key1 x))
+    pub other : hash2 ≡ own.hash m (keys.input2 (keys.key2 x))
+
   -- x is returned: beside the items that have one of its keys, in the order of their slots, or because there was no room
   abbrev pub RefusesItem : BiHashItems S T → T → InsertError T → Type 0
   RefusesItem m x (Duplicate d) =
-      (new_item_of d ≡ x) × (lent_duplicates_of d ≡ items_met key1 key2 eq1 eq2 x m.items)
+      (new_item_of d ≡ x) × (lent_duplicates_of d ≡ met_by keys x m.items)
   RefusesItem m x (Refused r) =
-      (r.item ≡ x) × (items_met key1 key2 eq1 eq2 x m.items ≡ []) × (r.error ≡ refusal_kind m.limit m.items)
+      (r.item ≡ x) × (met_by keys x m.items ≡ []) × (r.error ≡ refusal_kind m.limit m.items)
 
   -- the slots that are found, if any, are of the items that have one of x's keys
   abbrev pub AreSlotsMet : T → BiHashItems S T → Option (Few ℕ) → Type 0
-  AreSlotsMet x m found = filter_map (item_of_slot m.slots m.items) (values_if_any found) ≡ items_met key1 key2 eq1 eq2 x m.items
+  AreSlotsMet x m found = filter_map (item_of_slot m.slots m.items) (values_if_any found) ≡ met_by keys x m.items
 
   -- the items but for those of these slots have none of x's keys
   abbrev pub MeetsNoneBeside : T → BiHashItems S T → List ℕ → Type 0
-  MeetsNoneBeside x m slots = items_met key1 key2 eq1 eq2 x (items_beside m slots) ≡ []
+  MeetsNoneBeside x m slots = met_by keys x (items_beside m slots) ≡ []
 
   abbrev pub AreSlotsDisplaced : T → BiHashItems S T → Option (Few ℕ) → Type 0
-  AreSlotsDisplaced x m found = filter_map (item_of_slot m.slots m.items) (values_if_any found) ≡ items_displaced key1 key2 eq1 eq2 x m.items
+  AreSlotsDisplaced x m found = filter_map (item_of_slot m.slots m.items) (values_if_any found) ≡ displaced_by keys x m.items
 
   abbrev pub KeepsUnmet : T → BiHashItems S T → BiHashItems S T → Type 0
-  KeepsUnmet x old new = new.items ≡ items_unmet key1 key2 eq1 eq2 x old.items
+  KeepsUnmet x old new = new.items ≡ unmet_by keys x old.items
 
   -- x was refused room, since nothing was spare, and is returned; no item has one of its keys
   pub record BiReturnsItem (m : BiHashItems S T) (x : T) (r : refused.Refused T) : Type 0 where
     pub item : r.item ≡ x
-    pub absent : items_met key1 key2 eq1 eq2 x m.items ≡ []
+    pub absent : met_by keys x m.items ≡ []
     pub kind : r.error ≡ refusal_kind m.limit m.items
     pub no_spare : m.spare ≡ 0
 
   -- x was inserted, and the items that had one of its keys are returned; if there were some, no memory was needed. Both keys find x. An
   -- item that had one of its keys is found by the other no more
   pub record BiOverwrites (x : T) (old new : BiHashItems S T) (back : Option (Few T)) : Type 0 where
-    pub displaced : Displaces key1 key2 eq1 eq2 x old.items back
-    pub put : AddsItem x (items_unmet key1 key2 eq1 eq2 x old.items) new.items
+    pub displaced : Displaces keys x old.items back
+    pub put : AddsItem x (unmet_by keys x old.items) new.items
     pub slots : HaveSlots new.slots new.items
     pub vacant : IfSome back (λ few. new.vacant + 1 ≡ old.vacant + length (values_of few))
     pub capacity : OnSome back (new.capacity ≡ old.capacity)
     pub inserted : IfNone back (InsertsItem x (holding_of old) (holding_of new))
     pub limit : new.limit ≡ old.limit
-    pub there1 : find_item key1 (eq1 (key1 x)) new.items ≡ Some x
-    pub there2 : find_item key2 (eq2 (key2 x)) new.items ≡ Some x
-    pub gone1 : LosesKey key1 eq1 x (find_item key2 (eq2 (key2 x)) old.items) new.items
-    pub gone2 : LosesKey key2 eq2 x (find_item key1 (eq1 (key1 x)) old.items) new.items
+    pub there1 : find_item keys.key1 (keys.eq1 (keys.key1 x)) new.items ≡ Some x
+    pub there2 : find_item keys.key2 (keys.eq2 (keys.key2 x)) new.items ≡ Some x
+    pub gone1 : LosesKey keys.key1 keys.eq1 x (find_item keys.key2 (keys.eq2 (keys.key2 x)) old.items) new.items
+    pub gone2 : LosesKey keys.key2 keys.eq2 x (find_item keys.key1 (keys.eq1 (keys.key1 x)) old.items) new.items
 
 module _ {S T K : Type 0} (key : T → K) (key_eq : K → K → Bool) (eq : T → T → Bool) where
   -- the item's key finds an item that is equal to it

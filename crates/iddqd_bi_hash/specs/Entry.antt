@@ -35,6 +35,7 @@ use Rattle.iddqd_bi_hash.specs.BiHashItems.{BiHashItems}
 use Rattle.iddqd_bi_hash.specs.BiHashMap.{BiInserts, BiKeeps, BiReturnsItem, BiStays}
 use Rattle.iddqd_bi_hash.specs.Guard.{GuardKeeps, GuardKeepsAkin, guard_lender, lent_item, lent_map, lent_with, with_item_in_slot}
 use Rattle.iddqd_bi_hash.specs.TwoKeys.{find_by_both, items_found, items_left, slots_of_pair, without_slots}
+use Rattle.iddqd_bi_hash.specs.declared.both.Both as both
 use Rattle.iddqd_bi_hash.specs.declared.bi_hash_map.entry.Entry.{Entry}
 use Rattle.iddqd_bi_hash.specs.declared.bi_hash_map.entry.OccupiedEntry.{OccupiedEntry}
 use Rattle.iddqd_bi_hash.specs.declared.bi_hash_map.entry.OccupiedEntryMut.{OccupiedEntryMut}
@@ -141,18 +142,18 @@ module _ {S T K L : Type 0} (key1 : T → K) (key2 : T → L) where
     pub item : entry_item e ≡ find_by_both key1 key2 test1 test2 m.now.items
     pub written : IsTrue (entry_is_unique e) → (w : T) → (entry_with e w).items ≡ items_overwritten key1 test1 w m.now.items
 
-module _ {T K L : Type 0} (key1 : T → K) (key2 : T → L) (eq1 : K → K → Bool) (eq2 : L → L → Bool) where
+module _ {T K L : Type 0} (keys : both.Ghosts T K L) where
   -- no item but the entry's has a key of this one
   pub record LacksKeysOf {S : Type 0} (x : T) (e : Entry T S) : Type 0 where
-    pub absent1 : IsAbsent key1 (eq1 (key1 x)) (entry_others e)
-    pub absent2 : IsAbsent key2 (eq2 (key2 x)) (entry_others e)
+    pub absent1 : IsAbsent keys.key1 (keys.eq1 (keys.key1 x)) (entry_others e)
+    pub absent2 : IsAbsent keys.key2 (keys.eq2 (keys.key2 x)) (entry_others e)
 
   abbrev pub LacksKeysOfMade : {S : Type 0} → (T → Type 0) → Entry T S → Type 0
   LacksKeysOfMade made e = (x : T) → made x → LacksKeysOf x e
 
   -- the refused item is returned, and the entry's map lacked room for it
   abbrev pub EntryReturnsItem : {S : Type 0} → Entry T S → T → Refused T → Type 0
-  EntryReturnsItem e x refused = BiReturnsItem key1 key2 eq1 eq2 (entry_map e) x refused
+  EntryReturnsItem e x refused = BiReturnsItem keys (entry_map e) x refused
 
 module _ {S T : Type 0} (own : keyed.Ghosts (BiHashItems S T) T) where
   -- the entry's items were removed from its map

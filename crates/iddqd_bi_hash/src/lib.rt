@@ -2,9 +2,11 @@
 #![tactic(auto)]
 
 pub mod bi_hash_map;
+mod both;
 mod items;
 
 pub use bi_hash_map::{BiHashMap, DefaultHashBuilder, Keyed};
+pub use both::Both;
 pub use iddqd_store::{
     DuplicateItem, Equivalent, ExtendError, ExtendUniqueError, Few, FromIterError, InsertError,
     MAX_ITEMS, Refused, Text, TryReserveError, ValidateCompact, ValidationError, Visit,

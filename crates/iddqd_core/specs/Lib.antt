@@ -7,6 +7,7 @@ pub use Rattle.iddqd_ord_index.specs.Search
 pub use Rattle.iddqd_store.specs.Adding
 pub use Rattle.iddqd_store.specs.Collecting
 pub use Rattle.iddqd_store.specs.Contents
+pub use Rattle.iddqd_store.specs.Counting
 pub use Rattle.iddqd_store.specs.Errors
 pub use Rattle.iddqd_store.specs.Hashing
 pub use Rattle.iddqd_store.specs.Holding

@@ -8,6 +8,7 @@ mod regroup;
 
 ghost use Rattle.std.specs.Prelude.{◌≡◌, ℕ, ◌+◌, ◌-◌, ◌<◌, ◌≤◌, [], length, max, OnOk, OnErr, OnSome, IfOk, IfErr, IfNone, IfSome, Contains};
 ghost use Rattle.std.specs.Prelude.{min as least};
+ghost use Rattle.iddqd_store.specs.Counting.{CountsAtMost};
 ghost use Rattle.iddqd_hash_index.specs.HashPairs.{SamePairs, AreOccupied, Doubles, Finds, GivesRoomBack, HasOneMore, HasInstead, Lacks, index_room, of_hash, of_slot};
 ghost use Rattle.iddqd_hash_index.specs.Groups.{room_for};
 ghost use Rattle.iddqd_store.specs.Refusal.{memory_refused};
@@ -175,8 +176,7 @@ impl HashIndex {
         requires occupied { AreOccupied store.now self.now.pairs hash }
         ensures found { Finds K.key (Q.equivalent query.now) store.now self.now.pairs hash result }
         ensures absent { Lacks K.key (Q.equivalent query.now) store.now self.now.pairs hash result }
-        ensures steps { steps.new ≤ steps.old + of_hash self.now.pairs hash }
-        ensures never_resets { steps.old ≤ steps.new }
+        ensures steps { CountsAtMost steps.old steps.new (of_hash self.now.pairs hash) }
     {
         let groups = self.groups.as_slice();
         let cells = self.cells.as_slice();
@@ -238,8 +238,7 @@ impl HashIndex {
         ensures unchanged { IfNone result (self.new ≡ self.old) }
 
         // what it costs
-        ensures steps { steps.new ≤ steps.old + of_hash self.old.pairs hash }
-        ensures never_resets { steps.old ≤ steps.new }
+        ensures steps { CountsAtMost steps.old steps.new (of_hash self.old.pairs hash) }
     {
         let groups = self.groups.as_slice();
         let cells = self.cells.as_slice();

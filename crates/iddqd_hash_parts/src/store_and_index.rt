@@ -2,6 +2,7 @@
 ghost use Rattle.std.specs.Prelude.{◌≡◌, ◌+◌, ◌-◌, ◌<◌, ◌≤◌, length, option_map, IfErr, IfNone, IfSome, OnOk, OnErr, Some, None, Contains};
 ghost use Rattle.std.specs.Prelude.{min as least};
 ghost use Rattle.iddqd_store.specs.Contents.{NoTwoAkin, find_item};
+ghost use Rattle.iddqd_store.specs.Counting.{CountsAtMost};
 ghost use Rattle.iddqd_hash_index.specs.HashPairs.{HasOneMore, SamePairs, of_hash};
 ghost use Rattle.iddqd_store.specs.Refusal.{IsKindOf, memory_refused, refusal_kind};
 ghost use Rattle.iddqd_store.specs.Store.{item_at, store_len, vacant, HasRoomFor, Updates};
@@ -30,8 +31,7 @@ pub fn find_slot<T, K: KeyOf<T>, Q: Equivalent<K::Key>>(
     ensures listed { IfSome result (λ slot. Contains index.now.pairs (hash, slot)) }
 
     // what it costs
-    ensures steps { steps.new ≤ steps.old + of_hash index.now.pairs hash }
-    ensures never_resets { steps.old ≤ steps.new }
+    ensures steps { CountsAtMost steps.old steps.new (of_hash index.now.pairs hash) }
 {
     index.find_by_key::<T, K, Q>(store, hash, query, steps)
 }

@@ -14,6 +14,8 @@ use Rattle.iddqd_ord_index.specs.Standing.{IsAmong, IsMonotone, IsPart, IsPlace}
 use Rattle.iddqd_ord_index.specs.declared.tree.node.Block.{Block}
 use Rattle.iddqd_ord_index.specs.declared.tree.node.Branches.{Branches}
 use Rattle.iddqd_ord_index.specs.declared.tree.node.Node.{Node}
+use Rattle.iddqd_store.specs.Counting.{CountsAtMost}
+use Rattle.iddqd_store.proofs.CountingLemmas.{CountsAtMost-le, CountsAtMost-then}
 use Rattle.iddqd_ord_index.proofs.BelowLemmas.{length-lists, list_at}
 use Rattle.iddqd_ord_index.proofs.BranchAtLemmas.{branch_within}
 use Rattle.iddqd_ord_index.proofs.CellLemmas.{branch_in, branches_with, changed_counts, changed_nodes, counted, kept}
@@ -130,8 +132,9 @@ module _ {order : ℕ → Ordering} {P : ℕ → Type 0} {bs : Branches} {ss : L
 pub low_of : (ts : List Subtree) (ss : List ℕ) (self : Subtree) → IsForked ts ss → tree ts ss ≡ self → 1 ≤ self.height
 low_of ts ss self f v = omega (arith, (dense_of ts ss f).low, ap (λ t. t.height) v)
 
-pub steps_here : (n first last height : ℕ) → n ≤ 11 → last ≤ first + digits n → 1 ≤ height → last ≤ first + 4 * height
-steps_here n first last height le h low = omega (arith, digits_four n le)
+pub steps_here : (n first last height : ℕ) → n ≤ 11 → CountsAtMost first last (digits n) → 1 ≤ height → CountsAtMost first last (4 * height)
+steps_here n first last height le counted low = CountsAtMost-le counted (omega (arith, digits_four n le))
 
-pub steps_below : (n first searched last height high : ℕ) → n ≤ 11 → searched ≤ first + digits n → last ≤ searched + 4 * height → height + 1 ≡ high → last ≤ first + 4 * high
-steps_below n first searched last height high le h deep e = omega (arith, digits_four n le)
+pub steps_below : (n first searched last height high : ℕ) → n ≤ 11 → CountsAtMost first searched (digits n) → CountsAtMost searched last (4 * height) → height + 1 ≡ high → CountsAtMost first last (4 * high)
+steps_below n first searched last height high le here deep e =
+    CountsAtMost-le (CountsAtMost-then here deep) (omega (arith, digits_four n le))

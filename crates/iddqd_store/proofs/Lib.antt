@@ -4,6 +4,7 @@ pub mod ChangeLemmas
 pub mod CloneLemmas
 pub mod CollectingLemmas
 pub mod ContentsLemmas
+pub mod CountingLemmas
 pub mod DistinctLemmas
 pub mod KeepsLemmas
 pub mod MappedLemmas

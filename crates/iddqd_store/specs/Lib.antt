@@ -1,6 +1,7 @@
 pub mod Adding
 pub mod Collecting
 pub mod Contents
+pub mod Counting
 pub mod Errors
 pub mod Hashing
 pub mod Holding

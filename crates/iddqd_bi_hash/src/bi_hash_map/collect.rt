@@ -4,6 +4,7 @@ ghost use Rattle.std.specs.Iterator.{IsFiniteIterable as IsFinite};
 ghost use Rattle.iddqd_bi_hash.specs.Collecting.{Collects, CollectsUnique, Extends, IsCollected, IsNewMap, ShowsFirstRepeat, ShowsMet, Stops};
 
 use super::{BiHashMap, Keyed};
+use crate::both::Both;
 use crate::items::BiHashItem;
 use iddqd_store::{
     DuplicateItem, ExtendError, FromIterError, Gives, TryReserveError, room_to_reserve,
@@ -28,10 +29,10 @@ impl<T: BiHashItem, S: BuildHasher> BiHashMap<T, S> {
         requires ends { IsFinite U.into_iter_gives U.IntoIter.can_next U.IntoIter.remaining iter }
 
         // on success
-        ensures taken { OnOk result (Extends T.key1 T.key2 T.K1.eq T.K2.eq ⟦<U as Gives>⟧ iter self.old self.new) }
+        ensures taken { OnOk result (Extends ⟦<T as Both>⟧ ⟦<U as Gives>⟧ iter self.old self.new) }
 
         // on refusal
-        ensures stops { IfErr result (Stops T.key1 T.key2 T.K1.eq T.K2.eq ⟦<U as Gives>⟧ iter self.old self.new) }
+        ensures stops { IfErr result (Stops ⟦<T as Both>⟧ ⟦<U as Gives>⟧ iter self.old self.new) }
         ensures spare_first { IfErr result (SpareFirst self.old self.new) }
         ensures not_begun { IfErr result (KeepsIfNoItem ⟦<Self as Keyed>⟧.keyed self.old self.new) }
 
@@ -68,7 +69,7 @@ impl<T: BiHashItem, S: BuildHasher> BiHashMap<T, S> {
         T: Drop,
         S: Default + Drop,
         requires ends { IsFinite U.into_iter_gives U.IntoIter.can_next U.IntoIter.remaining iter }
-        ensures items { IfOk result (Collects T.key1 T.key2 T.K1.eq T.K2.eq ⟦<U as Gives>⟧ iter) }
+        ensures items { IfOk result (Collects ⟦<T as Both>⟧ ⟦<U as Gives>⟧ iter) }
         ensures collected { IfOk result (IsNewMap ⟦<Self as Keyed>⟧.keyed S.is_default) }
     {
         let mut map = BiHashMap::with_hasher(alloc, S::default());
@@ -92,8 +93,8 @@ impl<T: BiHashItem, S: BuildHasher> BiHashMap<T, S> {
         T: Drop,
         S: Default + Drop,
         requires ends { IsFinite U.into_iter_gives U.IntoIter.can_next U.IntoIter.remaining iter }
-        ensures items { IfOk result (CollectsUnique T.key1 T.key2 T.K1.eq T.K2.eq ⟦<U as Gives>⟧ iter) }
-        ensures repeat { IfErr result (ShowsFirstRepeat T.key1 T.key2 T.K1.eq T.K2.eq ⟦<U as Gives>⟧ iter) }
+        ensures items { IfOk result (CollectsUnique ⟦<T as Both>⟧ ⟦<U as Gives>⟧ iter) }
+        ensures repeat { IfErr result (ShowsFirstRepeat ⟦<T as Both>⟧ ⟦<U as Gives>⟧ iter) }
         ensures collected { IfOk result (IsCollected ⟦<Self as Keyed>⟧.keyed S.is_default) }
     {
         let items = iter.into_iter();
@@ -114,7 +115,7 @@ impl<T: BiHashItem, S: BuildHasher> BiHashMap<T, S> {
         T: Drop,
         requires keyed { ⟦<Self as Keyed>⟧.keyed self.old }
         ensures inserted { OnOk result (BiInserts ⟦<Self as Keyed>⟧.keyed item self.old self.new) }
-        ensures met { IfErr result (ShowsMet T.key1 T.key2 T.K1.eq T.K2.eq self.old.items item) }
+        ensures met { IfErr result (ShowsMet ⟦<T as Both>⟧ self.old.items item) }
     {
         let hash1 = self.hasher.hash_one(item.key1());
         let hash2 = self.hasher.hash_one(item.key2());

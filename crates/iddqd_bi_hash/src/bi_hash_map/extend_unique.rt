@@ -6,6 +6,7 @@ ghost use Rattle.iddqd_bi_hash.specs.Extending.{Adds, Halts, HaltsAt, OnItemBack
 ghost use Rattle.iddqd_bi_hash.specs.Collecting.{MeetsNone};
 
 use super::{BiHashMap, Keyed};
+use crate::both::Both;
 use crate::items::BiHashItem;
 use iddqd_store::{DuplicateItem, ExtendError, ExtendUniqueError, Few, Gives, room_to_reserve};
 use std::hash::BuildHasher;
@@ -39,8 +40,8 @@ impl<T: BiHashItem, S: BuildHasher> BiHashMap<T, S> {
         T: Drop,
         requires keyed { ⟦<Self as Keyed>⟧.keyed self.old }
         requires ends { IsFinite U.into_iter_gives U.IntoIter.can_next U.IntoIter.remaining iter }
-        ensures* after { sem 𝓛 (map_after_extension S.row T.row T.key1 T.key2 T.K1.eq T.K2.eq ⟦<Self as Keyed>⟧ ⟦<U as Gives>⟧ iter self.entry result) }
-        ensures shown { IfErr result (ShowsConflict T.key1 T.key2 T.K1.eq T.K2.eq ⟦<U as Gives>⟧ iter self.old) }
+        ensures* after { sem 𝓛 (map_after_extension S.row T.row ⟦<T as Both>⟧ ⟦<Self as Keyed>⟧ ⟦<U as Gives>⟧ iter self.entry result) }
+        ensures shown { IfErr result (ShowsConflict ⟦<T as Both>⟧ ⟦<U as Gives>⟧ iter self.old) }
     {
         match self.insert_each(iter) {
             Ok(()) => Ok(&mut self.done),
@@ -60,10 +61,10 @@ impl<T: BiHashItem, S: BuildHasher> BiHashMap<T, S> {
         requires ends { IsFinite U.into_iter_gives U.IntoIter.can_next U.IntoIter.remaining iter }
 
         // on success
-        ensures added { OnOk result (Adds T.key1 T.key2 T.K1.eq T.K2.eq ⟦<U as Gives>⟧ iter self.old self.new) }
+        ensures added { OnOk result (Adds ⟦<T as Both>⟧ ⟦<U as Gives>⟧ iter self.old self.new) }
 
         // on a halt
-        ensures halted { IfErr result (Halts T.key1 T.key2 T.K1.eq T.K2.eq ⟦<U as Gives>⟧ iter self.old self.new) }
+        ensures halted { IfErr result (Halts ⟦<T as Both>⟧ ⟦<U as Gives>⟧ iter self.old self.new) }
         ensures spare_first { IfErr result (OnItemBack (HasSpareFirst self.old self.new)) }
 
         // either way
@@ -86,10 +87,10 @@ impl<T: BiHashItem, S: BuildHasher> BiHashMap<T, S> {
 
         // on success
         ensures inserted { OnOk result (BiInserts ⟦<Self as Keyed>⟧.keyed item self.old self.new) }
-        ensures absent { OnOk result (MeetsNone T.key1 T.key2 T.K1.eq T.K2.eq item self.old.items) }
+        ensures absent { OnOk result (MeetsNone ⟦<T as Both>⟧ item self.old.items) }
 
         // on refusal
-        ensures halted { IfErr result (HaltsAt T.key1 T.key2 T.K1.eq T.K2.eq item self.old) }
+        ensures halted { IfErr result (HaltsAt ⟦<T as Both>⟧ item self.old) }
         ensures no_spare { IfErr result (OnItemBack (self.old.spare ≡ 0)) }
         ensures kept { OnErr result (BiKeeps ⟦<Self as Keyed>⟧.keyed self.old self.new) }
     {

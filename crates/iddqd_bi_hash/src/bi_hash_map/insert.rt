@@ -1,19 +1,19 @@
 //! Insertions of items with new keys. Each looks for the items that have one of the keys first, then at the limit, then
 //! asks for memory. After a refusal no item has changed.
-ghost use Rattle.std.specs.Prelude.{◌≡◌, ◌<◌, [], IfErr, IfOk, OnOk, OnErr};
+ghost use Rattle.std.specs.Prelude.{◌≡◌, ◌<◌, IfErr, IfOk, OnOk, OnErr};
 ghost use Rattle.std.specs.Borrow.{sem};
 ghost use Rattle.iddqd_store.specs.Contents.{IsAbsent};
 ghost use Rattle.iddqd_store.specs.Refusal.{OnRefused};
-ghost use Rattle.iddqd_bi_hash.specs.TwoKeys.{items_met};
 
 use super::store_and_indexes::{insert_in_all, reserve_one};
 use super::{BiHashMap, Keyed};
+use crate::both::Both;
 use crate::items::BiHashItem;
 use iddqd_store::{DuplicateItem, InsertError, Refused};
 use std::hash::BuildHasher;
 
 impl<T: BiHashItem, S: BuildHasher> BiHashMap<T, S> {
-    ghost use Rattle.iddqd_bi_hash.specs.BiHashMap.{BiReturnsItem, BiInserts, BiKeeps, IsInsertedAt, RefusesItem, map_after_insertion};
+    ghost use Rattle.iddqd_bi_hash.specs.BiHashMap.{AreHashes, BiReturnsItem, BiInserts, BiKeeps, HasNewKeys, IsInsertedAt, RefusesItem, map_after_insertion};
 
     /// Inserts the item if no item has one of its keys. Duplicates do not allocate, and the map is as it was. The error
     /// has references to the one or two items with a key of it, in the order of their slots. If the map is full or
@@ -33,7 +33,7 @@ impl<T: BiHashItem, S: BuildHasher> BiHashMap<T, S> {
         ensures absent2 { OnOk result (IsAbsent T.key2 (T.K2.eq (T.key2 item)) self.old.items) }
 
         // on refusal
-        ensures refused { IfErr result (RefusesItem T.key1 T.key2 T.K1.eq T.K2.eq self.old item) }
+        ensures refused { IfErr result (RefusesItem ⟦<T as Both>⟧ self.old item) }
         ensures no_spare { IfErr result (OnRefused (self.old.spare ≡ 0)) }
     {
         let hash1 = self.hasher.hash_one(item.key1());
@@ -56,16 +56,15 @@ impl<T: BiHashItem, S: BuildHasher> BiHashMap<T, S> {
         item: T,
     ) -> Result<u32, Refused<T>>
         requires keyed { ⟦<Self as Keyed>⟧.keyed self.old }
-        requires absent { items_met T.key1 T.key2 T.K1.eq T.K2.eq item self.old.items ≡ [] }
-        requires hash1 { hash1 ≡ ⟦<Self as Keyed>⟧.hash self.old (T.K1.hash_input (T.key1 item)) }
-        requires hash2 { hash2 ≡ ⟦<Self as Keyed>⟧.hash self.old (T.K2.hash_input (T.key2 item)) }
+        requires absent { HasNewKeys ⟦<T as Both>⟧ item self.old.items }
+        requires hashes { AreHashes ⟦<T as Both>⟧ ⟦<Self as Keyed>⟧ self.old item hash1 hash2 }
 
         // on success
         ensures inserted { OnOk result (BiInserts ⟦<Self as Keyed>⟧.keyed item self.old self.new) }
         ensures there { IfOk result (IsInsertedAt item self.old self.new) }
 
         // on refusal
-        ensures refused { IfErr result (BiReturnsItem T.key1 T.key2 T.K1.eq T.K2.eq self.old item) }
+        ensures refused { IfErr result (BiReturnsItem ⟦<T as Both>⟧ self.old item) }
         ensures kept { OnErr result (BiKeeps ⟦<Self as Keyed>⟧.keyed self.old self.new) }
     {
         if let Err(error) = reserve_one(&mut self.store, &mut self.index1, &mut self.index2) {
@@ -77,9 +76,8 @@ impl<T: BiHashItem, S: BuildHasher> BiHashMap<T, S> {
     // As `insert_hashed`, if there is room. Does not allocate.
     pub(super) fn insert_reserved(&mut self, hash1: u64, hash2: u64, item: T) -> u32
         requires keyed { ⟦<Self as Keyed>⟧.keyed self.old }
-        requires absent { items_met T.key1 T.key2 T.K1.eq T.K2.eq item self.old.items ≡ [] }
-        requires hash1 { hash1 ≡ ⟦<Self as Keyed>⟧.hash self.old (T.K1.hash_input (T.key1 item)) }
-        requires hash2 { hash2 ≡ ⟦<Self as Keyed>⟧.hash self.old (T.K2.hash_input (T.key2 item)) }
+        requires absent { HasNewKeys ⟦<T as Both>⟧ item self.old.items }
+        requires hashes { AreHashes ⟦<T as Both>⟧ ⟦<Self as Keyed>⟧ self.old item hash1 hash2 }
         requires room { 0 < self.old.spare }
 
         // afterwards

@@ -5,6 +5,7 @@ ghost use Rattle.iddqd_hash_parts.specs.SlotsFound.{values_if_any};
 ghost use Rattle.iddqd_bi_hash.specs.TwoKeys.{as_list};
 
 use super::{BiHashMap, Keyed};
+use crate::both::Both;
 use crate::items::BiHashItem;
 use iddqd_store::{Few, Refused};
 use std::hash::BuildHasher;
@@ -22,7 +23,7 @@ fn few_of<T>(one: Option<T>, other: Option<T>) -> Option<Few<T>>
 }
 
 impl<T: BiHashItem, S: BuildHasher> BiHashMap<T, S> {
-    ghost use Rattle.iddqd_bi_hash.specs.BiHashMap.{BiReturnsItem, BiKeeps, BiOverwrites, BiStays, Displaces, KeepsUnmet, LeavesVacant};
+    ghost use Rattle.iddqd_bi_hash.specs.BiHashMap.{AreHashes, BiReturnsItem, BiKeeps, BiOverwrites, BiStays, Displaces, KeepsUnmet, LeavesVacant};
 
     /// Inserts the item, and removes and returns the one or two items that have one of its keys, that of the first key
     /// first. If there is one, this does not allocate and is never refused. If there is none, it inserts the item as
@@ -33,10 +34,10 @@ impl<T: BiHashItem, S: BuildHasher> BiHashMap<T, S> {
         requires keyed { ⟦<Self as Keyed>⟧.keyed self.old }
 
         // on success
-        ensures put { IfOk result (BiOverwrites T.key1 T.key2 T.K1.eq T.K2.eq item self.old self.new) }
+        ensures put { IfOk result (BiOverwrites ⟦<T as Both>⟧ item self.old self.new) }
 
         // on refusal
-        ensures refused { IfErr result (BiReturnsItem T.key1 T.key2 T.K1.eq T.K2.eq self.old item) }
+        ensures refused { IfErr result (BiReturnsItem ⟦<T as Both>⟧ self.old item) }
         ensures kept { OnErr result (BiKeeps ⟦<Self as Keyed>⟧.keyed self.old self.new) }
 
         // either way
@@ -60,12 +61,11 @@ impl<T: BiHashItem, S: BuildHasher> BiHashMap<T, S> {
     // of the item's keys.
     pub(super) fn remove_met(&mut self, hash1: u64, hash2: u64, item: &T) -> Option<Few<T>>
         requires keyed { ⟦<Self as Keyed>⟧.keyed self.old }
-        requires hash1 { hash1 ≡ ⟦<Self as Keyed>⟧.hash self.old (T.K1.hash_input (T.key1 item.now)) }
-        requires hash2 { hash2 ≡ ⟦<Self as Keyed>⟧.hash self.old (T.K2.hash_input (T.key2 item.now)) }
+        requires hashes { AreHashes ⟦<T as Both>⟧ ⟦<Self as Keyed>⟧ self.old item.now hash1 hash2 }
 
         // what is removed
-        ensures displaced { Displaces T.key1 T.key2 T.K1.eq T.K2.eq item.now self.old.items result }
-        ensures items { KeepsUnmet T.key1 T.key2 T.K1.eq T.K2.eq item.now self.old self.new }
+        ensures displaced { Displaces ⟦<T as Both>⟧ item.now self.old.items result }
+        ensures items { KeepsUnmet ⟦<T as Both>⟧ item.now self.old self.new }
         ensures unchanged { IfNone result (self.new ≡ self.old) }
         ensures vacant { IfSome result (LeavesVacant self.old self.new) }
 

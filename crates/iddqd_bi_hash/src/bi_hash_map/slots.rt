@@ -12,6 +12,7 @@ ghost use Rattle.iddqd_hash_parts.specs.SlotsFound.{values_if_any};
 use super::by_key::{First, Second};
 use super::store_and_indexes::remove_from_all;
 use super::{BiHashMap, Keyed};
+use crate::both::Both;
 use crate::items::BiHashItem;
 use iddqd_hash_parts::{find_slot, item_from, rising_slots};
 use iddqd_store::{Equivalent, Few, Steps};
@@ -85,7 +86,7 @@ impl<T, S> BiHashMap<T, S> {
 impl<T: BiHashItem, S: BuildHasher> BiHashMap<T, S> {
     ghost use Rattle.iddqd_hash_parts.specs.HashItems.{FindsSlot, HasHash};
     ghost use Rattle.iddqd_bi_hash.specs.BiHashItems.{by_key1, by_key2, holding_of};
-    ghost use Rattle.iddqd_bi_hash.specs.BiHashMap.{AreOccupied, AreSlotsDisplaced, AreSlotsMet, BiStays, FindsSlotByBoth, IsOccupied, LosesPlaceOf, SpareFits};
+    ghost use Rattle.iddqd_bi_hash.specs.BiHashMap.{AreHashes, AreOccupied, AreSlotsDisplaced, AreSlotsMet, BiStays, FindsSlotByBoth, IsOccupied, LosesPlaceOf, SpareFits};
 
     // Returns the slot of the item that the query finds by the first key. The hash is that of each key for which the
     // query stands.
@@ -135,10 +136,9 @@ impl<T: BiHashItem, S: BuildHasher> BiHashMap<T, S> {
     // Returns the slots of the items that have one of the item's keys, the lesser first and each once.
     pub(super) fn slots_met(&self, hash1: u64, hash2: u64, item: &T) -> Option<Few<u32>>
         requires keyed { ⟦<Self as Keyed>⟧.keyed self.now }
-        requires hash1 { hash1 ≡ ⟦<Self as Keyed>⟧.hash self.now (T.K1.hash_input (T.key1 item.now)) }
-        requires hash2 { hash2 ≡ ⟦<Self as Keyed>⟧.hash self.now (T.K2.hash_input (T.key2 item.now)) }
+        requires hashes { AreHashes ⟦<T as Both>⟧ ⟦<Self as Keyed>⟧ self.now item.now hash1 hash2 }
         ensures there { AreOccupied self.now (values_if_any result) }
-        ensures met { AreSlotsMet T.key1 T.key2 T.K1.eq T.K2.eq item.now self.now result }
+        ensures met { AreSlotsMet ⟦<T as Both>⟧ item.now self.now result }
     {
         let steps = &mut Steps::new();
         let one = find_slot::<T, First, _>(&self.store, &self.index1, hash1, item.key1(), steps);
@@ -149,10 +149,9 @@ impl<T: BiHashItem, S: BuildHasher> BiHashMap<T, S> {
     // Returns the slots of the items that have one of the item's keys, that of the first key first and each once.
     pub(super) fn slots_displaced(&self, hash1: u64, hash2: u64, item: &T) -> Option<Few<u32>>
         requires keyed { ⟦<Self as Keyed>⟧.keyed self.now }
-        requires hash1 { hash1 ≡ ⟦<Self as Keyed>⟧.hash self.now (T.K1.hash_input (T.key1 item.now)) }
-        requires hash2 { hash2 ≡ ⟦<Self as Keyed>⟧.hash self.now (T.K2.hash_input (T.key2 item.now)) }
+        requires hashes { AreHashes ⟦<T as Both>⟧ ⟦<Self as Keyed>⟧ self.now item.now hash1 hash2 }
         ensures there { AreOccupied self.now (values_if_any result) }
-        ensures met { AreSlotsDisplaced T.key1 T.key2 T.K1.eq T.K2.eq item.now self.now result }
+        ensures met { AreSlotsDisplaced ⟦<T as Both>⟧ item.now self.now result }
     {
         let one = self.slot_by_key1(hash1, item.key1());
         let other = self.slot_by_key2(hash2, item.key2());

@@ -1,9 +1,10 @@
 //! The difference of two ordered maps, in the order of the keys.
-ghost use Rattle.std.specs.Prelude.{◌≡◌, ◌+◌, ◌≤◌, IfNone, IfSome, length};
+ghost use Rattle.std.specs.Prelude.{◌≡◌, IfNone, IfSome, length};
 ghost use Rattle.std.specs.List.Sorted.{IsStrictlySortedBy};
 ghost use Rattle.std.specs.Iterator.{UpTo, YieldsFirstBy, at_most, item_count};
 ghost use Rattle.std.specs.Iterator.SizeHint.{IsWithinCount};
 ghost use Rattle.iddqd.specs.Contents.{Ascends};
+ghost use Rattle.iddqd.specs.Counting.{CountsAtMost};
 ghost use Rattle.iddqd_diff.specs.Difference.{shown};
 
 use super::peeked::Peeked;
@@ -68,9 +69,8 @@ impl<'o, 'n, T: IdOrdItem> Diff<'o, 'n, T> {
         ensures gives { YieldsFirstBy shown (λ rest. rest) self.old result self.new }
 
         // what it costs
-        ensures steps { steps.new ≤ steps.old + 1 }
+        ensures steps { CountsAtMost steps.old steps.new 1 }
         ensures none { IfNone result (steps.new ≡ steps.old) }
-        ensures never_resets { steps.old ≤ steps.new }
     {
         let Some(old) = self.before.peek() else {
             let new = self.after.peek()?;

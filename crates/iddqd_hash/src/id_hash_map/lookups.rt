@@ -1,6 +1,7 @@
 //! Lookups and removals.
-ghost use Rattle.std.specs.Prelude.{◌≡◌, ◌+◌, ◌≤◌, IfNone, is_some};
+ghost use Rattle.std.specs.Prelude.{◌≡◌, IfNone, is_some};
 ghost use Rattle.iddqd_store.specs.Contents.{Finds, RemovesFound, find_item};
+ghost use Rattle.iddqd_store.specs.Counting.{CountsAtMost};
 ghost use Rattle.iddqd_store.specs.Holding.{Removes};
 
 use super::{IdHashMap, Keyed};
@@ -40,8 +41,7 @@ impl<T: IdHashItem, S: BuildHasher> IdHashMap<T, S> {
         ensures spare_fits { SpareFits self.now }
 
         // what it costs
-        ensures steps { steps.new ≤ steps.old + of_same_hash ⟦<Self as Keyed>⟧.hash self.now (Q.hash_input query.now) }
-        ensures never_resets { steps.old ≤ steps.new }
+        ensures steps { CountsAtMost steps.old steps.new (of_same_hash ⟦<Self as Keyed>⟧.hash self.now (Q.hash_input query.now)) }
     {
         let hash = self.hasher.hash_one(query);
         let slot = self.slot_by_key(hash, query, steps)?;

@@ -1,6 +1,7 @@
 //! The items of slots: found, read, lent for writing, removed; and from slot to slot, in the order of their numbers.
-ghost use Rattle.std.specs.Prelude.{◌≡◌, ◌+◌, ◌<◌, ◌≤◌, IfSome, IsSome, Some};
+ghost use Rattle.std.specs.Prelude.{◌≡◌, ◌<◌, IfSome, IsSome, Some};
 ghost use Rattle.std.specs.Borrow.{sem};
+ghost use Rattle.iddqd_store.specs.Counting.{CountsAtMost};
 ghost use Rattle.iddqd_store.specs.Holding.{Removes};
 ghost use Rattle.iddqd_store.specs.SlotItems.{item_of_slot};
 ghost use Rattle.iddqd_hash_parts.specs.SlotOrder.{FindsItemFrom};
@@ -64,8 +65,7 @@ impl<T: IdHashItem, S: BuildHasher> IdHashMap<T, S> {
         ensures spare_fits { SpareFits self.now }
 
         // what it costs
-        ensures steps { steps.new ≤ steps.old + of_stored_hash self.now hash }
-        ensures never_resets { steps.old ≤ steps.new }
+        ensures steps { CountsAtMost steps.old steps.new (of_stored_hash self.now hash) }
     {
         find_slot::<T, OwnKey, Q>(&self.store, &self.index, hash, query, steps)
     }

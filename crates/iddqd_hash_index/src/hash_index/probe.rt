@@ -1,5 +1,6 @@
 //! The walk for the item that a query stands for.
 ghost use Rattle.std.specs.Prelude.{◌≡◌, ◌+◌, ◌*◌, ◌<◌, ◌≤◌, length, IfNone, IfSome};
+ghost use Rattle.iddqd_store.specs.Counting.{CountsAtMost};
 ghost use Rattle.iddqd_hash_index.specs.Groups.{hash_at, pairs_of, slot_at, ComparedAt, HoldsPair, IsPlaced, LacksAt, LacksIn};
 ghost use Rattle.iddqd_hash_index.specs.Lanes.{pair_in};
 ghost use Rattle.iddqd_hash_index.specs.HashPairs.{AreOccupied, HoldsMatch, of_hash};
@@ -82,8 +83,7 @@ pub(super) fn find_among<T, K: KeyOf<T>, Q: Equivalent<K::Key>>(
     ensures absent { IfNone result (LacksIn groups.now cells.now hash K.key (Q.equivalent query.now) store.now) }
 
     // what it costs
-    ensures steps { steps.new ≤ steps.old + of_hash (pairs_of groups.now cells.now) hash }
-    ensures never_resets { steps.old ≤ steps.new }
+    ensures steps { CountsAtMost steps.old steps.new (of_hash (pairs_of groups.now cells.now) hash) }
 {
     let count = groups.len();
     if count == 0 {

@@ -1,8 +1,9 @@
 //! Insertions. They report an equal key first, then a full map, then refused memory. After any of these no item has
 //! changed.
-ghost use Rattle.std.specs.Prelude.{◌≡◌, ◌+◌, ◌*◌, ◌≤◌, length, insert, IfOk, IfErr, OnOk, OnErr, Some, slice_get};
+ghost use Rattle.std.specs.Prelude.{◌≡◌, ◌+◌, ◌*◌, length, insert, IfOk, IfErr, OnOk, OnErr, Some, slice_get};
 ghost use Rattle.std.specs.Borrow.{sem};
 ghost use Rattle.iddqd_store.specs.Contents.{Ascends, IsAbsent};
+ghost use Rattle.iddqd_store.specs.Counting.{CountsAtMost};
 ghost use Rattle.iddqd_ord_index.specs.Digits.{digits};
 ghost use Rattle.iddqd_store.specs.Refusal.{ReturnsItem, RefusesItem, refusal_kind};
 
@@ -48,8 +49,7 @@ impl<T: IdOrdItem> IdOrdMap<T> {
         ensures refused { IfErr result (RefusesItem T.key T.Key.eq self.old item) }
 
         // what it costs
-        ensures steps { steps.new ≤ steps.old + 4 + 2 * digits (length self.old.items) }
-        ensures never_resets { steps.old ≤ steps.new }
+        ensures steps { CountsAtMost steps.old steps.new (4 + 2 * digits (length self.old.items)) }
     {
         match self.insert_or_find(item, steps) {
             Ok(_) => Ok(&mut self.done),

@@ -1,7 +1,8 @@
 //! Insertion by an item's own key, which goes down the index once if the store has room and no block has to be
 //! allocated.
-ghost use Rattle.std.specs.Prelude.{◌≡◌, ◌+◌, ◌*◌, ◌≤◌, length, IfErr, IfOk, OnErr, OnOk};
+ghost use Rattle.std.specs.Prelude.{◌≡◌, ◌+◌, ◌*◌, length, IfErr, IfOk, OnErr, OnOk};
 ghost use Rattle.iddqd_store.specs.Contents.{Ascends, IsAbsent};
+ghost use Rattle.iddqd_store.specs.Counting.{CountsAtMost};
 ghost use Rattle.iddqd_ord_index.specs.Digits.{digits};
 
 use super::IdOrdMap;
@@ -31,8 +32,7 @@ impl<T: IdOrdItem> IdOrdMap<T> {
         ensures kept { OnErr result (OrdKeeps T.key T.Key.cmp self.old self.new) }
 
         // what it costs
-        ensures steps { steps.new ≤ steps.old + 4 + 2 * digits (length self.old.items) }
-        ensures never_resets { steps.old ≤ steps.new }
+        ensures steps { CountsAtMost steps.old steps.new (4 + 2 * digits (length self.old.items)) }
     {
         let Some(slot) = self.store.next_slot() else {
             return self.insert_without_room(item, steps);
@@ -72,8 +72,7 @@ impl<T: IdOrdItem> IdOrdMap<T> {
         ensures kept { OnErr result (OrdKeeps T.key T.Key.cmp self.old self.new) }
 
         // what it costs
-        ensures steps { steps.new ≤ steps.old + 4 + 2 * digits (length self.old.items) }
-        ensures never_resets { steps.old ≤ steps.new }
+        ensures steps { CountsAtMost steps.old steps.new (4 + 2 * digits (length self.old.items)) }
     {
         match self.index.find_slot(&self.store, item.key(), steps) {
             Ok((_, slot)) => Err(NotInserted::Akin(item, slot)),

@@ -1,6 +1,7 @@
 //! Lookups and removals.
-ghost use Rattle.std.specs.Prelude.{◌≡◌, ◌+◌, ◌*◌, ◌≤◌, length, is_some};
+ghost use Rattle.std.specs.Prelude.{◌≡◌, ◌+◌, ◌*◌, length, is_some};
 ghost use Rattle.iddqd_store.specs.Contents.{Ascends, Finds, RemovesFound, find_item};
+ghost use Rattle.iddqd_store.specs.Counting.{CountsAtMost};
 ghost use Rattle.iddqd_ord_index.specs.Digits.{digits};
 ghost use Rattle.iddqd_store.specs.Holding.{Removes};
 
@@ -25,8 +26,7 @@ impl<T: IdOrdItem> IdOrdMap<T> {
     pub fn get_counted<Q: Comparable<T::Key>>(&self, query: &Q, steps: &mut Steps) -> Option<&T>
         requires keyed { Ascends T.key T.Key.cmp self.now.items }
         ensures found { Finds T.key (Q.equivalent query.now) self.now.items result }
-        ensures steps { steps.new ≤ steps.old + 4 + 2 * digits (length self.now.items) }
-        ensures never_resets { steps.old ≤ steps.new }
+        ensures steps { CountsAtMost steps.old steps.new (4 + 2 * digits (length self.now.items)) }
     {
         let slot = self.index.get(&self.store, query, steps)?;
         Some(self.store.item(slot))
@@ -68,8 +68,7 @@ impl<T: IdOrdItem> IdOrdMap<T> {
         ensures keyed { Ascends T.key T.Key.cmp self.new.items }
 
         // what it costs
-        ensures steps { steps.new ≤ steps.old + 4 + 2 * digits (length self.old.items) }
-        ensures never_resets { steps.old ≤ steps.new }
+        ensures steps { CountsAtMost steps.old steps.new (4 + 2 * digits (length self.old.items)) }
     {
         let slot = self.index.remove_by_key(&self.store, query, steps)?;
         Some(self.store.remove(slot))

@@ -1,8 +1,9 @@
 //! Items by their positions in the order of the keys.
-ghost use Rattle.std.specs.Prelude.{◌≡◌, ◌+◌, ◌*◌, ◌≤◌, IfSome, length, remove, option_copied, slice_get};
+ghost use Rattle.std.specs.Prelude.{◌≡◌, ◌+◌, ◌*◌, IfSome, length, remove, option_copied, slice_get};
 ghost use Rattle.std.specs.Prelude.{min as least};
 ghost use Rattle.std.specs.Bound.{end_index, start_index};
 ghost use Rattle.iddqd_store.specs.Contents.{Ascends, IsAbsent, keys};
+ghost use Rattle.iddqd_store.specs.Counting.{CountsAtMost};
 ghost use Rattle.iddqd_store.specs.Holding.{Removes};
 ghost use Rattle.iddqd_ord_index.specs.Digits.{digits};
 ghost use Rattle.iddqd_ord_index.specs.Search.{IsPlaceAmong, position_of};
@@ -86,8 +87,7 @@ impl<T: IdOrdItem> IdOrdMap<T> {
         ensures found { IsIndexOf T.key (Q.equivalent query.now) self.now.items result }
 
         // what it costs
-        ensures steps { steps.new ≤ steps.old + 4 + 2 * digits (length self.now.items) }
-        ensures never_resets { steps.old ≤ steps.new }
+        ensures steps { CountsAtMost steps.old steps.new (4 + 2 * digits (length self.now.items)) }
     {
         match self.index.find(&self.store, query, steps) {
             Ok(place) => Ok(place.position()),

@@ -1,6 +1,7 @@
 //! The items between two bounds, which are queries.
 ghost use Rattle.std.specs.Prelude.{◌≡◌, ◌+◌, ◌*◌, ◌≤◌, length};
 ghost use Rattle.iddqd_store.specs.Contents.{Ascends, Finds};
+ghost use Rattle.iddqd_store.specs.Counting.{CountsAtMost};
 ghost use Rattle.iddqd_store.specs.SlotItems.{HaveSlots};
 ghost use Rattle.iddqd_ord_index.specs.Digits.{digits};
 ghost use Rattle.iddqd_ord.specs.Ranges.{FindsLast, FindsRange, StartsAt, StopsAt, WalksFrom, WalksPart, bound_now, is_from, is_up_to};
@@ -34,8 +35,7 @@ impl<T: IdOrdItem> IdOrdMap<T> {
         ensures part { WalksPart result self.now.items }
 
         // what it costs
-        ensures steps { steps.new ≤ steps.old + 8 + 4 * digits (length self.now.items) }
-        ensures never_resets { steps.old ≤ steps.new }
+        ensures steps { CountsAtMost steps.old steps.new (8 + 4 * digits (length self.now.items)) }
     {
         let mut walk = self.walk_from(range.start_bound(), steps);
         let high = self.end_of(range.end_bound(), steps);
@@ -80,8 +80,7 @@ impl<T: IdOrdItem> IdOrdMap<T> {
         ensures start { WalksFrom T.key Q.compare (bound_now from.entry) self.now result }
         ensures fits { length result ≤ u32.MAX }
         ensures own { HaveSlots self.now.slots self.now.items }
-        ensures steps { steps.new ≤ steps.old + 4 + 2 * digits (length self.now.items) }
-        ensures never_resets { steps.old ≤ steps.new }
+        ensures steps { CountsAtMost steps.old steps.new (4 + 2 * digits (length self.now.items)) }
     {
         match from {
             Bound::Included(query) => self.index.walk_from(&self.store, query, steps).1,
@@ -100,8 +99,7 @@ impl<T: IdOrdItem> IdOrdMap<T> {
     pub(super) fn end_of<Q: Comparable<T::Key>>(&self, to: Bound<&Q>, steps: &mut Steps) -> usize
         requires keyed { Ascends T.key T.Key.cmp self.now.items }
         ensures end { StopsAt T.key Q.compare (bound_now to.entry) self.now.items result }
-        ensures steps { steps.new ≤ steps.old + 4 + 2 * digits (length self.now.items) }
-        ensures never_resets { steps.old ≤ steps.new }
+        ensures steps { CountsAtMost steps.old steps.new (4 + 2 * digits (length self.now.items)) }
     {
         match to {
             Bound::Included(query) => self.equal_range(query, steps).end,
@@ -116,8 +114,7 @@ impl<T: IdOrdItem> IdOrdMap<T> {
         requires keyed { Ascends T.key T.Key.cmp self.now.items }
         ensures start { StartsAt T.key Q.compare (Bound.Included query.now) self.now.items result.start }
         ensures end { StartsAt T.key Q.compare (Bound.Excluded query.now) self.now.items result.end }
-        ensures steps { steps.new ≤ steps.old + 4 + 2 * digits (length self.now.items) }
-        ensures never_resets { steps.old ≤ steps.new }
+        ensures steps { CountsAtMost steps.old steps.new (4 + 2 * digits (length self.now.items)) }
     {
         match self.index_of_counted(query, steps) {
             Ok(place) => {

@@ -1,6 +1,7 @@
 //! Insertion by a key, which goes down the tree once.
 ghost use Rattle.std.specs.Prelude.{◌≡◌, ◌+◌, ◌*◌, ◌<◌, ◌≤◌, false, length, Contains};
 ghost use Rattle.iddqd_store.specs.Contents.{Ascends};
+ghost use Rattle.iddqd_store.specs.Counting.{CountsAtMost};
 ghost use Rattle.iddqd_ord_index.specs.Digits.{digits};
 ghost use Rattle.iddqd_ord_index.specs.Inserting.{FindsIn, IfFound, IfUnprepared, InsertsIn, KeepsUnlessInserted, ReturnsPlace};
 ghost use Rattle.iddqd_ord_index.specs.Listed.{listed_items, AreOccupied};
@@ -54,8 +55,7 @@ impl OrdIndex {
         ensures kept { KeepsUnlessInserted self.old self.new result }
 
         // what it costs
-        ensures steps { steps.new ≤ steps.old + 4 + 2 * digits (length self.old.slots) }
-        ensures never_resets { steps.old ≤ steps.new }
+        ensures steps { CountsAtMost steps.old steps.new (4 + 2 * digits (length self.old.slots)) }
     {
         let ready = self.pool.is_filled(self.levels);
         let (pool, root) = (&mut self.pool, &mut self.root);

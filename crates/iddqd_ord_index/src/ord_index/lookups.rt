@@ -1,6 +1,7 @@
 //! Lookups: what looks at the keys of items.
 ghost use Rattle.std.specs.Prelude.{◌≡◌, ◌+◌, ◌*◌, ◌<◌, ◌≤◌, drop, length, IfSome, IfOk, Contains};
 ghost use Rattle.iddqd_store.specs.Contents.{Ascends};
+ghost use Rattle.iddqd_store.specs.Counting.{CountsAtMost};
 ghost use Rattle.iddqd_ord_index.specs.Digits.{digits};
 ghost use Rattle.iddqd_ord_index.specs.Listed.{listed_items, AreOccupied};
 ghost use Rattle.iddqd_ord_index.specs.Search.{FindsNext, FindsPlace, FindsPlaced, FindsSlot, HasSlotAt, IsPlaceIn, place_of, position_of};
@@ -25,8 +26,7 @@ impl OrdIndex {
         ensures in_list { IsPlaceIn self.now.slots result }
 
         // what it costs
-        ensures steps { steps.new ≤ steps.old + 4 + 2 * digits (length self.now.slots) }
-        ensures never_resets { steps.old ≤ steps.new }
+        ensures steps { CountsAtMost steps.old steps.new (4 + 2 * digits (length self.now.slots)) }
     {
         match self.find_slot(store, query, steps) {
             Ok((place, _)) => Ok(place),
@@ -50,8 +50,7 @@ impl OrdIndex {
         ensures slot { IfOk result (HasSlotAt self.now.slots) }
 
         // what it costs
-        ensures steps { steps.new ≤ steps.old + 4 + 2 * digits (length self.now.slots) }
-        ensures never_resets { steps.old ≤ steps.new }
+        ensures steps { CountsAtMost steps.old steps.new (4 + 2 * digits (length self.now.slots)) }
     {
         match self.root.find(store, query, steps) {
             Ok((position, slot)) => Ok((Place { position }, slot)),
@@ -77,8 +76,7 @@ impl OrdIndex {
         ensures fits { length result.1 ≤ u32.MAX }
 
         // what it costs
-        ensures steps { steps.new ≤ steps.old + 4 + 2 * digits (length self.now.slots) }
-        ensures never_resets { steps.old ≤ steps.new }
+        ensures steps { CountsAtMost steps.old steps.new (4 + 2 * digits (length self.now.slots)) }
     {
         match self.root.find_leaves(store, query, steps) {
             (Ok(position), leaves) => {
@@ -107,8 +105,7 @@ impl OrdIndex {
         ensures slot { IfSome result (Contains self.now.slots) }
 
         // what it costs
-        ensures steps { steps.new ≤ steps.old + 4 + 2 * digits (length self.now.slots) }
-        ensures never_resets { steps.old ≤ steps.new }
+        ensures steps { CountsAtMost steps.old steps.new (4 + 2 * digits (length self.now.slots)) }
     {
         self.root.get(store, query, steps)
     }
@@ -129,8 +126,7 @@ impl OrdIndex {
         ensures slot { IfSome result (Contains self.now.slots) }
 
         // what it costs
-        ensures steps { steps.new ≤ steps.old + 4 + 2 * digits (length self.now.slots) }
-        ensures never_resets { steps.old ≤ steps.new }
+        ensures steps { CountsAtMost steps.old steps.new (4 + 2 * digits (length self.now.slots)) }
     {
         let next = match self.find(store, query, steps) {
             Ok(place) => place.position as usize + 1,

@@ -1,6 +1,7 @@
 //! Removal by key: a search and the removal of what it finds, in one descent.
-ghost use Rattle.std.specs.Prelude.{◌+◌, ◌*◌, ◌≤◌, length};
+ghost use Rattle.std.specs.Prelude.{◌+◌, ◌*◌, length};
 ghost use Rattle.iddqd_store.specs.Contents.{Ascends};
+ghost use Rattle.iddqd_store.specs.Counting.{CountsAtMost};
 ghost use Rattle.iddqd_ord_index.specs.Digits.{digits};
 ghost use Rattle.iddqd_ord_index.specs.Listed.{listed_items, AreOccupied};
 ghost use Rattle.iddqd_ord_index.specs.Removal.{RemovesSlot};
@@ -26,8 +27,7 @@ impl OrdIndex {
         ensures after { RemovesSlot T.key (Q.compare query.now) store.now self.old result self.new }
 
         // what it costs
-        ensures steps { steps.new ≤ steps.old + 4 + 2 * digits (length self.old.slots) }
-        ensures never_resets { steps.old ≤ steps.new }
+        ensures steps { CountsAtMost steps.old steps.new (4 + 2 * digits (length self.old.slots)) }
     {
         self.prepared = false;
         self.cache.clear();

@@ -1,5 +1,6 @@
 //! The root of a tree: it rises a level if it is split, and falls one if it has no slot of its own.
 ghost use Rattle.std.specs.Prelude.{◌≡◌, ◌+◌, ◌*◌, ◌^◌, ◌<◌, ◌≤◌, ◌∷◌, ◌++◌, length, take, drop, insert, remove, slice_index};
+ghost use Rattle.iddqd_store.specs.Counting.{CountsAtMost};
 ghost use Rattle.iddqd_ord_index.specs.Changes.{WantsFor};
 ghost use Rattle.iddqd_ord_index.specs.Listed.{AreOccupied};
 ghost use Rattle.iddqd_ord_index.specs.NodeRemoval.{LosesEqual, LosesPart};
@@ -193,8 +194,7 @@ pub(crate) fn remove_by_key<T: IdOrdItem, Q: Comparable<T::Key>>(
     ensures fallen { result.1 < levels → pool.new.wanted ≤ pool.new.count }
 
     // what it costs
-    ensures steps { steps.new ≤ steps.old + 4 * root.old.height }
-    ensures never_resets { steps.old ≤ steps.new }
+    ensures steps { CountsAtMost steps.old steps.new (4 * root.old.height) }
 {
     let slot = root.remove_by_key(store, query, pool, steps);
     (slot, pop_root_level(root, levels, pool))

@@ -1,5 +1,6 @@
 //! A search by halves among the slots of one node.
-ghost use Rattle.std.specs.Prelude.{◌≡◌, ◌+◌, ◌≤◌, length};
+ghost use Rattle.std.specs.Prelude.{◌≡◌, length};
+ghost use Rattle.iddqd_store.specs.Counting.{CountsAtMost};
 ghost use Rattle.iddqd_ord_index.specs.Digits.{digits};
 ghost use Rattle.iddqd_ord_index.specs.Listed.{AreOccupied};
 ghost use Rattle.iddqd_ord_index.specs.Standing.{StandsAt, StandsMonotone};
@@ -18,8 +19,7 @@ pub fn search<T: IdOrdItem, Q: Comparable<T::Key>>(
     requires occupied { AreOccupied store.now slots.now }
     requires monotone { StandsMonotone T.key (Q.compare query.now) store.now slots.now }
     ensures place { StandsAt T.key (Q.compare query.now) store.now slots.now result }
-    ensures steps { steps.new ≤ steps.old + digits (length slots.now) }
-    ensures never_resets { steps.old ≤ steps.new }
+    ensures steps { CountsAtMost steps.old steps.new (digits (length slots.now)) }
 {
     // The greatest count is known of the counter's own fields alone.
     prove!(steps.count() <= u32::MAX);

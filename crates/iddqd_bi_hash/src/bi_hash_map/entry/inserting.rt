@@ -1,30 +1,30 @@
 //! What the calls of an entry do to its map.
-ghost use Rattle.std.specs.Prelude.{◌≡◌, ◌+◌, ◌<◌, ◌≤◌, [], IfErr, IfOk, OnErr, OnOk, length, nat_eq};
+ghost use Rattle.std.specs.Prelude.{◌≡◌, ◌+◌, ◌<◌, ◌≤◌, IfErr, IfOk, OnErr, OnOk, length, nat_eq};
 ghost use Rattle.std.specs.List.{IsDistinct};
 ghost use Rattle.iddqd_store.specs.Contents.{AddsItem};
 ghost use Rattle.iddqd_store.specs.Errors.{values_of};
 ghost use Rattle.iddqd_store.specs.SlotItems.{HaveSlots};
-ghost use Rattle.iddqd_bi_hash.specs.TwoKeys.{items_met};
 
 use crate::bi_hash_map::{BiHashMap, Keyed};
+use crate::both::Both;
 use crate::items::BiHashItem;
 use iddqd_store::{Few, Refused};
 use std::hash::BuildHasher;
 
 impl<T: BiHashItem, S: BuildHasher> BiHashMap<T, S> {
-    ghost use Rattle.iddqd_bi_hash.specs.BiHashMap.{AreOccupied, BiInserts, BiKeeps, BiReturnsItem, BiStays, IsInsertedAt, MeetsNoneBeside, items_at, items_beside};
+    ghost use Rattle.iddqd_bi_hash.specs.BiHashMap.{AreOccupied, BiInserts, BiKeeps, BiReturnsItem, BiStays, HasNewKeys, IsInsertedAt, MeetsNoneBeside, items_at, items_beside};
 
     // Inserts an item whose keys no other has, and returns its slot.
     pub(super) fn insert_absent(&mut self, item: T) -> Result<u32, Refused<T>>
         requires keyed { ⟦<Self as Keyed>⟧.keyed self.old }
-        requires absent { items_met T.key1 T.key2 T.K1.eq T.K2.eq item self.old.items ≡ [] }
+        requires absent { HasNewKeys ⟦<T as Both>⟧ item self.old.items }
 
         // on success
         ensures inserted { OnOk result (BiInserts ⟦<Self as Keyed>⟧.keyed item self.old self.new) }
         ensures there { IfOk result (IsInsertedAt item self.old self.new) }
 
         // on refusal
-        ensures refused { IfErr result (BiReturnsItem T.key1 T.key2 T.K1.eq T.K2.eq self.old item) }
+        ensures refused { IfErr result (BiReturnsItem ⟦<T as Both>⟧ self.old item) }
         ensures kept { OnErr result (BiKeeps ⟦<Self as Keyed>⟧.keyed self.old self.new) }
     {
         let hash1 = self.hasher.hash_one(item.key1());
@@ -68,7 +68,7 @@ impl<T: BiHashItem, S: BuildHasher> BiHashMap<T, S> {
         requires there { AreOccupied self.old (values_of slots) }
         requires each_once { IsDistinct nat_eq (values_of slots) }
         requires at_most_two { length (values_of slots) ≤ 2 }
-        requires absent { MeetsNoneBeside T.key1 T.key2 T.K1.eq T.K2.eq item self.old (values_of slots) }
+        requires absent { MeetsNoneBeside ⟦<T as Both>⟧ item self.old (values_of slots) }
 
         // what is replaced
         ensures items { values_of result ≡ items_at self.old (values_of slots) }

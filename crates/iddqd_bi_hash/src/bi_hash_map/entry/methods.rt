@@ -5,6 +5,7 @@ ghost use Rattle.iddqd_bi_hash.specs.Entry.{EntryReturnsItem, LacksKeysOf, Lacks
 
 use super::{Entry, OccupiedEntry, OccupiedEntryMut};
 use crate::bi_hash_map::{BiHashMap as Map, Keyed, RefMut};
+use crate::both::Both;
 use crate::items::BiHashItem;
 use iddqd_store::Refused;
 use std::hash::BuildHasher;
@@ -19,7 +20,7 @@ impl<'a, T: BiHashItem, S: BuildHasher> Entry<'a, T, S> {
     where
         T: Drop,
         requires keyed { ⟦<Map<T, S> as Keyed>⟧.keyed (entry_map self) }
-        requires absent { entry_items self ≡ [] → LacksKeysOf T.key1 T.key2 T.K1.eq T.K2.eq item self }
+        requires absent { entry_items self ≡ [] → LacksKeysOf ⟦<T as Both>⟧ item self }
 
         // on success
         ensures same_map { IfOk result (λ r. mut_lender r ≡ entry_lender self.entry) }
@@ -31,7 +32,7 @@ impl<'a, T: BiHashItem, S: BuildHasher> Entry<'a, T, S> {
         // on refusal
         ensures* kept { sem 𝓛 (mut_or_kept S.row T.row ⟦<Map<T, S> as Keyed>⟧ self.entry result) }
         ensures vacant { OnErr result (entry_items self.entry ≡ []) }
-        ensures refused { IfErr result (EntryReturnsItem T.key1 T.key2 T.K1.eq T.K2.eq self.entry item) }
+        ensures refused { IfErr result (EntryReturnsItem ⟦<T as Both>⟧ self.entry item) }
     {
         self.or_insert_with(|| item)
     }
@@ -43,7 +44,7 @@ impl<'a, T: BiHashItem, S: BuildHasher> Entry<'a, T, S> {
     ) -> Result<OccupiedEntryMut<'a, T, S>, Refused<T>>
         requires keyed { ⟦<Map<T, S> as Keyed>⟧.keyed (entry_map self) }
         requires callable { entry_items self ≡ [] → F.pre make }
-        requires absent { entry_items self ≡ [] → LacksKeysOfMade T.key1 T.key2 T.K1.eq T.K2.eq (F.post make) self }
+        requires absent { entry_items self ≡ [] → LacksKeysOfMade ⟦<T as Both>⟧ (F.post make) self }
 
         // on success
         ensures same_map { IfOk result (λ r. mut_lender r ≡ entry_lender self.entry) }
@@ -56,7 +57,7 @@ impl<'a, T: BiHashItem, S: BuildHasher> Entry<'a, T, S> {
         ensures* kept { sem 𝓛 (mut_or_kept S.row T.row ⟦<Map<T, S> as Keyed>⟧ self.entry result) }
         ensures vacant { OnErr result (entry_items self.entry ≡ []) }
         ensures item { IfErr result (λ refused. F.post make refused.item) }
-        ensures refused { IfErr result (λ e. EntryReturnsItem T.key1 T.key2 T.K1.eq T.K2.eq self.entry e.item e) }
+        ensures refused { IfErr result (λ e. EntryReturnsItem ⟦<T as Both>⟧ self.entry e.item e) }
     {
         match self {
             Entry::Occupied(entry) => {

@@ -7,6 +7,7 @@ ghost use Rattle.iddqd_bi_hash.specs.Guard.{GuardKeeps, GuardKeepsAkin, guard_le
 
 use super::{OccupiedEntry, OccupiedEntryMut, VacantEntry};
 use crate::bi_hash_map::{BiHashMap as Map, Keyed, RefMut};
+use crate::both::Both;
 use crate::items::BiHashItem;
 use iddqd_store::Refused;
 use std::hash::BuildHasher;
@@ -31,7 +32,7 @@ impl<'a, T: BiHashItem, S: BuildHasher> VacantEntry<'a, T, S> {
 
         // on refusal
         ensures* kept { sem 𝓛 (guard_or_kept S.row T.row ⟦<Map<T, S> as Keyed>⟧ self.entry result) }
-        ensures refused { IfErr result (EntryReturnsItem T.key1 T.key2 T.K1.eq T.K2.eq (Vacant self.entry) item) }
+        ensures refused { IfErr result (EntryReturnsItem ⟦<T as Both>⟧ (Vacant self.entry) item) }
     {
         let VacantEntry { map } = self;
         match map.insert_absent(item) {
@@ -47,7 +48,7 @@ impl<'a, T: BiHashItem, S: BuildHasher> VacantEntry<'a, T, S> {
     // Inserts the item as `insert` does, and returns its guard as an entry does that may be occupied.
     pub(super) fn lend_inserted(self, item: T) -> Result<OccupiedEntryMut<'a, T, S>, Refused<T>>
         requires keyed { ⟦<Map<T, S> as Keyed>⟧.keyed (entry_map (Vacant self)) }
-        requires absent { LacksKeysOf T.key1 T.key2 T.K1.eq T.K2.eq item (Vacant self) }
+        requires absent { LacksKeysOf ⟦<T as Both>⟧ item (Vacant self) }
 
         // on success
         ensures same_map { IfOk result (λ r. mut_lender r ≡ entry_lender (Vacant self.entry)) }
@@ -58,7 +59,7 @@ impl<'a, T: BiHashItem, S: BuildHasher> VacantEntry<'a, T, S> {
 
         // on refusal
         ensures* kept { sem 𝓛 (mut_or_kept S.row T.row ⟦<Map<T, S> as Keyed>⟧ (Vacant self.entry) result) }
-        ensures refused { IfErr result (EntryReturnsItem T.key1 T.key2 T.K1.eq T.K2.eq (Vacant self.entry) item) }
+        ensures refused { IfErr result (EntryReturnsItem ⟦<T as Both>⟧ (Vacant self.entry) item) }
     {
         let VacantEntry { map } = self;
         match map.insert_absent(item) {
@@ -78,7 +79,7 @@ impl<'a, T: BiHashItem, S: BuildHasher> VacantEntry<'a, T, S> {
         requires absent2 { IsAbsent T.key2 (T.K2.eq (T.key2 item)) (entry_others (Vacant self)) }
         ensures inserted { IfOk result (Enters ⟦<Map<T, S> as Keyed>⟧ item (Vacant self.entry)) }
         ensures* kept { sem 𝓛 (entry_or_kept S.row T.row ⟦<Map<T, S> as Keyed>⟧ self.entry result) }
-        ensures refused { IfErr result (EntryReturnsItem T.key1 T.key2 T.K1.eq T.K2.eq (Vacant self.entry) item) }
+        ensures refused { IfErr result (EntryReturnsItem ⟦<T as Both>⟧ (Vacant self.entry) item) }
     {
         let VacantEntry { map } = self;
         match map.insert_absent(item) {

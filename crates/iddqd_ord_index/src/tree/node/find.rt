@@ -1,5 +1,6 @@
 //! Search: by halves in each node on the way down.
-ghost use Rattle.std.specs.Prelude.{◌≡◌, ◌+◌, ◌*◌, ◌^◌, ◌<◌, ◌≤◌, length, IfOk};
+ghost use Rattle.std.specs.Prelude.{◌≡◌, ◌*◌, ◌^◌, ◌<◌, length, IfOk};
+ghost use Rattle.iddqd_store.specs.Counting.{CountsAtMost};
 ghost use Rattle.iddqd_ord_index.specs.Listed.{AreOccupied};
 ghost use Rattle.iddqd_ord_index.specs.Search.{HasSlotAt};
 ghost use Rattle.iddqd_ord_index.specs.Standing.{StandsAmong, StandsMonotone, StandsPlaced};
@@ -25,8 +26,7 @@ impl Node {
         ensures slot { IfOk result (HasSlotAt self.now.slots) }
 
         // what it costs
-        ensures steps { steps.new ≤ steps.old + 4 * self.now.height }
-        ensures never_resets { steps.old ≤ steps.new }
+        ensures steps { CountsAtMost steps.old steps.new (4 * self.now.height) }
     {
         let mut node = self;
         let mut base = 0;
@@ -58,8 +58,7 @@ impl Node {
         requires occupied { AreOccupied store.now self.now.slots }
         requires monotone { StandsMonotone T.key (Q.compare query.now) store.now self.now.slots }
         ensures found { StandsAmong T.key (Q.compare query.now) store.now self.now.slots result }
-        ensures steps { steps.new ≤ steps.old + 4 * self.now.height }
-        ensures never_resets { steps.old ≤ steps.new }
+        ensures steps { CountsAtMost steps.old steps.new (4 * self.now.height) }
     {
         let mut node = self;
         'down: while !node.branches.is_empty() {

@@ -1,5 +1,6 @@
 //! Insertion by a key: each node is searched by halves on the way down, and the slot goes in at the leaf.
 ghost use Rattle.std.specs.Prelude.{◌≡◌, ◌+◌, ◌*◌, ◌^◌, ◌<◌, ◌≤◌, IsTrue, length};
+ghost use Rattle.iddqd_store.specs.Counting.{CountsAtMost};
 ghost use Rattle.iddqd_ord_index.specs.Inserting.{EndsIn, KeepsStock};
 ghost use Rattle.iddqd_ord_index.specs.Listed.{AreOccupied};
 ghost use Rattle.iddqd_ord_index.specs.Shape.{IsDense};
@@ -51,8 +52,7 @@ impl Node {
         ensures pool { (pool.new.wanted ≡ pool.old.wanted) × (pool.new.room ≡ pool.old.room) }
 
         // what it costs
-        ensures steps { steps.new ≤ steps.old + 4 * self.old.height }
-        ensures never_resets { steps.old ≤ steps.new }
+        ensures steps { CountsAtMost steps.old steps.new (4 * self.old.height) }
     {
         let i = match search(self.slots.as_slice(), store, query, steps) {
             Ok(i) => return Outcome::Found(self.slots.as_slice()[i]),

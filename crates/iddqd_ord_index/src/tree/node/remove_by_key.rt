@@ -1,5 +1,6 @@
 //! Removal by key: one descent that searches each node by halves, and rebalances on the way back.
 ghost use Rattle.std.specs.Prelude.{◌≡◌, ◌+◌, ◌*◌, ◌^◌, ◌<◌, ◌≤◌, length, slice_index, IfNone};
+ghost use Rattle.iddqd_store.specs.Counting.{CountsAtMost};
 ghost use Rattle.iddqd_ord_index.specs.Changes.{GivesBack, IsSameOrOneLess};
 ghost use Rattle.iddqd_ord_index.specs.Listed.{AreOccupied};
 ghost use Rattle.iddqd_ord_index.specs.NodeRemoval.{GivesBackIn, LosesEqual, LosesOwn};
@@ -81,8 +82,7 @@ impl Node {
         ensures pool { (pool.new.wanted ≡ pool.old.wanted) × (pool.new.room ≡ pool.old.room) }
 
         // what it costs
-        ensures steps { steps.new ≤ steps.old + 4 * self.old.height }
-        ensures never_resets { steps.old ≤ steps.new }
+        ensures steps { CountsAtMost steps.old steps.new (4 * self.old.height) }
     {
         let place = search(self.slots.as_slice(), store, query, steps);
         if self.branches.is_empty() {

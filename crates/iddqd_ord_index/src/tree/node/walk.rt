@@ -1,5 +1,6 @@
 //! A walk goes along the leaves below one node, and takes up that node's own slots between them.
-ghost use Rattle.std.specs.Prelude.{◌≡◌, ◌+◌, ◌*◌, ◌^◌, ◌<◌, ◌≤◌, [], ◌∷◌, ◌++◌, drop, length, slice_index_or, IfNone, IfSome};
+ghost use Rattle.std.specs.Prelude.{◌≡◌, ◌*◌, ◌^◌, ◌<◌, ◌≤◌, [], ◌∷◌, ◌++◌, drop, length, slice_index_or, IfNone, IfSome};
+ghost use Rattle.iddqd_store.specs.Counting.{CountsAtMost};
 ghost use Rattle.iddqd_ord_index.specs.Listed.{AreOccupied};
 ghost use Rattle.iddqd_ord_index.specs.Nodes.{subtrees, AreLeaves};
 ghost use Rattle.iddqd_ord_index.specs.Runs.{BeginsWith};
@@ -140,8 +141,7 @@ impl Node {
         ensures walk { BeginsWith result.1 (drop (position_of result.0) self.now.slots) }
 
         // what it costs
-        ensures steps { steps.new ≤ steps.old + 4 * self.now.height }
-        ensures never_resets { steps.old ≤ steps.new }
+        ensures steps { CountsAtMost steps.old steps.new (4 * self.now.height) }
     {
         let mut node = self;
         let mut base = 0;

@@ -20,7 +20,7 @@ loop-item-preserved g c =
     let told = c.in-Ok.ensures in
     let inv = c.loop-item.invariant in
     let goes = on x c.in-Some.is c.next.ensures.goes inv.1 in
-    let put = overwritten g.T.BiHashItem.key1 g.T.BiHashItem.key2 g.T.K1.PartialEq.eq g.T.K2.PartialEq.eq x between new c.in-Ok.replaced told.put in (
+    let put = overwritten _ x between new c.in-Ok.replaced told.put in (
       goes.0,
       goes.1,
       overwrites_last g.T.BiHashItem.key1 g.T.BiHashItem.key2 g.T.K1.PartialEq.eq g.T.K2.PartialEq.eq x c.loop-item.yielded (holding_of old) (holding_of between) (holding_of new) inv.2 put,

@@ -7,6 +7,7 @@ use Rattle.iddqd_store.proofs.AddingLemmas.{adds_last, adds_none}
 use Rattle.iddqd_store.proofs.CollectingLemmas.{fills_kept, fills_on, fills_taken, gives_all, gives_then}
 use Rattle.iddqd_bi_hash.specs.BiHashItems.{holding_of}
 use Rattle.iddqd_bi_hash.specs.Collecting.{DifferInBoth}
+use Rattle.iddqd_bi_hash.specs.declared.both.Both as both
 use Rattle.iddqd_bi_hash.proofs.BothLemmas.{stays_on}
 use Rattle.iddqd_bi_hash.proofs.CollectedLemmas.{both_differ, by_two_keys, halts}
 use Rattle.iddqd_bi_hash.proofs.bi_hash_map.BiHashMap.insert_each.Goals as goal
@@ -57,9 +58,10 @@ returns-in_err-insert_or_halt g c =
     let stopped = c.in_err-insert_or_halt.ensures in
     let gives = GivesThen g.U.IntoIterator.into_iter_gives g.U.IntoIter.Iterator.next_gives c.args.iter in
     let came = gives_then g.U.IntoIterator.into_iter_gives g.U.IntoIter.Iterator.next_gives c.args.iter c.loop-item.yielded c.in-Some.item (search rules) in
+    let keys : both.Ghosts _ _ _ = record { key1 = g.T.BiHashItem.key1; key2 = g.T.BiHashItem.key2; eq1 = g.T.K1.PartialEq.eq; eq2 = g.T.K2.PartialEq.eq; input1 = g.T.K1.Hash.hash_input; input2 = g.T.K2.Hash.hash_input } in
     rw back.1 (record {
       added = tt;
-      halted = halts g.T.BiHashItem.key1 g.T.BiHashItem.key2 g.met.T.K1.Eq.laws g.met.T.K2.Eq.laws gives c.args.self.now c.loop-item.self c.insert_or_halt.new.self c.loop-item.yielded inv.2 inv.3.fills.limit stopped.kept.keeps c.in-Some.item came _ (rw back.2 stopped.halted);
+      halted = halts keys g.met.T.K1.Eq.laws g.met.T.K2.Eq.laws gives c.args.self.now c.loop-item.self c.insert_or_halt.new.self c.loop-item.yielded inv.2 inv.3.fills.limit stopped.kept.keeps c.in-Some.item came _ (rw back.2 stopped.halted);
       spare_first = search rules;
       fills = search rules;
     })

@@ -4,19 +4,13 @@ use Rattle.iddqd_bi_hash.proofs.BothLemmas.{unchanged}
 use Rattle.iddqd_bi_hash.proofs.OverwrittenLemmas.{met_none}
 use Rattle.iddqd_bi_hash.proofs.bi_hash_map.BiHashMap.insert_or_halt.Goals as goal
 
-pub slots_displaced-requires-clause-hash1 : goal.slots_displaced-requires-clause-hash1
-slots_displaced-requires-clause-hash1 g c =
+pub slots_displaced-requires-clause-hashes : goal.slots_displaced-requires-clause-hashes
+slots_displaced-requires-clause-hashes g c =
     let hash = hash_under g.S.BuildHasher g.S.Hasher.Hasher in
-    c.hash_one-hash1.ensures
-    ∙ ap (λ k. hash c.self.inside.hasher (g.T.K1.Hash.hash_input k)) c.key1.ensures
-    ∙ ap (λ v. hash v.hasher (g.T.K1.Hash.hash_input (g.T.BiHashItem.key1 c.args.item))) c.self.view_is
-
-pub slots_displaced-requires-clause-hash2 : goal.slots_displaced-requires-clause-hash2
-slots_displaced-requires-clause-hash2 g c =
-    let hash = hash_under g.S.BuildHasher g.S.Hasher.Hasher in
-    c.hash_one-hash2.ensures
-    ∙ ap (λ k. hash c.self.inside.hasher (g.T.K2.Hash.hash_input k)) c.key2.ensures
-    ∙ ap (λ v. hash v.hasher (g.T.K2.Hash.hash_input (g.T.BiHashItem.key2 c.args.item))) c.self.view_is
+    record {
+      one = c.hash_one-hash1.ensures ∙ ap (λ k. hash c.self.inside.hasher (g.T.K1.Hash.hash_input k)) c.key1.ensures ∙ ap (λ v. hash v.hasher (g.T.K1.Hash.hash_input (g.T.BiHashItem.key1 c.args.item))) c.self.view_is;
+      other = c.hash_one-hash2.ensures ∙ ap (λ k. hash c.self.inside.hasher (g.T.K2.Hash.hash_input k)) c.key2.ensures ∙ ap (λ v. hash v.hasher (g.T.K2.Hash.hash_input (g.T.BiHashItem.key2 c.args.item))) c.self.view_is;
+    }
 
 pub insert_hashed-requires-clause-absent : goal.insert_hashed-requires-clause-absent
 insert_hashed-requires-clause-absent g c = met_none g.T.BiHashItem.key1 g.T.BiHashItem.key2 g.T.K1.PartialEq.eq g.T.K2.PartialEq.eq c.args.item c.args.self.now.items c.in-None.ensures.met

@@ -25,7 +25,7 @@ returns-clause-inserted g c =
     let x = c.args.item in
     let none = neither_found (λ y. g.T.K1.PartialEq.eq (g.T.BiHashItem.key1 x) (g.T.BiHashItem.key1 y)) (λ y. g.T.K2.PartialEq.eq (g.T.BiHashItem.key2 x) (g.T.BiHashItem.key2 y)) c.args.self.now.items c.requires.absent in
     inserted _ _ _ _ _ _ _ m.hasher m.store new.store m.index1 m.index2 new.index1 new.index2 c.self.invariant done.paired _ c.self.view_is g.met.T.K1.Eq.laws g.met.T.K2.Eq.laws c.requires.keyed x put.result c.args.hash1 c.args.hash2 none.0 none.1
-    c.requires.room c.requires.hash1 c.requires.hash2 done.pairs1 done.pairs2 done.was_vacant done.updates done.spare1 done.spare2 done.len done.vacant done.bounds
+    c.requires.room c.requires.hashes.one c.requires.hashes.other done.pairs1 done.pairs2 done.was_vacant done.updates done.spare1 done.spare2 done.len done.vacant done.bounds
 
 pub returns-clause-capacity : goal.returns-clause-capacity
 returns-clause-capacity g c = c.insert_in_all.ensures.bounds.capacity ∙ ap (λ v. v.capacity) c.self.view_is

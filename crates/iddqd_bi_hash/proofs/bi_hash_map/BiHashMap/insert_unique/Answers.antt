@@ -6,19 +6,13 @@ use Rattle.iddqd_bi_hash.proofs.BothLemmas.{unchanged}
 use Rattle.iddqd_bi_hash.proofs.MetLemmas.{neither_found, shown_met}
 use Rattle.iddqd_bi_hash.proofs.bi_hash_map.BiHashMap.insert_unique.Goals as goal
 
-pub slots_met-requires-clause-hash1 : goal.slots_met-requires-clause-hash1
-slots_met-requires-clause-hash1 g c =
+pub slots_met-requires-clause-hashes : goal.slots_met-requires-clause-hashes
+slots_met-requires-clause-hashes g c =
     let hash = hash_under g.S.BuildHasher g.S.Hasher.Hasher in
-    c.hash_one-hash1.ensures
-    ∙ ap (λ k. hash c.self.inside.hasher (g.T.K1.Hash.hash_input k)) c.key1.ensures
-    ∙ ap (λ v. hash v.hasher (g.T.K1.Hash.hash_input (g.T.BiHashItem.key1 c.args.item))) c.self.view_is
-
-pub slots_met-requires-clause-hash2 : goal.slots_met-requires-clause-hash2
-slots_met-requires-clause-hash2 g c =
-    let hash = hash_under g.S.BuildHasher g.S.Hasher.Hasher in
-    c.hash_one-hash2.ensures
-    ∙ ap (λ k. hash c.self.inside.hasher (g.T.K2.Hash.hash_input k)) c.key2.ensures
-    ∙ ap (λ v. hash v.hasher (g.T.K2.Hash.hash_input (g.T.BiHashItem.key2 c.args.item))) c.self.view_is
+    record {
+      one = c.hash_one-hash1.ensures ∙ ap (λ k. hash c.self.inside.hasher (g.T.K1.Hash.hash_input k)) c.key1.ensures ∙ ap (λ v. hash v.hasher (g.T.K1.Hash.hash_input (g.T.BiHashItem.key1 c.args.item))) c.self.view_is;
+      other = c.hash_one-hash2.ensures ∙ ap (λ k. hash c.self.inside.hasher (g.T.K2.Hash.hash_input k)) c.key2.ensures ∙ ap (λ v. hash v.hasher (g.T.K2.Hash.hash_input (g.T.BiHashItem.key2 c.args.item))) c.self.view_is;
+    }
 
 pub insert_hashed-requires-clause-absent : goal.insert_hashed-requires-clause-absent
 insert_hashed-requires-clause-absent g c = sym c.in_default.ensures.met

@@ -9,13 +9,13 @@ use Rattle.iddqd_bi_hash.proofs.bi_hash_map.BiHashMap.remove_met.Goals as goal
 pub remove_hashed1-one-requires-clause-hash : goal.remove_hashed1-one-requires-clause-hash
 remove_hashed1-one-requires-clause-hash g c k stands =
     let hash = hash_under g.S.BuildHasher g.S.Hasher.Hasher c.args.self.now.hasher in
-    ap hash (sym (g.met.T.K1.Hash.respects_eq c.key1.result.now k stands) ∙ ap g.T.K1.Hash.hash_input c.key1.ensures) ∙ sym c.requires.hash1
+    ap hash (sym (g.met.T.K1.Hash.respects_eq c.key1.result.now k stands) ∙ ap g.T.K1.Hash.hash_input c.key1.ensures) ∙ sym c.requires.hashes.one
 
 pub remove_hashed2-other-requires-clause-hash : goal.remove_hashed2-other-requires-clause-hash
 remove_hashed2-other-requires-clause-hash g c k stands =
     let hash = hash_under g.S.BuildHasher g.S.Hasher.Hasher in
     ap (λ s. hash s (g.T.K2.Hash.hash_input k)) c.remove_hashed1-one.ensures.stays.hasher
-    ∙ ap (hash c.args.self.now.hasher) (sym (g.met.T.K2.Hash.respects_eq c.key2.result.now k stands) ∙ ap g.T.K2.Hash.hash_input c.key2.ensures) ∙ sym c.requires.hash2
+    ∙ ap (hash c.args.self.now.hasher) (sym (g.met.T.K2.Hash.respects_eq c.key2.result.now k stands) ∙ ap g.T.K2.Hash.hash_input c.key2.ensures) ∙ sym c.requires.hashes.other
 
 pub returns-clause-displaced : goal.returns-clause-displaced
 returns-clause-displaced g c =

@@ -11,12 +11,12 @@ use Rattle.iddqd_bi_hash.proofs.bi_hash_map.BiHashMap.slots_displaced.Goals as g
 pub slot_by_key1-one-requires-clause-hash : goal.slot_by_key1-one-requires-clause-hash
 slot_by_key1-one-requires-clause-hash g c k akin =
     let hash = hash_under g.S.BuildHasher g.S.Hasher.Hasher c.args.self.now.hasher in
-    ap hash (sym (g.met.T.K1.Hash.respects_eq c.key1.result.now k akin) ∙ ap g.T.K1.Hash.hash_input c.key1.ensures) ∙ sym c.requires.hash1
+    ap hash (sym (g.met.T.K1.Hash.respects_eq c.key1.result.now k akin) ∙ ap g.T.K1.Hash.hash_input c.key1.ensures) ∙ sym c.requires.hashes.one
 
 pub slot_by_key2-other-requires-clause-hash : goal.slot_by_key2-other-requires-clause-hash
 slot_by_key2-other-requires-clause-hash g c k akin =
     let hash = hash_under g.S.BuildHasher g.S.Hasher.Hasher c.args.self.now.hasher in
-    ap hash (sym (g.met.T.K2.Hash.respects_eq c.key2.result.now k akin) ∙ ap g.T.K2.Hash.hash_input c.key2.ensures) ∙ sym c.requires.hash2
+    ap hash (sym (g.met.T.K2.Hash.respects_eq c.key2.result.now k akin) ∙ ap g.T.K2.Hash.hash_input c.key2.ensures) ∙ sym c.requires.hashes.other
 
 pub returns-clause-there : goal.returns-clause-there
 returns-clause-there g c =

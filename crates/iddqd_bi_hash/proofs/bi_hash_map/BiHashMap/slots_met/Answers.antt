@@ -20,7 +20,7 @@ find_slot-one-requires-clause-stored g c =
     let hash = hash_under g.S.BuildHasher g.S.Hasher.Hasher c.args.self.now.hasher in
     let k = c.key1.result.now in
     hashed1 _ _ _ _ _ _ _ m.hasher m.store m.index1 m.index2 _ c.self.view_is c.requires.keyed (g.T.K1.PartialEq.eq k) c.args.hash1
-    (λ l akin. ap hash (sym (g.met.T.K1.Hash.respects_eq k l akin) ∙ ap g.T.K1.Hash.hash_input c.key1.ensures) ∙ sym c.requires.hash1)
+    (λ l akin. ap hash (sym (g.met.T.K1.Hash.respects_eq k l akin) ∙ ap g.T.K1.Hash.hash_input c.key1.ensures) ∙ sym c.requires.hashes.one)
 
 pub find_slot-other-requires-clause-differ : goal.find_slot-other-requires-clause-differ
 find_slot-other-requires-clause-differ g c =
@@ -33,7 +33,7 @@ find_slot-other-requires-clause-stored g c =
     let hash = hash_under g.S.BuildHasher g.S.Hasher.Hasher c.args.self.now.hasher in
     let k = c.key2.result.now in
     hashed2 _ _ _ _ _ _ _ m.hasher m.store m.index1 m.index2 _ c.self.view_is c.requires.keyed (g.T.K2.PartialEq.eq k) c.args.hash2
-    (λ l akin. ap hash (sym (g.met.T.K2.Hash.respects_eq k l akin) ∙ ap g.T.K2.Hash.hash_input c.key2.ensures) ∙ sym c.requires.hash2)
+    (λ l akin. ap hash (sym (g.met.T.K2.Hash.respects_eq k l akin) ∙ ap g.T.K2.Hash.hash_input c.key2.ensures) ∙ sym c.requires.hashes.other)
 
 passing : (g : Over) (c : goal.After-rising_slots g) → values_if_any c.rising_slots.result ≡ slots_passing c.self.inside.store (has_one_of_keys g.T.BiHashItem.key1 g.T.BiHashItem.key2 g.T.K1.PartialEq.eq g.T.K2.PartialEq.eq c.args.item.now)
 passing g c =

@@ -2,6 +2,7 @@ use Rattle.std.proofs.Common.{◌∙◌, sym, ap, subst, arith}
 use Rattle.iddqd_store.specs.Hashing.{hash_under}
 use Rattle.iddqd_hash_parts.specs.HashItems.{FindsSlot, IsKeyed, KeyedItems}
 use Rattle.iddqd_hash.specs.HashMap.{SpareFits}
+use Rattle.iddqd_store.proofs.CountingLemmas.{CountsAtMost-le}
 use Rattle.iddqd_hash_parts.proofs.HashCountLemmas.{bound_of}
 use Rattle.iddqd_hash_parts.proofs.InSlotLemmas.{finds_slot}
 use Rattle.iddqd_hash_parts.proofs.MapLemmas.{listed_under_query, spare_fits}
@@ -35,4 +36,4 @@ returns-clause-spare_fits g c =
 pub returns-clause-steps : goal.returns-clause-steps
 returns-clause-steps g c =
     let m = c.self.inside in
-    omega (arith, c.find_slot.ensures.steps, bound_of c.args.hash m.hasher m.store m.index c.self.invariant c.args.self.now c.self.view_is)
+    CountsAtMost-le c.find_slot.ensures.steps (omega (arith, bound_of c.args.hash m.hasher m.store m.index c.self.invariant c.args.self.now c.self.view_is))

@@ -16,10 +16,16 @@ walk-init g c = record {
 }
 
 pub returns-in-Some-clause-steps : goal.returns-in-Some-clause-steps
-returns-in-Some-clause-steps g c = Compared-le _ _ _ _ _ _ _ (Compared-group _ _ _ _ _ _ _ _ _ _ (c.walk.invariant.here c.walk-test.true) c.walk.invariant.compared c.find_at-found.ensures.compared)
+returns-in-Some-clause-steps g c = record {
+  at_most = Compared-le _ _ _ _ _ _ _ (Compared-group _ _ _ _ _ _ _ _ _ _ (c.walk.invariant.here c.walk-test.true) c.walk.invariant.compared c.find_at-found.ensures.compared);
+  never_resets = omega (arith, c.walk.invariant.never_resets, c.find_at-found.ensures.never_resets);
+}
 
 pub returns-then-has_no_overflow-clause-steps : goal.returns-then-has_no_overflow-clause-steps
-returns-then-has_no_overflow-clause-steps g c = Compared-le _ _ _ _ _ _ _ (Compared-group _ _ _ _ _ _ _ _ _ _ (c.walk.invariant.here c.walk-test.true) c.walk.invariant.compared c.find_at-found.ensures.compared)
+returns-then-has_no_overflow-clause-steps g c = record {
+  at_most = Compared-le _ _ _ _ _ _ _ (Compared-group _ _ _ _ _ _ _ _ _ _ (c.walk.invariant.here c.walk-test.true) c.walk.invariant.compared c.find_at-found.ensures.compared);
+  never_resets = omega (arith, c.walk.invariant.never_resets, c.find_at-found.ensures.never_resets);
+}
 
 pub returns-then-has_no_overflow-clause-absent : goal.returns-then-has_no_overflow-clause-absent
 returns-then-has_no_overflow-clause-absent g c = λ slot found.
@@ -43,4 +49,4 @@ pub returns-clause-absent : goal.returns-clause-absent
 returns-clause-absent g c = λ slot found. none_at_end _ _ _ (λ s. IsSomeAnd (item_at c.args.store.now s) (λ x. g.Q.Equivalent.equivalent c.args.query.now (g.K.KeyOf.key x) ≡ true)) c.walk.step c.walk.invariant.missed (omega arith) slot found.0 found.1
 
 pub returns-clause-steps : goal.returns-clause-steps
-returns-clause-steps g c = Compared-le _ _ _ _ _ _ _ c.walk.invariant.compared
+returns-clause-steps g c = record { at_most = Compared-le _ _ _ _ _ _ _ c.walk.invariant.compared; never_resets = c.walk.invariant.never_resets }

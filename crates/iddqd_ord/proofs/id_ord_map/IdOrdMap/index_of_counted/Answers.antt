@@ -1,6 +1,7 @@
 use Rattle.std.proofs.Common.{◌∙◌, Ok, Err, sym, ap, subst, refl, arith, slice_get}
 use Rattle.std.specs.Ordering.{is_le}
 use Rattle.iddqd_store.specs.Contents.{keys}
+use Rattle.iddqd_store.proofs.CountingLemmas.{CountsAtMost-le}
 use Rattle.iddqd_store.proofs.QueryLemmas.{OrderedQuery, place_there, find_nowhere}
 use Rattle.iddqd_ord_index.specs.Search.{IsPlaceAmong}
 use Rattle.iddqd_ord.proofs.RangeLemmas.{at_there, nowhere, rank_is}
@@ -31,8 +32,7 @@ returns-in-Ok g c =
       place = subst (λ i. IsPlaceAmong compare (keys key items) (Ok i)) (sym c.position.ensures) p;
       rank = c.position.ensures ∙ rank_is key compare items c.in-Ok.place (at_there key items own c.requires.keyed c.in-Ok.place p.0 p.1);
       found = ap (slice_get items) c.position.ensures ∙ sym (place_there key own items c.requires.keyed c.in-Ok.place p.0 p.1);
-      steps = omega (arith, c.in-Ok.ensures.steps, bound_of m.store m.index.slots c.self.invariant items (ap (λ v. v.items) c.self.view_is));
-      never_resets = c.in-Ok.ensures.never_resets;
+      steps = CountsAtMost-le c.in-Ok.ensures.steps (omega (arith, bound_of m.store m.index.slots c.self.invariant items (ap (λ v. v.items) c.self.view_is)));
     }
 
 pub returns-in-Err : goal.returns-in-Err
@@ -47,6 +47,5 @@ returns-in-Err g c =
       place = subst (λ i. IsPlaceAmong compare (keys key items) (Err i)) (sym c.position-in-Err.ensures) p;
       rank = c.position-in-Err.ensures ∙ rank_is key compare items c.in-Err.place (nowhere key items compare is_le refl refl c.in-Err.place p.0 p.1 p.2);
       found = sym (find_nowhere key own items c.requires.keyed c.in-Err.place p.1 p.2);
-      steps = omega (arith, c.in-Err.ensures.steps, bound_of m.store m.index.slots c.self.invariant items (ap (λ v. v.items) c.self.view_is));
-      never_resets = c.in-Err.ensures.never_resets;
+      steps = CountsAtMost-le c.in-Err.ensures.steps (omega (arith, bound_of m.store m.index.slots c.self.invariant items (ap (λ v. v.items) c.self.view_is)));
     }

@@ -5,6 +5,7 @@ use Rattle.iddqd_store.specs.Holding.{Holding}
 use Rattle.iddqd_store.specs.Refusal.{refusal_kind}
 use Rattle.iddqd_store.specs.SlotItems.{item_of_slot}
 use Rattle.iddqd_store.specs.Store.{Store, vacant}
+use Rattle.iddqd_store.proofs.CountingLemmas.{CountsAtMost-le}
 use Rattle.iddqd_store.proofs.KeepsLemmas.{ascends_insert}
 use Rattle.iddqd_store.proofs.QueryLemmas.{OrderedQuery, own_query, find_nowhere}
 use Rattle.iddqd_ord_index.specs.Listed.{SlotList, listed_items}
@@ -63,7 +64,7 @@ returns-in-Found-clause-steps g c =
     let items = c.args.self.now.items in
     let m = c.self.inside in
     let bound = bound_of m.store m.index.slots c.self.invariant items (ap (λ v. v.items) c.self.view_is) in
-    omega (arith, c.insert_by_key.ensures.steps, bound)
+    CountsAtMost-le c.insert_by_key.ensures.steps (omega (arith, bound))
 
 pub returns-in-Inserted-clause-inserted : goal.returns-in-Inserted-clause-inserted
 returns-in-Inserted-clause-inserted g c =
@@ -138,7 +139,7 @@ returns-in-Inserted-clause-steps g c =
     let items = c.args.self.now.items in
     let m = c.self.inside in
     let bound = bound_of m.store m.index.slots c.self.invariant items (ap (λ v. v.items) c.self.view_is) in
-    omega (arith, c.insert_by_key.ensures.steps, bound)
+    CountsAtMost-le c.insert_by_key.ensures.steps (omega (arith, bound))
 
 pub returns-in-Ok-clause-absent : goal.returns-in-Ok-clause-absent
 returns-in-Ok-clause-absent g c =
@@ -181,7 +182,7 @@ returns-in-Ok-clause-steps g c =
     let items = c.args.self.now.items in
     let m = c.self.inside in
     let bound = bound_of m.store m.index.slots c.self.invariant items (ap (λ v. v.items) c.self.view_is) in
-    omega (arith, c.insert_by_key.ensures.steps, bound)
+    CountsAtMost-le c.insert_by_key.ensures.steps (omega (arith, bound))
 
 pub returns-in-Err-clause-missed : goal.returns-in-Err-clause-missed
 returns-in-Err-clause-missed g c =
@@ -203,4 +204,4 @@ returns-in-Err-clause-steps g c =
     let items = c.args.self.now.items in
     let m = c.self.inside in
     let bound = bound_of m.store m.index.slots c.self.invariant items (ap (λ v. v.items) c.self.view_is) in
-    omega (arith, c.insert_by_key.ensures.steps, bound)
+    CountsAtMost-le c.insert_by_key.ensures.steps (omega (arith, bound))

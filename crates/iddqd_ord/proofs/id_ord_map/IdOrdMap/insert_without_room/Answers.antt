@@ -1,6 +1,7 @@
 use Rattle.std.proofs.Common.{◌≤◌, ◌∙◌, length, sym, ap, refl, arith}
 use Rattle.std.proofs.lemmas.List.{length-map}
 use Rattle.std.proofs.lemmas.Option.{slice_get-get_or}
+use Rattle.iddqd_store.proofs.CountingLemmas.{CountsAtMost-le}
 use Rattle.iddqd_store.proofs.QueryLemmas.{OrderedQuery, own_query, place_there, find_nowhere}
 use Rattle.iddqd_ord.proofs.EntryLemmas.{put_item, put_others, put_written}
 use Rattle.iddqd_ord.proofs.GetMutLemmas.{found_is_at}
@@ -34,7 +35,7 @@ returns-in-Ok-clause-steps g c =
     let items = c.args.self.now.items in
     let m = c.self.inside in
     let bound = bound_of m.store m.index.slots c.self.invariant items (ap (λ v. v.items) c.self.view_is) in
-    omega (arith, c.find_slot.ensures.steps, bound)
+    CountsAtMost-le c.find_slot.ensures.steps (omega (arith, bound))
 
 pub returns-in-Ok-insert_at_place-clause-absent : goal.returns-in-Ok-insert_at_place-clause-absent
 returns-in-Ok-insert_at_place-clause-absent g c =
@@ -74,7 +75,7 @@ returns-in-Ok-insert_at_place-clause-steps g c =
     let items = c.args.self.now.items in
     let m = c.self.inside in
     let bound = bound_of m.store m.index.slots c.self.invariant items (ap (λ v. v.items) c.self.view_is) in
-    omega (arith, c.find_slot.ensures.steps, bound)
+    CountsAtMost-le c.find_slot.ensures.steps (omega (arith, bound))
 
 pub returns-in-Err-insert_at_place-clause-missed : goal.returns-in-Err-insert_at_place-clause-missed
 returns-in-Err-insert_at_place-clause-missed g c =
@@ -94,4 +95,4 @@ returns-in-Err-insert_at_place-clause-steps g c =
     let items = c.args.self.now.items in
     let m = c.self.inside in
     let bound = bound_of m.store m.index.slots c.self.invariant items (ap (λ v. v.items) c.self.view_is) in
-    omega (arith, c.find_slot.ensures.steps, bound)
+    CountsAtMost-le c.find_slot.ensures.steps (omega (arith, bound))

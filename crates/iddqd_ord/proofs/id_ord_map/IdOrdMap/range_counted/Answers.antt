@@ -4,6 +4,7 @@ use Rattle.iddqd_ord_index.proofs.ListedLemmas.{length-listed, listed-part}
 use Rattle.iddqd_ord_index.specs.Listed.{listed_items, AreOccupied}
 use Rattle.iddqd_store.specs.Store.{IsOccupied}
 use Rattle.iddqd_ord.specs.Ranges.{bound_now, is_from, is_up_to, items_between}
+use Rattle.iddqd_store.proofs.CountingLemmas.{CountsAtMost-le, CountsAtMost-then}
 use Rattle.iddqd_ord.proofs.RangeLemmas.{between_places, part_cut, sum-part, walk_begins}
 use Rattle.iddqd_ord.proofs.id_ord_map.IdOrdMap.range_counted.Goals as goal
 
@@ -41,6 +42,5 @@ returns g c =
         sums = λ h. subst (λ l. sum_by h l ≤ sum_by h items) (sym found) (sum-part h items low high);
         fits = omega (arith, c.walk_from-walk.ensures.fits, length-listed m.store c.truncate.new.self occupied, ap length c.truncate.ensures, length-take c.saturating_sub.result c.walk_from-walk.result);
       };
-      steps = omega (arith, c.walk_from-walk.ensures.steps, c.end_of-high.ensures.steps);
-      never_resets = omega (arith, c.walk_from-walk.ensures.never_resets, c.end_of-high.ensures.never_resets);
+      steps = CountsAtMost-le (CountsAtMost-then c.walk_from-walk.ensures.steps c.end_of-high.ensures.steps) (omega arith);
     }

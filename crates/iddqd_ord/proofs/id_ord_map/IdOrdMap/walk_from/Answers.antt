@@ -1,6 +1,7 @@
 use Rattle.std.proofs.Common.{◌≡◌, ℕ, ◌+◌, ◌∙◌, List, [], ◌∷◌, Option, Some, None, MatchOption, drop, length, length-drop, ap, sym, subst, arith}
 use Rattle.std.proofs.lemmas.List.{drop-drop}
 use Rattle.iddqd_ord_index.specs.Search.{position_of}
+use Rattle.iddqd_store.proofs.CountingLemmas.{CountsAtMost-le}
 use Rattle.iddqd_store.proofs.QueryLemmas.{OrderedQuery}
 use Rattle.iddqd_store.specs.SlotItems.{HaveSlots}
 use Rattle.iddqd_ord.proofs.RangeLemmas.{absent_place, behind_place, from_place}
@@ -38,8 +39,7 @@ returns-in-Included g c =
       );
       fits = found.fits;
       own = subst (λ v. HaveSlots v.slots v.items) c.self.view_is (have_slots m.store m.index.slots c.self.invariant);
-      steps = omega (arith, found.steps, bound_of m.store m.index.slots c.self.invariant items (ap (λ v. v.items) c.self.view_is));
-      never_resets = found.never_resets;
+      steps = CountsAtMost-le found.steps (omega (arith, bound_of m.store m.index.slots c.self.invariant items (ap (λ v. v.items) c.self.view_is)));
     }
 
 pub returns-then-is_ok : goal.returns-then-is_ok
@@ -58,8 +58,7 @@ returns-then-is_ok g c =
       );
       fits = omega (arith, found.fits, ap length rest, length-drop 1 c.walk_from-place.result.1);
       own = subst (λ v. HaveSlots v.slots v.items) c.self.view_is (have_slots m.store m.index.slots c.self.invariant);
-      steps = omega (arith, found.steps, bound_of m.store m.index.slots c.self.invariant items (ap (λ v. v.items) c.self.view_is));
-      never_resets = found.never_resets;
+      steps = CountsAtMost-le found.steps (omega (arith, bound_of m.store m.index.slots c.self.invariant items (ap (λ v. v.items) c.self.view_is)));
     }
 
 pub returns-else-is_ok : goal.returns-else-is_ok
@@ -77,8 +76,7 @@ returns-else-is_ok g c =
       );
       fits = found.fits;
       own = subst (λ v. HaveSlots v.slots v.items) c.self.view_is (have_slots m.store m.index.slots c.self.invariant);
-      steps = omega (arith, found.steps, bound_of m.store m.index.slots c.self.invariant items (ap (λ v. v.items) c.self.view_is));
-      never_resets = found.never_resets;
+      steps = CountsAtMost-le found.steps (omega (arith, bound_of m.store m.index.slots c.self.invariant items (ap (λ v. v.items) c.self.view_is)));
     }
 
 pub returns-in-Unbounded-clause-own : goal.returns-in-Unbounded-clause-own

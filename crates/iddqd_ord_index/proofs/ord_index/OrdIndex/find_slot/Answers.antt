@@ -1,6 +1,7 @@
-use Rattle.std.proofs.Common.{Ok, Err, length, subst, sym, ap, arith, rules}
+use Rattle.std.proofs.Common.{Ok, Err, length, subst, sym, ap, arith}
 use Rattle.iddqd_ord_index.specs.Digits.{digits}
 use Rattle.iddqd_ord_index.specs.Standing.{slot_standing, IsMonotone, IsPlace}
+use Rattle.iddqd_store.proofs.CountingLemmas.{CountsAtMost-le}
 use Rattle.iddqd_ord_index.proofs.HeightLemmas.{height_bound}
 use Rattle.iddqd_ord_index.proofs.StandingLemmas.{monotone, placed}
 use Rattle.iddqd_ord_index.proofs.ord_index.OrdIndex.find_slot.Goals as goal
@@ -13,17 +14,11 @@ returns-in-Ok-clause-place g c =
     placed g.T.IdOrdItem.key (g.Q.Comparable.compare c.args.query.now) c.args.store.now c.args.self.now.slots c.requires.occupied (Ok c.in-Ok.position) (subst (λ i. IsPlace (slot_standing g.T.IdOrdItem.key (g.Q.Comparable.compare c.args.query.now) c.args.store.now) i.slots (Ok c.in-Ok.position)) c.self.view_is c.in-Ok.ensures.place)
 
 pub returns-in-Ok-clause-steps : goal.returns-in-Ok-clause-steps
-returns-in-Ok-clause-steps g c = omega (arith, height_bound c.self.inside.root c.self.invariant.dense c.self.invariant.top, ap (λ i. digits (length i.slots)) c.self.view_is, c.in-Ok.ensures.steps)
-
-pub returns-in-Ok-clause-never_resets : goal.returns-in-Ok-clause-never_resets
-returns-in-Ok-clause-never_resets g c = search rules
+returns-in-Ok-clause-steps g c = CountsAtMost-le c.in-Ok.ensures.steps (omega (arith, height_bound c.self.inside.root c.self.invariant.dense c.self.invariant.top, ap (λ i. digits (length i.slots)) c.self.view_is))
 
 pub returns-in-Err-clause-place : goal.returns-in-Err-clause-place
 returns-in-Err-clause-place g c =
     placed g.T.IdOrdItem.key (g.Q.Comparable.compare c.args.query.now) c.args.store.now c.args.self.now.slots c.requires.occupied (Err c.in-Err.position) (subst (λ i. IsPlace (slot_standing g.T.IdOrdItem.key (g.Q.Comparable.compare c.args.query.now) c.args.store.now) i.slots (Err c.in-Err.position)) c.self.view_is c.in-Err.ensures.place)
 
 pub returns-in-Err-clause-steps : goal.returns-in-Err-clause-steps
-returns-in-Err-clause-steps g c = omega (arith, height_bound c.self.inside.root c.self.invariant.dense c.self.invariant.top, ap (λ i. digits (length i.slots)) c.self.view_is, c.in-Err.ensures.steps)
-
-pub returns-in-Err-clause-never_resets : goal.returns-in-Err-clause-never_resets
-returns-in-Err-clause-never_resets g c = search rules
+returns-in-Err-clause-steps g c = CountsAtMost-le c.in-Err.ensures.steps (omega (arith, height_bound c.self.inside.root c.self.invariant.dense c.self.invariant.top, ap (λ i. digits (length i.slots)) c.self.view_is))

@@ -9,6 +9,7 @@ use Rattle.iddqd_ord_index.specs.Listed.{listed_items}
 use Rattle.iddqd_ord_index.specs.Standing.{slot_standing, IsMonotone, IsAmong}
 use Rattle.iddqd_store.specs.Contents.{find_item}
 use Rattle.iddqd_store.specs.Store.{item_at}
+use Rattle.iddqd_store.proofs.CountingLemmas.{CountsAtMost-le}
 use Rattle.iddqd_ord_index.proofs.HeightLemmas.{height_bound}
 use Rattle.iddqd_ord_index.proofs.ListedLemmas.{get-listed}
 use Rattle.iddqd_ord_index.proofs.StandingLemmas.{monotone, placed}
@@ -31,7 +32,7 @@ pub get-requires-clause-monotone : goal.get-requires-clause-monotone
 get-requires-clause-monotone g c = subst (λ i. IsMonotone (slot_standing g.T.IdOrdItem.key (g.Q.Comparable.compare c.args.query.now) c.args.store.now) i.slots) (sym c.self.view_is) (monotone g.T.IdOrdItem.key (g.Q.Comparable.compare c.args.query.now) c.args.store.now c.args.self.now.slots c.requires.occupied g.met.T.Key.Ord.total (g.met.Q.Comparable.less_above c.args.query.now) (g.met.Q.Comparable.greater_below c.args.query.now) c.requires.ascending)
 
 pub returns-clause-steps : goal.returns-clause-steps
-returns-clause-steps g c = omega (arith, height_bound c.self.inside.root c.self.invariant.dense c.self.invariant.top, ap (λ i. digits (length i.slots)) c.self.view_is, c.get.ensures.steps)
+returns-clause-steps g c = CountsAtMost-le c.get.ensures.steps (omega (arith, height_bound c.self.inside.root c.self.invariant.dense c.self.invariant.top, ap (λ i. digits (length i.slots)) c.self.view_is))
 
 pub returns-clause-item : goal.returns-clause-item
 returns-clause-item g c = by_result c.get.result (subst (λ i. IsAmong (slot_standing g.T.IdOrdItem.key (g.Q.Comparable.compare c.args.query.now) c.args.store.now) i.slots c.get.result) c.self.view_is c.get.ensures.found)

@@ -9,6 +9,7 @@ use Rattle.iddqd_ord_index.specs.Digits.{digits}
 use Rattle.iddqd_ord_index.specs.Listed.{listed_items}
 use Rattle.iddqd_ord_index.specs.Standing.{slot_standing, IsAmong, IsMonotone, IsPlace}
 use Rattle.std.specs.declared.cmp.Ordering.{Ordering}
+use Rattle.iddqd_store.proofs.CountingLemmas.{CountsAtMost-le}
 use Rattle.iddqd_ord_index.proofs.AddLemmas.{parted_length}
 use Rattle.iddqd_ord_index.proofs.HeightLemmas.{height_bound, height_most}
 use Rattle.iddqd_ord_index.proofs.IndexLemmas.{IsAdded, added_index, kept_index}
@@ -54,14 +55,14 @@ pub returns-in-Found-clause-listed : goal.returns-in-Found-clause-listed
 returns-in-Found-clause-listed g c = search rules
 
 pub returns-in-Found-clause-steps : goal.returns-in-Found-clause-steps
-returns-in-Found-clause-steps g c = omega (arith, height_bound c.self.inside.root c.self.invariant.dense c.self.invariant.top, ap (λ i. digits (length i.slots)) c.self.view_is, c.in-Found.ensures.steps)
+returns-in-Found-clause-steps g c = CountsAtMost-le c.in-Found.ensures.steps (omega (arith, height_bound c.self.inside.root c.self.invariant.dense c.self.invariant.top, ap (λ i. digits (length i.slots)) c.self.view_is))
 
 pub returns-in-Full-clause-place : goal.returns-in-Full-clause-place
 returns-in-Full-clause-place g c =
     placed g.T.IdOrdItem.key (g.Q.Comparable.compare c.args.query.now) c.args.store.now c.args.self.now.slots c.requires.occupied (Err c.in-Full.position) (subst (λ i. IsPlace (order g c.args.query.now c.args.store.now) i.slots (Err c.in-Full.position)) c.self.view_is c.in-Full.ensures.ends.1)
 
 pub returns-in-Full-clause-steps : goal.returns-in-Full-clause-steps
-returns-in-Full-clause-steps g c = omega (arith, height_bound c.self.inside.root c.self.invariant.dense c.self.invariant.top, ap (λ i. digits (length i.slots)) c.self.view_is, c.in-Full.ensures.steps)
+returns-in-Full-clause-steps g c = CountsAtMost-le c.in-Full.ensures.steps (omega (arith, height_bound c.self.inside.root c.self.invariant.dense c.self.invariant.top, ap (λ i. digits (length i.slots)) c.self.view_is))
 
 pub push_root_level-requires-clause-total : goal.push_root_level-requires-clause-total
 push_root_level-requires-clause-total g c =
@@ -124,4 +125,4 @@ returns-clause-inserted g c =
     )
 
 pub returns-clause-steps : goal.returns-clause-steps
-returns-clause-steps g c = omega (arith, height_bound c.self.inside.root c.self.invariant.dense c.self.invariant.top, ap (λ i. digits (length i.slots)) c.self.view_is, c.in-Inserted.ensures.steps)
+returns-clause-steps g c = CountsAtMost-le c.in-Inserted.ensures.steps (omega (arith, height_bound c.self.inside.root c.self.invariant.dense c.self.invariant.top, ap (λ i. digits (length i.slots)) c.self.view_is))

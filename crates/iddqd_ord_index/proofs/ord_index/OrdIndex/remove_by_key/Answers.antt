@@ -6,6 +6,7 @@ use Rattle.iddqd_ord_index.specs.Digits.{digits}
 use Rattle.iddqd_ord_index.specs.Listed.{unprepared}
 use Rattle.iddqd_ord_index.specs.NodeRemoval.{Loses}
 use Rattle.iddqd_ord_index.specs.Standing.{slot_standing, IsMonotone, IsPlace}
+use Rattle.iddqd_store.proofs.CountingLemmas.{CountsAtMost-le}
 use Rattle.iddqd_ord_index.proofs.HeightLemmas.{height_bound}
 use Rattle.iddqd_ord_index.proofs.IndexLemmas.{empty_run, once_remove, unready}
 use Rattle.iddqd_ord_index.proofs.StandingLemmas.{monotone, placed}
@@ -41,7 +42,7 @@ returns-in_err-slot-clause-after g c =
 
 pub returns-in_err-slot-clause-steps : goal.returns-in_err-slot-clause-steps
 returns-in_err-slot-clause-steps g c =
-    omega (arith, height_bound c.self.inside.root c.self.invariant.dense c.self.invariant.top, ap (λ i. digits (length i.slots)) c.self.view_is, c.remove_by_key-slot.ensures.steps)
+    CountsAtMost-le c.remove_by_key-slot.ensures.steps (omega (arith, height_bound c.self.inside.root c.self.invariant.dense c.self.invariant.top, ap (λ i. digits (length i.slots)) c.self.view_is))
 
 pub invariant_of-self-2 : goal.invariant_of-self-2
 invariant_of-self-2 g c =
@@ -73,4 +74,4 @@ returns-clause-after g c =
 
 pub returns-clause-steps : goal.returns-clause-steps
 returns-clause-steps g c =
-    omega (arith, height_bound c.self.inside.root c.self.invariant.dense c.self.invariant.top, ap (λ i. digits (length i.slots)) c.self.view_is, c.remove_by_key-slot.ensures.steps)
+    CountsAtMost-le c.remove_by_key-slot.ensures.steps (omega (arith, height_bound c.self.inside.root c.self.invariant.dense c.self.invariant.top, ap (λ i. digits (length i.slots)) c.self.view_is))

@@ -1,6 +1,7 @@
 use Rattle.std.proofs.Common.{Ok, Err, length, subst, sym, ap, arith}
 use Rattle.iddqd_ord_index.specs.Digits.{digits}
 use Rattle.iddqd_ord_index.specs.Standing.{slot_standing, IsMonotone, IsPlace}
+use Rattle.iddqd_store.proofs.CountingLemmas.{CountsAtMost-le}
 use Rattle.iddqd_ord_index.proofs.HeightLemmas.{height_bound}
 use Rattle.iddqd_ord_index.proofs.StandingLemmas.{monotone, placed}
 use Rattle.iddqd_ord_index.proofs.ord_index.OrdIndex.walk_from.Goals as goal
@@ -14,7 +15,7 @@ returns-in-Ok-default-clause-place g c =
     placed g.T.IdOrdItem.key (g.Q.Comparable.compare c.args.query.now) c.args.store.now c.args.self.now.slots c.requires.occupied (Ok c.in-Ok-default.position) (subst (λ i. IsPlace (slot_standing g.T.IdOrdItem.key (g.Q.Comparable.compare c.args.query.now) c.args.store.now) i.slots (Ok c.in-Ok-default.position)) c.self.view_is place)
 
 pub returns-in-Ok-default-clause-steps : goal.returns-in-Ok-default-clause-steps
-returns-in-Ok-default-clause-steps g c = omega (arith, height_bound c.self.inside.root c.self.invariant.dense c.self.invariant.top, ap (λ i. digits (length i.slots)) c.self.view_is, c.find_leaves.ensures.steps)
+returns-in-Ok-default-clause-steps g c = CountsAtMost-le c.find_leaves.ensures.steps (omega (arith, height_bound c.self.inside.root c.self.invariant.dense c.self.invariant.top, ap (λ i. digits (length i.slots)) c.self.view_is))
 
 pub returns-in-Err-default-clause-place : goal.returns-in-Err-default-clause-place
 returns-in-Err-default-clause-place g c =
@@ -22,4 +23,4 @@ returns-in-Err-default-clause-place g c =
     placed g.T.IdOrdItem.key (g.Q.Comparable.compare c.args.query.now) c.args.store.now c.args.self.now.slots c.requires.occupied (Err c.in-Err-default.position) (subst (λ i. IsPlace (slot_standing g.T.IdOrdItem.key (g.Q.Comparable.compare c.args.query.now) c.args.store.now) i.slots (Err c.in-Err-default.position)) c.self.view_is place)
 
 pub returns-in-Err-default-clause-steps : goal.returns-in-Err-default-clause-steps
-returns-in-Err-default-clause-steps g c = omega (arith, height_bound c.self.inside.root c.self.invariant.dense c.self.invariant.top, ap (λ i. digits (length i.slots)) c.self.view_is, c.find_leaves.ensures.steps)
+returns-in-Err-default-clause-steps g c = CountsAtMost-le c.find_leaves.ensures.steps (omega (arith, height_bound c.self.inside.root c.self.invariant.dense c.self.invariant.top, ap (λ i. digits (length i.slots)) c.self.view_is))

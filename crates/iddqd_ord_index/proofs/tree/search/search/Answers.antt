@@ -28,7 +28,10 @@ returns-in-Equal-clause-place g c =
     (within, ap (standing key compare) read ∙ answer)
 
 pub returns-in-Equal-clause-steps : goal.returns-in-Equal-clause-steps
-returns-in-Equal-clause-steps g c = omega (arith, digits-fewer (c.loop-low.high - c.loop-low.low) 0 (omega arith) (omega arith))
+returns-in-Equal-clause-steps g c = record {
+  at_most = omega (arith, digits-fewer (c.loop-low.high - c.loop-low.low) 0 (omega arith) (omega arith));
+  never_resets = omega arith;
+}
 
 pub loop-low-preserved-in-Greater : goal.loop-low-preserved-in-Greater
 loop-low-preserved-in-Greater g c =

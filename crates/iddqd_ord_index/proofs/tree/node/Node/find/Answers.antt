@@ -44,8 +44,10 @@ returns-in-Ok-clause-slot g c =
     slice_get-get_or c.args.self.now.slots (c.down.base + c.start.result - 1) 0 o.0 ∙ ap Some (o.2 ∙ ap (λ l. get_or l c.in-Ok.i 0) (sym c.as_slice-in-Ok.ensures.value))
 
 pub returns-in-Ok-clause-steps : goal.returns-in-Ok-clause-steps
-returns-in-Ok-clause-steps g c =
-    omega (arith, digits_four (length c.as_slice.result.now) c.as_slice.ensures.fits, c.down.invariant.counted, c.in-Ok.ensures.steps, inner_levels (below c.node.inside.branches) c.node.inside.slots.items c.node.invariant.forked (c.is_empty.ensures.some c.down-test.true), ap (λ t. t.height) c.node.view_is)
+returns-in-Ok-clause-steps g c = record {
+  at_most = omega (arith, digits_four (length c.as_slice.result.now) c.as_slice.ensures.fits, c.down.invariant.counted, c.in-Ok.ensures.steps.at_most, inner_levels (below c.node.inside.branches) c.node.inside.slots.items c.node.invariant.forked (c.is_empty.ensures.some c.down-test.true), ap (λ t. t.height) c.node.view_is);
+  never_resets = omega (arith, c.down.invariant.never_resets, c.in-Ok.ensures.steps.never_resets);
+}
 
 pub start-base-requires-clause-room : goal.start-base-requires-clause-room
 start-base-requires-clause-room g c =
@@ -65,8 +67,8 @@ down-preserved g c =
     let b = n.branch c.in-Err.i s.0 in
     record {
       part = n.down c.in-Err.i c.start-base.result c.get-node.result.now s c.start-base.ensures c.get-node.ensures;
-      counted = omega (arith, digits_four (length c.as_slice.result.now) c.as_slice.ensures.fits, c.down.invariant.counted, c.in-Err.ensures.steps, b.1.height, ap (λ t. t.height) c.get-node.ensures, ap (λ t. t.height) c.node.view_is);
-      never_resets = omega (arith, c.down.invariant.never_resets, c.in-Err.ensures.never_resets);
+      counted = omega (arith, digits_four (length c.as_slice.result.now) c.as_slice.ensures.fits, c.down.invariant.counted, c.in-Err.ensures.steps.at_most, b.1.height, ap (λ t. t.height) c.get-node.ensures, ap (λ t. t.height) c.node.view_is);
+      never_resets = omega (arith, c.down.invariant.never_resets, c.in-Err.ensures.steps.never_resets);
     }
 
 pub search-requires-2-clause-occupied : goal.search-requires-2-clause-occupied
@@ -98,8 +100,10 @@ returns-in-Ok-search-clause-slot g c =
     slice_get-get_or c.args.self.now.slots (c.down.base + c.in-Ok-search.i) 0 (omega (arith, n.fits, s.0)) ∙ ap Some (n.same c.in-Ok-search.i s.0 ∙ ap (λ l. get_or l c.in-Ok-search.i 0) (sym c.as_slice-in-Ok-search.ensures.value))
 
 pub returns-in-Ok-search-clause-steps : goal.returns-in-Ok-search-clause-steps
-returns-in-Ok-search-clause-steps g c =
-    omega (arith, digits_four (length c.as_slice-2.result.now) c.as_slice-2.ensures.fits, c.down.invariant.counted, c.in-Ok-search.ensures.steps, leaf_levels (below c.node.inside.branches) (c.is_empty.ensures.none c.down-test.false), ap (λ t. t.height) c.node.view_is)
+returns-in-Ok-search-clause-steps g c = record {
+  at_most = omega (arith, digits_four (length c.as_slice-2.result.now) c.as_slice-2.ensures.fits, c.down.invariant.counted, c.in-Ok-search.ensures.steps.at_most, leaf_levels (below c.node.inside.branches) (c.is_empty.ensures.none c.down-test.false), ap (λ t. t.height) c.node.view_is);
+  never_resets = omega (arith, c.down.invariant.never_resets, c.in-Ok-search.ensures.steps.never_resets);
+}
 
 pub overflow_add-result-in-Err-search : goal.overflow_add-result-in-Err-search
 overflow_add-result-in-Err-search g c =
@@ -114,5 +118,7 @@ returns-in-Err-search-clause-place g c =
     n.missed c.in-Err-search.i s
 
 pub returns-in-Err-search-clause-steps : goal.returns-in-Err-search-clause-steps
-returns-in-Err-search-clause-steps g c =
-    omega (arith, digits_four (length c.as_slice-2.result.now) c.as_slice-2.ensures.fits, c.down.invariant.counted, c.in-Err-search.ensures.steps, leaf_levels (below c.node.inside.branches) (c.is_empty.ensures.none c.down-test.false), ap (λ t. t.height) c.node.view_is)
+returns-in-Err-search-clause-steps g c = record {
+  at_most = omega (arith, digits_four (length c.as_slice-2.result.now) c.as_slice-2.ensures.fits, c.down.invariant.counted, c.in-Err-search.ensures.steps.at_most, leaf_levels (below c.node.inside.branches) (c.is_empty.ensures.none c.down-test.false), ap (λ t. t.height) c.node.view_is);
+  never_resets = omega (arith, c.down.invariant.never_resets, c.in-Err-search.ensures.steps.never_resets);
+}

@@ -53,8 +53,10 @@ returns-in-Ok-clause-walk g c =
     (own_begins c.args.self.now.slots c.down.base (below c.node.inside.branches) c.node.inside.slots.items (behind (lists (subtrees c.down.leaves.now)) c.down.slots.now) c.down.node.now c.node.view_is c.down.invariant.walk c.node.invariant.forked (c.is_empty.ensures.some c.down-test.true) c.in-Ok.i (n.branch c.in-Ok.i (omega (arith, s.0))).0 c.as_slice-own.result.now (c.down.base + c.start.result - 1) c.as_slice-own.ensures.value s.0 (omega (arith, n.own_some c.in-Ok.i s.0, c.start.ensures)))
 
 pub returns-in-Ok-clause-steps : goal.returns-in-Ok-clause-steps
-returns-in-Ok-clause-steps g c =
-    omega (arith, digits_four (length c.as_slice-own.result.now) c.as_slice-own.ensures.fits, c.down.invariant.counted, c.in-Ok.ensures.steps, inner_levels (below c.node.inside.branches) c.node.inside.slots.items c.node.invariant.forked (c.is_empty.ensures.some c.down-test.true), ap (λ t. t.height) c.node.view_is)
+returns-in-Ok-clause-steps g c = record {
+  at_most = omega (arith, digits_four (length c.as_slice-own.result.now) c.as_slice-own.ensures.fits, c.down.invariant.counted, c.in-Ok.ensures.steps.at_most, inner_levels (below c.node.inside.branches) c.node.inside.slots.items c.node.invariant.forked (c.is_empty.ensures.some c.down-test.true), ap (λ t. t.height) c.node.view_is);
+  never_resets = omega (arith, c.down.invariant.never_resets, c.in-Ok.ensures.steps.never_resets);
+}
 
 pub start-base-requires-clause-room : goal.start-base-requires-clause-room
 start-base-requires-clause-room g c =
@@ -80,8 +82,8 @@ down-preserved g c =
       cells = omega (arith, c.branches_after-leaves.ensures.present, ap length u, ap length o, length-drop (c.in-Err.i + 1) (below c.node.inside.branches), length-drop c.in-Err.i c.node.inside.slots.items, c.node.invariant.forked.fork (c.is_empty.ensures.some c.down-test.true));
       present = c.branches_after-leaves.ensures.present;
       heights = subst (All (λ t. t.height ≡ c.get-node.result.now.height)) (sym u) (heights_behind (below c.node.inside.branches) c.node.inside.slots.items c.node.invariant.forked c.in-Err.i b.0 c.get-node.result.now c.get-node.ensures);
-      counted = omega (arith, digits_four (length c.as_slice-own.result.now) c.as_slice-own.ensures.fits, c.down.invariant.counted, c.in-Err.ensures.steps, b.1.height, ap (λ t. t.height) c.get-node.ensures, ap (λ t. t.height) c.node.view_is);
-      never_resets = omega (arith, c.down.invariant.never_resets, c.in-Err.ensures.never_resets);
+      counted = omega (arith, digits_four (length c.as_slice-own.result.now) c.as_slice-own.ensures.fits, c.down.invariant.counted, c.in-Err.ensures.steps.at_most, b.1.height, ap (λ t. t.height) c.get-node.ensures, ap (λ t. t.height) c.node.view_is);
+      never_resets = omega (arith, c.down.invariant.never_resets, c.in-Err.ensures.steps.never_resets);
     }
 
 pub search-requires-2-clause-occupied : goal.search-requires-2-clause-occupied
@@ -99,8 +101,10 @@ returns-in-Ok-search-clause-walk g c =
     leaf_begins c.args.self.now.slots c.down.base (below c.node.inside.branches) c.node.inside.slots.items (behind (lists (subtrees c.down.leaves.now)) c.down.slots.now) c.down.node.now c.node.view_is c.down.invariant.walk (c.is_empty.ensures.none c.down-test.false) c.as_slice-own-2.result.now c.in-Ok-search.i c.as_slice-own-2.ensures.value (omega (arith, c.in-Ok-search.ensures.place.0))
 
 pub returns-in-Ok-search-clause-steps : goal.returns-in-Ok-search-clause-steps
-returns-in-Ok-search-clause-steps g c =
-    omega (arith, digits_four (length c.as_slice-own-2.result.now) c.as_slice-own-2.ensures.fits, c.down.invariant.counted, c.in-Ok-search.ensures.steps, leaf_levels (below c.node.inside.branches) (c.is_empty.ensures.none c.down-test.false), ap (λ t. t.height) c.node.view_is)
+returns-in-Ok-search-clause-steps g c = record {
+  at_most = omega (arith, digits_four (length c.as_slice-own-2.result.now) c.as_slice-own-2.ensures.fits, c.down.invariant.counted, c.in-Ok-search.ensures.steps.at_most, leaf_levels (below c.node.inside.branches) (c.is_empty.ensures.none c.down-test.false), ap (λ t. t.height) c.node.view_is);
+  never_resets = omega (arith, c.down.invariant.never_resets, c.in-Ok-search.ensures.steps.never_resets);
+}
 
 pub returns-in-Err-search-clause-place : goal.returns-in-Err-search-clause-place
 returns-in-Err-search-clause-place g c =
@@ -112,5 +116,7 @@ returns-in-Err-search-clause-walk g c =
     leaf_begins c.args.self.now.slots c.down.base (below c.node.inside.branches) c.node.inside.slots.items (behind (lists (subtrees c.down.leaves.now)) c.down.slots.now) c.down.node.now c.node.view_is c.down.invariant.walk (c.is_empty.ensures.none c.down-test.false) c.as_slice-own-2.result.now c.in-Err-search.i c.as_slice-own-2.ensures.value c.in-Err-search.ensures.place.0
 
 pub returns-in-Err-search-clause-steps : goal.returns-in-Err-search-clause-steps
-returns-in-Err-search-clause-steps g c =
-    omega (arith, digits_four (length c.as_slice-own-2.result.now) c.as_slice-own-2.ensures.fits, c.down.invariant.counted, c.in-Err-search.ensures.steps, leaf_levels (below c.node.inside.branches) (c.is_empty.ensures.none c.down-test.false), ap (λ t. t.height) c.node.view_is)
+returns-in-Err-search-clause-steps g c = record {
+  at_most = omega (arith, digits_four (length c.as_slice-own-2.result.now) c.as_slice-own-2.ensures.fits, c.down.invariant.counted, c.in-Err-search.ensures.steps.at_most, leaf_levels (below c.node.inside.branches) (c.is_empty.ensures.none c.down-test.false), ap (λ t. t.height) c.node.view_is);
+  never_resets = omega (arith, c.down.invariant.never_resets, c.in-Err-search.ensures.steps.never_resets);
+}

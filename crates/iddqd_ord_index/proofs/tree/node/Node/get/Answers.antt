@@ -27,8 +27,10 @@ returns-in-Ok-clause-found g c =
     (p, ap (λ l. get_or l c.in-Ok.i 0) c.as_slice-in-Ok.ensures.value ∙ sym o.2, (o.0, o.1))
 
 pub returns-in-Ok-clause-steps : goal.returns-in-Ok-clause-steps
-returns-in-Ok-clause-steps g c =
-    omega (arith, digits_four (length c.as_slice.result.now) c.as_slice.ensures.fits, c.down.invariant.counted, c.in-Ok.ensures.steps, inner_levels (below c.node.inside.branches) c.node.inside.slots.items c.node.invariant.forked (c.is_empty.ensures.some c.down-test.true), ap (λ t. t.height) c.node.view_is)
+returns-in-Ok-clause-steps g c = record {
+  at_most = omega (arith, digits_four (length c.as_slice.result.now) c.as_slice.ensures.fits, c.down.invariant.counted, c.in-Ok.ensures.steps.at_most, inner_levels (below c.node.inside.branches) c.node.inside.slots.items c.node.invariant.forked (c.is_empty.ensures.some c.down-test.true), ap (λ t. t.height) c.node.view_is);
+  never_resets = omega (arith, c.down.invariant.never_resets, c.in-Ok.ensures.steps.never_resets);
+}
 
 pub down-preserved : goal.down-preserved
 down-preserved g c =
@@ -37,8 +39,8 @@ down-preserved g c =
     let b = n.branch c.in-Err.i s.0 in
     record {
       part = (c.down.invariant.part.0 + starts (take c.in-Err.i (lists (below c.node.inside.branches))), n.down c.in-Err.i _ c.get-node.result.now s refl c.get-node.ensures);
-      counted = omega (arith, digits_four (length c.as_slice.result.now) c.as_slice.ensures.fits, c.down.invariant.counted, c.in-Err.ensures.steps, b.1.height, ap (λ t. t.height) c.get-node.ensures, ap (λ t. t.height) c.node.view_is);
-      never_resets = omega (arith, c.down.invariant.never_resets, c.in-Err.ensures.never_resets);
+      counted = omega (arith, digits_four (length c.as_slice.result.now) c.as_slice.ensures.fits, c.down.invariant.counted, c.in-Err.ensures.steps.at_most, b.1.height, ap (λ t. t.height) c.get-node.ensures, ap (λ t. t.height) c.node.view_is);
+      never_resets = omega (arith, c.down.invariant.never_resets, c.in-Err.ensures.steps.never_resets);
     }
 
 pub search-requires-2-clause-occupied : goal.search-requires-2-clause-occupied
@@ -59,8 +61,10 @@ returns-in-Ok-search-clause-found g c =
     (c.down.invariant.part.0 + c.in-Ok-search.i, ap (λ l. get_or l c.in-Ok-search.i 0) c.as_slice-in-Ok-search.ensures.value ∙ sym (n.same c.in-Ok-search.i s.0), o)
 
 pub returns-in-Ok-search-clause-steps : goal.returns-in-Ok-search-clause-steps
-returns-in-Ok-search-clause-steps g c =
-    omega (arith, digits_four (length c.as_slice-2.result.now) c.as_slice-2.ensures.fits, c.down.invariant.counted, c.in-Ok-search.ensures.steps, leaf_levels (below c.node.inside.branches) (c.is_empty.ensures.none c.down-test.false), ap (λ t. t.height) c.node.view_is)
+returns-in-Ok-search-clause-steps g c = record {
+  at_most = omega (arith, digits_four (length c.as_slice-2.result.now) c.as_slice-2.ensures.fits, c.down.invariant.counted, c.in-Ok-search.ensures.steps.at_most, leaf_levels (below c.node.inside.branches) (c.is_empty.ensures.none c.down-test.false), ap (λ t. t.height) c.node.view_is);
+  never_resets = omega (arith, c.down.invariant.never_resets, c.in-Ok-search.ensures.steps.never_resets);
+}
 
 pub returns-in-Err-search-clause-found : goal.returns-in-Err-search-clause-found
 returns-in-Err-search-clause-found g c =
@@ -69,5 +73,7 @@ returns-in-Err-search-clause-found g c =
     (c.down.invariant.part.0 + c.in-Err-search.field-0, n.missed c.in-Err-search.field-0 s)
 
 pub returns-in-Err-search-clause-steps : goal.returns-in-Err-search-clause-steps
-returns-in-Err-search-clause-steps g c =
-    omega (arith, digits_four (length c.as_slice-2.result.now) c.as_slice-2.ensures.fits, c.down.invariant.counted, c.in-Err-search.ensures.steps, leaf_levels (below c.node.inside.branches) (c.is_empty.ensures.none c.down-test.false), ap (λ t. t.height) c.node.view_is)
+returns-in-Err-search-clause-steps g c = record {
+  at_most = omega (arith, digits_four (length c.as_slice-2.result.now) c.as_slice-2.ensures.fits, c.down.invariant.counted, c.in-Err-search.ensures.steps.at_most, leaf_levels (below c.node.inside.branches) (c.is_empty.ensures.none c.down-test.false), ap (λ t. t.height) c.node.view_is);
+  never_resets = omega (arith, c.down.invariant.never_resets, c.in-Err-search.ensures.steps.never_resets);
+}
