@@ -5,7 +5,9 @@
 --     AreRising slots      the slots rise
 --     FindsItemFrom slots items n found      what is found from this number on: the slot with its item, or none
 --     behind slots n      the number behind the n-th slot, and 0 in front of the first
-use Rattle.std.specs.Prelude.{◌≡◌, ℕ, ◌+◌, ◌≤◌, IfNone, IfSome, List, Option, Some, length, slice_get, [], ◌∷◌, nat_lt, slice_index_or, if◌then◌else◌}
+--     GoesOnAt slots from      a slot comes behind the one that this number is behind
+--     FindsSlotFrom slots items n slot      the first slot from this number on
+use Rattle.std.specs.Prelude.{◌≡◌, ℕ, ◌+◌, ◌<◌, ◌≤◌, IfNone, IfSome, List, Option, Some, length, slice_get, [], ◌∷◌, nat_lt, slice_index_or, if◌then◌else◌}
 use Rattle.std.specs.Borrow.{Bor}
 use Rattle.std.proofs.Common.{zero, suc}
 use Rattle.iddqd_store.specs.SlotItems.{HaveSlots, item_of_slot}
@@ -33,5 +35,15 @@ pub record FindsItemFrom {T : Type 0} (slots : List ℕ) (items : List T) (from 
   pub there : IfSome found (λ f. IsNext slots from f.0)
   pub item : IfSome found (λ f. item_of_slot slots items f.0 ≡ Some f.1.now)
   pub none : IfNone found (AreBelow slots from)
+  pub rises : AreRising slots
+  pub own : HaveSlots slots items
+
+-- this is the number behind the n-th slot, and a further one comes
+abbrev pub GoesOnAt : List ℕ → ℕ → Type 0
+GoesOnAt slots from = (n : ℕ) × (from ≡ behind slots n) × (n < length slots)
+
+-- the first slot from this number on
+pub record FindsSlotFrom {T : Type 0} (slots : List ℕ) (items : List T) (from slot : ℕ) : Type 0 where
+  pub there : IsNext slots from slot
   pub rises : AreRising slots
   pub own : HaveSlots slots items

@@ -8,7 +8,7 @@ mod walk;
 
 ghost use Rattle.std.specs.Prelude.{◌≡◌, ◌+◌, ◌-◌, ◌<◌, ◌≤◌, [], length, IfSome, IfNone, IfOk, Some, None, OnSome, option_copied, slice_set, vec_capacity, Err};
 ghost use Rattle.std.specs.Borrow.{sem};
-ghost use Rattle.iddqd_store.specs.Store.{item_at, AreVacant, IsFirstOccupied, IsOccupied, store_len, vacant, HasRoomFor, Updates, SameItems, MovesLast, EndsOccupied, IsStoreClone, with_item};
+ghost use Rattle.iddqd_store.specs.Store.{item_at, AreVacant, AreVacantFrom, IsFirstOccupied, IsOccupied, store_len, vacant, HasRoomFor, Updates, SameItems, MovesLast, EndsOccupied, IsStoreClone, with_item};
 
 use crate::errors::TryReserveError;
 use chain::{NO_SLOT, Slot, fill_first, vacate};
@@ -166,8 +166,8 @@ impl<T> ItemStore<T> {
         }
     }
 
-    // Does the same slot by slot. A function of its own, so that a walk from item to item is short.
-    #[inline(never)]
+    // Does the same slot by slot.
+    #[inline]
     fn skip_vacant(&self, from: u32) -> Option<(u32, &T)>
         // if a slot has an item
         ensures slot { IfSome result (λ found. IsFirstOccupied self.now from found.0) }
@@ -177,12 +177,39 @@ impl<T> ItemStore<T> {
         // if none has
         ensures none { IfNone result (AreVacant self.now from (length self.now.slots)) }
     {
+        let slot = self.first_occupied(from);
+        let item = self.get(slot)?;
+        Some((slot, item))
+    }
+
+    // Returns the slot alone, or `NO_SLOT`. A function of its own, so that a walk from item to item is short. It
+    // returns a number, since the compiler would clear the room for a pair at each item.
+    #[inline(never)]
+    fn first_occupied(&self, from: u32) -> u32
+        ensures slot { IsOccupied self.now result → IsFirstOccupied self.now from result }
+        ensures number { IsOccupied self.now result → result < u32.MAX }
+        ensures none { item_at self.now result ≡ None → AreVacantFrom self.now from }
+    {
         for slot in from as usize..self.slots.len() {
-            if let Slot::Occupied(item) = &self.slots[slot] {
-                return Some((slot as u32, item));
+            if let Slot::Occupied(_) = &self.slots[slot] {
+                return slot as u32;
             }
         }
-        None
+        NO_SLOT
+    }
+
+    /// Returns the first occupied slot from this number on. There must be one. It looks at each slot up to that one
+    /// once, and at the first of them twice if that is vacant.
+    #[inline]
+    pub fn occupied_from(&self, from: u32) -> u32
+        requires { ¬ AreVacantFrom self.now from }
+        ensures slot { IsFirstOccupied self.now from result }
+        ensures number { result < u32.MAX }
+    {
+        match &self.slots[from as usize] {
+            Slot::Occupied(_) => from,
+            Slot::Vacant(_) => self.first_occupied(from),
+        }
     }
 
     /// Returns the item of an occupied slot, for writing.

@@ -6,7 +6,7 @@ ghost use Rattle.iddqd_store.specs.Errors.{values_of};
 ghost use Rattle.iddqd_store.specs.Holding.{Removes};
 ghost use Rattle.iddqd_store.specs.SlotItems.{item_of_slot};
 ghost use Rattle.iddqd_bi_hash.specs.TwoKeys.{as_list, other_slot};
-ghost use Rattle.iddqd_hash_parts.specs.SlotOrder.{FindsItemFrom};
+ghost use Rattle.iddqd_hash_parts.specs.SlotOrder.{FindsItemFrom, FindsSlotFrom, GoesOnAt};
 ghost use Rattle.iddqd_hash_parts.specs.SlotsFound.{values_if_any};
 
 use super::by_key::{First, Second};
@@ -14,7 +14,7 @@ use super::store_and_indexes::remove_from_all;
 use super::{BiHashMap, Keyed};
 use crate::both::Both;
 use crate::items::BiHashItem;
-use iddqd_hash_parts::{find_slot, item_from, rising_slots};
+use iddqd_hash_parts::{find_slot, item_from, rising_slots, slot_from};
 use iddqd_store::{Equivalent, Few, Steps};
 use std::hash::BuildHasher;
 
@@ -80,6 +80,17 @@ impl<T, S> BiHashMap<T, S> {
         ensures spare_fits { SpareFits self.now }
     {
         item_from(&self.store, from)
+    }
+
+    // Returns the first slot from this number on that has an item. There must be one, and the number must be 0 or that
+    // behind another such slot. Looks at each slot up to that one.
+    #[inline]
+    pub(super) fn slot_from(&self, from: u32) -> u32
+        requires { GoesOnAt self.now.slots from }
+        ensures found { FindsSlotFrom self.now.slots self.now.items from result }
+        ensures fits { result < u32.MAX }
+    {
+        slot_from(&self.store, from)
     }
 }
 

@@ -4,10 +4,10 @@ ghost use Rattle.std.specs.Borrow.{sem};
 ghost use Rattle.iddqd_store.specs.Counting.{CountsAtMost};
 ghost use Rattle.iddqd_store.specs.Holding.{Removes};
 ghost use Rattle.iddqd_store.specs.SlotItems.{item_of_slot};
-ghost use Rattle.iddqd_hash_parts.specs.SlotOrder.{FindsItemFrom};
+ghost use Rattle.iddqd_hash_parts.specs.SlotOrder.{FindsItemFrom, FindsSlotFrom, GoesOnAt};
 
 use super::{IdHashMap, Keyed};
-use iddqd_hash_parts::{find_slot, item_from, remove_from_both};
+use iddqd_hash_parts::{find_slot, item_from, remove_from_both, slot_from};
 use iddqd_store::{Equivalent, IdHashItem, OwnKey, Steps};
 use std::hash::BuildHasher;
 
@@ -42,6 +42,17 @@ impl<T, S> IdHashMap<T, S> {
         ensures spare_fits { SpareFits self.now }
     {
         item_from(&self.store, from)
+    }
+
+    // Returns the first slot from this number on that has an item. There must be one, and the number must be 0 or that
+    // behind another such slot. Looks at each slot up to that one.
+    #[inline]
+    pub(super) fn slot_from(&self, from: u32) -> u32
+        requires { GoesOnAt self.now.slots from }
+        ensures found { FindsSlotFrom self.now.slots self.now.items from result }
+        ensures fits { result < u32.MAX }
+    {
+        slot_from(&self.store, from)
     }
 }
 

@@ -40,6 +40,7 @@ impl<T, S> IterMut<'_, T, S> {
 impl<T: BiHashItem, S: BuildHasher> IterMut<'_, T, S> {
     /// Returns the next item, for writing, or `None` for good after the last one. It looks at each slot on its way. A
     /// keyed map stays keyed if both keys written are equal to the item's.
+    #[inline]
     pub fn next(&mut self) -> Option<&mut T>
         ensures* writes_back { sem 𝓛 (walk_lends S.row T.row self.entry result) }
         ensures value { option_copied_mut result ≡ walk_item self.old }
@@ -48,7 +49,7 @@ impl<T: BiHashItem, S: BuildHasher> IterMut<'_, T, S> {
         ensures keyed_akin { WalkKeepsAkin ⟦<BiHashMap<T, S> as Keyed>⟧ self.old result }
     {
         if self.done < self.map.len() {
-            let (slot, _) = self.map.item_from(self.next)?;
+            let slot = self.map.slot_from(self.next);
             self.done += 1;
             self.next = slot + 1;
             Some(self.map.item_in_slot_mut(slot))

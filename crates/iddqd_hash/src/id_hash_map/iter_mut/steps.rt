@@ -49,7 +49,7 @@ impl<T: IdHashItem, S: BuildHasher> IterMut<'_, T, S> {
         ensures keyed_akin { WalkKeepsAkin ⟦<IdHashMap<T, S> as Keyed>⟧ self.old result }
     {
         if self.done < self.map.len() {
-            let (slot, _) = self.map.item_from(self.next)?;
+            let slot = self.map.slot_from(self.next);
             self.done += 1;
             self.next = slot + 1;
             Some(self.map.item_in_slot_mut(slot))

@@ -15,28 +15,33 @@ use Rattle.iddqd_hash.proofs.id_hash_map.iter_mut.IterMut.next.Goals as goal
 all_same : {A : Type 0} {n b : ℕ} (p q : A → n ≡ b) → p ≡ q
 all_same p q i w = ℕ_set _ _ (p w) (q w) i
 
+pub slot_from-slot-requires : goal.slot_from-slot-requires
+slot_from-slot-requires g c =
+    let walk = c.args.self.now in
+    (walk.done, walk.from, omega (arith, c.if-self-len.true, c.len.ensures.len, c.len.ensures.slots.as_many))
+
 pub item_in_slot_mut-requires : goal.item_in_slot_mut-requires
 item_in_slot_mut-requires g c =
     let m = c.args.self.now.map.now in
-    let found = c.in_ok-slot.ensures.found in
-    there_listed m.slots (slots_below c.args.self.now.next m.slots) c.in_ok-slot.slot found.there m.items found.own
+    let found = c.slot_from-slot.ensures.found in
+    there_listed m.slots (slots_below c.args.self.now.next m.slots) c.slot_from-slot.result found.there m.items found.own
 
-pub invariant_of-self-then-self-len : goal.invariant_of-self-then-self-len
-invariant_of-self-then-self-len g c =
+pub invariant_of-self-lent : goal.invariant_of-self-lent
+invariant_of-self-lent g c w =
     let walk = c.args.self.now in
     let m = walk.map.now in
-    let slot = c.in_ok-slot.slot in
-    let found = c.in_ok-slot.ensures.found in
+    let slot = c.slot_from-slot.result in
+    let found = c.slot_from-slot.ensures.found in
     let below : slots_below walk.next m.slots ≡ walk.done = ap (λ n. slots_below n m.slots) walk.from ∙ found.rises walk.done (omega (arith, c.if-self-len.true, c.len.ensures.len, found.own.as_many)) in
-    record { from = behind_next m.slots walk.done slot (ap (slice_get m.slots) (sym below) ∙ found.there) }
+    (behind_next m.slots walk.done slot (ap (slice_get m.slots) (sym below) ∙ found.there), tt)
 
-pub returns-in_ok-slot : goal.returns-in_ok-slot
+pub returns-then-self-len : goal.returns-then-self-len
 unfolding IsKeyed
-returns-in_ok-slot g c =
+returns-then-self-len g c =
     let walk = c.args.self.now in
     let m = walk.map.now in
-    let slot = c.in_ok-slot.slot in
-    let found = c.in_ok-slot.ensures.found in
+    let slot = c.slot_from-slot.result in
+    let found = c.slot_from-slot.ensures.found in
     let below : slots_below walk.next m.slots ≡ walk.done = ap (λ n. slots_below n m.slots) walk.from ∙ found.rises walk.done (omega (arith, c.if-self-len.true, c.len.ensures.len, found.own.as_many)) in
     let there : slice_get m.slots walk.done ≡ Some slot = ap (slice_get m.slots) (sym below) ∙ found.there in
     let read = place_read m.slots m.items walk.done slot found.own there in

@@ -1,6 +1,6 @@
 use Rattle.std.proofs.Common.{◌≡◌, ◌≤◌, length}
 use Rattle.iddqd_store.specs.Store.{AreVacant}
-use Rattle.iddqd_store.proofs.item_store.ItemStore.skip_vacant.Given as goal
+use Rattle.iddqd_store.proofs.item_store.ItemStore.first_occupied.Given as goal
 
 abbrev pub invariant-loop-slot : goal.invariant-loop-slot
 invariant-loop-slot g l =
