@@ -6,7 +6,6 @@ ghost use Rattle.iddqd_ord_index.specs.Listed.{AreOccupied};
 ghost use Rattle.iddqd_ord_index.specs.Standing.{StandsAt, StandsMonotone};
 
 use iddqd_store::{Comparable, IdOrdItem, ItemStore, Steps};
-use std::cmp::Ordering;
 
 /// Returns the place of the slot whose item the query stands for, or the place where it belongs. It makes at most
 /// as many comparisons as the number of slots has binary digits.
@@ -28,10 +27,14 @@ pub fn search<T: IdOrdItem, Q: Comparable<T::Key>>(
     while low < high {
         let middle = low + (high - low) / 2;
         let item = store.item(slots[middle]);
-        match steps.compare(query, item.key()) {
-            Ordering::Equal => return Ok(middle),
-            Ordering::Greater => low = middle + 1,
-            Ordering::Less => high = middle,
+        // Of a match on the order the compiler makes a number, and tests that again; of this it makes two jumps.
+        let order = steps.compare(query, item.key()) as i8;
+        if order > 0 {
+            low = middle + 1;
+        } else if order < 0 {
+            high = middle;
+        } else {
+            return Ok(middle);
         }
     }
     Err(low)

@@ -1,4 +1,4 @@
-use Rattle.std.proofs.Common.{◌≡◌, ◌+◌, ◌-◌, ◌/◌, ◌<◌, ◌∙◌, length, get_or, arith, ap, Some, Less, Equal, Greater}
+use Rattle.std.proofs.Common.{rules, ◌≡◌, ◌+◌, ◌-◌, ◌/◌, ◌<◌, ◌∙◌, length, get_or, arith, ap, Some, Less, Greater}
 use Rattle.iddqd_store.specs.Store.{item_at}
 use Rattle.iddqd_ord_index.specs.Standing.{slot_standing, standing}
 use Rattle.iddqd_ord_index.proofs.DigitLemmas.{digits-fewer, digits_mono}
@@ -16,25 +16,14 @@ loop-low-init g c = record {
   counted = omega (arith, digits_mono (length c.args.slots.now - 0) (length c.args.slots.now) (omega arith));
 }
 
-pub returns-in-Equal-clause-place : goal.returns-in-Equal-clause-place
-returns-in-Equal-clause-place g c =
-    let middle = c.loop-low.low + (c.loop-low.high - c.loop-low.low) / 2 in
-    let within : middle < length c.args.slots.now = omega (arith, c.loop-low.invariant.within) in
-    let compare = g.Q.Comparable.compare c.args.query.now in
-    let key = g.T.IdOrdItem.key in
-    let item = c.item-item.result.now in
-    let read : item_at c.args.store.now (get_or c.args.slots.now middle 0) ≡ Some item = c.item-item.ensures in
-    let answer : compare (key item) ≡ Equal = cc in
-    (within, ap (standing key compare) read ∙ answer)
-
-pub returns-in-Equal-clause-steps : goal.returns-in-Equal-clause-steps
-returns-in-Equal-clause-steps g c = record {
+pub returns-else-order-lt0-clause-steps : goal.returns-else-order-lt0-clause-steps
+returns-else-order-lt0-clause-steps g c = record {
   at_most = omega (arith, digits-fewer (c.loop-low.high - c.loop-low.low) 0 (omega arith) (omega arith));
   never_resets = omega arith;
 }
 
-pub loop-low-preserved-in-Greater : goal.loop-low-preserved-in-Greater
-loop-low-preserved-in-Greater g c =
+pub loop-low-preserved-then-order-gt0 : goal.loop-low-preserved-then-order-gt0
+loop-low-preserved-then-order-gt0 g c =
     let low = c.loop-low.low in
     let high = c.loop-low.high in
     let middle = low + (high - low) / 2 in
@@ -43,7 +32,7 @@ loop-low-preserved-in-Greater g c =
     let key = g.T.IdOrdItem.key in
     let item = c.item-item.result.now in
     let read : item_at c.args.store.now (get_or c.args.slots.now middle 0) ≡ Some item = c.item-item.ensures in
-    let answer : compare (key item) ≡ Greater = cc in
+    let answer : compare (key item) ≡ Greater = search rules in
     record {
       ordered = omega arith;
       within = c.loop-low.invariant.within;
@@ -64,7 +53,7 @@ loop-low-preserved g c =
     let key = g.T.IdOrdItem.key in
     let item = c.item-item.result.now in
     let read : item_at c.args.store.now (get_or c.args.slots.now middle 0) ≡ Some item = c.item-item.ensures in
-    let answer : compare (key item) ≡ Less = cc in
+    let answer : compare (key item) ≡ Less = search rules in
     record {
       ordered = omega arith;
       within = omega (arith, c.loop-low.invariant.within);
