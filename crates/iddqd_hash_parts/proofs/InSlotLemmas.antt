@@ -2,16 +2,20 @@
 --     added_item, added_written, added_others      where a vacant slot was given an item: the item of that slot, a write to it, and the others
 --     place_lost      where a slot was vacated: the items and the slots without its place
 --     told_listed, listed_told      the hash that is stored for a slot's item, and under which the slot is listed
+--     stored_in_slot      in a keyed map that is the hash of the item's key
 --     finds_slot      what a search of one index says of the map
 use Rattle.std.proofs.Common.{◌≡◌, ◌↔◌, ℕ, Bool, true, List, get_or, set, Option, Some, None, IfSome, IsSomeAnd, is_some, sym, ap, ◌∙◌, subst, ⊎_elim}
 use Rattle.std.proofs.lemmas.Bool.{cases_eq}
+use Rattle.std.specs.Hash.{HashWrites}
 use Rattle.std.specs.List.{Contains, remove, slice_get}
+use Rattle.std.specs.Option.{option_map}
 use Rattle.iddqd_store.specs.Contents.{AddsItem}
 use Rattle.iddqd_store.specs.SlotItems.{item_of_slot, without_slot, written_to_slot}
 use Rattle.iddqd_store.specs.Store.{Store, item_at, IsOccupied, Updates}
 use Rattle.iddqd_store.proofs.StoreLemmas.{updates-set}
+use Rattle.iddqd_store.proofs.WrittenLemmas.{told_of_slot}
 use Rattle.iddqd_hash_index.specs.HashPairs.{HashPairs}
-use Rattle.iddqd_hash_parts.specs.HashItems.{FindsSlot}
+use Rattle.iddqd_hash_parts.specs.HashItems.{FindsSlot, HashItems, KeyedItems}
 use Rattle.iddqd_hash_parts.specs.StoreAndIndex.{IsOnlySlot, IsSlotFound, PairsOccupied, hash_of_slot, hashes_in, items_in, map_of, slots_in}
 use Rattle.iddqd_hash_parts.proofs.FoundLemmas.{same_numbers}
 use Rattle.iddqd_hash_parts.proofs.GetMutLemmas.{item_in_slot, items_lent, others_left, told_in_slot}
@@ -63,6 +67,12 @@ module _ {T : Type 0} (store : Store T) (pairs : List (ℕ × ℕ)) (paired : Pa
   listed_told some told =
       let same : hash_of_slot pairs slot ≡ hash = (let here = sym (told_in_slot (hash_of_slot pairs) store.slots slot some) ∙ told in cc) in
       subst (λ h. Contains pairs (h, slot)) same (listed_hash pairs slot (occupied_listed store pairs paired slot some))
+
+-- in a keyed map the hash that is stored for a slot's item is that of its key
+pub stored_in_slot : {S T K : Type 0} (key : T → K) (eq : K → K → Bool) (input : K → HashWrites) (hash : S → HashWrites → ℕ) (m : HashItems S T) → KeyedItems key eq input hash m → (slot : ℕ) (x : T) → item_of_slot m.slots m.items slot ≡ Some x → item_of_slot m.slots m.hashes slot ≡ Some (hash m.hasher (input (key x)))
+stored_in_slot {T = T} key eq input hash m keyed slot x at =
+    let tell = λ (y : T). hash m.hasher (input (key y)) in
+    ap (λ hashes. item_of_slot m.slots hashes slot) keyed.stored ∙ told_of_slot tell m.slots m.items slot ∙ ap (option_map tell) at
 
 -- the one slot that a search finds, as the map shows it
 seen_only : {T K : Type 0} (key : T → K) (test : K → Bool) (store : Store T) (found : Option ℕ) → IsOnlySlot key test store found → (slot : ℕ) → (found ≡ Some slot) ↔ IsSomeAnd (item_of_slot (slots_in store) (items_in store) slot) (λ x. test (key x) ≡ true)

@@ -30,7 +30,8 @@ impl<T: IdHashItem, S: BuildHasher> IdHashMap<T, S> {
         let mut next = 0;
         while let Some((slot, item)) = self.item_from(next) {
             if !keep(item) {
-                self.take_slot(slot);
+                let hash = self.hash_of(item);
+                self.take_hashed(hash, slot);
             }
             next = slot + 1;
         }

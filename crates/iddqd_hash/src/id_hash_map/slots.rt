@@ -92,6 +92,14 @@ impl<T: IdHashItem, S: BuildHasher> IdHashMap<T, S> {
         self.slot_by_key(hash, item.key(), &mut Steps::new())
     }
 
+    // Returns the hash of the item's key.
+    #[inline]
+    pub(super) fn hash_of(&self, item: &T) -> u64
+        ensures { result ≡ ⟦<Self as Keyed>⟧.hash self.now (T.Key.hash_input (T.key item.now)) }
+    {
+        self.hasher.hash_one(item.key())
+    }
+
     // Removes the item of the slot. Hashes its key once.
     pub(super) fn take_slot(&mut self, slot: u32) -> T
         requires keyed { ⟦<Self as Keyed>⟧.keyed self.old }
@@ -100,7 +108,7 @@ impl<T: IdHashItem, S: BuildHasher> IdHashMap<T, S> {
         ensures removed { Removes (Some result) (holding_of self.old) (holding_of self.new) }
         ensures stays { HashStays ⟦<Self as Keyed>⟧.keyed self.old self.new }
     {
-        let hash = self.hasher.hash_one(self.item_in_slot(slot).key());
+        let hash = self.hash_of(self.item_in_slot(slot));
         self.take_hashed(hash, slot)
     }
 

@@ -6,6 +6,7 @@ use Rattle.std.proofs.lemmas.Option.{slice_get_within}
 use Rattle.iddqd_store.proofs.VisitLemmas.{IsAsked, asked_dropped, asked_end, asked_kept}
 use Rattle.iddqd_store.proofs.WrittenLemmas.{place_read}
 use Rattle.iddqd_hash_parts.specs.SlotOrder.{slots_below}
+use Rattle.iddqd_hash_parts.proofs.InSlotLemmas.{stored_in_slot}
 use Rattle.iddqd_hash_parts.proofs.RisingLemmas.{below_gone, below_next, below_zero}
 use Rattle.iddqd_hash.proofs.id_hash_map.IdHashMap.retain.Goals.{then-not-keep, else-not-keep}
 use Rattle.iddqd_hash_parts.specs.HashItems.{IsKeyed}
@@ -26,6 +27,11 @@ loop-slot-init g c =
       keyed = c.requires.keyed;
     }
 
+pub take_hashed-requires-clause-listed : goal.take_hashed-requires-clause-listed
+unfolding IsKeyed
+take_hashed-requires-clause-listed g c =
+    stored_in_slot _ _ _ _ c.loop-slot.self c.loop-slot.invariant.keyed c.in-Some.slot c.in-Some.item.now c.in-Some.ensures.found.item ∙ ap Some (sym c.hash_of-hash.ensures)
+
 pub loop-slot-preserved : goal.loop-slot-preserved
 unfolding IsKeyed
 loop-slot-preserved g c =
@@ -40,18 +46,18 @@ loop-slot-preserved g c =
     let fewer = length-remove m.items at within in
     elim c.if-not-keep.branch [
       | then-not-keep w ↦ (
-          let gone = w.take_slot.ensures.gone at found.there in
+          let gone = w.take_hashed.ensures.gone at found.there in
           let asked = asked_dropped R c.args.keep c.args.self.now.items l.keep c.keep.new.self m.items at _ there (called_at g.F.FnMut c.keep.ensures (search rules)) l.invariant.asked in
           let below = below_gone m.slots at slot found.there found.rises in
           record {
             callable = search of_calls;
             asked = rw (w.self-is, gone.0, gone.1, below) asked;
-            vacant = rw w.self-is (omega (arith, l.invariant.vacant, w.take_slot.ensures.removed.vacant, fewer, ap length gone.0));
-            capacity = rw w.self-is (w.take_slot.ensures.removed.capacity ∙ l.invariant.capacity);
-            limit = rw w.self-is (w.take_slot.ensures.removed.limit ∙ l.invariant.limit);
-            hasher = rw w.self-is (w.take_slot.ensures.stays.hasher ∙ l.invariant.hasher);
-            spare = rw w.self-is (omega (arith, l.invariant.spare, w.take_slot.ensures.stays.spare.never_less));
-            keyed = rw w.self-is w.take_slot.ensures.stays.keyed;
+            vacant = rw w.self-is (omega (arith, l.invariant.vacant, w.take_hashed.ensures.removed.vacant, fewer, ap length gone.0));
+            capacity = rw w.self-is (w.take_hashed.ensures.removed.capacity ∙ l.invariant.capacity);
+            limit = rw w.self-is (w.take_hashed.ensures.removed.limit ∙ l.invariant.limit);
+            hasher = rw w.self-is (w.take_hashed.ensures.stays.hasher ∙ l.invariant.hasher);
+            spare = rw w.self-is (omega (arith, l.invariant.spare, w.take_hashed.ensures.stays.spare.never_less));
+            keyed = rw w.self-is w.take_hashed.ensures.stays.keyed;
           }
           )
       | else-not-keep w ↦ (
@@ -80,7 +86,7 @@ loop-slot-smaller g c =
     let within = slice_get_within m.slots at slot found.there in
     elim c.if-not-keep.branch [
       | then-not-keep w ↦ (
-          let gone = w.take_slot.ensures.gone at found.there in
+          let gone = w.take_hashed.ensures.gone at found.there in
           rw (w.self-is, gone.1) (omega (arith, within, length-remove m.slots at within, below_gone m.slots at slot found.there found.rises))
           )
       | else-not-keep w ↦ rw w.self-is (omega (arith, within, below_next m.slots at slot found.there found.rises))
