@@ -9,7 +9,7 @@ mod regroup;
 ghost use Rattle.std.specs.Prelude.{◌≡◌, ℕ, ◌+◌, ◌-◌, ◌<◌, ◌≤◌, [], length, max, OnOk, OnErr, OnSome, IfOk, IfErr, IfNone, IfSome, Contains};
 ghost use Rattle.std.specs.Prelude.{min as least};
 ghost use Rattle.iddqd_store.specs.Counting.{CountsAtMost};
-ghost use Rattle.iddqd_hash_index.specs.HashPairs.{SamePairs, AreOccupied, Doubles, Finds, GivesRoomBack, HasOneMore, HasInstead, Lacks, index_room, of_hash, of_slot};
+ghost use Rattle.iddqd_hash_index.specs.HashPairs.{SamePairs, AreOccupied, Doubles, Finds, GivesRoomBack, HasOneMore, HasInstead, Lacks, LosesPair, index_room, of_hash, of_slot};
 ghost use Rattle.iddqd_hash_index.specs.Groups.{room_for};
 ghost use Rattle.iddqd_store.specs.Refusal.{memory_refused};
 
@@ -233,7 +233,7 @@ impl HashIndex {
         // what is removed
         ensures found { Finds K.key (Q.equivalent query.now) store.now self.old.pairs hash result }
         ensures absent { Lacks K.key (Q.equivalent query.now) store.now self.old.pairs hash result }
-        ensures pairs { IfSome result (λ slot. HasOneMore self.new.pairs self.old.pairs (hash, slot)) }
+        ensures pairs { IfSome result (LosesPair hash self.old.pairs self.new.pairs) }
         ensures spare { OnSome result (self.old.spare + 1 ≤ self.new.spare) }
         ensures unchanged { IfNone result (self.new ≡ self.old) }
 

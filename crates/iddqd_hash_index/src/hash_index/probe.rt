@@ -1,9 +1,8 @@
 //! The walk for the item that a query stands for.
 ghost use Rattle.std.specs.Prelude.{◌≡◌, ◌+◌, ◌*◌, ◌<◌, ◌≤◌, length, IfNone, IfSome};
-ghost use Rattle.iddqd_store.specs.Counting.{CountsAtMost};
-ghost use Rattle.iddqd_hash_index.specs.Groups.{hash_at, pairs_of, slot_at, ComparedAt, HoldsPair, IsPlaced, LacksAt, LacksIn};
+ghost use Rattle.iddqd_hash_index.specs.Groups.{hash_at, pairs_of, slot_at, ComparedAt, ComparedIn, HoldsPair, IsPlaced, LacksAt, LacksIn};
 ghost use Rattle.iddqd_hash_index.specs.Lanes.{pair_in};
-ghost use Rattle.iddqd_hash_index.specs.HashPairs.{AreOccupied, HoldsMatch, of_hash};
+ghost use Rattle.iddqd_hash_index.specs.HashPairs.{AreOccupied, HoldsKey};
 
 use super::cell::Cell;
 use super::group::{Group, LANES};
@@ -40,7 +39,7 @@ fn find_at<T, K: KeyOf<T>, Q: Equivalent<K::Key>>(
 
     // what it finds
     ensures lane { IfSome result (λ f. HoldsPair groups.now cells.now hash at f.0 f.1) }
-    ensures found { IfSome result (λ f. HoldsMatch store.now (λ x. Q.equivalent query.now (K.key x)) f.1) }
+    ensures found { IfSome result (λ f. HoldsKey K.key (Q.equivalent query.now) store.now f.1) }
     ensures missed { IfNone result (LacksAt groups.now cells.now hash K.key (Q.equivalent query.now) store.now at) }
 
     // what it costs
@@ -79,11 +78,11 @@ pub(super) fn find_among<T, K: KeyOf<T>, Q: Equivalent<K::Key>>(
 
     // what it finds
     ensures lane { IfSome result (λ f. HoldsPair groups.now cells.now hash f.0 f.1 f.2) }
-    ensures found { IfSome result (λ f. HoldsMatch store.now (λ x. Q.equivalent query.now (K.key x)) f.2) }
+    ensures found { IfSome result (λ f. HoldsKey K.key (Q.equivalent query.now) store.now f.2) }
     ensures absent { IfNone result (LacksIn groups.now cells.now hash K.key (Q.equivalent query.now) store.now) }
 
     // what it costs
-    ensures steps { CountsAtMost steps.old steps.new (of_hash (pairs_of groups.now cells.now) hash) }
+    ensures steps { ComparedIn groups.now cells.now hash steps.old steps.new }
 {
     let count = groups.len();
     if count == 0 {

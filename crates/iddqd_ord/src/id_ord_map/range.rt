@@ -4,7 +4,7 @@ ghost use Rattle.iddqd_store.specs.Contents.{Ascends, Finds};
 ghost use Rattle.iddqd_store.specs.Counting.{CountsAtMost};
 ghost use Rattle.iddqd_store.specs.SlotItems.{HaveSlots};
 ghost use Rattle.iddqd_ord_index.specs.Digits.{digits};
-ghost use Rattle.iddqd_ord.specs.Ranges.{FindsLast, FindsRange, StartsAt, StopsAt, WalksFrom, WalksPart, bound_now, is_from, is_up_to};
+ghost use Rattle.iddqd_ord.specs.Ranges.{EndsEqual, FindsLast, FindsRange, StartsEqual, StopsAt, WalksFrom, WalksPart, bound_now, is_from, is_up_to};
 
 use super::{IdOrdMap, Iter};
 use iddqd_ord_index::Walk;
@@ -112,8 +112,8 @@ impl<T: IdOrdItem> IdOrdMap<T> {
     // less, before those that are greater.
     fn equal_range<Q: Comparable<T::Key>>(&self, query: &Q, steps: &mut Steps) -> Range<usize>
         requires keyed { Ascends T.key T.Key.cmp self.now.items }
-        ensures start { StartsAt T.key Q.compare (Bound.Included query.now) self.now.items result.start }
-        ensures end { StartsAt T.key Q.compare (Bound.Excluded query.now) self.now.items result.end }
+        ensures start { StartsEqual T.key Q.compare query.now self.now.items result.start }
+        ensures end { EndsEqual T.key Q.compare query.now self.now.items result.end }
         ensures steps { CountsAtMost steps.old steps.new (4 + 2 * digits (length self.now.items)) }
     {
         match self.index_of_counted(query, steps) {

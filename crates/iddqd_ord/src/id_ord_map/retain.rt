@@ -1,13 +1,12 @@
 //! Keeping some of the items.
-ghost use Rattle.std.specs.Prelude.{◌≡◌, ◌+◌};
+ghost use Rattle.std.specs.Prelude.{◌≡◌};
 ghost use Rattle.std.specs.Fn.{CalledAt};
 ghost use Rattle.std.specs.List.Retain.{IsFiltered};
 ghost use Rattle.iddqd_store.specs.Contents.{Ascends};
 ghost use Rattle.iddqd_store.specs.Holding.{LeavesSlots};
-ghost use Rattle.iddqd_store.specs.Store.{store_len, vacant};
 ghost use Rattle.iddqd_store.specs.Visiting.{VisitsKeepKeys, kept_by, visitor_after};
 ghost use Rattle.iddqd_ord_index.specs.Listed.{listed_items, occupied_slots};
-ghost use Rattle.iddqd_ord.specs.StoreAndIndex.{KeepsBounds, ListsOccupied, items_occupied};
+ghost use Rattle.iddqd_ord.specs.StoreAndIndex.{FiltersListed, KeepsBounds, KeepsSlots, KeepsVisited, ListsOccupied, items_occupied, visitor_along};
 
 use super::IdOrdMap;
 use iddqd_ord_index::Walk;
@@ -61,11 +60,11 @@ fn retain_in_store<T: IdOrdItem + Drop, F: FnMut(&T) -> bool>(
 
     // the items
     ensures paired { ListsOccupied store.new (occupied_slots store.new walk.entry) }
-    ensures filtered { IsFiltered (CalledAt F.FnMut) keep (listed_items store.old walk.entry) (items_occupied store.new walk.entry) }
+    ensures filtered { FiltersListed (CalledAt F.FnMut) keep walk.entry store.old store.new }
     ensures keyed { Ascends T.key T.Key.cmp (items_occupied store.new walk.entry) }
 
     // the numbers
-    ensures vacant { vacant store.new + store_len store.new ≡ vacant store.old + store_len store.old }
+    ensures vacant { KeepsSlots store.old store.new }
     ensures bounds { KeepsBounds store.old store.new }
 {
     'visit: while let Some(slot) = walk.next() {
@@ -87,12 +86,12 @@ fn visit_in_store<T: IdOrdItem + Drop, V: Visit<T>>(
 
     // the items
     ensures paired { ListsOccupied store.new (occupied_slots store.new walk.entry) }
-    ensures items { items_occupied store.new walk.entry ≡ kept_by V.visits visitor.old (listed_items store.old walk.entry) }
-    ensures visitor { visitor.new ≡ visitor_after V.visits visitor.old (listed_items store.old walk.entry) }
+    ensures items { KeepsVisited V.visits visitor.old walk.entry store.old store.new }
+    ensures visitor { visitor.new ≡ visitor_along V.visits visitor.old walk.entry store.old }
     ensures keyed { Ascends T.key T.Key.cmp (items_occupied store.new walk.entry) }
 
     // the numbers
-    ensures vacant { vacant store.new + store_len store.new ≡ vacant store.old + store_len store.old }
+    ensures vacant { KeepsSlots store.old store.new }
     ensures bounds { KeepsBounds store.old store.new }
 {
     'visit: while let Some(slot) = walk.next() {

@@ -1,8 +1,8 @@
 //! What changes the store and the index together. Nothing here looks at a key.
 ghost use Rattle.std.specs.Prelude.{◌≡◌, ◌+◌, ◌-◌, ◌<◌, ◌≤◌, length, insert, remove, IsTrue, IfErr, OnErr, OnOk, Err, Some, slice_get};
 ghost use Rattle.iddqd_store.specs.Refusal.{IsKindOf, memory_refused, refusal_kind};
-ghost use Rattle.iddqd_store.specs.Store.{store_len, vacant, HasRoomFor};
-ghost use Rattle.iddqd_ord.specs.StoreAndIndex.{KeepsBounds, ListsOccupied, LosesBetween, NeedsMemory, items_in};
+ghost use Rattle.iddqd_store.specs.Store.{vacant, HasRoomFor};
+ghost use Rattle.iddqd_ord.specs.StoreAndIndex.{KeepsBounds, KeepsSlots, ListsOccupied, LosesBetween, NeedsMemory, items_in};
 
 use iddqd_ord_index::{OrdIndex, Place};
 use iddqd_store::{ItemStore, TryReserveError};
@@ -119,7 +119,7 @@ pub(super) fn remove_part_from_both<T: Drop>(
     // what is left
     ensures paired { ListsOccupied store.new index.new.slots }
     ensures items { LosesBetween from to (items_in store.old index.old) (items_in store.new index.new) }
-    ensures vacant { vacant store.new + store_len store.new ≡ vacant store.old + store_len store.old }
+    ensures vacant { KeepsSlots store.old store.new }
     ensures bounds { KeepsBounds store.old store.new }
 {
     let mut walk = index.walk_between(from, to);
