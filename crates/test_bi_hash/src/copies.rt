@@ -1,8 +1,5 @@
 //! Copies of a map, and equality of two.
-use crate::held::{By, Held, Host, Hosts, NONE, Step, Way, check, host, host_of, left};
-use iddqd_bi_hash::BiHashMap;
-use std::alloc::Global;
-use std::process::Abort;
+use crate::held::*;
 use test_support::hashers::{FewBits, Varying};
 
 // The hosts of either are changed, and those of the other stay.

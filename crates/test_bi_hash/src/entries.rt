@@ -1,8 +1,6 @@
 //! Entries: what they find, and what they insert, replace and remove.
-use crate::held::{Held, Host, Hosts, Met, check, host, host_of, met, shown};
+use crate::held::*;
 use iddqd_bi_hash::bi_hash_map::Entry;
-use iddqd_bi_hash::{BiHashMap, Keyed};
-use std::process::Abort;
 
 // What is done with the hosts of an entry.
 #[derive(Clone, Copy)]

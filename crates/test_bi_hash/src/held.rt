@@ -6,15 +6,16 @@ ghost use Rattle.iddqd_bi_hash.specs.Hashing.{hash_under};
 ghost use Rattle.iddqd_bi_hash.specs.BiHashItems.{BiHashItems, IsKeyedByBoth};
 
 pub(crate) use crate::hosts::Host;
-use iddqd_bi_hash::{
-    BiHashItem, BiHashMap, DefaultHashBuilder, ExtendUniqueError, Few, FromIterError, InsertError,
-    Keyed, Refused, TryReserveError, ValidateCompact,
+use iddqd_bi_hash::{ExtendUniqueError, Few, InsertError, Refused, TryReserveError};
+pub(crate) use iddqd_bi_hash::{
+    BiHashItem, BiHashMap, DefaultHashBuilder, FromIterError, Keyed, ValidateCompact,
 };
-use std::alloc::Global;
+pub(crate) use std::alloc::Global;
 use std::hash::BuildHasher;
 use std::marker::{Model, PhantomData};
-use std::process::Abort;
-use test_support::bulk::Hinted;
+pub(crate) use std::process::Abort;
+pub(crate) use test_support::bulk::Hinted;
+pub(crate) use test_support::heap::{arm, has_leaked, is_met};
 
 pub(crate) fn check(rt: &impl Abort, condition: bool) {
     assert!(rt; condition);

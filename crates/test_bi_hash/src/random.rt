@@ -1,7 +1,5 @@
 //! Long random runs of calls, against a plain list.
-use crate::held::{By, Host, Hosts, Way, check, host_of};
-use std::alloc::Global;
-use std::process::Abort;
+use crate::held::*;
 
 // A generator by shifts (Marsaglia's of 64 bits).
 #[derive(Drop)]

@@ -1,15 +1,7 @@
 //! Rows of calls on many items.
-use crate::checks::{
-    BAR, FOO, Host, OTHER_FOO, by_hash_of, check, filled, has_only, in_order_of, named,
-};
 use crate::insertions::{Wide, wide};
-use iddqd::IdOrdItem;
-use iddqd::errors::{FromIterError, TryReserveError};
-use std::process::Abort;
-use std::test::Fail;
-use test_support::bulk::{Bulk, Hinted, is_not_taken_in};
-use test_support::items::Named;
-use test_support::maps::{Added, Copying, Hashed, Ordered, UnderTest, by_hash, in_order};
+use crate::prelude::*;
+use test_support::bulk::is_not_taken_in;
 
 // No map is made of the items: the first one has the key of the later one.
 fn repeats<M: Bulk<T> + Drop, T: Copy + PartialEq + Drop>(

@@ -2,16 +2,9 @@
 ghost use Rattle.iddqd.specs.Contents.{ClonesAreEqual};
 ghost use Rattle.iddqd.specs.Visiting.{VisitsKeepKeys};
 
-use crate::checks::{BAR, FOO, Host, OTHER_FOO, by_hash_of, check, in_order_of, named, numbered};
 use crate::insertions::{Wide, wide};
-use iddqd::errors::TryReserveError;
-use iddqd::{IdHashItem, IdHashMap, IdOrdItem, IdOrdMap, Visit};
-use idtable_commands::{Command, KeyedMap, Reply, run};
-use std::alloc::{AllocError, Global};
+use crate::prelude::*;
 use std::hash::Hash;
-use std::test::Fail;
-use test_support::items::{Named, Numbered};
-use test_support::visitors::Untouched;
 
 /// Commands, each with the reply to it.
 pub(crate) type Rows<T, K, V = Untouched> = Result<Vec<(Command<T, K, V>, Reply<T>)>, AllocError>;

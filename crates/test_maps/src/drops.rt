@@ -1,13 +1,7 @@
 //! Each item that a map drops is dropped once.
-use crate::checks::{Host, check};
-use iddqd::errors::FromIterError;
-use iddqd::{IdHashItem, IdOrdItem, IdOrdMap, Visit, id_hash_map, id_ord_map};
-use std::alloc::{AllocError, Global};
-use std::cell::Cell;
-use std::process::Abort;
-use std::test::Fail;
-use test_support::bulk::{Announced, Bulk};
-use test_support::maps::{Hashed, Ordered, UnderTest, by_hash, in_order};
+use crate::prelude::*;
+use iddqd::{id_hash_map, id_ord_map};
+use test_support::bulk::Announced;
 
 /// A number, and the cell that counts each drop of such an item.
 pub(crate) struct Ticket<'a> {

@@ -1,9 +1,7 @@
 //! The texts of errors.
-use crate::checks::{check, numbered};
+use crate::prelude::*;
 use crate::texts::{debugs, displays};
-use iddqd::IdOrdMap;
-use iddqd::errors::{DuplicateItem, Few, Refused, TryReserveError};
-use iddqd::internal::ValidateCompact;
+use iddqd::errors::{DuplicateItem, Few, Refused};
 
 #[test]
 fn error_texts(rt: HostRuntime) {

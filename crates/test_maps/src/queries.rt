@@ -1,11 +1,7 @@
 //! Rows of lookups by texts, by keys of two fields, and among items that are boxed or lent.
-use crate::checks::{Host, check, titled};
+use crate::prelude::*;
 use std::ops::Deref;
-use std::process::Abort;
 use std::rc::Rc;
-use std::test::Fail;
-use test_support::items::{Filed, Titled};
-use test_support::maps::{AskedByText, UnderTest, by_hash, in_order};
 
 fn query_by_text<M>(rt: &impl Host, mut map: M)
 where

@@ -1,15 +1,8 @@
 //! Rows of the ordered map's ends, positions, ranges and walks from the back, against plain lists.
-use crate::checks::{
-    BAR, BAZ, FOO, Host, check, filled, has_only, named, numbered, ordered_of, titled,
-};
 use crate::drops::go_in;
+use crate::prelude::*;
 use iddqd::Text;
-use std::cell::Cell;
 use std::ops::{Bound, RangeBounds};
-use std::process::Abort;
-use test_support::caseless::{Caseless, item_of};
-use test_support::items::{Named, Numbered, Titled};
-use test_support::maps::{Ordered, UnderTest, in_order};
 use test_support::ordered::Bounds;
 
 fn even(half: u32) -> Numbered {

@@ -2,13 +2,8 @@
 ghost use Rattle.std.specs.Ordering.{nat_cmp};
 ghost use Rattle.iddqd.specs.Contents.{Ascends};
 
-use crate::checks::{Host, check};
-use iddqd::errors::{
-    DuplicateItem, ExtendError, ExtendUniqueError, Few, FromIterError, InsertError, Refused,
-    TryReserveError,
-};
-use iddqd::{IdHashItem, IdHashMap, IdOrdItem, IdOrdMap, Keyed};
-use std::alloc::{AllocError, Global};
+use crate::prelude::*;
+use iddqd::errors::{DuplicateItem, ExtendError, ExtendUniqueError, Few, InsertError, Refused};
 use std::fmt::{Debug, Display};
 use std::io;
 

@@ -2,22 +2,11 @@
 ghost use Rattle.std.specs.Prelude.{nat_eq};
 ghost use Rattle.iddqd.specs.Visiting.{VisitsKeepKeys};
 
-use crate::checks::{
-    BAR, BAZ, FOO, Host, check, filled, has_only, hashed_of, numbered, ordered_of,
-};
 use crate::commands::{Rows, replies};
 use crate::insertions::double;
-use iddqd::internal::ValidateCompact;
-use iddqd::{IdHashMap, IdOrdMap, Visit};
-use idtable_commands::{Command, KeyedMap, Reply};
-use std::alloc::{AllocError, Global};
-use std::process::Abort;
-use std::test::Fail;
-use test_support::items::{Named, Numbered};
-use test_support::maps::{UnderTest, by_hash, in_order};
+use crate::prelude::*;
 use test_support::nine::{are_left, retain_nine};
 use test_support::visitors::{Change, Visited};
-use test_support::walks::Walked;
 
 // The visitor, once it has kept the odd ones of three.
 fn odd_of_three<M: UnderTest<Numbered, u32> + Drop + Visited>(rt: &impl Abort, map: M) -> Change {

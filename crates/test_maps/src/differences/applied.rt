@@ -3,15 +3,8 @@ ghost use Rattle.iddqd.specs.Contents.{ClonesKeepKeys};
 
 use super::cases::hundreds;
 use super::held::Listed;
-use crate::checks::check;
-use iddqd::errors::TryReserveError;
-use iddqd::{IdHashItem, IdOrdItem};
+use crate::prelude::*;
 use iddqd_diff::{id_hash_map, id_ord_map};
-use std::alloc::Global;
-use std::test::Fail;
-use test_support::heap::arm;
-use test_support::items::Numbered;
-use test_support::maps::{Hashed, Ordered, UnderTest};
 
 // A copy of the old map, brought up to the new one, and whether that was refused. Requests count from the end of the
 // copying on.

@@ -1,11 +1,6 @@
 //! Each case of five keys, and one of hundreds, against plain lists.
 use super::held::{Listed, Sides};
-use crate::checks::check;
-use std::alloc::{AllocError, Global};
-use std::process::Abort;
-use std::test::Fail;
-use test_support::items::Numbered;
-use test_support::maps::{Hashed, Ordered, UnderTest};
+use crate::prelude::*;
 
 // What the maps have at a key: neither an item, the old one alone, the new one alone, both the same, or each another.
 fn sides_of(number: u32, digit: u32) -> Sides<Numbered> {

@@ -1,10 +1,9 @@
 //! How often a difference compares and hashes keys.
 ghost use Rattle.iddqd.specs.Contents.{Ascends};
 
-use crate::checks::check;
-use iddqd::{IdHashItem, IdHashMap, IdOrdItem, IdOrdMap, Keyed, Steps};
+use crate::prelude::*;
+use iddqd::Steps;
 use iddqd_diff::Diffable;
-use std::process::Abort;
 use test_support::counting::Counts;
 
 fn put<T: IdOrdItem + Drop>(rt: &impl Abort, map: &mut IdOrdMap<T>, item: T)

@@ -2,14 +2,7 @@
 use super::applied::{brought_up, brought_up_by_hash};
 use super::cases::hundreds;
 use super::held::Listed;
-use crate::checks::{Host, check};
-use std::alloc::Global;
-use std::process::Abort;
-use std::test::Fail;
-use test_support::heap::{arm, has_leaked, is_met};
-use test_support::items::Numbered;
-use test_support::kept::Kept;
-use test_support::maps::{Hashed, Ordered, UnderTest, by_hash, in_order};
+use crate::prelude::*;
 
 // Inserts items of these names, all of this value, whose clones ask for memory.
 fn fill<M: UnderTest<Kept, u32>>(

@@ -1,12 +1,7 @@
 //! Rows: maps that are equal, that share no key, of which one is empty, and keys that are equal though spelled
 //! differently.
 use super::held::{Listed, Sides};
-use crate::checks::check;
-use std::alloc::Global;
-use std::process::Abort;
-use std::test::Fail;
-use test_support::caseless::{Caseless, Coarse, item_of, spelled};
-use test_support::maps::{Hashed, Ordered, UnderTest};
+use crate::prelude::*;
 
 // Two maps whose names differ in case alone, and one name beside.
 fn spellings<M: Listed<Coarse, Caseless>>(rt: &impl Abort, alloc: Global) -> (M, M) {
