@@ -1,7 +1,6 @@
 //! The calls of an ordered map alone: a position and a bound cost one search, the ends of the map none.
 use crate::metered::ordered;
 use crate::prelude::*;
-use iddqd::IdOrdItem;
 use std::ops::Bound;
 
 fn ends<T: IdOrdItem + Copy + Drop>(mut map: Ordered<T>, meter: Meter<'_>) {

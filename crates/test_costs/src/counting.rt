@@ -2,7 +2,6 @@
 use crate::metered::{Row, run_by_hash, run_by_zero, run_in_order};
 use crate::numbers::{find, put, take};
 use crate::prelude::*;
-use iddqd::IdOrdItem;
 
 // The call did what is wanted, and its steps are the comparisons that the keys have counted.
 fn tell((is_done, steps): (bool, u32), wanted: bool, meter: Meter<'_>) {

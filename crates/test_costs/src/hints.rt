@@ -2,9 +2,7 @@
 use crate::by_number::{Row, holds_by_hash, holds_in_order};
 use crate::numbers::by_factor;
 use crate::prelude::*;
-use iddqd::errors::{ExtendError, FromIterError, TryReserveError};
-use iddqd::{DefaultHashBuilder, IdHashMap, IdOrdMap};
-use test_support::maps::Added;
+use iddqd::errors::ExtendError;
 use test_support::new_items::numbered;
 
 // The item that was refused for the limit, and whether there was such a refusal.

@@ -3,9 +3,6 @@ use crate::by_name::{Row, holds_by_hash, holds_in_order};
 use crate::by_number;
 use crate::numbers::{are_found, numbered, of_equal_hashes};
 use crate::prelude::*;
-use test_support::caseless::{Caseless, Coarse, item_of, spelled};
-use test_support::coarse::{CoarseMap, Copied, Way, spelled_at};
-use test_support::walks::Walked;
 
 // Whether bar 1 and Foo 2 are inserted.
 fn has_bar_and_foo<M: UnderTest<Coarse, Caseless>>(map: &mut M) -> bool {

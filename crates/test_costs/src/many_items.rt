@@ -1,8 +1,6 @@
 //! Calls of many items cost as many insertions or removals, and walks, room and copies no comparison.
 use crate::metered::{Row, run_by_zero, run_in_order};
 use crate::prelude::*;
-use test_support::maps::Added;
-use test_support::walks::Walked;
 
 // What the insertions of the items cost, one by one. `extend`, which replaces each then, hashes as often.
 fn overwrites<'a, M: Metered<'a>>(mut map: M, items: &[Tallied<'a>], meter: Meter<'a>) -> Cost {

@@ -5,7 +5,6 @@ use crate::counting::{hash_steps, plain_calls};
 use crate::many_items::{leave_and_move, takes_many, walks};
 use crate::prelude::*;
 use crate::stored::makes_room_unhashed;
-use test_support::walks::Walked;
 
 /// A row, with how many items it has if that varies.
 #[derive(Clone, Copy)]

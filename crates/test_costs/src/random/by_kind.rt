@@ -1,17 +1,9 @@
 //! A function for each kind of map that runs a list of calls. A test that named a list at its map would have the list's
 //! bounds proved of the map once more.
+use crate::prelude::*;
 use crate::random::many::Written;
 use crate::random::refused::run_refused;
 use crate::random::runs::{Run, make_many, run_hashed};
-use std::alloc::Global;
-use std::hash::BuildHasherDefault;
-use std::process::Abort;
-use std::test::Fail;
-use test_support::bulk::Bulk;
-use test_support::caseless::Coarse;
-use test_support::coarse::{CoarseMap, Copied};
-use test_support::hashers::ZeroHasher;
-use test_support::maps::{Hashed, Ordered};
 
 /// What is done with a map without items.
 #[derive(Clone, Copy)]

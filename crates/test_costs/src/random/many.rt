@@ -1,15 +1,7 @@
 //! Calls on many items, and copies of a map, which a walk writes too: whether they return what the plain list does.
+use crate::prelude::*;
 use crate::random::calls::holds_the_same;
 use crate::random::plain::{Answer, Draws, Pair, Plain, is_same};
-use iddqd::MAX_ITEMS;
-use iddqd::errors::{FromIterError, TryReserveError};
-use std::alloc::{AllocError, Global};
-use std::hash::BuildHasher;
-use test_support::bulk::Bulk;
-use test_support::caseless::{Coarse, spelled};
-use test_support::coarse::{CoarseMap, Copied};
-use test_support::maps::{Added, Hashed, Ordered};
-use test_support::walks::Walked;
 
 // Some items, of which some have equal names.
 fn drawn(alloc: Global, draws: &mut Draws) -> Result<Vec<Coarse>, AllocError> {

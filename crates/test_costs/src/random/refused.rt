@@ -1,16 +1,10 @@
 //! Random lists of calls with one request for memory refused (`tools/sweep` runs them): a call that is refused leaves
 //! the items.
+use crate::prelude::*;
 use crate::random::by_kind::{List, run_by_hash, run_in_order};
 use crate::random::calls::are_found;
 use crate::random::plain::{Answer, Draws, Pair, Plain};
-use iddqd::MAX_ITEMS;
-use iddqd::errors::TryReserveError;
-use std::alloc::{AllocError, Global};
-use std::process::Abort;
-use std::test::Fail;
-use test_support::coarse::CoarseMap;
 use test_support::heap::{arm, is_met};
-use test_support::maps::{by_hash, in_order};
 
 // Whether each item of the list is found, and no more are there. It asks for no memory.
 fn finds_all<M: CoarseMap>(map: &M, plain: &Plain) -> bool {

@@ -1,21 +1,12 @@
 //! The runs: lists of calls from fixed seeds. After each call the whole contents and the numbers are compared too, and
 //! `validate`.
+use crate::prelude::*;
 use crate::random::by_kind::{List, run_by_hash, run_by_zero, run_in_order};
 use crate::random::calls::holds_the_same;
 use crate::random::lengths::{CALLS, MANY_CALLS, MAPS};
 use crate::random::many::{Written, collect};
 use crate::random::ordered::ascends;
 use crate::random::plain::{Answer, Draws, Pair, Plain};
-use iddqd::{IdHashMap, IdOrdMap, MAX_ITEMS};
-use std::alloc::{AllocError, Global};
-use std::collections::hash_map::RandomState;
-use std::hash::BuildHasherDefault;
-use std::process::Abort;
-use std::test::Fail;
-use test_support::bulk::Bulk;
-use test_support::caseless::Coarse;
-use test_support::coarse::{CoarseMap, Copied};
-use test_support::maps::{Copying, Hashed, Ordered, by_hash, in_order};
 
 #[derive(Clone, Copy, Debug)]
 pub(crate) struct Run {
