@@ -92,10 +92,7 @@ pub(crate) fn met(few: &Few<Host>) -> Met {
 }
 
 pub(crate) fn shown(few: &Few<&Host>) -> Met {
-    match few {
-        Few::One(one) => (Some(**one), None),
-        Few::Two(one, other) | Few::Three(one, other, _) => (Some(**one), Some(**other)),
-    }
+    (few.get(0).copied().copied(), few.get(1).copied().copied())
 }
 
 /// An item whose load can be written, if it has one.
@@ -273,13 +270,22 @@ impl<S: BuildHasher> Held<Host, S> {
 
     /// Whether each host of a number below this one is found by both keys, and the map has no other.
     pub(crate) fn holds_below(&self, count: u32) -> bool {
-        let are_found = (0..count).all(|number| self.has_host(host(number)));
-        are_found && self.has(count as usize) && self.is_compact()
+        for number in 0..count {
+            if !self.has_host(host(number)) {
+                return false;
+            }
+        }
+        self.has(count as usize) && self.is_compact()
     }
 
     /// Whether each of the hosts is found by both keys, and the map has no other.
     pub(crate) fn holds(&self, hosts: &[Host]) -> bool {
-        hosts.iter().all(|wanted| self.has_host(*wanted)) && self.has(hosts.len())
+        for wanted in hosts {
+            if !self.has_host(*wanted) {
+                return false;
+            }
+        }
+        self.has(hosts.len())
     }
 }
 

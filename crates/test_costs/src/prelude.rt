@@ -21,6 +21,11 @@ pub(crate) use test_support::maps::{
 };
 pub(crate) use test_support::walks::Walked;
 
+/// What a test passes to its helpers: it ends the process as failed, prints, and gives memory.
+pub(crate) trait Host: Abort + Print + AllocGlobal {}
+
+impl<R: Abort + Print + AllocGlobal> Host for R {}
+
 /// Ends the test as failed if the condition is false. The proof of a call takes a third of that of an `assert!` in its
 /// place.
 pub(crate) fn check(rt: &impl Abort, condition: bool)

@@ -158,8 +158,6 @@ fn run_of_bulk_commands(rt: HostRuntime) -> Result<(), Fail> {
 #[test]
 fn hash_run_of_bulk_commands(rt: HostRuntime) -> Result<(), Fail> {
     let (alloc, commands) = (rt.alloc(), bulk_commands(rt.alloc())?);
-    tell(
-        &rt,
-        swept_run(alloc, &mut IdHashMap::new(alloc), 0, commands),
-    )
+    let map = &mut IdHashMap::new(alloc);
+    tell(&rt, swept_run(alloc, map, 0, commands))
 }

@@ -14,10 +14,8 @@ fn full_at_two<M: Copying<Named, [u8; 3]> + Drop>(rt: &impl Abort, mut map: M) {
     let old = map.overwrite(OTHER_FOO);
     check(rt, matches!(old, Ok(Some(old)) if old == FOO));
     check(rt, map.remove(b"bar") == Some(BAR));
-    check(
-        rt,
-        map.validates(ValidateCompact::Compact) == (false, false),
-    );
+    let valid = map.validates(ValidateCompact::Compact);
+    check(rt, valid == (false, false));
     insert_each(rt, &mut map, &[(BAZ, Inserted::Done)]);
     check(rt, map.is_compact() && map.reserve(1) == Err(full));
 }

@@ -42,7 +42,7 @@ fn fill_with_kept<M: UnderTest<Kept, u32>>(alloc: Global, map: &mut M) -> Result
 }
 
 // Whether the map is sound and has those four, and no other.
-fn holds_kept<M: UnderTest<Kept, u32>>(map: &M) -> bool {
+fn has_four<M: UnderTest<Kept, u32>>(map: &M) -> bool {
     let are_there = (0..4u32).all(|name| {
         let found = map.get(&name).map(|kept| (kept.name, *kept.value));
         found == Some((name, name ^ 5))
@@ -54,17 +54,14 @@ fn holds_kept<M: UnderTest<Kept, u32>>(map: &M) -> bool {
 fn clone_of_kept(rt: HostRuntime) -> Result<(), Fail> {
     let mut map = in_order(rt.alloc());
     fill_with_kept(rt.alloc(), &mut map)?;
-    let copied = map
-        .map()
-        .clone()
-        .map(|copy| holds_kept(&Ordered::new(copy)));
-    tell(&rt, word(rt.alloc(), copied, holds_kept(&map)))
+    let copied = map.map().clone().map(|copy| has_four(&Ordered::new(copy)));
+    tell(&rt, word(rt.alloc(), copied, has_four(&map)))
 }
 
 #[test]
 fn hash_clone_of_kept(rt: HostRuntime) -> Result<(), Fail> {
     let mut map = by_hash(rt.alloc());
     fill_with_kept(rt.alloc(), &mut map)?;
-    let copied = map.map().clone().map(|copy| holds_kept(&Hashed::new(copy)));
-    tell(&rt, word(rt.alloc(), copied, holds_kept(&map)))
+    let copied = map.map().clone().map(|copy| has_four(&Hashed::new(copy)));
+    tell(&rt, word(rt.alloc(), copied, has_four(&map)))
 }

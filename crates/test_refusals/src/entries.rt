@@ -33,7 +33,7 @@ pub(crate) enum By {
     InsertEntry,
     OrInsert,
     OrInsertWith,
-    InsertUniqueCounted,
+    InsertCounted,
     InsertRef,
     OrInsertRef,
     OrInsertWithRef,
@@ -47,7 +47,7 @@ pub(crate) trait Inserts: CoarseMap + Drop {
 impl Inserts for Ordered<Coarse> {
     fn put_in_order(&mut self, item: Coarse, by: By) -> Put {
         match by {
-            By::InsertUniqueCounted => left(self.insert_counted(item).0, item),
+            By::InsertCounted => left(self.insert_counted(item).0, item),
             By::InsertRef => self.put_shown(item),
             By::OrInsertRef => self.show_or_put(item),
             _ => self.show_or_put_made(item),

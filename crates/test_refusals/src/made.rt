@@ -54,29 +54,20 @@ pub(crate) fn collection<M: OfNumbers>(alloc: Global, is_unique: bool) -> Word {
 
 #[test]
 fn from_iter(rt: HostRuntime) -> Result<(), Fail> {
-    tell(
-        &rt,
-        ordered(rt.alloc(), Row::Collection { is_unique: false }),
-    )
+    tell(&rt, ordered(rt.alloc(), Row::FromIter))
 }
 
 #[test]
 fn hash_from_iter(rt: HostRuntime) -> Result<(), Fail> {
-    tell(
-        &rt,
-        hashed(rt.alloc(), Row::Collection { is_unique: false }),
-    )
+    tell(&rt, hashed(rt.alloc(), Row::FromIter))
 }
 
 #[test]
 fn from_iter_unique(rt: HostRuntime) -> Result<(), Fail> {
-    tell(
-        &rt,
-        ordered(rt.alloc(), Row::Collection { is_unique: true }),
-    )
+    tell(&rt, ordered(rt.alloc(), Row::FromIterUnique))
 }
 
 #[test]
 fn hash_from_iter_unique(rt: HostRuntime) -> Result<(), Fail> {
-    tell(&rt, hashed(rt.alloc(), Row::Collection { is_unique: true }))
+    tell(&rt, hashed(rt.alloc(), Row::FromIterUnique))
 }

@@ -40,13 +40,8 @@ impl<M: CoarseMap> Pair<M> {
     }
 
     // Makes the call of this number in the list.
-    fn refusable_call(
-        &mut self,
-        rt: &impl Abort,
-        seed: u64,
-        number: u32,
-    ) -> Result<(), AllocError> {
-        let drawn = self.draws.below(32);
+    fn refusable_call(&mut self, rt: &impl Abort, at: (u64, u32)) -> Result<(), AllocError> {
+        let ((seed, number), drawn) = (at, self.draws.below(32));
         let answered = self.made(drawn)?;
         let held = finds_all(&self.map, &self.plain);
         assert!(rt;
@@ -58,23 +53,21 @@ impl<M: CoarseMap> Pair<M> {
 }
 
 // Makes the calls, and prints whether one was refused. The list has its room from the beginning.
-pub(crate) fn run_refused<M: CoarseMap + Drop>(
-    rt: &(impl Abort + Print),
-    alloc: Global,
-    map: M,
-    seed: u64,
-) -> Result<(), Fail> {
+pub(crate) fn run_refused<M>(rt: &impl Host, map: M, seed: u64) -> Result<(), Fail>
+where
+    M: CoarseMap + Drop,
+{
     println!(rt; "seed {seed}")?;
-    let mut plain = Plain::new(alloc, MAX_ITEMS);
+    let mut plain = Plain::new(rt.alloc(), MAX_ITEMS);
     plain.items.reserve(125)?;
     let draws = Draws::new(seed, 5);
     let mut pair = Pair { map, plain, draws };
-    arm(alloc);
+    arm(rt.alloc());
     for number in 0..400 {
-        pair.refusable_call(rt, seed, number)?;
+        pair.refusable_call(rt, (seed, number))?;
     }
     // a shrink that keeps its memory need not tell
-    if pair.plain.refusals > u32::from(is_met(alloc)) {
+    if pair.plain.refusals > u32::from(is_met(rt.alloc())) {
         return Err(Fail::from("a refusal is told, and none was met"));
     }
     match pair.plain.refusals {
@@ -86,10 +79,10 @@ pub(crate) fn run_refused<M: CoarseMap + Drop>(
 
 #[test]
 fn ordered_calls(rt: HostRuntime) -> Result<(), Fail> {
-    run_in_order(&rt, rt.alloc(), List::Refused(91), in_order(rt.alloc()))
+    run_in_order(&rt, List::Refused(91), in_order(rt.alloc()))
 }
 
 #[test]
 fn hash_calls(rt: HostRuntime) -> Result<(), Fail> {
-    run_by_hash(&rt, rt.alloc(), List::Refused(92), by_hash(rt.alloc()))
+    run_by_hash(&rt, List::Refused(92), by_hash(rt.alloc()))
 }

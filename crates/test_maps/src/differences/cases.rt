@@ -26,13 +26,9 @@ fn sides_of_case(alloc: Global, case: u32) -> Result<Vec<Sides<Numbered>>, Alloc
     Ok(all)
 }
 
-// Inserts the items of each side into its map.
-fn fill<M: Listed<Numbered, u32>>(
-    rt: &impl Abort,
-    before: &mut M,
-    after: &mut M,
-    all: &[Sides<Numbered>],
-) {
+// Two maps, each of the items of its side.
+fn maps_of<M: Listed<Numbered, u32>>(rt: &impl Host, all: &[Sides<Numbered>]) -> (M, M) {
+    let (mut before, mut after) = (M::empty(rt.alloc()), M::empty(rt.alloc()));
     for sides in all {
         if let Some(old) = sides.0 {
             check(rt, before.is_put(old));
@@ -41,6 +37,7 @@ fn fill<M: Listed<Numbered, u32>>(
             check(rt, after.is_put(new));
         }
     }
+    (before, after)
 }
 
 // What an ordered map gives: each key of either map, ascending.
@@ -71,15 +68,17 @@ fn looked_up(alloc: Global, all: &[Sides<Numbered>]) -> Result<Vec<Sides<Numbere
 }
 
 // Whether the difference of two maps with these sides gives what is wanted, and counts as many changes.
-fn gives<M: Listed<Numbered, u32> + Drop>(
-    rt: &impl Abort,
-    alloc: Global,
+fn gives<M>(
+    rt: &impl Host,
     all: &[Sides<Numbered>],
-    wanted: &[Sides<Numbered>],
-) -> Result<(), Fail> {
-    let (mut before, mut after) = (M::empty(alloc), M::empty(alloc));
-    fill(rt, &mut before, &mut after, all);
-    let found = before.differences(&after, alloc)?;
+    wanted: Vec<Sides<Numbered>>,
+) -> Result<(), Fail>
+where
+    M: Listed<Numbered, u32> + Drop,
+{
+    let wanted = wanted.as_slice();
+    let (before, after): (M, M) = maps_of(rt, all);
+    let found = before.differences(&after, rt.alloc())?;
     check(rt, found.as_slice() == wanted);
     let mut changes = 0usize;
     for sides in wanted {
@@ -96,8 +95,8 @@ fn gives<M: Listed<Numbered, u32> + Drop>(
 fn each_case_in_order(rt: HostRuntime) -> Result<(), Fail> {
     for case in 0..3125u32 {
         let all = sides_of_case(rt.alloc(), case)?;
-        let wanted = merged(rt.alloc(), all.as_slice())?;
-        gives::<Ordered<Numbered>>(&rt, rt.alloc(), all.as_slice(), wanted.as_slice())?;
+        let all = all.as_slice();
+        gives::<Ordered<Numbered>>(&rt, all, merged(rt.alloc(), all)?)?;
     }
     Ok(())
 }
@@ -106,8 +105,8 @@ fn each_case_in_order(rt: HostRuntime) -> Result<(), Fail> {
 fn each_case_by_hash(rt: HostRuntime) -> Result<(), Fail> {
     for case in 0..3125u32 {
         let all = sides_of_case(rt.alloc(), case)?;
-        let wanted = looked_up(rt.alloc(), all.as_slice())?;
-        gives::<Hashed<Numbered>>(&rt, rt.alloc(), all.as_slice(), wanted.as_slice())?;
+        let all = all.as_slice();
+        gives::<Hashed<Numbered>>(&rt, all, looked_up(rt.alloc(), all)?)?;
     }
     Ok(())
 }
@@ -122,26 +121,21 @@ fn sides_of_hundreds(alloc: Global) -> Result<Vec<Sides<Numbered>>, AllocError> 
 }
 
 /// Two maps of hundreds of items.
-pub(crate) fn hundreds<M: Listed<Numbered, u32>>(
-    rt: &impl Abort,
-    alloc: Global,
-) -> Result<(M, M), Fail> {
-    let all = sides_of_hundreds(alloc)?;
-    let (mut before, mut after) = (M::empty(alloc), M::empty(alloc));
-    fill(rt, &mut before, &mut after, all.as_slice());
-    Ok((before, after))
+pub(crate) fn hundreds<M: Listed<Numbered, u32>>(rt: &impl Host) -> Result<(M, M), Fail> {
+    let all = sides_of_hundreds(rt.alloc())?;
+    Ok(maps_of(rt, all.as_slice()))
 }
 
 #[test]
 fn hundreds_in_order(rt: HostRuntime) -> Result<(), Fail> {
     let all = sides_of_hundreds(rt.alloc())?;
-    let wanted = merged(rt.alloc(), all.as_slice())?;
-    gives::<Ordered<Numbered>>(&rt, rt.alloc(), all.as_slice(), wanted.as_slice())
+    let all = all.as_slice();
+    gives::<Ordered<Numbered>>(&rt, all, merged(rt.alloc(), all)?)
 }
 
 #[test]
 fn hundreds_by_hash(rt: HostRuntime) -> Result<(), Fail> {
     let all = sides_of_hundreds(rt.alloc())?;
-    let wanted = looked_up(rt.alloc(), all.as_slice())?;
-    gives::<Hashed<Numbered>>(&rt, rt.alloc(), all.as_slice(), wanted.as_slice())
+    let all = all.as_slice();
+    gives::<Hashed<Numbered>>(&rt, all, looked_up(rt.alloc(), all)?)
 }

@@ -13,16 +13,15 @@ fn spellings<M: Listed<Coarse, Caseless>>(rt: &impl Abort, alloc: Global) -> (M,
     (before, after)
 }
 
-fn shown(side: &Option<Coarse>) -> Option<([u8; 3], u32)> {
+// A name's spelling and its value, if a map has an item there.
+type Spelled = Option<([u8; 3], u32)>;
+
+fn shown(side: &Option<Coarse>) -> Spelled {
     side.as_ref().map(|item| spelled(item))
 }
 
 // Whether these are the differences, by the names' spellings and the values.
-fn are(
-    rt: &impl Abort,
-    found: &[Sides<Coarse>],
-    wanted: &[(Option<([u8; 3], u32)>, Option<([u8; 3], u32)>)],
-) {
+fn are(rt: &impl Abort, found: &[Sides<Coarse>], wanted: &[(Spelled, Spelled)]) {
     check(rt, found.len() == wanted.len());
     for (sides, other) in found.iter().zip(wanted) {
         check(rt, shown(&sides.0) == other.0 && shown(&sides.1) == other.1);
@@ -33,15 +32,12 @@ fn are(
 fn spelled_differently_in_order(rt: HostRuntime) -> Result<(), Fail> {
     let (before, after) = spellings::<Ordered<Coarse>>(&rt, rt.alloc());
     let found = before.differences(&after, rt.alloc())?;
-    are(
-        &rt,
-        found.as_slice(),
-        &[
-            (Some((*b"db1", 2)), None),
-            (None, Some((*b"Tmp", 3))),
-            (Some((*b"web", 1)), Some((*b"WEB", 1))),
-        ],
-    );
+    let wanted = [
+        (Some((*b"db1", 2)), None),
+        (None, Some((*b"Tmp", 3))),
+        (Some((*b"web", 1)), Some((*b"WEB", 1))),
+    ];
+    are(&rt, found.as_slice(), &wanted);
     check(&rt, before.changes(&after) == 2);
     Ok(())
 }
@@ -50,14 +46,11 @@ fn spelled_differently_in_order(rt: HostRuntime) -> Result<(), Fail> {
 fn spelled_differently_by_hash(rt: HostRuntime) -> Result<(), Fail> {
     let (before, after) = spellings::<Hashed<Coarse>>(&rt, rt.alloc());
     let found = before.differences(&after, rt.alloc())?;
-    are(
-        &rt,
-        found.as_slice(),
-        &[
-            (Some((*b"web", 1)), Some((*b"WEB", 1))),
-            (Some((*b"db1", 2)), None),
-            (None, Some((*b"Tmp", 3))),
-        ],
-    );
+    let wanted = [
+        (Some((*b"web", 1)), Some((*b"WEB", 1))),
+        (Some((*b"db1", 2)), None),
+        (None, Some((*b"Tmp", 3))),
+    ];
+    are(&rt, found.as_slice(), &wanted);
     Ok(())
 }
