@@ -348,11 +348,10 @@ impl Held<Host> {
                 Err(InsertError::Duplicate(both)) => Ok(shown(both.duplicates())),
                 Err(InsertError::Refused(refused)) => Err(refused),
             },
-            Way::Overwrite => Ok(
-                self.map
-                    .insert_overwrite(new)?
-                    .map_or(NONE, |few| met(&few)),
-            ),
+            Way::Overwrite => match self.map.insert_overwrite(new)? {
+                Some(replaced) => Ok(met(&replaced)),
+                None => Ok(NONE),
+            },
         }
     }
 

@@ -23,17 +23,11 @@ fn two_by_hash(alloc: Global) -> Hashed<Numbered> {
 }
 
 pub(crate) fn is_filled_to_two<M: UnderTest<Numbered, u32>>(map: &mut M) -> bool {
-    let items = [
-        numbered(1, 1),
-        numbered(2, 2),
-        numbered(1, 3),
-        numbered(3, 4),
-    ];
+    let (two, again, three) = (numbered(2, 2), numbered(1, 3), numbered(3, 4));
+    let items = [numbered(1, 1), two, again, three];
     let stopped = stopped_at(map.extend(Hinted::new(&items, 0)));
-    stopped == (Some(numbered(3, 4)), true)
-        && map.len() == 2
-        && map.get(&1) == Some(&numbered(1, 3))
-        && map.get(&2) == Some(&numbered(2, 2))
+    let is_stopped = stopped == (Some(three), true) && map.len() == 2;
+    is_stopped && map.get(&1) == Some(&again) && map.get(&2) == Some(&two)
 }
 
 #[test]
