@@ -3,7 +3,6 @@ use crate::held::*;
 use std::hash::BuildHasher;
 use test_support::hashers::{FewBits, Varying};
 
-// The hosts of either are changed, and those of the other stay.
 #[test]
 fn a_copy_is_independent(rt: HostRuntime) {
     let mut all = Hosts::with_gaps(&rt, rt.alloc());

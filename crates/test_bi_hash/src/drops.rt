@@ -149,7 +149,6 @@ fn cleared_clone(rt: HostRuntime) {
     drop_all(&rt, all, &dropped, (5, 5, 10));
 }
 
-// Items that move into vacant slots are dropped once.
 #[test]
 fn moved_by_a_shrink(rt: HostRuntime) {
     let dropped = Cell::new(0);

@@ -24,7 +24,6 @@ fn owned_duplicates(rt: HostRuntime) {
     check(&rt, owned.duplicates().get(0).copied() == Some(5));
 }
 
-// Several duplicates are shown as a list.
 #[test]
 fn duplicates_in_a_list(rt: HostRuntime) {
     let three = DuplicateItem::internal_new(5, Few::Three(5, 6, 7));
@@ -35,7 +34,6 @@ fn duplicates_in_a_list(rt: HostRuntime) {
     displays(&rt, &two, text);
 }
 
-// The two kinds of refusal differ, and each equals itself.
 #[test]
 fn kinds_differ(rt: HostRuntime) {
     let full = TryReserveError::capacity_overflow();
@@ -63,7 +61,6 @@ fn refusals_for_debugging(rt: HostRuntime) {
     debugs(&rt, &Refused { item: 5, error }, text);
 }
 
-// The error of a map whose one item is gone.
 #[test]
 fn text_of_vacant_slots(rt: HostRuntime) {
     let mut map = IdOrdMap::new(rt.alloc());

@@ -146,7 +146,6 @@ fn owned_walk_from_both_ends(rt: HostRuntime) {
     check(&rt, walk.next_back().is_none() && walk.next().is_none());
 }
 
-// The removals by position leave the others in order.
 #[test]
 fn removals_by_position(rt: HostRuntime) {
     let mut map = evens(&rt, 5);
@@ -177,7 +176,6 @@ fn removed_ranges(rt: HostRuntime) {
     }
 }
 
-// Each item of the range is dropped once, and no other.
 #[test]
 fn removed_range_drops(rt: HostRuntime) {
     let dropped = Cell::new(0);
@@ -216,7 +214,6 @@ fn ranges_of_texts(rt: HostRuntime) {
     ask_by_texts(&rt, &map, &Text("b"), &Text("melon"));
 }
 
-// Keys that are equal without regard to case, as bounds.
 #[test]
 fn ranges_of_coarse_keys(rt: HostRuntime) {
     let (bar, baz) = (item_of(*b"Bar", 1), item_of(*b"baz", 2));

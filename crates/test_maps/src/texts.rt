@@ -184,7 +184,6 @@ fn refusal_becomes_io_error(rt: HostRuntime) {
     check(&rt, AllocError::from(error) == AllocError);
 }
 
-// The keys come in the order of the items.
 #[test]
 fn keys_in_order(rt: HostRuntime) {
     let doors = two_in_order(rt.alloc());

@@ -113,7 +113,6 @@ fn writing_walk_of_one_item(rt: HostRuntime) {
     check(&rt, told == foo || told == bar);
 }
 
-// A `for` over a map that is only read.
 #[test]
 fn for_over_ordered_map(rt: HostRuntime) {
     let map = ordered_of(&rt, &[FOO, BAR, BAZ]);
