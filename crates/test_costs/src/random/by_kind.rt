@@ -15,7 +15,7 @@ pub(crate) enum List {
     Made(u64),
 }
 
-fn run<M>(rt: &impl Host, list: List, map: M) -> Result<(), Fail>
+fn run<M>(rt: &impl Host, list: List, map: M)
 where
     M: CoarseMap + Copied + Written + Bulk<Coarse> + Drop,
 {
@@ -24,22 +24,22 @@ where
         List::Refused(seed) => run_refused(rt, map, seed),
         List::Made(seed) => {
             drop(map);
-            Ok(make_many::<M>(rt, seed)?)
+            make_many::<M>(rt, seed)
         }
     }
 }
 
-pub(crate) fn run_in_order(rt: &impl Host, list: List, map: Ordered<Coarse>) -> Result<(), Fail> {
-    run(rt, list, map)
+pub(crate) fn run_in_order(rt: &impl Host, list: List, map: Ordered<Coarse>) {
+    run(rt, list, map);
 }
 
-pub(crate) fn run_by_hash(rt: &impl Host, list: List, map: Hashed<Coarse>) -> Result<(), Fail> {
-    run(rt, list, map)
+pub(crate) fn run_by_hash(rt: &impl Host, list: List, map: Hashed<Coarse>) {
+    run(rt, list, map);
 }
 
 /// Over a hash map whose every hash is 0.
-pub(crate) fn run_by_zero(rt: &impl Host, list: List) -> Result<(), Fail> {
+pub(crate) fn run_by_zero(rt: &impl Host, list: List) {
     let hasher: BuildHasherDefault<ZeroHasher> = BuildHasherDefault::new();
     let map = IdHashMap::with_hasher(rt.alloc(), hasher);
-    run(rt, list, Hashed::new(map))
+    run(rt, list, Hashed::new(map));
 }

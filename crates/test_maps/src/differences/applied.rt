@@ -41,21 +41,19 @@ pub(crate) fn brought_up_by_hash<T: IdHashItem + Clone + Drop>(
 
 // With memory at hand the copy has the items of the new map, and no other.
 #[test]
-fn hundreds_in_order(rt: HostRuntime) -> Result<(), Fail> {
-    let (before, after) = hundreds::<Ordered<Numbered>>(&rt)?;
-    let (copy, is_refused) = brought_up(rt.alloc(), &before, &after)?;
+fn hundreds_in_order(rt: HostRuntime) {
+    let (before, after) = hundreds::<Ordered<Numbered>>(&rt);
+    let (copy, is_refused) = brought_up(rt.alloc(), &before, &after).expect(&rt, "memory");
     check(&rt, !is_refused);
     check(&rt, copy.has_keys_of(&after) && copy.changes(&after) == 0);
     check(&rt, copy.len() == after.len());
-    Ok(())
 }
 
 #[test]
-fn hundreds_by_hash(rt: HostRuntime) -> Result<(), Fail> {
-    let (before, after) = hundreds::<Hashed<Numbered>>(&rt)?;
-    let (copy, is_refused) = brought_up_by_hash(rt.alloc(), &before, &after)?;
+fn hundreds_by_hash(rt: HostRuntime) {
+    let (before, after) = hundreds::<Hashed<Numbered>>(&rt);
+    let (copy, is_refused) = brought_up_by_hash(rt.alloc(), &before, &after).expect(&rt, "memory");
     check(&rt, !is_refused);
     check(&rt, copy.has_keys_of(&after) && copy.changes(&after) == 0);
     check(&rt, copy.len() == after.len());
-    Ok(())
 }

@@ -29,9 +29,9 @@ fn are(rt: &impl Abort, found: &[Sides<Coarse>], wanted: &[(Spelled, Spelled)]) 
 }
 
 #[test]
-fn spelled_differently_in_order(rt: HostRuntime) -> Result<(), Fail> {
+fn spelled_differently_in_order(rt: HostRuntime) {
     let (before, after) = spellings::<Ordered<Coarse>>(&rt, rt.alloc());
-    let found = before.differences(&after, rt.alloc())?;
+    let found = before.differences(&after, rt.alloc()).expect(&rt, "memory");
     let wanted = [
         (Some((*b"db1", 2)), None),
         (None, Some((*b"Tmp", 3))),
@@ -39,18 +39,16 @@ fn spelled_differently_in_order(rt: HostRuntime) -> Result<(), Fail> {
     ];
     are(&rt, found.as_slice(), &wanted);
     check(&rt, before.changes(&after) == 2);
-    Ok(())
 }
 
 #[test]
-fn spelled_differently_by_hash(rt: HostRuntime) -> Result<(), Fail> {
+fn spelled_differently_by_hash(rt: HostRuntime) {
     let (before, after) = spellings::<Hashed<Coarse>>(&rt, rt.alloc());
-    let found = before.differences(&after, rt.alloc())?;
+    let found = before.differences(&after, rt.alloc()).expect(&rt, "memory");
     let wanted = [
         (Some((*b"web", 1)), Some((*b"WEB", 1))),
         (Some((*b"db1", 2)), None),
         (None, Some((*b"Tmp", 3))),
     ];
     are(&rt, found.as_slice(), &wanted);
-    Ok(())
 }
