@@ -1,9 +1,6 @@
 //! Clones with a request refused: nothing is made, and the map is as it was.
 use crate::entries::{fill, holds};
 use crate::prelude::*;
-use test_support::coarse::{CoarseMap, Copied};
-use test_support::heap::has_leaked;
-use test_support::kept::Kept;
 
 // The word for a copy that is dropped: whether it was whole, or was refused. The map is as it was, and no more memory is
 // held than before.

@@ -1,8 +1,6 @@
 //! Insertions that are refused, on both maps: those by an entry stand here.
 use crate::prelude::*;
 use iddqd::errors::Refused;
-use test_support::caseless::{Caseless, Coarse, item_of, spelled};
-use test_support::coarse::{CoarseMap, Put, spelled_at};
 
 /// Names that ascend with their numbers. Their last byte is no letter.
 pub(crate) fn name(number: u8) -> [u8; 3] {

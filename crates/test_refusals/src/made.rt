@@ -1,7 +1,6 @@
 //! Maps that are made, of either kind, with a request refused: then nothing is.
 use crate::numbers::{Row, fill, hashed, holds, numbers, ordered};
 use crate::prelude::*;
-use iddqd::{DefaultHashBuilder, IdHashMap, IdOrdMap};
 
 // Ends the count: the word for a map that was made, if it is right.
 fn word(alloc: Global, made: Result<bool, TryReserveError>) -> Word {

@@ -6,9 +6,6 @@ use crate::maps::akin;
 use crate::prelude::*;
 use crate::rooms::{extension, room, shrink};
 use crate::walks::walks;
-use iddqd::{DefaultHashBuilder, IdHashMap, IdOrdMap};
-use test_support::visitors::Visited;
-use test_support::walks::Walked;
 
 /// A row, as it is asked of a map.
 #[derive(Clone, Copy)]
