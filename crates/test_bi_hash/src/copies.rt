@@ -1,11 +1,8 @@
 //! Copies of a map, and equality of two.
-use crate::held::{By, Held, Host, Hosts, NONE, Step, Way, check, host, host_of, left};
-use iddqd_bi_hash::BiHashMap;
-use std::alloc::Global;
-use std::process::Abort;
+use crate::held::*;
+use std::hash::BuildHasher;
 use test_support::hashers::{FewBits, Varying};
 
-// The hosts of either are changed, and those of the other stay.
 #[test]
 fn a_copy_is_independent(rt: HostRuntime) {
     let mut all = Hosts::with_gaps(&rt, rt.alloc());
@@ -47,6 +44,11 @@ fn a_copy_of_none(rt: HostRuntime) {
     check(&rt, all.holds(&[]));
 }
 
+// Whether the hosts below twenty are found, and no other.
+fn has_twenty<S: BuildHasher>(all: &Held<Host, S>) -> bool {
+    !all.contains(By::First, &20, &0) && all.holds_below(20)
+}
+
 // The hosts are found under the hasher of the copy, which tells few hashes apart.
 #[test]
 fn a_copy_has_the_hasher(rt: HostRuntime) {
@@ -54,10 +56,7 @@ fn a_copy_has_the_hasher(rt: HostRuntime) {
     let mut all = Held::over(BiHashMap::with_hasher(rt.alloc(), hasher));
     all.fill(&rt, 20);
     let copy = Held::over(all.map.clone().expect(&rt, "memory"));
-    for each in [&copy, &all] {
-        let is_found = each.contains(By::First, &20, &0);
-        check(&rt, !is_found && each.holds_below(20));
-    }
+    check(&rt, has_twenty(&copy) && has_twenty(&all));
 }
 
 fn are_equal(rt: &impl Abort, one: &Hosts, other: &Hosts) -> bool {

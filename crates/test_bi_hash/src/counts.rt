@@ -1,9 +1,6 @@
 //! How often each call compares and hashes the keys, of items whose two keys count that.
-use crate::held::{By, Held, Load, Way, check};
-use iddqd_bi_hash::{BiHashItem, BiHashMap};
-use std::alloc::Global;
+use crate::held::*;
 use std::hash::{BuildHasher, BuildHasherDefault};
-use std::process::Abort;
 use test_support::counting::{CountingKey, Counts as Tally};
 use test_support::hashers::ZeroHasher;
 

@@ -1,9 +1,8 @@
 //! Each item that a map of two keys drops is dropped once.
-use crate::held::{Held, Way, check};
-use iddqd_bi_hash::{BiHashItem, BiHashMap, Visit};
-use std::alloc::{AllocError, Global};
+use crate::held::*;
+use iddqd_bi_hash::Visit;
+use std::alloc::AllocError;
 use std::cell::Cell;
-use std::process::Abort;
 
 // Two keys, and the cell that counts each drop of such an item.
 struct Ticket<'a> {
@@ -150,7 +149,6 @@ fn cleared_clone(rt: HostRuntime) {
     drop_all(&rt, all, &dropped, (5, 5, 10));
 }
 
-// Items that move into vacant slots are dropped once.
 #[test]
 fn moved_by_a_shrink(rt: HostRuntime) {
     let dropped = Cell::new(0);

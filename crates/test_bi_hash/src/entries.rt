@@ -1,8 +1,6 @@
 //! Entries: what they find, and what they insert, replace and remove.
-use crate::held::{Held, Host, Hosts, Met, check, host, host_of, met, shown};
+use crate::held::*;
 use iddqd_bi_hash::bi_hash_map::Entry;
-use iddqd_bi_hash::{BiHashMap, Keyed};
-use std::process::Abort;
 
 // What is done with the hosts of an entry.
 #[derive(Clone, Copy)]
@@ -75,7 +73,6 @@ fn is_inserted(all: Hosts, new: Host) -> bool {
     is_in && map.len() == 1
 }
 
-// With memory at hand a vacant entry inserts.
 #[test]
 fn a_vacant_entry_inserts(rt: HostRuntime) {
     check(&rt, is_inserted(Hosts::new(rt.alloc()), host(1)));
@@ -127,7 +124,6 @@ fn an_inserted_entry_has_the_item(rt: HostRuntime) {
     check(&rt, all.holds(&[host(0), host(1)]));
 }
 
-// The keys of one host, of two, of one alone, and of none.
 #[test]
 fn a_unique_entry_is_written(rt: HostRuntime) {
     let mut all = Hosts::below(&rt, rt.alloc(), 3);

@@ -1,6 +1,6 @@
 //! Many hosts at once, none of which may have a key of another.
 use crate::bulk::hints_reserve;
-use crate::held::{Host, Hosts, Met, NONE, Step, TOO_MANY, Way, host, host_of};
+use crate::held::*;
 use crate::rows::hosts;
 
 // `extend_unique` by the hosts, which a repeat of these ends.

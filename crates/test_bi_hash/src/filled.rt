@@ -1,10 +1,6 @@
 //! Calls that allocate succeed while memory is at hand: with some hundred hosts the store and both indexes grow often.
-use crate::held::{Held, Hosts, Way, check, host, hosts_between};
+use crate::held::*;
 use crate::refused::{is_unmade, made_twice, put_all};
-use iddqd_bi_hash::{BiHashMap, DefaultHashBuilder};
-use std::alloc::Global;
-use std::process::Abort;
-use test_support::bulk::Hinted;
 
 const COUNT: u32 = 300;
 

@@ -6,15 +6,16 @@ ghost use Rattle.iddqd_bi_hash.specs.Hashing.{hash_under};
 ghost use Rattle.iddqd_bi_hash.specs.BiHashItems.{BiHashItems, IsKeyedByBoth};
 
 pub(crate) use crate::hosts::Host;
-use iddqd_bi_hash::{
-    BiHashItem, BiHashMap, DefaultHashBuilder, ExtendUniqueError, Few, FromIterError, InsertError,
-    Keyed, Refused, TryReserveError, ValidateCompact,
+use iddqd_bi_hash::{ExtendUniqueError, Few, InsertError, Refused, TryReserveError};
+pub(crate) use iddqd_bi_hash::{
+    BiHashItem, BiHashMap, DefaultHashBuilder, FromIterError, Keyed, ValidateCompact,
 };
-use std::alloc::Global;
+pub(crate) use std::alloc::Global;
 use std::hash::BuildHasher;
 use std::marker::{Model, PhantomData};
-use std::process::Abort;
-use test_support::bulk::Hinted;
+pub(crate) use std::process::Abort;
+pub(crate) use test_support::bulk::Hinted;
+pub(crate) use test_support::heap::{arm, has_leaked, is_met};
 
 pub(crate) fn check(rt: &impl Abort, condition: bool) {
     assert!(rt; condition);
@@ -91,10 +92,7 @@ pub(crate) fn met(few: &Few<Host>) -> Met {
 }
 
 pub(crate) fn shown(few: &Few<&Host>) -> Met {
-    match few {
-        Few::One(one) => (Some(**one), None),
-        Few::Two(one, other) | Few::Three(one, other, _) => (Some(**one), Some(**other)),
-    }
+    (few.get(0).copied().copied(), few.get(1).copied().copied())
 }
 
 /// An item whose load can be written, if it has one.
@@ -272,13 +270,22 @@ impl<S: BuildHasher> Held<Host, S> {
 
     /// Whether each host of a number below this one is found by both keys, and the map has no other.
     pub(crate) fn holds_below(&self, count: u32) -> bool {
-        let are_found = (0..count).all(|number| self.has_host(host(number)));
-        are_found && self.has(count as usize) && self.is_compact()
+        for number in 0..count {
+            if !self.has_host(host(number)) {
+                return false;
+            }
+        }
+        self.has(count as usize) && self.is_compact()
     }
 
     /// Whether each of the hosts is found by both keys, and the map has no other.
     pub(crate) fn holds(&self, hosts: &[Host]) -> bool {
-        hosts.iter().all(|wanted| self.has_host(*wanted)) && self.has(hosts.len())
+        for wanted in hosts {
+            if !self.has_host(*wanted) {
+                return false;
+            }
+        }
+        self.has(hosts.len())
     }
 }
 
@@ -341,11 +348,10 @@ impl Held<Host> {
                 Err(InsertError::Duplicate(both)) => Ok(shown(both.duplicates())),
                 Err(InsertError::Refused(refused)) => Err(refused),
             },
-            Way::Overwrite => Ok(
-                self.map
-                    .insert_overwrite(new)?
-                    .map_or(NONE, |few| met(&few)),
-            ),
+            Way::Overwrite => match self.map.insert_overwrite(new)? {
+                Some(replaced) => Ok(met(&replaced)),
+                None => Ok(NONE),
+            },
         }
     }
 

@@ -1,7 +1,6 @@
 //! `or_insert` and `or_insert_with`: what an entry of no host, of one, and of two lends.
-use crate::held::{Host, Hosts, Met, check, host, host_of, shown};
+use crate::held::*;
 use iddqd_bi_hash::bi_hash_map::OccupiedEntryMut;
-use iddqd_bi_hash::{BiHashMap, Keyed};
 
 // The hosts that are lent, before a write, and whether that is by a guard, which writes the load. It is `None` if memory
 // is refused.

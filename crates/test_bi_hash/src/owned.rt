@@ -1,8 +1,5 @@
 //! Items that own memory. `tools/sweep` looks that none of it is held as a test ends.
-use crate::held::{By, Held, Host, check, host, host_of};
-use iddqd_bi_hash::BiHashMap;
-use std::alloc::Global;
-use std::process::Abort;
+use crate::held::*;
 
 fn boxed(rt: &impl Abort, alloc: Global, host: Host) -> Box<Host> {
     Box::new(alloc, host).expect(rt, "memory")

@@ -1,7 +1,5 @@
 //! Long random runs of calls, against a plain list.
-use crate::held::{By, Host, Hosts, Way, check, host_of};
-use std::alloc::Global;
-use std::process::Abort;
+use crate::held::*;
 
 // A generator by shifts (Marsaglia's of 64 bits).
 #[derive(Drop)]
@@ -14,9 +12,8 @@ impl Draws {
         self.state ^= self.state.wrapping_shl(13);
         self.state ^= self.state.wrapping_shr(7);
         self.state ^= self.state.wrapping_shl(17);
-        ((self.state.wrapping_shr(16) % 4_294_967_296) as u32)
-            .checked_rem(bound)
-            .unwrap_or(0)
+        let drawn = (self.state.wrapping_shr(16) % 4_294_967_296) as u32;
+        drawn.checked_rem(bound).unwrap_or(0)
     }
 
     fn host(&mut self) -> Host {
@@ -73,10 +70,9 @@ impl Pair {
     }
 
     fn remove(&mut self, rt: &impl Abort, host: Host) {
-        let by = if host.load % 2 == 0 {
-            By::First
-        } else {
-            By::Second
+        let by = match host.load % 2 {
+            0 => By::First,
+            _ => By::Second,
         };
         let gone = self.hosts.remove(by, &host.number, &host.address);
         check(rt, gone == self.find(by, host));

@@ -1,11 +1,6 @@
 //! Calls with requests for memory refused: which hosts are in then.
-use crate::held::{By, Host, Hosts, Made, NONE, Step, Way, check, host, host_of, hosts_between};
-use iddqd_bi_hash::{BiHashMap, DefaultHashBuilder, FromIterError};
-use std::alloc::Global;
+use crate::held::*;
 use std::io::Print;
-use std::process::Abort;
-use test_support::bulk::Hinted;
-use test_support::heap::{arm, has_leaked, is_met};
 
 /// Inserts as many hosts, each again if it is refused: how many are refused. A refusal returns the host, leaves the
 /// others, and leaves no room of the refused one.

@@ -1,9 +1,7 @@
 //! Worked examples on few hosts, some slots vacant, and keys that are equal though spelled differently.
-use crate::held::{By, Held, Hosts, NONE, Step, Way, check, host, host_of};
-use iddqd_bi_hash::{BiHashItem, Few, ValidateCompact};
-use std::alloc::Global;
+use crate::held::*;
+use iddqd_bi_hash::Few;
 use std::cell::Cell;
-use std::process::Abort;
 use test_support::caseless::Caseless;
 
 /// Hosts 1 to 3, of which 2 and 3 leave, so that slots are vacant; 4 and 5 come.

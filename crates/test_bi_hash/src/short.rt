@@ -1,10 +1,7 @@
 //! Copies, shrinks and calls on many hosts with requests for memory refused: which hosts are in then.
-use crate::held::{Hosts, NONE, Way, check, host, hosts_between};
+use crate::held::*;
 use crate::refused::{is_unmade, made_twice, tell, tell_refused};
-use std::alloc::Global;
 use std::io::Print;
-use std::process::Abort;
-use test_support::heap::{arm, has_leaked, is_met};
 
 #[test]
 fn clone(rt: HostRuntime) {

@@ -1,7 +1,5 @@
 //! What a shrink leaves.
-use crate::held::{By, Hosts, NONE, Step, Way, check, host, left};
-use std::alloc::Global;
-use std::process::Abort;
+use crate::held::*;
 
 // Hosts with vacant slots among them, and room for a hundred more.
 fn with_room(rt: &impl Abort, alloc: Global) -> Hosts {

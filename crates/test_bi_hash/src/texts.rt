@@ -1,8 +1,6 @@
 //! What `Debug` writes of a map, of its guards and of its writing walk.
-use crate::held::{Hosts, check, host_of};
-use std::alloc::Global;
+use crate::held::*;
 use std::fmt::Debug;
-use std::process::Abort;
 
 // Whether it is written so.
 fn is_debugged(alloc: Global, value: &impl Debug, expected: &str) -> bool {

@@ -1,8 +1,7 @@
 //! Walks over keys, walks that write, visits, and checks of the structure, some slots vacant.
-use crate::held::{By, Host, Hosts, NONE, Step, Way, check, host_of as host, left};
-use iddqd_bi_hash::{ValidateCompact, Visit};
+use crate::held::*;
+use iddqd_bi_hash::Visit;
 use std::cell::Cell;
-use test_support::heap::{arm, is_met};
 
 #[test]
 fn keys_in_the_order_of_iter(rt: HostRuntime) {
@@ -32,17 +31,17 @@ fn keys_announce_how_many_come(rt: HostRuntime) {
 #[test]
 fn each_host_is_lent_once(rt: HostRuntime) {
     let mut all = Hosts::with_gaps(&rt, rt.alloc());
-    let two = host(2, 102, 3);
-    let raised = [host(0, 100, 1), two, host(5, 105, 6)];
+    let two = host_of(2, 102, 3);
+    let raised = [host_of(0, 100, 1), two, host_of(5, 105, 6)];
     let steps = [
-        Step::Remove(By::First, 3, 0, Some(host(3, 103, 3))),
+        Step::Remove(By::First, 3, 0, Some(host_of(3, 103, 3))),
         Step::Raise(3),
         Step::Holds(&raised),
         Step::Remove(By::Second, 0, 102, Some(two)),
         Step::Raise(2),
     ];
     all.run(&rt, &steps);
-    check(&rt, all.holds(&[host(0, 100, 2), host(5, 105, 7)]));
+    check(&rt, all.holds(&[host_of(0, 100, 2), host_of(5, 105, 7)]));
     all.map.clear();
     all.run(&rt, &[Step::Raise(0)]);
 }
@@ -84,8 +83,8 @@ fn each_host_is_visited_once(rt: HostRuntime) {
     let asked = Cell::new(0);
     all.map.retain_mut(&mut KeepsEven { asked: &asked });
     check(&rt, asked.get() == 4 && all.map.vacant() == 4);
-    let (zero, two) = (host(0, 100, 7), host(2, 102, 7));
-    let (nine, five) = (host(9, 103, 9), host(5, 109, 5));
+    let (zero, two) = (host_of(0, 100, 7), host_of(2, 102, 7));
+    let (nine, five) = (host_of(9, 103, 9), host_of(5, 109, 5));
     check(&rt, all.holds(&[zero, two]));
     let steps = [
         Step::Contains(By::First, 3, 0, false),
@@ -124,6 +123,6 @@ fn walked_without_memory(rt: HostRuntime) {
     let asked = Cell::new(0);
     all.map.retain_mut(&mut KeepsEven { asked: &asked });
     check(&rt, asked.get() == 4);
-    check(&rt, all.holds(&[host(0, 100, 7), host(2, 102, 7)]));
+    check(&rt, all.holds(&[host_of(0, 100, 7), host_of(2, 102, 7)]));
     check(&rt, !is_met(rt.alloc()));
 }

@@ -1,8 +1,7 @@
 //! How often the calls on all items, or on many, compare and hash the keys.
 use crate::counts::{Counted, Tallies, length_collected};
-use crate::held::{Way, check};
-use iddqd_bi_hash::{ValidateCompact, Visit};
-use test_support::bulk::Hinted;
+use crate::held::*;
+use iddqd_bi_hash::Visit;
 
 // Keeps the items of first keys above one.
 #[derive(Clone, Copy)]

@@ -10,9 +10,7 @@ use iddqd_bi_hash::{BiHashItem, BiHashMap, Few, InsertError, Refused, Text};
 /// An account, by its number and by the address of its owner.
 #[derive(Drop)]
 pub(crate) struct Account {
-    /// The first key.
     pub(crate) number: u64,
-    /// The second key.
     pub(crate) email: String,
     /// How much it may hold.
     pub(crate) quota: u32,

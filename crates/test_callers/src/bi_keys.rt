@@ -8,118 +8,68 @@ ghost use Rattle.test_callers.specs.Accounts.{of_number};
 use crate::bi_accounts::Account;
 use iddqd_bi_hash::{BiHashItem, BiHashMap, Keyed, Text};
 use std::collections::hash_map::RandomState;
+use std::hash::Hash;
 
-/// A badge, by its owner and by its number.
+/// An item of two keys, with what is written beside them.
 #[derive(Drop)]
-pub(crate) struct Badge {
-    /// The first key.
-    pub(crate) owner: String,
-    /// The second key.
-    pub(crate) number: u32,
+pub(crate) struct Linked<A, B> {
+    one: A,
+    other: B,
+    load: u32,
 }
 
-impl BiHashItem for Badge {
-    type K1 = String;
+impl<A: Eq + Hash, B: Eq + Hash> BiHashItem for Linked<A, B> {
+    type K1 = A;
 
-    type K2 = u32;
+    type K2 = B;
 
-    ghost key1 = { λ b. b.owner };
+    ghost key1 = { λ item. item.one };
 
-    ghost key2 = { λ b. b.number };
+    ghost key2 = { λ item. item.other };
 
-    fn key1(&self) -> &String {
-        &self.owner
+    fn key1(&self) -> &A {
+        &self.one
     }
 
-    fn key2(&self) -> &u32 {
-        &self.number
-    }
-}
-
-/// Two names of one thing.
-#[derive(Drop)]
-pub(crate) struct Alias {
-    /// The first key.
-    pub(crate) long: String,
-    /// The second key.
-    pub(crate) short: String,
-}
-
-impl BiHashItem for Alias {
-    type K1 = String;
-
-    type K2 = String;
-
-    ghost key1 = { λ a. a.long };
-
-    ghost key2 = { λ a. a.short };
-
-    fn key1(&self) -> &String {
-        &self.long
-    }
-
-    fn key2(&self) -> &String {
-        &self.short
+    fn key2(&self) -> &B {
+        &self.other
     }
 }
 
-/// A host, by its number and by its address.
-#[derive(Drop)]
-pub(crate) struct Host {
-    /// The first key.
-    pub(crate) number: u32,
-    /// The second key.
-    pub(crate) address: u64,
-    /// What is known of it.
-    pub(crate) load: u32,
-}
+type Badge = Linked<String, u32>;
 
-impl BiHashItem for Host {
-    type K1 = u32;
+type Alias = Linked<String, String>;
 
-    type K2 = u64;
-
-    ghost key1 = { λ h. h.number };
-
-    ghost key2 = { λ h. h.address };
-
-    fn key1(&self) -> &u32 {
-        &self.number
-    }
-
-    fn key2(&self) -> &u64 {
-        &self.address
-    }
-}
+type Host = Linked<u32, u64>;
 
 /// A text and a number.
 fn add_badge(all: &mut BiHashMap<Badge>, badge: Badge) -> bool
-    requires keyed { IsKeyedByTextAndNumber u32 (λ b. b.owner) (λ b. b.number) all.old }
-    ensures keyed { IsKeyedByTextAndNumber u32 (λ b. b.owner) (λ b. b.number) all.new }
+    requires keyed { IsKeyedByTextAndNumber u32 (λ b. b.one) (λ b. b.other) all.old }
+    ensures keyed { IsKeyedByTextAndNumber u32 (λ b. b.one) (λ b. b.other) all.new }
 {
     !all.contains_key1(&Text("nobody")) && all.insert_unique(badge).is_ok()
 }
 
 /// The same with a random seed.
 fn remove_badge(all: &mut BiHashMap<Badge, RandomState>, number: u32) -> Option<Badge>
-    requires keyed { IsKeyedByTextAndNumberUnder random_hash u32 (λ b. b.owner) (λ b. b.number) all.old }
-    ensures keyed { IsKeyedByTextAndNumberUnder random_hash u32 (λ b. b.owner) (λ b. b.number) all.new }
+    requires keyed { IsKeyedByTextAndNumberUnder random_hash u32 (λ b. b.one) (λ b. b.other) all.old }
+    ensures keyed { IsKeyedByTextAndNumberUnder random_hash u32 (λ b. b.one) (λ b. b.other) all.new }
 {
     all.remove2(&number)
 }
 
 /// Two texts.
 fn add_alias(all: &mut BiHashMap<Alias>, alias: Alias) -> bool
-    requires keyed { IsKeyedByTexts (λ a. a.long) (λ a. a.short) all.old }
-    ensures keyed { IsKeyedByTexts (λ a. a.long) (λ a. a.short) all.new }
+    requires keyed { IsKeyedByTexts (λ a. a.one) (λ a. a.other) all.old }
+    ensures keyed { IsKeyedByTexts (λ a. a.one) (λ a. a.other) all.new }
 {
     all.insert_overwrite(alias).is_ok()
 }
 
 /// The same with a random seed.
 fn remove_alias(all: &mut BiHashMap<Alias, RandomState>, short: &str) -> Option<Alias>
-    requires keyed { IsKeyedByTextsUnder random_hash (λ a. a.long) (λ a. a.short) all.old }
-    ensures keyed { IsKeyedByTextsUnder random_hash (λ a. a.long) (λ a. a.short) all.new }
+    requires keyed { IsKeyedByTextsUnder random_hash (λ a. a.one) (λ a. a.other) all.old }
+    ensures keyed { IsKeyedByTextsUnder random_hash (λ a. a.one) (λ a. a.other) all.new }
 {
     all.remove2(&Text(short))
 }

@@ -63,20 +63,14 @@ fn put_all(all: &mut IdHashMap<Named>, items: Vec<Named>) -> bool
     ensures put { IsTrue result → PutsAll all.old.limit items.items all.old.items all.new.items }
     ensures keyed { IsKeyedByText (λ x. x.name) all.new }
 {
-    match all.extend(items) {
-        Ok(()) => true,
-        Err(_error) => false,
-    }
+    all.extend(items).is_ok()
 }
 
 /// Collects the items, of each name the last one.
 fn collect(alloc: Global, items: Vec<Named>) -> Option<IdHashMap<Named>>
     ensures { IfSome result (λ m. PutsAll MAX_ITEMS items.items [] m.items) }
 {
-    match IdHashMap::from_iter(alloc, items) {
-        Ok(map) => Some(map),
-        Err(_error) => None,
-    }
+    IdHashMap::from_iter(alloc, items).ok()
 }
 
 /// Collects the items, if each has a name of its own.

@@ -8,9 +8,7 @@ use iddqd::{IdHashItem, IdOrdItem, Visit};
 /// A number and a note.
 #[derive(Drop)]
 pub(crate) struct Noted {
-    /// What it is found by.
     pub(crate) number: u32,
-    /// What is noted.
     pub(crate) note: String,
 }
 
@@ -46,11 +44,8 @@ pub(crate) struct At {
 /// What happened, and how long it took.
 #[derive(Drop)]
 pub(crate) struct Event {
-    /// What it is found by.
     pub(crate) at: At,
-    /// How long it took.
     pub(crate) took: u32,
-    /// What happened.
     pub(crate) note: String,
 }
 
@@ -77,7 +72,6 @@ impl IdHashItem for Event {
 /// Takes off some of what each event took. Those that took more stay.
 #[derive(Drop)]
 pub(crate) struct TakesOff {
-    /// How much is taken off.
     pub(crate) off: u32,
 }
 

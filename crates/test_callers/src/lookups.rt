@@ -10,7 +10,6 @@ use crate::items::Noted;
 use iddqd::{IdHashMap, IdOrdMap, Text};
 use test_writers::items::Named;
 
-/// The value of the name, in an ordered map.
 fn value_of(map: &IdOrdMap<Named>, name: &str) -> Option<u32>
     requires keyed { Ascends (λ x. x.name) string_cmp map.now.items }
     ensures { result ≡ option_map (λ x. x.value) (of_name name.now map.now.items) }
@@ -18,7 +17,6 @@ fn value_of(map: &IdOrdMap<Named>, name: &str) -> Option<u32>
     Some(map.get(&Text(name))?.value)
 }
 
-/// The value of the name, in a hash map.
 fn hash_value_of(map: &IdHashMap<Named>, name: &str) -> Option<u32>
     requires keyed { IsKeyedByText (λ x. x.name) map.now }
     ensures { result ≡ option_map (λ x. x.value) (of_name name.now map.now.items) }

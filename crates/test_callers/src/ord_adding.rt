@@ -14,10 +14,7 @@ fn add_all(all: &mut IdOrdMap<Named>, items: Vec<Named>) -> bool
         (all.old.items ++ items.items) all.new.items }
     ensures keyed { Ascends (λ x. x.name) string_cmp all.new.items }
 {
-    match all.extend_unique(items) {
-        Ok(()) => true,
-        Err(_error) => false,
-    }
+    all.extend_unique(items).is_ok()
 }
 
 /// Collects the items, if each has a name of its own.
@@ -25,10 +22,7 @@ fn collect_unique(alloc: Global, items: Vec<Named>) -> Option<IdOrdMap<Named>>
     ensures differ { IfSome result (λ _. NoTwoAkin (λ x. x.name) string_eq items.items) }
     ensures same { IfSome result (λ m. IsPermutation items.items m.items) }
 {
-    match IdOrdMap::from_iter_unique(alloc, items) {
-        Ok(map) => Some(map),
-        Err(_error) => None,
-    }
+    IdOrdMap::from_iter_unique(alloc, items).ok()
 }
 
 /// Gives back the memory that is not needed for the items, or for eight of them.

@@ -7,7 +7,6 @@ use crate::items::{At, Event};
 use iddqd::id_ord_map::Entry;
 use iddqd::{IdHashMap, IdOrdMap, Keyed};
 
-/// Adds an event to an ordered map.
 #[tactic(auto, using(iddqd::proofs::ChangeLemmas::after_changes, std::proofs::lemmas::Bool::Decides::nat_tests))]
 fn add(all: &mut IdOrdMap<Event>, event: Event) -> bool
     requires keyed { Ascends (λ e. e.at) ⟦<At as Ord>⟧.cmp all.old.items }
@@ -18,7 +17,6 @@ fn add(all: &mut IdOrdMap<Event>, event: Event) -> bool
     all.insert_unique(event).is_ok()
 }
 
-/// Removes an event.
 #[tactic(auto, using(iddqd::proofs::ChangeLemmas::after_changes, std::proofs::lemmas::Bool::Decides::nat_tests))]
 fn remove(all: &mut IdOrdMap<Event>, at: &At) -> Option<Event>
     requires keyed { Ascends (λ e. e.at) ⟦<At as Ord>⟧.cmp all.old.items }
@@ -29,7 +27,6 @@ fn remove(all: &mut IdOrdMap<Event>, at: &At) -> Option<Event>
     all.remove(at)
 }
 
-/// Writes through a guard.
 #[tactic(auto, using(iddqd::proofs::ChangeLemmas::after_changes, std::proofs::lemmas::Bool::Decides::nat_tests))]
 fn set_took(all: &mut IdOrdMap<Event>, at: &At, took: u32)
     requires keyed { Ascends (λ e. e.at) ⟦<At as Ord>⟧.cmp all.old.items }
@@ -42,7 +39,6 @@ fn set_took(all: &mut IdOrdMap<Event>, at: &At, took: u32)
     }
 }
 
-/// Writes through an entry.
 #[tactic(auto, using(iddqd::proofs::ChangeLemmas::after_changes, std::proofs::lemmas::Bool::Decides::nat_tests))]
 fn set_took_by_entry(all: &mut IdOrdMap<Event>, at: &At, took: u32)
     requires keyed { Ascends (λ e. e.at) ⟦<At as Ord>⟧.cmp all.old.items }
@@ -55,7 +51,6 @@ fn set_took_by_entry(all: &mut IdOrdMap<Event>, at: &At, took: u32)
     }
 }
 
-/// Adds an event to a hash map.
 #[tactic(auto, using(iddqd::proofs::ChangeLemmas::after_changes, std::proofs::lemmas::Bool::Decides::nat_tests))]
 fn add_hashed(all: &mut IdHashMap<Event>, event: Event) -> bool
     requires keyed { ⟦<IdHashMap<Event> as Keyed>⟧.keyed all.old }
@@ -66,7 +61,6 @@ fn add_hashed(all: &mut IdHashMap<Event>, event: Event) -> bool
     all.insert_unique(event).is_ok()
 }
 
-/// Writes through a guard.
 #[tactic(auto, using(iddqd::proofs::ChangeLemmas::after_changes, std::proofs::lemmas::Bool::Decides::nat_tests))]
 fn set_took_hashed(all: &mut IdHashMap<Event>, at: &At, took: u32)
     requires keyed { ⟦<IdHashMap<Event> as Keyed>⟧.keyed all.old }

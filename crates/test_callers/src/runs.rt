@@ -31,9 +31,7 @@ impl Visit<Pair> for Sets {
 /// What a map of each kind replied.
 #[derive(Drop)]
 pub(crate) struct BothReplies {
-    /// The hash map.
     pub(crate) hashed: Vec<Reply<Pair>>,
-    /// The ordered map.
     pub(crate) ordered: Vec<Reply<Pair>>,
 }
 

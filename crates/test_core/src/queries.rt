@@ -23,7 +23,6 @@ fn keys_of_what_is_held(rt: HostRuntime) -> Result<(), Fail> {
     Ok(())
 }
 
-// Each comparison is one step.
 #[test]
 fn counts(rt: HostRuntime) {
     let mut steps = Steps::new();

@@ -64,10 +64,8 @@ fn store_against_list(rt: HostRuntime) {
     check(&rt, goes_into(&mut store, 14, 1));
     assert_holds(&rt, &store, &[Some(10), Some(14), Some(12), Some(13)]);
     check(&rt, store.get(2).is_some() && store.replace(2, 15) == 12);
-    check(
-        &rt,
-        store.get(3).is_some() && mem::replace(store.get_mut(3), 16) == 13,
-    );
+    check(&rt, store.get(3).is_some());
+    check(&rt, mem::replace(store.get_mut(3), 16) == 13);
     assert_holds(&rt, &store, &[Some(10), Some(14), Some(15), Some(16)]);
     // the last slot is vacant too: it is cut off, and the item before it moves
     check(&rt, taken(&mut store, 3) == Some(16));

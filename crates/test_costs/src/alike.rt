@@ -3,8 +3,6 @@ ghost use Rattle.iddqd.specs.Contents.{ClonesKeepKeys};
 
 use crate::metered::ordered;
 use crate::prelude::*;
-use iddqd::{IdHashItem, IdOrdItem};
-use std::hash::BuildHasher;
 
 fn equal_in_order<T>((one, other): (Ordered<T>, Ordered<T>), meter: Meter<'_>)
 where

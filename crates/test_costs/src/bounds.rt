@@ -1,7 +1,6 @@
 //! The calls of an ordered map alone: a position and a bound cost one search, the ends of the map none.
 use crate::metered::ordered;
 use crate::prelude::*;
-use iddqd::IdOrdItem;
 use std::ops::Bound;
 
 fn ends<T: IdOrdItem + Copy + Drop>(mut map: Ordered<T>, meter: Meter<'_>) {
@@ -67,16 +66,9 @@ fn bounds_search_once(rt: HostRuntime) -> Result<(), Fail> {
     let absent = meter.counts.items(rt.alloc(), 1, 50)?;
     let (items, absent) = (items.as_slice(), absent.as_slice());
     let counts = meter.counts;
-    let ranges = [
-        (counts.item(14), counts.item(20)),
-        (counts.item(41), counts.item(47)),
-    ];
-    bounds(
-        ordered(rt.alloc(), items, meter),
-        items,
-        absent,
-        ranges,
-        meter,
-    );
+    let low = (counts.item(14), counts.item(20));
+    let ranges = [low, (counts.item(41), counts.item(47))];
+    let map = ordered(rt.alloc(), items, meter);
+    bounds(map, items, absent, ranges, meter);
     tally.end()
 }

@@ -2,8 +2,6 @@
 use crate::hostile::{equals_its_clone, is_respelled, reads_and_shows};
 use crate::many::counts_nothing;
 use crate::prelude::*;
-use test_support::caseless::Coarse;
-use test_support::coarse::{CoarseMap, Copied, Way};
 
 /// A row over a map without items.
 #[derive(Clone, Copy)]

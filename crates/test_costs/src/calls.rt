@@ -1,5 +1,5 @@
 //! Calls of one item compare as often as one search, which `get_counted` tells, and hash as it does.
-use crate::metered::{Row, run_by_zero, run_in_order};
+use crate::metered::{Given, Row, run_by_zero, run_in_order};
 use crate::prelude::*;
 use test_support::maps::ByEntry;
 
@@ -31,19 +31,14 @@ fn comes_and_goes<'a, M: Metered<'a>>(map: &mut M, item: Tallied<'a>, meter: Met
     meter.tell(matches!(map.overwrite(item), Ok(None)), once);
 }
 
-pub(crate) fn each_call<'a, M: Metered<'a>>(
-    alloc: Global,
-    items: &[Tallied<'a>],
-    absent: &[Tallied<'a>],
-    meter: Meter<'a>,
-) {
-    let mut map: M = meter.map_of(alloc, items);
-    for item in items {
-        looks(&map, &item.key, true, meter);
-        comes_and_goes(&mut map, *item, meter);
+pub(crate) fn each_call<'a, M: Metered<'a>>(given: Given<'_, 'a>) {
+    let mut map: M = given.map();
+    for item in given.items {
+        looks(&map, &item.key, true, given.meter);
+        comes_and_goes(&mut map, *item, given.meter);
     }
-    for item in absent {
-        looks(&map, &item.key, false, meter);
+    for item in given.absent {
+        looks(&map, &item.key, false, given.meter);
     }
 }
 
@@ -67,13 +62,8 @@ fn twice((hashings, comparisons): Cost) -> Cost {
 }
 
 // A guard of the item, and each call on its entry: a search costs `once`, and the calls that may insert `used`.
-fn by_guard_and_entry<'a, M: Metered<'a>>(
-    alloc: Global,
-    items: &[Tallied<'a>],
-    (item, is_there): (Tallied<'a>, bool),
-    meter: Meter<'a>,
-) {
-    let mut map: M = meter.map_of(alloc, items);
+fn by_guard_and_entry<'a, M: Metered<'a>>(given: Given<'_, 'a>, item: Tallied<'a>, is_there: bool) {
+    let (mut map, meter): (M, Meter<'a>) = (given.map(), given.meter);
     let once = meter.once(&map, &item.key);
     let used = if is_there { once } else { twice(once) };
     meter.tell(map.spend(&item.key) == is_there, once);
@@ -84,22 +74,17 @@ fn by_guard_and_entry<'a, M: Metered<'a>>(
         (ByEntry::OrInsert, true, used),
         (ByEntry::OrInsertWith, true, used),
     ] {
-        let map: M = meter.map_of(alloc, items);
+        let map: M = given.map();
         meter.tell(map.enter(item, call) == wanted, cost);
     }
 }
 
-pub(crate) fn guards_and_entries<'a, M: Metered<'a>>(
-    alloc: Global,
-    items: &[Tallied<'a>],
-    absent: &[Tallied<'a>],
-    meter: Meter<'a>,
-) {
-    for item in items {
-        by_guard_and_entry::<M>(alloc, items, (*item, true), meter);
+pub(crate) fn guards_and_entries<'a, M: Metered<'a>>(given: Given<'_, 'a>) {
+    for item in given.items {
+        by_guard_and_entry::<M>(given, *item, true);
     }
-    for item in absent {
-        by_guard_and_entry::<M>(alloc, items, (*item, false), meter);
+    for item in given.absent {
+        by_guard_and_entry::<M>(given, *item, false);
     }
 }
 

@@ -1,8 +1,7 @@
 //! A key that counts its own comparisons shows the number that `Steps` shows, so no comparison goes past it.
-use crate::metered::{Row, run_by_hash, run_by_zero, run_in_order};
+use crate::metered::{Given, Row, run_by_hash, run_by_zero, run_in_order};
 use crate::numbers::{find, put, take};
 use crate::prelude::*;
-use iddqd::IdOrdItem;
 
 // The call did what is wanted, and its steps are the comparisons that the keys have counted.
 fn tell((is_done, steps): (bool, u32), wanted: bool, meter: Meter<'_>) {
@@ -45,18 +44,13 @@ fn ordered_steps_are_comparisons(rt: HostRuntime) -> Result<(), Fail> {
 }
 
 // Each lookup in a hash map of so many even numbers, and of the odd ones beside them.
-pub(crate) fn hash_steps<'a, M: Metered<'a>>(
-    alloc: Global,
-    items: &[Tallied<'a>],
-    absent: &[Tallied<'a>],
-    meter: Meter<'a>,
-) {
-    let map: M = meter.map_of(alloc, items);
-    for item in items {
-        tell(find(&map, &item.key), true, meter);
+pub(crate) fn hash_steps<'a, M: Metered<'a>>(given: Given<'_, 'a>) {
+    let map: M = given.map();
+    for item in given.items {
+        tell(find(&map, &item.key), true, given.meter);
     }
-    for item in absent {
-        tell(find(&map, &item.key), false, meter);
+    for item in given.absent {
+        tell(find(&map, &item.key), false, given.meter);
     }
 }
 
@@ -71,19 +65,14 @@ fn hashed_steps_are_comparisons(rt: HostRuntime) -> Result<(), Fail> {
 
 // Plain lookups, removals and insertions keep within the bound. The insertion of an item that is there is into a map with
 // one item less.
-pub(crate) fn plain_calls<'a, M: Metered<'a>>(
-    alloc: Global,
-    items: &[Tallied<'a>],
-    absent: &[Tallied<'a>],
-    (bound, meter): (u32, Meter<'a>),
-) {
-    let mut map: M = meter.map_of(alloc, items);
-    for item in items {
+pub(crate) fn plain_calls<'a, M: Metered<'a>>(given: Given<'_, 'a>, bound: u32) {
+    let (mut map, meter): (M, Meter<'a>) = (given.map(), given.meter);
+    for item in given.items {
         meter.tell_within(map.get(&item.key).is_some(), bound);
         meter.tell_within(map.remove(&item.key).is_some(), bound);
         meter.tell_within(map.is_put(*item), bound);
     }
-    for item in absent {
+    for item in given.absent {
         meter.tell_within(map.get(&item.key).is_none(), bound);
         meter.tell_within(map.remove(&item.key).is_none(), bound);
         meter.tell_within(map.is_put(*item), bound);

@@ -2,9 +2,7 @@
 use crate::by_number::{Row, holds_by_hash, holds_in_order};
 use crate::numbers::by_factor;
 use crate::prelude::*;
-use iddqd::errors::{ExtendError, FromIterError, TryReserveError};
-use iddqd::{DefaultHashBuilder, IdHashMap, IdOrdMap};
-use test_support::maps::Added;
+use iddqd::errors::ExtendError;
 use test_support::new_items::numbered;
 
 // The item that was refused for the limit, and whether there was such a refusal.
@@ -25,17 +23,11 @@ fn two_by_hash(alloc: Global) -> Hashed<Numbered> {
 }
 
 pub(crate) fn is_filled_to_two<M: UnderTest<Numbered, u32>>(map: &mut M) -> bool {
-    let items = [
-        numbered(1, 1),
-        numbered(2, 2),
-        numbered(1, 3),
-        numbered(3, 4),
-    ];
+    let (two, again, three) = (numbered(2, 2), numbered(1, 3), numbered(3, 4));
+    let items = [numbered(1, 1), two, again, three];
     let stopped = stopped_at(map.extend(Hinted::new(&items, 0)));
-    stopped == (Some(numbered(3, 4)), true)
-        && map.len() == 2
-        && map.get(&1) == Some(&numbered(1, 3))
-        && map.get(&2) == Some(&numbered(2, 2))
+    let is_stopped = stopped == (Some(three), true) && map.len() == 2;
+    is_stopped && map.get(&1) == Some(&again) && map.get(&2) == Some(&two)
 }
 
 #[test]

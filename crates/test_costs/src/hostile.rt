@@ -3,9 +3,6 @@ use crate::by_name::{Row, holds_by_hash, holds_in_order};
 use crate::by_number;
 use crate::numbers::{are_found, numbered, of_equal_hashes};
 use crate::prelude::*;
-use test_support::caseless::{Caseless, Coarse, item_of, spelled};
-use test_support::coarse::{CoarseMap, Copied, Way, spelled_at};
-use test_support::walks::Walked;
 
 // Whether bar 1 and Foo 2 are inserted.
 fn has_bar_and_foo<M: UnderTest<Coarse, Caseless>>(map: &mut M) -> bool {
@@ -77,7 +74,7 @@ pub(crate) fn reads_and_shows<M: CoarseMap>(map: &mut M) -> bool {
     let is_full = has_bar_and_foo(map);
     let five = (*b"Foo", 5);
     match map.write_by_reborrow(&Caseless(*b"Foo"), 5) {
-        Some((_, read, shown)) => is_full && spelled(&read) == five && spelled(&shown) == five,
+        Some([_, read, shown]) => is_full && spelled(&read) == five && spelled(&shown) == five,
         None => false,
     }
 }

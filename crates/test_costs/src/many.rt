@@ -3,10 +3,6 @@ use crate::by_name;
 use crate::by_number::{Row, holds_by_hash, holds_by_zero, holds_in_order};
 use crate::numbers::{are_put, by_factor, numbered, of_equal_hashes};
 use crate::prelude::*;
-use iddqd::IdHashMap;
-use std::collections::hash_map::RandomState;
-use test_support::caseless::Caseless;
-use test_support::coarse::CoarseMap;
 use test_support::hashers::{FewBits, Varying};
 
 // Whether each of the items is inserted, and then all are found.

@@ -1,8 +1,6 @@
 //! Calls of many items cost as many insertions or removals, and walks, room and copies no comparison.
-use crate::metered::{Row, run_by_zero, run_in_order};
+use crate::metered::{Given, Row, run_by_zero, run_in_order};
 use crate::prelude::*;
-use test_support::maps::Added;
-use test_support::walks::Walked;
 
 // What the insertions of the items cost, one by one. `extend`, which replaces each then, hashes as often.
 fn overwrites<'a, M: Metered<'a>>(mut map: M, items: &[Tallied<'a>], meter: Meter<'a>) -> Cost {
@@ -17,24 +15,18 @@ fn overwrites<'a, M: Metered<'a>>(mut map: M, items: &[Tallied<'a>], meter: Mete
 }
 
 // Both calls that add the items to a map without any.
-fn extends<'a, M: Metered<'a>>(
-    (mut one, mut other): (M, M),
-    items: &[Tallied<'a>],
-    each: Cost,
-    meter: Meter<'a>,
-) {
-    meter.tell(one.extend(Hinted::new(items, 0)).is_ok(), each);
-    let added = other.add_each(Hinted::new(items, 0));
-    meter.tell(matches!(added, Added::All), each);
+fn extends<'a, M: Metered<'a>>(given: Given<'_, 'a>, each: Cost) {
+    let (mut one, mut other) = (M::empty(given.alloc), M::empty(given.alloc));
+    let is_extended = one.extend(Hinted::new(given.items, 0)).is_ok();
+    given.meter.tell(is_extended, each);
+    let added = other.add_each(Hinted::new(given.items, 0));
+    given.meter.tell(matches!(added, Added::All), each);
 }
 
-pub(crate) fn takes_many<'a, M: Metered<'a>>(
-    alloc: Global,
-    items: &[Tallied<'a>],
-    meter: Meter<'a>,
-) {
+pub(crate) fn takes_many<'a, M: Metered<'a>>(given: Given<'_, 'a>) {
+    let (alloc, items, meter) = (given.alloc, given.items, given.meter);
     let each = overwrites(M::empty(alloc), items, meter);
-    extends((M::empty(alloc), M::empty(alloc)), items, each, meter);
+    extends::<M>(given, each);
     meter.tell(M::collected(alloc, Hinted::new(items, 0)).is_ok(), each);
     let made = M::collected_unique(alloc, Hinted::new(items, 0));
     meter.tell(made.is_ok(), each);

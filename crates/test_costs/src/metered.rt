@@ -5,7 +5,6 @@ use crate::counting::{hash_steps, plain_calls};
 use crate::many_items::{leave_and_move, takes_many, walks};
 use crate::prelude::*;
 use crate::stored::makes_room_unhashed;
-use test_support::walks::Walked;
 
 /// A row, with how many items it has if that varies.
 #[derive(Clone, Copy)]
@@ -30,7 +29,22 @@ impl Row {
     }
 }
 
-// The items are of even numbers, and those beside them, which are absent, of odd ones.
+/// Items of even numbers, those beside them of odd ones, which are absent, and what reads their keys.
+#[derive(Clone, Copy)]
+pub(crate) struct Given<'i, 'a> {
+    pub(crate) alloc: Global,
+    pub(crate) items: &'i [Tallied<'a>],
+    pub(crate) absent: &'i [Tallied<'a>],
+    pub(crate) meter: Meter<'a>,
+}
+
+impl<'a> Given<'_, 'a> {
+    /// A map of the items.
+    pub(crate) fn map<M: Metered<'a>>(self) -> M {
+        self.meter.map_of(self.alloc, self.items)
+    }
+}
+
 fn run<'a, M>(alloc: Global, row: Row, meter: Meter<'a>) -> Result<(), AllocError>
 where
     M: Metered<'a> + Walked<Tallied<'a>>,
@@ -38,15 +52,20 @@ where
 {
     let items = meter.counts.items(alloc, 0, row.count())?;
     let absent = meter.counts.items(alloc, 1, row.count().max(1))?;
-    let (items, absent) = (items.as_slice(), absent.as_slice());
+    let given = Given {
+        alloc,
+        items: items.as_slice(),
+        absent: absent.as_slice(),
+        meter,
+    };
     match row {
-        Row::EachCall(_) => each_call::<M>(alloc, items, absent, meter),
-        Row::GuardsAndEntries => guards_and_entries::<M>(alloc, items, absent, meter),
-        Row::HashSteps(_) => hash_steps::<M>(alloc, items, absent, meter),
-        Row::PlainCalls(_, bound) => plain_calls::<M>(alloc, items, absent, (bound, meter)),
-        Row::TakesMany => takes_many::<M>(alloc, items, meter),
-        Row::Walks => walks::<M>(meter.map_of(alloc, items), meter),
-        Row::LeaveAndMove => leave_and_move::<M>(meter.map_of(alloc, items), meter),
+        Row::EachCall(_) => each_call::<M>(given),
+        Row::GuardsAndEntries => guards_and_entries::<M>(given),
+        Row::HashSteps(_) => hash_steps::<M>(given),
+        Row::PlainCalls(_, bound) => plain_calls::<M>(given, bound),
+        Row::TakesMany => takes_many::<M>(given),
+        Row::Walks => walks::<M>(given.map(), meter),
+        Row::LeaveAndMove => leave_and_move::<M>(given.map(), meter),
         Row::MakesRoomUnhashed => makes_room_unhashed::<M>(M::empty(alloc), meter),
     }
     Ok(())

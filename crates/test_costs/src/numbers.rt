@@ -1,8 +1,5 @@
 //! Items by their numbers, and calls with how many steps they took.
 use crate::prelude::*;
-use iddqd::{IdHashMap, IdOrdItem};
-use std::hash::BuildHasherDefault;
-use test_support::hashers::ZeroHasher;
 
 /// The item of a number.
 pub(crate) fn numbered(number: u32) -> Numbered {

@@ -1,20 +1,30 @@
 //! What most tests here name, and what calls cost: how often they hash keys, and how often they compare them.
 ghost use Rattle.std.specs.Prelude.{IsTrue};
 
-use iddqd::IdHashMap;
+pub(crate) use iddqd::errors::{FromIterError, TryReserveError};
+pub(crate) use iddqd::{DefaultHashBuilder, IdHashItem, IdHashMap, IdOrdItem, IdOrdMap, MAX_ITEMS};
 pub(crate) use std::alloc::{AllocError, Global};
 use std::cell::Cell;
-use std::hash::{BuildHasher, BuildHasherDefault};
-use std::process::Abort;
+pub(crate) use std::collections::hash_map::RandomState;
+pub(crate) use std::hash::{BuildHasher, BuildHasherDefault};
+pub(crate) use std::process::Abort;
 pub(crate) use std::test::Fail;
 pub(crate) use test_support::bulk::{Bulk, Hinted};
+pub(crate) use test_support::caseless::{Caseless, Coarse, item_of, spelled};
+pub(crate) use test_support::coarse::{CoarseMap, Copied, Way, spelled_at};
 use test_support::counting::Counts;
 pub(crate) use test_support::counting::{CountingKey, Tallied};
-use test_support::hashers::ZeroHasher;
+pub(crate) use test_support::hashers::ZeroHasher;
 pub(crate) use test_support::items::Numbered;
 pub(crate) use test_support::maps::{
-    Copying, Hashed, Inserted, Ordered, UnderTest, by_hash, in_order,
+    Added, Copying, Hashed, Inserted, Ordered, UnderTest, by_hash, in_order,
 };
+pub(crate) use test_support::walks::Walked;
+
+/// What a test passes to its helpers: it ends the process as failed, prints, and gives memory.
+pub(crate) trait Host: Abort + Print + AllocGlobal {}
+
+impl<R: Abort + Print + AllocGlobal> Host for R {}
 
 /// Ends the test as failed if the condition is false. The proof of a call takes a third of that of an `assert!` in its
 /// place.

@@ -25,10 +25,8 @@ fn walks(map: &Ordered<Numbered>, first: u32, end: u32) -> bool {
 
 // Whether the walk has this many items, and their numbers ascend.
 fn ascends(map: &Ordered<Numbered>, count: usize) -> bool {
-    let is_sorted = map
-        .map()
-        .iter()
-        .is_sorted_by(|one, other| one.number < other.number);
+    let walk = map.map().iter();
+    let is_sorted = walk.is_sorted_by(|one, other| one.number < other.number);
     is_sorted && map.map().iter().count() == count
 }
 

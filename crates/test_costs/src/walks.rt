@@ -3,8 +3,6 @@ ghost use Rattle.std.specs.Prelude.{nat_eq};
 ghost use Rattle.std.specs.Cmp.{on_equiv, on_per, nat_eq_equiv, partial_equiv_from_equiv};
 
 use crate::prelude::*;
-use iddqd::{IdHashItem, IdHashMap, IdOrdItem, IdOrdMap};
-use std::process::Abort;
 use test_support::items::Named;
 use test_support::new_items::named;
 

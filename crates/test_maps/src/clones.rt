@@ -1,9 +1,6 @@
 //! Rows of clones.
-use crate::checks::check;
-use std::process::Abort;
-use test_support::caseless::{Caseless, item_of};
-use test_support::coarse::{CoarseMap, Copied, spelled_at};
-use test_support::maps::{by_hash, in_order};
+use crate::prelude::*;
+use test_support::coarse::Copied;
 
 // A clone of two items with a vacant slot, and with room for more, equals its source. It has room for no more than its
 // slots, and what is written into it the source does not show.

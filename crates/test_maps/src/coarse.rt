@@ -1,14 +1,6 @@
 //! Rows of keys that are equal without regard to case, and of entries.
-use crate::checks::check;
 use crate::commands::{Rows, replies};
-use iddqd::{IdHashMap, IdOrdMap};
-use idtable_commands::{Command, Reply};
-use std::alloc::Global;
-use std::process::Abort;
-use std::test::Fail;
-use test_support::caseless::{Caseless, Coarse, item_of, spelled};
-use test_support::coarse::{CoarseMap, Put, spelled_at};
-use test_support::maps::{by_hash, in_order};
+use crate::prelude::*;
 
 // What a call returned is this item, spelled so.
 fn is_spelled(put: Put, name: [u8; 3], value: u32) -> bool {

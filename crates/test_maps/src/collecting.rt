@@ -1,15 +1,7 @@
 //! Rows of calls on many items.
-use crate::checks::{
-    BAR, FOO, Host, OTHER_FOO, by_hash_of, check, filled, has_only, in_order_of, named,
-};
 use crate::insertions::{Wide, wide};
-use iddqd::IdOrdItem;
-use iddqd::errors::{FromIterError, TryReserveError};
-use std::process::Abort;
-use std::test::Fail;
-use test_support::bulk::{Bulk, Hinted, is_not_taken_in};
-use test_support::items::Named;
-use test_support::maps::{Added, Copying, Hashed, Ordered, UnderTest, by_hash, in_order};
+use crate::prelude::*;
+use test_support::bulk::is_not_taken_in;
 
 // No map is made of the items: the first one has the key of the later one.
 fn repeats<M: Bulk<T> + Drop, T: Copy + PartialEq + Drop>(
@@ -94,38 +86,32 @@ fn lying_hints(rt: HostRuntime) {
     lied_to(&rt, by_hash(rt.alloc()));
 }
 
-// Adds what comes, so much of it announced. That has this outcome, and the map has these items then.
-fn adds<M: Copying<Named, [u8; 3]> + Drop>(
-    rt: &impl Abort,
-    mut map: M,
-    (coming, announced): (&[Named], usize),
-    added: &Added<Named>,
-    items: &[Named],
-) {
+// The first items of a map, those that come with how many are announced, what that comes to, and the items then.
+type Given<'a> = (
+    &'a [Named],
+    (&'a [Named], usize),
+    &'a Added<Named>,
+    &'a [Named],
+);
+
+fn adds<M: Copying<Named, [u8; 3]> + Drop>(rt: &impl Abort, map: M, given: Given<'_>) {
+    let (first, (coming, announced), added, items) = given;
+    let mut map = filled(rt, map, first);
     check(rt, map.add_each(Hinted::new(coming, announced)) == *added);
     check(rt, has_only(&map, items));
 }
 
-// The same in maps of each kind that have this limit and the first items.
-fn both_add(
-    rt: &impl Host,
-    limit: u32,
-    first: &[Named],
-    coming: (&[Named], usize),
-    added: &Added<Named>,
-    items: &[Named],
-) {
-    let map = filled(rt, in_order_of(rt.alloc(), limit), first);
-    adds(rt, map, coming, added, items);
-    let map = filled(rt, by_hash_of(rt.alloc(), limit), first);
-    adds(rt, map, coming, added, items);
+// Adds them to maps of each kind that have this limit.
+fn both_add(rt: &impl Host, limit: u32, given: Given<'_>) {
+    adds(rt, in_order_of(rt.alloc(), limit), given);
+    adds(rt, by_hash_of(rt.alloc(), limit), given);
 }
 
 #[test]
 fn extend_unique_stops(rt: HostRuntime) {
     let coming = [BAR, OTHER_FOO, named(*b"baz", 1)];
     let added = Added::Conflict(OTHER_FOO, Some(FOO));
-    both_add(&rt, u32::MAX, &[FOO], (&coming, 3), &added, &[FOO, BAR]);
+    both_add(&rt, u32::MAX, (&[FOO], (&coming, 3), &added, &[FOO, BAR]));
 }
 
 // The third item has the first one's name.
@@ -133,7 +119,7 @@ fn extend_unique_stops(rt: HostRuntime) {
 fn extend_unique_repeats(rt: HostRuntime) {
     let coming = [named(*b"  a", 1), named(*b"  b", 2), named(*b"  a", 3)];
     let added = Added::Conflict(coming[2], Some(coming[0]));
-    both_add(&rt, u32::MAX, &[], (&coming, 3), &added, &coming[..2]);
+    both_add(&rt, u32::MAX, (&[], (&coming, 3), &added, &coming[..2]));
 }
 
 // A full map is offered an item that it has, and then a new one.
@@ -142,9 +128,9 @@ fn extend_unique_at_the_limit(rt: HostRuntime) {
     let (foo, baz) = (named(*b"foo", 9), named(*b"baz", 7));
     let full = TryReserveError::capacity_overflow();
     let added = Added::Conflict(foo, Some(FOO));
-    both_add(&rt, 2, &[FOO], (&[BAR, foo, baz], 0), &added, &[FOO, BAR]);
+    both_add(&rt, 2, (&[FOO], (&[BAR, foo, baz], 0), &added, &[FOO, BAR]));
     let added = Added::Stopped(Some(baz), full);
-    both_add(&rt, 2, &[FOO], (&[BAR, baz, foo], 0), &added, &[FOO, BAR]);
+    both_add(&rt, 2, (&[FOO], (&[BAR, baz, foo], 0), &added, &[FOO, BAR]));
 }
 
 fn refuses_announced<M: Copying<Named, [u8; 3]> + Drop>(rt: &impl Abort, map: M) {
@@ -166,6 +152,6 @@ fn extend_unique_hint(rt: HostRuntime) {
 #[test]
 fn extend_unique_of_nothing(rt: HostRuntime) {
     let both = [FOO, BAR];
-    both_add(&rt, u32::MAX, &[], (&[], 0), &Added::All, &[]);
-    both_add(&rt, u32::MAX, &both, (&[], 0), &Added::All, &both);
+    both_add(&rt, u32::MAX, (&[], (&[], 0), &Added::All, &[]));
+    both_add(&rt, u32::MAX, (&both, (&[], 0), &Added::All, &both));
 }

@@ -2,16 +2,9 @@
 ghost use Rattle.iddqd.specs.Contents.{ClonesAreEqual};
 ghost use Rattle.iddqd.specs.Visiting.{VisitsKeepKeys};
 
-use crate::checks::{BAR, FOO, Host, OTHER_FOO, by_hash_of, check, in_order_of, named, numbered};
 use crate::insertions::{Wide, wide};
-use iddqd::errors::TryReserveError;
-use iddqd::{IdHashItem, IdHashMap, IdOrdItem, IdOrdMap, Visit};
-use idtable_commands::{Command, KeyedMap, Reply, run};
-use std::alloc::{AllocError, Global};
+use crate::prelude::*;
 use std::hash::Hash;
-use std::test::Fail;
-use test_support::items::{Named, Numbered};
-use test_support::visitors::Untouched;
 
 /// Commands, each with the reply to it.
 pub(crate) type Rows<T, K, V = Untouched> = Result<Vec<(Command<T, K, V>, Reply<T>)>, AllocError>;
@@ -38,7 +31,7 @@ where
 }
 
 // Maps of each kind that have this limit give the replies. How many items they have room for then.
-fn rooms_after<K, T, F>(rt: &impl Host, limit: u32, rows: F) -> Result<(usize, usize), AllocError>
+fn rooms_after<K, T, F>(rt: &impl Host, limit: u32, rows: F) -> (usize, usize)
 where
     K: Ord + Hash + Drop,
     T: IdOrdItem<Key = K> + IdHashItem<Key = K> + Clone + PartialEq + Drop,
@@ -48,12 +41,12 @@ where
 {
     let alloc = rt.alloc();
     let mut ordered = in_order_of(alloc, limit).into_map();
-    let (given, expected) = replies(alloc, &mut ordered, rows(alloc))?;
+    let (given, expected) = replies(alloc, &mut ordered, rows(alloc)).expect(rt, "no memory");
     check(rt, given == expected);
     let mut hashed = by_hash_of(alloc, limit).into_map();
-    let (given, expected) = replies(alloc, &mut hashed, rows(alloc))?;
+    let (given, expected) = replies(alloc, &mut hashed, rows(alloc)).expect(rt, "no memory");
     check(rt, given == expected);
-    Ok((ordered.capacity(), hashed.capacity()))
+    (ordered.capacity(), hashed.capacity())
 }
 
 fn duplicate<T>(new: T, existing: T) -> Reply<T> {
@@ -79,9 +72,8 @@ fn named_rows(alloc: Global) -> Rows<Named, [u8; 3]> {
 }
 
 #[test]
-fn insert_unique_by_commands(rt: HostRuntime) -> Result<(), Fail> {
-    let _ = rooms_after(&rt, u32::MAX, named_rows)?;
-    Ok(())
+fn insert_unique_by_commands(rt: HostRuntime) {
+    let _ = rooms_after(&rt, u32::MAX, named_rows);
 }
 
 fn wide_rows(alloc: Global) -> Rows<Wide, u8> {
@@ -100,9 +92,8 @@ fn wide_rows(alloc: Global) -> Rows<Wide, u8> {
 }
 
 #[test]
-fn duplicate_chain_by_commands(rt: HostRuntime) -> Result<(), Fail> {
-    let _ = rooms_after(&rt, u32::MAX, wide_rows)?;
-    Ok(())
+fn duplicate_chain_by_commands(rt: HostRuntime) {
+    let _ = rooms_after(&rt, u32::MAX, wide_rows);
 }
 
 fn room_rows(alloc: Global) -> Rows<Named, [u8; 3]> {
@@ -114,9 +105,8 @@ fn room_rows(alloc: Global) -> Rows<Named, [u8; 3]> {
 }
 
 #[test]
-fn reserve_and_shrink_by_commands(rt: HostRuntime) -> Result<(), Fail> {
-    let _ = rooms_after(&rt, u32::MAX, room_rows)?;
-    Ok(())
+fn reserve_and_shrink_by_commands(rt: HostRuntime) {
+    let _ = rooms_after(&rt, u32::MAX, room_rows);
 }
 
 fn extend(
@@ -142,9 +132,8 @@ fn extending_rows(alloc: Global) -> Rows<Named, [u8; 3]> {
 }
 
 #[test]
-fn extend_unique_by_commands(rt: HostRuntime) -> Result<(), Fail> {
-    let _ = rooms_after(&rt, u32::MAX, extending_rows)?;
-    Ok(())
+fn extend_unique_by_commands(rt: HostRuntime) {
+    let _ = rooms_after(&rt, u32::MAX, extending_rows);
 }
 
 fn stopped(item: Option<Named>, after: usize) -> Reply<Named> {
@@ -164,9 +153,8 @@ fn full_rows(alloc: Global) -> Rows<Named, [u8; 3]> {
 }
 
 #[test]
-fn extend_unique_commands(rt: HostRuntime) -> Result<(), Fail> {
-    let _ = rooms_after(&rt, 2, full_rows)?;
-    Ok(())
+fn extend_unique_commands(rt: HostRuntime) {
+    let _ = rooms_after(&rt, 2, full_rows);
 }
 
 // Writes to each item how many it has seen before, and keeps the first ones, this many.
@@ -244,8 +232,7 @@ fn shrinking(alloc: Global) -> Rows<Named, [u8; 3]> {
 }
 
 #[test]
-fn room_by_commands(rt: HostRuntime) -> Result<(), Fail> {
-    check(&rt, rooms_after(&rt, u32::MAX, reserving)? == (100, 100));
-    check(&rt, rooms_after(&rt, u32::MAX, shrinking)? == (1, 1));
-    Ok(())
+fn room_by_commands(rt: HostRuntime) {
+    check(&rt, rooms_after(&rt, u32::MAX, reserving) == (100, 100));
+    check(&rt, rooms_after(&rt, u32::MAX, shrinking) == (1, 1));
 }

@@ -2,14 +2,8 @@
 ghost use Rattle.std.specs.Prelude.{nat_eq};
 ghost use Rattle.iddqd.specs.Visiting.{VisitsKeepKeys};
 
-use iddqd::{IdHashMap, IdOrdMap, Visit};
-use idtable_commands::{Command, KeyedMap, Reply, run};
-use std::alloc::{AllocError, Global};
-use std::test::Fail;
-use test_support::kept::{Kept, make_kept};
-use test_support::maps::{Ordered, UnderTest};
-use test_support::visitors::Untouched;
-use test_sweeps::heap::{arm, is_met};
+use crate::prelude::*;
+use test_support::kept::make_kept;
 use test_sweeps::rows;
 use test_sweeps::words::{Word, tell, word_of};
 
@@ -164,8 +158,6 @@ fn run_of_bulk_commands(rt: HostRuntime) -> Result<(), Fail> {
 #[test]
 fn hash_run_of_bulk_commands(rt: HostRuntime) -> Result<(), Fail> {
     let (alloc, commands) = (rt.alloc(), bulk_commands(rt.alloc())?);
-    tell(
-        &rt,
-        swept_run(alloc, &mut IdHashMap::new(alloc), 0, commands),
-    )
+    let map = &mut IdHashMap::new(alloc);
+    tell(&rt, swept_run(alloc, map, 0, commands))
 }

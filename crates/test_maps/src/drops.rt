@@ -1,13 +1,7 @@
 //! Each item that a map drops is dropped once.
-use crate::checks::{Host, check};
-use iddqd::errors::FromIterError;
-use iddqd::{IdHashItem, IdOrdItem, IdOrdMap, Visit, id_hash_map, id_ord_map};
-use std::alloc::{AllocError, Global};
-use std::cell::Cell;
-use std::process::Abort;
-use std::test::Fail;
-use test_support::bulk::{Announced, Bulk};
-use test_support::maps::{Hashed, Ordered, UnderTest, by_hash, in_order};
+use crate::prelude::*;
+use iddqd::{id_hash_map, id_ord_map};
+use test_support::bulk::Announced;
 
 /// A number, and the cell that counts each drop of such an item.
 pub(crate) struct Ticket<'a> {
@@ -43,16 +37,12 @@ impl IdHashItem for Ticket<'_> {
 }
 
 // The items of these numbers.
-fn tickets<'a>(
-    alloc: Global,
-    numbers: &[u32],
-    dropped: &'a Cell<u32>,
-) -> Result<Vec<Ticket<'a>>, AllocError> {
-    let mut items = Vec::new(alloc);
+fn tickets<'a>(rt: &impl Host, numbers: &[u32], dropped: &'a Cell<u32>) -> Vec<Ticket<'a>> {
+    let mut items = Vec::new(rt.alloc());
     for number in numbers.iter().copied() {
-        items.push(Ticket { number, dropped })?;
+        check(rt, items.push(Ticket { number, dropped }).is_ok());
     }
-    Ok(items)
+    items
 }
 
 /// Whether items of the numbers below another are inserted, and none is dropped.
@@ -241,25 +231,22 @@ fn walked_in_part(rt: HostRuntime) {
 }
 
 // Three of the five that come are there.
-fn extends<'a, M: UnderTest<Ticket<'a>, u32> + Drop>(
-    rt: &impl Host,
-    mut map: M,
-    dropped: &'a Cell<u32>,
-) -> Result<(), AllocError> {
+fn extends<'a, M>(rt: &impl Host, mut map: M, dropped: &'a Cell<u32>)
+where
+    M: UnderTest<Ticket<'a>, u32> + Drop,
+{
     check(rt, go_in(&mut map, 6, dropped));
-    let coming = tickets(rt.alloc(), &[3, 4, 5, 6, 7], dropped)?;
+    let coming = tickets(rt, &[3, 4, 5, 6, 7], dropped);
     check(rt, map.extend(coming).is_ok());
     check(rt, dropped.get() == 3 && map.len() == 8);
     drop(map);
     check(rt, dropped.get() == 11);
-    Ok(())
 }
 
 #[test]
-fn replaced_by_extend(rt: HostRuntime) -> Result<(), Fail> {
-    extends(&rt, in_order(rt.alloc()), &Cell::new(0))?;
-    extends(&rt, by_hash(rt.alloc()), &Cell::new(0))?;
-    Ok(())
+fn replaced_by_extend(rt: HostRuntime) {
+    extends(&rt, in_order(rt.alloc()), &Cell::new(0));
+    extends(&rt, by_hash(rt.alloc()), &Cell::new(0));
 }
 
 // An occupied entry drops the item that it does not take.
@@ -275,42 +262,31 @@ fn shown_by_an_occupied_entry(rt: HostRuntime) {
 }
 
 // No map is made of four items that are said to be more than a map ever holds: the kind, and how many are dropped.
-fn overstated<'a, M: Bulk<Ticket<'a>> + Drop>(
-    rt: &impl Host,
-    dropped: &'a Cell<u32>,
-) -> Result<(), AllocError> {
-    let items = tickets(rt.alloc(), &[0, 1, 2, 3], dropped)?;
+fn overstated<'a, M: Bulk<Ticket<'a>> + Drop>(rt: &impl Host, dropped: &'a Cell<u32>) {
+    let items = tickets(rt, &[0, 1, 2, 3], dropped);
     let made = M::collected(rt.alloc(), Announced::new(items, 4_294_967_296));
     check(rt, dropped.get() == 4);
     check(rt, made.is_err_and(|error| error.is_capacity_overflow()));
-    Ok(())
 }
 
 #[test]
-fn from_iter_refused(rt: HostRuntime) -> Result<(), Fail> {
-    overstated::<Ordered<Ticket<'_>>>(&rt, &Cell::new(0))?;
-    overstated::<Hashed<Ticket<'_>>>(&rt, &Cell::new(0))?;
-    Ok(())
+fn from_iter_refused(rt: HostRuntime) {
+    overstated::<Ordered<Ticket<'_>>>(&rt, &Cell::new(0));
+    overstated::<Hashed<Ticket<'_>>>(&rt, &Cell::new(0));
 }
 
 // Of six items the fourth has the key of the second, from the last on: these two come back, and the others are dropped.
-fn repeats<'a, M: Bulk<Ticket<'a>> + Drop>(
-    rt: &impl Host,
-    dropped: &'a Cell<u32>,
-) -> Result<(), Fail> {
-    let items = tickets(rt.alloc(), &[0, 1, 4, 3, 4, 5], dropped)?;
+fn repeats<'a, M: Bulk<Ticket<'a>> + Drop>(rt: &impl Host, dropped: &'a Cell<u32>) {
+    let items = tickets(rt, &[0, 1, 4, 3, 4, 5], dropped);
     let made = M::collected_unique(rt.alloc(), Announced::new(items, 0));
-    let Err(FromIterError::Duplicate(repeat)) = made else {
-        return Err(Fail::from("no duplicate"));
-    };
+    check(rt, matches!(made, Err(FromIterError::Duplicate(_))));
     check(rt, dropped.get() == 4);
-    drop(repeat);
+    drop(made);
     check(rt, dropped.get() == 6);
-    Ok(())
 }
 
 #[test]
-fn from_iter_unique_refused(rt: HostRuntime) -> Result<(), Fail> {
-    repeats::<Ordered<Ticket<'_>>>(&rt, &Cell::new(0))?;
-    repeats::<Hashed<Ticket<'_>>>(&rt, &Cell::new(0))
+fn from_iter_unique_refused(rt: HostRuntime) {
+    repeats::<Ordered<Ticket<'_>>>(&rt, &Cell::new(0));
+    repeats::<Hashed<Ticket<'_>>>(&rt, &Cell::new(0));
 }

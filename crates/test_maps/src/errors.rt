@@ -1,9 +1,7 @@
 //! The texts of errors.
-use crate::checks::{check, numbered};
+use crate::prelude::*;
 use crate::texts::{debugs, displays};
-use iddqd::IdOrdMap;
-use iddqd::errors::{DuplicateItem, Few, Refused, TryReserveError};
-use iddqd::internal::ValidateCompact;
+use iddqd::errors::{DuplicateItem, Few, Refused};
 
 #[test]
 fn error_texts(rt: HostRuntime) {
@@ -26,7 +24,6 @@ fn owned_duplicates(rt: HostRuntime) {
     check(&rt, owned.duplicates().get(0).copied() == Some(5));
 }
 
-// Several duplicates are shown as a list.
 #[test]
 fn duplicates_in_a_list(rt: HostRuntime) {
     let three = DuplicateItem::internal_new(5, Few::Three(5, 6, 7));
@@ -37,7 +34,6 @@ fn duplicates_in_a_list(rt: HostRuntime) {
     displays(&rt, &two, text);
 }
 
-// The two kinds of refusal differ, and each equals itself.
 #[test]
 fn kinds_differ(rt: HostRuntime) {
     let full = TryReserveError::capacity_overflow();
@@ -65,7 +61,6 @@ fn refusals_for_debugging(rt: HostRuntime) {
     debugs(&rt, &Refused { item: 5, error }, text);
 }
 
-// The error of a map whose one item is gone.
 #[test]
 fn text_of_vacant_slots(rt: HostRuntime) {
     let mut map = IdOrdMap::new(rt.alloc());

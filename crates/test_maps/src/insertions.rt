@@ -1,11 +1,6 @@
 //! Rows of insertions, of each kind of map from one text.
-use crate::checks::{BAR, FOO, Host, OTHER_FOO, check, has_only, named, numbered, ordered_of};
-use iddqd::{IdHashItem, IdOrdItem};
+use crate::prelude::*;
 use std::hash::Hash;
-use std::process::Abort;
-use test_support::items::{Filed, Named};
-use test_support::maps::{Copying, Inserted, by_hash, in_order};
-use test_support::walks::Walked;
 
 /// An item that holds more than its key.
 pub(crate) type Wide = Filed<u8, (char, char, char)>;

@@ -3,8 +3,6 @@
 #![tactic(auto)]
 
 #[cfg(test)]
-mod checks;
-#[cfg(test)]
 mod clones;
 #[cfg(test)]
 mod coarse;
@@ -24,6 +22,8 @@ mod errors;
 mod insertions;
 #[cfg(test)]
 mod limits;
+#[cfg(test)]
+mod prelude;
 #[cfg(test)]
 mod queries;
 #[cfg(test)]

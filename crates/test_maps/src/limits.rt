@@ -1,15 +1,6 @@
 //! Rows of limits and reservations.
-use crate::checks::{
-    BAR, BAZ, FOO, OTHER_FOO, by_hash_of, check, filled, has_only, in_order_of, numbered,
-};
 use crate::insertions::insert_each;
-use iddqd::errors::TryReserveError;
-use iddqd::internal::ValidateCompact;
-use iddqd::{IdHashMap, IdOrdMap};
-use std::process::Abort;
-use std::test::Fail;
-use test_support::items::{Named, Numbered};
-use test_support::maps::{Copying, Hashed, Inserted, Ordered, UnderTest, by_hash, in_order};
+use crate::prelude::*;
 
 fn full_at_two<M: Copying<Named, [u8; 3]> + Drop>(rt: &impl Abort, mut map: M) {
     let full = TryReserveError::capacity_overflow();
@@ -23,10 +14,8 @@ fn full_at_two<M: Copying<Named, [u8; 3]> + Drop>(rt: &impl Abort, mut map: M) {
     let old = map.overwrite(OTHER_FOO);
     check(rt, matches!(old, Ok(Some(old)) if old == FOO));
     check(rt, map.remove(b"bar") == Some(BAR));
-    check(
-        rt,
-        map.validates(ValidateCompact::Compact) == (false, false),
-    );
+    let valid = map.validates(ValidateCompact::Compact);
+    check(rt, valid == (false, false));
     insert_each(rt, &mut map, &[(BAZ, Inserted::Done)]);
     check(rt, map.is_compact() && map.reserve(1) == Err(full));
 }

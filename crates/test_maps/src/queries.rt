@@ -1,11 +1,7 @@
 //! Rows of lookups by texts, by keys of two fields, and among items that are boxed or lent.
-use crate::checks::{Host, check, titled};
+use crate::prelude::*;
 use std::ops::Deref;
-use std::process::Abort;
 use std::rc::Rc;
-use std::test::Fail;
-use test_support::items::{Filed, Titled};
-use test_support::maps::{AskedByText, UnderTest, by_hash, in_order};
 
 fn query_by_text<M>(rt: &impl Host, mut map: M)
 where
@@ -65,16 +61,22 @@ where
     check(rt, map.find("foo").is_some_and(|item| item.value == 42));
 }
 
+// One item is in an ordered map, and the other in a hash map.
+fn both_find<T>(rt: &impl Host, one: T, other: T)
+where
+    T: IdOrdItem<Key = String> + IdHashItem<Key = String> + Deref<Target = Titled> + Drop,
+{
+    is_found(rt, one, in_order(rt.alloc()));
+    is_found(rt, other, by_hash(rt.alloc()));
+}
+
 #[test]
 fn boxed_and_lent_items(rt: HostRuntime) -> Result<(), Fail> {
     let alloc = rt.alloc();
     let item = || titled(&rt, "foo", 42);
-    is_found(&rt, Box::new(alloc, item())?, in_order(alloc));
-    is_found(&rt, Box::new(alloc, item())?, by_hash(alloc));
-    is_found(&rt, Rc::new(alloc, item())?, in_order(alloc));
-    is_found(&rt, Rc::new(alloc, item())?, by_hash(alloc));
+    both_find(&rt, Box::new(alloc, item())?, Box::new(alloc, item())?);
+    both_find(&rt, Rc::new(alloc, item())?, Rc::new(alloc, item())?);
     let item = item();
-    is_found(&rt, &item, in_order(alloc));
-    is_found(&rt, &item, by_hash(alloc));
+    both_find(&rt, &item, &item);
     Ok(())
 }

@@ -1,15 +1,8 @@
 //! Rows of the ordered map's ends, positions, ranges and walks from the back, against plain lists.
-use crate::checks::{
-    BAR, BAZ, FOO, Host, check, filled, has_only, named, numbered, ordered_of, titled,
-};
 use crate::drops::go_in;
+use crate::prelude::*;
 use iddqd::Text;
-use std::cell::Cell;
 use std::ops::{Bound, RangeBounds};
-use std::process::Abort;
-use test_support::caseless::{Caseless, item_of};
-use test_support::items::{Named, Numbered, Titled};
-use test_support::maps::{Ordered, UnderTest, in_order};
 use test_support::ordered::Bounds;
 
 fn even(half: u32) -> Numbered {
@@ -153,7 +146,6 @@ fn owned_walk_from_both_ends(rt: HostRuntime) {
     check(&rt, walk.next_back().is_none() && walk.next().is_none());
 }
 
-// The removals by position leave the others in order.
 #[test]
 fn removals_by_position(rt: HostRuntime) {
     let mut map = evens(&rt, 5);
@@ -184,7 +176,6 @@ fn removed_ranges(rt: HostRuntime) {
     }
 }
 
-// Each item of the range is dropped once, and no other.
 #[test]
 fn removed_range_drops(rt: HostRuntime) {
     let dropped = Cell::new(0);
@@ -223,7 +214,6 @@ fn ranges_of_texts(rt: HostRuntime) {
     ask_by_texts(&rt, &map, &Text("b"), &Text("melon"));
 }
 
-// Keys that are equal without regard to case, as bounds.
 #[test]
 fn ranges_of_coarse_keys(rt: HostRuntime) {
     let (bar, baz) = (item_of(*b"Bar", 1), item_of(*b"baz", 2));

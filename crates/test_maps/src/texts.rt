@@ -2,13 +2,8 @@
 ghost use Rattle.std.specs.Ordering.{nat_cmp};
 ghost use Rattle.iddqd.specs.Contents.{Ascends};
 
-use crate::checks::{Host, check};
-use iddqd::errors::{
-    DuplicateItem, ExtendError, ExtendUniqueError, Few, FromIterError, InsertError, Refused,
-    TryReserveError,
-};
-use iddqd::{IdHashItem, IdHashMap, IdOrdItem, IdOrdMap, Keyed};
-use std::alloc::{AllocError, Global};
+use crate::prelude::*;
+use iddqd::errors::{DuplicateItem, ExtendError, ExtendUniqueError, Few, InsertError, Refused};
 use std::fmt::{Debug, Display};
 use std::io;
 
@@ -189,7 +184,6 @@ fn refusal_becomes_io_error(rt: HostRuntime) {
     check(&rt, AllocError::from(error) == AllocError);
 }
 
-// The keys come in the order of the items.
 #[test]
 fn keys_in_order(rt: HostRuntime) {
     let doors = two_in_order(rt.alloc());

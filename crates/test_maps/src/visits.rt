@@ -2,22 +2,11 @@
 ghost use Rattle.std.specs.Prelude.{nat_eq};
 ghost use Rattle.iddqd.specs.Visiting.{VisitsKeepKeys};
 
-use crate::checks::{
-    BAR, BAZ, FOO, Host, check, filled, has_only, hashed_of, numbered, ordered_of,
-};
 use crate::commands::{Rows, replies};
 use crate::insertions::double;
-use iddqd::internal::ValidateCompact;
-use iddqd::{IdHashMap, IdOrdMap, Visit};
-use idtable_commands::{Command, KeyedMap, Reply};
-use std::alloc::{AllocError, Global};
-use std::process::Abort;
-use std::test::Fail;
-use test_support::items::{Named, Numbered};
-use test_support::maps::{UnderTest, by_hash, in_order};
+use crate::prelude::*;
 use test_support::nine::{are_left, retain_nine};
 use test_support::visitors::{Change, Visited};
-use test_support::walks::Walked;
 
 // The visitor, once it has kept the odd ones of three.
 fn odd_of_three<M: UnderTest<Numbered, u32> + Drop + Visited>(rt: &impl Abort, map: M) -> Change {
@@ -124,7 +113,6 @@ fn writing_walk_of_one_item(rt: HostRuntime) {
     check(&rt, told == foo || told == bar);
 }
 
-// A `for` over a map that is only read.
 #[test]
 fn for_over_ordered_map(rt: HostRuntime) {
     let map = ordered_of(&rt, &[FOO, BAR, BAZ]);
@@ -151,10 +139,8 @@ fn nine_left<M: UnderTest<Numbered, u32> + Drop>(rt: &impl Abort, mut map: M) {
     check(rt, map.vacant() == 16);
     check(rt, map.reserve(10) == Ok(()));
     check(rt, map.is_sound());
-    check(
-        rt,
-        map.validates(ValidateCompact::Compact) == (false, false),
-    );
+    let valid = map.validates(ValidateCompact::Compact);
+    check(rt, valid == (false, false));
     check(rt, map.shrink_to_fit() == Ok(()));
     check(rt, map.is_compact() && are_left(&map));
 }

@@ -1,9 +1,6 @@
 //! Clones with a request refused: nothing is made, and the map is as it was.
 use crate::entries::{fill, holds};
 use crate::prelude::*;
-use test_support::coarse::{CoarseMap, Copied};
-use test_support::heap::has_leaked;
-use test_support::kept::Kept;
 
 // The word for a copy that is dropped: whether it was whole, or was refused. The map is as it was, and no more memory is
 // held than before.
@@ -42,7 +39,7 @@ fn fill_with_kept<M: UnderTest<Kept, u32>>(alloc: Global, map: &mut M) -> Result
 }
 
 // Whether the map is sound and has those four, and no other.
-fn holds_kept<M: UnderTest<Kept, u32>>(map: &M) -> bool {
+fn has_four<M: UnderTest<Kept, u32>>(map: &M) -> bool {
     let are_there = (0..4u32).all(|name| {
         let found = map.get(&name).map(|kept| (kept.name, *kept.value));
         found == Some((name, name ^ 5))
@@ -54,17 +51,14 @@ fn holds_kept<M: UnderTest<Kept, u32>>(map: &M) -> bool {
 fn clone_of_kept(rt: HostRuntime) -> Result<(), Fail> {
     let mut map = in_order(rt.alloc());
     fill_with_kept(rt.alloc(), &mut map)?;
-    let copied = map
-        .map()
-        .clone()
-        .map(|copy| holds_kept(&Ordered::new(copy)));
-    tell(&rt, word(rt.alloc(), copied, holds_kept(&map)))
+    let copied = map.map().clone().map(|copy| has_four(&Ordered::new(copy)));
+    tell(&rt, word(rt.alloc(), copied, has_four(&map)))
 }
 
 #[test]
 fn hash_clone_of_kept(rt: HostRuntime) -> Result<(), Fail> {
     let mut map = by_hash(rt.alloc());
     fill_with_kept(rt.alloc(), &mut map)?;
-    let copied = map.map().clone().map(|copy| holds_kept(&Hashed::new(copy)));
-    tell(&rt, word(rt.alloc(), copied, holds_kept(&map)))
+    let copied = map.map().clone().map(|copy| has_four(&Hashed::new(copy)));
+    tell(&rt, word(rt.alloc(), copied, has_four(&map)))
 }

@@ -1,8 +1,6 @@
 //! Insertions that are refused, on both maps: those by an entry stand here.
 use crate::prelude::*;
 use iddqd::errors::Refused;
-use test_support::caseless::{Caseless, Coarse, item_of, spelled};
-use test_support::coarse::{CoarseMap, Put, spelled_at};
 
 /// Names that ascend with their numbers. Their last byte is no letter.
 pub(crate) fn name(number: u8) -> [u8; 3] {
@@ -33,7 +31,7 @@ pub(crate) enum By {
     InsertEntry,
     OrInsert,
     OrInsertWith,
-    InsertUniqueCounted,
+    InsertCounted,
     InsertRef,
     OrInsertRef,
     OrInsertWithRef,
@@ -47,7 +45,7 @@ pub(crate) trait Inserts: CoarseMap + Drop {
 impl Inserts for Ordered<Coarse> {
     fn put_in_order(&mut self, item: Coarse, by: By) -> Put {
         match by {
-            By::InsertUniqueCounted => left(self.insert_counted(item).0, item),
+            By::InsertCounted => left(self.insert_counted(item).0, item),
             By::InsertRef => self.put_shown(item),
             By::OrInsertRef => self.show_or_put(item),
             _ => self.show_or_put_made(item),

@@ -1,7 +1,6 @@
 //! `into_owned` with a request refused: it returns the error itself, and then succeeds.
 use crate::prelude::*;
 use iddqd::errors::{DuplicateItem, Few};
-use test_support::kept::{Kept, make_kept};
 
 // Whether the values are those of the new item and of the three in its way.
 fn is_whole<D, F: Fn(&D) -> u32>(duplicate: &DuplicateItem<Kept, D>, value: F) -> bool

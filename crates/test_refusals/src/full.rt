@@ -14,10 +14,8 @@ pub(crate) fn is_kept_full<M: OfNumbers>(alloc: Global, mut map: M, limit: u32) 
         .overwrite(new)
         .map_err(|refused| (refused.item, refused.error));
     let is_refused = overwritten == Err((new, error)) && map.reserve(1).is_err();
-    word_without_memory(
-        alloc,
-        is_full && is_kept_out && is_refused && holds(&map, limit),
-    )
+    let is_well = is_full && is_kept_out && is_refused && holds(&map, limit);
+    word_without_memory(alloc, is_well)
 }
 
 // With 8 items the store is full; with 78 the tree has no unused block; with 9 the hash index is full.

@@ -33,8 +33,6 @@ fn growth_refused(rt: HostRuntime) -> Result<(), Fail> {
     }
     let is_met = is_met(rt.alloc());
     let is_well = is_refused == is_met && walks(&map, 12);
-    tell(
-        &rt,
-        word_by_refusal(is_well, is_met, ["all_in", "key_back"]),
-    )
+    let word = word_by_refusal(is_well, is_met, ["all_in", "key_back"]);
+    tell(&rt, word)
 }

@@ -2,7 +2,6 @@
 use crate::prelude::*;
 use iddqd::errors::ExtendError;
 use test_support::bulk::Announced;
-use test_support::kept::Kept;
 
 // Twenty items, from the name 19 on down.
 fn twenty(alloc: Global) -> Result<Announced<Kept>, AllocError> {

@@ -1,9 +1,6 @@
 //! What is held of a map's memory once it is dropped: nothing, whatever was refused on the way.
 use crate::entries::name;
 use crate::prelude::*;
-use test_support::caseless::{Caseless, Coarse, item_of};
-use test_support::coarse::{CoarseMap, Copied};
-use test_support::heap::has_leaked;
 
 // Inserts the items of the numbers from the one up to the other, but for those that are refused.
 fn put_in<M: UnderTest<Coarse, Caseless>>(map: &mut M, from: u8, to: u8) {

@@ -2,7 +2,6 @@
 use crate::numbers::{Row, fill, hashed, ordered};
 use crate::prelude::*;
 use test_support::maps::ByEntry;
-use test_support::visitors::{Change, Visited};
 
 /// Fills the map with numbers, visits them, one by `get_mut` and one by its entry.
 pub(crate) fn visits<M: OfNumbers + Visited>(alloc: Global, mut map: M) -> Word {

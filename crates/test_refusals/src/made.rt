@@ -1,7 +1,6 @@
 //! Maps that are made, of either kind, with a request refused: then nothing is.
 use crate::numbers::{Row, fill, hashed, holds, numbers, ordered};
 use crate::prelude::*;
-use iddqd::{DefaultHashBuilder, IdHashMap, IdOrdMap};
 
 // Ends the count: the word for a map that was made, if it is right.
 fn word(alloc: Global, made: Result<bool, TryReserveError>) -> Word {
@@ -54,29 +53,20 @@ pub(crate) fn collection<M: OfNumbers>(alloc: Global, is_unique: bool) -> Word {
 
 #[test]
 fn from_iter(rt: HostRuntime) -> Result<(), Fail> {
-    tell(
-        &rt,
-        ordered(rt.alloc(), Row::Collection { is_unique: false }),
-    )
+    tell(&rt, ordered(rt.alloc(), Row::FromIter))
 }
 
 #[test]
 fn hash_from_iter(rt: HostRuntime) -> Result<(), Fail> {
-    tell(
-        &rt,
-        hashed(rt.alloc(), Row::Collection { is_unique: false }),
-    )
+    tell(&rt, hashed(rt.alloc(), Row::FromIter))
 }
 
 #[test]
 fn from_iter_unique(rt: HostRuntime) -> Result<(), Fail> {
-    tell(
-        &rt,
-        ordered(rt.alloc(), Row::Collection { is_unique: true }),
-    )
+    tell(&rt, ordered(rt.alloc(), Row::FromIterUnique))
 }
 
 #[test]
 fn hash_from_iter_unique(rt: HostRuntime) -> Result<(), Fail> {
-    tell(&rt, hashed(rt.alloc(), Row::Collection { is_unique: true }))
+    tell(&rt, hashed(rt.alloc(), Row::FromIterUnique))
 }

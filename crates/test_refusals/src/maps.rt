@@ -15,10 +15,7 @@ fn insert_unique(rt: HostRuntime) -> Result<(), Fail> {
 
 #[test]
 fn insert_unique_counted(rt: HostRuntime) -> Result<(), Fail> {
-    tell(
-        &rt,
-        put_in_order(rt.alloc(), By::InsertUniqueCounted, 4, BACK),
-    )
+    tell(&rt, put_in_order(rt.alloc(), By::InsertCounted, 4, BACK))
 }
 
 // The 78th of ascending keys gives the tree its third level. With 83 the last leaf is full, and no unused block is left.

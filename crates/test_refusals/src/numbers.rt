@@ -6,9 +6,6 @@ use crate::maps::akin;
 use crate::prelude::*;
 use crate::rooms::{extension, room, shrink};
 use crate::walks::walks;
-use iddqd::{DefaultHashBuilder, IdHashMap, IdOrdMap};
-use test_support::visitors::Visited;
-use test_support::walks::Walked;
 
 /// A row, as it is asked of a map.
 #[derive(Clone, Copy)]
@@ -19,14 +16,14 @@ pub(crate) enum Row {
     Full(u32),
     Visits,
     Walks,
-    /// A map that is collected, whose keys may not repeat if it is to be unique.
-    Collection { is_unique: bool },
-    /// `try_reserve` or `reserve`.
-    Room { is_tried: bool },
+    FromIter,
+    FromIterUnique,
+    Reserve,
+    TryReserve,
     /// `shrink_to` this capacity, or `shrink_to_fit`.
     Shrink(Option<usize>),
-    /// `extend_unique` or `extend`.
-    Extension { is_unique: bool },
+    Extend,
+    ExtendUnique,
 }
 
 fn word<M>(alloc: Global, map: M, row: Row) -> Word
@@ -39,10 +36,13 @@ where
         Row::Full(limit) => is_kept_full(alloc, map, limit),
         Row::Visits => visits(alloc, map),
         Row::Walks => walks(alloc, map),
-        Row::Collection { is_unique } => collection::<M>(alloc, is_unique),
-        Row::Room { is_tried } => room(alloc, map, is_tried),
+        Row::FromIter => collection::<M>(alloc, false),
+        Row::FromIterUnique => collection::<M>(alloc, true),
+        Row::Reserve => room(alloc, map, false),
+        Row::TryReserve => room(alloc, map, true),
         Row::Shrink(capacity) => shrink(alloc, map, capacity),
-        Row::Extension { is_unique } => extension(alloc, map, is_unique),
+        Row::Extend => extension(alloc, map, false),
+        Row::ExtendUnique => extension(alloc, map, true),
     }
 }
 

@@ -1,14 +1,21 @@
 //! What most tests here name.
 use iddqd::errors::FromIterError;
 pub(crate) use iddqd::errors::TryReserveError;
+pub(crate) use iddqd::{DefaultHashBuilder, IdHashMap, IdOrdMap};
 pub(crate) use std::alloc::{AllocError, Global};
 pub(crate) use std::test::Fail;
 pub(crate) use test_support::bulk::Bulk;
+pub(crate) use test_support::caseless::{Caseless, Coarse, item_of, spelled};
+pub(crate) use test_support::coarse::{CoarseMap, Copied, Put, spelled_at};
+pub(crate) use test_support::heap::has_leaked;
 pub(crate) use test_support::items::Numbered;
+pub(crate) use test_support::kept::{Kept, make_kept};
 pub(crate) use test_support::maps::{
     Copying, Hashed, Inserted, Ordered, UnderTest, by_hash, in_order,
 };
 pub(crate) use test_support::new_items::numbered;
+pub(crate) use test_support::visitors::{Change, Visited};
+pub(crate) use test_support::walks::Walked;
 pub(crate) use test_sweeps::heap::{arm, is_met};
 pub(crate) use test_sweeps::rows;
 pub(crate) use test_sweeps::words::{Word, tell, word_by_refusal, word_of, word_without_memory};

@@ -1,6 +1,5 @@
 //! What was reserved is there where memory is refused.
 use crate::prelude::*;
-use test_support::visitors::{Change, Visited};
 
 // Whether four items of new keys are inserted beside a removal and a write, and then a hundred times another takes the
 // place of one.

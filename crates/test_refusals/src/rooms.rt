@@ -28,17 +28,17 @@ pub(crate) fn room<M: OfNumbers>(alloc: Global, mut map: M, is_tried: bool) -> W
 
 #[test]
 fn reserve(rt: HostRuntime) -> Result<(), Fail> {
-    tell(&rt, ordered(rt.alloc(), Row::Room { is_tried: false }))
+    tell(&rt, ordered(rt.alloc(), Row::Reserve))
 }
 
 #[test]
 fn hash_reserve(rt: HostRuntime) -> Result<(), Fail> {
-    tell(&rt, hashed(rt.alloc(), Row::Room { is_tried: false }))
+    tell(&rt, hashed(rt.alloc(), Row::Reserve))
 }
 
 #[test]
 fn hash_try_reserve(rt: HostRuntime) -> Result<(), Fail> {
-    tell(&rt, hashed(rt.alloc(), Row::Room { is_tried: true }))
+    tell(&rt, hashed(rt.alloc(), Row::TryReserve))
 }
 
 /// The word for a shrink of a map of nine numbers, with vacant slots among them: to the capacity, or to fit.
@@ -115,23 +115,20 @@ pub(crate) fn extension<M: OfNumbers>(alloc: Global, mut map: M, is_unique: bool
 
 #[test]
 fn extend(rt: HostRuntime) -> Result<(), Fail> {
-    tell(
-        &rt,
-        ordered(rt.alloc(), Row::Extension { is_unique: false }),
-    )
+    tell(&rt, ordered(rt.alloc(), Row::Extend))
 }
 
 #[test]
 fn hash_extend(rt: HostRuntime) -> Result<(), Fail> {
-    tell(&rt, hashed(rt.alloc(), Row::Extension { is_unique: false }))
+    tell(&rt, hashed(rt.alloc(), Row::Extend))
 }
 
 #[test]
 fn extend_unique(rt: HostRuntime) -> Result<(), Fail> {
-    tell(&rt, ordered(rt.alloc(), Row::Extension { is_unique: true }))
+    tell(&rt, ordered(rt.alloc(), Row::ExtendUnique))
 }
 
 #[test]
 fn hash_extend_unique(rt: HostRuntime) -> Result<(), Fail> {
-    tell(&rt, hashed(rt.alloc(), Row::Extension { is_unique: true }))
+    tell(&rt, hashed(rt.alloc(), Row::ExtendUnique))
 }

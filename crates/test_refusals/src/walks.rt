@@ -1,7 +1,6 @@
 //! Walks, for reading and for writing, which ask for no memory.
 use crate::numbers::{Row, fill, hashed, ordered};
 use crate::prelude::*;
-use test_support::walks::Walked;
 
 fn write(item: &mut Numbered) {
     item.value = 7;

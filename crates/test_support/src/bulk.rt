@@ -9,51 +9,38 @@ use iddqd::{IdHashItem, IdHashMap, IdOrdItem, IdOrdMap};
 use std::alloc::Global;
 use std::hash::BuildHasher;
 
+/// What is made by `from_iter`, and by `from_iter_unique`.
+pub type Made<M> = Result<M, TryReserveError>;
+
+pub type Unique<M, T> = Result<M, FromIterError<T>>;
+
 /// A map of either kind that is made of an iterator.
 pub trait Bulk<T: Drop>: Sized {
     /// `from_iter`.
-    fn collected<U: IntoIterator<Item = T>>(
-        alloc: Global,
-        items: U,
-    ) -> Result<Self, TryReserveError>
+    fn collected<U: IntoIterator<Item = T>>(alloc: Global, items: U) -> Made<Self>
         requires ends { IsFinite U.into_iter_gives U.IntoIter.can_next U.IntoIter.remaining items };
 
     /// `from_iter_unique`.
-    fn collected_unique<U: IntoIterator<Item = T>>(
-        alloc: Global,
-        items: U,
-    ) -> Result<Self, FromIterError<T>>
+    fn collected_unique<U: IntoIterator<Item = T>>(alloc: Global, items: U) -> Unique<Self, T>
         requires ends { IsFinite U.into_iter_gives U.IntoIter.can_next U.IntoIter.remaining items };
 }
 
 impl<T: IdOrdItem + Drop> Bulk<T> for Ordered<T> {
-    fn collected<U: IntoIterator<Item = T>>(
-        alloc: Global,
-        items: U,
-    ) -> Result<Self, TryReserveError> {
+    fn collected<U: IntoIterator<Item = T>>(alloc: Global, items: U) -> Made<Self> {
         Ok(Self::new(IdOrdMap::from_iter(alloc, items)?))
     }
 
-    fn collected_unique<U: IntoIterator<Item = T>>(
-        alloc: Global,
-        items: U,
-    ) -> Result<Self, FromIterError<T>> {
+    fn collected_unique<U: IntoIterator<Item = T>>(alloc: Global, items: U) -> Unique<Self, T> {
         Ok(Self::new(IdOrdMap::from_iter_unique(alloc, items)?))
     }
 }
 
 impl<T: IdHashItem + Drop, S: BuildHasher + Default + Drop> Bulk<T> for Hashed<T, S> {
-    fn collected<U: IntoIterator<Item = T>>(
-        alloc: Global,
-        items: U,
-    ) -> Result<Self, TryReserveError> {
+    fn collected<U: IntoIterator<Item = T>>(alloc: Global, items: U) -> Made<Self> {
         Ok(Self::new(IdHashMap::from_iter(alloc, items)?))
     }
 
-    fn collected_unique<U: IntoIterator<Item = T>>(
-        alloc: Global,
-        items: U,
-    ) -> Result<Self, FromIterError<T>> {
+    fn collected_unique<U: IntoIterator<Item = T>>(alloc: Global, items: U) -> Unique<Self, T> {
         Ok(Self::new(IdHashMap::from_iter_unique(alloc, items)?))
     }
 }

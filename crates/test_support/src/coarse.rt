@@ -72,11 +72,7 @@ pub trait CoarseMap: Copying<Coarse, Caseless> {
 
     /// Writes by a guard that is lent once more. It returns the old item, what the guard reads once that loan is
     /// over, and what it shows once it is spent.
-    fn write_by_reborrow(
-        &mut self,
-        name: &Caseless,
-        value: u32,
-    ) -> Option<(Coarse, Coarse, Coarse)>;
+    fn write_by_reborrow(&mut self, name: &Caseless, value: u32) -> Option<[Coarse; 3]>;
 
     /// Reads and writes by the entry of a map that is dropped then: the old item, and what the entry shows.
     fn write_by_entry(self, name: &Caseless, value: u32) -> Option<(Coarse, Coarse)>;
@@ -110,10 +106,7 @@ pub trait CoarseMap: Copying<Coarse, Caseless> {
 }
 
 /// `get`: the spelling and the value.
-pub fn spelled_at<M: UnderTest<Coarse, Caseless>>(
-    map: &M,
-    name: [u8; 3],
-) -> Option<([u8; 3], u32)> {
+pub fn spelled_at(map: &impl UnderTest<Coarse, Caseless>, name: [u8; 3]) -> Option<([u8; 3], u32)> {
     map.get(&Caseless(name)).map(spelled)
 }
 
@@ -161,17 +154,13 @@ impl CoarseMap for Ordered<Coarse> {
     }
 
     #[tactic(auto, using(iddqd::proofs::GuardLemmas::same_key_kept))]
-    fn write_by_reborrow(
-        &mut self,
-        name: &Caseless,
-        value: u32,
-    ) -> Option<(Coarse, Coarse, Coarse)> {
+    fn write_by_reborrow(&mut self, name: &Caseless, value: u32) -> Option<[Coarse; 3]> {
         let mut outer = self.map.get_mut(name)?;
         let old = *outer;
         let inner = outer.reborrow();
         inner.value = value;
         let read = *outer;
-        Some((old, read, *outer.into_ref()))
+        Some([old, read, *outer.into_ref()])
     }
 
     fn write_by_entry(self, name: &Caseless, value: u32) -> Option<(Coarse, Coarse)> {
@@ -272,17 +261,13 @@ impl<S: BuildHasher + Drop> CoarseMap for Hashed<Coarse, S> {
     }
 
     #[tactic(auto, using(iddqd::proofs::GuardLemmas::same_key_kept))]
-    fn write_by_reborrow(
-        &mut self,
-        name: &Caseless,
-        value: u32,
-    ) -> Option<(Coarse, Coarse, Coarse)> {
+    fn write_by_reborrow(&mut self, name: &Caseless, value: u32) -> Option<[Coarse; 3]> {
         let mut outer = self.map.get_mut(name)?;
         let old = *outer;
         let inner = outer.reborrow();
         inner.value = value;
         let read = *outer;
-        Some((old, read, *outer.into_ref()))
+        Some([old, read, *outer.into_ref()])
     }
 
     fn write_by_entry(self, name: &Caseless, value: u32) -> Option<(Coarse, Coarse)> {

@@ -40,12 +40,7 @@ impl Counts {
     }
 
     /// This many items, of every second number from the first on.
-    pub fn items(
-        &self,
-        alloc: Global,
-        first: u32,
-        count: u32,
-    ) -> Result<Vec<Tallied<'_>>, AllocError> {
+    pub fn items(&self, alloc: Global, first: u32, count: u32) -> Items<'_> {
         (0..count)
             .map(|place| self.item(place.wrapping_mul(2).wrapping_add(first)))
             .collect(alloc)
@@ -61,6 +56,9 @@ impl Counts {
         self.items.replace(0)
     }
 }
+
+/// Such items, or that there was no memory for their list.
+pub type Items<'a> = Result<Vec<Tallied<'a>>, AllocError>;
 
 /// A number that counts each time it is compared or hashed.
 #[derive(Clone, Copy)]

@@ -1,17 +1,9 @@
 //! A function for each kind of map that runs a list of calls. A test that named a list at its map would have the list's
 //! bounds proved of the map once more.
+use crate::prelude::*;
 use crate::random::many::Written;
 use crate::random::refused::run_refused;
 use crate::random::runs::{Run, make_many, run_hashed};
-use std::alloc::Global;
-use std::hash::BuildHasherDefault;
-use std::process::Abort;
-use std::test::Fail;
-use test_support::bulk::Bulk;
-use test_support::caseless::Coarse;
-use test_support::coarse::{CoarseMap, Copied};
-use test_support::hashers::ZeroHasher;
-use test_support::maps::{Hashed, Ordered};
 
 /// What is done with a map without items.
 #[derive(Clone, Copy)]
@@ -23,46 +15,31 @@ pub(crate) enum List {
     Made(u64),
 }
 
-fn run<M: CoarseMap + Copied + Written + Bulk<Coarse> + Drop>(
-    rt: &(impl Abort + Print),
-    alloc: Global,
-    list: List,
-    map: M,
-) -> Result<(), Fail> {
+fn run<M>(rt: &impl Host, list: List, map: M)
+where
+    M: CoarseMap + Copied + Written + Bulk<Coarse> + Drop,
+{
     match list {
-        List::Calls(run) => run_hashed(rt, alloc, run, map),
-        List::Refused(seed) => run_refused(rt, alloc, map, seed),
+        List::Calls(run) => run_hashed(rt, run, map),
+        List::Refused(seed) => run_refused(rt, map, seed),
         List::Made(seed) => {
             drop(map);
-            Ok(make_many::<M>(rt, alloc, seed)?)
+            make_many::<M>(rt, seed)
         }
     }
 }
 
-pub(crate) fn run_in_order(
-    rt: &(impl Abort + Print),
-    alloc: Global,
-    list: List,
-    map: Ordered<Coarse>,
-) -> Result<(), Fail> {
-    run(rt, alloc, list, map)
+pub(crate) fn run_in_order(rt: &impl Host, list: List, map: Ordered<Coarse>) {
+    run(rt, list, map);
 }
 
-pub(crate) fn run_by_hash(
-    rt: &(impl Abort + Print),
-    alloc: Global,
-    list: List,
-    map: Hashed<Coarse>,
-) -> Result<(), Fail> {
-    run(rt, alloc, list, map)
+pub(crate) fn run_by_hash(rt: &impl Host, list: List, map: Hashed<Coarse>) {
+    run(rt, list, map);
 }
 
 /// Over a hash map whose every hash is 0.
-pub(crate) fn run_by_zero(
-    rt: &(impl Abort + Print),
-    alloc: Global,
-    list: List,
-    map: Hashed<Coarse, BuildHasherDefault<ZeroHasher>>,
-) -> Result<(), Fail> {
-    run(rt, alloc, list, map)
+pub(crate) fn run_by_zero(rt: &impl Host, list: List) {
+    let hasher: BuildHasherDefault<ZeroHasher> = BuildHasherDefault::new();
+    let map = IdHashMap::with_hasher(rt.alloc(), hasher);
+    run(rt, list, Hashed::new(map));
 }

@@ -1,7 +1,7 @@
 //! Calls of either map, one method a call: whether the map returns what the plain list does.
+use crate::prelude::*;
 use crate::random::plain::{Answer, Pair, Plain, is_same};
-use test_support::caseless::{Caseless, Coarse, spelled};
-use test_support::coarse::{CoarseMap, Way, is_valid};
+use test_support::coarse::is_valid;
 
 // A lookup, whose comparisons are counted too, among this many items at most.
 fn is_found<M: CoarseMap>(map: &M, plain: &Plain, name: &Caseless) -> bool {
@@ -58,7 +58,7 @@ impl<M: CoarseMap> Pair<M> {
             return self.map.write(&name, value) == old.is_some();
         }
         match self.map.write_by_reborrow(&name, value) {
-            Some((before, read, shown)) => {
+            Some([before, read, shown]) => {
                 let written = self.plain.find(&name);
                 is_same(Some(before), old)
                     && is_same(Some(read), written)

@@ -1,15 +1,10 @@
 //! Calls on many items, and copies of a map, which a walk writes too: whether they return what the plain list does.
+use crate::prelude::*;
 use crate::random::calls::holds_the_same;
 use crate::random::plain::{Answer, Draws, Pair, Plain, is_same};
-use iddqd::MAX_ITEMS;
-use iddqd::errors::{FromIterError, TryReserveError};
-use std::alloc::{AllocError, Global};
-use std::hash::BuildHasher;
-use test_support::bulk::Bulk;
-use test_support::caseless::{Coarse, spelled};
-use test_support::coarse::{CoarseMap, Copied};
-use test_support::maps::{Added, Hashed, Ordered};
-use test_support::walks::Walked;
+
+// What is added of many, or that the list has no memory.
+type Put = Result<Added<Coarse>, AllocError>;
 
 // Some items, of which some have equal names.
 fn drawn(alloc: Global, draws: &mut Draws) -> Result<Vec<Coarse>, AllocError> {
@@ -23,11 +18,7 @@ fn drawn(alloc: Global, draws: &mut Draws) -> Result<Vec<Coarse>, AllocError> {
 
 // Puts the items into the list, each in the place of the one of its name, up to the first that finds it full. If they
 // are to be unique, the first whose name is there ends it too.
-fn put_all(
-    plain: &mut Plain,
-    items: &[Coarse],
-    is_unique: bool,
-) -> Result<Added<Coarse>, AllocError> {
+fn put_all(plain: &mut Plain, items: &[Coarse], is_unique: bool) -> Put {
     for item in items {
         let there = plain.find(&item.name);
         if is_unique && there.is_some() {
@@ -60,11 +51,10 @@ fn is_told(added: &Added<Coarse>, expected: &Added<Coarse>) -> bool {
 }
 
 /// Makes a map of its own of many items: by `from_iter`, or by `from_iter_unique`.
-pub(crate) fn collect<M: CoarseMap + Bulk<Coarse> + Drop>(
-    alloc: Global,
-    draws: &mut Draws,
-    is_unique: bool,
-) -> Answer {
+pub(crate) fn collect<M>(alloc: Global, draws: &mut Draws, is_unique: bool) -> Answer
+where
+    M: CoarseMap + Bulk<Coarse> + Drop,
+{
     let items = drawn(alloc, draws)?;
     let mut plain = Plain::new(alloc, MAX_ITEMS);
     let expected = put_all(&mut plain, items.as_slice(), is_unique)?;

@@ -1,9 +1,7 @@
 //! Calls of an ordered map alone, by positions and between bounds too.
+use crate::prelude::*;
 use crate::random::plain::{Answer, Draws, Pair, Plain, is_same};
-use std::alloc::Global;
 use std::ops::{Bound, RangeBounds};
-use test_support::caseless::{Caseless, Coarse};
-use test_support::maps::{Copying, Ordered};
 
 // The greatest count of comparisons among this many items: four, and two more for each binary digit of the count.
 fn bound(count: usize) -> u32 {

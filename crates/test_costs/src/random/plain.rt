@@ -1,8 +1,5 @@
 //! A plain list of items that is searched, and the random numbers that calls are drawn from, the same at each run.
-use iddqd::errors::TryReserveError;
-use std::alloc::{AllocError, Global};
-use test_support::caseless::{Caseless, Coarse, spelled};
-use test_support::maps::Inserted;
+use crate::prelude::*;
 
 /// Whether a call returns what the list does, or that the list has no memory.
 pub(crate) type Answer = Result<bool, AllocError>;

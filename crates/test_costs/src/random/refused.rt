@@ -1,16 +1,10 @@
 //! Random lists of calls with one request for memory refused (`tools/sweep` runs them): a call that is refused leaves
 //! the items.
+use crate::prelude::*;
 use crate::random::by_kind::{List, run_by_hash, run_in_order};
 use crate::random::calls::are_found;
 use crate::random::plain::{Answer, Draws, Pair, Plain};
-use iddqd::MAX_ITEMS;
-use iddqd::errors::TryReserveError;
-use std::alloc::{AllocError, Global};
-use std::process::Abort;
-use std::test::Fail;
-use test_support::coarse::CoarseMap;
 use test_support::heap::{arm, is_met};
-use test_support::maps::{by_hash, in_order};
 
 // Whether each item of the list is found, and no more are there. It asks for no memory.
 fn finds_all<M: CoarseMap>(map: &M, plain: &Plain) -> bool {
@@ -46,56 +40,43 @@ impl<M: CoarseMap> Pair<M> {
     }
 
     // Makes the call of this number in the list.
-    fn refusable_call(
-        &mut self,
-        rt: &impl Abort,
-        seed: u64,
-        number: u32,
-    ) -> Result<(), AllocError> {
+    fn refusable_call(&mut self, rt: &impl Abort, seed: u64, number: u32) {
         let drawn = self.draws.below(32);
-        let answered = self.made(drawn)?;
+        let answered = self.made(drawn).expect(rt, "memory");
         let held = finds_all(&self.map, &self.plain);
         assert!(rt;
             answered && held,
             "seed {seed}: call {number}, of {drawn}, is answered otherwise, or the contents differ"
         );
-        Ok(())
     }
 }
 
 // Makes the calls, and prints whether one was refused. The list has its room from the beginning.
-pub(crate) fn run_refused<M: CoarseMap + Drop>(
-    rt: &(impl Abort + Print),
-    alloc: Global,
-    map: M,
-    seed: u64,
-) -> Result<(), Fail> {
-    println!(rt; "seed {seed}")?;
-    let mut plain = Plain::new(alloc, MAX_ITEMS);
-    plain.items.reserve(125)?;
+pub(crate) fn run_refused<M: CoarseMap + Drop>(rt: &impl Host, map: M, seed: u64) {
+    check(rt, println!(rt; "seed {seed}").is_ok());
+    let mut plain = Plain::new(rt.alloc(), MAX_ITEMS);
+    check(rt, plain.items.reserve(125).is_ok());
     let draws = Draws::new(seed, 5);
     let mut pair = Pair { map, plain, draws };
-    arm(alloc);
+    arm(rt.alloc());
     for number in 0..400 {
-        pair.refusable_call(rt, seed, number)?;
+        pair.refusable_call(rt, seed, number);
     }
     // a shrink that keeps its memory need not tell
-    if pair.plain.refusals > u32::from(is_met(alloc)) {
-        return Err(Fail::from("a refusal is told, and none was met"));
-    }
-    match pair.plain.refusals {
-        0 => println!(rt; "answered")?,
-        _ => println!(rt; "call_refused")?,
-    }
-    Ok(())
+    check(rt, pair.plain.refusals <= u32::from(is_met(rt.alloc())));
+    let word = match pair.plain.refusals {
+        0 => "answered",
+        _ => "call_refused",
+    };
+    check(rt, println!(rt; "{word}").is_ok());
 }
 
 #[test]
-fn ordered_calls(rt: HostRuntime) -> Result<(), Fail> {
-    run_in_order(&rt, rt.alloc(), List::Refused(91), in_order(rt.alloc()))
+fn ordered_calls(rt: HostRuntime) {
+    run_in_order(&rt, List::Refused(91), in_order(rt.alloc()));
 }
 
 #[test]
-fn hash_calls(rt: HostRuntime) -> Result<(), Fail> {
-    run_by_hash(&rt, rt.alloc(), List::Refused(92), by_hash(rt.alloc()))
+fn hash_calls(rt: HostRuntime) {
+    run_by_hash(&rt, List::Refused(92), by_hash(rt.alloc()));
 }

@@ -1,21 +1,12 @@
 //! The runs: lists of calls from fixed seeds. After each call the whole contents and the numbers are compared too, and
 //! `validate`.
+use crate::prelude::*;
 use crate::random::by_kind::{List, run_by_hash, run_by_zero, run_in_order};
 use crate::random::calls::holds_the_same;
 use crate::random::lengths::{CALLS, MANY_CALLS, MAPS};
 use crate::random::many::{Written, collect};
 use crate::random::ordered::ascends;
 use crate::random::plain::{Answer, Draws, Pair, Plain};
-use iddqd::{IdHashMap, IdOrdMap, MAX_ITEMS};
-use std::alloc::{AllocError, Global};
-use std::collections::hash_map::RandomState;
-use std::hash::BuildHasherDefault;
-use std::process::Abort;
-use std::test::Fail;
-use test_support::bulk::Bulk;
-use test_support::caseless::Coarse;
-use test_support::coarse::{CoarseMap, Copied};
-use test_support::maps::{Copying, Hashed, Ordered, by_hash, in_order};
 
 #[derive(Clone, Copy, Debug)]
 pub(crate) struct Run {
@@ -78,35 +69,25 @@ impl<M: CoarseMap + Copied + Written + Drop> Pair<M> {
     }
 
     // Makes the call of this number in the list.
-    fn call(
-        &mut self,
-        rt: &impl Abort,
-        alloc: Global,
-        run: Run,
-        number: u32,
-    ) -> Result<(), AllocError> {
+    fn call(&mut self, rt: &impl Host, run: Run, number: u32) {
         let drawn = self.draws.below(200);
-        let answered = self.is_answered(alloc, drawn)?;
+        let answered = self.is_answered(rt.alloc(), drawn).expect(rt, "memory");
         check_call(rt, answered, run, (number, drawn), "is wrong");
-        let walked = self.map.listed(alloc)?;
+        let walked = self.map.listed(rt.alloc()).expect(rt, "memory");
         let held = holds_the_same(&self.map, &self.plain, walked.as_slice());
         check_call(rt, held, run, (number, drawn), "leaves others");
-        Ok(())
     }
 }
 
-pub(crate) fn run_hashed<M: CoarseMap + Copied + Written + Drop>(
-    rt: &(impl Abort + Print),
-    alloc: Global,
-    run: Run,
-    map: M,
-) -> Result<(), Fail> {
-    println!(rt; "{run:?}")?;
-    let mut pair = Pair::new(alloc, run, map);
+pub(crate) fn run_hashed<M>(rt: &impl Host, run: Run, map: M)
+where
+    M: CoarseMap + Copied + Written + Drop,
+{
+    check(rt, println!(rt; "{run:?}").is_ok());
+    let mut pair = Pair::new(rt.alloc(), run, map);
     for number in 0..run.calls {
-        pair.call(rt, alloc, run, number)?;
+        pair.call(rt, run, number);
     }
-    Ok(())
 }
 
 impl Pair<Ordered<Coarse>> {
@@ -134,121 +115,107 @@ impl Pair<Ordered<Coarse>> {
     }
 
     // Makes the call of this number in the list.
-    fn call_in_order(
-        &mut self,
-        rt: &impl Abort,
-        alloc: Global,
-        run: Run,
-        number: u32,
-    ) -> Result<(), AllocError> {
+    fn call_in_order(&mut self, rt: &impl Host, run: Run, number: u32) {
         let drawn = self.drawn_in_order();
-        let answered = self.is_answered_in_order(alloc, drawn)?;
+        let answered = self
+            .is_answered_in_order(rt.alloc(), drawn)
+            .expect(rt, "memory");
         check_call(rt, answered, run, (number, drawn), "is wrong");
-        let walked = self.map.listed(alloc)?;
+        let walked = self.map.listed(rt.alloc()).expect(rt, "memory");
         let walked = walked.as_slice();
         let held = ascends(walked)
             && self.has_ends()
             && holds_the_same(&self.map, &self.plain, walked);
         check_call(rt, held, run, (number, drawn), "leaves others");
-        Ok(())
     }
 }
 
-fn run_ordered(rt: &(impl Abort + Print), alloc: Global, run: Run) -> Result<(), Fail> {
-    println!(rt; "{run:?}")?;
-    let map = Ordered::new(IdOrdMap::with_limit(alloc, run.limit));
-    let mut pair = Pair::new(alloc, run, map);
+fn run_ordered(rt: &impl Host, run: Run) {
+    check(rt, println!(rt; "{run:?}").is_ok());
+    let map = Ordered::new(IdOrdMap::with_limit(rt.alloc(), run.limit));
+    let mut pair = Pair::new(rt.alloc(), run, map);
     for number in 0..run.calls {
-        pair.call_in_order(rt, alloc, run, number)?;
+        pair.call_in_order(rt, run, number);
     }
-    Ok(())
 }
 
 #[test]
-fn ordered_calls(rt: HostRuntime) -> Result<(), Fail> {
+fn ordered_calls(rt: HostRuntime) {
     for seed in [11, 12, 13] {
-        run_ordered(&rt, rt.alloc(), run_of(seed, CALLS, 3, MAX_ITEMS))?;
+        run_ordered(&rt, run_of(seed, CALLS, 3, MAX_ITEMS));
     }
-    Ok(())
 }
 
 #[test]
-fn ordered_calls_of_many_names(rt: HostRuntime) -> Result<(), Fail> {
+fn ordered_calls_of_many_names(rt: HostRuntime) {
     for seed in [21, 22] {
-        run_ordered(&rt, rt.alloc(), run_of(seed, MANY_CALLS, 7, MAX_ITEMS))?;
+        run_ordered(&rt, run_of(seed, MANY_CALLS, 7, MAX_ITEMS));
     }
-    Ok(())
 }
 
 #[test]
-fn ordered_calls_at_the_limit(rt: HostRuntime) -> Result<(), Fail> {
+fn ordered_calls_at_the_limit(rt: HostRuntime) {
     for seed in [31, 32] {
-        run_ordered(&rt, rt.alloc(), run_of(seed, CALLS, 3, 14))?;
+        run_ordered(&rt, run_of(seed, CALLS, 3, 14));
     }
-    Ok(())
 }
 
 #[test]
-fn hash_calls(rt: HostRuntime) -> Result<(), Fail> {
+fn hash_calls(rt: HostRuntime) {
     for seed in [41, 42] {
         let list = List::Calls(run_of(seed, MANY_CALLS, 7, MAX_ITEMS));
-        run_by_hash(&rt, rt.alloc(), list, by_hash(rt.alloc()))?;
+        run_by_hash(&rt, list, by_hash(rt.alloc()));
     }
-    Ok(())
 }
 
 #[test]
-fn hash_calls_at_the_limit(rt: HostRuntime) -> Result<(), Fail> {
+fn hash_calls_at_the_limit(rt: HostRuntime) {
     for seed in [51, 52] {
         let list = List::Calls(run_of(seed, CALLS, 3, 14));
         let hasher = iddqd::DefaultHashBuilder::new();
         let map = Hashed::new(IdHashMap::with_limit(rt.alloc(), 14, hasher));
-        run_by_hash(&rt, rt.alloc(), list, map)?;
+        run_by_hash(&rt, list, map);
     }
-    Ok(())
 }
 
 #[test]
-fn calls_of_equal_hashes(rt: HostRuntime) -> Result<(), Fail> {
+fn calls_of_equal_hashes(rt: HostRuntime) {
     for seed in [61, 62, 63] {
         let list = List::Calls(run_of(seed, CALLS, 3, MAX_ITEMS));
-        let map = Hashed::new(IdHashMap::with_hasher(rt.alloc(), BuildHasherDefault::new()));
-        run_by_zero(&rt, rt.alloc(), list, map)?;
+        run_by_zero(&rt, list);
     }
-    Ok(())
 }
 
 #[test]
-fn calls_of_random_hashes(rt: HostRuntime) -> Result<(), Fail> {
+fn calls_of_random_hashes(rt: HostRuntime) {
     for seed in [71, 72] {
         let run = run_of(seed, CALLS, 7, MAX_ITEMS);
-        let map = Hashed::new(IdHashMap::with_hasher(rt.alloc(), RandomState::new(&rt)?));
-        run_hashed(&rt, rt.alloc(), run, map)?;
+        let map = Hashed::new(IdHashMap::with_hasher(
+            rt.alloc(),
+            RandomState::new(&rt).ok().expect(&rt, "a state"),
+        ));
+        run_hashed(&rt, run, map);
     }
-    Ok(())
 }
 
 // Maps that are made of many items, each compared with its list.
-pub(crate) fn make_many<M: CoarseMap + Bulk<Coarse> + Drop>(
-    rt: &impl Abort,
-    alloc: Global,
-    seed: u64,
-) -> Result<(), AllocError> {
+pub(crate) fn make_many<M>(rt: &impl Host, seed: u64)
+where
+    M: CoarseMap + Bulk<Coarse> + Drop,
+{
     let mut draws = Draws::new(seed, 3);
     for number in 0..MAPS {
         for is_unique in [false, true] {
-            let made = collect::<M>(alloc, &mut draws, is_unique)?;
+            let made = collect::<M>(rt.alloc(), &mut draws, is_unique).expect(rt, "memory");
             assert!(rt; made, "seed {seed}: map {number}, unique: {is_unique}");
         }
     }
-    Ok(())
 }
 
 #[test]
-fn maps_of_many_items(rt: HostRuntime) -> Result<(), Fail> {
-    println!(rt; "seeds 81, 82, 83")?;
-    run_in_order(&rt, rt.alloc(), List::Made(81), in_order(rt.alloc()))?;
-    run_by_hash(&rt, rt.alloc(), List::Made(82), by_hash(rt.alloc()))?;
-    let map = Hashed::new(IdHashMap::with_hasher(rt.alloc(), BuildHasherDefault::new()));
-    run_by_zero(&rt, rt.alloc(), List::Made(83), map)
+fn maps_of_many_items(rt: HostRuntime) {
+    check(&rt, println!(rt; "seeds 81, 82, 83").is_ok());
+    run_in_order(&rt, List::Made(81), in_order(rt.alloc()));
+    run_by_hash(&rt, List::Made(82), by_hash(rt.alloc()));
+    run_by_zero(&rt, List::Made(83));
 }

@@ -3,15 +3,8 @@ ghost use Rattle.iddqd.specs.Contents.{ClonesKeepKeys};
 
 use super::cases::hundreds;
 use super::held::Listed;
-use crate::checks::check;
-use iddqd::errors::TryReserveError;
-use iddqd::{IdHashItem, IdOrdItem};
+use crate::prelude::*;
 use iddqd_diff::{id_hash_map, id_ord_map};
-use std::alloc::Global;
-use std::test::Fail;
-use test_support::heap::arm;
-use test_support::items::Numbered;
-use test_support::maps::{Hashed, Ordered, UnderTest};
 
 // A copy of the old map, brought up to the new one, and whether that was refused. Requests count from the end of the
 // copying on.
@@ -48,21 +41,19 @@ pub(crate) fn brought_up_by_hash<T: IdHashItem + Clone + Drop>(
 
 // With memory at hand the copy has the items of the new map, and no other.
 #[test]
-fn hundreds_in_order(rt: HostRuntime) -> Result<(), Fail> {
-    let (before, after) = hundreds::<Ordered<Numbered>>(&rt, rt.alloc())?;
-    let (copy, is_refused) = brought_up(rt.alloc(), &before, &after)?;
+fn hundreds_in_order(rt: HostRuntime) {
+    let (before, after) = hundreds::<Ordered<Numbered>>(&rt);
+    let (copy, is_refused) = brought_up(rt.alloc(), &before, &after).expect(&rt, "memory");
     check(&rt, !is_refused);
     check(&rt, copy.has_keys_of(&after) && copy.changes(&after) == 0);
     check(&rt, copy.len() == after.len());
-    Ok(())
 }
 
 #[test]
-fn hundreds_by_hash(rt: HostRuntime) -> Result<(), Fail> {
-    let (before, after) = hundreds::<Hashed<Numbered>>(&rt, rt.alloc())?;
-    let (copy, is_refused) = brought_up_by_hash(rt.alloc(), &before, &after)?;
+fn hundreds_by_hash(rt: HostRuntime) {
+    let (before, after) = hundreds::<Hashed<Numbered>>(&rt);
+    let (copy, is_refused) = brought_up_by_hash(rt.alloc(), &before, &after).expect(&rt, "memory");
     check(&rt, !is_refused);
     check(&rt, copy.has_keys_of(&after) && copy.changes(&after) == 0);
     check(&rt, copy.len() == after.len());
-    Ok(())
 }

@@ -1,11 +1,6 @@
 //! Each case of five keys, and one of hundreds, against plain lists.
 use super::held::{Listed, Sides};
-use crate::checks::check;
-use std::alloc::{AllocError, Global};
-use std::process::Abort;
-use std::test::Fail;
-use test_support::items::Numbered;
-use test_support::maps::{Hashed, Ordered, UnderTest};
+use crate::prelude::*;
 
 // What the maps have at a key: neither an item, the old one alone, the new one alone, both the same, or each another.
 fn sides_of(number: u32, digit: u32) -> Sides<Numbered> {
@@ -21,23 +16,19 @@ fn sides_of(number: u32, digit: u32) -> Sides<Numbered> {
 }
 
 // The sides of five keys, by the five digits of the number to the base five.
-fn sides_of_case(alloc: Global, case: u32) -> Result<Vec<Sides<Numbered>>, AllocError> {
-    let mut all = Vec::new(alloc);
+fn sides_of_case(rt: &impl Host, case: u32) -> Vec<Sides<Numbered>> {
+    let mut all = Vec::new(rt.alloc());
     let mut digits = case;
     for number in 0..5u32 {
-        all.push(sides_of(number, digits % 5))?;
+        check(rt, all.push(sides_of(number, digits % 5)).is_ok());
         digits /= 5;
     }
-    Ok(all)
+    all
 }
 
-// Inserts the items of each side into its map.
-fn fill<M: Listed<Numbered, u32>>(
-    rt: &impl Abort,
-    before: &mut M,
-    after: &mut M,
-    all: &[Sides<Numbered>],
-) {
+// Two maps, each of the items of its side.
+fn maps_of<M: Listed<Numbered, u32>>(rt: &impl Host, all: &[Sides<Numbered>]) -> (M, M) {
+    let (mut before, mut after) = (M::empty(rt.alloc()), M::empty(rt.alloc()));
     for sides in all {
         if let Some(old) = sides.0 {
             check(rt, before.is_put(old));
@@ -46,45 +37,44 @@ fn fill<M: Listed<Numbered, u32>>(
             check(rt, after.is_put(new));
         }
     }
+    (before, after)
 }
 
 // What an ordered map gives: each key of either map, ascending.
-fn merged(alloc: Global, all: &[Sides<Numbered>]) -> Result<Vec<Sides<Numbered>>, AllocError> {
-    let mut wanted = Vec::new(alloc);
+fn merged(rt: &impl Host, all: &[Sides<Numbered>]) -> Vec<Sides<Numbered>> {
+    let mut wanted = Vec::new(rt.alloc());
     for sides in all {
         if sides.0.is_some() || sides.1.is_some() {
-            wanted.push(*sides)?;
+            check(rt, wanted.push(*sides).is_ok());
         }
     }
-    Ok(wanted)
+    wanted
 }
 
 // What a hash map gives: the keys of the old map, and then those of the new one alone.
-fn looked_up(alloc: Global, all: &[Sides<Numbered>]) -> Result<Vec<Sides<Numbered>>, AllocError> {
-    let mut wanted = Vec::new(alloc);
+fn looked_up(rt: &impl Host, all: &[Sides<Numbered>]) -> Vec<Sides<Numbered>> {
+    let mut wanted = Vec::new(rt.alloc());
     for sides in all {
         if sides.0.is_some() {
-            wanted.push(*sides)?;
+            check(rt, wanted.push(*sides).is_ok());
         }
     }
     for sides in all {
         if sides.0.is_none() && sides.1.is_some() {
-            wanted.push(*sides)?;
+            check(rt, wanted.push(*sides).is_ok());
         }
     }
-    Ok(wanted)
+    wanted
 }
 
 // Whether the difference of two maps with these sides gives what is wanted, and counts as many changes.
-fn gives<M: Listed<Numbered, u32> + Drop>(
-    rt: &impl Abort,
-    alloc: Global,
-    all: &[Sides<Numbered>],
-    wanted: &[Sides<Numbered>],
-) -> Result<(), Fail> {
-    let (mut before, mut after) = (M::empty(alloc), M::empty(alloc));
-    fill(rt, &mut before, &mut after, all);
-    let found = before.differences(&after, alloc)?;
+fn gives<M>(rt: &impl Host, all: &[Sides<Numbered>], wanted: Vec<Sides<Numbered>>)
+where
+    M: Listed<Numbered, u32> + Drop,
+{
+    let wanted = wanted.as_slice();
+    let (before, after): (M, M) = maps_of(rt, all);
+    let found = before.differences(&after, rt.alloc()).expect(rt, "memory");
     check(rt, found.as_slice() == wanted);
     let mut changes = 0usize;
     for sides in wanted {
@@ -94,59 +84,51 @@ fn gives<M: Listed<Numbered, u32> + Drop>(
     let (least, most) = before.hint(&after);
     check(rt, least <= wanted.len());
     check(rt, most.is_some_and(|most| wanted.len() <= most));
-    Ok(())
 }
 
 #[test]
-fn each_case_in_order(rt: HostRuntime) -> Result<(), Fail> {
+fn each_case_in_order(rt: HostRuntime) {
     for case in 0..3125u32 {
-        let all = sides_of_case(rt.alloc(), case)?;
-        let wanted = merged(rt.alloc(), all.as_slice())?;
-        gives::<Ordered<Numbered>>(&rt, rt.alloc(), all.as_slice(), wanted.as_slice())?;
+        let all = sides_of_case(&rt, case);
+        let all = all.as_slice();
+        gives::<Ordered<Numbered>>(&rt, all, merged(&rt, all));
     }
-    Ok(())
 }
 
 #[test]
-fn each_case_by_hash(rt: HostRuntime) -> Result<(), Fail> {
+fn each_case_by_hash(rt: HostRuntime) {
     for case in 0..3125u32 {
-        let all = sides_of_case(rt.alloc(), case)?;
-        let wanted = looked_up(rt.alloc(), all.as_slice())?;
-        gives::<Hashed<Numbered>>(&rt, rt.alloc(), all.as_slice(), wanted.as_slice())?;
+        let all = sides_of_case(&rt, case);
+        let all = all.as_slice();
+        gives::<Hashed<Numbered>>(&rt, all, looked_up(&rt, all));
     }
-    Ok(())
 }
 
 // Six hundred keys, so that slots, nodes and groups are many.
-fn sides_of_hundreds(alloc: Global) -> Result<Vec<Sides<Numbered>>, AllocError> {
-    let mut all = Vec::new(alloc);
+fn sides_of_hundreds(rt: &impl Host) -> Vec<Sides<Numbered>> {
+    let mut all = Vec::new(rt.alloc());
     for number in 0..600u32 {
-        all.push(sides_of(number, number.wrapping_mul(number) % 7 % 5))?;
+        let sides = sides_of(number, number.wrapping_mul(number) % 7 % 5);
+        check(rt, all.push(sides).is_ok());
     }
-    Ok(all)
+    all
 }
 
 /// Two maps of hundreds of items.
-pub(crate) fn hundreds<M: Listed<Numbered, u32>>(
-    rt: &impl Abort,
-    alloc: Global,
-) -> Result<(M, M), Fail> {
-    let all = sides_of_hundreds(alloc)?;
-    let (mut before, mut after) = (M::empty(alloc), M::empty(alloc));
-    fill(rt, &mut before, &mut after, all.as_slice());
-    Ok((before, after))
+pub(crate) fn hundreds<M: Listed<Numbered, u32>>(rt: &impl Host) -> (M, M) {
+    maps_of(rt, sides_of_hundreds(rt).as_slice())
 }
 
 #[test]
-fn hundreds_in_order(rt: HostRuntime) -> Result<(), Fail> {
-    let all = sides_of_hundreds(rt.alloc())?;
-    let wanted = merged(rt.alloc(), all.as_slice())?;
-    gives::<Ordered<Numbered>>(&rt, rt.alloc(), all.as_slice(), wanted.as_slice())
+fn hundreds_in_order(rt: HostRuntime) {
+    let all = sides_of_hundreds(&rt);
+    let all = all.as_slice();
+    gives::<Ordered<Numbered>>(&rt, all, merged(&rt, all));
 }
 
 #[test]
-fn hundreds_by_hash(rt: HostRuntime) -> Result<(), Fail> {
-    let all = sides_of_hundreds(rt.alloc())?;
-    let wanted = looked_up(rt.alloc(), all.as_slice())?;
-    gives::<Hashed<Numbered>>(&rt, rt.alloc(), all.as_slice(), wanted.as_slice())
+fn hundreds_by_hash(rt: HostRuntime) {
+    let all = sides_of_hundreds(&rt);
+    let all = all.as_slice();
+    gives::<Hashed<Numbered>>(&rt, all, looked_up(&rt, all));
 }

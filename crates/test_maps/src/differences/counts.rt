@@ -1,38 +1,24 @@
 //! How often a difference compares and hashes keys.
-ghost use Rattle.iddqd.specs.Contents.{Ascends};
-
-use crate::checks::check;
-use iddqd::{IdHashItem, IdHashMap, IdOrdItem, IdOrdMap, Keyed, Steps};
+use crate::prelude::*;
+use iddqd::Steps;
 use iddqd_diff::Diffable;
-use std::process::Abort;
-use test_support::counting::Counts;
+use test_support::counting::{Counts, Tallied};
 
-fn put<T: IdOrdItem + Drop>(rt: &impl Abort, map: &mut IdOrdMap<T>, item: T)
-    requires keyed { Ascends T.key T.Key.cmp map.old.items }
-    ensures keyed { Ascends T.key T.Key.cmp map.new.items }
-{
-    check(rt, map.insert_unique(item).is_ok());
-}
-
-fn put_by_hash<T: IdHashItem + Drop>(rt: &impl Abort, map: &mut IdHashMap<T>, item: T)
-    requires keyed { ⟦<IdHashMap<T> as Keyed>⟧.keyed map.old }
-    ensures keyed { ⟦<IdHashMap<T> as Keyed>⟧.keyed map.new }
-{
-    check(rt, map.insert_unique(item).is_ok());
+fn old_and_new(counts: &Counts) -> ([Tallied<'_>; 4], [Tallied<'_>; 3]) {
+    let (two, three) = (counts.item(2), counts.item(3));
+    (
+        [counts.item(1), two, three, counts.item(5)],
+        [two, three, counts.item(4)],
+    )
 }
 
 // A step at which one map has ended compares none, and neither does the last.
 #[test]
 fn a_step_compares_once(rt: HostRuntime) {
     let counts = Counts::default();
-    let (mut before, mut after) = (IdOrdMap::new(rt.alloc()), IdOrdMap::new(rt.alloc()));
-    put(&rt, &mut before, counts.item(1));
-    put(&rt, &mut before, counts.item(2));
-    put(&rt, &mut before, counts.item(3));
-    put(&rt, &mut before, counts.item(5));
-    put(&rt, &mut after, counts.item(2));
-    put(&rt, &mut after, counts.item(3));
-    put(&rt, &mut after, counts.item(4));
+    let (old, new) = old_and_new(&counts);
+    let before = IdOrdMap::from_iter(rt.alloc(), old).expect(&rt, "memory");
+    let after = IdOrdMap::from_iter(rt.alloc(), new).expect(&rt, "memory");
     let _ = counts.since();
     let mut steps = Steps::new();
     let mut differences = before.diff(&after);
@@ -46,14 +32,9 @@ fn a_step_compares_once(rt: HostRuntime) {
 #[test]
 fn each_key_is_hashed_once(rt: HostRuntime) {
     let counts = Counts::default();
-    let (mut before, mut after) = (IdHashMap::new(rt.alloc()), IdHashMap::new(rt.alloc()));
-    put_by_hash(&rt, &mut before, counts.item(1));
-    put_by_hash(&rt, &mut before, counts.item(2));
-    put_by_hash(&rt, &mut before, counts.item(3));
-    put_by_hash(&rt, &mut before, counts.item(5));
-    put_by_hash(&rt, &mut after, counts.item(2));
-    put_by_hash(&rt, &mut after, counts.item(3));
-    put_by_hash(&rt, &mut after, counts.item(4));
+    let (old, new) = old_and_new(&counts);
+    let before = IdHashMap::<Tallied<'_>>::from_iter(rt.alloc(), old).expect(&rt, "memory");
+    let after = IdHashMap::<Tallied<'_>>::from_iter(rt.alloc(), new).expect(&rt, "memory");
     let _ = counts.since();
     let mut count = 0u32;
     for _difference in before.diff(&after) {

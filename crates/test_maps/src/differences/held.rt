@@ -1,8 +1,6 @@
 //! What the difference of two maps under test shows.
-use iddqd::{IdHashItem, IdOrdItem};
+use crate::prelude::*;
 use iddqd_diff::{Diffable, Difference, id_hash_map, id_ord_map};
-use std::alloc::{AllocError, Global};
-use test_support::maps::{Hashed, Ordered, UnderTest, by_hash, in_order};
 
 /// What the old map has at a key, and the new one.
 pub(crate) type Sides<T> = (Option<T>, Option<T>);

@@ -2,37 +2,20 @@
 use super::applied::{brought_up, brought_up_by_hash};
 use super::cases::hundreds;
 use super::held::Listed;
-use crate::checks::{Host, check};
-use std::alloc::Global;
-use std::process::Abort;
-use std::test::Fail;
-use test_support::heap::{arm, has_leaked, is_met};
-use test_support::items::Numbered;
-use test_support::kept::Kept;
-use test_support::maps::{Hashed, Ordered, UnderTest, by_hash, in_order};
+use crate::prelude::*;
 
 // Inserts items of these names, all of this value, whose clones ask for memory.
-fn fill<M: UnderTest<Kept, u32>>(
-    rt: &impl Host,
-    map: &mut M,
-    names: &[u32],
-    value: u32,
-) -> Result<(), Fail> {
+fn fill<M: UnderTest<Kept, u32>>(rt: &impl Host, map: &mut M, names: &[u32], value: u32) {
     for name in names {
-        let value = Box::new(rt.alloc(), value)?;
+        let value = Box::new(rt.alloc(), value).expect(rt, "no memory");
         check(rt, map.is_put(Kept { name: *name, value }));
     }
-    Ok(())
 }
 
 // The old names, and the new ones.
-fn fill_both<M: UnderTest<Kept, u32>>(
-    rt: &impl Host,
-    before: &mut M,
-    after: &mut M,
-) -> Result<(), Fail> {
-    fill(rt, before, &[1, 2, 3], 10)?;
-    fill(rt, after, &[2, 3, 4, 5], 20)
+fn fill_both<M: UnderTest<Kept, u32>>(rt: &impl Host, before: &mut M, after: &mut M) {
+    fill(rt, before, &[1, 2, 3], 10);
+    fill(rt, after, &[2, 3, 4, 5], 20);
 }
 
 // The value of the name, or 0 if there is none.
@@ -59,7 +42,7 @@ fn word<M: UnderTest<Kept, u32>>(rt: &impl Abort, copy: &M, is_refused: bool) ->
 #[test]
 fn apply(rt: HostRuntime) -> Result<(), Fail> {
     let (mut before, mut after) = (in_order(rt.alloc()), in_order(rt.alloc()));
-    fill_both(&rt, &mut before, &mut after)?;
+    fill_both(&rt, &mut before, &mut after);
     let (copy, is_refused) = brought_up(rt.alloc(), &before, &after)?;
     check(&rt, is_refused == is_met(rt.alloc()));
     println!(rt; "{}", word(&rt, &copy, is_refused))?;
@@ -69,7 +52,7 @@ fn apply(rt: HostRuntime) -> Result<(), Fail> {
 #[test]
 fn hash_apply(rt: HostRuntime) -> Result<(), Fail> {
     let (mut before, mut after) = (by_hash(rt.alloc()), by_hash(rt.alloc()));
-    fill_both(&rt, &mut before, &mut after)?;
+    fill_both(&rt, &mut before, &mut after);
     let (copy, is_refused) = brought_up_by_hash(rt.alloc(), &before, &after)?;
     check(&rt, is_refused == is_met(rt.alloc()));
     println!(rt; "{}", word(&rt, &copy, is_refused))?;
@@ -77,22 +60,21 @@ fn hash_apply(rt: HostRuntime) -> Result<(), Fail> {
 }
 
 // A difference asks for nothing, and neither does the question whether the keys are the same.
-fn compare<M: Listed<Numbered, u32> + Drop>(rt: &impl Abort, alloc: Global) -> Result<(), Fail> {
-    let (before, after) = hundreds::<M>(rt, alloc)?;
-    arm(alloc);
+fn compare<M: Listed<Numbered, u32> + Drop>(rt: &impl Host) {
+    let (before, after) = hundreds::<M>(rt);
+    arm(rt.alloc());
     check(rt, before.changes(&after) > 0);
     check(rt, !before.has_keys_of(&after));
     check(rt, before.has_keys_of(&before));
-    check(rt, !is_met(alloc));
-    Ok(())
+    check(rt, !is_met(rt.alloc()));
 }
 
 #[test]
-fn compared_without_memory(rt: HostRuntime) -> Result<(), Fail> {
-    compare::<Ordered<Numbered>>(&rt, rt.alloc())
+fn compared_without_memory(rt: HostRuntime) {
+    compare::<Ordered<Numbered>>(&rt);
 }
 
 #[test]
-fn hash_compared_without_memory(rt: HostRuntime) -> Result<(), Fail> {
-    compare::<Hashed<Numbered>>(&rt, rt.alloc())
+fn hash_compared_without_memory(rt: HostRuntime) {
+    compare::<Hashed<Numbered>>(&rt);
 }

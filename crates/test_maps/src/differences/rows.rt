@@ -1,12 +1,7 @@
 //! Rows: maps that are equal, that share no key, of which one is empty, and keys that are equal though spelled
 //! differently.
 use super::held::{Listed, Sides};
-use crate::checks::check;
-use std::alloc::Global;
-use std::process::Abort;
-use std::test::Fail;
-use test_support::caseless::{Caseless, Coarse, item_of, spelled};
-use test_support::maps::{Hashed, Ordered, UnderTest};
+use crate::prelude::*;
 
 // Two maps whose names differ in case alone, and one name beside.
 fn spellings<M: Listed<Coarse, Caseless>>(rt: &impl Abort, alloc: Global) -> (M, M) {
@@ -18,16 +13,15 @@ fn spellings<M: Listed<Coarse, Caseless>>(rt: &impl Abort, alloc: Global) -> (M,
     (before, after)
 }
 
-fn shown(side: &Option<Coarse>) -> Option<([u8; 3], u32)> {
+// A name's spelling and its value, if a map has an item there.
+type Spelled = Option<([u8; 3], u32)>;
+
+fn shown(side: &Option<Coarse>) -> Spelled {
     side.as_ref().map(|item| spelled(item))
 }
 
 // Whether these are the differences, by the names' spellings and the values.
-fn are(
-    rt: &impl Abort,
-    found: &[Sides<Coarse>],
-    wanted: &[(Option<([u8; 3], u32)>, Option<([u8; 3], u32)>)],
-) {
+fn are(rt: &impl Abort, found: &[Sides<Coarse>], wanted: &[(Spelled, Spelled)]) {
     check(rt, found.len() == wanted.len());
     for (sides, other) in found.iter().zip(wanted) {
         check(rt, shown(&sides.0) == other.0 && shown(&sides.1) == other.1);
@@ -35,34 +29,26 @@ fn are(
 }
 
 #[test]
-fn spelled_differently_in_order(rt: HostRuntime) -> Result<(), Fail> {
+fn spelled_differently_in_order(rt: HostRuntime) {
     let (before, after) = spellings::<Ordered<Coarse>>(&rt, rt.alloc());
-    let found = before.differences(&after, rt.alloc())?;
-    are(
-        &rt,
-        found.as_slice(),
-        &[
-            (Some((*b"db1", 2)), None),
-            (None, Some((*b"Tmp", 3))),
-            (Some((*b"web", 1)), Some((*b"WEB", 1))),
-        ],
-    );
+    let found = before.differences(&after, rt.alloc()).expect(&rt, "memory");
+    let wanted = [
+        (Some((*b"db1", 2)), None),
+        (None, Some((*b"Tmp", 3))),
+        (Some((*b"web", 1)), Some((*b"WEB", 1))),
+    ];
+    are(&rt, found.as_slice(), &wanted);
     check(&rt, before.changes(&after) == 2);
-    Ok(())
 }
 
 #[test]
-fn spelled_differently_by_hash(rt: HostRuntime) -> Result<(), Fail> {
+fn spelled_differently_by_hash(rt: HostRuntime) {
     let (before, after) = spellings::<Hashed<Coarse>>(&rt, rt.alloc());
-    let found = before.differences(&after, rt.alloc())?;
-    are(
-        &rt,
-        found.as_slice(),
-        &[
-            (Some((*b"web", 1)), Some((*b"WEB", 1))),
-            (Some((*b"db1", 2)), None),
-            (None, Some((*b"Tmp", 3))),
-        ],
-    );
-    Ok(())
+    let found = before.differences(&after, rt.alloc()).expect(&rt, "memory");
+    let wanted = [
+        (Some((*b"web", 1)), Some((*b"WEB", 1))),
+        (Some((*b"db1", 2)), None),
+        (None, Some((*b"Tmp", 3))),
+    ];
+    are(&rt, found.as_slice(), &wanted);
 }

@@ -1,13 +1,28 @@
 //! What rows share: items, maps, and what they hold to be so.
 ghost use Rattle.std.specs.Prelude.{IsTrue};
 
-use iddqd::{DefaultHashBuilder, IdHashItem, IdHashMap, IdOrdItem, IdOrdMap};
-use std::alloc::Global;
-use std::process::Abort;
-pub(crate) use test_support::items::{BAR, FOO};
-use test_support::items::{Named, Titled};
-use test_support::maps::{Hashed, Ordered, UnderTest, by_hash, in_order};
+pub(crate) use iddqd::errors::{FromIterError, TryReserveError};
+pub(crate) use iddqd::internal::ValidateCompact;
+pub(crate) use iddqd::{
+    DefaultHashBuilder, IdHashItem, IdHashMap, IdOrdItem, IdOrdMap, Keyed, Visit,
+};
+pub(crate) use idtable_commands::{Command, KeyedMap, Reply, run};
+pub(crate) use std::alloc::{AllocError, Global};
+pub(crate) use std::cell::Cell;
+pub(crate) use std::process::Abort;
+pub(crate) use std::test::Fail;
+pub(crate) use test_support::bulk::{Bulk, Hinted};
+pub(crate) use test_support::caseless::{Caseless, Coarse, item_of, spelled};
+pub(crate) use test_support::coarse::{CoarseMap, Put, spelled_at};
+pub(crate) use test_support::heap::{arm, has_leaked, is_met};
+pub(crate) use test_support::items::{BAR, FOO, Filed, Named, Numbered, Titled};
+pub(crate) use test_support::kept::Kept;
+pub(crate) use test_support::maps::{
+    Added, AskedByText, Copying, Hashed, Inserted, Ordered, UnderTest, by_hash, in_order,
+};
 pub(crate) use test_support::new_items::{named, numbered};
+pub(crate) use test_support::visitors::Untouched;
+pub(crate) use test_support::walks::Walked;
 
 pub(crate) const BAZ: Named = Named {
     name: *b"baz",
