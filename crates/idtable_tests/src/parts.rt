@@ -30,8 +30,7 @@ pub(crate) struct PartReader<'a> {
     rest: &'a [u8],
     part: usize,
     failure: Failure,
-    /// How many reads there were.
-    pub(crate) reads: u32,
+    reads: u32,
 }
 
 impl<'a> PartReader<'a> {
@@ -43,6 +42,11 @@ impl<'a> PartReader<'a> {
             failure,
             reads: 0,
         }
+    }
+
+    /// How many reads there were.
+    pub(crate) fn reads(&self) -> u32 {
+        self.reads
     }
 }
 
@@ -63,12 +67,10 @@ pub(crate) struct PartWriter {
     taken: Vec<u8>,
     part: usize,
     failure: Failure,
-    /// How many writes there were.
-    pub(crate) writes: u32,
+    writes: u32,
     flushes: u32,
     flushed: usize,
-    /// Whether each flush fails.
-    pub(crate) fails_flush: bool,
+    fails_flush: bool,
 }
 
 impl PartWriter {
@@ -85,9 +87,20 @@ impl PartWriter {
         }
     }
 
+    /// The same, but that each flush fails.
+    pub(crate) fn with_failing_flush(mut self) -> PartWriter {
+        self.fails_flush = true;
+        self
+    }
+
     /// The bytes that it holds.
     pub(crate) fn taken(&self) -> &[u8] {
         self.taken.as_slice()
+    }
+
+    /// How many writes there were.
+    pub(crate) fn writes(&self) -> u32 {
+        self.writes
     }
 
     /// How many flushes there were, and how many bytes it held at the last one.

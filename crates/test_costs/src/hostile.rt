@@ -74,7 +74,10 @@ pub(crate) fn reads_and_shows<M: CoarseMap>(map: &mut M) -> bool {
     let is_full = has_bar_and_foo(map);
     let five = (*b"Foo", 5);
     match map.write_by_reborrow(&Caseless(*b"Foo"), 5) {
-        Some([_, read, shown]) => is_full && spelled(&read) == five && spelled(&shown) == five,
+        Some(three) => {
+            let [_, read, shown] = three;
+            is_full && spelled(&read) == five && spelled(&shown) == five
+        }
         None => false,
     }
 }

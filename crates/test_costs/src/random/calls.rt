@@ -58,7 +58,8 @@ impl<M: CoarseMap> Pair<M> {
             return self.map.write(&name, value) == old.is_some();
         }
         match self.map.write_by_reborrow(&name, value) {
-            Some([before, read, shown]) => {
+            Some(three) => {
+                let [before, read, shown] = three;
                 let written = self.plain.find(&name);
                 is_same(Some(before), old)
                     && is_same(Some(read), written)
