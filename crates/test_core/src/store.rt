@@ -29,7 +29,7 @@ fn next_in(list: &[Option<u32>], from: u32) -> Option<(usize, u32)> {
 
 fn next_of(store: &ItemStore<u32>, from: u32) -> Option<(usize, u32)> {
     let (slot, item) = store.next_occupied(from)?;
-    Some((slot as usize, *item))
+    (store.occupied_from(from) == slot).then_some((slot as usize, *item))
 }
 
 // Compares the store's numbers, its walk, each of its slots and one past the end with a list.
