@@ -30,7 +30,8 @@ pub(crate) struct PartReader<'a> {
     rest: &'a [u8],
     part: usize,
     failure: Failure,
-    reads: u32,
+    /// How many reads there were.
+    pub(crate) reads: u32,
 }
 
 impl<'a> PartReader<'a> {
@@ -42,11 +43,6 @@ impl<'a> PartReader<'a> {
             failure,
             reads: 0,
         }
-    }
-
-    /// How many reads there were.
-    pub(crate) fn reads(&self) -> u32 {
-        self.reads
     }
 }
 
@@ -67,10 +63,12 @@ pub(crate) struct PartWriter {
     taken: Vec<u8>,
     part: usize,
     failure: Failure,
-    writes: u32,
+    /// How many writes there were.
+    pub(crate) writes: u32,
     flushes: u32,
     flushed: usize,
-    fails_flush: bool,
+    /// Whether each flush fails.
+    pub(crate) fails_flush: bool,
 }
 
 impl PartWriter {
@@ -87,20 +85,9 @@ impl PartWriter {
         }
     }
 
-    /// The same, but that each flush fails.
-    pub(crate) fn with_failing_flush(mut self) -> PartWriter {
-        self.fails_flush = true;
-        self
-    }
-
     /// The bytes that it holds.
     pub(crate) fn taken(&self) -> &[u8] {
         self.taken.as_slice()
-    }
-
-    /// How many writes there were.
-    pub(crate) fn writes(&self) -> u32 {
-        self.writes
     }
 
     /// How many flushes there were, and how many bytes it held at the last one.

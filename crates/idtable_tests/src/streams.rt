@@ -77,8 +77,8 @@ fn flushes_after_writing(rt: HostRuntime) {
     check(&rt, writer.taken() == ANSWER);
     check(&rt, writer.flushes() == (1, ANSWER.len()));
     let mut reader = LINES;
-    let writer = PartWriter::new(Vec::new(rt.alloc()), PART, Failure::Never);
-    let mut writer = writer.with_failing_flush();
+    let mut writer = PartWriter::new(Vec::new(rt.alloc()), PART, Failure::Never);
+    writer.fails_flush = true;
     let outcome = serve(rt.alloc(), Kind::Ord, &mut reader, &mut writer);
     check(&rt, outcome == Err(Fault::Write));
 }
@@ -89,12 +89,12 @@ fn stops_reading_at_an_error(rt: HostRuntime) {
         let failure = Failure::At(at, ErrorKind::Other);
         let (outcome, reader, writer) = served(rt.alloc(), failure, Failure::Never);
         check(&rt, outcome == Err(Fault::Read));
-        check(&rt, reader.reads() == at);
-        check(&rt, (writer.writes(), writer.flushes()) == (0, (0, 0)));
+        check(&rt, reader.reads == at);
+        check(&rt, (writer.writes, writer.flushes()) == (0, (0, 0)));
         let failure = Failure::At(at, ErrorKind::Interrupted);
         let (outcome, reader, writer) = served(rt.alloc(), failure, Failure::Never);
         check(&rt, outcome == Ok(0));
-        check(&rt, reader.reads() == 3);
+        check(&rt, reader.reads == 3);
         check(&rt, writer.taken() == ANSWER);
     }
 }
@@ -105,7 +105,7 @@ fn writes_nothing_more_after_a_failure(rt: HostRuntime) {
         let failure = Failure::At(at, ErrorKind::Other);
         let (outcome, _, writer) = served(rt.alloc(), Failure::Never, failure);
         check(&rt, outcome == Err(Fault::Write));
-        check(&rt, (writer.writes(), writer.flushes()) == (at, (0, 0)));
+        check(&rt, (writer.writes, writer.flushes()) == (at, (0, 0)));
         check(&rt, writer.taken() == &ANSWER[..(at as usize - 1) * PART]);
         let failure = Failure::At(at, ErrorKind::Interrupted);
         let (outcome, _, writer) = served(rt.alloc(), Failure::Never, failure);
@@ -149,15 +149,10 @@ fn many_bytes_one_at_a_time(rt: HostRuntime) -> Result<(), Fail> {
         let mut writer = PartWriter::new(Vec::new(rt.alloc()), 1, Failure::Never);
         let outcome = serve(rt.alloc(), kind, &mut reader, &mut writer);
         check(&rt, outcome == Ok(0));
-        check(&rt, (reader.reads(), writer.writes()) == (70_001, 140_000));
+        check(&rt, (reader.reads, writer.writes) == (70_001, 140_000));
         check(&rt, writer.taken().len() == 140_000);
-        check(
-            &rt,
-            writer
-                .taken()
-                .chunks(4)
-                .all(|line| line == b"bad\n".as_slice()),
-        );
+        let mut lines = writer.taken().chunks(4);
+        check(&rt, lines.all(|line| line == b"bad\n".as_slice()));
     }
     Ok(())
 }
