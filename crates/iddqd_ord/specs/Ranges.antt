@@ -15,7 +15,6 @@
 --     FindsPositions      the items at the positions of a range are found
 --     SplitsAt, EndsAt      the elements that pass are those from a position on, or those before it
 --     StartsAt, StopsAt      the position of the first item from a bound on, or of the first one behind it
---     StartsEqual, EndsEqual      where the items start whose keys a query is equal to, and where they end
 --     WalksFrom      the slots of the items from a bound on
 use Rattle.std.specs.Borrow.{Bor}
 use Rattle.std.specs.Bound.{bound_map, start_index}
@@ -134,13 +133,6 @@ module _ {T Q K : Type 0} (key : T → K) (compare : Q → K → Ordering) where
   -- the position of the first item that is not before the bound
   abbrev pub StartsAt : Bound Q → List T → ℕ → Type 0
   StartsAt bound items n = SplitsAt (λ x. is_from compare bound (key x)) items n
-
-  -- the position of the first item that is not less than the query, and of the first that is greater
-  abbrev pub StartsEqual : Q → List T → ℕ → Type 0
-  StartsEqual query items n = StartsAt (Included query) items n
-
-  abbrev pub EndsEqual : Q → List T → ℕ → Type 0
-  EndsEqual query items n = StartsAt (Excluded query) items n
 
   -- the position of the first item that is behind the bound
   abbrev pub StopsAt : Bound Q → List T → ℕ → Type 0

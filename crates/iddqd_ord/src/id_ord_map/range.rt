@@ -4,12 +4,12 @@ ghost use Rattle.iddqd_store.specs.Contents.{Ascends, Finds};
 ghost use Rattle.iddqd_store.specs.Counting.{CountsAtMost};
 ghost use Rattle.iddqd_store.specs.SlotItems.{HaveSlots};
 ghost use Rattle.iddqd_ord_index.specs.Digits.{digits};
-ghost use Rattle.iddqd_ord.specs.Ranges.{EndsEqual, FindsLast, FindsRange, StartsEqual, StopsAt, WalksFrom, WalksPart, bound_now, is_from, is_up_to};
+ghost use Rattle.iddqd_ord.specs.Ranges.{FindsLast, FindsRange, StopsAt, WalksFrom, WalksPart, bound_now, is_from, is_up_to};
 
 use super::{IdOrdMap, Iter};
 use iddqd_ord_index::Walk;
 use iddqd_store::{Comparable, IdOrdItem, Steps};
-use std::ops::{Bound, Range, RangeBounds};
+use std::ops::{Bound, RangeBounds};
 
 impl<T: IdOrdItem> IdOrdMap<T> {
     /// Returns the items whose keys lie in the range, in ascending order. Its bounds are queries of one type. A range
@@ -102,26 +102,17 @@ impl<T: IdOrdItem> IdOrdMap<T> {
         ensures steps { CountsAtMost steps.old steps.new (4 + 2 * digits (length self.now.items)) }
     {
         match to {
-            Bound::Included(query) => self.equal_range(query, steps).end,
-            Bound::Excluded(query) => self.equal_range(query, steps).start,
+            Bound::Included(query) => match self.index_of_counted(query, steps) {
+                Ok(place) => {
+                    prove!(place < self.len());
+                    place + 1
+                }
+                Err(place) => place,
+            },
+            Bound::Excluded(query) => match self.index_of_counted(query, steps) {
+                Ok(place) | Err(place) => place,
+            },
             Bound::Unbounded => self.len(),
-        }
-    }
-
-    // Returns the positions of the items whose keys the query is equal to: of one or of none, behind those that are
-    // less, before those that are greater.
-    fn equal_range<Q: Comparable<T::Key>>(&self, query: &Q, steps: &mut Steps) -> Range<usize>
-        requires keyed { Ascends T.key T.Key.cmp self.now.items }
-        ensures start { StartsEqual T.key Q.compare query.now self.now.items result.start }
-        ensures end { EndsEqual T.key Q.compare query.now self.now.items result.end }
-        ensures steps { CountsAtMost steps.old steps.new (4 + 2 * digits (length self.now.items)) }
-    {
-        match self.index_of_counted(query, steps) {
-            Ok(place) => {
-                prove!(place < self.len());
-                place..place + 1
-            }
-            Err(place) => place..place,
         }
     }
 }
