@@ -1,5 +1,5 @@
 -- A node of which a branch got a slot.
-use Rattle.std.proofs.Common.{◌≡◌, ℕ, ◌+◌, ◌-◌, ◌≤◌, List, ◌∷◌, Some, None, length, set, get_or, ap, sym, subst, ◌∙◌, arith, length-append}
+use Rattle.std.proofs.Common.{◌≡◌, ℕ, ◌+◌, ◌-◌, ◌≤◌, List, ◌∷◌, Some, length, set, get_or, ap, sym, subst, ◌∙◌, arith, length-append}
 use Rattle.std.specs.List.{insert}
 use Rattle.std.proofs.lemmas.List.{map-set}
 use Rattle.std.proofs.lemmas.List.Edits.{length-insert}
@@ -65,7 +65,7 @@ above ts ss at slot i rest middle count before new upper f branch_at v s n =
 -- the branch put back with a slot more, with all that is known of it then
 pub put_grown : (old new : Branches) (ss : List ℕ) (at slot i rest count : ℕ) (b : Node) (before self : Subtree)
     → AreBranches old → IsForked (below old) ss → IsBranchAt (lists (below old)) at i rest → before ≡ get_or (below old) i unused → IsGrown (insert before.slots rest slot) before.width b → b.height ≡ before.height → IsDense b
-    → (nodes_of new) ≡ set (set (nodes_of old) i None) i (Some b) → (counts_of new) ≡ set (counts_of old) i (count + 1) → count ≡ length (get_or (below old) i unused).slots → tree (below old) ss ≡ self
+    → (nodes_of new) ≡ set (nodes_of old) i (Some b) → (counts_of new) ≡ set (counts_of old) i (count + 1) → count ≡ length (get_or (below old) i unused).slots → tree (below old) ss ≡ self
     → AreBranches new × IsMade (below old) (below new) ss (insert self.slots at slot)
 put_grown old new ss at slot i rest count b before self a f branch_at v s h w n m c view =
     let ts = below old in
@@ -78,7 +78,7 @@ put_grown old new ss at slot i rest count b before self a f branch_at v s h w n 
 -- the lower half put back, with all that is known of it then
 pub put_parted : (old new : Branches) (ss : List ℕ) (at slot i rest count more less middle : ℕ) (b : Node) (before upper self : Subtree)
     → AreBranches old → IsForked (below old) ss → IsBranchAt (lists (below old)) at i rest → before ≡ get_or (below old) i unused → IsSplit (insert before.slots rest slot) b middle upper → b.height ≡ before.height → IsDense b
-    → (nodes_of new) ≡ set (set (nodes_of old) i None) i (Some b) → (counts_of new) ≡ set (counts_of old) i less → less ≡ count + 1 - more - 1
+    → (nodes_of new) ≡ set (nodes_of old) i (Some b) → (counts_of new) ≡ set (counts_of old) i less → less ≡ count + 1 - more - 1
     → count ≡ length (get_or (below old) i unused).slots → more ≡ length upper.slots → tree (below old) ss ≡ self
     → AreBranches new × IsParted (below old) (below new) ss i middle upper (insert self.slots at slot)
 put_parted old new ss at slot i rest count more less middle b before upper self a f branch_at v s h w n m z c l view =

@@ -1,7 +1,7 @@
 -- The branches of a node, by the cells and the counts that hold them.
 use Rattle.std.proofs.Common.{◌≡◌, ℕ, ◌+◌, ◌<◌, List, [], length, map, take, drop, set, get_or, ap, sym, ◌∙◌, subst, refl, arith, Option, Some, None, Box, Global}
 use Rattle.std.specs.List.{insert, remove}
-use Rattle.std.proofs.lemmas.List.{get_or-map, get_or_default, length-map, map-set, nil_from_length, set-set}
+use Rattle.std.proofs.lemmas.List.{get_or-map, get_or_default, length-map, map-set, nil_from_length}
 use Rattle.iddqd_ord_index.specs.Cells.{items_present, cells_of, IsPacked}
 use Rattle.iddqd_ord_index.specs.Nodes.{below, subtrees, AreBranches, AreCounted, IsBlock, cells_in, counts_in, counts_of, nodes_of, HasBlock, IsBare, IsThere}
 use Rattle.iddqd_ord_index.specs.Shape.{Subtree, lists, starts, unused}
@@ -117,14 +117,13 @@ module _ (os ps : List (Option Node)) (i : ℕ) where
   pub below_drop : items_present ps ≡ drop i (items_present os) → subtrees ps ≡ drop i (subtrees os)
   below_drop e = e
 
--- a branch that was taken out of its cell, and one that was put there
-pub branches_put : (old new : Branches) (i count : ℕ) (b : Node) → AreBranches old → i < length (below old) → (nodes_of new) ≡ set (set (nodes_of old) i None) i (Some b) → (counts_of new) ≡ set (counts_of old) i count → count ≡ length b.slots
+-- another branch in a cell
+pub branches_put : (old new : Branches) (i count : ℕ) (b : Node) → AreBranches old → i < length (below old) → (nodes_of new) ≡ set (nodes_of old) i (Some b) → (counts_of new) ≡ set (counts_of old) i count → count ≡ length b.slots
     → AreBranches new × (below new ≡ set (below old) i b)
 branches_put old new i count b a lt n c k =
     let w : i < length (items_present (nodes_of old)) = omega (arith, length-nodes old a) in
-    let m : nodes_of new ≡ set (nodes_of old) i (Some b) = n ∙ set-set (nodes_of old) i None (Some b) in
-    let e : below new ≡ set (below old) i b = ap subtrees m ∙ put_subtrees (nodes_of old) i b a.packed w in
-    let p : IsPacked (nodes_of new) = subst (λ l. IsPacked l) (sym m) (put_packed (nodes_of old) i b a.packed w) in
+    let e : below new ≡ set (below old) i b = ap subtrees n ∙ put_subtrees (nodes_of old) i b a.packed w in
+    let p : IsPacked (nodes_of new) = subst (λ l. IsPacked l) (sym n) (put_packed (nodes_of old) i b a.packed w) in
     let f : set (counts_of old) i count ≡ set (counts_of old) i (length b.slots) = ap (λ x. set (counts_of old) i x) k in
     let g : set (counts_of old) i (length b.slots) ≡ map (λ t. length t.slots) (set (below old) i b) =
     ap (λ l. set l i (length b.slots)) a.counted ∙ sym (map-set (λ t. length t.slots) (below old) i b) in

@@ -1,57 +1,87 @@
--- A branch that is borrowed in its cell, which a block has that was read.
---     branch_in      the node in the cell is the branch
+-- A branch that is borrowed in its cell, in the block that the branches lie in.
+--     nodes_written, counts_written      the branches in another block
+--     block_read, below_read      those in the block that was read
+--     branches_with      the branches with another one in the cell
 --     cell_full      the cell is not empty
+--     branch_in      the node in the cell is the branch
 --     counted, changed_nodes, changed_counts      the cells and counts with another branch
---     kept      the branch has not changed
-use Rattle.std.proofs.Common.{◌≡◌, ℕ, ◌<◌, length, set, get_or, ap, sym, ◌∙◌, arith, Option, Some, None, Box, Global}
+--     kept      a branch with as many slots is in the place of another one
+use Rattle.std.proofs.Common.{◌≡◌, ℕ, ◌<◌, IsSome, is_some, length, set, get_or, ap, sym, ◌∙◌, refl, arith, Option, Some, None, Box, Global}
+use Rattle.std.proofs.lemmas.List.{set-get_or}
+use Rattle.std.specs.Borrow.{MutBor}
 use Rattle.std.specs.Box.{with_value}
-use Rattle.std.proofs.lemmas.List.{set-get_or, set-set}
-use Rattle.arrayvec.specs.ArrayVec.{ArrayVec}
-use Rattle.iddqd_ord_index.specs.Nodes.{below, cells_in, counts_in, counts_of, nodes_of, subtrees, AreBranches, IsBlock}
+use Rattle.std.specs.Option.{option_copied_mut, option_map}
+use Rattle.iddqd_ord_index.specs.Nodes.{below, cells_in, counts_in, counts_of, nodes_of, subtrees, with_block, AreBranches, IsBlock, IsBlockIn}
 use Rattle.iddqd_ord_index.specs.Shape.{unused}
 use Rattle.iddqd_ord_index.specs.declared.tree.node.Block.{Block}
 use Rattle.iddqd_ord_index.specs.declared.tree.node.Branches.{Branches}
 use Rattle.iddqd_ord_index.specs.declared.tree.node.Node.{Node}
-use Rattle.iddqd_ord_index.proofs.BelowLemmas.{branches_put, count_at, counted_length, length-subtrees, read_below, read_block, subtree_at}
-use Rattle.iddqd_ord_index.proofs.PackedLemmas.{held_cell}
+use Rattle.iddqd_ord_index.proofs.BelowLemmas.{branches_put, count_at, counted_length, read_below, read_block}
+use Rattle.iddqd_ord_index.proofs.PackedLemmas.{cell_is}
 
--- the branches in a block with this node in the i-th cell and these counts
-abbrev pub branches_with : Box Block Global → Block → ℕ → Node → ArrayVec ℕ → Branches
-branches_with block read i node counts = record { block = Some (with_value block (record { counts = counts; nodes = set read.nodes i (Some node) })) }
+-- the branches in the block that was read, with this node in the i-th cell
+abbrev pub branches_with : Branches → Block → ℕ → Node → Branches
+branches_with bs read i node = with_block bs (record read { nodes = set read.nodes i (Some node) })
 
-module _ (bs : Branches) (block : Box Block Global) (read : Block) (is : bs.block ≡ Some block) (same : read ≡ block.value) where
+own_block : (o : Option (Box Block Global)) (read : Block) → IsBlockIn o read → (own : Box Block Global) × (o ≡ Some own) × (read ≡ own.value)
+own_block None read h = absurd h
+own_block (Some own) read h = (own, refl, h)
+
+module _ (bs : Branches) (read : Block) (h : IsBlockIn bs.block read) where
+  own : (own : Box Block Global) × (bs.block ≡ Some own) × (read ≡ own.value)
+  own = own_block bs.block read h
+
+  -- the branches in another block in the place of theirs
+  pub nodes_written : (b : Block) → nodes_of (with_block bs b) ≡ b.nodes
+  nodes_written b = ap (λ o. cells_in (option_map (λ x. with_value x b) o)) own.1
+
+  pub counts_written : (b : Block) → counts_of (with_block bs b) ≡ b.counts.items
+  counts_written b = ap (λ o. counts_in (option_map (λ x. with_value x b) o)) own.1
+
   same_nodes : read.nodes ≡ nodes_of bs
-  same_nodes = ap (λ b. b.nodes) same ∙ sym (ap cells_in is)
+  same_nodes = ap (λ b. b.nodes) own.2 ∙ sym (ap cells_in own.1)
 
   same_counts : read.counts.items ≡ counts_of bs
-  same_counts = ap (λ b. b.counts.items) same ∙ sym (ap counts_in is)
+  same_counts = ap (λ b. b.counts.items) own.2 ∙ sym (ap counts_in own.1)
 
-  module _ (a : AreBranches bs) (i : ℕ) (lt : i < length (below bs)) where
-    is_block : IsBlock read
-    is_block = read_block bs block read is same a
+  pub block_read : AreBranches bs → IsBlock read
+  block_read = read_block bs own.0 read own.1 own.2
 
-    in_read : i < length (subtrees read.nodes)
-    in_read = omega (arith, lt, ap length (read_below bs block read is same))
+  pub below_read : below bs ≡ subtrees read.nodes
+  below_read = read_below bs own.0 read own.1 own.2
 
-    pub branch_in : (o : Option Node) (node : Node) → o ≡ get_or read.nodes i o → get_or read.nodes i o ≡ Some node → node ≡ get_or (below bs) i unused
-    branch_in o node at some = sym (ap (λ ts. get_or ts i unused) (read_below bs block read is same) ∙ subtree_at read.nodes i o node unused is_block.packed in_read at (at ∙ some))
+  module _ (i : ℕ) where
+    pub changed_nodes : (node : Node) → nodes_of (branches_with bs read i node) ≡ set (nodes_of bs) i (Some node)
+    changed_nodes node = nodes_written (record read { nodes = set read.nodes i (Some node) }) ∙ ap (λ l. set l i (Some node)) same_nodes
 
-    pub cell_full : {P : Type 0} (o : Option Node) → o ≡ get_or read.nodes i o → get_or read.nodes i o ≡ None → P
-    cell_full o at none = absurd (held_cell read.nodes i o is_block.packed (omega (arith, in_read, length-subtrees read.nodes)) at none)
+    pub same_counted : (node : Node) → counts_of (branches_with bs read i node) ≡ counts_of bs
+    same_counted node = counts_written (record read { nodes = set read.nodes i (Some node) }) ∙ same_counts
 
-    pub counted : i < length read.counts.items
-    counted = omega (arith, in_read, counted_length read.nodes read.counts.items is_block)
+    pub changed_counts : (node : Node) (count : ℕ) → set (counts_of (branches_with bs read i node)) i count ≡ set (counts_of bs) i count
+    changed_counts node count = ap (λ l. set l i count) (same_counted node)
 
-    pub changed_nodes : (node : Node) → set read.nodes i (Some node) ≡ set (set (nodes_of bs) i None) i (Some node)
-    changed_nodes node = ap (λ l. set l i (Some node)) same_nodes ∙ sym (set-set (nodes_of bs) i None (Some node))
+    module _ (a : AreBranches bs) (lt : i < length (below bs)) where
+      in_read : i < length (subtrees read.nodes)
+      in_read = omega (arith, lt, ap length below_read)
 
-    pub changed_counts : (count : ℕ) → set read.counts.items i count ≡ set (counts_of bs) i count
-    changed_counts count = ap (λ l. set l i count) same_counts
+      cell : (o : Option Node) → get_or read.nodes i o ≡ Some (get_or (subtrees read.nodes) i unused)
+      cell o = cell_is read.nodes i o unused (block_read a).packed in_read
 
-    pub kept : (node : Node) → node ≡ get_or (below bs) i unused
-        → AreBranches (branches_with block read i node read.counts) × (below (branches_with block read i node read.counts) ≡ below bs)
-    kept node e =
-        let c = length (get_or (below bs) i unused).slots in
-        let n : read.counts.items ≡ set (counts_of bs) i c = same_counts ∙ sym (ap (λ x. set (counts_of bs) i x) (sym (count_at bs a i 0 lt)) ∙ set-get_or (counts_of bs) i 0) in
-        let p = branches_put bs (branches_with block read i node read.counts) i c node a lt (changed_nodes node) n (ap (λ t. length t.slots) (sym e)) in
-        (p.0, p.1 ∙ (ap (λ t. set (below bs) i t) e ∙ set-get_or (below bs) i unused))
+      pub cell_full : (o : Option Node) (r : Option (MutBor Node)) → is_some r ≡ is_some (get_or read.nodes i o) → IsSome r
+      cell_full o r e = e ∙ ap is_some (cell o)
+
+      pub branch_in : (o : Option Node) {r : Option (MutBor Node)} {x : MutBor Node} → option_copied_mut r ≡ get_or read.nodes i o → r ≡ Some x → x.now ≡ get_or (below bs) i unused
+      branch_in o {r} {x} e is =
+          let s : Some x.now ≡ Some (get_or (subtrees read.nodes) i unused) = sym (ap option_copied_mut is) ∙ (e ∙ cell o) in
+          let f : x.now ≡ get_or (subtrees read.nodes) i unused = cc in
+          f ∙ sym (ap (λ ts. get_or ts i unused) below_read)
+
+      pub counted : (node : Node) → i < length (counts_of (branches_with bs read i node))
+      counted node = omega (arith, in_read, counted_length read.nodes read.counts.items (block_read a), ap length (same_counted node), ap length same_counts)
+
+      pub kept : (node : Node) → length node.slots ≡ length (get_or (below bs) i unused).slots
+          → AreBranches (branches_with bs read i node) × (below (branches_with bs read i node) ≡ set (below bs) i node)
+      kept node e =
+          let c = length (get_or (below bs) i unused).slots in
+          let n : counts_of (branches_with bs read i node) ≡ set (counts_of bs) i c = same_counted node ∙ sym (ap (λ x. set (counts_of bs) i x) (sym (count_at bs a i 0 lt)) ∙ set-get_or (counts_of bs) i 0) in
+          branches_put bs (branches_with bs read i node) i c node a lt (changed_nodes node) n (sym e)

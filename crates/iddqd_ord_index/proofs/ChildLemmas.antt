@@ -4,11 +4,14 @@
 --     child_found, child_among, child_place, child_at      what is found in it, and where
 --     IsStill      the node whose branch has not changed
 --     steps_here, steps_below      the comparisons at a node, and those at its branch
-use Rattle.std.proofs.Common.{refl, ◌≡◌, ℕ, ◌+◌, ◌*◌, ◌<◌, ◌≤◌, List, length, set, take, get_or, Option, Some, None, Ok, Err, Box, Global, subst, sym, ap, ◌∙◌, arith}
+use Rattle.std.proofs.Common.{refl, ◌≡◌, ℕ, ◌+◌, ◌*◌, ◌<◌, ◌≤◌, List, length, set, take, get_or, Option, Some, Ok, Err, subst, sym, ap, ◌∙◌, arith}
 use Rattle.std.specs.declared.cmp.Ordering.{Ordering}
+use Rattle.std.proofs.lemmas.List.{set-get_or}
+use Rattle.std.specs.Borrow.{MutBor}
 use Rattle.std.specs.List.{All}
+use Rattle.std.specs.Option.{option_copied_mut}
 use Rattle.iddqd_ord_index.specs.Digits.{digits}
-use Rattle.iddqd_ord_index.specs.Nodes.{below, counts_of, nodes_of, AreBranches}
+use Rattle.iddqd_ord_index.specs.Nodes.{below, counts_of, nodes_of, AreBranches, IsBlockIn}
 use Rattle.iddqd_ord_index.specs.Shape.{Subtree, lists, starts, tree, unused, IsBranchAt, IsForked}
 use Rattle.iddqd_ord_index.specs.Standing.{IsAmong, IsMonotone, IsPart, IsPlace}
 use Rattle.iddqd_ord_index.specs.declared.tree.node.Block.{Block}
@@ -41,28 +44,28 @@ pub record IsCell (bs : Branches) (self : Subtree) (read : Block) (i : ℕ) (d :
   pub wide : 5 ≤ d.width
   pub some : 0 < length d.slots
   -- its cell and its count
-  pub counted : i < length read.counts.items
-  pub nodes : (node : Node) → set read.nodes i (Some node) ≡ set (set (nodes_of bs) i None) i (Some node)
-  pub counts : (count : ℕ) → set read.counts.items i count ≡ set (counts_of bs) i count
+  pub counted : (node : Node) → i < length (counts_of (branches_with bs read i node))
+  pub nodes : (node : Node) → nodes_of (branches_with bs read i node) ≡ set (nodes_of bs) i (Some node)
+  pub counts : (node : Node) (count : ℕ) → set (counts_of (branches_with bs read i node)) i count ≡ set (counts_of bs) i count
 
 -- and if the query belongs in it
-pub record IsChild (order : ℕ → Ordering) (P : ℕ → Type 0) (bs : Branches) (ss : List ℕ) (self : Subtree) (block : Box Block Global) (read : Block) (i : ℕ) (d : Subtree) : Type 0 where
+pub record IsChild (order : ℕ → Ordering) (P : ℕ → Type 0) (bs : Branches) (ss : List ℕ) (self : Subtree) (read : Block) (i : ℕ) (d : Subtree) : Type 0 where
   pub cell : IsCell bs self read i d
   pub open cell use *
   pub part : IsPart order self.slots d.slots (starts (take i (lists (below bs))))
   pub room : starts (lists (below bs)) ≤ length self.slots + 1
   pub all : All P d.slots
   pub monotone : IsMonotone order d.slots
-  pub still : (node : Node) → node ≡ d → IsStill (branches_with block read i node read.counts) bs ss self
+  pub still : (node : Node) → node ≡ d → IsStill (branches_with bs read i node) bs ss self
 
 -- the place of a query among a node's own slots is that of a branch
 pub place_inside : (ts : List Subtree) (xs ss : List ℕ) (i : ℕ) → IsForked ts ss → 0 < length ts → xs ≡ ss → i ≤ length xs → i < length ts
 place_inside ts xs ss i f some e le = omega (arith, f.fork some, ap length e)
 
-pub cell_of : (bs : Branches) (ss : List ℕ) (self : Subtree) → AreBranches bs → IsForked (below bs) ss → tree (below bs) ss ≡ self → (block : Box Block Global) (read : Block) → bs.block ≡ Some block → read ≡ block.value → (i : ℕ) → i < length (below bs)
-    → (o : Option Node) (node : Node) → o ≡ get_or read.nodes i o → get_or read.nodes i o ≡ Some node → IsCell bs self read i node
-cell_of bs ss self br f v block read is same i lt o node at there =
-    let w = branch_in bs block read is same br i lt o node at there in
+pub cell_of : (bs : Branches) (ss : List ℕ) (self : Subtree) → AreBranches bs → IsForked (below bs) ss → tree (below bs) ss ≡ self → (read : Block) → IsBlockIn bs.block read → (i : ℕ) → i < length (below bs)
+    → (o : Option Node) {r : Option (MutBor Node)} {x : MutBor Node} → option_copied_mut r ≡ get_or read.nodes i o → r ≡ Some x → IsCell bs self read i x.now
+cell_of bs ss self br f v read h i lt o {r} {x} at is =
+    let w = branch_in bs read h i br lt o at is in
     let b = f.branches i unused lt in
     record {
       inside = lt;
@@ -72,40 +75,41 @@ cell_of bs ss self br f v block read is same i lt o node at there =
       low = omega (arith, b.dense.low, ap (λ t. t.height) w);
       wide = omega (arith, b.wide, ap (λ t. t.width) w);
       some = omega (arith, branch_some _ (get_or (below bs) i unused) b, ap (λ t. length t.slots) w);
-      counted = counted bs block read is same br i lt;
-      nodes = changed_nodes bs block read is same br i lt;
-      counts = changed_counts bs block read is same br i lt;
+      counted = counted bs read h i br lt;
+      nodes = changed_nodes bs read h i;
+      counts = changed_counts bs read h i;
     }
 
 module _ (order : ℕ → Ordering) (P : ℕ → Type 0) (bs : Branches) (ss : List ℕ) (self : Subtree) (m : IsMonotone order self.slots) (a : All P self.slots) (br : AreBranches bs) (f : IsForked (below bs) ss) (v : tree (below bs) ss ≡ self)
-    (block : Box Block Global) (read : Block) (is : bs.block ≡ Some block) (same : read ≡ block.value) (some : 0 < length (below bs)) (i : ℕ) (xs : List ℕ) (e : xs ≡ ss) (p : IsPlace order xs (Err i))
-    (o : Option Node) (node : Node) (at : o ≡ get_or read.nodes i o) (there : get_or read.nodes i o ≡ Some node) where
-  child_part : node ≡ get_or (below bs) i unused → IsPart order self.slots node.slots (starts (take i (lists (below bs))))
+    (read : Block) (h : IsBlockIn bs.block read) (some : 0 < length (below bs)) (i : ℕ) (xs : List ℕ) (e : xs ≡ ss) (p : IsPlace order xs (Err i))
+    (o : Option Node) {r : Option (MutBor Node)} {x : MutBor Node} (at : option_copied_mut r ≡ get_or read.nodes i o) (is : r ≡ Some x) where
+  child_part : x.now ≡ get_or (below bs) i unused → IsPart order self.slots x.now.slots (starts (take i (lists (below bs))))
   child_part w =
       let n = inner order P self.slots (below bs) ss 0 self m a f some v (whole_part order self.slots) in
       let zero : 0 + starts (take i (lists (below bs))) ≡ starts (take i (lists (below bs))) = omega arith in
-      subst (IsPart order self.slots node.slots) zero (n.down i (starts (take i (lists (below bs)))) node (subst (λ l. IsPlace order l (Err i)) e p) refl w)
+      subst (IsPart order self.slots x.now.slots) zero (n.down i (starts (take i (lists (below bs)))) x.now (subst (λ l. IsPlace order l (Err i)) e p) refl w)
 
-  child_still : i < length (below bs) → node ≡ get_or (below bs) i unused → (new : Node) → new ≡ node → IsStill (branches_with block read i new read.counts) bs ss self
+  child_still : i < length (below bs) → x.now ≡ get_or (below bs) i unused → (new : Node) → new ≡ x.now → IsStill (branches_with bs read i new) bs ss self
   child_still lt w new same_node =
-      let k = kept bs block read is same br i lt new (same_node ∙ w) in
-      record { branches = k.0; same = k.1; forked = subst (λ us. IsForked us ss) (sym k.1) f; view = ap (λ us. tree us ss) k.1 ∙ v }
+      let k = kept bs read h i br lt new (ap (λ t. length t.slots) (same_node ∙ w)) in
+      let same = k.1 ∙ (ap (λ t. set (below bs) i t) (same_node ∙ w) ∙ set-get_or (below bs) i unused) in
+      record { branches = k.0; same = same; forked = subst (λ us. IsForked us ss) (sym same) f; view = ap (λ us. tree us ss) same ∙ v }
 
-  pub child : IsChild order P bs ss self block read i node
+  pub child : IsChild order P bs ss self read i x.now
   child =
       let lt = place_inside (below bs) xs ss i f some e p.0 in
-      let b = cell_of bs ss self br f v block read is same i lt o node at there in
+      let b = cell_of bs ss self br f v read h i lt o at is in
       let part = child_part b.is in
       record {
         cell = b;
         part = part;
         room = (inner order P self.slots (below bs) ss 0 self m a f some v (whole_part order self.slots)).room;
-        all = part_all order P self.slots node.slots (starts (take i (lists (below bs)))) a part;
-        monotone = part_mono order self.slots node.slots (starts (take i (lists (below bs)))) m part;
+        all = part_all order P self.slots x.now.slots (starts (take i (lists (below bs)))) a part;
+        monotone = part_mono order self.slots x.now.slots (starts (take i (lists (below bs)))) m part;
         still = child_still lt b.is;
       }
 
-module _ {order : ℕ → Ordering} {P : ℕ → Type 0} {bs : Branches} {ss : List ℕ} {self : Subtree} {block : Box Block Global} {read : Block} {i : ℕ} {d : Subtree} (h : IsChild order P bs ss self block read i d) where
+module _ {order : ℕ → Ordering} {P : ℕ → Type 0} {bs : Branches} {ss : List ℕ} {self : Subtree} {read : Block} {i : ℕ} {d : Subtree} (h : IsChild order P bs ss self read i d) where
   pub child_found : (k : ℕ) → IsPlace order d.slots (Ok k) → IsPlace order self.slots (Ok (starts (take i (lists (below bs))) + k))
   child_found k q = found_place order self.slots d.slots (starts (take i (lists (below bs)))) h.part k q.0 q.1
 

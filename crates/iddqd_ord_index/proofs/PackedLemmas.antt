@@ -173,10 +173,13 @@ module _ {T : Type 0} where
       (h none ∙ (ap (λ l. (l ++ drop (suc i) (set os i o)) ++ get_or (set os i o) i none ∷ []) t ∙ (ap (λ l. (take i os ++ l) ++ get_or (set os i o) i none ∷ []) d ∙ ap (λ x. remove os i ++ x ∷ []) (g ∙ z))))
 
   -- a cell in front holds the item there
-  pub cell_at : (os : List (Option T)) (i : ℕ) (o : Option T) (d : T) → IsPacked os → i < length (items_present os) → o ≡ get_or os i o → o ≡ Some (get_or (items_present os) i d)
-  cell_at os i o d p lt e =
+  pub cell_is : (os : List (Option T)) (i : ℕ) (o : Option T) (d : T) → IsPacked os → i < length (items_present os) → get_or os i o ≡ Some (get_or (items_present os) i d)
+  cell_is os i o d p lt =
       let n : length (map Some (items_present os)) ≡ length (items_present os) = length-map (items_present os) Some in
-      e ∙ (ap (λ l. get_or l i o) p.cells ∙ (get_or_append_left (map Some (items_present os)) _ o i (omega arith) ∙ get_or-map Some (items_present os) i d o lt))
+      ap (λ l. get_or l i o) p.cells ∙ (get_or_append_left (map Some (items_present os)) _ o i (omega arith) ∙ get_or-map Some (items_present os) i d o lt)
+
+  pub cell_at : (os : List (Option T)) (i : ℕ) (o : Option T) (d : T) → IsPacked os → i < length (items_present os) → o ≡ get_or os i o → o ≡ Some (get_or (items_present os) i d)
+  cell_at os i o d p lt e = e ∙ cell_is os i o d p lt
 
   first_of : (xs : List T) (i : ℕ) → i < length xs → T
   first_of [] i lt = absurd (omega arith)

@@ -1,5 +1,5 @@
 -- A node of which a branch lost a slot.
-use Rattle.std.proofs.Common.{◌≡◌, ℕ, suc, ◌+◌, ◌^◌, ◌-◌, ◌<◌, ◌≤◌, Bool, true, false, List, [], ◌∷◌, ◌++◌, length, take, drop, set, get_or, refl, ap, sym, ◌∙◌, inl, inr, subst, arith, append_assoc, length-set, min, ltb, Some, None}
+use Rattle.std.proofs.Common.{◌≡◌, ℕ, suc, ◌+◌, ◌^◌, ◌-◌, ◌<◌, ◌≤◌, Bool, true, false, List, [], ◌∷◌, ◌++◌, length, take, drop, set, get_or, refl, ap, sym, ◌∙◌, inl, inr, subst, arith, append_assoc, length-set, min, ltb, Some}
 use Rattle.std.specs.Bool.{if◌then◌else◌}
 use Rattle.std.specs.List.{remove}
 use Rattle.std.proofs.lemmas.Bool.{cases_lt, ltb-false}
@@ -155,7 +155,7 @@ pub put_shrunk : (old new : Branches) (ss ss' : List ℕ) (at i rest count taken
     → (1 < self.height → 0 < self.width) → at < length self.slots → least ≡ min rest (count - 1)
     → taken ≡ get_or before.slots least 0 → b.slots ≡ remove before.slots least → b.height ≡ before.height → before.width ≤ b.width + 1 → IsDense b
     → (rest < count → (slot ≡ taken) × (ss' ≡ ss)) → (rest ≡ count → (slot ≡ get_or ss i 0) × (ss' ≡ set ss i taken)) → length ss' ≡ length ss
-    → (nodes_of new) ≡ set (set (nodes_of old) i None) i (Some b) → (counts_of new) ≡ set (counts_of old) i (count - 1) → tree (below old) ss ≡ self
+    → (nodes_of new) ≡ set (nodes_of old) i (Some b) → (counts_of new) ≡ set (counts_of old) i (count - 1) → tree (below old) ss ≡ self
     → AreBranches new × IsShrunk (below old) (below new) ss' i self.slots (remove self.slots at) slot at × ((get_or (below new) i unused).width ≡ b.width)
 put_shrunk old new ss ss' at i rest count taken slot least b before self a f branch_at v c some lt m t n h w d bel own same nodes counts view =
     let ts = below old in

@@ -4,6 +4,7 @@ pub mod Digits
 pub mod Falls
 pub mod IndexParts
 pub mod Inserting
+pub mod Lends
 pub mod Listed
 pub mod Neighbours
 pub mod NodeRemoval

@@ -1,5 +1,6 @@
 -- What the fields of a node show. No public clause cites this module.
-use Rattle.std.specs.Prelude.{◌≡◌, ℕ, ◌+◌, List, [], ◌++◌, All, insert, length, map, Option, Some, None}
+use Rattle.std.specs.Prelude.{◌≡◌, ℕ, ◌+◌, List, [], ◌++◌, All, insert, length, map, option_map, Option, Some, None}
+use Rattle.std.specs.Box.{with_value}
 use Rattle.std.proofs.Common.{Box, Global}
 use Rattle.iddqd_ord_index.specs.Cells.{cells_of, items_present, IsPacked}
 use Rattle.arrayvec.specs.ArrayVec.{ArrayVec}
@@ -54,6 +55,15 @@ IsThere (Some b) = Unit
 
 abbrev pub HasBlock : Branches → Type 0
 HasBlock bs = IsThere bs.block
+
+-- the block that the branches lie in
+abbrev pub IsBlockIn : Option (Box Block Global) → Block → Type 0
+IsBlockIn None b = ⊥
+IsBlockIn (Some own) b = b ≡ own.value
+
+-- the branches in this block in place of their own
+abbrev pub with_block : Branches → Block → Branches
+with_block bs b = record { block = option_map (λ own. with_value own b) bs.block }
 
 -- the branches of two blocks, those of the second behind those of the first
 abbrev pub JoinsBlocks : (lower upper all : Block) → Type 0

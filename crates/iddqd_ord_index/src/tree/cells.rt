@@ -1,5 +1,5 @@
 //! A fixed array of cells that holds a list: the items stand in front, the cells behind them are empty.
-ghost use Rattle.std.specs.Prelude.{◌≡◌, ◌+◌, ◌-◌, ◌<◌, ◌≤◌, List, [], ◌∷◌, ◌++◌, length, take, drop, insert, remove, slice_index_or, slice_set, nat_le, if◌then◌else◌};
+ghost use Rattle.std.specs.Prelude.{◌≡◌, ◌+◌, ◌-◌, ◌<◌, ◌≤◌, List, [], ◌∷◌, ◌++◌, length, take, drop, insert, remove, slice_index_or, nat_le, if◌then◌else◌};
 ghost use Rattle.iddqd_ord_index.specs.Cells.{items_present, InsertsLast, IsPacked};
 
 use super::node::MOST_BRANCHES;
@@ -44,26 +44,6 @@ pub(crate) fn rotate_out<T>(cells: &mut [T], i: usize)
     ensures { (d : T) → cells.new ≡ remove cells.old i ++ slice_index_or cells.old i d ∷ [] }
 {
     cells[i..].rotate_left(1);
-}
-
-// Takes the item at place `i` out, and leaves its cell empty.
-pub(crate) fn take<T>(cells: &mut [Option<T>], i: usize) -> T
-    requires packed { IsPacked cells.old }
-    requires in_bounds { i < length (items_present cells.old) }
-    ensures cells { cells.new ≡ slice_set cells.old i None }
-    ensures value { result ≡ slice_index_or (items_present cells.old) i result }
-{
-    match cells[i].take() {
-        Some(item) => item,
-        None => unreachable!(),
-    }
-}
-
-pub(crate) fn put<T: Drop>(cells: &mut [Option<T>], i: usize, item: T)
-    requires { i < length cells.old }
-    ensures { cells.new ≡ slice_set cells.old i (Some item) }
-{
-    cells[i] = Some(item);
 }
 
 // Moves the items from place `at` on into `upper`, which is empty.

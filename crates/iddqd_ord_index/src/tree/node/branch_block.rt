@@ -1,6 +1,7 @@
 //! The branches of a node and the number of slots below each, changed together.
 ghost use Rattle.std.specs.Prelude.{true, false, ◌≡◌, ◌+◌, ◌^◌, ◌<◌, ◌≤◌, ◌==◌, [], ◌++◌, length, take, drop, insert, remove, slice_index, slice_index_or, slice_set, nat_lt, if◌then◌else◌, IfOk, IfSome, IsSome};
-ghost use Rattle.iddqd_ord_index.specs.Nodes.{below, below_with, branch_count, counts_of, nodes_of, subtrees, AreBranches, HasBlock, IsBare, IsBlock, JoinsBlocks, SplitsWith};
+ghost use Rattle.std.specs.Borrow.{sem};
+ghost use Rattle.iddqd_ord_index.specs.Nodes.{below, below_with, branch_count, counts_of, nodes_of, subtrees, AreBranches, HasBlock, IsBare, IsBlock, IsBlockIn, JoinsBlocks, SplitsWith};
 ghost use Rattle.iddqd_ord_index.specs.Shape.{lists, starts, unused, IsBranchAt};
 
 use super::{Block, Branches, KEPT, MOST_BRANCHES, Node};
@@ -129,6 +130,8 @@ impl Block {
 }
 
 impl Branches {
+    ghost use Rattle.iddqd_ord_index.specs.Lends.{lends_block};
+
     // No branches, and no block.
     pub(super) fn new() -> Self
         ensures branches { AreBranches result }
@@ -173,6 +176,19 @@ impl Branches {
         ensures some { HasBlock self.old → IsSome result }
     {
         self.block.take()
+    }
+
+    // The block that the branches lie in, for writing.
+    #[inline]
+    pub(super) fn block_mut(&mut self) -> &mut Block
+        requires { HasBlock self.old }
+        ensures* writes_back { sem 𝓛 (lends_block self.entry result) }
+        ensures block { IsBlockIn self.old.block result.now }
+    {
+        match &mut self.block {
+            Some(block) => block,
+            None => unreachable!(),
+        }
     }
 
     // How many slots lie below each branch.
@@ -296,10 +312,7 @@ impl Branches {
         ensures below { below self.new ≡ insert (below self.old) i node }
         ensures block { HasBlock self.new }
     {
-        let Some(block) = &mut self.block else {
-            unreachable!()
-        };
-        block.insert(i, node, count);
+        self.block_mut().insert(i, node, count);
     }
 
     // Removes the i-th branch, and returns it with the number of slots below it.
@@ -314,39 +327,7 @@ impl Branches {
         ensures count { result.1 ≡ length result.0.slots }
         ensures block { HasBlock self.new }
     {
-        let Some(block) = &mut self.block else {
-            unreachable!()
-        };
-        block.remove(i)
-    }
-
-    // Takes the i-th branch out of its cell, which `put` fills again.
-    pub(super) fn take(&mut self, i: usize) -> Node
-        requires branches { AreBranches self.old }
-        requires in_bounds { i < length (below self.old) }
-        ensures cell { nodes_of self.new ≡ slice_set (nodes_of self.old) i None }
-        ensures counts { counts_of self.new ≡ counts_of self.old }
-        ensures node { result ≡ slice_index_or (below self.old) i unused }
-    {
-        let Some(block) = &mut self.block else {
-            unreachable!()
-        };
-        let block: &mut Block = block;
-        cells::take(&mut block.nodes, i)
-    }
-
-    // Puts a branch, with this many slots below it, into the cell that `take` has left empty.
-    pub(super) fn put(&mut self, i: usize, node: Node, count: u32)
-        requires cell { i < length (nodes_of self.old) }
-        requires counts { i < length (counts_of self.old) }
-        ensures cell { nodes_of self.new ≡ slice_set (nodes_of self.old) i (Some node) }
-        ensures counts { counts_of self.new ≡ slice_set (counts_of self.old) i count }
-    {
-        let Some(block) = &mut self.block else {
-            unreachable!()
-        };
-        cells::put(&mut block.nodes, i, node);
-        block.set_count(i, count);
+        self.block_mut().remove(i)
     }
 
     // Sets the number of slots below the i-th branch.
@@ -355,10 +336,7 @@ impl Branches {
         ensures cells { nodes_of self.new ≡ nodes_of self.old }
         ensures counts { counts_of self.new ≡ slice_set (counts_of self.old) i count }
     {
-        let Some(block) = &mut self.block else {
-            unreachable!()
-        };
-        block.set_count(i, count);
+        self.block_mut().set_count(i, count);
     }
 
     // Moves all branches of `upper` behind these.
@@ -405,10 +383,7 @@ impl Branches {
         ensures lower { length (below self.new) ≡ (if nat_lt i KEPT then KEPT + 1 else KEPT) }
         ensures upper { length (below result) ≡ (if nat_lt i KEPT then KEPT else KEPT + 1) }
     {
-        let Some(own) = &mut self.block else {
-            unreachable!()
-        };
-        own.split(i, node, count, &mut block);
+        self.block_mut().split(i, node, count, &mut block);
         Branches { block: Some(block) }
     }
 }

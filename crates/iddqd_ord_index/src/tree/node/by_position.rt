@@ -46,9 +46,7 @@ impl Node {
             return 1;
         }
         let fits = more.len().min((count - rest) as usize);
-        let mut node = self.branches.take(i);
-        let written = node.write(rest, &more[..fits]);
-        self.branches.put(i, node, count);
-        written
+        let node = self.branches.block_mut().nodes[i].as_mut().unwrap();
+        node.write(rest, &more[..fits])
     }
 }

@@ -42,9 +42,9 @@ impl Node {
             let (_, count) = self.branches.remove(i + 1);
             return count + 1;
         }
-        let mut node = self.branches.take(i);
+        let node = self.branches.block_mut().nodes[i].as_mut().unwrap();
         let count = node.cut(rest, most.min(len - rest));
-        self.branches.put(i, node, len - count);
+        self.branches.set_count(i, len - count);
         count
     }
 }

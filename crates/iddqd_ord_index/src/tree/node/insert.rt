@@ -179,13 +179,13 @@ impl Node {
         }
         let (i, rest) = self.branches.branch_at(at);
         let count = self.branches.count(i) + 1;
-        let mut node = self.branches.take(i);
+        let node = self.branches.block_mut().nodes[i].as_mut().unwrap();
         let Some((middle, upper)) = node.add(rest, slot, pool) else {
-            self.branches.put(i, node, count);
+            self.branches.set_count(i, count);
             return None;
         };
         let above = upper.len();
-        self.branches.put(i, node, count - above - 1);
+        self.branches.set_count(i, count - above - 1);
         add_branch(
             &mut self.slots,
             &mut self.branches,

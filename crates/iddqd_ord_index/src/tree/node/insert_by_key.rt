@@ -65,13 +65,7 @@ impl Node {
             return Outcome::Inserted(self.add_to_leaf(i as u32, slot));
         }
         let count = self.branches.count(i);
-        let Some(block) = &mut self.branches.block else {
-            unreachable!()
-        };
-        let nodes: &mut [Option<Node>] = &mut block.nodes;
-        let Some(node) = &mut nodes[i] else {
-            unreachable!()
-        };
+        let node = self.branches.block_mut().nodes[i].as_mut().unwrap();
         match node.insert_by_key(store, query, slot, ready, pool, steps) {
             Outcome::Found(found) => Outcome::Found(found),
             Outcome::Full(rest) => Outcome::Full(self.branches.start(i) + rest),

@@ -162,13 +162,7 @@ impl Branches {
     {
         let (upper, more) = self.remove(j + 1);
         let len = self.count(j);
-        let Some(block) = &mut self.block else {
-            unreachable!()
-        };
-        let nodes: &mut [Option<Node>] = &mut block.nodes;
-        let Some(lower) = &mut nodes[j] else {
-            unreachable!()
-        };
+        let lower = self.block_mut().nodes[j].as_mut().unwrap();
         let bare = lower.merge(middle, upper);
         self.set_count(j, len + more + 1);
         bare
@@ -186,10 +180,7 @@ impl Branches {
         ensures shifted { IsShiftedAt j middle (below self.old) result (below self.new) }
     {
         let total = self.count(j) + self.count(j + 1);
-        let Some(block) = &mut self.block else {
-            unreachable!()
-        };
-        let (top, len) = shift_cells(&mut block.nodes, j, middle);
+        let (top, len) = shift_cells(&mut self.block_mut().nodes, j, middle);
         self.set_count(j, len);
         self.set_count(j + 1, total - len);
         top

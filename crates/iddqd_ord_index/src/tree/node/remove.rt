@@ -113,13 +113,7 @@ impl Node {
         }
         let (i, rest) = self.branches.branch_at(at);
         let len = self.branches.count(i);
-        let Some(block) = &mut self.branches.block else {
-            unreachable!()
-        };
-        let nodes: &mut [Option<Node>] = &mut block.nodes;
-        let Some(node) = &mut nodes[i] else {
-            unreachable!()
-        };
+        let node = self.branches.block_mut().nodes[i].as_mut().unwrap();
         let taken = node.remove(rest.min(len - 1), pool);
         let width = node.width();
         self.branches.set_count(i, len - 1);

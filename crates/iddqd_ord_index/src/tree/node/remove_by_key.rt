@@ -39,13 +39,7 @@ fn remove_own(slots: &mut Slots, branches: &mut Branches, i: usize, pool: &mut B
     ensures pool { (pool.new.wanted ≡ pool.old.wanted) × (pool.new.room ≡ pool.old.room) }
 {
     let len = branches.count(i);
-    let Some(block) = &mut branches.block else {
-        unreachable!()
-    };
-    let nodes: &mut [Option<Node>] = &mut block.nodes;
-    let Some(node) = &mut nodes[i] else {
-        unreachable!()
-    };
+    let node = branches.block_mut().nodes[i].as_mut().unwrap();
     let last = node.remove(len - 1, pool);
     let width = node.width();
     branches.set_count(i, len - 1);
@@ -97,13 +91,7 @@ impl Node {
         };
         let len = self.branches.count(i);
         // The branch stays in its cell, so that nothing is written if there is no such slot.
-        let Some(block) = &mut self.branches.block else {
-            unreachable!()
-        };
-        let nodes: &mut [Option<Node>] = &mut block.nodes;
-        let Some(node) = &mut nodes[i] else {
-            unreachable!()
-        };
+        let node = self.branches.block_mut().nodes[i].as_mut().unwrap();
         let slot = node.remove_by_key(store, query, pool, steps)?;
         let width = node.width();
         self.branches.set_count(i, len - 1);

@@ -1,11 +1,12 @@
-use Rattle.std.proofs.Common.{◌≡◌, ◌+◌, ◌<◌, ◌-◌, ◌++◌, [], ℕ, Some, length, get_or, set, subst, ap, sym, ◌∙◌, arith, length-append}
+use Rattle.std.proofs.Common.{◌≡◌, ◌+◌, ◌<◌, ◌-◌, ◌++◌, [], ℕ, length, get_or, set, subst, ap, sym, ◌∙◌, arith, length-append}
 use Rattle.std.proofs.lemmas.List.{map-set}
 use Rattle.std.specs.List.{remove}
 use Rattle.iddqd_ord_index.specs.NodeRemoval.{LosesPart}
 use Rattle.iddqd_ord_index.specs.Nodes.{below, AreBranches}
 use Rattle.iddqd_ord_index.specs.Shape.{in_order, levels, lists, unused, IsBranch, IsForked}
-use Rattle.iddqd_ord_index.proofs.BelowLemmas.{branches_put, list_at}
+use Rattle.iddqd_ord_index.proofs.BelowLemmas.{branches_put, has_block, list_at}
 use Rattle.iddqd_ord_index.proofs.BranchAtLemmas.{starts_is, branch_is, branch_at_in, branch_at_fork, branch_at_list, leaf_list}
+use Rattle.iddqd_ord_index.proofs.CellLemmas.{branch_in, cell_full, changed_counts, changed_nodes, counted}
 use Rattle.iddqd_ord_index.proofs.DenseLemmas.{dense_of}
 use Rattle.iddqd_ord_index.proofs.EditLemmas.{set_forked, set_levels}
 use Rattle.iddqd_ord_index.proofs.PartLemmas.{branch_part, forked_without, leaf_part, levels_without, lists_without, next_part, still_wide}
@@ -62,10 +63,21 @@ returns-then-may_lose_next-clause-part t c = (without t c.before.before).2
 pub returns-then-may_lose_next-clause-dense : goal.returns-then-may_lose_next-clause-dense
 returns-then-may_lose_next-clause-dense t c = dense_of (below c.remove-count.new.self) c.remove.new.self.items (without t c.before.before).0
 
--- the node with the branch put back
-made : (t : ℕ) (c : goal.After-put t) → AreBranches c.put.new.self × IsForked (below c.put.new.self) c.self.inside.slots.items
-    × (levels (below c.put.new.self) ≡ levels (below c.self.inside.branches))
-    × LosesPart c.args.at c.args.most c.cut-count.result c.args.self.now.slots (in_order (lists (below c.put.new.self)) c.self.inside.slots.items)
+-- the block and the cell of the branch
+pub block_mut-requires : goal.block_mut-requires
+block_mut-requires t c = has_block c.self.inside.branches (c.is_empty.ensures.some c.if-is_empty.false)
+
+pub unwrap-node-requires : goal.unwrap-node-requires
+unwrap-node-requires t c =
+    cell_full c.self.inside.branches c.block_mut.result.now c.block_mut.ensures.block c.branch_at-i.result.0 c.self.invariant.branches (branch_at_in (below c.self.inside.branches) c.self.inside.slots.items c.args.at c.branch_at-i.result.0 c.branch_at-i.result.1 c.self.invariant.forked c.branch_at-i.ensures) _ c.as_mut.result c.as_mut.ensures.variant
+
+pub set_count-requires : goal.set_count-requires
+set_count-requires t c = counted c.self.inside.branches c.block_mut.result.now c.block_mut.ensures.block c.branch_at-i.result.0 c.self.invariant.branches (branch_at_in (below c.self.inside.branches) c.self.inside.slots.items c.args.at c.branch_at-i.result.0 c.branch_at-i.result.1 c.self.invariant.forked c.branch_at-i.ensures) c.cut-count.new.self
+
+-- the node with the other branch
+made : (t : ℕ) (c : goal.After-set_count t) → AreBranches c.set_count.new.self × IsForked (below c.set_count.new.self) c.self.inside.slots.items
+    × (levels (below c.set_count.new.self) ≡ levels (below c.self.inside.branches))
+    × LosesPart c.args.at c.args.most c.cut-count.result c.args.self.now.slots (in_order (lists (below c.set_count.new.self)) c.self.inside.slots.items)
 made t c =
     let old = c.self.inside.branches in
     let ts = below old in
@@ -76,18 +88,18 @@ made t c =
     let at = c.branch_at-i.ensures in
     let place = branch_at_in ts ss c.args.at i rest f at in
     let new = c.cut-count.new.self in
-    let v : c.take-node.result ≡ get_or ts i unused = c.take-node.ensures.node in
+    let v = branch_in old c.block_mut.result.now c.block_mut.ensures.block i c.self.invariant.branches place _ c.as_mut.ensures.value c.unwrap-node.ensures in
     let k = branch_is ts ss f i place in
     let branch : IsBranch (levels ts) new = record { height = omega (arith, k.height, c.cut-count.ensures.height, ap (λ t. t.height) v); wide = still_wide (get_or ts i unused).width new.width (λ lt. c.cut-count.ensures.width (omega (arith, ap (λ t. t.width) v))) k.wide; dense = c.cut-count.ensures.dense } in
     let p = c.cut-count.ensures.part in
     let len : c.count-len.result - c.cut-count.result ≡ length new.slots =
     omega (arith, c.count-len.ensures, ap (λ t. length t.slots) v, ap length p.old_is, ap length p.new_is, length-append p.front (p.part ++ p.back), length-append p.part p.back, length-append p.front p.back, p.number) in
-    let b = branches_put old c.put.new.self i (c.count-len.result - c.cut-count.result) new c.self.invariant.branches place
-    (c.put.ensures.cell ∙ ap (λ l. set l i (Some new)) c.take-node.ensures.cell)
-    (c.put.ensures.counts ∙ ap (λ l. set l i (c.count-len.result - c.cut-count.result)) c.take-node.ensures.counts) len in
+    let b = branches_put old c.set_count.new.self i (c.count-len.result - c.cut-count.result) new c.self.invariant.branches place
+    (c.set_count.ensures.cells ∙ changed_nodes c.self.inside.branches c.block_mut.result.now c.block_mut.ensures.block c.branch_at-i.result.0 new)
+    (c.set_count.ensures.counts ∙ changed_counts c.self.inside.branches c.block_mut.result.now c.block_mut.ensures.block c.branch_at-i.result.0 new (c.count-len.result - c.cut-count.result)) len in
     let part = branch_part (lists ts) ss c.args.at c.args.most i rest at (branch_at_fork ts ss c.args.at i rest f at) c.min-2.result c.cut-count.result new.slots (omega (arith, c.min-2.ensures))
     (subst (λ l. LosesPart rest c.min-2.result c.cut-count.result l new.slots) (ap (λ t. t.slots) v ∙ sym (branch_at_list ts ss c.args.at i rest f at)) p) in
-    let list : in_order (lists (below c.put.new.self)) ss ≡ in_order (set (lists ts) i new.slots) ss =
+    let list : in_order (lists (below c.set_count.new.self)) ss ≡ in_order (set (lists ts) i new.slots) ss =
     ap (λ us. in_order (lists us) ss) b.1 ∙ ap (λ l. in_order l ss) (map-set (λ t. t.slots) ts i new) in (
       b.0,
       subst (λ us. IsForked us ss) (sym b.1) (set_forked ts ss i new f branch),
@@ -103,4 +115,4 @@ pub returns-clause-part : goal.returns-clause-part
 returns-clause-part t c = (made t c).3
 
 pub returns-clause-dense : goal.returns-clause-dense
-returns-clause-dense t c = dense_of (below c.put.new.self) c.self.inside.slots.items (made t c).1
+returns-clause-dense t c = dense_of (below c.set_count.new.self) c.self.inside.slots.items (made t c).1

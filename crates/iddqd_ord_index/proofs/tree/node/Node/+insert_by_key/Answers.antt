@@ -10,7 +10,7 @@ use Rattle.iddqd_ord_index.specs.Standing.{slot_standing, IsMonotone, IsPlace}
 use Rattle.iddqd_ord_index.specs.declared.tree.node.Node.{Node}
 use Rattle.iddqd_ord_index.proofs.AddLemmas.{IsParted, above, put_grown, put_parted}
 use Rattle.iddqd_ord_index.proofs.BranchAtLemmas.{inner_levels, inner_of}
-use Rattle.iddqd_ord_index.proofs.BelowLemmas.{none_below}
+use Rattle.iddqd_ord_index.proofs.BelowLemmas.{has_block}
 use Rattle.iddqd_ord_index.proofs.CellLemmas.{branches_with, cell_full}
 use Rattle.iddqd_ord_index.proofs.ChildLemmas.{IsChild, IsStill, child, child_among, child_at, child_place, low_of, place_inside, steps_here, steps_below}
 use Rattle.iddqd_ord_index.proofs.DenseLemmas.{dense_of}
@@ -93,21 +93,20 @@ returns-then-is_empty-clause-ends g t c =
     )
 
 -- the block and the cell of the branch
-pub unreachable-requires : goal.unreachable-requires
-unreachable-requires g t c =
-    none_below c.self.inside.branches c.in_default.is (c.is_empty.ensures.some c.if-is_empty.false)
+pub block_mut-requires : goal.block_mut-requires
+block_mut-requires g t c = has_block c.self.inside.branches (c.is_empty.ensures.some c.if-is_empty.false)
 
-pub unreachable-requires-in_default-nodes : goal.unreachable-requires-in_default-nodes
-unreachable-requires-in_default-nodes g t c =
+pub unwrap-node-requires : goal.unwrap-node-requires
+unwrap-node-requires g t c =
     let lt = place_inside (below c.self.inside.branches) _ _ c.in-Err.i c.self.invariant.forked (c.is_empty.ensures.some c.if-is_empty.false) c.as_slice.ensures.value c.in-Err.ensures.place.0 in
-    cell_full c.self.inside.branches c.in-Some.block c.deref_mut.result.now c.in-Some.is c.deref_mut.ensures.value c.self.invariant.branches c.in-Err.i lt _ c.index-nodes-i.is c.in_default-nodes.is
+    cell_full c.self.inside.branches c.block_mut.result.now c.block_mut.ensures.block c.in-Err.i c.self.invariant.branches lt _ c.as_mut.result c.as_mut.ensures.variant
 
 -- the branch where the query belongs
-branch : (g : Over) (t : ℕ) (c : goal.After-insert_by_key-arg-2-1 g t) → IsChild (order g c.args.query.now c.args.store.now) (IsOccupied c.args.store.now) c.self.inside.branches c.self.inside.slots.items c.args.self.now c.in-Some.block c.deref_mut.result.now c.in-Err.i c.in-Some-nodes.node
+branch : (g : Over) (t : ℕ) (c : goal.After-insert_by_key-arg-2-1 g t) → IsChild (order g c.args.query.now c.args.store.now) (IsOccupied c.args.store.now) c.self.inside.branches c.self.inside.slots.items c.args.self.now c.block_mut.result.now c.in-Err.i c.unwrap-node.result.now
 branch g t c =
     child (order g c.args.query.now c.args.store.now) (IsOccupied c.args.store.now) c.self.inside.branches c.self.inside.slots.items c.args.self.now c.requires.monotone c.requires.occupied c.self.invariant.branches c.self.invariant.forked c.self.view_is
-    c.in-Some.block c.deref_mut.result.now c.in-Some.is c.deref_mut.ensures.value (c.is_empty.ensures.some c.if-is_empty.false) c.in-Err.i c.as_slice.result.now c.as_slice.ensures.value c.in-Err.ensures.place
-    _ c.in-Some-nodes.node c.index-nodes-i.is c.in-Some-nodes.is
+    c.block_mut.result.now c.block_mut.ensures.block (c.is_empty.ensures.some c.if-is_empty.false) c.in-Err.i c.as_slice.result.now c.as_slice.ensures.value c.in-Err.ensures.place
+    _ c.as_mut.ensures.value c.unwrap-node.ensures
 
 pub insert_by_key-requires : goal.insert_by_key-requires
 insert_by_key-requires g t c κs within =
@@ -117,7 +116,7 @@ insert_by_key-requires g t c κs within =
     )
 
 -- an item below has the key, and nothing has changed
-found : (g : Over) (t : ℕ) (c : goal.In-Found g t) → IsStill (branches_with c.in-Some.block c.deref_mut.result.now c.in-Err.i c.insert_by_key.new.self c.deref_mut.result.now.counts) c.self.inside.branches c.self.inside.slots.items c.args.self.now
+found : (g : Over) (t : ℕ) (c : goal.In-Found g t) → IsStill (branches_with c.self.inside.branches c.block_mut.result.now c.in-Err.i c.insert_by_key.new.self) c.self.inside.branches c.self.inside.slots.items c.args.self.now
 found g t c = (branch g t c.before.before.before.before).still c.insert_by_key.new.self c.in-Found.ensures.ends.0
 
 pub invariant_of-self : goal.invariant_of-self
@@ -136,7 +135,7 @@ pub returns-in-Found-clause-steps : goal.returns-in-Found-clause-steps
 returns-in-Found-clause-steps g t c = steps_below _ _ _ _ _ _ c.as_slice.ensures.fits c.in-Err.ensures.steps c.in-Found.ensures.steps (branch g t c.before.before.before.before).height
 
 -- the leaf is full, and nothing has changed
-full : (g : Over) (t : ℕ) (c : goal.After-start-arg-1 g t) → IsStill (branches_with c.in-Some.block c.deref_mut.result.now c.in-Err.i c.insert_by_key.new.self c.deref_mut.result.now.counts) c.self.inside.branches c.self.inside.slots.items c.args.self.now
+full : (g : Over) (t : ℕ) (c : goal.After-start-arg-1 g t) → IsStill (branches_with c.self.inside.branches c.block_mut.result.now c.in-Err.i c.insert_by_key.new.self) c.self.inside.branches c.self.inside.slots.items c.args.self.now
 full g t c = (branch g t c.before.before.before.before.before).still c.insert_by_key.new.self c.in-Full.ensures.ends.0
 
 pub start-requires-clause-branches : goal.start-requires-clause-branches
@@ -184,18 +183,18 @@ overflow_add-count g t c =
     omega (arith, c.count-count.ensures, ap (λ t. length t.slots) b.is, b.part.fits, c.requires.room)
 
 pub set_count-requires : goal.set_count-requires
-set_count-requires g t c = (branch g t c.before.before.before.before.before).counted
+set_count-requires g t c = (branch g t c.before.before.before.before.before).counted c.insert_by_key.new.self
 
 -- the branches with the count of one slot more
 grown : (g : Over) (t : ℕ) (c : goal.After-set_count g t) → AreBranches c.set_count.new.self × IsMade (below c.self.inside.branches) (below c.set_count.new.self) c.self.inside.slots.items (insert c.args.self.now.slots (starts (take c.in-Err.i (lists (below c.self.inside.branches))) + c.in-Inserted-None.ensures.ends.0) c.args.slot)
 grown g t c =
     let b = branch g t c.before.before.before.before.before.before in
     let ends = c.in-Inserted-None.ensures.ends in
-    let node = c.in-Some-nodes.node in
+    let node = c.unwrap-node.result.now in
     let adds = subst (λ r. AddsTo (insert node.slots ends.0 c.args.slot) node.width c.insert_by_key.new.self r) c.in-Inserted-None.field-0-is ends.2 in
     put_grown c.self.inside.branches c.set_count.new.self c.self.inside.slots.items _ c.args.slot c.in-Err.i ends.0 c.count-count.result c.insert_by_key.new.self node c.args.self.now
     c.self.invariant.branches c.self.invariant.forked (child_at b ends.0 ends.1.0) b.is adds c.in-Inserted-None.ensures.height c.in-Inserted-None.ensures.dense
-    (c.set_count.ensures.cells ∙ b.nodes c.insert_by_key.new.self) (c.set_count.ensures.counts ∙ b.counts (c.count-count.result + 1)) c.count-count.ensures c.self.view_is
+    (c.set_count.ensures.cells ∙ b.nodes c.insert_by_key.new.self) (c.set_count.ensures.counts ∙ b.counts c.insert_by_key.new.self (c.count-count.result + 1)) c.count-count.ensures c.self.view_is
 
 pub invariant_of-self-in-Inserted-None : goal.invariant_of-self-in-Inserted-None
 invariant_of-self-in-Inserted-None g t c = let m = grown g t c in record { branches = m.0; forked = m.1.forked }
@@ -225,7 +224,7 @@ halves : (g : Over) (t : ℕ) (c : goal.After-upper-in-Inserted-Some-1 g t) → 
 halves g t c =
     let b = branch g t c.before.before.before.before.before in
     let ends = c.in-Inserted-Some.ensures.ends in
-    let node = c.in-Some-nodes.node in
+    let node = c.unwrap-node.result.now in
     let split = subst (λ r. AddsTo (insert node.slots ends.0 c.args.slot) node.width c.insert_by_key.new.self r) c.in-Inserted-Some.field-0-is ends.2 in
     above (below c.self.inside.branches) c.self.inside.slots.items _ c.args.slot c.in-Err.i ends.0 c.in-Inserted-Some.middle c.count-count.result node c.insert_by_key.new.self c.in-Inserted-Some.upper c.self.invariant.forked (child_at b ends.0 ends.1.0) b.is split c.count-count.ensures
 
@@ -238,7 +237,7 @@ pub overflow_sub-count : goal.overflow_sub-count
 overflow_sub-count g t c = omega (arith, halves g t c.before.before, c.len-above.ensures)
 
 pub set_count-requires-in-Inserted-Some : goal.set_count-requires-in-Inserted-Some
-set_count-requires-in-Inserted-Some g t c = (branch g t c.before.before.before.before.before.before.before).counted
+set_count-requires-in-Inserted-Some g t c = (branch g t c.before.before.before.before.before.before.before).counted c.insert_by_key.new.self
 
 -- what was known when the branch was called, for what is known when the upper half is put in
 abbrev call : (g : Over) (t : ℕ) → goal.After-add_branch-arg-in-Inserted-Some-2-1 g t → goal.After-insert_by_key-arg-2-1 g t
@@ -249,12 +248,12 @@ parted : (g : Over) (t : ℕ) (c : goal.After-add_branch-arg-in-Inserted-Some-2-
 parted g t c =
     let b = branch g t (call g t c) in
     let ends = c.in-Inserted-Some.ensures.ends in
-    let node = c.in-Some-nodes.node in
+    let node = c.unwrap-node.result.now in
     let less : ℕ = c.count-count.result - c.len-above.result in
     let split = subst (λ r. AddsTo (insert node.slots ends.0 c.args.slot) node.width c.insert_by_key.new.self r) c.in-Inserted-Some.field-0-is ends.2 in
     put_parted c.self.inside.branches c.set_count-in-Inserted-Some.new.self c.self.inside.slots.items _ c.args.slot c.in-Err.i ends.0 c.count-count.result c.len-above.result less c.in-Inserted-Some.middle c.insert_by_key.new.self node c.in-Inserted-Some.upper c.args.self.now
     c.self.invariant.branches c.self.invariant.forked (child_at b ends.0 ends.1.0) b.is split c.in-Inserted-Some.ensures.height c.in-Inserted-Some.ensures.dense
-    (c.set_count-in-Inserted-Some.ensures.cells ∙ b.nodes c.insert_by_key.new.self) (c.set_count-in-Inserted-Some.ensures.counts ∙ b.counts less) (one_less c.count-count.result c.len-above.result) c.count-count.ensures c.len-above.ensures c.self.view_is
+    (c.set_count-in-Inserted-Some.ensures.cells ∙ b.nodes c.insert_by_key.new.self) (c.set_count-in-Inserted-Some.ensures.counts ∙ b.counts c.insert_by_key.new.self less) (one_less c.count-count.result c.len-above.result) c.count-count.ensures c.len-above.ensures c.self.view_is
 
 pub add_branch-requires-clause-branches : goal.add_branch-requires-clause-branches
 add_branch-requires-clause-branches g t c = (parted g t c).0

@@ -4,7 +4,7 @@ use Rattle.std.specs.List.{remove}
 use Rattle.iddqd_ord_index.specs.Nodes.{below, AreBranches}
 use Rattle.iddqd_ord_index.specs.Shape.{levels, lists, in_order, unused}
 use Rattle.iddqd_ord_index.proofs.BranchAtLemmas.{starts_is, own_read, branch_at_in}
-use Rattle.iddqd_ord_index.proofs.BelowLemmas.{none_below}
+use Rattle.iddqd_ord_index.proofs.BelowLemmas.{has_block}
 use Rattle.iddqd_ord_index.proofs.CellLemmas.{cell_full}
 use Rattle.iddqd_ord_index.proofs.ChildLemmas.{IsCell, cell_of}
 use Rattle.iddqd_ord_index.proofs.DenseLemmas.{dense_of}
@@ -27,13 +27,13 @@ overflow_sub-len-2 t c =
     omega (arith, c.count-len.ensures)
 
 -- the branch in which a slot is removed
-branch : (t : ℕ) (c : goal.After-remove-arg-3-1 t) → IsCell c.self.inside.branches c.args.self.now c.deref_mut.result.now c.branch_at-i.result.0 c.in-Some-nodes.node
+branch : (t : ℕ) (c : goal.After-remove-arg-3-1 t) → IsCell c.self.inside.branches c.args.self.now c.block_mut.result.now c.branch_at-i.result.0 c.unwrap-node.result.now
 branch t c =
     let ts = below c.self.inside.branches in
     let ss = c.self.inside.slots.items in
     let i = c.branch_at-i.result.0 in
-    cell_of c.self.inside.branches ss c.args.self.now c.self.invariant.branches c.self.invariant.forked c.self.view_is c.in-Some.block c.deref_mut.result.now c.in-Some.is c.deref_mut.ensures.value
-    i (branch_at_in ts ss c.args.at i c.branch_at-i.result.1 c.self.invariant.forked c.branch_at-i.ensures) _ c.in-Some-nodes.node c.index-nodes-i.is c.in-Some-nodes.is
+    cell_of c.self.inside.branches ss c.args.self.now c.self.invariant.branches c.self.invariant.forked c.self.view_is c.block_mut.result.now c.block_mut.ensures.block
+    i (branch_at_in ts ss c.args.at i c.branch_at-i.result.1 c.self.invariant.forked c.branch_at-i.ensures) _ c.as_mut.ensures.value c.unwrap-node.ensures
 
 pub remove-taken-requires : goal.remove-taken-requires
 remove-taken-requires t c =
@@ -60,10 +60,10 @@ shrunk t c =
     let b = branch t (call t c) in
     let new = c.remove-taken.new.self in
     let e = c.remove-taken.ensures in
-    put_shrunk c.self.inside.branches c.set_count.new.self c.self.inside.slots.items c.replace_own-slot.new.slots.items c.args.at c.branch_at-i.result.0 c.branch_at-i.result.1 c.count-len.result c.remove-taken.result c.replace_own-slot.result c.min.result new c.in-Some-nodes.node c.args.self.now
+    put_shrunk c.self.inside.branches c.set_count.new.self c.self.inside.slots.items c.replace_own-slot.new.slots.items c.args.at c.branch_at-i.result.0 c.branch_at-i.result.1 c.count-len.result c.remove-taken.result c.replace_own-slot.result c.min.result new c.unwrap-node.result.now c.args.self.now
     c.self.invariant.branches c.self.invariant.forked c.branch_at-i.ensures b.is c.count-len.ensures c.requires.some c.requires.place c.min.ensures e.value e.slots e.height e.width e.dense
     c.replace_own-slot.ensures.below c.replace_own-slot.ensures.own c.replace_own-slot.ensures.len
-    (c.set_count.ensures.cells ∙ b.nodes new) (c.set_count.ensures.counts ∙ b.counts (c.count-len.result - 1)) c.self.view_is
+    (c.set_count.ensures.cells ∙ b.nodes new) (c.set_count.ensures.counts ∙ b.counts new (c.count-len.result - 1)) c.self.view_is
 
 pub rebalance-requires : goal.rebalance-requires
 rebalance-requires t c =
@@ -101,7 +101,7 @@ pub returns-clause-gives_back : goal.returns-clause-gives_back
 returns-clause-gives_back t c =
     let b = branch t (call t c.before) in
     let high : levels (below c.set_count.new.self) ≡ c.args.self.now.height = (shrunk t c.before).1.height ∙ ap (λ t. t.height) c.self.view_is in
-    gives_back c.args.self.now c.in-Some-nodes.node c.remove-taken.new.self c.args.pool.now c.remove-taken.new.pool c.rebalance.new.pool _ (length c.replace_own-slot.new.slots.items) (length c.rebalance.new.slots.items) c.width-width.result
+    gives_back c.args.self.now c.unwrap-node.result.now c.remove-taken.new.self c.args.pool.now c.remove-taken.new.pool c.rebalance.new.pool _ (length c.replace_own-slot.new.slots.items) (length c.rebalance.new.slots.items) c.width-width.result
     b.height b.low b.wide (c.replace_own-slot.ensures.len ∙ ap (λ t. t.width) c.self.view_is) high c.width-width.ensures.width c.remove-taken.ensures.kept c.remove-taken.ensures.pool.0 c.remove-taken.ensures.gives_back c.rebalance.ensures.short c.rebalance.ensures.gives_back
 
 pub count-len-requires-clause-in_bounds : goal.count-len-requires-clause-in_bounds
@@ -110,12 +110,12 @@ count-len-requires-clause-in_bounds t c = grind (arith, common_steps)
 pub replace_own-slot-requires-clause-within : goal.replace_own-slot-requires-clause-within
 replace_own-slot-requires-clause-within t c = grind (arith, common_steps)
 
-pub unreachable-requires : goal.unreachable-requires
-unreachable-requires t c = none_below c.self.inside.branches c.in_default.is (c.is_empty.ensures.some c.if-is_empty.false)
+pub block_mut-requires : goal.block_mut-requires
+block_mut-requires t c = has_block c.self.inside.branches (c.is_empty.ensures.some c.if-is_empty.false)
 
-pub unreachable-requires-in_default-nodes : goal.unreachable-requires-in_default-nodes
-unreachable-requires-in_default-nodes t c =
-    cell_full c.self.inside.branches c.in-Some.block c.deref_mut.result.now c.in-Some.is c.deref_mut.ensures.value c.self.invariant.branches c.branch_at-i.result.0 (branch_at_in (below c.self.inside.branches) c.self.inside.slots.items c.args.at c.branch_at-i.result.0 c.branch_at-i.result.1 c.self.invariant.forked c.branch_at-i.ensures) _ c.index-nodes-i.is c.in_default-nodes.is
+pub unwrap-node-requires : goal.unwrap-node-requires
+unwrap-node-requires t c =
+    cell_full c.self.inside.branches c.block_mut.result.now c.block_mut.ensures.block c.branch_at-i.result.0 c.self.invariant.branches (branch_at_in (below c.self.inside.branches) c.self.inside.slots.items c.args.at c.branch_at-i.result.0 c.branch_at-i.result.1 c.self.invariant.forked c.branch_at-i.ensures) _ c.as_mut.result c.as_mut.ensures.variant
 
 pub set_count-requires : goal.set_count-requires
-set_count-requires t c = (branch t c.before.before.before.before.before).counted
+set_count-requires t c = (branch t c.before.before.before.before.before).counted c.remove-taken.new.self

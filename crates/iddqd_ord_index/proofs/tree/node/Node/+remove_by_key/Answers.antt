@@ -7,7 +7,7 @@ use Rattle.iddqd_ord_index.specs.NodeRemoval.{own_place}
 use Rattle.iddqd_ord_index.specs.Nodes.{below, AreBranches}
 use Rattle.iddqd_ord_index.specs.Shape.{levels, lists, starts, unused}
 use Rattle.iddqd_ord_index.specs.Standing.{slot_standing, IsMonotone, IsPlace}
-use Rattle.iddqd_ord_index.proofs.BelowLemmas.{none_below}
+use Rattle.iddqd_ord_index.proofs.BelowLemmas.{has_block}
 use Rattle.iddqd_ord_index.proofs.CellLemmas.{branches_with, cell_full}
 use Rattle.iddqd_ord_index.proofs.ChildLemmas.{IsChild, IsStill, child, child_at, child_found, child_place, low_of, place_inside, steps_here, steps_below}
 use Rattle.iddqd_ord_index.proofs.DenseLemmas.{dense_of}
@@ -59,21 +59,20 @@ pub returns-in-Ok-place-clause-steps : goal.returns-in-Ok-place-clause-steps
 returns-in-Ok-place-clause-steps g t c = steps_here _ _ _ _ c.as_slice.ensures.fits c.search-place.ensures.steps (low_of _ _ _ c.self.invariant.forked c.self.view_is)
 
 -- the block and the cell of the branch
-pub unreachable-requires : goal.unreachable-requires
-unreachable-requires g t c =
-    none_below c.self.inside.branches c.in_default.is (c.is_empty.ensures.some c.if-is_empty.false)
+pub block_mut-requires : goal.block_mut-requires
+block_mut-requires g t c = has_block c.self.inside.branches (c.is_empty.ensures.some c.if-is_empty.false)
 
-pub unreachable-requires-in_default-nodes : goal.unreachable-requires-in_default-nodes
-unreachable-requires-in_default-nodes g t c =
+pub unwrap-node-requires : goal.unwrap-node-requires
+unwrap-node-requires g t c =
     let lt = place_inside (below c.self.inside.branches) _ _ c.in-Err-place.i c.self.invariant.forked (c.is_empty.ensures.some c.if-is_empty.false) c.as_slice.ensures.value c.in-Err-place.ensures.place.0 in
-    cell_full c.self.inside.branches c.in-Some.block c.deref_mut.result.now c.in-Some.is c.deref_mut.ensures.value c.self.invariant.branches c.in-Err-place.i lt _ c.index-nodes-i.is c.in_default-nodes.is
+    cell_full c.self.inside.branches c.block_mut.result.now c.block_mut.ensures.block c.in-Err-place.i c.self.invariant.branches lt _ c.as_mut.result c.as_mut.ensures.variant
 
 -- the branch where the query belongs
-branch : (g : Over) (t : ℕ) (c : goal.After-remove_by_key-arg-3-1 g t) → IsChild (order g c.args.query.now c.args.store.now) (IsOccupied c.args.store.now) c.self.inside.branches c.self.inside.slots.items c.args.self.now c.in-Some.block c.deref_mut.result.now c.in-Err-place.i c.in-Some-nodes.node
+branch : (g : Over) (t : ℕ) (c : goal.After-remove_by_key-arg-3-1 g t) → IsChild (order g c.args.query.now c.args.store.now) (IsOccupied c.args.store.now) c.self.inside.branches c.self.inside.slots.items c.args.self.now c.block_mut.result.now c.in-Err-place.i c.unwrap-node.result.now
 branch g t c =
     child (order g c.args.query.now c.args.store.now) (IsOccupied c.args.store.now) c.self.inside.branches c.self.inside.slots.items c.args.self.now c.requires.monotone c.requires.occupied c.self.invariant.branches c.self.invariant.forked c.self.view_is
-    c.in-Some.block c.deref_mut.result.now c.in-Some.is c.deref_mut.ensures.value (c.is_empty.ensures.some c.if-is_empty.false) c.in-Err-place.i c.as_slice.result.now c.as_slice.ensures.value c.in-Err-place.ensures.place
-    _ c.in-Some-nodes.node c.index-nodes-i.is c.in-Some-nodes.is
+    c.block_mut.result.now c.block_mut.ensures.block (c.is_empty.ensures.some c.if-is_empty.false) c.in-Err-place.i c.as_slice.result.now c.as_slice.ensures.value c.in-Err-place.ensures.place
+    _ c.as_mut.ensures.value c.unwrap-node.ensures
 
 pub remove_by_key-requires : goal.remove_by_key-requires
 remove_by_key-requires g t c κs within =
@@ -83,7 +82,7 @@ remove_by_key-requires g t c κs within =
     )
 
 -- a branch that kept its slots is in its place
-same : (g : Over) (t : ℕ) (c : goal.After-from_residual g t) → IsStill (branches_with c.in-Some.block c.deref_mut.result.now c.in-Err-place.i c.remove_by_key.new.self c.deref_mut.result.now.counts) c.self.inside.branches c.self.inside.slots.items c.args.self.now
+same : (g : Over) (t : ℕ) (c : goal.After-from_residual g t) → IsStill (branches_with c.self.inside.branches c.block_mut.result.now c.in-Err-place.i c.remove_by_key.new.self) c.self.inside.branches c.self.inside.slots.items c.args.self.now
 same g t c = (branch g t c.before.before.before.before).still c.remove_by_key.new.self c.in_err-slot.ensures.unchanged
 
 pub invariant_of-self-in_err-slot : goal.invariant_of-self-in_err-slot
@@ -113,7 +112,7 @@ overflow_sub-len g t c =
     omega (arith, c.count-len.ensures, ap (λ t. length t.slots) b.is, b.some)
 
 pub set_count-requires : goal.set_count-requires
-set_count-requires g t c = (branch g t c.before.before.before.before.before.before.before).counted
+set_count-requires g t c = (branch g t c.before.before.before.before.before.before.before).counted c.remove_by_key.new.self
 
 -- what was known when the branch was called, for what is known when the branches are rebalanced
 abbrev call : (g : Over) (t : ℕ) → goal.After-rebalance-arg-3-1 g t → goal.After-remove_by_key-arg-3-1 g t
@@ -143,11 +142,11 @@ shrunk g t c =
     let len = c.count-len.result in
     let r = c.in_ok-slot.ensures.slots in
     let k = r.0 in
-    let n : len ≡ length c.in-Some-nodes.node.slots = c.count-len.ensures ∙ sym (ap (λ t. length t.slots) b.is) in
-    put_shrunk c.self.inside.branches c.set_count.new.self ss ss _ i k len c.in_ok-slot.slot c.in_ok-slot.slot k c.remove_by_key.new.self c.in-Some-nodes.node c.args.self.now
+    let n : len ≡ length c.unwrap-node.result.now.slots = c.count-len.ensures ∙ sym (ap (λ t. length t.slots) b.is) in
+    put_shrunk c.self.inside.branches c.set_count.new.self ss ss _ i k len c.in_ok-slot.slot c.in_ok-slot.slot k c.remove_by_key.new.self c.unwrap-node.result.now c.args.self.now
     c.self.invariant.branches c.self.invariant.forked (child_at b k (less_le k _ r.2.0)) b.is c.count-len.ensures c.requires.some (found_within _ _ _ k b.part.fits r.2.0) (least_of k len _ n r.2.0) r.1 r.3 c.in_ok-slot.ensures.height c.in_ok-slot.ensures.width c.in_ok-slot.ensures.dense
     (λ _. (refl, refl)) (λ e. absurd (not_last k len _ n r.2.0 e)) refl
-    (c.set_count.ensures.cells ∙ b.nodes c.remove_by_key.new.self) (c.set_count.ensures.counts ∙ b.counts (len - 1)) c.self.view_is
+    (c.set_count.ensures.cells ∙ b.nodes c.remove_by_key.new.self) (c.set_count.ensures.counts ∙ b.counts c.remove_by_key.new.self (len - 1)) c.self.view_is
 
 pub rebalance-requires : goal.rebalance-requires
 rebalance-requires g t c =
@@ -182,7 +181,7 @@ pub returns-clause-gives_back : goal.returns-clause-gives_back
 returns-clause-gives_back g t c =
     let b = branch g t (call g t c.before) in
     let high : levels (below c.set_count.new.self) ≡ c.args.self.now.height = (shrunk g t c.before).1.height ∙ ap (λ t. t.height) c.self.view_is in
-    gives_back c.args.self.now c.in-Some-nodes.node c.remove_by_key.new.self c.args.pool.now c.remove_by_key.new.pool c.rebalance.new.pool _ (length c.self.inside.slots.items) (length c.rebalance.new.slots.items) c.width-width.result
+    gives_back c.args.self.now c.unwrap-node.result.now c.remove_by_key.new.self c.args.pool.now c.remove_by_key.new.pool c.rebalance.new.pool _ (length c.self.inside.slots.items) (length c.rebalance.new.slots.items) c.width-width.result
     b.height b.low b.wide (ap (λ t. t.width) c.self.view_is) high c.width-width.ensures.width c.remove_by_key.ensures.kept c.remove_by_key.ensures.pool.0 c.remove_by_key.ensures.gives_back c.rebalance.ensures.short c.rebalance.ensures.gives_back
 
 -- the unused blocks

@@ -1,10 +1,11 @@
-use Rattle.std.proofs.Common.{◌≡◌, ◌+◌, ◌<◌, ◌≤◌, ◌∷◌, ℕ, [], Some, List, length, take, get_or, set, refl, subst, ap, sym, ◌∙◌, arith, length-set}
+use Rattle.std.proofs.Common.{◌≡◌, ◌+◌, ◌<◌, ◌≤◌, ◌∷◌, ℕ, [], List, length, take, get_or, set, refl, subst, ap, sym, ◌∙◌, arith, length-set}
 use Rattle.std.proofs.lemmas.List.{length-take-le, map-set}
 use Rattle.iddqd_ord_index.specs.NodeRemoval.{Writes}
 use Rattle.iddqd_ord_index.specs.Nodes.{below, AreBranches}
 use Rattle.iddqd_ord_index.specs.Shape.{Subtree, in_order, levels, lists, tree, unused, IsBranch, IsBranchAt, IsForked}
-use Rattle.iddqd_ord_index.proofs.BelowLemmas.{branches_put}
+use Rattle.iddqd_ord_index.proofs.BelowLemmas.{has_block}
 use Rattle.iddqd_ord_index.proofs.BranchAtLemmas.{starts_is, own_read, branch_is, branch_at_in, branch_at_fork, branch_at_list, leaf_list}
+use Rattle.iddqd_ord_index.proofs.CellLemmas.{branch_in, branches_with, cell_full, kept}
 use Rattle.iddqd_ord_index.proofs.DenseLemmas.{dense_of}
 use Rattle.iddqd_ord_index.proofs.EditLemmas.{own_renamed, set_forked, set_levels}
 use Rattle.iddqd_ord_index.proofs.PartLemmas.{branch_written, leaf_written, one_written, written_length}
@@ -58,10 +59,18 @@ returns-then-rest-count-clause-dense t c =
     let ss = c.self.inside.slots.items in
     dense_of (below c.self.inside.branches) c.replace.new.self.items (same_forked (below c.self.inside.branches) ss c.replace.new.self.items (ap length c.replace.ensures.items ∙ length-set ss c.branch_at-i.result.0 _) c.self.invariant.forked)
 
--- the node with the branch put back
-made : (t : ℕ) (c : goal.After-put t) → AreBranches c.put.new.self × IsForked (below c.put.new.self) c.self.inside.slots.items
-    × (levels (below c.put.new.self) ≡ levels (below c.self.inside.branches))
-    × Writes c.args.at c.write-written.result c.args.more.now c.args.self.now.slots (in_order (lists (below c.put.new.self)) c.self.inside.slots.items)
+-- the block and the cell of the branch
+pub block_mut-requires : goal.block_mut-requires
+block_mut-requires t c = has_block c.self.inside.branches (c.is_empty.ensures.some c.if-is_empty.false)
+
+pub unwrap-node-requires : goal.unwrap-node-requires
+unwrap-node-requires t c =
+    cell_full c.self.inside.branches c.block_mut.result.now c.block_mut.ensures.block c.branch_at-i.result.0 c.self.invariant.branches (branch_at_in (below c.self.inside.branches) c.self.inside.slots.items c.args.at c.branch_at-i.result.0 c.branch_at-i.result.1 c.self.invariant.forked c.branch_at-i.ensures) _ c.as_mut.result c.as_mut.ensures.variant
+
+-- the node with the other branch
+made : (t : ℕ) (c : goal.After-self-1 t) → AreBranches (branches_with c.self.inside.branches c.block_mut.result.now c.branch_at-i.result.0 c.write-2.new.self) × IsForked (below (branches_with c.self.inside.branches c.block_mut.result.now c.branch_at-i.result.0 c.write-2.new.self)) c.self.inside.slots.items
+    × (levels (below (branches_with c.self.inside.branches c.block_mut.result.now c.branch_at-i.result.0 c.write-2.new.self)) ≡ levels (below c.self.inside.branches))
+    × Writes c.args.at c.write-2.result c.args.more.now c.args.self.now.slots (in_order (lists (below (branches_with c.self.inside.branches c.block_mut.result.now c.branch_at-i.result.0 c.write-2.new.self))) c.self.inside.slots.items)
 made t c =
     let old = c.self.inside.branches in
     let ts = below old in
@@ -71,24 +80,21 @@ made t c =
     let f = c.self.invariant.forked in
     let at = c.branch_at-i.ensures in
     let place = branch_at_in ts ss c.args.at i rest f at in
-    let new = c.write-written.new.self in
-    let count = c.write-written.result in
+    let new = c.write-2.new.self in
+    let count = c.write-2.result in
     let fits = c.min-fits.result in
     let more = c.args.more.now in
-    let v : c.take-node.result ≡ get_or ts i unused = c.take-node.ensures.node in
+    let v = branch_in old c.block_mut.result.now c.block_mut.ensures.block i c.self.invariant.branches place _ c.as_mut.ensures.value c.unwrap-node.ensures in
     let k = branch_is ts ss f i place in
-    let e = c.write-written.ensures in
+    let e = c.write-2.ensures in
     let branch : IsBranch (levels ts) new = record { height = omega (arith, k.height, e.height, ap (λ t. t.height) v); wide = omega (arith, k.wide, e.width, ap (λ t. t.width) v); dense = e.dense } in
     let long = length-take-le fits more (omega (arith, c.min-fits.ensures)) in
     let le : count ≤ fits = omega (arith, e.most, long) in
-    let same = written_length rest count (take fits more) c.take-node.result.slots new.slots e.slots (omega (arith, le, long)) in
-    let b = branches_put old c.put.new.self i c.count-count.result new c.self.invariant.branches place
-    (c.put.ensures.cell ∙ ap (λ l. set l i (Some new)) c.take-node.ensures.cell)
-    (c.put.ensures.counts ∙ ap (λ l. set l i c.count-count.result) c.take-node.ensures.counts)
-    (omega (arith, c.count-count.ensures, same, ap (λ t. length t.slots) v)) in
+    let same = written_length rest count (take fits more) c.unwrap-node.result.now.slots new.slots e.slots (omega (arith, le, long)) in
+    let b = kept c.self.inside.branches c.block_mut.result.now c.block_mut.ensures.block c.branch_at-i.result.0 c.self.invariant.branches place new (omega (arith, same, ap (λ t. length t.slots) v)) in
     let part = branch_written (lists ts) ss c.args.at count i rest at (branch_at_fork ts ss c.args.at i rest f at) fits count more new.slots le
     (subst (λ l. Writes rest count (take fits more) l new.slots) (ap (λ t. t.slots) v ∙ sym (branch_at_list ts ss c.args.at i rest f at)) e.slots) in
-    let list : in_order (lists (below c.put.new.self)) ss ≡ in_order (set (lists ts) i new.slots) ss =
+    let list : in_order (lists (below (branches_with c.self.inside.branches c.block_mut.result.now c.branch_at-i.result.0 c.write-2.new.self))) ss ≡ in_order (set (lists ts) i new.slots) ss =
     ap (λ us. in_order (lists us) ss) b.1 ∙ ap (λ l. in_order l ss) (map-set (λ t. t.slots) ts i new) in (
       b.0,
       subst (λ us. IsForked us ss) (sym b.1) (set_forked ts ss i new f branch),
@@ -104,4 +110,4 @@ pub returns-clause-slots : goal.returns-clause-slots
 returns-clause-slots t c = (made t c).3
 
 pub returns-clause-dense : goal.returns-clause-dense
-returns-clause-dense t c = dense_of (below c.put.new.self) c.self.inside.slots.items (made t c).1
+returns-clause-dense t c = dense_of (below (branches_with c.self.inside.branches c.block_mut.result.now c.branch_at-i.result.0 c.write-2.new.self)) c.self.inside.slots.items (made t c).1

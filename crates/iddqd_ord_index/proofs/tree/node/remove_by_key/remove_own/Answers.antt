@@ -3,7 +3,7 @@ use Rattle.std.specs.List.{remove}
 use Rattle.iddqd_ord_index.specs.NodeRemoval.{own_place}
 use Rattle.iddqd_ord_index.specs.Nodes.{below, slots_of, AreBranches}
 use Rattle.iddqd_ord_index.specs.Shape.{Subtree, tree, unused, IsForked}
-use Rattle.iddqd_ord_index.proofs.BelowLemmas.{none_below}
+use Rattle.iddqd_ord_index.proofs.BelowLemmas.{has_block}
 use Rattle.iddqd_ord_index.proofs.CellLemmas.{cell_full}
 use Rattle.iddqd_ord_index.proofs.ChildLemmas.{IsCell, cell_of}
 use Rattle.iddqd_ord_index.proofs.RemoveByLemmas.{own_branch_at, own_position}
@@ -19,10 +19,10 @@ overflow_sub-len c =
     omega (arith, c.count-len.ensures, some_below (below c.args.branches.now) c.args.slots.now.items _ c.args.i _ c.requires.forked b)
 
 -- the branch whose last slot is removed
-branch : (c : goal.After-remove-arg-2-1) → IsCell c.args.branches.now (tree (below c.args.branches.now) c.args.slots.now.items) c.deref_mut.result.now c.args.i c.in-Some-nodes.node
+branch : (c : goal.After-remove-arg-2-1) → IsCell c.args.branches.now (tree (below c.args.branches.now) c.args.slots.now.items) c.block_mut.result.now c.args.i c.unwrap-node.result.now
 branch c =
     let inside = own_inside (below c.args.branches.now) c.args.slots.now.items c.args.i c.requires.forked c.requires.inner c.requires.in_bounds in
-    cell_of c.args.branches.now c.args.slots.now.items (tree (below c.args.branches.now) c.args.slots.now.items) c.requires.branches c.requires.forked refl c.in-Some.block c.deref_mut.result.now c.in-Some.is c.deref_mut.ensures.value c.args.i inside _ c.in-Some-nodes.node c.index-nodes-i.is c.in-Some-nodes.is
+    cell_of c.args.branches.now c.args.slots.now.items (tree (below c.args.branches.now) c.args.slots.now.items) c.requires.branches c.requires.forked refl c.block_mut.result.now c.block_mut.ensures.block c.args.i inside _ c.as_mut.ensures.value c.unwrap-node.ensures
 
 pub remove-last-requires : goal.remove-last-requires
 remove-last-requires c =
@@ -39,7 +39,7 @@ overflow_sub-len-2 c =
     omega (arith, c.count-len.ensures, ap (λ t. length t.slots) b.is, b.some)
 
 pub set_count-requires : goal.set_count-requires
-set_count-requires c = (branch c.before.before.before.before.before).counted
+set_count-requires c = (branch c.before.before.before.before.before).counted c.remove-last.new.self
 
 -- what was known when the branch was called, for what is known when the branches are rebalanced
 abbrev call : goal.After-rebalance-arg-3-1 → goal.After-remove-arg-2-1
@@ -60,10 +60,10 @@ shrunk c =
     let len = c.count-len.result in
     let new = c.remove-last.new.self in
     let e = c.remove-last.ensures in
-    put_shrunk bs c.set_count.new.self ss c.replace-slot.new.self.items (own_place bs c.args.i) c.args.i (length (get_or (below bs) c.args.i unused).slots) len c.remove-last.result c.replace-slot.result (len - 1) new c.in-Some-nodes.node (tree (below bs) ss)
+    put_shrunk bs c.set_count.new.self ss c.replace-slot.new.self.items (own_place bs c.args.i) c.args.i (length (get_or (below bs) c.args.i unused).slots) len c.remove-last.result c.replace-slot.result (len - 1) new c.unwrap-node.result.now (tree (below bs) ss)
     c.requires.branches f at b.is c.count-len.ensures (λ lt. omega arith) within (omega (arith, c.count-len.ensures)) e.value e.slots e.height e.width e.dense
     (λ lt. absurd (omega arith)) (λ e. (c.replace-slot.ensures.value, c.replace-slot.ensures.items)) (ap length c.replace-slot.ensures.items ∙ length-set ss c.args.i c.remove-last.result)
-    (c.set_count.ensures.cells ∙ b.nodes new) (c.set_count.ensures.counts ∙ b.counts (len - 1)) refl
+    (c.set_count.ensures.cells ∙ b.nodes new) (c.set_count.ensures.counts ∙ b.counts new (len - 1)) refl
 
 pub rebalance-requires : goal.rebalance-requires
 rebalance-requires c =
@@ -81,13 +81,13 @@ returns-clause-levels c = c.rebalance.ensures.levels ∙ (shrunk c.before).1.hei
 pub returns-clause-slots : goal.returns-clause-slots
 returns-clause-slots c = c.rebalance.ensures.slots ∙ (shrunk c.before).1.list
 
-pub unreachable-requires : goal.unreachable-requires
-unreachable-requires c = none_below c.args.branches.now c.in_default.is c.requires.inner
+pub block_mut-requires : goal.block_mut-requires
+block_mut-requires c = has_block c.args.branches.now c.requires.inner
 
-pub unreachable-requires-in_default-nodes : goal.unreachable-requires-in_default-nodes
-unreachable-requires-in_default-nodes c =
+pub unwrap-node-requires : goal.unwrap-node-requires
+unwrap-node-requires c =
     let inside = own_inside (below c.args.branches.now) c.args.slots.now.items c.args.i c.requires.forked c.requires.inner c.requires.in_bounds in
-    cell_full c.args.branches.now c.in-Some.block c.deref_mut.result.now c.in-Some.is c.deref_mut.ensures.value c.requires.branches c.args.i inside _ c.index-nodes-i.is c.in_default-nodes.is
+    cell_full c.args.branches.now c.block_mut.result.now c.block_mut.ensures.block c.args.i c.requires.branches inside _ c.as_mut.result c.as_mut.ensures.variant
 
 -- the unused blocks
 stock : (c : goal.After-rebalance) → (c.args.pool.now.count ≤ c.rebalance.new.pool.count) × ((c.rebalance.new.pool.wanted ≡ c.args.pool.now.wanted) × (c.rebalance.new.pool.room ≡ c.args.pool.now.room))
@@ -102,5 +102,5 @@ returns-clause-pool c = (stock c).1
 pub returns-clause-given : goal.returns-clause-given
 returns-clause-given c =
     let b = branch (call c.before) in
-    gives_back (tree (below c.args.branches.now) c.args.slots.now.items) c.in-Some-nodes.node c.remove-last.new.self c.args.pool.now c.remove-last.new.pool c.rebalance.new.pool _ (length c.replace-slot.new.self.items) (length c.rebalance.new.slots.items) c.width-width.result
+    gives_back (tree (below c.args.branches.now) c.args.slots.now.items) c.unwrap-node.result.now c.remove-last.new.self c.args.pool.now c.remove-last.new.pool c.rebalance.new.pool _ (length c.replace-slot.new.self.items) (length c.rebalance.new.slots.items) c.width-width.result
     b.height b.low b.wide (ap length c.replace-slot.ensures.items ∙ length-set c.args.slots.now.items c.args.i c.remove-last.result) (shrunk c.before).1.height c.width-width.ensures.width c.remove-last.ensures.kept c.remove-last.ensures.pool.0 c.remove-last.ensures.gives_back c.rebalance.ensures.short c.rebalance.ensures.gives_back
