@@ -1,9 +1,8 @@
 -- The branches of a node, by the cells and the counts that hold them.
 use Rattle.std.proofs.Common.{◌≡◌, ℕ, ◌+◌, ◌<◌, List, [], length, map, take, drop, set, get_or, ap, sym, ◌∙◌, subst, refl, arith, Option, Some, None, Box, Global}
-use Rattle.std.specs.List.{insert, remove}
 use Rattle.std.proofs.lemmas.List.{get_or-map, get_or_default, length-map, map-set, nil_from_length}
 use Rattle.iddqd_ord_index.specs.Cells.{items_present, cells_of, IsPacked}
-use Rattle.iddqd_ord_index.specs.Nodes.{below, subtrees, AreBranches, AreCounted, IsBlock, cells_in, counts_in, counts_of, nodes_of, HasBlock, IsBare, IsThere}
+use Rattle.iddqd_ord_index.specs.Nodes.{below, subtrees, AreBranches, AreCounted, cells_in, counts_in, counts_of, nodes_of, HasBlock, IsBare, IsThere}
 use Rattle.iddqd_ord_index.specs.Shape.{Subtree, lists, starts, unused}
 use Rattle.iddqd_ord_index.specs.declared.tree.node.Block.{Block}
 use Rattle.iddqd_ord_index.specs.declared.tree.node.Branches.{Branches}
@@ -43,21 +42,6 @@ module _ (os : List (Option Node)) (ns : List ℕ) (a : AreCounted os ns) where
   pub counted_at : (i d : ℕ) → i < length (subtrees os) → get_or ns i d ≡ length (get_or (subtrees os) i unused).slots
   counted_at i d lt = ap (λ l. get_or l i d) a.counted ∙ get_or-map (λ t. length t.slots) (subtrees os) i unused d lt
 
--- the branches in a block
-pub block_is : (bs : Branches) (b : Box Block Global) → bs.block ≡ Some b → AreBranches bs → IsBlock b.value
-block_is bs b e a = subst (λ o. AreCounted (cells_in o) (counts_in o)) e a
-
-pub block_below : (bs : Branches) (b : Box Block Global) → bs.block ≡ Some b → below bs ≡ subtrees b.value.nodes
-block_below bs b e = ap (λ o. subtrees (cells_in o)) e
-
--- the same of a block that was read
-module _ (bs : Branches) (b : Box Block Global) (read : Block) (is : bs.block ≡ Some b) (same : read ≡ b.value) where
-  pub read_block : AreBranches bs → IsBlock read
-  read_block a = subst IsBlock (sym same) (block_is bs b is a)
-
-  pub read_below : below bs ≡ subtrees read.nodes
-  read_below = block_below bs b is ∙ sym (ap (λ b. subtrees b.nodes) same)
-
 -- branches lie in a block
 there : (o : Option (Box Block Global)) → 0 < length (subtrees (cells_in o)) → IsThere o
 there None some = absurd (omega (arith, some))
@@ -68,9 +52,6 @@ has_block bs some = there bs.block some
 
 pub no_block : {P : Type 0} (bs : Branches) → bs.block ≡ None → HasBlock bs → P
 no_block bs none has = absurd (subst IsThere none has)
-
-pub none_below : {P : Type 0} (bs : Branches) → bs.block ≡ None → 0 < length (below bs) → P
-none_below bs none some = no_block bs none (has_block bs some)
 
 -- a block from which no branch hangs is bare
 bare_in : (o : Option (Box Block Global)) (b : Box Block Global) → o ≡ Some b → IsPacked (cells_in o) → length (subtrees (cells_in o)) ≡ 0 → length (counts_in o) ≡ 0 → IsBare b.value
@@ -102,20 +83,6 @@ module _ (bs : Branches) (a : AreBranches bs) (cs : List ℕ) (same : cs ≡ (co
 
   pub starts_less : (i : ℕ) → i < length (below bs) → starts (drop i (lists (below bs))) ≡ (get_or cs i 0 + 1) + starts (drop (i + 1) (lists (below bs)))
   starts_less i lt = let n = length-lists (below bs) in omega (arith, starts_drop (lists (below bs)) i (omega arith), counts_at i lt)
-
--- a branch more or less
-module _ (os ps : List (Option Node)) (i : ℕ) where
-  pub below_insert : (b : Node) → items_present ps ≡ insert (items_present os) i b → subtrees ps ≡ insert (subtrees os) i b
-  below_insert b e = e
-
-  pub below_remove : items_present ps ≡ remove (items_present os) i → subtrees ps ≡ remove (subtrees os) i
-  below_remove e = e
-
-  pub below_take : items_present ps ≡ take i (items_present os) → subtrees ps ≡ take i (subtrees os)
-  below_take e = e
-
-  pub below_drop : items_present ps ≡ drop i (items_present os) → subtrees ps ≡ drop i (subtrees os)
-  below_drop e = e
 
 -- another branch in a cell
 pub branches_put : (old new : Branches) (i count : ℕ) (b : Node) → AreBranches old → i < length (below old) → (nodes_of new) ≡ set (nodes_of old) i (Some b) → (counts_of new) ≡ set (counts_of old) i count → count ≡ length b.slots

@@ -1,5 +1,5 @@
 -- What the fields of a node show. No public clause cites this module.
-use Rattle.std.specs.Prelude.{◌≡◌, ℕ, ◌+◌, List, [], ◌++◌, All, insert, length, map, option_map, Option, Some, None}
+use Rattle.std.specs.Prelude.{◌≡◌, ℕ, ◌+◌, List, [], All, insert, length, map, option_map, Option, Some, None}
 use Rattle.std.specs.Box.{with_value}
 use Rattle.std.proofs.Common.{Box, Global}
 use Rattle.iddqd_ord_index.specs.Cells.{cells_of, items_present, IsPacked}
@@ -44,10 +44,6 @@ AreBranches bs = AreCounted (nodes_of bs) (counts_of bs)
 abbrev pub IsBlock : Block → Type 0
 IsBlock b = AreCounted b.nodes b.counts.items
 
--- how many branches a block has
-abbrev pub branch_count : Block → ℕ
-branch_count b = length (subtrees b.nodes)
-
 -- there is a block
 abbrev pub IsThere : Option (Box Block Global) → Type 0
 IsThere None = ⊥
@@ -64,14 +60,6 @@ IsBlockIn (Some own) b = b ≡ own.value
 -- the branches in this block in place of their own
 abbrev pub with_block : Branches → Block → Branches
 with_block bs b = record { block = option_map (λ own. with_value own b) bs.block }
-
--- the branches of two blocks, those of the second behind those of the first
-abbrev pub JoinsBlocks : (lower upper all : Block) → Type 0
-JoinsBlocks lower upper all = subtrees all.nodes ≡ subtrees lower.nodes ++ subtrees upper.nodes
-
--- two blocks have the branches of one, and one more behind the i-th
-abbrev pub SplitsWith : ℕ → Subtree → (old lower upper : Block) → Type 0
-SplitsWith i more old lower upper = insert (subtrees old.nodes) (i + 1) more ≡ subtrees lower.nodes ++ subtrees upper.nodes
 
 -- a block without branches
 abbrev pub IsBare : Block → Type 0

@@ -1,14 +1,13 @@
 //! The branches of a node and the number of slots below each, changed together.
-ghost use Rattle.std.specs.Prelude.{true, false, ◌≡◌, ◌+◌, ◌^◌, ◌<◌, ◌≤◌, ◌==◌, [], ◌++◌, length, take, drop, insert, remove, slice_index, slice_index_or, slice_set, nat_lt, if◌then◌else◌, IfOk, IfSome, IsSome};
+ghost use Rattle.std.specs.Prelude.{true, false, ◌≡◌, ◌+◌, ◌^◌, ◌<◌, ◌≤◌, ◌==◌, [], ◌++◌, length, take, drop, insert, remove, slice_index_or, slice_set, nat_lt, if◌then◌else◌, IfOk, IfSome, IsSome};
 ghost use Rattle.std.specs.Borrow.{sem};
-ghost use Rattle.iddqd_ord_index.specs.Nodes.{below, below_with, branch_count, counts_of, nodes_of, subtrees, AreBranches, HasBlock, IsBare, IsBlock, IsBlockIn, JoinsBlocks, SplitsWith};
+ghost use Rattle.iddqd_ord_index.specs.Nodes.{below, below_with, counts_of, nodes_of, subtrees, AreBranches, HasBlock, IsBare, IsBlockIn};
 ghost use Rattle.iddqd_ord_index.specs.Shape.{lists, starts, unused, IsBranchAt};
 
 use super::{Block, Branches, KEPT, MOST_BRANCHES, Node};
 use crate::tree::cells;
 use arrayvec::ArrayVec;
 use std::alloc::{AllocError, Global};
-use std::mem;
 
 impl Block {
     // A block without branches.
@@ -20,111 +19,6 @@ impl Block {
             nodes: [
                 None, None, None, None, None, None, None, None, None, None, None, None,
             ],
-        }
-    }
-
-    fn insert(&mut self, i: usize, node: Node, count: u32)
-        requires block { IsBlock self.old }
-        requires in_bounds { i ≤ branch_count self.old }
-        requires room { branch_count self.old < MOST_BRANCHES }
-        requires count { count ≡ length node.slots }
-
-        // afterwards
-        ensures block { IsBlock self.new }
-        ensures below { subtrees self.new.nodes ≡ insert (subtrees self.old.nodes) i node }
-    {
-        cells::insert(&mut self.nodes, i, node);
-        self.counts.insert(i, count);
-    }
-
-    fn remove(&mut self, i: usize) -> (Node, u32)
-        requires block { IsBlock self.old }
-        requires in_bounds { i < branch_count self.old }
-
-        // afterwards
-        ensures block { IsBlock self.new }
-        ensures below { subtrees self.new.nodes ≡ remove (subtrees self.old.nodes) i }
-        ensures node { result.0 ≡ slice_index_or (subtrees self.old.nodes) i unused }
-        ensures count { result.1 ≡ length result.0.slots }
-    {
-        let node = cells::remove(&mut self.nodes, i);
-        (node, self.counts.remove(i))
-    }
-
-    // Sets the number of slots below the i-th branch.
-    fn set_count(&mut self, i: usize, count: u32)
-        requires { i < length self.old.counts.items }
-        ensures nodes { self.new.nodes ≡ self.old.nodes }
-        ensures counts { self.new.counts.items ≡ slice_set self.old.counts.items i count }
-    {
-        replace(&mut self.counts, i, count);
-    }
-
-    // Moves all branches of `upper` behind these.
-    fn append(&mut self, upper: &mut Block)
-        requires block { IsBlock self.old }
-        requires upper_block { IsBlock upper.old }
-        requires fits { branch_count self.old + branch_count upper.old ≤ MOST_BRANCHES }
-
-        // afterwards
-        ensures block { IsBlock self.new }
-        ensures upper_block { IsBlock upper.new }
-        ensures below { JoinsBlocks self.old upper.old self.new }
-        ensures upper_below { subtrees upper.new.nodes ≡ [] }
-    {
-        let len = self.counts.len();
-        let more = upper.counts.len();
-        cells::append(&mut self.nodes, len, &mut upper.nodes, more);
-        let Ok(()) = self.counts.try_extend_from_slice(upper.counts.as_slice()) else {
-            unreachable!()
-        };
-        upper.counts.clear();
-    }
-
-    // Moves the branches from the i-th on into `upper`, which has none.
-    fn move_tail(&mut self, i: usize, upper: &mut Block)
-        requires block { IsBlock self.old }
-        requires upper_block { IsBlock upper.old }
-        requires in_bounds { i ≤ branch_count self.old }
-        requires upper_empty { subtrees upper.old.nodes ≡ [] }
-
-        // afterwards
-        ensures block { IsBlock self.new }
-        ensures upper_block { IsBlock upper.new }
-        ensures below { subtrees self.new.nodes ≡ take i (subtrees self.old.nodes) }
-        ensures upper_below { subtrees upper.new.nodes ≡ drop i (subtrees self.old.nodes) }
-    {
-        cells::move_tail(&mut self.nodes, i, &mut upper.nodes);
-        let Ok(()) = upper
-            .counts
-            .try_extend_from_slice(&self.counts.as_slice()[i..])
-        else {
-            unreachable!()
-        };
-        self.counts.truncate(i);
-    }
-
-    // Puts a branch in behind the i-th of a full node, and moves the upper half into `upper`, which has none.
-    fn split(&mut self, i: usize, node: Node, count: u32, upper: &mut Block)
-        requires block { IsBlock self.old }
-        requires full { branch_count self.old ≡ MOST_BRANCHES }
-        requires in_bounds { i < MOST_BRANCHES }
-        requires count { count ≡ length node.slots }
-        requires upper_block { IsBlock upper.old }
-        requires upper_empty { subtrees upper.old.nodes ≡ [] }
-
-        // afterwards
-        ensures block { IsBlock self.new }
-        ensures upper_block { IsBlock upper.new }
-        ensures below { SplitsWith i node self.old self.new upper.new }
-        ensures lower { branch_count self.new ≡ (if nat_lt i KEPT then KEPT + 1 else KEPT) }
-        ensures upper { branch_count upper.new ≡ (if nat_lt i KEPT then KEPT else KEPT + 1) }
-    {
-        self.move_tail(KEPT, upper);
-        if i < KEPT {
-            self.insert(i + 1, node, count);
-        } else {
-            upper.insert(i + 1 - KEPT, node, count);
         }
     }
 }
@@ -178,7 +72,19 @@ impl Branches {
         self.block.take()
     }
 
-    // The block that the branches lie in, for writing.
+    // The block that the branches lie in.
+    #[inline]
+    fn block(&self) -> &Block
+        requires { HasBlock self.now }
+        ensures { IsBlockIn self.now.block result.now }
+    {
+        match &self.block {
+            Some(block) => block,
+            None => unreachable!(),
+        }
+    }
+
+    // The same for writing.
     #[inline]
     pub(super) fn block_mut(&mut self) -> &mut Block
         requires { HasBlock self.old }
@@ -231,10 +137,7 @@ impl Branches {
         requires in_bounds { i < length (below self.now) }
         ensures { result.now ≡ slice_index_or (below self.now) i unused }
     {
-        let Some(block) = &self.block else {
-            unreachable!()
-        };
-        match &block.nodes[i] {
+        match &self.block().nodes[i] {
             Some(node) => node,
             None => unreachable!(),
         }
@@ -247,9 +150,7 @@ impl Branches {
         ensures branches { subtrees result.now ≡ drop (i + 1) (below self.now) }
         ensures present { length (subtrees result.now) ≡ length result.now }
     {
-        let Some(block) = &self.block else {
-            unreachable!()
-        };
+        let block = self.block();
         let nodes: &[Option<Node>] = &block.nodes[..];
         &nodes[i + 1..block.counts.len()]
     }
@@ -261,9 +162,7 @@ impl Branches {
         ensures branches { subtrees result.now ≡ take i (below self.now) }
         ensures present { length (subtrees result.now) ≡ length result.now }
     {
-        let Some(block) = &self.block else {
-            unreachable!()
-        };
+        let block = self.block();
         let nodes: &[Option<Node>] = &block.nodes[..];
         &nodes[..i]
     }
@@ -312,7 +211,9 @@ impl Branches {
         ensures below { below self.new ≡ insert (below self.old) i node }
         ensures block { HasBlock self.new }
     {
-        self.block_mut().insert(i, node, count);
+        let block = self.block_mut();
+        cells::insert(&mut block.nodes, i, node);
+        block.counts.insert(i, count);
     }
 
     // Removes the i-th branch, and returns it with the number of slots below it.
@@ -327,7 +228,9 @@ impl Branches {
         ensures count { result.1 ≡ length result.0.slots }
         ensures block { HasBlock self.new }
     {
-        self.block_mut().remove(i)
+        let block = self.block_mut();
+        let node = cells::remove(&mut block.nodes, i);
+        (node, block.counts.remove(i))
     }
 
     // Sets the number of slots below the i-th branch.
@@ -336,7 +239,7 @@ impl Branches {
         ensures cells { nodes_of self.new ≡ nodes_of self.old }
         ensures counts { counts_of self.new ≡ slice_set (counts_of self.old) i count }
     {
-        self.block_mut().set_count(i, count);
+        self.block_mut().counts.as_mut_slice()[i] = count;
     }
 
     // Moves all branches of `upper` behind these.
@@ -353,23 +256,46 @@ impl Branches {
         ensures upper_below { below upper.new ≡ [] }
         ensures upper_block { HasBlock upper.old → HasBlock upper.new }
     {
-        let Some(block) = &mut self.block else {
+        if upper.is_empty() {
             return;
+        }
+        let (len, more) = (self.len(), upper.len());
+        let (block, upper) = (self.block_mut(), upper.block_mut());
+        cells::append(&mut block.nodes, len, &mut upper.nodes, more);
+        let Ok(()) = block.counts.try_extend_from_slice(upper.counts.as_slice()) else {
+            unreachable!()
         };
-        let Some(upper) = &mut upper.block else {
-            return;
+        upper.counts.clear();
+    }
+
+    // Moves the branches from the i-th on into `upper`, which has none.
+    fn move_tail(&mut self, i: usize, upper: &mut Branches)
+        requires branches { AreBranches self.old }
+        requires upper_branches { AreBranches upper.old }
+        requires blocks { HasBlock self.old × HasBlock upper.old }
+        requires in_bounds { i ≤ length (below self.old) }
+        requires upper_empty { below upper.old ≡ [] }
+
+        // afterwards
+        ensures branches { AreBranches self.new }
+        ensures upper_branches { AreBranches upper.new }
+        ensures blocks { HasBlock self.new × HasBlock upper.new }
+        ensures below { below self.new ≡ take i (below self.old) }
+        ensures upper_below { below upper.new ≡ drop i (below self.old) }
+    {
+        let (block, upper) = (self.block_mut(), upper.block_mut());
+        cells::move_tail(&mut block.nodes, i, &mut upper.nodes);
+        let Ok(()) = upper
+            .counts
+            .try_extend_from_slice(&block.counts.as_slice()[i..])
+        else {
+            unreachable!()
         };
-        block.append(upper);
+        block.counts.truncate(i);
     }
 
     // Puts a branch in behind the i-th of a full node, and returns the upper half, in this block.
-    pub(super) fn split(
-        &mut self,
-        i: usize,
-        node: Node,
-        count: u32,
-        mut block: Box<Block>,
-    ) -> Branches
+    pub(super) fn split(&mut self, i: usize, node: Node, count: u32, block: Box<Block>) -> Branches
         requires branches { AreBranches self.old }
         requires full { length (below self.old) ≡ MOST_BRANCHES }
         requires in_bounds { i < MOST_BRANCHES }
@@ -383,16 +309,13 @@ impl Branches {
         ensures lower { length (below self.new) ≡ (if nat_lt i KEPT then KEPT + 1 else KEPT) }
         ensures upper { length (below result) ≡ (if nat_lt i KEPT then KEPT else KEPT + 1) }
     {
-        self.block_mut().split(i, node, count, &mut block);
-        Branches { block: Some(block) }
+        let mut upper = Branches::within(block);
+        self.move_tail(KEPT, &mut upper);
+        if i < KEPT {
+            self.insert(i + 1, node, count);
+        } else {
+            upper.insert(i + 1 - KEPT, node, count);
+        }
+        upper
     }
-}
-
-// Replaces the i-th number by another, and returns the old one.
-fn replace(items: &mut ArrayVec<u32, MOST_BRANCHES>, i: usize, new: u32) -> u32
-    requires { i < length items.old.items }
-    ensures value { result ≡ slice_index items.old.items i }
-    ensures items { items.new.items ≡ slice_set items.old.items i new }
-{
-    mem::replace(&mut items.as_mut_slice()[i], new)
 }
