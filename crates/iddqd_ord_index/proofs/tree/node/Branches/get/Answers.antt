@@ -1,10 +1,6 @@
-use Rattle.std.proofs.Common.{None, ap, arith, is_some, sym, true≢false}
-use Rattle.iddqd_ord_index.proofs.BelowLemmas.{has_block}
+use Rattle.std.proofs.Common.{None, ap, is_some, sym, true≢false}
 use Rattle.iddqd_ord_index.proofs.CellLemmas.{cell_full, node_in}
 use Rattle.iddqd_ord_index.proofs.tree.node.Branches.get.Goals as goal
-
-pub block-requires : goal.block-requires
-block-requires c = has_block c.args.self.now (omega (arith, c.requires.in_bounds))
 
 pub unreachable-requires : goal.unreachable-requires
 unreachable-requires c =

@@ -2,13 +2,10 @@ use Rattle.std.proofs.Common.{◌≡◌, ◌+◌, ◌-◌, length, set, get_or, 
 use Rattle.iddqd_ord_index.specs.Cells.{IsPacked}
 use Rattle.iddqd_ord_index.specs.Nodes.{below, counts_of, nodes_of, subtrees, with_block}
 use Rattle.iddqd_ord_index.specs.Shape.{unused}
-use Rattle.iddqd_ord_index.proofs.BelowLemmas.{branches_are, counted_length, has_block}
+use Rattle.iddqd_ord_index.proofs.BelowLemmas.{branches_are, counted_length}
 use Rattle.iddqd_ord_index.proofs.CellLemmas.{below_read, block_read, counts_written, nodes_written}
 use Rattle.iddqd_ord_index.proofs.RebalanceLemmas.{counts_then, len_within}
 use Rattle.iddqd_ord_index.proofs.tree.node.Branches.shift_at.Goals as goal
-
-pub block_mut-requires : goal.block_mut-requires
-block_mut-requires c = has_block c.args.self.now (omega (arith, c.requires.pair.within))
 
 -- how many branches there are
 counts : (c : goal.After-set_count-arg-1) → length (counts_of (with_block c.args.self.now (record c.block_mut.result.now { nodes = c.shift_cells-top.new.nodes }))) ≡ length (below c.args.self.now)

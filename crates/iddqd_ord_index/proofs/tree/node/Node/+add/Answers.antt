@@ -6,7 +6,6 @@ use Rattle.iddqd_ord_index.specs.Nodes.{below, AreBranches}
 use Rattle.iddqd_ord_index.specs.Shape.{tree, unused}
 use Rattle.iddqd_ord_index.proofs.AddLemmas.{IsParted, above, put_grown, put_parted}
 use Rattle.iddqd_ord_index.proofs.BranchAtLemmas.{starts_is, inner_levels, inner_of, branch_is, branch_within, rest_within, branch_at_in}
-use Rattle.iddqd_ord_index.proofs.BelowLemmas.{has_block}
 use Rattle.iddqd_ord_index.proofs.CellLemmas.{branch_in, cell_full, changed_counts, changed_nodes, counted}
 use Rattle.iddqd_ord_index.proofs.DenseLemmas.{dense_of}
 use Rattle.iddqd_ord_index.proofs.EditLemmas.{IsMade}
@@ -23,10 +22,6 @@ overflow_add-count t c =
     let ss = c.self.inside.slots.items in
     let w = branch_within ts ss c.self.invariant.forked c.branch_at-i.result.0 (branch_at_in ts ss c.args.at c.branch_at-i.result.0 c.branch_at-i.result.1 c.self.invariant.forked c.branch_at-i.ensures) in
     omega (arith, ap (λ t. length t.slots) c.self.view_is, c.requires.room, c.count-count.ensures)
-
--- the block and the cell of the branch
-pub block_mut-requires : goal.block_mut-requires
-block_mut-requires t c = has_block c.self.inside.branches (c.is_empty.ensures.some c.if-is_empty.false)
 
 pub unwrap-node-requires : goal.unwrap-node-requires
 unwrap-node-requires t c =

@@ -4,7 +4,7 @@ use Rattle.std.specs.List.{remove}
 use Rattle.iddqd_ord_index.specs.NodeRemoval.{LosesPart}
 use Rattle.iddqd_ord_index.specs.Nodes.{below, AreBranches}
 use Rattle.iddqd_ord_index.specs.Shape.{in_order, levels, lists, unused, IsBranch, IsForked}
-use Rattle.iddqd_ord_index.proofs.BelowLemmas.{branches_put, has_block, list_at}
+use Rattle.iddqd_ord_index.proofs.BelowLemmas.{branches_put, list_at}
 use Rattle.iddqd_ord_index.proofs.BranchAtLemmas.{starts_is, branch_is, branch_at_in, branch_at_fork, branch_at_list, leaf_list}
 use Rattle.iddqd_ord_index.proofs.CellLemmas.{branch_in, cell_full, changed_counts, changed_nodes, counted}
 use Rattle.iddqd_ord_index.proofs.DenseLemmas.{dense_of}
@@ -62,10 +62,6 @@ returns-then-may_lose_next-clause-part t c = (without t c.before.before).2
 
 pub returns-then-may_lose_next-clause-dense : goal.returns-then-may_lose_next-clause-dense
 returns-then-may_lose_next-clause-dense t c = dense_of (below c.remove-count.new.self) c.remove.new.self.items (without t c.before.before).0
-
--- the block and the cell of the branch
-pub block_mut-requires : goal.block_mut-requires
-block_mut-requires t c = has_block c.self.inside.branches (c.is_empty.ensures.some c.if-is_empty.false)
 
 pub unwrap-node-requires : goal.unwrap-node-requires
 unwrap-node-requires t c =

@@ -10,7 +10,6 @@ use Rattle.iddqd_ord_index.specs.Standing.{slot_standing, IsMonotone, IsPlace}
 use Rattle.iddqd_ord_index.specs.declared.tree.node.Node.{Node}
 use Rattle.iddqd_ord_index.proofs.AddLemmas.{IsParted, above, put_grown, put_parted}
 use Rattle.iddqd_ord_index.proofs.BranchAtLemmas.{inner_levels, inner_of}
-use Rattle.iddqd_ord_index.proofs.BelowLemmas.{has_block}
 use Rattle.iddqd_ord_index.proofs.CellLemmas.{branches_with, cell_full}
 use Rattle.iddqd_ord_index.proofs.ChildLemmas.{IsChild, IsStill, child, child_among, child_at, child_place, low_of, place_inside, steps_here, steps_below}
 use Rattle.iddqd_ord_index.proofs.DenseLemmas.{dense_of}
@@ -91,10 +90,6 @@ returns-then-is_empty-clause-ends g t c =
         | else-len-eq-MOST_SLOTS-via-else-len-eq-MOST_SLOTS w ↦ not_split (IsTrue c.args.ready) c.add_to_leaf.result c.add_to_leaf.ensures.full (λ full. w.if-len-eq-MOST_SLOTS.false (c.len.ensures.value ∙ (ap (λ t. t.width) c.self.view_is ∙ full)))
       ],
     )
-
--- the block and the cell of the branch
-pub block_mut-requires : goal.block_mut-requires
-block_mut-requires g t c = has_block c.self.inside.branches (c.is_empty.ensures.some c.if-is_empty.false)
 
 pub unwrap-node-requires : goal.unwrap-node-requires
 unwrap-node-requires g t c =

@@ -4,7 +4,6 @@ use Rattle.std.specs.List.{remove}
 use Rattle.iddqd_ord_index.specs.Nodes.{below, AreBranches}
 use Rattle.iddqd_ord_index.specs.Shape.{levels, lists, in_order, unused}
 use Rattle.iddqd_ord_index.proofs.BranchAtLemmas.{starts_is, own_read, branch_at_in}
-use Rattle.iddqd_ord_index.proofs.BelowLemmas.{has_block}
 use Rattle.iddqd_ord_index.proofs.CellLemmas.{cell_full}
 use Rattle.iddqd_ord_index.proofs.ChildLemmas.{IsCell, cell_of}
 use Rattle.iddqd_ord_index.proofs.DenseLemmas.{dense_of}
@@ -109,9 +108,6 @@ count-len-requires-clause-in_bounds t c = grind (arith, common_steps)
 
 pub replace_own-slot-requires-clause-within : goal.replace_own-slot-requires-clause-within
 replace_own-slot-requires-clause-within t c = grind (arith, common_steps)
-
-pub block_mut-requires : goal.block_mut-requires
-block_mut-requires t c = has_block c.self.inside.branches (c.is_empty.ensures.some c.if-is_empty.false)
 
 pub unwrap-node-requires : goal.unwrap-node-requires
 unwrap-node-requires t c =

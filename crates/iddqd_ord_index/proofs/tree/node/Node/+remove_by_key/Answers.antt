@@ -7,7 +7,6 @@ use Rattle.iddqd_ord_index.specs.NodeRemoval.{own_place}
 use Rattle.iddqd_ord_index.specs.Nodes.{below, AreBranches}
 use Rattle.iddqd_ord_index.specs.Shape.{levels, lists, starts, unused}
 use Rattle.iddqd_ord_index.specs.Standing.{slot_standing, IsMonotone, IsPlace}
-use Rattle.iddqd_ord_index.proofs.BelowLemmas.{has_block}
 use Rattle.iddqd_ord_index.proofs.CellLemmas.{branches_with, cell_full}
 use Rattle.iddqd_ord_index.proofs.ChildLemmas.{IsChild, IsStill, child, child_at, child_found, child_place, low_of, place_inside, steps_here, steps_below}
 use Rattle.iddqd_ord_index.proofs.DenseLemmas.{dense_of}
@@ -57,10 +56,6 @@ returns-in-Ok-place-clause-dense g t c = dense_of (below c.remove_own.new.branch
 
 pub returns-in-Ok-place-clause-steps : goal.returns-in-Ok-place-clause-steps
 returns-in-Ok-place-clause-steps g t c = steps_here _ _ _ _ c.as_slice.ensures.fits c.search-place.ensures.steps (low_of _ _ _ c.self.invariant.forked c.self.view_is)
-
--- the block and the cell of the branch
-pub block_mut-requires : goal.block_mut-requires
-block_mut-requires g t c = has_block c.self.inside.branches (c.is_empty.ensures.some c.if-is_empty.false)
 
 pub unwrap-node-requires : goal.unwrap-node-requires
 unwrap-node-requires g t c =

@@ -3,7 +3,6 @@ use Rattle.std.proofs.lemmas.List.{length-take-le, map-set}
 use Rattle.iddqd_ord_index.specs.NodeRemoval.{Writes}
 use Rattle.iddqd_ord_index.specs.Nodes.{below, AreBranches}
 use Rattle.iddqd_ord_index.specs.Shape.{Subtree, in_order, levels, lists, tree, unused, IsBranch, IsBranchAt, IsForked}
-use Rattle.iddqd_ord_index.proofs.BelowLemmas.{has_block}
 use Rattle.iddqd_ord_index.proofs.BranchAtLemmas.{starts_is, own_read, branch_is, branch_at_in, branch_at_fork, branch_at_list, leaf_list}
 use Rattle.iddqd_ord_index.proofs.CellLemmas.{branch_in, branches_with, cell_full, kept}
 use Rattle.iddqd_ord_index.proofs.DenseLemmas.{dense_of}
@@ -58,10 +57,6 @@ pub returns-then-rest-count-clause-dense : goal.returns-then-rest-count-clause-d
 returns-then-rest-count-clause-dense t c =
     let ss = c.self.inside.slots.items in
     dense_of (below c.self.inside.branches) c.replace.new.self.items (same_forked (below c.self.inside.branches) ss c.replace.new.self.items (ap length c.replace.ensures.items ∙ length-set ss c.branch_at-i.result.0 _) c.self.invariant.forked)
-
--- the block and the cell of the branch
-pub block_mut-requires : goal.block_mut-requires
-block_mut-requires t c = has_block c.self.inside.branches (c.is_empty.ensures.some c.if-is_empty.false)
 
 pub unwrap-node-requires : goal.unwrap-node-requires
 unwrap-node-requires t c =

@@ -3,7 +3,6 @@ use Rattle.std.specs.List.{remove}
 use Rattle.iddqd_ord_index.specs.NodeRemoval.{own_place}
 use Rattle.iddqd_ord_index.specs.Nodes.{below, slots_of, AreBranches}
 use Rattle.iddqd_ord_index.specs.Shape.{Subtree, tree, unused, IsForked}
-use Rattle.iddqd_ord_index.proofs.BelowLemmas.{has_block}
 use Rattle.iddqd_ord_index.proofs.CellLemmas.{cell_full}
 use Rattle.iddqd_ord_index.proofs.ChildLemmas.{IsCell, cell_of}
 use Rattle.iddqd_ord_index.proofs.RemoveByLemmas.{own_branch_at, own_position}
@@ -80,9 +79,6 @@ returns-clause-levels c = c.rebalance.ensures.levels ∙ (shrunk c.before).1.hei
 
 pub returns-clause-slots : goal.returns-clause-slots
 returns-clause-slots c = c.rebalance.ensures.slots ∙ (shrunk c.before).1.list
-
-pub block_mut-requires : goal.block_mut-requires
-block_mut-requires c = has_block c.args.branches.now c.requires.inner
 
 pub unwrap-node-requires : goal.unwrap-node-requires
 unwrap-node-requires c =
