@@ -1,8 +1,8 @@
 -- The branches of a node, by the cells and the counts that hold them.
-use Rattle.std.proofs.Common.{◌≡◌, ℕ, ◌+◌, ◌<◌, List, [], length, map, take, drop, set, get_or, ap, sym, ◌∙◌, subst, refl, arith, Option, Some, None, Box, Global}
+use Rattle.std.proofs.Common.{◌≡◌, ℕ, ◌+◌, ◌<◌, List, [], length, map, take, drop, set, get_or, ap, sym, ◌∙◌, subst, refl, arith, IsSome, Option, Some, None, Box, Global}
 use Rattle.std.proofs.lemmas.List.{get_or-map, get_or_default, length-map, map-set, nil_from_length}
 use Rattle.iddqd_ord_index.specs.Cells.{items_present, cells_of, IsPacked}
-use Rattle.iddqd_ord_index.specs.Nodes.{below, subtrees, AreBranches, AreCounted, cells_in, counts_in, counts_of, nodes_of, HasBlock, IsBare, IsThere}
+use Rattle.iddqd_ord_index.specs.Nodes.{below, subtrees, AreBranches, AreCounted, cells_in, counts_in, counts_of, nodes_of, HasBlock, IsBare}
 use Rattle.iddqd_ord_index.specs.Shape.{Subtree, lists, starts, unused}
 use Rattle.iddqd_ord_index.specs.declared.tree.node.Block.{Block}
 use Rattle.iddqd_ord_index.specs.declared.tree.node.Branches.{Branches}
@@ -43,15 +43,12 @@ module _ (os : List (Option Node)) (ns : List ℕ) (a : AreCounted os ns) where
   counted_at i d lt = ap (λ l. get_or l i d) a.counted ∙ get_or-map (λ t. length t.slots) (subtrees os) i unused d lt
 
 -- branches lie in a block
-there : (o : Option (Box Block Global)) → 0 < length (subtrees (cells_in o)) → IsThere o
+there : (o : Option (Box Block Global)) → 0 < length (subtrees (cells_in o)) → IsSome o
 there None some = absurd (omega (arith, some))
-there (Some b) some = tt
+there (Some b) some = refl
 
 pub has_block : (bs : Branches) → 0 < length (below bs) → HasBlock bs
 has_block bs some = there bs.block some
-
-pub no_block : {P : Type 0} (bs : Branches) → bs.block ≡ None → HasBlock bs → P
-no_block bs none has = absurd (subst IsThere none has)
 
 -- a block from which no branch hangs is bare
 bare_in : (o : Option (Box Block Global)) (b : Box Block Global) → o ≡ Some b → IsPacked (cells_in o) → length (subtrees (cells_in o)) ≡ 0 → length (counts_in o) ≡ 0 → IsBare b.value

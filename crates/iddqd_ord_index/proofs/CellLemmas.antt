@@ -6,12 +6,12 @@
 --     node_in, branch_in      the node in the cell is the branch
 --     counted, changed_nodes, changed_counts      the cells and counts with another branch
 --     kept      a branch with as many slots is in the place of another one
-use Rattle.std.proofs.Common.{◌≡◌, ℕ, ◌<◌, IsSome, is_some, length, set, get_or, ap, sym, ◌∙◌, refl, subst, arith, Option, Some, None, Box, Global}
+use Rattle.std.proofs.Common.{◌≡◌, ℕ, ◌<◌, IsSome, IsSomeAnd, is_some, length, set, get_or, ap, sym, ◌∙◌, refl, subst, arith, Option, Some, None, Box, Global}
 use Rattle.std.proofs.lemmas.List.{set-get_or}
 use Rattle.std.specs.Borrow.{MutBor}
 use Rattle.std.specs.Box.{with_value}
 use Rattle.std.specs.Option.{option_copied_mut, option_map}
-use Rattle.iddqd_ord_index.specs.Nodes.{below, cells_in, counts_in, counts_of, nodes_of, subtrees, with_block, AreBranches, AreCounted, IsBlock, IsBlockIn}
+use Rattle.iddqd_ord_index.specs.Nodes.{below, cells_in, counts_in, counts_of, nodes_of, subtrees, with_block, AreBranches, AreCounted, IsBlock, IsBlockOf}
 use Rattle.iddqd_ord_index.specs.Shape.{unused}
 use Rattle.iddqd_ord_index.specs.declared.tree.node.Block.{Block}
 use Rattle.iddqd_ord_index.specs.declared.tree.node.Branches.{Branches}
@@ -23,11 +23,11 @@ use Rattle.iddqd_ord_index.proofs.PackedLemmas.{cell_is}
 abbrev pub branches_with : Branches → Block → ℕ → Node → Branches
 branches_with bs read i node = with_block bs (record read { nodes = set read.nodes i (Some node) })
 
-own_block : (o : Option (Box Block Global)) (read : Block) → IsBlockIn o read → (own : Box Block Global) × (o ≡ Some own) × (read ≡ own.value)
+own_block : (o : Option (Box Block Global)) (read : Block) → IsSomeAnd o (λ own. read ≡ own.value) → (own : Box Block Global) × (o ≡ Some own) × (read ≡ own.value)
 own_block None read h = absurd h
 own_block (Some own) read h = (own, refl, h)
 
-module _ (bs : Branches) (read : Block) (h : IsBlockIn bs.block read) where
+module _ (bs : Branches) (read : Block) (h : IsBlockOf bs read) where
   own : (own : Box Block Global) × (bs.block ≡ Some own) × (read ≡ own.value)
   own = own_block bs.block read h
 

@@ -11,7 +11,7 @@ use Rattle.std.specs.Borrow.{MutBor}
 use Rattle.std.specs.List.{All}
 use Rattle.std.specs.Option.{option_copied_mut}
 use Rattle.iddqd_ord_index.specs.Digits.{digits}
-use Rattle.iddqd_ord_index.specs.Nodes.{below, counts_of, nodes_of, AreBranches, IsBlockIn}
+use Rattle.iddqd_ord_index.specs.Nodes.{below, counts_of, nodes_of, AreBranches, IsBlockOf}
 use Rattle.iddqd_ord_index.specs.Shape.{Subtree, lists, starts, tree, unused, IsBranchAt, IsForked}
 use Rattle.iddqd_ord_index.specs.Standing.{IsAmong, IsMonotone, IsPart, IsPlace}
 use Rattle.iddqd_ord_index.specs.declared.tree.node.Block.{Block}
@@ -62,7 +62,7 @@ pub record IsChild (order : ℕ → Ordering) (P : ℕ → Type 0) (bs : Branche
 pub place_inside : (ts : List Subtree) (xs ss : List ℕ) (i : ℕ) → IsForked ts ss → 0 < length ts → xs ≡ ss → i ≤ length xs → i < length ts
 place_inside ts xs ss i f some e le = omega (arith, f.fork some, ap length e)
 
-pub cell_of : (bs : Branches) (ss : List ℕ) (self : Subtree) → AreBranches bs → IsForked (below bs) ss → tree (below bs) ss ≡ self → (read : Block) → IsBlockIn bs.block read → (i : ℕ) → i < length (below bs)
+pub cell_of : (bs : Branches) (ss : List ℕ) (self : Subtree) → AreBranches bs → IsForked (below bs) ss → tree (below bs) ss ≡ self → (read : Block) → IsBlockOf bs read → (i : ℕ) → i < length (below bs)
     → (o : Option Node) {r : Option (MutBor Node)} {x : MutBor Node} → option_copied_mut r ≡ get_or read.nodes i o → r ≡ Some x → IsCell bs self read i x.now
 cell_of bs ss self br f v read h i lt o {r} {x} at is =
     let w = branch_in bs read h i br lt o at is in
@@ -81,7 +81,7 @@ cell_of bs ss self br f v read h i lt o {r} {x} at is =
     }
 
 module _ (order : ℕ → Ordering) (P : ℕ → Type 0) (bs : Branches) (ss : List ℕ) (self : Subtree) (m : IsMonotone order self.slots) (a : All P self.slots) (br : AreBranches bs) (f : IsForked (below bs) ss) (v : tree (below bs) ss ≡ self)
-    (read : Block) (h : IsBlockIn bs.block read) (some : 0 < length (below bs)) (i : ℕ) (xs : List ℕ) (e : xs ≡ ss) (p : IsPlace order xs (Err i))
+    (read : Block) (h : IsBlockOf bs read) (some : 0 < length (below bs)) (i : ℕ) (xs : List ℕ) (e : xs ≡ ss) (p : IsPlace order xs (Err i))
     (o : Option Node) {r : Option (MutBor Node)} {x : MutBor Node} (at : option_copied_mut r ≡ get_or read.nodes i o) (is : r ≡ Some x) where
   child_part : x.now ≡ get_or (below bs) i unused → IsPart order self.slots x.now.slots (starts (take i (lists (below bs))))
   child_part w =

@@ -1,5 +1,5 @@
 -- What the fields of a node show. No public clause cites this module.
-use Rattle.std.specs.Prelude.{◌≡◌, ℕ, ◌+◌, List, [], All, insert, length, map, option_map, Option, Some, None}
+use Rattle.std.specs.Prelude.{◌≡◌, ℕ, ◌+◌, List, [], All, insert, length, map, option_map, IsSome, IsSomeAnd, Option, Some, None}
 use Rattle.std.specs.Box.{with_value}
 use Rattle.std.proofs.Common.{Box, Global}
 use Rattle.iddqd_ord_index.specs.Cells.{cells_of, items_present, IsPacked}
@@ -44,18 +44,12 @@ AreBranches bs = AreCounted (nodes_of bs) (counts_of bs)
 abbrev pub IsBlock : Block → Type 0
 IsBlock b = AreCounted b.nodes b.counts.items
 
--- there is a block
-abbrev pub IsThere : Option (Box Block Global) → Type 0
-IsThere None = ⊥
-IsThere (Some b) = Unit
-
 abbrev pub HasBlock : Branches → Type 0
-HasBlock bs = IsThere bs.block
+HasBlock bs = IsSome bs.block
 
 -- the block that the branches lie in
-abbrev pub IsBlockIn : Option (Box Block Global) → Block → Type 0
-IsBlockIn None b = ⊥
-IsBlockIn (Some own) b = b ≡ own.value
+abbrev pub IsBlockOf : Branches → Block → Type 0
+IsBlockOf bs b = IsSomeAnd bs.block (λ own. b ≡ own.value)
 
 -- the branches in this block in place of their own
 abbrev pub with_block : Branches → Block → Branches

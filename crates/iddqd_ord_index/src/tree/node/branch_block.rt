@@ -1,7 +1,7 @@
 //! The branches of a node and the number of slots below each, changed together.
 ghost use Rattle.std.specs.Prelude.{true, false, ◌≡◌, ◌+◌, ◌^◌, ◌<◌, ◌≤◌, ◌==◌, [], ◌++◌, length, take, drop, insert, remove, slice_index_or, slice_set, nat_lt, if◌then◌else◌, IfOk, IfSome, IsSome};
 ghost use Rattle.std.specs.Borrow.{sem};
-ghost use Rattle.iddqd_ord_index.specs.Nodes.{below, below_with, counts_of, nodes_of, subtrees, AreBranches, HasBlock, IsBare, IsBlockIn};
+ghost use Rattle.iddqd_ord_index.specs.Nodes.{below, below_with, counts_of, nodes_of, subtrees, AreBranches, HasBlock, IsBare, IsBlockOf};
 ghost use Rattle.iddqd_ord_index.specs.Shape.{lists, starts, unused, IsBranchAt};
 
 use super::{Block, Branches, KEPT, MOST_BRANCHES, Node};
@@ -76,7 +76,7 @@ impl Branches {
     #[inline]
     fn block(&self) -> &Block
         requires { HasBlock self.now }
-        ensures { IsBlockIn self.now.block result.now }
+        ensures { IsBlockOf self.now result.now }
     {
         match &self.block {
             Some(block) => block,
@@ -89,7 +89,7 @@ impl Branches {
     pub(super) fn block_mut(&mut self) -> &mut Block
         requires { HasBlock self.old }
         ensures* writes_back { sem 𝓛 (lends_block self.entry result) }
-        ensures block { IsBlockIn self.old.block result.now }
+        ensures block { IsBlockOf self.old result.now }
     {
         match &mut self.block {
             Some(block) => block,
