@@ -44,6 +44,7 @@ AreBranches bs = AreCounted (nodes_of bs) (counts_of bs)
 abbrev pub IsBlock : Block → Type 0
 IsBlock b = AreCounted b.nodes b.counts.items
 
+-- there is a block
 abbrev pub HasBlock : Branches → Type 0
 HasBlock bs = IsSome bs.block
 
