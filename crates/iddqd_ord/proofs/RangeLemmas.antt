@@ -8,7 +8,7 @@
 --     places_out      what is left if the items between two positions are taken out
 --     first_passing, last_before, last_none      the first item that passes, and the last
 --     rank_is      how many items are less than a query
---     part_up_to, part_cut, part_within, take_to, length-part, sum-part      what stands between two positions, its length and its sum
+--     part_up_to, part_cut, part_within, take_to, sum-part      what stands between two positions, and its sum
 use Rattle.std.proofs.Common.{◌≡◌, ℕ, zero, suc, ◌+◌, ◌-◌, ◌<◌, ◌≤◌, ⊎_elim, Bool, true, false, not, ◌&&◌, List, [], ◌∷◌, ◌++◌, length, map, take, drop, get_or, filter, sum_by, count_by, max, min, Some, None, Result, Ok, Err, is_ok, refl, sym, ap, ◌∙◌, subst, arith, Ordering, Less, Equal, Greater, below_more, true≢false, suc-le-suc, length-drop, length-take, take-append-drop, inl, inr}
 use Rattle.std.proofs.Math.Nat.{eq-or-lt_of_le}
 use Rattle.std.proofs.lemmas.Bool.{cases_lt}
@@ -193,9 +193,6 @@ module _ {X : Type 0} where
   take_to xs (Included n) = refl
   take_to xs (Excluded n) = refl
   take_to xs Unbounded = take_all (length xs) xs (omega arith)
-
-  pub length-part : (xs : List X) (next end : ℕ) → end ≤ length xs → length (drop next (take end xs)) ≡ end - next
-  length-part xs next end fits = length-drop next (take end xs) ∙ ap (λ n. n - next) (length-take-le end xs fits)
 
   pub sum-part : (h : X → ℕ) (xs : List X) (next end : ℕ) → sum_by h (drop next (take end xs)) ≤ sum_by h xs
   sum-part h xs next end = omega (arith, sum_by-take-drop h (take end xs) next, sum_by-take-le h xs end)
