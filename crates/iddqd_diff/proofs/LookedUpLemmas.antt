@@ -2,7 +2,7 @@
 --     old_items, new_items      each item of either list is there once
 --     all_akin      the two items that are kept have equal keys
 --     removed_items, added_items      what was removed is what the other list lacks, and so is what was added
---     length_least, length_most      how many there are
+--     length_most      how many there are at most
 use Rattle.std.proofs.Common.{◌≡◌, ◌+◌, ◌≤◌, Bool, true, false, arith, cond, List, [], ◌∷◌, ◌++◌, length, map, filter, filter_map, Option, Some, None, is_none, is_some, refl, sym, ap, true≢false, ◌∙◌}
 use Rattle.std.proofs.lemmas.List.{append-nil, length-append, length-map}
 use Rattle.std.proofs.lemmas.List.Elements.{All-nil, All-cons, All-append, filter_map-append}
@@ -82,9 +82,6 @@ module _ {T K : Type 0} (key : T → K) (eq : K → K → Bool) (all_old all_new
 
   pub all_akin : (old new : List T) → All (IsAkin key eq) (looked_up key eq all_old all_new_items old new)
   all_akin old new = All-append (IsAkin key eq) (map (beside key eq all_old all_new_items) old) (map Added (filter (lacks key eq all_old) new)) (own_akin old) (added_akin key eq (filter (lacks key eq all_old) new))
-
-  pub length_least : (old new : List T) → length old ≤ length (looked_up key eq all_old all_new_items old new)
-  length_least old new = omega (arith, length-append (map (beside key eq all_old all_new_items) old) (map Added (filter (lacks key eq all_old) new)), length-map old (beside key eq all_old all_new_items))
 
   pub length_most : (old new : List T) → length (looked_up key eq all_old all_new_items old new) ≤ length old + length new
   length_most old new = omega (arith, length-append (map (beside key eq all_old all_new_items) old) (map Added (filter (lacks key eq all_old) new)), length-map old (beside key eq all_old all_new_items), length-map {B = Difference T T} (filter (lacks key eq all_old) new) (λ y. Added y), length_passed (lacks key eq all_old) new)

@@ -41,9 +41,6 @@ module _ {T K : Type 0} (key : T → K) (cmp : K → K → Ordering) (o : IsTota
   not_both : (a b : K) → cmp a b ≡ Less → cmp b a ≡ Less → ⊥
   not_both a b l m = let e : Less ≡ Greater = sym l ∙ o.antisymm a b ∙ ap ordering_reverse m in cc
 
-  not_equal : (a b c : K) → cmp a b ≡ Less → cmp a c ≡ Less → cmp b c ≡ Equal → a ≡ b → ⊥
-  not_equal a b c l m e s = let h : Less ≡ Equal = sym m ∙ ap (λ k. cmp k c) s ∙ e in cc
-
   pub one_list : (ds es : List (Difference T T)) → filter_map old_item ds ≡ filter_map old_item es → filter_map new_item ds ≡ filter_map new_item es → IsStrictlySortedBy cmp (map (key_at key) ds) → IsStrictlySortedBy cmp (map (key_at key) es) → All (IsAkin key eq) ds → All (IsAkin key eq) es → ds ≡ es
   unfolding IsStrictlySortedBy
   one_list [] [] p q s t a b = refl

@@ -147,7 +147,7 @@ impl HashIndex {
         ensures len { length self.new.pairs ≡ length self.old.pairs }
 
         // the room
-        ensures room { OnOk result (self.new.spare + length self.new.pairs ≡ room_for count) }
+        ensures spare { OnOk result (self.new.spare + length self.new.pairs ≡ room_for count) }
         ensures refused { OnErr result (self.new ≡ self.old) }
     {
         let (groups, cells) = regrouped(

@@ -2,7 +2,6 @@
 --     same_items      slots that have the same items, slot by slot, have the same items in a row
 --     AreSplit      what stands before a slot's item and what behind it, where two stores differ at that slot alone
 --     item_added, item_left, PlaceOf, place_of      what the change of a slot makes of the items
---     slot_of      each item has a slot
 --     length-items      there are as many items as occupied slots
 --     number_at, numbers_agree      a number for each slot, told by its item
 --     slots_apart      each item has a slot of its own
@@ -129,12 +128,6 @@ module _ {T : Type 0} where
         there = ap (λ vs. slice_get vs i) was ∙ get-middle s.before s.behind x;
         removed = λ none. s.first ∙ ap (λ o. s.before ++ (one o ++ s.behind)) none ∙ sym (remove-middle s.before s.behind x) ∙ ap (λ vs. remove vs i) (sym was);
       }
-
-  pub slot_of : (slots : List (Option T)) (i : ℕ) (x : T) → slice_get (items_of slots) i ≡ Some x → (slot : ℕ) × (at slots slot ≡ Some x)
-  slot_of [] i x e = cc
-  slot_of (None ∷ slots) i x e = let rest = slot_of slots i x e in (suc rest.0, rest.1)
-  slot_of (Some y ∷ slots) zero x e = (zero, e)
-  slot_of (Some y ∷ slots) (suc i) x e = let rest = slot_of slots i x e in (suc rest.0, rest.1)
 
   pub length-items : (slots : List (Option T)) → length (items_of slots) ≡ count_by is_some slots
   length-items [] = refl

@@ -1,6 +1,6 @@
 -- An index and a store belong together still where items move from slot to slot.
 --     own_place, has_place      the place of an item's own key is that of its slot, and there is one
---     paired_same, listed_same      each slot has what it had
+--     paired_same      each slot has what it had
 --     paired_renamed, listed_renamed      the item of one slot stands in another, which is listed in its stead
 --     moved_paired, moved_items      the same, told of the last slot
 use Rattle.std.proofs.Common.{false, ◌-◌, ◌≡◌, ◌≢◌, ℕ, zero, suc, ◌<◌, ⊎_elim, Bool, true, List, [], ◌∷◌, length, map, get_or, set, Some, is_some, refl, sym, ap, ◌∙◌, arith, true≢false, nat_eq, subst, suc-le-suc, slice_get}
@@ -63,9 +63,6 @@ module _ {T : Type 0} (old new : Store T) (slots : List ℕ) (paired : ListsOccu
       listed = λ slot some. paired.listed slot (ap is_some (sym (same slot)) ∙ some);
       counted = paired.counted ∙ sym len;
     }
-
-    pub listed_same : listed_items new slots ≡ listed_items old slots
-    listed_same = listed-same old new slots (λ k d h. same _)
 
   module _ (last hole i : ℕ) (at : slice_get slots i ≡ Some last) (moves : MovesLast old.slots new.slots last hole) where
     inside : i < length slots

@@ -2,13 +2,13 @@
 --     at_there, above_there, nowhere      where the items begin that are not less than a query, or greater
 --     from_place, behind_place, absent_place      the same by the place that a search returns
 --     walk_begins      the position that a walk from a bound on begins at
---     split_start, ends_all      where the items begin that an unbounded start lets through, and end that an unbounded end does
+--     split_start      where the items begin that an unbounded start lets through
 --     ends_where      where those end that another test does not let through
 --     between_places      the elements that pass from one position on and up to another stand between them
 --     places_out      what is left if the items between two positions are taken out
 --     first_passing, last_before, last_none      the first item that passes, and the last
 --     rank_is      how many items are less than a query
---     part_up_to, part_cut, part_within, take_to, length-part, sum-part      what stands between two positions, its length and its sum
+--     part_up_to, part_cut, part_within, take_to, sum-part      what stands between two positions, and its sum
 use Rattle.std.proofs.Common.{◌≡◌, ℕ, zero, suc, ◌+◌, ◌-◌, ◌<◌, ◌≤◌, ⊎_elim, Bool, true, false, not, ◌&&◌, List, [], ◌∷◌, ◌++◌, length, map, take, drop, get_or, filter, sum_by, count_by, max, min, Some, None, Result, Ok, Err, is_ok, refl, sym, ap, ◌∙◌, subst, arith, Ordering, Less, Equal, Greater, below_more, true≢false, suc-le-suc, length-drop, length-take, take-append-drop, inl, inr}
 use Rattle.std.proofs.Math.Nat.{eq-or-lt_of_le}
 use Rattle.std.proofs.lemmas.Bool.{cases_lt}
@@ -77,9 +77,6 @@ walk_begins key compare bound map walk len own e w = omega (arith, e, own.as_man
 module _ {X : Type 0} where
   pub split_start : (xs : List X) → SplitsAt (λ _. true) xs 0
   split_start xs = record { within = omega arith; before = λ k d lt. absurd (omega arith); behind = λ k d le lt. refl }
-
-  pub ends_all : (xs : List X) (n : ℕ) → n ≡ length xs → EndsAt (λ _. true) xs n
-  ends_all xs n e = record { within = omega (arith, e); before = λ k d lt. refl; behind = λ k d le lt. absurd (omega (arith, e)) }
 
   pub ends_where : (t u : X → Bool) → ((x : X) → u x ≡ not (t x)) → (xs : List X) (n : ℕ) → SplitsAt t xs n → EndsAt u xs n
   ends_where t u turned xs n s = record {
@@ -193,9 +190,6 @@ module _ {X : Type 0} where
   take_to xs (Included n) = refl
   take_to xs (Excluded n) = refl
   take_to xs Unbounded = take_all (length xs) xs (omega arith)
-
-  pub length-part : (xs : List X) (next end : ℕ) → end ≤ length xs → length (drop next (take end xs)) ≡ end - next
-  length-part xs next end fits = length-drop next (take end xs) ∙ ap (λ n. n - next) (length-take-le end xs fits)
 
   pub sum-part : (h : X → ℕ) (xs : List X) (next end : ℕ) → sum_by h (drop next (take end xs)) ≤ sum_by h xs
   sum-part h xs next end = omega (arith, sum_by-take-drop h (take end xs) next, sum_by-take-le h xs end)

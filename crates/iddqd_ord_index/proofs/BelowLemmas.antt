@@ -50,16 +50,6 @@ there (Some b) some = refl
 pub has_block : (bs : Branches) → 0 < length (below bs) → HasBlock bs
 has_block bs some = there bs.block some
 
--- a block from which no branch hangs is bare
-bare_in : (o : Option (Box Block Global)) (b : Box Block Global) → o ≡ Some b → IsPacked (cells_in o) → length (subtrees (cells_in o)) ≡ 0 → length (counts_in o) ≡ 0 → IsBare b.value
-bare_in o b e p n m =
-    let none : length (items_present (cells_in o)) ≡ 0 = omega (arith, n, length-subtrees (cells_in o)) in
-    let cells = p.cells ∙ ap cells_of (nil_from_length (items_present (cells_in o)) none) in
-    (sym (ap cells_in e) ∙ cells, sym (ap counts_in e) ∙ nil_from_length (counts_in o) m)
-
-pub bare_block : (bs : Branches) (b : Box Block Global) → bs.block ≡ Some b → AreBranches bs → below bs ≡ [] → IsBare b.value
-bare_block bs b e a n = bare_in bs.block b e a.packed (ap length n) (ap length a.counted ∙ length-map (below bs) (λ t. length t.slots) ∙ ap length n)
-
 pub list_at : (ts : List Subtree) (i : ℕ) → i < length ts → get_or (lists ts) i [] ≡ (get_or ts i unused).slots
 list_at ts i lt = get_or-map (λ t. t.slots) ts i unused [] lt
 

@@ -72,20 +72,6 @@ module _ (ls : List (List ℕ)) (ss : List ℕ) (at i rest : ℕ) (branch_at : I
       ∙ (w ∙ (ap (λ l. before ++ l) (sym (append_assoc lower (middle ∷ upper) after))
       ∙ (ap (λ l. before ++ (l ++ after)) (sym h) ∙ sym (inserted slot))))
 
-  -- the list with another slot at the position
-  pub branch_renamed : (new : List ℕ) (slot : ℕ) → rest < length (get_or ls i []) → new ≡ set (get_or ls i []) rest slot → in_order (set ls i new) ss ≡ set (in_order ls ss) at slot
-  branch_renamed new slot lt h =
-      let n = length-set ls i new in
-      let c = in_order_cut (set ls i new) ss i (omega (arith, branch_at.branch)) (n ∙ e) in
-      let b = length-before in
-      let k : at - length before ≡ rest = omega (arith, branch_at.sum) in
-      let r : set (in_order ls ss) at slot ≡ before ++ (set (get_or ls i []) rest slot ++ after) =
-      ap (λ l. set l at slot) (in_order_cut ls ss i branch_at.branch e)
-      ∙ (set-append_right before (get_or ls i [] ++ after) (length before) at slot refl (omega (arith, branch_at.sum))
-      ∙ (ap (λ j. before ++ set (get_or ls i [] ++ after) j slot) k
-      ∙ ap (λ l. before ++ l) (set-append_left (get_or ls i []) after rest slot lt))) in
-      c ∙ (rw (take-set ls i new, get_or-set_same ls i new [] branch_at.branch, drop-set-lt (suc i) ls i new (omega arith), h) (sym r))
-
   pub own_renamed : (slot : ℕ) → rest ≡ length (get_or ls i []) → i < length ss → in_order ls (set ss i slot) ≡ set (in_order ls ss) at slot
   own_renamed slot r lt =
       let m = length-set ss i slot in

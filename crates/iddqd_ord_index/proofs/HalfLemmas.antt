@@ -51,9 +51,6 @@ module _ (ts us : List Subtree) (ss : List ℕ) (i middle : ℕ) (u : Subtree) (
   pub more_forked : IsForked us (insert ss i middle)
   more_forked = forked_of (levels ts) us (insert ss i middle) more_all more_length
 
-  pub more_levels : levels us ≡ levels ts
-  more_levels = levels_of (levels ts) us (omega (arith, more_length)) more_all
-
   pub more_lists : lists us ≡ insert (lists ts) (i + 1) u.slots
   more_lists = ap lists e ∙ map-insert (λ t. t.slots) ts (i + 1) u
 

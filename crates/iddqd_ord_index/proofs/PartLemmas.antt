@@ -154,25 +154,6 @@ module _ (ts : List Subtree) (ss : List ℕ) (i : ℕ) (f : IsForked ts ss) (e :
 
 -- what is left to remove, when a part of it is gone
 module _ (at most count : ℕ) (old new : List ℕ) (p : LosesPart at most count old new) where
-  abbrev rest : ℕ
-  rest = at + most - (length p.front + length p.part)
-
-  front_kept : take at new ≡ take at old
-  front_kept =
-      ap (take at) p.new_is ∙ (take-append-le at p.front p.back p.from
-      ∙ (sym (take-append-le at p.front (p.part ++ p.back) p.from) ∙ ap (take at) (sym p.old_is)))
-
-  back_kept : drop (at + (most - count)) new ≡ drop (at + most) old
-  back_kept =
-      let a : at + (most - count) ≡ length p.front + rest = omega (arith, p.from, p.to, p.number) in
-      let b : at + most ≡ length p.front + (length p.part + rest) = omega (arith, p.to) in
-      ap (λ n. drop n new) a ∙ (ap (drop (length p.front + rest)) p.new_is ∙ (drop-append-add p.front p.back rest
-      ∙ (sym (drop-append-add p.part p.back rest) ∙ (sym (drop-append-add p.front (p.part ++ p.back) (length p.part + rest))
-      ∙ (ap (λ n. drop n (p.front ++ (p.part ++ p.back))) (sym b) ∙ ap (drop (at + most)) (sym p.old_is))))))
-
-  pub rest_alike : take at new ++ drop (at + (most - count)) new ≡ take at old ++ drop (at + most) old
-  rest_alike = ap (λ l. l ++ drop (at + (most - count)) new) front_kept ∙ ap (λ l. take at old ++ l) back_kept
-
   pub part_within : count ≤ most
   part_within = omega (arith, p.from, p.to, p.number)
 

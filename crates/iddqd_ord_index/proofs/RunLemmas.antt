@@ -12,9 +12,6 @@ module _ (xs old new : List ℕ) (at slot : ℕ) (within : at < length xs) (here
   whole : get_or xs at 0 ∷ drop (at + 1) xs ≡ slot ∷ (new ++ here.0)
   whole = sym (drop_more xs at 0 within) ∙ (here.1 ∙ ap (λ l. l ++ here.0) more)
 
-  pub next_is : slot ≡ get_or xs at 0
-  next_is = sym (ap (λ l. get_or l 0 0) whole)
-
   pub next_begins : BeginsWith new (drop (at + 1) xs)
   next_begins = (here.0, ap (λ l. drop 1 l) whole)
 

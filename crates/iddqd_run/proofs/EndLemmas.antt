@@ -58,11 +58,6 @@ module _ (kind : Kind) where
   plainly request old new reply none answers = answers
 
   module _ (items : List Entry) where
-    pub first_unsupported : kind ≡ Hash → AnswersRequest kind First items Unsupported items
-    first_unsupported e = λ entries shows. record { text = sym (without_ends _ _ e); after = shows }
-
-    pub last_unsupported : kind ≡ Hash → AnswersRequest kind Last items Unsupported items
-    last_unsupported e = λ entries shows. record { text = sym (without_ends _ _ e); after = shows }
 
     module _ (new : List Entry) (stays : new ≡ items) (e : kind ≡ Hash) where
       stay_shown : (entries left : List answer.Entry) → ShowsEntries items entries → ShowsEntries new (by_ends kind entries left)
@@ -116,9 +111,3 @@ lists_items items sorted before after same ascending written = record {
       ap (λ n. codes "list " ++ decimal n ++ list_text (entries_of sorted)) (sym (ap length entries_is ∙ length-map sorted entry_of))
       ∙ ap (λ es. codes "list " ++ decimal (length entries) ++ list_text es) (sym entries_is);
 }
-
--- one entry more of a list
-pub list_on : (before : List ℕ) (entry : answer.Entry) (rest : List answer.Entry) → (before ++ list_text (entry ∷ [])) ++ list_text rest ≡ before ++ list_text (entry ∷ rest)
-list_on before entry rest =
-    append_assoc before (list_text (entry ∷ [])) (list_text rest)
-    ∙ ap (λ bytes. before ++ (bytes ++ list_text rest)) (append-nil (codes " " ++ name_of entry ++ codes "=" ++ decimal entry.1))

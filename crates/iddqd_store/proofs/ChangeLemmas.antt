@@ -8,7 +8,7 @@
 --     found_passes      what is found passes the test
 --     same_text, text_apart, text_beside, text_differs      a text equals itself, and a key of one text is not another
 --     length_inserted, length_replaced, length_removed      how many items there are then
---     sum_inserted, sum_removed, sum_taken, sum_retained, sum_put_over      the sum of a weight then
+--     sum_inserted, sum_removed, sum_taken, sum_retained      the sum of a weight then
 --     found_in_sum      the sum is no less than the weight of an item that is found
 --     key_apart, key_beside      by the laws of `Eq`: a key equal to one is not equal to another
 --     kept_in_place      what `retain_mut` leaves, if the visitor stays as it is
@@ -256,20 +256,6 @@ module _ {T : Type 0} (f : T → ℕ) (p : T → Bool) where
       by : (b : Bool) → length (cond (not b) (x ∷ filter (λ y. not (p y)) xs) (filter (λ y. not (p y)) xs)) ≡ length (x ∷ xs) → length (filter (λ y. not (p y)) xs) ≤ length xs → (length (filter (λ y. not (p y)) xs) ≡ length xs → filter (λ y. not (p y)) xs ≡ xs) → cond (not b) (x ∷ filter (λ y. not (p y)) xs) (filter (λ y. not (p y)) xs) ≡ x ∷ xs
       by true same short rest = absurd (omega arith)
       by false same short rest = ap (λ ys. x ∷ ys) (rest (omega arith))
-
-  one_gone : (xs : List T) (y : T) → find p xs ≡ Some y → length (filter (λ x. not (p x)) xs) + 1 ≡ length xs → sum_by f (filter (λ x. not (p x)) xs) + f y ≡ sum_by f xs
-  one_gone [] y found fewer = absurd (true≢false (sym (ap is_some found)))
-  one_gone (x ∷ xs) y found fewer = by (p x) found fewer (none_gone xs) (one_gone xs y)
-    where
-      by : (b : Bool) → cond b (Some x) (find p xs) ≡ Some y → length (cond (not b) (x ∷ filter (λ z. not (p z)) xs) (filter (λ z. not (p z)) xs)) + 1 ≡ length (x ∷ xs) → (length (filter (λ z. not (p z)) xs) ≡ length xs → filter (λ z. not (p z)) xs ≡ xs) → (find p xs ≡ Some y → length (filter (λ z. not (p z)) xs) + 1 ≡ length xs → sum_by f (filter (λ z. not (p z)) xs) + f y ≡ sum_by f xs) → sum_by f (cond (not b) (x ∷ filter (λ z. not (p z)) xs) (filter (λ z. not (p z)) xs)) + f y ≡ sum_by f (x ∷ xs)
-      by true found fewer whole rest = let same : x ≡ y = cc in let all = whole (omega arith) in grind (arith, same, all, sum_by-cons f)
-      by false found fewer whole rest = let behind = rest found (omega arith) in grind (arith, behind, sum_by-cons f)
-
-  pub sum_put_over : (old new : List T) (x : T) (back : Option T) → back ≡ find p old → AddsItem x (filter (λ y. not (p y)) old) new → OnSome back (length new ≡ length old) → sum_by f new + unwrap_or (option_map f back) 0 ≡ sum_by f old + f x
-  sum_put_over old new x None found adds as_many = let same = ap (sum_by f) (all_stay p old (sym found)) in omega (arith, sum_inserted f (filter (λ y. not (p y)) old) new x adds)
-  sum_put_over old new x (Some y) found adds as_many =
-      let longer = length_inserted (filter (λ y. not (p y)) old) new x adds in
-      omega (arith, sum_inserted f (filter (λ y. not (p y)) old) new x adds, one_gone old y (sym found) (omega arith))
 
 -- each visit leaves the visitor as it is, writes so, and keeps what passes the test
 pub kept_in_place : {V T : Type 0} (visits : V → T → V × T × Bool) (v : V) (writes : T → T) (keeps : T → Bool) → ((x : T) → visits v x ≡ (v, writes x, keeps x)) → (items : List T) → kept_by visits v items ≡ map writes (filter keeps items)

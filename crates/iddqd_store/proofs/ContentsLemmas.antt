@@ -83,10 +83,3 @@ module _ {T K : Type 0} (key : T → K) {eq : K → K → Bool} (equivalence : I
     here = at;
     elsewhere = λ j d k n. tests (key (get_or items i d)) (key (get_or items j d)) (at d) ∙ differs i j d h k n;
   }
-
-  -- at most one item is found
-  pub one_place : (i j : ℕ) → i < length items → j < length items → ((d : T) → test (key (get_or items i d)) ≡ true) → ((d : T) → test (key (get_or items j d)) ≡ true) → T → i ≡ j
-  one_place i j h k at there d = ⊎_elim
-      (λ e. e)
-      (λ n. absurd (true≢false (sym (there d) ∙ (only_place i h at).elsewhere j d k (λ e. n (sym e)))))
-      (cases_eq i j)

@@ -1,6 +1,6 @@
 -- Different elements stay different where one is put in, taken out or replaced.
 --     absent_apart      a number that is not in a list differs from each there
---     distinct_insert, distinct_remove, distinct_set, distinct_front      ... where the element put in differs from each
+--     distinct_insert, distinct_remove, distinct_set      ... where the element put in differs from each
 --     distinct_alike      ... where it is equal to the one that it replaces
 use Rattle.std.proofs.Common.{◌≡◌, ℕ, zero, suc, Bool, true, false, List, [], ◌∷◌, ◌++◌, set, sym, ◌∙◌, arith, suc-le-suc, nat_eq}
 use Rattle.std.proofs.lemmas.Bool.{ne_eqb}
@@ -33,10 +33,6 @@ module _ {X : Type 0} (P : X → Type 0) where
   all_set (y ∷ ys) zero x p all = (p, all.1)
   all_set (y ∷ ys) (suc i) x p all = (all.0, all_set ys i x p all.1)
 
-  all_front : (xs ys : List X) → AllByRecursion P (xs ++ ys) → AllByRecursion P xs
-  all_front [] ys all = tt
-  all_front (x ∷ xs) ys all = (all.0, all_front xs ys all.1)
-
 module _ {K : Type 0} (eq : K → K → Bool) where
   pub distinct_remove : (xs : List K) (i : ℕ) → IsDistinct eq xs → IsDistinct eq (remove xs i)
   unfolding IsDistinct
@@ -44,11 +40,6 @@ module _ {K : Type 0} (eq : K → K → Bool) where
   distinct_remove [] (suc i) d = tt
   distinct_remove (y ∷ ys) zero d = d.1
   distinct_remove (y ∷ ys) (suc i) d = (all_remove (λ z. eq y z ≡ false) ys i d.0, distinct_remove ys i d.1)
-
-  pub distinct_front : (xs ys : List K) → IsDistinct eq (xs ++ ys) → IsDistinct eq xs
-  unfolding IsDistinct
-  distinct_front [] ys d = tt
-  distinct_front (x ∷ xs) ys d = (all_front (λ z. eq x z ≡ false) xs ys d.0, distinct_front xs ys d.1)
 
   -- one more that differs from each, and one in the place of another
   module _ (flips : (x y : K) → eq x y ≡ eq y x) (x : K) where

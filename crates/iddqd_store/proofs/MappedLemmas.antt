@@ -37,11 +37,6 @@ module _ {T U K : Type 0} (shown : T → U) (key : U → K) where
   pub without-map : (test : K → Bool) (xs : List T) → map shown (items_without (λ x. key (shown x)) test xs) ≡ items_without key test (map shown xs)
   without-map test xs = sym (filter-map (λ y. not (test (key y))) xs)
 
-  pub placed-map : (cmp : K → K → Ordering) (x : T) (xs : List T) → map shown (items_with (λ y. key (shown y)) cmp x xs) ≡ items_with key cmp (shown x) (map shown xs)
-  placed-map cmp x xs =
-      map-append shown (filter (λ y. is_lt (cmp (key (shown y)) (key (shown x)))) xs) (x ∷ filter (λ y. is_lt (cmp (key (shown x)) (key (shown y)))) xs)
-      ∙ sym (rw (filter-map (λ y. is_lt (cmp (key y) (key (shown x)))) xs) (rw (filter-map (λ y. is_lt (cmp (key (shown x)) (key y))) xs) refl))
-
   pub replaced-map : (test : K → Bool) (y : T) (xs : List T) → map shown (items_overwritten (λ x. key (shown x)) test y xs) ≡ items_overwritten key test (shown y) (map shown xs)
   replaced-map test y [] = refl
   replaced-map test y (x ∷ xs) =

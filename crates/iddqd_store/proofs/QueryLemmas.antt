@@ -2,7 +2,7 @@
 --     OrderedQuery eq cmp test compare      the laws of a query and of its keys' order, as one fact
 --     own_query      a key is a query for itself
 --     only_at, none_at      the item at the place found is the only one that the query is equivalent to; where the query belongs, there is none
---     find_there, place_there, without_there, replaced_there, find_nowhere, without_nowhere, replaced_nowhere      what the search, the removal and the replacement give
+--     place_there, without_there, replaced_there, find_nowhere, without_nowhere, replaced_nowhere      what the search, the removal and the replacement give
 --     above_there, above_nowhere      where the first item stands whose key is above the query
 use Rattle.std.proofs.Common.{◌≡◌, ℕ, ◌+◌, ◌<◌, ◌≤◌, ⊎_elim, Bool, false, List, length, map, get_or, set, Some, None, IsTrue, sym, ap, ◌∙◌, arith, Ordering, Less, Equal, Greater, refl, below_more}
 use Rattle.std.proofs.lemmas.Bool.{cases_lt}
@@ -45,9 +45,6 @@ module _ {T K : Type 0} (key : T → K) {eq : K → K → Bool} {cmp : K → K �
 
   pub place_there : (i : ℕ) → i < length (map key items) → HoldsAt (λ k. compare k ≡ Equal) (map key items) i → find_item key test items ≡ slice_get items i
   place_there i h at = find_at (λ y. test (key y)) items i (only_at i h at)
-
-  pub find_there : (i : ℕ) (x : T) → i < length (map key items) → HoldsAt (λ k. compare k ≡ Equal) (map key items) i → x ≡ get_or items i x → Some x ≡ find_item key test items
-  find_there i x h at e = sym (place_there i h at ∙ slice_get_read items (length items) i x refl (omega (arith, length-map items key)) e)
 
   pub without_there : (i : ℕ) → i < length (map key items) → HoldsAt (λ k. compare k ≡ Equal) (map key items) i → remove items i ≡ items_without key test items
   without_there i h at = sym (filter_at (λ y. test (key y)) items i (only_at i h at))

@@ -63,14 +63,6 @@ by_named_rest ask name rest named = by (words_of rest) refl
     by (value ∷ []) is = rw named (ap (λ w. option_map_or (ask name) (value_of w) Bad) (words_one rest value is))
     by (value ∷ more ∷ ws) is = ap (λ v. option_map_or (ask name) v Bad) (no_value rest (λ n s. let one : rest ∷ [] ≡ value ∷ more ∷ ws = sym (spelled_whole rest n s) ∙ is in cc))
 
-pub by_unnamed_rest : (ask : List ℕ → ℕ → Request) (name rest : List ℕ) → is_name name ≡ false → by_name_and_value ask (name ∷ words_of rest) ≡ Bad
-by_unnamed_rest ask name rest unnamed = by (words_of rest)
-  where
-    by : (ws : List (List ℕ)) → by_name_and_value ask (name ∷ ws) ≡ Bad
-    by [] = refl
-    by (value ∷ []) = rw unnamed refl
-    by (value ∷ more ∷ ws) = refl
-
 -- a text that is to be pairs
 pub by_pairs_whole : (text : List ℕ) → by_pairs (words_of text) ≡ paired_request (pairs_of (words_of text))
 by_pairs_whole text = by (words_of text) refl

@@ -10,12 +10,6 @@ use Rattle.std.proofs.lemmas.Bool.{le-leb}
 use Rattle.std.proofs.lemmas.Bool.Decides.{nat_tests}
 use Rattle.idtable_lines.specs.Lines.{is_name, is_name_byte}
 
-pub is_name-short : (word : List ℕ) → 0 < length word → length word ≤ 32 → is_name word ≡ list_all is_name_byte word
-is_name-short word some short =
-    let nonempty : nat_lt 0 (length word) ≡ true = search (rules, some) in
-    let fits : nat_le (length word) 32 ≡ true = le-leb (length word) 32 short in
-    ap (λ b. b && list_all is_name_byte word) (both_true nonempty fits)
-
 ascii_byte : (byte : ℕ) → is_name_byte byte ≡ true → byte < 128
 ascii_byte byte e = grind (arith, nat_tests)
 
