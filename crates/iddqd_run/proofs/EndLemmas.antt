@@ -58,7 +58,6 @@ module _ (kind : Kind) where
   plainly request old new reply none answers = answers
 
   module _ (items : List Entry) where
-
     module _ (new : List Entry) (stays : new ≡ items) (e : kind ≡ Hash) where
       stay_shown : (entries left : List answer.Entry) → ShowsEntries items entries → ShowsEntries new (by_ends kind entries left)
       stay_shown entries left shows = subst (ShowsEntries new) (sym (without_ends entries left e)) (subst (λ is. ShowsEntries is entries) (sym stays) shows)

@@ -11,7 +11,7 @@ use iddqd_store::{Few, Refused};
 use std::hash::BuildHasher;
 
 // One or two values, or none.
-fn few_of<T>(one: Option<T>, other: Option<T>) -> Option<Few<T>>
+fn few_from_options<T>(one: Option<T>, other: Option<T>) -> Option<Few<T>>
     ensures { values_if_any result ≡ as_list one ++ as_list other }
 {
     match (one, other) {
@@ -79,6 +79,6 @@ impl<T: BiHashItem, S: BuildHasher> BiHashMap<T, S> {
     {
         let one = self.remove_hashed1(hash1, item.key1());
         let other = self.remove_hashed2(hash2, item.key2());
-        few_of(one, other)
+        few_from_options(one, other)
     }
 }

@@ -97,7 +97,7 @@ impl<T> IdOrdMap<T> {
     }
 
     // Returns the items from one position on up to another. There are none if the second is not behind the first.
-    pub(super) fn part(&self, low: usize, high: usize) -> Iter<'_, T>
+    pub(super) fn iter_between(&self, low: usize, high: usize) -> Iter<'_, T>
         requires low_in_list { low ≤ length self.now.items }
         requires high_in_list { high ≤ length self.now.items }
         ensures items { result ≡ drop low (take high self.now.items) }

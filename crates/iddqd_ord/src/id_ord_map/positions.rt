@@ -35,7 +35,7 @@ impl<T> IdOrdMap<T> {
     {
         let high = end_position(range.end_bound(), self.len());
         let low = start_position(range.start_bound(), high);
-        self.part(low, high)
+        self.iter_between(low, high)
     }
 }
 

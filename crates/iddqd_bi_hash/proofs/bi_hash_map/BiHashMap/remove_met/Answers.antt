@@ -24,7 +24,7 @@ returns-clause-displaced g c =
     let eq1 = g.T.K1.PartialEq.eq in
     let eq2 = g.T.K2.PartialEq.eq in
     let old = c.args.self.now in
-    c.few_of.ensures
+    c.few_from_options.ensures
     ∙ ap (λ o. as_list o ++ as_list c.remove_hashed2-other.result) (c.remove_hashed1-one.ensures.value ∙ ap (λ k. find_item key1 (eq1 k) old.items) c.key1.ensures)
     ∙ ap (λ o. as_list (find_item key1 (eq1 (key1 c.args.item.now)) old.items) ++ as_list o)
     (c.remove_hashed2-other.ensures.value ∙ ap (λ k. find_item key2 (eq2 k) c.remove_hashed1-one.new.self.items) c.key2.ensures
@@ -44,7 +44,7 @@ returns-clause-items g c =
 
 pub returns-clause-unchanged : goal.returns-clause-unchanged
 returns-clause-unchanged g c =
-    at_none c.few_of.result c.remove_hashed1-one.result c.remove_hashed2-other.result c.few_of.ensures
+    at_none c.few_from_options.result c.remove_hashed1-one.result c.remove_hashed2-other.result c.few_from_options.ensures
     (λ e f. if_none c.remove_hashed2-other.result f c.remove_hashed2-other.ensures.unchanged ∙ if_none c.remove_hashed1-one.result e c.remove_hashed1-one.ensures.unchanged)
 
 pub returns-clause-room : goal.returns-clause-room
@@ -55,7 +55,7 @@ returns-clause-room g c =
     let second = c.remove_hashed2-other.ensures in
     let p = λ (y : g.row.T.Denot). g.T.K1.PartialEq.eq c.key1.result.now (g.T.BiHashItem.key1 y) in
     let q = λ (y : g.row.T.Denot). g.T.K2.PartialEq.eq c.key2.result.now (g.T.BiHashItem.key2 y) in
-    at_some c.few_of.result c.remove_hashed1-one.result c.remove_hashed2-other.result c.few_of.ensures
+    at_some c.few_from_options.result c.remove_hashed1-one.result c.remove_hashed2-other.result c.few_from_options.ensures
     (λ some. omega (arith, one_less p old.items (ap is_some (sym first.value) ∙ some), ap length first.items, never_more q mid.items, ap length second.items, first.stays.spare.never_less, second.stays.spare.never_less))
     (λ some. omega (arith, never_more p old.items, ap length first.items, one_less q mid.items (ap is_some (sym second.value) ∙ some), ap length second.items, first.stays.spare.never_less, second.stays.spare.never_less))
 
@@ -66,7 +66,7 @@ returns-clause-vacant g c =
     let new = c.remove_hashed2-other.new.self in
     let first = as_many old.vacant mid.vacant c.remove_hashed1-one.result c.remove_hashed1-one.ensures.removed.vacant (weaker_none c.remove_hashed1-one.result (λ e. ap (λ v. v.vacant) e) c.remove_hashed1-one.ensures.unchanged) in
     let second = as_many mid.vacant new.vacant c.remove_hashed2-other.result c.remove_hashed2-other.ensures.removed.vacant (weaker_none c.remove_hashed2-other.result (λ e. ap (λ v. v.vacant) e) c.remove_hashed2-other.ensures.unchanged) in
-    as_vacant old.vacant new.vacant c.few_of.result c.remove_hashed1-one.result c.remove_hashed2-other.result c.few_of.ensures (omega (arith, first, second))
+    as_vacant old.vacant new.vacant c.few_from_options.result c.remove_hashed1-one.result c.remove_hashed2-other.result c.few_from_options.ensures (omega (arith, first, second))
 
 pub returns-clause-stays : goal.returns-clause-stays
 returns-clause-stays g c = stays_on _ c.args.self.now c.remove_hashed1-one.new.self c.remove_hashed2-other.new.self c.remove_hashed1-one.ensures.stays c.remove_hashed2-other.ensures.stays

@@ -9,7 +9,7 @@ returns-clause-items g c has =
     let items = c.args.self.now.items in
     let start = bound_now c.start_bound.result in
     let end = bound_now c.end_bound.result in
-    c.part.ensures.items
+    c.iter_between.ensures.items
     ∙ (part_within items (start_index start) (end_index end (length items)) c.start_position-low.result c.end_position-high.result c.start_position-low.ensures (rw c.len.ensures.len at c.end_position-high.ensures)
     ∙ (ap (λ xs. drop (start_index start) xs) (take_to items end)
     ∙ (ap (λ b. items_at b end items) (c.start_bound.ensures has)

@@ -5,7 +5,7 @@ use Rattle.iddqd_ord_index.specs.Listed.{listed_items, AreOccupied}
 use Rattle.iddqd_store.specs.Store.{item_at}
 use Rattle.iddqd_ord.proofs.RangeLemmas.{part_up_to, sum-part}
 use Rattle.iddqd_ord.proofs.StoreAndIndexLemmas.{have_slots}
-use Rattle.iddqd_ord.proofs.id_ord_map.IdOrdMap.part.Goals as goal
+use Rattle.iddqd_ord.proofs.id_ord_map.IdOrdMap.iter_between.Goals as goal
 
 pub place-from-requires : goal.place-from-requires
 place-from-requires g c =
