@@ -1,8 +1,8 @@
 -- The branches of a node, by the cells and the counts that hold them.
 use Rattle.std.proofs.Common.{◌≡◌, ℕ, ◌+◌, ◌<◌, List, [], length, map, take, drop, set, get_or, ap, sym, ◌∙◌, subst, refl, arith, IsSome, Option, Some, None, Box, Global}
-use Rattle.std.proofs.lemmas.List.{get_or-map, get_or_default, length-map, map-set, nil_from_length}
-use Rattle.iddqd_ord_index.specs.Cells.{items_present, cells_of, IsPacked}
-use Rattle.iddqd_ord_index.specs.Nodes.{below, subtrees, AreBranches, AreCounted, cells_in, counts_in, counts_of, nodes_of, HasBlock, IsBare}
+use Rattle.std.proofs.lemmas.List.{get_or-map, get_or_default, length-map, map-set}
+use Rattle.iddqd_ord_index.specs.Cells.{items_present, IsPacked}
+use Rattle.iddqd_ord_index.specs.Nodes.{below, subtrees, AreBranches, AreCounted, cells_in, counts_of, nodes_of, HasBlock}
 use Rattle.iddqd_ord_index.specs.Shape.{Subtree, lists, starts, unused}
 use Rattle.iddqd_ord_index.specs.declared.tree.node.Block.{Block}
 use Rattle.iddqd_ord_index.specs.declared.tree.node.Branches.{Branches}

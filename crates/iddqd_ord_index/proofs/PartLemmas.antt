@@ -1,9 +1,9 @@
 -- A part that leaves a list: slots of a leaf, or a branch with the own slot before it.
 use Rattle.std.proofs.Common.{◌≡◌, ℕ, zero, suc, ◌+◌, ◌-◌, ◌<◌, ◌≤◌, List, [], ◌∷◌, ◌++◌, length, take, drop, set, get_or, refl, ap, sym, ◌∙◌, inl, inr, subst, arith, append_assoc, length-append, length-drop, length-set}
 use Rattle.std.specs.List.{copy_within, remove, All}
-use Rattle.std.proofs.Math.Seq.{drop-append-add, drop-nil}
+use Rattle.std.proofs.Math.Seq.{drop-nil}
 use Rattle.std.proofs.lemmas.Bool.{cases_lt}
-use Rattle.std.proofs.lemmas.List.{drop-drop, drop-set-lt, drop-take, get_or-set_same, length-take-le, nil_from_length, take-append-drop, take-append-le, take-set, take-take, take_at, take_more_set, drop_at, set_at}
+use Rattle.std.proofs.lemmas.List.{drop-drop, drop-set-lt, drop-take, get_or-set_same, length-take-le, nil_from_length, take-append-drop, take-set, take-take, take_at, take_more_set, drop_at, set_at}
 use Rattle.std.proofs.lemmas.List.Edits.{length-remove, take-paste}
 use Rattle.std.proofs.lemmas.List.Elements.{All-append, All-drop, All-take}
 use Rattle.std.proofs.lemmas.Slice.{take-put_mid, drop-put_mid}

@@ -22,7 +22,7 @@ use Rattle.std.proofs.lemmas.Slice.Eq.{bytes_eq-Decides}
 use Rattle.std.specs.Cmp.{IsEquivalence}
 use Rattle.std.specs.Cmp.Lexicographic.{nat_list_eq_equiv, pointwise}
 use Rattle.std.specs.List.{insert, items_where_true, remove, slice_get, sum_by}
-use Rattle.std.specs.Option.{OnSome, option_map, unwrap_or}
+use Rattle.std.specs.Option.{option_map, unwrap_or}
 use Rattle.std.specs.Str.{bytes_eq}
 use Rattle.iddqd_store.specs.Contents.{AddsItem, IsKeyTest, NoTwoAkin, find_item, items_overwritten, items_without}
 use Rattle.iddqd_store.specs.Holding.{Holding, LeavesSlot, LosesPlace, Removes}

@@ -3,9 +3,9 @@
 --     find_at, filter_at, map_at      what the search, the removal and the replacement give there
 --     find_none, filter_none, map_none      the same where none passes
 --     only_place      where the keys differ, the test of a query passes at one place at most
-use Rattle.std.proofs.Common.{◌≡◌, ℕ, zero, suc, ◌<◌, ◌≢◌, ⊎_elim, Bool, true, false, cond, not, List, [], ◌∷◌, length, map, get_or, set, suc-le-suc, None, refl, sym, ap, ◌∙◌, arith, true≢false, filter, find}
+use Rattle.std.proofs.Common.{◌≡◌, ℕ, zero, suc, ◌<◌, ◌≢◌, ⊎_elim, Bool, true, false, cond, not, List, [], ◌∷◌, length, map, get_or, set, suc-le-suc, None, refl, ap, ◌∙◌, arith, filter, find}
 use Rattle.std.proofs.Math.Nat.{le_of_suc-le-suc}
-use Rattle.std.proofs.lemmas.Bool.{cases_lt, cases_eq}
+use Rattle.std.proofs.lemmas.Bool.{cases_lt}
 use Rattle.std.proofs.lemmas.List.{get_or-map, length-map}
 use Rattle.std.proofs.lemmas.Map.Keys.{apart_from_distinct}
 use Rattle.std.specs.Cmp.{IsEquivalence}

@@ -2,7 +2,7 @@
 --     absent_apart      a number that is not in a list differs from each there
 --     distinct_insert, distinct_remove, distinct_set      ... where the element put in differs from each
 --     distinct_alike      ... where it is equal to the one that it replaces
-use Rattle.std.proofs.Common.{◌≡◌, ℕ, zero, suc, Bool, true, false, List, [], ◌∷◌, ◌++◌, set, sym, ◌∙◌, arith, suc-le-suc, nat_eq}
+use Rattle.std.proofs.Common.{◌≡◌, ℕ, zero, suc, Bool, true, false, List, [], ◌∷◌, set, sym, ◌∙◌, arith, suc-le-suc, nat_eq}
 use Rattle.std.proofs.lemmas.Bool.{ne_eqb}
 use Rattle.std.specs.Cmp.{IsEquivalence}
 use Rattle.std.specs.List.{AllByRecursion, Contains, HoldsAt, IsDistinct, insert, remove}

@@ -1,10 +1,8 @@
 -- Search, removal and placing of what a function shows of each item.
-use Rattle.std.proofs.Common.{◌≡◌, ℕ, zero, suc, Bool, true, false, cond, not, List, [], ◌∷◌, map, filter, Some, sym, refl, ap, ◌∙◌, Ordering}
-use Rattle.std.proofs.lemmas.List.{map-append}
+use Rattle.std.proofs.Common.{◌≡◌, ℕ, zero, suc, Bool, true, false, cond, not, List, [], ◌∷◌, map, filter, Some, sym, refl, ap, ◌∙◌}
 use Rattle.std.specs.List.{insert, remove}
 use Rattle.std.specs.Option.{option_map}
-use Rattle.std.specs.Ordering.{is_lt}
-use Rattle.iddqd_store.specs.Contents.{find_item, items_without, items_overwritten, items_with}
+use Rattle.iddqd_store.specs.Contents.{find_item, items_without, items_overwritten}
 
 choose : {A B : Type 0} (f : A → B) (b : Bool) (x y : A) → cond b (f x) (f y) ≡ f (cond b x y)
 choose f true x y = refl

@@ -4,10 +4,9 @@
 --     only_at, none_at      the item at the place found is the only one that the query is equivalent to; where the query belongs, there is none
 --     place_there, without_there, replaced_there, find_nowhere, without_nowhere, replaced_nowhere      what the search, the removal and the replacement give
 --     above_there, above_nowhere      where the first item stands whose key is above the query
-use Rattle.std.proofs.Common.{◌≡◌, ℕ, ◌+◌, ◌<◌, ◌≤◌, ⊎_elim, Bool, false, List, length, map, get_or, set, Some, None, IsTrue, sym, ap, ◌∙◌, arith, Ordering, Less, Equal, Greater, refl, below_more}
+use Rattle.std.proofs.Common.{◌≡◌, ℕ, ◌+◌, ◌<◌, ◌≤◌, ⊎_elim, Bool, false, List, length, map, get_or, set, None, IsTrue, sym, ap, ◌∙◌, arith, Ordering, Less, Equal, Greater, below_more}
 use Rattle.std.proofs.lemmas.Bool.{cases_lt}
 use Rattle.std.proofs.lemmas.List.{get_or-map, length-map}
-use Rattle.std.proofs.lemmas.Option.{slice_get_read}
 use Rattle.std.specs.Cmp.{IsEquivalence, IsTotalOrder}
 use Rattle.std.specs.List.{AllWithin, HoldsAt, remove, slice_get}
 use Rattle.std.specs.Ordering.{is_eq, is_lt, is_le, is_ge}

@@ -1,6 +1,5 @@
 -- What the kind of a refusal says of the items.
-use Rattle.std.proofs.Common.{◌≡◌, ℕ, Bool, true, false, cond, eqb, List, length, refl, ap}
-use Rattle.std.proofs.lemmas.Bool.{eqb-true}
+use Rattle.std.proofs.Common.{◌≡◌, ℕ, cond, eqb, List, length, ap}
 use Rattle.iddqd_store.specs.Refusal.{limit_refused, memory_refused, refusal_kind}
 
 -- the kind of a refusal is told by the number of items

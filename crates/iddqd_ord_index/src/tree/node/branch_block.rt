@@ -84,7 +84,8 @@ impl Branches {
         }
     }
 
-    // The same for writing.
+    // The same for writing. It lends the block and not a branch, since no clause can be shown of a `&mut` to an item in a
+    // slice's cell.
     #[inline]
     pub(super) fn block_mut(&mut self) -> &mut Block
         requires { HasBlock self.old }
