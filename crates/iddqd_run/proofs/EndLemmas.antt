@@ -2,7 +2,7 @@
 --     unsupported_end, plain_end      `first` and `last`
 --     unsupported_pop, plain_pop      `popfirst` and `poplast`
 --     lists_items      `list`
-use Rattle.std.proofs.Common.{◌≡◌, ℕ, suc, ◌-◌, List, [], ◌∷◌, ◌++◌, length, drop, take, Option, sym, ap, ◌∙◌, subst, arith, append-nil, append_assoc, IsPermutation}
+use Rattle.std.proofs.Common.{◌≡◌, ℕ, suc, ◌-◌, List, ◌++◌, length, drop, take, Option, sym, ap, ◌∙◌, subst, arith, append-nil, IsPermutation}
 use Rattle.std.specs.Global.{Global}
 use Rattle.std.specs.Prelude.{String, codes, decimal}
 use Rattle.std.proofs.lemmas.List.{drop_all, length-map}
