@@ -15,7 +15,7 @@
 --     RefusesItem, ShowsConflict      what `insert_unique` and `extend_unique` show
 --     map_after_insertion, map_after_extension, lends_nothing      what the map is once the result of such a call is dropped
 --     HashReturnsItem      an item was refused room, and is returned
---     HaveEqualItems, FindsEqual, CloneHashesAlike      what `eq` returns, and what `clone` asks of the hasher
+--     CloneHashesAlike      what `clone` asks of the hasher
 --     lent_map, lent_slot, lent_item, guard_lender, lent_with      what a guard lends
 --     GuardFinds, GuardOverwrites, GuardKeeps, GuardKeepsAkin      what it lends, and what may be written through it
 --     shown_map, shown_item, shown_lender      what `into_ref` shows
@@ -30,7 +30,7 @@
 --     WalkKeeps, WalkKeepsAkin, walk_lends      what a step of such a walk leaves
 unfoldable pub use Rattle.iddqd_hash.specs.HashItems.{IsKeyed}
 pub use Rattle.iddqd_hash.specs.HashItems.{HashItems, HashesAsKeys, IsKeyedByText, IsKeyedByTextUnder, default_hash, differ_from_keyed, holding_of, of_same_hash, of_stored_hash, random_hash, text_writes}
-pub use Rattle.iddqd_hash.specs.HashMap.{CloneHashesAlike, Collects, CollectsUnique, Extends, FindsEqual, HasNoItems, HashFills, HashReturnsItem, HashInserts, HashKeeps, HashOverwrites, HashShrinks, HashStays, HaveEqualItems, IsCollected, IsEmptyMap, KeepsIfNoItem, KeepsSpare, LacksRoomFor, RefusesItem, Reserves, ShowsConflict, SpareFirst, SpareFits, Stops, map_after_extension, map_after_insertion, lends_nothing, map_overwritten}
+pub use Rattle.iddqd_hash.specs.HashMap.{CloneHashesAlike, Collects, CollectsUnique, Extends, HasNoItems, HashFills, HashReturnsItem, HashInserts, HashKeeps, HashOverwrites, HashShrinks, HashStays, IsCollected, IsEmptyMap, KeepsIfNoItem, KeepsSpare, LacksRoomFor, RefusesItem, Reserves, ShowsConflict, SpareFirst, SpareFits, Stops, map_after_extension, map_after_insertion, lends_nothing, map_overwritten}
 pub use Rattle.iddqd_hash.specs.Guard.{GuardFinds, GuardKeeps, GuardKeepsAkin, GuardOverwrites, guard_follows, item_follows, lends_item, lent_item, lent_map, guard_lender, lent_slot, lent_with, rests_at_none, shown_item, shown_map, shown_lender, with_item_in_slot}
 pub use Rattle.iddqd_hash.specs.declared.id_hash_map.entry.Entry.TheVariants.{Occupied, Vacant}
 pub use Rattle.iddqd_hash.specs.Entry.{EntersInserted, EntryKeeps, EntryKeepsAkin, EntryReturnsItem, HasKeyOf, IsEntryFor, IsEntryOf, LacksKeyOf, LacksKeysOf, LendsFound, LendsIfOccupied, LendsIfVacant, LendsInserted, LendsMade, VisitsEntry, PassesTest, RemovesAt, VisitKeepsKey, entry_follows, entry_item, entry_map, entry_lender, entry_others, entry_slot, entry_or_kept, entry_with, guard_or_kept, lent_or_kept, rests_if_refused}

@@ -7,8 +7,7 @@
 --     IsKeyedByTexts, IsKeyedByTextAndNumber, IsKeyedByNumberAndText      the same of such keys, with the default hasher
 --     IsKeyedByTextsUnder, IsKeyedByTextAndNumberUnder, IsKeyedByNumberAndTextUnder      ... with the hasher of this hash
 --     differ_by_key1, differ_by_key2      in a keyed map no two items have equal first keys, or equal second keys
-use Rattle.std.specs.Prelude.{ℕ, Bool, List, String, nat_eq, refl}
-use Rattle.std.specs.Coded.{Coded, code_by, coded×, coded_ℕ, coded_list}
+use Rattle.std.specs.Prelude.{ℕ, Bool, List, String, nat_eq}
 use Rattle.std.specs.Hash.{HashWrites}
 use Rattle.std.specs.String.{string_eq}
 use Rattle.std.specs.declared.alloc.Global.{Global}
@@ -32,16 +31,6 @@ pub record BiHashItems (S T : Type 0) : Type 0 where
   pub vacant : ℕ
   pub capacity : ℕ
   pub limit : ℕ
-
--- it is stored as the tuple of its fields
-abbrev pub bi_hash_items_code : {S T : Type 0} → Coded S → Coded T → Coded (BiHashItems S T)
-bi_hash_items_code {S} {T} hasher item =
-    code_by
-    (List T × (List ℕ × (List ℕ × (List ℕ × (S × (ℕ × (ℕ × (ℕ × ℕ))))))))
-    (coded× (coded_list item) (coded× (coded_list coded_ℕ) (coded× (coded_list coded_ℕ) (coded× (coded_list coded_ℕ) (coded× hasher (coded× coded_ℕ (coded× coded_ℕ (coded× coded_ℕ coded_ℕ))))))))
-    (λ m. (m.items, (m.slots, (m.hashes1, (m.hashes2, (m.hasher, (m.spare, (m.vacant, (m.capacity, m.limit)))))))))
-    (λ p. record { items = p.0; slots = p.1.0; hashes1 = p.1.1.0; hashes2 = p.1.1.1.0; hasher = p.1.1.1.1.0; spare = p.1.1.1.1.1.0; vacant = p.1.1.1.1.1.1.0; capacity = p.1.1.1.1.1.1.1.0; limit = p.1.1.1.1.1.1.1.1 })
-    (λ _. refl)
 
 module _ {S T : Type 0} where
   abbrev pub holding_of : BiHashItems S T → Holding T

@@ -25,11 +25,10 @@
 -- Many items:
 --     HasSpareFirst, SpareFirst, KeepsIfNoItem      what `extend` leaves if an item is refused, or room before any
 -- Copies:
---     HaveEqualItems, FindsEqual      what `eq` of two maps says
 --     CloneHashesAlike      a hasher's clone hashes as the hasher does
 -- After a loan:
 --     map_after_insertion      what the map is once the result of an insertion is dropped
-use Rattle.std.specs.Prelude.{◌≡◌, ℕ, ◌+◌, ◌≤◌, [], All, Bool, true, false, List, length, map, IfErr, IfNone, IfSome, IsPermutation, IsSome, IsSomeAnd, OnSome, Option, Result, Some}
+use Rattle.std.specs.Prelude.{◌≡◌, ℕ, ◌+◌, ◌≤◌, [], Bool, false, List, length, map, IfErr, IfNone, IfSome, IsPermutation, IsSome, OnSome, Option, Result, Some}
 use Rattle.std.specs.Prelude.{min as least}
 use Rattle.std.specs.Borrow.{Bor, Fml, RattleType, MutBor, LendsSoOk, unit}
 use Rattle.std.specs.Hash.{HashWrites}
@@ -224,16 +223,6 @@ module _ {S T K L : Type 0} (keys : both.Ghosts T K L) where
     pub there2 : find_item keys.key2 (keys.eq2 (keys.key2 x)) new.items ≡ Some x
     pub gone1 : LosesKey keys.key1 keys.eq1 x (find_item keys.key2 (keys.eq2 (keys.key2 x)) old.items) new.items
     pub gone2 : LosesKey keys.key2 keys.eq2 x (find_item keys.key1 (keys.eq1 (keys.key1 x)) old.items) new.items
-
-module _ {S T K : Type 0} (key : T → K) (key_eq : K → K → Bool) (eq : T → T → Bool) where
-  -- the item's key finds an item that is equal to it
-  abbrev pub FindsEqual : BiHashItems S T → T → Type 0
-  FindsEqual m x = IsSomeAnd (find_item key (key_eq (key x)) m.items) (λ y. eq x y ≡ true)
-
-  -- both have as many items, and each one's key finds an equal item in the other; no order plays a part
-  pub record HaveEqualItems (one other : BiHashItems S T) : Type 0 where
-    pub as_many : length one.items ≡ length other.items
-    pub each_found : All (FindsEqual other) one.items
 
 -- with a clone of its hasher the map hashes every value as it does (a premise of `clone`)
 abbrev pub CloneHashesAlike : {S T : Type 0} → (S → S → Type 0) → (BiHashItems S T → HashWrites → ℕ) → BiHashItems S T → Type 0

@@ -76,5 +76,4 @@ module _ {T K L : Type 0} (key1 : T → K) (key2 : T → L) where
     items_unmet items = filter (λ y. not (has_one_of_keys y)) items
 
     abbrev pub items_displaced : List T → List T
-    items_displaced items =
-        as_list (find_item key1 (eq1 (key1 x)) items) ++ as_list (find_item key2 (eq2 (key2 x)) (items_without key1 (eq1 (key1 x)) items))
+    items_displaced = items_found (eq1 (key1 x)) (eq2 (key2 x))

@@ -73,12 +73,10 @@ impl<T: Drop, S: Drop> Drop for BiHashMap<T, S> {
 }
 
 impl<T, S> Model for BiHashMap<T, S> {
-    ghost use Rattle.iddqd_bi_hash.specs.BiHashItems.{BiHashItems, bi_hash_items_code};
+    ghost use Rattle.iddqd_bi_hash.specs.BiHashItems.{BiHashItems};
     ghost use Rattle.iddqd_bi_hash.specs.StoreAndIndexes.{ArePaired, bi_map_of};
 
     ghost Value = { BiHashItems S T };
-
-    ghost coded = { bi_hash_items_code S.code T.code };
 
     ghost view = { λ m. bi_map_of m.store m.index1 m.index2 m.hasher };
 

@@ -18,11 +18,10 @@
 --     Collects, CollectsUnique, IsCollected      the map that `from_iter` and `from_iter_unique` make
 --     Adds, Halts, ShowsConflict      what `extend_unique` leaves and returns
 -- Copies:
---     HaveEqualItems, FindsEqual      what `eq` of two maps says
 --     CloneHashesAlike      a hasher's clone hashes as the hasher does
 -- After a loan:
 --     map_after_insertion, map_after_extension, lends_nothing      what the map is once the result is dropped
-use Rattle.std.specs.Prelude.{◌≡◌, ℕ, ◌+◌, ◌≤◌, [], length, Bool, true, All, IfErr, IfNone, OnSome, Option, IsPermutation, IsSomeAnd, Result, Some}
+use Rattle.std.specs.Prelude.{◌≡◌, ℕ, ◌+◌, ◌≤◌, [], length, Bool, IfErr, IfNone, OnSome, Option, IsPermutation, Result, Some}
 use Rattle.std.specs.Prelude.{min as least}
 use Rattle.std.specs.Borrow.{Fml, RattleType, MutBor, Lends, LendsSoOk, unit}
 use Rattle.std.specs.Hash.{HashWrites}
@@ -93,16 +92,6 @@ module _ {S T : Type 0} where
       pub spare_fits : SpareFits new
       pub hasher : new.hasher ≡ old.hasher
       pub keyed : IsKeyed new
-
-module _ {S T K : Type 0} (key : T → K) (key_eq : K → K → Bool) (eq : T → T → Bool) where
-  -- the item's key finds an item that is equal to it
-  abbrev pub FindsEqual : HashItems S T → T → Type 0
-  FindsEqual m x = IsSomeAnd (find_item key (key_eq (key x)) m.items) (λ y. eq x y ≡ true)
-
-  -- both have as many items, and each one's key finds an equal item in the other; no order plays a part
-  pub record HaveEqualItems (one other : HashItems S T) : Type 0 where
-    pub as_many : length one.items ≡ length other.items
-    pub each_found : All (FindsEqual other) one.items
 
 module _ {S T K : Type 0} (key : T → K) (eq : K → K → Bool) where
   -- the map with x in place of the item of an equal key

@@ -66,12 +66,10 @@ impl<T: Drop, S: Drop> Drop for IdHashMap<T, S> {
 }
 
 impl<T, S> Model for IdHashMap<T, S> {
-    ghost use Rattle.iddqd_hash_parts.specs.HashItems.{HashItems, hash_items_code};
+    ghost use Rattle.iddqd_hash_parts.specs.HashItems.{HashItems};
     ghost use Rattle.iddqd_hash_parts.specs.StoreAndIndex.{PairsOccupied, map_of};
 
     ghost Value = { HashItems S T };
-
-    ghost coded = { hash_items_code S.code T.code };
 
     ghost view = { λ m. map_of m.store m.index m.hasher };
 

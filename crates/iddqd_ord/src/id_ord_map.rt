@@ -64,14 +64,12 @@ impl<T: Drop> Drop for IdOrdMap<T> {
 }
 
 impl<T> Model for IdOrdMap<T> {
-    ghost use Rattle.iddqd_store.specs.Holding.{Holding, holding_code};
+    ghost use Rattle.iddqd_store.specs.Holding.{Holding};
     ghost use Rattle.iddqd_ord_index.specs.Listed.{listed_items};
     ghost use Rattle.iddqd_store.specs.Store.{vacant};
     ghost use Rattle.iddqd_ord.specs.StoreAndIndex.{ListsOccupied};
 
     ghost Value = { Holding T };
-
-    ghost coded = { holding_code T.code };
 
     ghost view = { λ m. record {
       items = listed_items m.store m.index.slots;

@@ -4,7 +4,7 @@
 --     a test of keys      what a query returns for each key; for a key as a query, the key's own `==`
 use Rattle.std.specs.Borrow.{Bor}
 use Rattle.std.specs.declared.cmp.Ordering.{Ordering}
-use Rattle.std.specs.Prelude.{◌≡◌, ℕ, ◌<◌, ◌≤◌, Bool, true, not, List, Option, Some, None, length, map, filter, find, insert, option_copied, ◌∷◌, ◌++◌, if◌then◌else◌}
+use Rattle.std.specs.Prelude.{◌≡◌, ℕ, ◌<◌, ◌≤◌, All, Bool, true, not, List, Option, Some, None, IsSomeAnd, length, map, filter, find, insert, option_copied, ◌∷◌, ◌++◌, if◌then◌else◌}
 use Rattle.std.specs.List.{IsDistinct}
 use Rattle.std.specs.List.Sorted.{IsStrictlySortedBy}
 use Rattle.std.specs.Ordering.{is_lt}
@@ -59,6 +59,15 @@ module _ {T K : Type 0} (key : T → K) where
   -- the items, with y in place of the one whose key passes the test (`insert_overwrite`)
   abbrev pub items_overwritten : (K → Bool) → T → List T → List T
   items_overwritten test y items = map (λ x. if test (key x) then y else x) items
+
+  -- the item's key finds an item that is equal to it
+  abbrev pub FindsEqual : (K → K → Bool) → (T → T → Bool) → List T → T → Type 0
+  FindsEqual key_eq eq items x = IsSomeAnd (find_item (key_eq (key x)) items) (λ y. eq x y ≡ true)
+
+  -- both have as many items, and each one's key finds an equal item in the other; no order plays a part (`eq`)
+  pub record HaveEqualItems (key_eq : K → K → Bool) (eq : T → T → Bool) (one other : List T) : Type 0 where
+    pub as_many : length one ≡ length other
+    pub each_found : All (FindsEqual key_eq eq other) one
 
   -- no two of the items' keys are equal
   abbrev pub NoTwoAkin : (K → K → Bool) → List T → Type 0

@@ -1,7 +1,6 @@
 -- What either map holds, and what a call does to it, for keys of any kind.
-use Rattle.std.specs.Prelude.{◌≡◌, ℕ, ◌+◌, ◌-◌, ◌<◌, ◌≤◌, List, length, remove, slice_get, Option, Some, IfNone, IfSome, OnSome, refl}
+use Rattle.std.specs.Prelude.{◌≡◌, ℕ, ◌+◌, ◌-◌, ◌<◌, ◌≤◌, List, length, remove, slice_get, Option, Some, IfNone, IfSome, OnSome}
 use Rattle.std.specs.Prelude.{min as least}
-use Rattle.std.specs.Coded.{Coded, code_by, coded×, coded_ℕ, coded_list}
 use Rattle.iddqd_store.specs.Contents.{AddsItem}
 use Rattle.iddqd_store.specs.SlotItems.{HaveSlots}
 
@@ -17,16 +16,6 @@ pub record Holding (T : Type 0) : Type 0 where
 -- the most items of a map that was given no smaller limit
 abbrev pub max_items : ℕ
 max_items = 4294967295
-
--- it is stored as the tuple of its fields
-abbrev pub holding_code : {T : Type 0} → Coded T → Coded (Holding T)
-holding_code {T} code =
-    code_by
-    (List T × (List ℕ × (ℕ × (ℕ × ℕ))))
-    (coded× (coded_list code) (coded× (coded_list coded_ℕ) (coded× coded_ℕ (coded× coded_ℕ coded_ℕ))))
-    (λ m. (m.items, (m.slots, (m.vacant, (m.capacity, m.limit)))))
-    (λ p. record { items = p.0; slots = p.1.0; vacant = p.1.1.0; capacity = p.1.1.1.0; limit = p.1.1.1.1 })
-    (λ _. refl)
 
 -- the item was inserted into a map that was not full; it took a vacant slot if there was one
 pub record InsertsItem {T : Type 0} (x : T) (old new : Holding T) : Type 0 where

@@ -37,11 +37,9 @@ pub struct ItemStore<T> {
 
 impl<T> Model for ItemStore<T> {
     ghost use Rattle.std.specs.Prelude.{vec_capacity};
-    ghost use Rattle.iddqd_store.specs.Store.{Store, store_code};
+    ghost use Rattle.iddqd_store.specs.Store.{Store};
 
     ghost Value = { Store T };
-
-    ghost coded = { store_code T.code };
 
     ghost use Rattle.iddqd_store.specs.Slots.{items_of, IsSound};
 

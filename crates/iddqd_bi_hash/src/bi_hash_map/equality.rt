@@ -6,7 +6,7 @@ use crate::items::BiHashItem;
 use std::hash::BuildHasher;
 
 impl<T: BiHashItem, S: BuildHasher> BiHashMap<T, S> {
-    ghost use Rattle.iddqd_bi_hash.specs.BiHashMap.{FindsEqual, HaveEqualItems};
+    ghost use Rattle.iddqd_store.specs.Contents.{FindsEqual, HaveEqualItems};
 
     /// Returns true if both maps have as many items, and each item's key finds an equal item in the other, by the
     /// items' own `==`. That is the first key. No order and no hasher plays a part. It is a function, since the trait
@@ -16,7 +16,7 @@ impl<T: BiHashItem, S: BuildHasher> BiHashMap<T, S> {
     where
         T: PartialEq,
         requires keyed { ⟦<Self as Keyed>⟧.keyed other.now }
-        ensures { IsTrue result ↔ HaveEqualItems T.key1 T.K1.eq T.eq self.now other.now }
+        ensures { IsTrue result ↔ HaveEqualItems T.key1 T.K1.eq T.eq self.now.items other.now.items }
     {
         if self.len() != other.len() {
             return false;
@@ -34,7 +34,7 @@ impl<T: BiHashItem, S: BuildHasher> BiHashMap<T, S> {
     where
         T: PartialEq,
         requires keyed { ⟦<Self as Keyed>⟧.keyed self.now }
-        ensures { IsTrue result ↔ FindsEqual T.key1 T.K1.eq T.eq self.now item.now }
+        ensures { IsTrue result ↔ FindsEqual T.key1 T.K1.eq T.eq self.now.items item.now }
     {
         match self.get1(item.key1()) {
             Some(found) => *item == *found,

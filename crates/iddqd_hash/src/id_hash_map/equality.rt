@@ -6,7 +6,7 @@ use iddqd_store::IdHashItem;
 use std::hash::BuildHasher;
 
 impl<T: IdHashItem, S: BuildHasher> IdHashMap<T, S> {
-    ghost use Rattle.iddqd_hash.specs.HashMap.{FindsEqual, HaveEqualItems};
+    ghost use Rattle.iddqd_store.specs.Contents.{FindsEqual, HaveEqualItems};
 
     /// Returns true if both maps have as many items, and each item's key finds an equal item in the other, by the
     /// items' own `==`. No order and no hasher plays a part. It is a function, since the trait `PartialEq` cannot
@@ -15,7 +15,7 @@ impl<T: IdHashItem, S: BuildHasher> IdHashMap<T, S> {
     where
         T: PartialEq,
         requires keyed { ⟦<Self as Keyed>⟧.keyed other.now }
-        ensures { IsTrue result ↔ HaveEqualItems T.key T.Key.eq T.eq self.now other.now }
+        ensures { IsTrue result ↔ HaveEqualItems T.key T.Key.eq T.eq self.now.items other.now.items }
     {
         if self.len() != other.len() {
             return false;
@@ -33,7 +33,7 @@ impl<T: IdHashItem, S: BuildHasher> IdHashMap<T, S> {
     where
         T: PartialEq,
         requires keyed { ⟦<Self as Keyed>⟧.keyed self.now }
-        ensures { IsTrue result ↔ FindsEqual T.key T.Key.eq T.eq self.now item.now }
+        ensures { IsTrue result ↔ FindsEqual T.key T.Key.eq T.eq self.now.items item.now }
     {
         match self.get(item.key()) {
             Some(found) => *item == *found,

@@ -1,12 +1,12 @@
 use Rattle.std.proofs.Common.{◌∷◌, sym, subst, rules}
 use Rattle.std.proofs.lemmas.List.Elements.{All-cons, All-drop}
 use Rattle.std.specs.List.{All}
-use Rattle.iddqd_bi_hash.specs.BiHashMap.{FindsEqual}
+use Rattle.iddqd_store.specs.Contents.{FindsEqual}
 use Rattle.iddqd_bi_hash.proofs.bi_hash_map.BiHashMap.eq.Goals as goal
 
 pub loop-item-preserved : goal.loop-item-preserved
 loop-item-preserved g c =
-    let finds = FindsEqual g.T.BiHashItem.key1 g.T.K1.PartialEq.eq g.T.PartialEq.eq c.args.other.now in
+    let finds = FindsEqual g.T.BiHashItem.key1 g.T.K1.PartialEq.eq g.T.PartialEq.eq c.args.other.now.items in
     let kept = c.loop-item.invariant in
     let item = c.in-Some.item.now in
     let rest = c.next.new.self in
