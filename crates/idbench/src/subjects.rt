@@ -4,8 +4,7 @@ use iddqd::{IdHashMap, IdOrdMap};
 use std::alloc::{AllocError, Global};
 use std::collections::{BTreeMap, HashMap};
 use std::hash::Hash;
-use test_support::maps::{Hashed, Ordered, UnderTest};
-use test_support::walks::Walked;
+use test_support::maps::{Hashed, Ordered};
 
 /// A map that is timed.
 pub(crate) trait Subject: Drop {

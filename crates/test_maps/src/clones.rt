@@ -1,10 +1,9 @@
 //! Rows of clones.
 use crate::prelude::*;
-use test_support::coarse::Copied;
 
 // A clone of two items with a vacant slot, and with room for more, equals its source. It has room for no more than its
 // slots, and what is written into it the source does not show.
-fn cloned<M: CoarseMap + Copied + Drop>(rt: &impl Abort, mut map: M) {
+fn cloned(rt: &impl Abort, mut map: Either<Coarse>) {
     check(rt, map.reserve(100).is_ok());
     check(rt, map.is_put(item_of(*b"foo", 42)));
     check(rt, map.is_put(item_of(*b"bar", 20)));
@@ -15,7 +14,7 @@ fn cloned<M: CoarseMap + Copied + Drop>(rt: &impl Abort, mut map: M) {
     check(rt, twin.capacity() == 3);
     check(rt, twin.write_by_reborrow(&Caseless(*b"foo"), 7).is_some());
     check(rt, !twin.equals(&map));
-    check(rt, spelled_at(&map, *b"foo") == Some((*b"foo", 42)));
+    check(rt, map.spelled_at(*b"foo") == Some((*b"foo", 42)));
 }
 
 #[test]

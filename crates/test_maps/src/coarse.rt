@@ -7,11 +7,11 @@ fn is_spelled(put: Put, name: [u8; 3], value: u32) -> bool {
     matches!(put, Ok(Some(item)) if spelled(&item) == (name, value))
 }
 
-fn overwrites<M: CoarseMap + Drop>(rt: &impl Abort, mut map: M) {
+fn overwrites(rt: &impl Abort, mut map: Either<Coarse>) {
     check(rt, matches!(map.overwrite(item_of(*b"Foo", 1)), Ok(None)));
     let old = map.overwrite(item_of(*b"FOO", 2));
     check(rt, is_spelled(old, *b"Foo", 1));
-    check(rt, spelled_at(&map, *b"foo") == Some((*b"FOO", 2)));
+    check(rt, map.spelled_at(*b"foo") == Some((*b"FOO", 2)));
     check(rt, map.len() == 1);
 }
 
@@ -58,11 +58,11 @@ fn coarse_overwrite_by_commands(rt: HostRuntime) -> Result<(), Fail> {
     Ok(())
 }
 
-fn foo_by_entry<M: CoarseMap + Drop>(rt: &impl Abort, mut map: M) {
+fn foo_by_entry(rt: &impl Abort, mut map: Either<Coarse>) {
     let foo = map.put_vacant(&Caseless(*b"foo"), item_of(*b"foo", 42));
     check(rt, is_spelled(foo, *b"foo", 42));
     check(rt, map.write(&Caseless(*b"foo"), 99));
-    check(rt, spelled_at(&map, *b"foo") == Some((*b"foo", 99)));
+    check(rt, map.spelled_at(*b"foo") == Some((*b"foo", 99)));
     let mut asked = 0;
     let found = map.find_or_put(item_of(*b"foo", 7), &mut asked);
     check(rt, is_spelled(found, *b"foo", 99));
@@ -75,20 +75,20 @@ fn entry(rt: HostRuntime) {
     foo_by_entry(&rt, by_hash(rt.alloc()));
 }
 
-fn coarse_entries<M: CoarseMap + Drop>(rt: &impl Abort, mut map: M) -> M {
+fn coarse_entries(rt: &impl Abort, mut map: Either<Coarse>) -> Either<Coarse> {
     check(rt, map.is_put(item_of(*b"foo", 42)));
     let doubled = map.double_or_put(item_of(*b"foo", 0));
     check(rt, is_spelled(doubled, *b"foo", 84) && map.len() == 1);
     check(rt, map.insert_and_write(item_of(*b"bar", 5), 6));
-    check(rt, spelled_at(&map, *b"bar") == Some((*b"bar", 6)));
+    check(rt, map.spelled_at(*b"bar") == Some((*b"bar", 6)));
     let gone = map.put_and_remove(item_of(*b"baz", 1));
     check(rt, is_spelled(gone, *b"baz", 1) && map.len() == 2);
     let old = map.insert_occupied(item_of(*b"FOO", 7));
     check(rt, is_spelled(Ok(old), *b"foo", 84));
-    check(rt, spelled_at(&map, *b"foo") == Some((*b"FOO", 7)));
+    check(rt, map.spelled_at(*b"foo") == Some((*b"FOO", 7)));
     let new = map.put_vacant(&Caseless(*b"qux"), item_of(*b"aaa", 3));
     check(rt, is_spelled(new, *b"aaa", 3));
-    check(rt, spelled_at(&map, *b"aaa") == Some((*b"aaa", 3)));
+    check(rt, map.spelled_at(*b"aaa") == Some((*b"aaa", 3)));
     check(rt, map.get(&Caseless(*b"qux")).is_none());
     map
 }
@@ -96,7 +96,8 @@ fn coarse_entries<M: CoarseMap + Drop>(rt: &impl Abort, mut map: M) -> M {
 #[test]
 fn entries_with_coarse_keys(rt: HostRuntime) {
     let ordered = coarse_entries(&rt, in_order(rt.alloc()));
-    let first = ordered.map().iter().next().map(spelled);
+    let items = ordered.listed(rt.alloc()).expect(&rt, "no memory");
+    let first = items.as_slice().first().map(spelled);
     check(&rt, first == Some((*b"aaa", 3)));
     let _ = coarse_entries(&rt, by_hash(rt.alloc()));
 }

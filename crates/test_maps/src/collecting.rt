@@ -1,15 +1,19 @@
 //! Rows of calls on many items.
 use crate::insertions::{Wide, wide};
 use crate::prelude::*;
-use test_support::bulk::is_not_taken_in;
+use std::hash::Hash;
 
 // No map is made of the items: the first one has the key of the later one.
-fn repeats<M: Bulk<T> + Drop, T: Copy + PartialEq + Drop>(
+fn repeats<K: Ord + Hash, T>(
     rt: &impl Host,
+    kind: Kind,
     items: [T; 3],
     later: T,
-) -> Result<(), Fail> {
-    let made = M::collected_unique(rt.alloc(), items.iter().copied());
+) -> Result<(), Fail>
+where
+    T: IdOrdItem<Key = K> + IdHashItem<Key = K> + Copy + PartialEq + Drop,
+{
+    let made = Either::collected_unique(kind, rt.alloc(), items.iter().copied());
     let Err(FromIterError::Duplicate(repeat)) = made else {
         return Err(Fail::from("no duplicate"));
     };
@@ -20,15 +24,13 @@ fn repeats<M: Bulk<T> + Drop, T: Copy + PartialEq + Drop>(
 }
 
 // A map is made of these, and none of items that have one name.
-fn collect_names<M: UnderTest<Named, [u8; 3]> + Bulk<Named> + Drop>(
-    rt: &impl Host,
-) -> Result<(), Fail> {
-    let two = M::collected_unique(rt.alloc(), [FOO, named(*b"bar", 99)]);
+fn collect_names(rt: &impl Host, kind: Kind) -> Result<(), Fail> {
+    let two = Either::collected_unique(kind, rt.alloc(), [FOO, named(*b"bar", 99)]);
     check(rt, two.is_ok_and(|map| map.len() == 2));
-    let none = M::collected_unique(rt.alloc(), []);
+    let none = Either::<Named>::collected_unique(kind, rt.alloc(), []);
     check(rt, none.is_ok_and(|map| map.len() == 0));
     let foos = [1, 2, 3].map(|value| named(*b"foo", value));
-    repeats::<M, Named>(rt, foos, foos[1])
+    repeats(rt, kind, foos, foos[1])
 }
 
 // Items of two numbers; the last one has the number of the first.
@@ -39,28 +41,26 @@ fn of_two_numbers() -> [Wide; 3] {
 #[test]
 fn collect_unique(rt: HostRuntime) -> Result<(), Fail> {
     let items = of_two_numbers();
-    repeats::<Ordered<Wide>, Wide>(&rt, items, items[2])?;
-    repeats::<Hashed<Wide>, Wide>(&rt, items, items[2])?;
-    collect_names::<Ordered<Named>>(&rt)?;
-    collect_names::<Hashed<Named>>(&rt)
+    repeats(&rt, Kind::Ordered, items, items[2])?;
+    repeats(&rt, Kind::Hashed, items, items[2])?;
+    collect_names(&rt, Kind::Ordered)?;
+    collect_names(&rt, Kind::Hashed)
 }
 
 // A map that is extended by others has these items then.
-fn extends<T: IdOrdItem + Copy + PartialEq + Drop, M: UnderTest<T, T::Key> + Drop>(
-    rt: &impl Abort,
-    mut map: M,
-    coming: &[T],
-    items: &[T],
-) {
+fn extends<K: Ord + Hash, T>(rt: &impl Abort, mut map: Either<T>, coming: &[T], items: &[T])
+where
+    T: IdOrdItem<Key = K> + IdHashItem<Key = K> + Copy + PartialEq + Drop,
+{
     check(rt, map.extend(coming.iter().copied()).is_ok());
-    check(rt, has_only(&map, items));
+    check(rt, map.has_only(items));
 }
 
-fn overwritten_by_name<M: UnderTest<Named, [u8; 3]> + Bulk<Named> + Drop>(rt: &impl Host, map: M) {
+fn overwritten_by_name(rt: &impl Host, kind: Kind, map: Either<Named>) {
     let coming = [OTHER_FOO, BAR];
-    extends(rt, filled(rt, map, &[FOO]), &coming, &coming);
-    let made = M::collected(rt.alloc(), [FOO, BAR, OTHER_FOO]);
-    check(rt, made.is_ok_and(|map| has_only(&map, &coming)));
+    extends(rt, map.filled(rt, &[FOO]), &coming, &coming);
+    let made = Either::collected(kind, rt.alloc(), [FOO, BAR, OTHER_FOO]);
+    check(rt, made.is_ok_and(|map| map.has_only(&coming)));
 }
 
 #[test]
@@ -68,16 +68,27 @@ fn extend_overwrites(rt: HostRuntime) {
     let items = of_two_numbers();
     extends(&rt, in_order(rt.alloc()), &items, &items[1..]);
     extends(&rt, by_hash(rt.alloc()), &items, &items[1..]);
-    overwritten_by_name(&rt, in_order(rt.alloc()));
-    overwritten_by_name(&rt, by_hash(rt.alloc()));
+    overwritten_by_name(&rt, Kind::Ordered, in_order(rt.alloc()));
+    overwritten_by_name(&rt, Kind::Hashed, by_hash(rt.alloc()));
 }
 
-fn lied_to<M: UnderTest<Named, [u8; 3]> + Drop>(rt: &impl Abort, mut map: M) {
+// Whether the map refuses an item that is announced as more than there can be, before it asks for it.
+pub(crate) fn is_not_taken_in(map: &mut Either<Named>) -> bool {
+    let item = [named(*b"lie", 0)];
+    let mut liar = Hinted::new(&item, usize::MAX);
+    let refused = match map.extend(&mut liar) {
+        Ok(()) => false,
+        Err(stopped) => stopped.item.is_none() && stopped.error.is_capacity_overflow(),
+    };
+    refused && liar.next().is_some()
+}
+
+fn lied_to(rt: &impl Abort, mut map: Either<Named>) {
     check(rt, is_not_taken_in(&mut map));
     check(rt, map.len() == 0);
     check(rt, map.is_put(FOO) && map.is_put(BAR));
     check(rt, is_not_taken_in(&mut map));
-    check(rt, has_only(&map, &[FOO, BAR]));
+    check(rt, map.has_only(&[FOO, BAR]));
 }
 
 #[test]
@@ -94,11 +105,11 @@ type Given<'a> = (
     &'a [Named],
 );
 
-fn adds<M: Copying<Named, [u8; 3]> + Drop>(rt: &impl Abort, map: M, given: Given<'_>) {
+fn adds(rt: &impl Abort, map: Either<Named>, given: Given<'_>) {
     let (first, (coming, announced), added, items) = given;
-    let mut map = filled(rt, map, first);
+    let mut map = map.filled(rt, first);
     check(rt, map.add_each(Hinted::new(coming, announced)) == *added);
-    check(rt, has_only(&map, items));
+    check(rt, map.has_only(items));
 }
 
 // Adds them to maps of each kind that have this limit.
@@ -133,8 +144,8 @@ fn extend_unique_at_the_limit(rt: HostRuntime) {
     both_add(&rt, 2, (&[FOO], (&[BAR, baz, foo], 0), &added, &[FOO, BAR]));
 }
 
-fn refuses_announced<M: Copying<Named, [u8; 3]> + Drop>(rt: &impl Abort, map: M) {
-    let mut map = filled(rt, map, &[FOO]);
+fn refuses_announced(rt: &impl Abort, map: Either<Named>) {
+    let mut map = map.filled(rt, &[FOO]);
     let item = [BAR];
     let mut liar = Hinted::new(&item, 5);
     let full = TryReserveError::capacity_overflow();

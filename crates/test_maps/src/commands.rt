@@ -40,10 +40,10 @@ where
     requires clones { ClonesAreEqual T.is_clone }
 {
     let alloc = rt.alloc();
-    let mut ordered = in_order_of(alloc, limit).into_map();
+    let mut ordered = IdOrdMap::with_limit(alloc, limit);
     let (given, expected) = replies(alloc, &mut ordered, rows(alloc)).expect(rt, "no memory");
     check(rt, given == expected);
-    let mut hashed = by_hash_of(alloc, limit).into_map();
+    let mut hashed = IdHashMap::with_limit(alloc, limit, DefaultHashBuilder::new());
     let (given, expected) = replies(alloc, &mut hashed, rows(alloc)).expect(rt, "no memory");
     check(rt, given == expected);
     (ordered.capacity(), hashed.capacity())

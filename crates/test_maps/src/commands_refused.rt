@@ -4,8 +4,8 @@ ghost use Rattle.iddqd.specs.Visiting.{VisitsKeepKeys};
 
 use crate::prelude::*;
 use test_support::kept::make_kept;
-use test_sweeps::rows;
-use test_sweeps::words::{Word, tell, word_of};
+use test_support::rows;
+use test_support::words::{Word, tell, word_of};
 
 fn value(kept: &Option<Kept>) -> u32 {
     kept.as_ref().map_or(0, |kept| *kept.value)

@@ -36,8 +36,12 @@ impl IdHashItem for Ticket<'_> {
     }
 }
 
-// The items of these numbers.
-fn tickets<'a>(rt: &impl Host, numbers: &[u32], dropped: &'a Cell<u32>) -> Vec<Ticket<'a>> {
+/// The items of these numbers.
+pub(crate) fn tickets<'a>(
+    rt: &impl Host,
+    numbers: &[u32],
+    dropped: &'a Cell<u32>,
+) -> Vec<Ticket<'a>> {
     let mut items = Vec::new(rt.alloc());
     for number in numbers.iter().copied() {
         check(rt, items.push(Ticket { number, dropped }).is_ok());
@@ -45,11 +49,8 @@ fn tickets<'a>(rt: &impl Host, numbers: &[u32], dropped: &'a Cell<u32>) -> Vec<T
     items
 }
 
-/// Whether items of the numbers below another are inserted, and none is dropped.
-pub(crate) fn go_in<'a, M>(map: &mut M, end: u32, dropped: &'a Cell<u32>) -> bool
-where
-    M: UnderTest<Ticket<'a>, u32>,
-{
+// Whether items of the numbers below another are inserted, and none is dropped.
+fn go_in<'a>(map: &mut Either<Ticket<'a>>, end: u32, dropped: &'a Cell<u32>) -> bool {
     (0..end).all(|number| map.is_put(Ticket { number, dropped })) && dropped.get() == 0
 }
 
@@ -64,10 +65,7 @@ enum Call {
 }
 
 // Whether the call does what it should.
-fn is_done<'a, M>(map: &mut M, call: Call, dropped: &'a Cell<u32>) -> bool
-where
-    M: UnderTest<Ticket<'a>, u32>,
-{
+fn is_done<'a>(map: &mut Either<Ticket<'a>>, call: Call, dropped: &'a Cell<u32>) -> bool {
     match call {
         Call::Clear => map.clear(),
         Call::RetainThirds => map.retain(|item| item.number % 3 == 0),
@@ -81,9 +79,9 @@ where
 // After each call on a map of this many items, so many have been dropped, and so many are there.
 type Calls<'a> = &'a [(Call, u32, usize)];
 
-fn drops<'a, M: UnderTest<Ticket<'a>, u32> + Drop>(
+fn drops<'a>(
     rt: &impl Abort,
-    mut map: M,
+    mut map: Either<Ticket<'a>>,
     many: u32,
     calls: Calls<'_>,
     dropped: &'a Cell<u32>,
@@ -184,23 +182,21 @@ macro_rules! ends {
     }};
 }
 
-fn ends_in_order<'a>(map: Ordered<Ticket<'a>>, end: End, dropped: &'a Cell<u32>) -> bool {
-    ends!(map, id_ord_map, end, dropped)
-}
-
-fn ends_by_hash<'a>(map: Hashed<Ticket<'a>>, end: End, dropped: &'a Cell<u32>) -> bool {
-    ends!(map, id_hash_map, end, dropped)
+// Whether a map of this many items does.
+fn ends<'a>(mut map: Either<Ticket<'a>>, many: u32, end: End, dropped: &'a Cell<u32>) -> bool {
+    let are_in = go_in(&mut map, many, dropped);
+    let is_done = match map {
+        Either::Ordered(map) => ends!(map, id_ord_map, end, dropped),
+        Either::Hashed(map) => ends!(map, id_hash_map, end, dropped),
+    };
+    are_in && is_done
 }
 
 // So many items of this many have been dropped then.
 fn both_end(rt: &impl Host, many: u32, end: End, count: u32) {
     let (ordered, hashed) = (&Cell::new(0), &Cell::new(0));
-    let mut map = in_order(rt.alloc());
-    check(rt, go_in(&mut map, many, ordered));
-    check(rt, ends_in_order(map, end, ordered));
-    let mut map = by_hash(rt.alloc());
-    check(rt, go_in(&mut map, many, hashed));
-    check(rt, ends_by_hash(map, end, hashed));
+    check(rt, ends(in_order(rt.alloc()), many, end, ordered));
+    check(rt, ends(by_hash(rt.alloc()), many, end, hashed));
     check(rt, ordered.get() == count && hashed.get() == count);
 }
 
@@ -231,10 +227,7 @@ fn walked_in_part(rt: HostRuntime) {
 }
 
 // Three of the five that come are there.
-fn extends<'a, M>(rt: &impl Host, mut map: M, dropped: &'a Cell<u32>)
-where
-    M: UnderTest<Ticket<'a>, u32> + Drop,
-{
+fn extends<'a>(rt: &impl Host, mut map: Either<Ticket<'a>>, dropped: &'a Cell<u32>) {
     check(rt, go_in(&mut map, 6, dropped));
     let coming = tickets(rt, &[3, 4, 5, 6, 7], dropped);
     check(rt, map.extend(coming).is_ok());
@@ -262,23 +255,23 @@ fn shown_by_an_occupied_entry(rt: HostRuntime) {
 }
 
 // No map is made of four items that are said to be more than a map ever holds: the kind, and how many are dropped.
-fn overstated<'a, M: Bulk<Ticket<'a>> + Drop>(rt: &impl Host, dropped: &'a Cell<u32>) {
+fn overstated(rt: &impl Host, kind: Kind, dropped: &Cell<u32>) {
     let items = tickets(rt, &[0, 1, 2, 3], dropped);
-    let made = M::collected(rt.alloc(), Announced::new(items, 4_294_967_296));
+    let made = Either::collected(kind, rt.alloc(), Announced::new(items, 4_294_967_296));
     check(rt, dropped.get() == 4);
     check(rt, made.is_err_and(|error| error.is_capacity_overflow()));
 }
 
 #[test]
 fn from_iter_refused(rt: HostRuntime) {
-    overstated::<Ordered<Ticket<'_>>>(&rt, &Cell::new(0));
-    overstated::<Hashed<Ticket<'_>>>(&rt, &Cell::new(0));
+    overstated(&rt, Kind::Ordered, &Cell::new(0));
+    overstated(&rt, Kind::Hashed, &Cell::new(0));
 }
 
 // Of six items the fourth has the key of the second, from the last on: these two come back, and the others are dropped.
-fn repeats<'a, M: Bulk<Ticket<'a>> + Drop>(rt: &impl Host, dropped: &'a Cell<u32>) {
+fn repeats(rt: &impl Host, kind: Kind, dropped: &Cell<u32>) {
     let items = tickets(rt, &[0, 1, 4, 3, 4, 5], dropped);
-    let made = M::collected_unique(rt.alloc(), Announced::new(items, 0));
+    let made = Either::collected_unique(kind, rt.alloc(), Announced::new(items, 0));
     check(rt, matches!(made, Err(FromIterError::Duplicate(_))));
     check(rt, dropped.get() == 4);
     drop(made);
@@ -287,6 +280,6 @@ fn repeats<'a, M: Bulk<Ticket<'a>> + Drop>(rt: &impl Host, dropped: &'a Cell<u32
 
 #[test]
 fn from_iter_unique_refused(rt: HostRuntime) {
-    repeats::<Ordered<Ticket<'_>>>(&rt, &Cell::new(0));
-    repeats::<Hashed<Ticket<'_>>>(&rt, &Cell::new(0));
+    repeats(&rt, Kind::Ordered, &Cell::new(0));
+    repeats(&rt, Kind::Hashed, &Cell::new(0));
 }

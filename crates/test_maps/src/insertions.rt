@@ -9,10 +9,9 @@ pub(crate) type Wide = Filed<u8, (char, char, char)>;
 pub(crate) type Rows<'a, T> = &'a [(T, Inserted<T>)];
 
 /// Inserts each item with this outcome.
-pub(crate) fn insert_each<T, M>(rt: &impl Abort, map: &mut M, rows: Rows<'_, T>)
+pub(crate) fn insert_each<K: Ord + Hash, T>(rt: &impl Abort, map: &mut Either<T>, rows: Rows<'_, T>)
 where
-    T: IdOrdItem + Copy + PartialEq + Drop,
-    M: Copying<T, T::Key>,
+    T: IdOrdItem<Key = K> + IdHashItem<Key = K> + Copy + PartialEq + Drop,
 {
     for (item, outcome) in rows {
         check(rt, map.insert(*item) == *outcome);
@@ -20,13 +19,13 @@ where
 }
 
 // The map has these items then, and none of the absent key.
-fn inserts<T, M>(rt: &impl Abort, mut map: M, rows: Rows<'_, T>, items: &[T], absent: &T::Key)
+fn inserts<K, T>(rt: &impl Abort, mut map: Either<T>, rows: Rows<'_, T>, items: &[T], absent: &K)
 where
-    T: IdOrdItem + Copy + PartialEq + Drop,
-    M: Copying<T, T::Key> + Drop,
+    K: Ord + Hash,
+    T: IdOrdItem<Key = K> + IdHashItem<Key = K> + Copy + PartialEq + Drop,
 {
     insert_each(rt, &mut map, rows);
-    check(rt, has_only(&map, items));
+    check(rt, map.has_only(items));
     check(rt, map.get(absent).is_none());
 }
 
@@ -90,12 +89,12 @@ fn get_and_double(rt: HostRuntime) {
 }
 
 // A removed item is not found, and the others are.
-fn coming_and_going<M: Copying<Named, [u8; 3]> + Drop>(rt: &impl Abort, mut map: M) {
+fn coming_and_going(rt: &impl Abort, mut map: Either<Named>) {
     let both = [(FOO, Inserted::Done), (BAR, Inserted::Done)];
     insert_each(rt, &mut map, &both);
     check(rt, map.remove(b"baz") == None);
     check(rt, map.remove(b"foo") == Some(FOO));
-    check(rt, map.get(b"foo").is_none() && has_only(&map, &[BAR]));
+    check(rt, map.get(b"foo").is_none() && map.has_only(&[BAR]));
     insert_each(rt, &mut map, &[(OTHER_FOO, Inserted::Done)]);
     map.clear();
     check(rt, map.len() == 0 && map.get(b"bar").is_none());

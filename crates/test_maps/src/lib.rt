@@ -13,9 +13,13 @@ mod commands;
 #[cfg(test)]
 mod commands_refused;
 #[cfg(test)]
+mod costs;
+#[cfg(test)]
 mod differences;
 #[cfg(test)]
 mod drops;
+#[cfg(test)]
+mod either;
 #[cfg(test)]
 mod errors;
 #[cfg(test)]
@@ -23,12 +27,20 @@ mod insertions;
 #[cfg(test)]
 mod limits;
 #[cfg(test)]
+mod nine;
+#[cfg(test)]
 mod prelude;
 #[cfg(test)]
 mod queries;
 #[cfg(test)]
 mod ranges;
 #[cfg(test)]
+mod refusals;
+#[cfg(test)]
+mod serve;
+#[cfg(test)]
 mod texts;
+#[cfg(test)]
+mod two_keys;
 #[cfg(test)]
 mod visits;

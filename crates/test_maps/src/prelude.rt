@@ -1,6 +1,7 @@
 //! What rows share: items, maps, and what they hold to be so.
 ghost use Rattle.std.specs.Prelude.{IsTrue};
 
+pub(crate) use crate::either::{Either, Kind, by_hash, by_hash_of, in_order, in_order_of};
 pub(crate) use iddqd::errors::{FromIterError, TryReserveError};
 pub(crate) use iddqd::internal::ValidateCompact;
 pub(crate) use iddqd::{
@@ -11,18 +12,16 @@ pub(crate) use std::alloc::{AllocError, Global};
 pub(crate) use std::cell::Cell;
 pub(crate) use std::process::Abort;
 pub(crate) use std::test::Fail;
-pub(crate) use test_support::bulk::{Bulk, Hinted};
+pub(crate) use test_support::bulk::Hinted;
 pub(crate) use test_support::caseless::{Caseless, Coarse, item_of, spelled};
-pub(crate) use test_support::coarse::{CoarseMap, Put, spelled_at};
-pub(crate) use test_support::heap::{arm, has_leaked, is_met};
+pub(crate) use test_support::coarse::Put;
+pub(crate) use test_support::heap::{arm, is_met};
 pub(crate) use test_support::items::{BAR, FOO, Filed, Named, Numbered, Titled};
 pub(crate) use test_support::kept::Kept;
-pub(crate) use test_support::maps::{
-    Added, AskedByText, Copying, Hashed, Inserted, Ordered, UnderTest, by_hash, in_order,
-};
+use test_support::maps;
+pub(crate) use test_support::maps::{Added, Hashed, Inserted, Ordered};
 pub(crate) use test_support::new_items::{named, numbered};
 pub(crate) use test_support::visitors::Untouched;
-pub(crate) use test_support::walks::Walked;
 
 pub(crate) const BAZ: Named = Named {
     name: *b"baz",
@@ -52,44 +51,21 @@ pub(crate) fn titled(rt: &impl Host, name: &str, value: u32) -> Titled {
     Titled { name, value }
 }
 
-/// An empty ordered map that never holds more items than the limit.
-pub(crate) fn in_order_of<T: IdOrdItem>(alloc: Global, limit: u32) -> Ordered<T> {
-    Ordered::new(IdOrdMap::with_limit(alloc, limit))
-}
-
-/// An empty hash map that never holds more items than the limit.
-pub(crate) fn by_hash_of<T: IdHashItem>(alloc: Global, limit: u32) -> Hashed<T> {
-    let hasher = DefaultHashBuilder::new();
-    Hashed::new(IdHashMap::with_limit(alloc, limit, hasher))
-}
-
-/// The map, once each of the items is inserted.
-pub(crate) fn filled<T: IdOrdItem + Copy + Drop, M: UnderTest<T, T::Key> + Drop>(
-    rt: &impl Abort,
-    mut map: M,
-    items: &[T],
-) -> M {
+/// An ordered map of these items. A test that names the kind of its map takes it from here, so that one function proves
+/// the insertions into such a map.
+pub(crate) fn ordered_of<T: IdOrdItem + Copy + Drop>(rt: &impl Host, items: &[T]) -> Ordered<T> {
+    let mut map = maps::in_order(rt.alloc());
     for item in items {
         check(rt, map.is_put(*item));
     }
     map
 }
 
-/// An ordered map of these items. A test that names the kind of its map takes it from here, so that one function proves
-/// the insertions into such a map.
-pub(crate) fn ordered_of(rt: &impl Host, items: &[Named]) -> Ordered<Named> {
-    filled(rt, in_order(rt.alloc()), items)
-}
-
 /// A hash map of these items.
 pub(crate) fn hashed_of(rt: &impl Host, items: &[Named]) -> Hashed<Named> {
-    filled(rt, by_hash(rt.alloc()), items)
-}
-
-/// Whether the map has these items, and no others.
-pub(crate) fn has_only<T: IdOrdItem + Drop + PartialEq>(
-    map: &impl UnderTest<T, T::Key>,
-    items: &[T],
-) -> bool {
-    items.iter().all(|item| map.get(item.key()) == Some(item)) && map.len() == items.len()
+    let mut map = maps::by_hash(rt.alloc());
+    for item in items {
+        check(rt, map.is_put(*item));
+    }
+    map
 }

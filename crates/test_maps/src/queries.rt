@@ -3,10 +3,7 @@ use crate::prelude::*;
 use std::ops::Deref;
 use std::rc::Rc;
 
-fn query_by_text<M>(rt: &impl Host, mut map: M)
-where
-    M: UnderTest<Titled, String> + AskedByText<Item = Titled> + Drop,
-{
+fn query_by_text(rt: &impl Host, mut map: Either<Titled>) {
     check(rt, map.is_put(titled(rt, "foo", 42)));
     check(rt, map.find("foo").is_some_and(|item| item.value == 42));
     check(rt, !map.has_name("fo"));
@@ -34,10 +31,7 @@ fn released(name: [u8; 9], version: u32, value: u32) -> Filed<Release, u32> {
     Filed { key, value }
 }
 
-fn query_by_release<M>(rt: &impl Abort, mut map: M)
-where
-    M: UnderTest<Filed<Release, u32>, Release> + Drop,
-{
+fn query_by_release(rt: &impl Abort, mut map: Either<Filed<Release, u32>>) {
     let first = released(*b"artifact1", 10, 1);
     check(rt, map.is_put(first));
     check(rt, map.is_put(released(*b"artifact2", 10, 2)));
@@ -53,9 +47,9 @@ fn key_of_two_fields(rt: HostRuntime) {
 }
 
 // The item is inserted, and what is found by its name shows 42.
-fn is_found<T: Deref<Target = Titled> + Drop, M>(rt: &impl Host, item: T, mut map: M)
+fn is_found<T>(rt: &impl Host, item: T, mut map: Either<T>)
 where
-    M: UnderTest<T, String> + AskedByText<Item = T> + Drop,
+    T: IdOrdItem<Key = String> + IdHashItem<Key = String> + Deref<Target = Titled> + Drop,
 {
     check(rt, map.is_put(item));
     check(rt, map.find("foo").is_some_and(|item| item.value == 42));

@@ -4,17 +4,17 @@ ghost use Rattle.iddqd.specs.Visiting.{VisitsKeepKeys};
 
 use crate::commands::{Rows, replies};
 use crate::insertions::double;
+use crate::nine::{are_left, retain_nine};
 use crate::prelude::*;
-use test_support::nine::{are_left, retain_nine};
-use test_support::visitors::{Change, Visited};
+use test_support::visitors::Change;
 
 // The visitor, once it has kept the odd ones of three.
-fn odd_of_three<M: UnderTest<Numbered, u32> + Drop + Visited>(rt: &impl Abort, map: M) -> Change {
+fn odd_of_three(rt: &impl Abort, map: Either<Numbered>) -> Change {
     let three = [numbered(3, 30), numbered(1, 10), numbered(2, 20)];
-    let mut map = filled(rt, map, &three);
+    let mut map = map.filled(rt, &three);
     let mut visitor = Change::KeepOdd(0);
     map.retain_mut(&mut visitor);
-    check(rt, has_only(&map, &[numbered(1, 11), numbered(3, 31)]));
+    check(rt, map.has_only(&[numbered(1, 11), numbered(3, 31)]));
     visitor
 }
 
@@ -54,17 +54,14 @@ fn visitor(rt: HostRuntime) -> Result<(), Fail> {
 }
 
 // The names that were asked about, once the greater values were kept.
-fn kept_by_value<M>(rt: &impl Host, map: M) -> Vec<[u8; 3]>
-where
-    M: UnderTest<Named, [u8; 3]> + Drop,
-{
-    let mut map = filled(rt, map, &[FOO, BAR, BAZ]);
+fn kept_by_value(rt: &impl Host, map: Either<Named>) -> Vec<[u8; 3]> {
+    let mut map = map.filled(rt, &[FOO, BAR, BAZ]);
     let mut asked = Vec::new(rt.alloc());
     map.retain(|item| {
         let _ = asked.push(item.name);
         item.value > 30
     });
-    check(rt, has_only(&map, &[FOO, BAZ]));
+    check(rt, map.has_only(&[FOO, BAZ]));
     check(rt, map.get(b"bar").is_none());
     asked
 }
@@ -134,7 +131,7 @@ fn for_over_hash_map(rt: HostRuntime) {
     check(&rt, expected.next().is_none());
 }
 
-fn nine_left<M: UnderTest<Numbered, u32> + Drop>(rt: &impl Abort, mut map: M) {
+fn nine_left(rt: &impl Abort, mut map: Either<Numbered>) {
     check(rt, retain_nine(&mut map) && are_left(&map));
     check(rt, map.vacant() == 16);
     check(rt, map.reserve(10) == Ok(()));

@@ -1,9 +1,7 @@
 //! Maps of either kind made of iterators, and iterators that lie.
 ghost use Rattle.std.specs.Iterator.{IsFiniteIterable as IsFinite};
 
-use crate::items::Named;
-use crate::maps::{Hashed, Ordered, UnderTest};
-use crate::new_items::named;
+use crate::maps::{Hashed, Ordered};
 use iddqd::errors::{FromIterError, TryReserveError};
 use iddqd::{IdHashItem, IdHashMap, IdOrdItem, IdOrdMap};
 use std::alloc::Global;
@@ -14,46 +12,34 @@ pub type Made<M> = Result<M, TryReserveError>;
 
 pub type Unique<M, T> = Result<M, FromIterError<T>>;
 
-/// A map of either kind that is made of an iterator.
-pub trait Bulk<T: Drop>: Sized {
-    /// `from_iter`.
-    fn collected<U: IntoIterator<Item = T>>(alloc: Global, items: U) -> Made<Self>
-        requires ends { IsFinite U.into_iter_gives U.IntoIter.can_next U.IntoIter.remaining items };
-
-    /// `from_iter_unique`.
-    fn collected_unique<U: IntoIterator<Item = T>>(alloc: Global, items: U) -> Unique<Self, T>
-        requires ends { IsFinite U.into_iter_gives U.IntoIter.can_next U.IntoIter.remaining items };
-}
-
-impl<T: IdOrdItem + Drop> Bulk<T> for Ordered<T> {
-    fn collected<U: IntoIterator<Item = T>>(alloc: Global, items: U) -> Made<Self> {
+/// `from_iter` and `from_iter_unique`.
+impl<T: IdOrdItem + Drop> Ordered<T> {
+    pub fn collected<U: IntoIterator<Item = T>>(alloc: Global, items: U) -> Made<Self>
+        requires ends { IsFinite U.into_iter_gives U.IntoIter.can_next U.IntoIter.remaining items }
+    {
         Ok(Self::new(IdOrdMap::from_iter(alloc, items)?))
     }
 
-    fn collected_unique<U: IntoIterator<Item = T>>(alloc: Global, items: U) -> Unique<Self, T> {
+    pub fn collected_unique<U: IntoIterator<Item = T>>(alloc: Global, items: U) -> Unique<Self, T>
+        requires ends { IsFinite U.into_iter_gives U.IntoIter.can_next U.IntoIter.remaining items }
+    {
         Ok(Self::new(IdOrdMap::from_iter_unique(alloc, items)?))
     }
 }
 
-impl<T: IdHashItem + Drop, S: BuildHasher + Default + Drop> Bulk<T> for Hashed<T, S> {
-    fn collected<U: IntoIterator<Item = T>>(alloc: Global, items: U) -> Made<Self> {
+/// The same of a hash map.
+impl<T: IdHashItem + Drop, S: BuildHasher + Default + Drop> Hashed<T, S> {
+    pub fn collected<U: IntoIterator<Item = T>>(alloc: Global, items: U) -> Made<Self>
+        requires ends { IsFinite U.into_iter_gives U.IntoIter.can_next U.IntoIter.remaining items }
+    {
         Ok(Self::new(IdHashMap::from_iter(alloc, items)?))
     }
 
-    fn collected_unique<U: IntoIterator<Item = T>>(alloc: Global, items: U) -> Unique<Self, T> {
+    pub fn collected_unique<U: IntoIterator<Item = T>>(alloc: Global, items: U) -> Unique<Self, T>
+        requires ends { IsFinite U.into_iter_gives U.IntoIter.can_next U.IntoIter.remaining items }
+    {
         Ok(Self::new(IdHashMap::from_iter_unique(alloc, items)?))
     }
-}
-
-/// Whether the map refuses an item that is announced as more than there can be, before it asks for it.
-pub fn is_not_taken_in<M: UnderTest<Named, [u8; 3]>>(map: &mut M) -> bool {
-    let item = [named(*b"lie", 0)];
-    let mut liar = Hinted::new(&item, usize::MAX);
-    let refused = match map.extend(&mut liar) {
-        Ok(()) => false,
-        Err(stopped) => stopped.item.is_none() && stopped.error.is_capacity_overflow(),
-    };
-    refused && liar.next().is_some()
 }
 
 /// Gives a vector's items, from the last one on. It announces that this many are to come at least, and at most far more

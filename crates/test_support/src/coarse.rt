@@ -1,10 +1,9 @@
 //! What rows and random lists ask of a map of either kind whose keys are equal in any case. They ask by its numbers,
 //! guards and entries, and write whole an item of an equal key, which is spelled in another way.
-use crate::caseless::{Caseless, Coarse, spelled};
+use crate::caseless::{Caseless, Coarse};
 use crate::hashers::ZeroHasher;
-use crate::maps::{Copying, Hashed, Ordered, UnderTest};
+use crate::maps::{Hashed, Ordered};
 use iddqd::errors::{Refused, TryReserveError};
-use iddqd::internal::ValidateCompact;
 use iddqd::{Visit, id_hash_map, id_ord_map};
 use std::alloc::{AllocError, Global};
 use std::collections::hash_map::RandomState;
@@ -58,64 +57,6 @@ pub enum Way {
 /// one.
 pub type Put = Result<Option<Coarse>, Refused<Coarse>>;
 
-/// A map of either kind with keys that are equal in any case. What lends returns a copy. If the entry is not of the
-/// kind needed, or if memory was refused, a call that returns no `Put` returns `None` or false. A call without a comment is
-/// the map's of that name.
-pub trait CoarseMap: Copying<Coarse, Caseless> {
-    fn limit(&self) -> u32;
-
-    /// The items of `into_iter`.
-    fn walked_out(self, alloc: Global) -> Result<Vec<Coarse>, AllocError>;
-
-    /// `==` or `eq`.
-    fn equals(&self, other: &Self) -> bool;
-
-    /// Writes by a guard that is lent once more. It returns the old item, what the guard reads once that loan is
-    /// over, and what it shows once it is spent.
-    fn write_by_reborrow(&mut self, name: &Caseless, value: u32) -> Option<[Coarse; 3]>;
-
-    /// Reads and writes by the entry of a map that is dropped then: the old item, and what the entry shows.
-    fn write_by_entry(self, name: &Caseless, value: u32) -> Option<(Coarse, Coarse)>;
-
-    /// `remove` of the entry.
-    fn remove_by_entry(&mut self, name: &Caseless) -> Option<Coarse>;
-
-    /// `insert` of a vacant entry, of an item whose key no other has.
-    fn put_vacant(&mut self, asked: &Caseless, item: Coarse) -> Put;
-
-    /// `insert_entry` of a vacant entry, and `remove` of the entry that it returns.
-    fn put_and_remove(&mut self, item: Coarse) -> Put;
-
-    /// `insert` of an occupied entry: the old item.
-    fn insert_occupied(&mut self, item: Coarse) -> Option<Coarse>;
-
-    /// Writes a value through the guard of an occupied entry.
-    fn write(&mut self, name: &Caseless, value: u32) -> bool;
-
-    /// `and_modify`, doubling and answering false, and then `or_insert`.
-    fn double_or_put(&mut self, item: Coarse) -> Put;
-
-    /// `or_insert`, written through the guard that is lent.
-    fn insert_and_write(&mut self, item: Coarse, value: u32) -> bool;
-
-    /// `or_insert_with`, which counts how often it is asked for the item.
-    fn find_or_put(&mut self, item: Coarse, asked: &mut u32) -> Put;
-
-    /// Writes the item whole. False if none of the key is there; by a visitor always true.
-    fn respell(&mut self, asked: &Caseless, item: Coarse, way: Way) -> bool;
-}
-
-/// `get`: the spelling and the value.
-pub fn spelled_at(map: &impl UnderTest<Coarse, Caseless>, name: [u8; 3]) -> Option<([u8; 3], u32)> {
-    map.get(&Caseless(name)).map(spelled)
-}
-
-/// Whether `validate` and `validate_structural` return the same: an error exactly if slots are vacant and none may be.
-pub fn is_valid<M: UnderTest<Coarse, Caseless>>(map: &M) -> bool {
-    let is_compact = map.vacant() == 0;
-    map.is_sound() && map.validates(ValidateCompact::Compact) == (is_compact, is_compact)
-}
-
 // What `respell` does, by the functions that write by a guard and in a walk.
 macro_rules! respelled {
     ($map:ident, $module:ident, $put:ident, $put_in_walk:ident, $asked:ident, $item:ident, $way:ident) => {
@@ -140,21 +81,27 @@ macro_rules! respelled {
     };
 }
 
-impl CoarseMap for Ordered<Coarse> {
-    fn limit(&self) -> u32 {
+/// What lends returns a copy. If the entry is not of the kind needed, or if memory was refused, a call that returns no
+/// `Put` returns `None` or false. A call without a comment is the map's of that name.
+impl Ordered<Coarse> {
+    pub fn limit(&self) -> u32 {
         self.map.limit()
     }
 
-    fn walked_out(self, alloc: Global) -> Result<Vec<Coarse>, AllocError> {
+    /// The items of `into_iter`.
+    pub fn walked_out(self, alloc: Global) -> Result<Vec<Coarse>, AllocError> {
         self.map.into_iter().collect(alloc)
     }
 
-    fn equals(&self, other: &Self) -> bool {
+    /// `==` or `eq`.
+    pub fn equals(&self, other: &Self) -> bool {
         self.map.eq(&other.map)
     }
 
+    /// Writes by a guard that is lent once more. It returns the old item, what the guard reads once that loan is
+    /// over, and what it shows once it is spent.
     #[tactic(auto, using(iddqd::proofs::GuardLemmas::same_key_kept))]
-    fn write_by_reborrow(&mut self, name: &Caseless, value: u32) -> Option<[Coarse; 3]> {
+    pub fn write_by_reborrow(&mut self, name: &Caseless, value: u32) -> Option<[Coarse; 3]> {
         let mut outer = self.map.get_mut(name)?;
         let old = *outer;
         let inner = outer.reborrow();
@@ -163,7 +110,8 @@ impl CoarseMap for Ordered<Coarse> {
         Some([old, read, *outer.into_ref()])
     }
 
-    fn write_by_entry(self, name: &Caseless, value: u32) -> Option<(Coarse, Coarse)> {
+    /// Reads and writes by the entry of a map that is dropped then: the old item, and what the entry shows.
+    pub fn write_by_entry(self, name: &Caseless, value: u32) -> Option<(Coarse, Coarse)> {
         let mut map = self.map;
         match map.entry(name) {
             id_ord_map::Entry::Occupied(mut entry) => {
@@ -175,14 +123,16 @@ impl CoarseMap for Ordered<Coarse> {
         }
     }
 
-    fn remove_by_entry(&mut self, name: &Caseless) -> Option<Coarse> {
+    /// `remove` of the entry.
+    pub fn remove_by_entry(&mut self, name: &Caseless) -> Option<Coarse> {
         match self.map.entry(name) {
             id_ord_map::Entry::Occupied(entry) => Some(entry.remove()),
             id_ord_map::Entry::Vacant(_) => None,
         }
     }
 
-    fn put_vacant(&mut self, asked: &Caseless, item: Coarse) -> Put {
+    /// `insert` of a vacant entry, of an item whose key no other has.
+    pub fn put_vacant(&mut self, asked: &Caseless, item: Coarse) -> Put {
         if self.map.contains_key(&item.name) {
             return Ok(None);
         }
@@ -192,22 +142,25 @@ impl CoarseMap for Ordered<Coarse> {
         Ok(Some(*entry.insert(item)?.into_ref()))
     }
 
-    fn put_and_remove(&mut self, item: Coarse) -> Put {
+    /// `insert_entry` of a vacant entry, and `remove` of the entry that it returns.
+    pub fn put_and_remove(&mut self, item: Coarse) -> Put {
         let id_ord_map::Entry::Vacant(entry) = self.map.entry(&item.name) else {
             return Ok(None);
         };
         Ok(Some(entry.insert_entry(item)?.remove()))
     }
 
-    fn insert_occupied(&mut self, item: Coarse) -> Option<Coarse> {
+    /// `insert` of an occupied entry: the old item.
+    pub fn insert_occupied(&mut self, item: Coarse) -> Option<Coarse> {
         match self.map.entry(&item.name) {
             id_ord_map::Entry::Occupied(mut entry) => Some(entry.insert(item)),
             id_ord_map::Entry::Vacant(_) => None,
         }
     }
 
+    /// Writes a value through the guard of an occupied entry.
     #[tactic(auto, using(iddqd::proofs::GuardLemmas::same_key_kept))]
-    fn write(&mut self, name: &Caseless, value: u32) -> bool {
+    pub fn write(&mut self, name: &Caseless, value: u32) -> bool {
         let id_ord_map::Entry::Occupied(entry) = self.map.entry(name) else {
             return false;
         };
@@ -217,13 +170,15 @@ impl CoarseMap for Ordered<Coarse> {
         true
     }
 
-    fn double_or_put(&mut self, item: Coarse) -> Put {
+    /// `and_modify`, doubling and answering false, and then `or_insert`.
+    pub fn double_or_put(&mut self, item: Coarse) -> Put {
         let entry = self.map.entry(&item.name).and_modify(&mut DoublesAndDenies);
         Ok(Some(*entry.or_insert(item)?.into_ref()))
     }
 
+    /// `or_insert`, written through the guard that is lent.
     #[tactic(auto, using(iddqd::proofs::GuardLemmas::same_key_kept))]
-    fn insert_and_write(&mut self, item: Coarse, value: u32) -> bool {
+    pub fn insert_and_write(&mut self, item: Coarse, value: u32) -> bool {
         let Ok(mut lent) = self.map.entry(&item.name).or_insert(item) else {
             return false;
         };
@@ -232,7 +187,8 @@ impl CoarseMap for Ordered<Coarse> {
         true
     }
 
-    fn find_or_put(&mut self, item: Coarse, asked: &mut u32) -> Put {
+    /// `or_insert_with`, which counts how often it is asked for the item.
+    pub fn find_or_put(&mut self, item: Coarse, asked: &mut u32) -> Put {
         let make = || {
             *asked = asked.saturating_add(1);
             item
@@ -241,27 +197,29 @@ impl CoarseMap for Ordered<Coarse> {
         Ok(Some(*entry.or_insert_with(make)?.into_ref()))
     }
 
+    /// Writes the item whole. False if none of the key is there; by a visitor always true.
     #[tactic(auto, using(crate::proofs::RespelledLemmas::respelled_keeps_key))]
-    fn respell(&mut self, asked: &Caseless, item: Coarse, way: Way) -> bool {
+    pub fn respell(&mut self, asked: &Caseless, item: Coarse, way: Way) -> bool {
         respelled!(self, id_ord_map, put, put_in_walk, asked, item, way)
     }
 }
 
-impl<S: BuildHasher + Drop> CoarseMap for Hashed<Coarse, S> {
-    fn limit(&self) -> u32 {
+/// The same of a hash map.
+impl<S: BuildHasher + Drop> Hashed<Coarse, S> {
+    pub fn limit(&self) -> u32 {
         self.map.limit()
     }
 
-    fn walked_out(self, alloc: Global) -> Result<Vec<Coarse>, AllocError> {
+    pub fn walked_out(self, alloc: Global) -> Result<Vec<Coarse>, AllocError> {
         self.map.into_iter().collect(alloc)
     }
 
-    fn equals(&self, other: &Self) -> bool {
+    pub fn equals(&self, other: &Self) -> bool {
         self.map.eq(&other.map)
     }
 
     #[tactic(auto, using(iddqd::proofs::GuardLemmas::same_key_kept))]
-    fn write_by_reborrow(&mut self, name: &Caseless, value: u32) -> Option<[Coarse; 3]> {
+    pub fn write_by_reborrow(&mut self, name: &Caseless, value: u32) -> Option<[Coarse; 3]> {
         let mut outer = self.map.get_mut(name)?;
         let old = *outer;
         let inner = outer.reborrow();
@@ -270,7 +228,7 @@ impl<S: BuildHasher + Drop> CoarseMap for Hashed<Coarse, S> {
         Some([old, read, *outer.into_ref()])
     }
 
-    fn write_by_entry(self, name: &Caseless, value: u32) -> Option<(Coarse, Coarse)> {
+    pub fn write_by_entry(self, name: &Caseless, value: u32) -> Option<(Coarse, Coarse)> {
         let mut map = self.map;
         match map.entry(name) {
             id_hash_map::Entry::Occupied(mut entry) => {
@@ -282,14 +240,14 @@ impl<S: BuildHasher + Drop> CoarseMap for Hashed<Coarse, S> {
         }
     }
 
-    fn remove_by_entry(&mut self, name: &Caseless) -> Option<Coarse> {
+    pub fn remove_by_entry(&mut self, name: &Caseless) -> Option<Coarse> {
         match self.map.entry(name) {
             id_hash_map::Entry::Occupied(entry) => Some(entry.remove()),
             id_hash_map::Entry::Vacant(_) => None,
         }
     }
 
-    fn put_vacant(&mut self, asked: &Caseless, item: Coarse) -> Put {
+    pub fn put_vacant(&mut self, asked: &Caseless, item: Coarse) -> Put {
         if self.map.contains_key(&item.name) {
             return Ok(None);
         }
@@ -299,14 +257,14 @@ impl<S: BuildHasher + Drop> CoarseMap for Hashed<Coarse, S> {
         Ok(Some(*entry.insert(item)?.into_ref()))
     }
 
-    fn put_and_remove(&mut self, item: Coarse) -> Put {
+    pub fn put_and_remove(&mut self, item: Coarse) -> Put {
         let id_hash_map::Entry::Vacant(entry) = self.map.entry(&item.name) else {
             return Ok(None);
         };
         Ok(Some(entry.insert_entry(item)?.remove()))
     }
 
-    fn insert_occupied(&mut self, item: Coarse) -> Option<Coarse> {
+    pub fn insert_occupied(&mut self, item: Coarse) -> Option<Coarse> {
         match self.map.entry(&item.name) {
             id_hash_map::Entry::Occupied(mut entry) => Some(entry.insert(item)),
             id_hash_map::Entry::Vacant(_) => None,
@@ -314,7 +272,7 @@ impl<S: BuildHasher + Drop> CoarseMap for Hashed<Coarse, S> {
     }
 
     #[tactic(auto, using(iddqd::proofs::GuardLemmas::same_key_kept))]
-    fn write(&mut self, name: &Caseless, value: u32) -> bool {
+    pub fn write(&mut self, name: &Caseless, value: u32) -> bool {
         let id_hash_map::Entry::Occupied(entry) = self.map.entry(name) else {
             return false;
         };
@@ -324,13 +282,13 @@ impl<S: BuildHasher + Drop> CoarseMap for Hashed<Coarse, S> {
         true
     }
 
-    fn double_or_put(&mut self, item: Coarse) -> Put {
+    pub fn double_or_put(&mut self, item: Coarse) -> Put {
         let entry = self.map.entry(&item.name).and_modify(&mut DoublesAndDenies);
         Ok(Some(*entry.or_insert(item)?.into_ref()))
     }
 
     #[tactic(auto, using(iddqd::proofs::GuardLemmas::same_key_kept))]
-    fn insert_and_write(&mut self, item: Coarse, value: u32) -> bool {
+    pub fn insert_and_write(&mut self, item: Coarse, value: u32) -> bool {
         let Ok(mut lent) = self.map.entry(&item.name).or_insert(item) else {
             return false;
         };
@@ -339,7 +297,7 @@ impl<S: BuildHasher + Drop> CoarseMap for Hashed<Coarse, S> {
         true
     }
 
-    fn find_or_put(&mut self, item: Coarse, asked: &mut u32) -> Put {
+    pub fn find_or_put(&mut self, item: Coarse, asked: &mut u32) -> Put {
         let make = || {
             *asked = asked.saturating_add(1);
             item
@@ -349,7 +307,7 @@ impl<S: BuildHasher + Drop> CoarseMap for Hashed<Coarse, S> {
     }
 
     #[tactic(auto, using(crate::proofs::RespelledLemmas::respelled_keeps_key))]
-    fn respell(&mut self, asked: &Caseless, item: Coarse, way: Way) -> bool {
+    pub fn respell(&mut self, asked: &Caseless, item: Coarse, way: Way) -> bool {
         respelled!(
             self,
             id_hash_map,

@@ -17,7 +17,7 @@ use iddqd::{
 };
 use std::alloc::{AllocError, Global};
 use std::hash::BuildHasher;
-use std::marker::Model;
+use std::marker::{Model, PhantomData};
 
 /// What an insertion left: nothing in its way, the new item and the one that is there, or a refusal.
 #[derive(Drop, PartialEq, Eq)]
@@ -67,10 +67,12 @@ fn ending<T: Copy>(error: Option<ExtendUniqueError<T>>) -> Added<T> {
     }
 }
 
-/// An ordered map under test. It is keyed.
+/// An ordered map under test. It is keyed. It names the keys' type for the borrow checker, which else does not cover
+/// keys that hold references.
 #[derive(Drop)]
 pub struct Ordered<T: IdOrdItem> {
     pub(crate) map: IdOrdMap<T>,
+    keys: PhantomData<T::Key>,
 }
 
 impl<T: IdOrdItem> Model for Ordered<T> {
@@ -85,6 +87,7 @@ impl<T: IdOrdItem> Model for Ordered<T> {
 #[derive(Drop)]
 pub struct Hashed<T: IdHashItem, S: BuildHasher = DefaultHashBuilder> {
     pub(crate) map: IdHashMap<T, S>,
+    keys: PhantomData<T::Key>,
 }
 
 impl<T: IdHashItem, S: BuildHasher> Model for Hashed<T, S> {
@@ -110,7 +113,10 @@ impl<T: IdOrdItem> Ordered<T> {
     pub fn new(map: IdOrdMap<T>) -> Ordered<T>
         requires keyed { Ascends T.key T.Key.cmp map.items }
     {
-        Ordered { map }
+        Ordered {
+            map,
+            keys: PhantomData,
+        }
     }
 
     /// The map, for calls that take any.
@@ -133,7 +139,10 @@ impl<T: IdHashItem, S: BuildHasher> Hashed<T, S> {
     pub fn new(map: IdHashMap<T, S>) -> Hashed<T, S>
         requires keyed { ⟦<IdHashMap<T, S> as Keyed>⟧.keyed map }
     {
-        Hashed { map }
+        Hashed {
+            map,
+            keys: PhantomData,
+        }
     }
 
     /// The map, for calls that take any.
@@ -151,228 +160,190 @@ impl<T: IdHashItem, S: BuildHasher> Hashed<T, S> {
     }
 }
 
-/// A map of either kind under test, with items `T` of keys `K`. A call without a comment is the map's of that name.
-pub trait UnderTest<T: Drop, K>: Sized {
+/// A call without a comment is the map's of that name.
+impl<T: IdOrdItem + Drop> Ordered<T> {
     /// Whether `insert_unique` inserts the item.
-    fn is_put(&mut self, item: T) -> bool;
-
-    /// `insert_overwrite`.
-    fn overwrite(&mut self, item: T) -> Result<Option<T>, Refused<T>>;
-
-    fn extend<U: IntoIterator<Item = T>>(&mut self, items: U) -> Result<(), ExtendError<T>>
-        requires ends { IsFinite U.into_iter_gives U.IntoIter.can_next U.IntoIter.remaining items };
-
-    fn get(&self, key: &K) -> Option<&T>;
-
-    /// `contains_key`.
-    fn contains(&self, key: &K) -> bool;
-
-    /// `get_counted`, and how many comparisons it took.
-    fn get_counted(&self, key: &K) -> (Option<&T>, u32);
-
-    fn remove(&mut self, key: &K) -> Option<T>;
-
-    fn retain<F: FnMut(&T) -> bool>(&mut self, keep: F)
-        requires { F.IsAlwaysCallable keep };
-
-    fn clear(&mut self);
-
-    fn len(&self) -> usize;
-
-    /// Whether `iter` has these items, in this order.
-    fn lists(&self, items: &[T]) -> bool
-    where
-        T: PartialEq;
-
-    fn reserve(&mut self, additional: usize) -> Result<(), TryReserveError>;
-
-    /// `try_reserve`, or `reserve` where there is no such call.
-    fn try_reserve(&mut self, additional: usize) -> Result<(), TryReserveError> {
-        self.reserve(additional)
-    }
-
-    fn shrink_to(&mut self, min: usize) -> Result<(), TryReserveError>;
-
-    fn shrink_to_fit(&mut self) -> Result<(), TryReserveError>;
-
-    /// How many items fit, by the numbers that the map shows.
-    fn room(&self) -> usize {
-        self.capacity()
-    }
-
-    fn capacity(&self) -> usize;
-
-    fn vacant(&self) -> u32;
-
-    /// Whether `validate` finds no error, and whether `validate_structural` finds none.
-    fn validates(&self, compact: ValidateCompact) -> (bool, bool);
-
-    /// Whether there is no error, where slots may be vacant.
-    fn is_sound(&self) -> bool {
-        self.validates(ValidateCompact::NonCompact) == (true, true)
-    }
-
-    /// Whether there is no error, where no slot may be vacant.
-    fn is_compact(&self) -> bool {
-        self.validates(ValidateCompact::Compact) == (true, true)
-    }
-}
-
-impl<T: IdOrdItem + Drop> UnderTest<T, T::Key> for Ordered<T> {
-    fn is_put(&mut self, item: T) -> bool {
+    pub fn is_put(&mut self, item: T) -> bool {
         self.map.insert_unique(item).is_ok()
     }
 
-    fn overwrite(&mut self, item: T) -> Result<Option<T>, Refused<T>> {
+    pub fn overwrite(&mut self, item: T) -> Result<Option<T>, Refused<T>> {
         self.map.insert_overwrite(item)
     }
 
-    fn extend<U: IntoIterator<Item = T>>(&mut self, items: U) -> Result<(), ExtendError<T>> {
+    pub fn extend<U: IntoIterator<Item = T>>(&mut self, items: U) -> Result<(), ExtendError<T>>
+        requires ends { IsFinite U.into_iter_gives U.IntoIter.can_next U.IntoIter.remaining items }
+    {
         self.map.extend(items)
     }
 
-    fn get(&self, key: &T::Key) -> Option<&T> {
+    pub fn get(&self, key: &T::Key) -> Option<&T> {
         self.map.get(key)
     }
 
-    fn contains(&self, key: &T::Key) -> bool {
+    pub fn contains(&self, key: &T::Key) -> bool {
         self.map.contains_key(key)
     }
 
-    fn get_counted(&self, key: &T::Key) -> (Option<&T>, u32) {
+    /// `get_counted`, and how many comparisons it took.
+    pub fn get_counted(&self, key: &T::Key) -> (Option<&T>, u32) {
         let mut steps = Steps::new();
         let found = self.map.get_counted(key, &mut steps);
         (found, steps.count())
     }
 
-    fn remove(&mut self, key: &T::Key) -> Option<T> {
+    pub fn remove(&mut self, key: &T::Key) -> Option<T> {
         self.map.remove(key)
     }
 
-    fn retain<F: FnMut(&T) -> bool>(&mut self, keep: F) {
+    pub fn retain<F: FnMut(&T) -> bool>(&mut self, keep: F)
+        requires { F.IsAlwaysCallable keep }
+    {
         self.map.retain(keep)
     }
 
-    fn clear(&mut self) {
+    pub fn clear(&mut self) {
         self.map.clear()
     }
 
-    fn len(&self) -> usize {
+    pub fn len(&self) -> usize {
         self.map.len()
     }
 
-    fn lists(&self, items: &[T]) -> bool
+    /// Whether `iter` has these items, in this order.
+    pub fn lists(&self, items: &[T]) -> bool
     where
         T: PartialEq,
     {
         self.map.iter().eq(items)
     }
 
-    fn reserve(&mut self, additional: usize) -> Result<(), TryReserveError> {
+    pub fn reserve(&mut self, additional: usize) -> Result<(), TryReserveError> {
         self.map.reserve(additional)
     }
 
-    fn shrink_to(&mut self, min: usize) -> Result<(), TryReserveError> {
+    /// `reserve`, since there is no such call.
+    pub fn try_reserve(&mut self, additional: usize) -> Result<(), TryReserveError> {
+        self.map.reserve(additional)
+    }
+
+    pub fn shrink_to(&mut self, min: usize) -> Result<(), TryReserveError> {
         self.map.shrink_to(min)
     }
 
-    fn shrink_to_fit(&mut self) -> Result<(), TryReserveError> {
+    pub fn shrink_to_fit(&mut self) -> Result<(), TryReserveError> {
         self.map.shrink_to_fit()
     }
 
-    fn capacity(&self) -> usize {
+    /// How many items fit, by the numbers that the map shows.
+    pub fn room(&self) -> usize {
         self.map.capacity()
     }
 
-    fn vacant(&self) -> u32 {
+    pub fn capacity(&self) -> usize {
+        self.map.capacity()
+    }
+
+    pub fn vacant(&self) -> u32 {
         self.map.vacant()
     }
 
-    fn validates(&self, compact: ValidateCompact) -> (bool, bool) {
+    /// Whether `validate` finds no error, and whether `validate_structural` finds none.
+    pub fn validates(&self, compact: ValidateCompact) -> (bool, bool) {
         let is_valid = self.map.validate(compact).is_ok();
         (is_valid, self.map.validate_structural(compact).is_ok())
     }
+
+    /// Whether there is no error, where slots may be vacant.
+    pub fn is_sound(&self) -> bool {
+        self.validates(ValidateCompact::NonCompact) == (true, true)
+    }
 }
 
-impl<T: IdHashItem + Drop, S: BuildHasher> UnderTest<T, T::Key> for Hashed<T, S> {
-    fn is_put(&mut self, item: T) -> bool {
+/// The same of a hash map.
+impl<T: IdHashItem + Drop, S: BuildHasher> Hashed<T, S> {
+    pub fn is_put(&mut self, item: T) -> bool {
         self.map.insert_unique(item).is_ok()
     }
 
-    fn overwrite(&mut self, item: T) -> Result<Option<T>, Refused<T>> {
+    pub fn overwrite(&mut self, item: T) -> Result<Option<T>, Refused<T>> {
         self.map.insert_overwrite(item)
     }
 
-    fn extend<U: IntoIterator<Item = T>>(&mut self, items: U) -> Result<(), ExtendError<T>> {
+    pub fn extend<U: IntoIterator<Item = T>>(&mut self, items: U) -> Result<(), ExtendError<T>>
+        requires ends { IsFinite U.into_iter_gives U.IntoIter.can_next U.IntoIter.remaining items }
+    {
         self.map.extend(items)
     }
 
-    fn get(&self, key: &T::Key) -> Option<&T> {
+    pub fn get(&self, key: &T::Key) -> Option<&T> {
         self.map.get(key)
     }
 
-    fn contains(&self, key: &T::Key) -> bool {
+    pub fn contains(&self, key: &T::Key) -> bool {
         self.map.contains_key(key)
     }
 
-    fn get_counted(&self, key: &T::Key) -> (Option<&T>, u32) {
+    pub fn get_counted(&self, key: &T::Key) -> (Option<&T>, u32) {
         let mut steps = Steps::new();
         let found = self.map.get_counted(key, &mut steps);
         (found, steps.count())
     }
 
-    fn remove(&mut self, key: &T::Key) -> Option<T> {
+    pub fn remove(&mut self, key: &T::Key) -> Option<T> {
         self.map.remove(key)
     }
 
-    fn retain<F: FnMut(&T) -> bool>(&mut self, keep: F) {
+    pub fn retain<F: FnMut(&T) -> bool>(&mut self, keep: F)
+        requires { F.IsAlwaysCallable keep }
+    {
         self.map.retain(keep)
     }
 
-    fn clear(&mut self) {
+    pub fn clear(&mut self) {
         self.map.clear()
     }
 
-    fn len(&self) -> usize {
+    pub fn len(&self) -> usize {
         self.map.len()
     }
 
-    fn lists(&self, items: &[T]) -> bool
+    pub fn lists(&self, items: &[T]) -> bool
     where
         T: PartialEq,
     {
         self.map.iter().eq(items)
     }
 
-    fn reserve(&mut self, additional: usize) -> Result<(), TryReserveError> {
+    pub fn reserve(&mut self, additional: usize) -> Result<(), TryReserveError> {
         self.map.reserve(additional)
     }
 
-    fn try_reserve(&mut self, additional: usize) -> Result<(), TryReserveError> {
+    pub fn try_reserve(&mut self, additional: usize) -> Result<(), TryReserveError> {
         self.map.try_reserve(additional)
     }
 
-    fn shrink_to(&mut self, min: usize) -> Result<(), TryReserveError> {
+    pub fn shrink_to(&mut self, min: usize) -> Result<(), TryReserveError> {
         self.map.shrink_to(min)
     }
 
-    fn shrink_to_fit(&mut self) -> Result<(), TryReserveError> {
+    pub fn shrink_to_fit(&mut self) -> Result<(), TryReserveError> {
         self.map.shrink_to_fit()
     }
 
-    fn room(&self) -> usize {
+    pub fn room(&self) -> usize {
         self.map.spare()
     }
 
-    fn capacity(&self) -> usize {
+    pub fn capacity(&self) -> usize {
         self.map.capacity()
     }
 
-    fn vacant(&self) -> u32 {
+    pub fn vacant(&self) -> u32 {
         self.map.vacant()
     }
 
-    fn validates(&self, compact: ValidateCompact) -> (bool, bool) {
+    pub fn validates(&self, compact: ValidateCompact) -> (bool, bool) {
         let is_valid = self.map.validate(compact).is_ok();
         (is_valid, self.map.validate_structural(compact).is_ok())
     }
@@ -426,55 +397,38 @@ macro_rules! entered {
     };
 }
 
-/// A map of either kind under test, whose items are copied where a call lends or takes some.
-pub trait Copying<T: Drop, K>: UnderTest<T, K> {
+/// Items are copied where a call lends or takes some.
+impl<T: IdOrdItem + Copy + Drop> Ordered<T> {
     /// `insert_unique`.
-    fn insert(&mut self, item: T) -> Inserted<T>;
-
-    /// `extend_unique`.
-    fn add_each<U: IntoIterator<Item = T>>(&mut self, items: U) -> Added<T>
-        requires ends { IsFinite U.into_iter_gives U.IntoIter.can_next U.IntoIter.remaining items };
-
-    /// The items of `iter`.
-    fn listed(&self, alloc: Global) -> Result<Vec<T>, AllocError>;
-
-    /// How many items `iter` shows.
-    fn walk(&self) -> usize;
-
-    /// `retain_mut`, which keeps each item, or none.
-    fn visit_all(&mut self, keeps: bool);
-
-    /// `get_mut`, and the guard is spent. Whether there was one.
-    fn spend(&mut self, key: &K) -> bool;
-
-    /// The call on the entry of the item's key. Whether nothing was refused, or whether the entry is occupied if nothing
-    /// is called. The map is dropped then.
-    fn enter(self, item: T, call: ByEntry) -> bool;
-}
-
-impl<T: IdOrdItem + Copy + Drop> Copying<T, T::Key> for Ordered<T> {
-    fn insert(&mut self, item: T) -> Inserted<T> {
+    pub fn insert(&mut self, item: T) -> Inserted<T> {
         outcome(self.map.insert_unique(item).err())
     }
 
-    fn add_each<U: IntoIterator<Item = T>>(&mut self, items: U) -> Added<T> {
+    /// `extend_unique`.
+    pub fn add_each<U: IntoIterator<Item = T>>(&mut self, items: U) -> Added<T>
+        requires ends { IsFinite U.into_iter_gives U.IntoIter.can_next U.IntoIter.remaining items }
+    {
         ending(self.map.extend_unique(items).err())
     }
 
-    fn listed(&self, alloc: Global) -> Result<Vec<T>, AllocError> {
+    /// The items of `iter`.
+    pub fn listed(&self, alloc: Global) -> Result<Vec<T>, AllocError> {
         self.map.iter().copied().collect(alloc)
     }
 
-    fn walk(&self) -> usize {
+    /// How many items `iter` shows.
+    pub fn walk(&self) -> usize {
         self.map.iter().count()
     }
 
-    fn visit_all(&mut self, keeps: bool) {
+    /// `retain_mut`, which keeps each item, or none.
+    pub fn visit_all(&mut self, keeps: bool) {
         self.map.retain_mut(&mut Untouched { keeps });
     }
 
+    /// `get_mut`, and the guard is spent. Whether there was one.
     #[tactic(auto, using(iddqd::proofs::GuardLemmas::same_key_kept))]
-    fn spend(&mut self, key: &T::Key) -> bool {
+    pub fn spend(&mut self, key: &T::Key) -> bool {
         let Some(lent) = self.map.get_mut(key) else {
             return false;
         };
@@ -482,35 +436,40 @@ impl<T: IdOrdItem + Copy + Drop> Copying<T, T::Key> for Ordered<T> {
         true
     }
 
-    fn enter(self, item: T, call: ByEntry) -> bool {
+    /// The call on the entry of the item's key. Whether nothing was refused, or whether the entry is occupied if nothing
+    /// is called. The map is dropped then.
+    pub fn enter(self, item: T, call: ByEntry) -> bool {
         let mut map = self.map;
         entered!(map.entry(item.key()), id_ord_map, item, call)
     }
 }
 
-impl<T: IdHashItem + Copy + Drop, S: BuildHasher + Drop> Copying<T, T::Key> for Hashed<T, S> {
-    fn insert(&mut self, item: T) -> Inserted<T> {
+/// The same of a hash map.
+impl<T: IdHashItem + Copy + Drop, S: BuildHasher + Drop> Hashed<T, S> {
+    pub fn insert(&mut self, item: T) -> Inserted<T> {
         outcome(self.map.insert_unique(item).err())
     }
 
-    fn add_each<U: IntoIterator<Item = T>>(&mut self, items: U) -> Added<T> {
+    pub fn add_each<U: IntoIterator<Item = T>>(&mut self, items: U) -> Added<T>
+        requires ends { IsFinite U.into_iter_gives U.IntoIter.can_next U.IntoIter.remaining items }
+    {
         ending(self.map.extend_unique(items).err())
     }
 
-    fn listed(&self, alloc: Global) -> Result<Vec<T>, AllocError> {
+    pub fn listed(&self, alloc: Global) -> Result<Vec<T>, AllocError> {
         self.map.iter().copied().collect(alloc)
     }
 
-    fn walk(&self) -> usize {
+    pub fn walk(&self) -> usize {
         self.map.iter().count()
     }
 
-    fn visit_all(&mut self, keeps: bool) {
+    pub fn visit_all(&mut self, keeps: bool) {
         self.map.retain_mut(&mut Untouched { keeps });
     }
 
     #[tactic(auto, using(iddqd::proofs::GuardLemmas::same_key_kept))]
-    fn spend(&mut self, key: &T::Key) -> bool {
+    pub fn spend(&mut self, key: &T::Key) -> bool {
         let Some(lent) = self.map.get_mut(key) else {
             return false;
         };
@@ -518,55 +477,38 @@ impl<T: IdHashItem + Copy + Drop, S: BuildHasher + Drop> Copying<T, T::Key> for 
         true
     }
 
-    fn enter(self, item: T, call: ByEntry) -> bool {
+    pub fn enter(self, item: T, call: ByEntry) -> bool {
         let mut map = self.map;
         entered!(map.entry(item.key()), id_hash_map, item, call)
     }
 }
 
-/// What a row asks of a map of either kind by texts.
-pub trait AskedByText {
-    /// What the map holds.
-    type Item;
-
-    /// The item of the name.
-    fn find(&self, name: &str) -> Option<&Self::Item>;
-
-    /// Whether there is an item of the name.
-    fn has_name(&self, name: &str) -> bool;
-
-    /// Takes out the item of the name.
-    fn take_out(&mut self, name: &str) -> Option<Self::Item>;
-}
-
-impl<T: IdOrdItem<Key = String>> AskedByText for Ordered<T> {
-    type Item = T;
-
-    fn find(&self, name: &str) -> Option<&T> {
+/// Calls by texts.
+impl<T: IdOrdItem<Key = String>> Ordered<T> {
+    pub fn find(&self, name: &str) -> Option<&T> {
         self.map.get(&Text(name))
     }
 
-    fn has_name(&self, name: &str) -> bool {
+    pub fn has_name(&self, name: &str) -> bool {
         self.map.contains_key(&Text(name))
     }
 
-    fn take_out(&mut self, name: &str) -> Option<T> {
+    pub fn take_out(&mut self, name: &str) -> Option<T> {
         self.map.remove(&Text(name))
     }
 }
 
-impl<T: IdHashItem<Key = String>> AskedByText for Hashed<T> {
-    type Item = T;
-
-    fn find(&self, name: &str) -> Option<&T> {
+/// The same of a hash map.
+impl<T: IdHashItem<Key = String>> Hashed<T> {
+    pub fn find(&self, name: &str) -> Option<&T> {
         self.map.get(&Text(name))
     }
 
-    fn has_name(&self, name: &str) -> bool {
+    pub fn has_name(&self, name: &str) -> bool {
         self.map.contains_key(&Text(name))
     }
 
-    fn take_out(&mut self, name: &str) -> Option<T> {
+    pub fn take_out(&mut self, name: &str) -> Option<T> {
         self.map.remove(&Text(name))
     }
 }

@@ -45,39 +45,32 @@ impl Visit<Numbered> for Change {
     }
 }
 
-/// A map of either kind, by its calls that visit.
-pub trait Visited {
-    /// A visit of the item of the number: what the visitor returned (`get_mut`).
-    fn visit(&mut self, number: u32, visitor: &mut Change) -> Option<bool>;
-
-    /// `retain_mut`.
-    fn retain_mut(&mut self, visitor: &mut Change);
-}
-
-impl Visited for Ordered<Numbered> {
+/// Calls that visit. `visit` returns what the visitor returned of the item of the number, which `get_mut` lends.
+impl Ordered<Numbered> {
     #[tactic(auto, using(iddqd::proofs::GuardLemmas::same_key_kept))]
-    fn visit(&mut self, number: u32, visitor: &mut Change) -> Option<bool> {
+    pub fn visit(&mut self, number: u32, visitor: &mut Change) -> Option<bool> {
         let mut found = self.map.get_mut(&number)?;
         let is_kept = visitor.visit(&mut found);
         found.finish();
         Some(is_kept)
     }
 
-    fn retain_mut(&mut self, visitor: &mut Change) {
+    pub fn retain_mut(&mut self, visitor: &mut Change) {
         self.map.retain_mut(visitor);
     }
 }
 
-impl Visited for Hashed<Numbered> {
+/// The same of a hash map.
+impl Hashed<Numbered> {
     #[tactic(auto, using(iddqd::proofs::GuardLemmas::hash_key_kept))]
-    fn visit(&mut self, number: u32, visitor: &mut Change) -> Option<bool> {
+    pub fn visit(&mut self, number: u32, visitor: &mut Change) -> Option<bool> {
         let mut found = self.map.get_mut(&number)?;
         let is_kept = visitor.visit(&mut found);
         found.finish();
         Some(is_kept)
     }
 
-    fn retain_mut(&mut self, visitor: &mut Change) {
+    pub fn retain_mut(&mut self, visitor: &mut Change) {
         self.map.retain_mut(visitor);
     }
 }

@@ -1,5 +1,5 @@
 //! Each case of five keys, and one of hundreds, against plain lists.
-use super::held::{Listed, Sides};
+use super::held::Sides;
 use crate::prelude::*;
 
 // What the maps have at a key: neither an item, the old one alone, the new one alone, both the same, or each another.
@@ -26,9 +26,18 @@ fn sides_of_case(rt: &impl Host, case: u32) -> Vec<Sides<Numbered>> {
     all
 }
 
+type Maps = (Either<Numbered>, Either<Numbered>);
+
+fn empty(kind: Kind, alloc: Global) -> Either<Numbered> {
+    match kind {
+        Kind::Ordered => in_order(alloc),
+        Kind::Hashed => by_hash(alloc),
+    }
+}
+
 // Two maps, each of the items of its side.
-fn maps_of<M: Listed<Numbered, u32>>(rt: &impl Host, all: &[Sides<Numbered>]) -> (M, M) {
-    let (mut before, mut after) = (M::empty(rt.alloc()), M::empty(rt.alloc()));
+fn maps_of(rt: &impl Host, all: &[Sides<Numbered>], kind: Kind) -> Maps {
+    let (mut before, mut after) = (empty(kind, rt.alloc()), empty(kind, rt.alloc()));
     for sides in all {
         if let Some(old) = sides.0 {
             check(rt, before.is_put(old));
@@ -67,13 +76,9 @@ fn looked_up(rt: &impl Host, all: &[Sides<Numbered>]) -> Vec<Sides<Numbered>> {
     wanted
 }
 
-// Whether the difference of two maps with these sides gives what is wanted, and counts as many changes.
-fn gives<M>(rt: &impl Host, all: &[Sides<Numbered>], wanted: Vec<Sides<Numbered>>)
-where
-    M: Listed<Numbered, u32> + Drop,
-{
+// Whether the difference of the two maps gives what is wanted, and counts as many changes.
+fn gives(rt: &impl Host, (before, after): Maps, wanted: Vec<Sides<Numbered>>) {
     let wanted = wanted.as_slice();
-    let (before, after): (M, M) = maps_of(rt, all);
     let found = before.differences(&after, rt.alloc()).expect(rt, "memory");
     check(rt, found.as_slice() == wanted);
     let mut changes = 0usize;
@@ -91,7 +96,7 @@ fn each_case_in_order(rt: HostRuntime) {
     for case in 0..3125u32 {
         let all = sides_of_case(&rt, case);
         let all = all.as_slice();
-        gives::<Ordered<Numbered>>(&rt, all, merged(&rt, all));
+        gives(&rt, maps_of(&rt, all, Kind::Ordered), merged(&rt, all));
     }
 }
 
@@ -100,7 +105,7 @@ fn each_case_by_hash(rt: HostRuntime) {
     for case in 0..3125u32 {
         let all = sides_of_case(&rt, case);
         let all = all.as_slice();
-        gives::<Hashed<Numbered>>(&rt, all, looked_up(&rt, all));
+        gives(&rt, maps_of(&rt, all, Kind::Hashed), looked_up(&rt, all));
     }
 }
 
@@ -115,20 +120,20 @@ fn sides_of_hundreds(rt: &impl Host) -> Vec<Sides<Numbered>> {
 }
 
 /// Two maps of hundreds of items.
-pub(crate) fn hundreds<M: Listed<Numbered, u32>>(rt: &impl Host) -> (M, M) {
-    maps_of(rt, sides_of_hundreds(rt).as_slice())
+pub(crate) fn hundreds(rt: &impl Host, kind: Kind) -> Maps {
+    maps_of(rt, sides_of_hundreds(rt).as_slice(), kind)
 }
 
 #[test]
 fn hundreds_in_order(rt: HostRuntime) {
     let all = sides_of_hundreds(&rt);
     let all = all.as_slice();
-    gives::<Ordered<Numbered>>(&rt, all, merged(&rt, all));
+    gives(&rt, maps_of(&rt, all, Kind::Ordered), merged(&rt, all));
 }
 
 #[test]
 fn hundreds_by_hash(rt: HostRuntime) {
     let all = sides_of_hundreds(&rt);
     let all = all.as_slice();
-    gives::<Hashed<Numbered>>(&rt, all, looked_up(&rt, all));
+    gives(&rt, maps_of(&rt, all, Kind::Hashed), looked_up(&rt, all));
 }

@@ -1,6 +1,7 @@
-//! What the difference of two maps under test shows.
+//! What the difference of two maps under test shows. Of maps of two kinds it shows nothing.
 use crate::prelude::*;
 use iddqd_diff::{Diffable, Difference, id_hash_map, id_ord_map};
+use std::hash::Hash;
 
 /// What the old map has at a key, and the new one.
 pub(crate) type Sides<T> = (Option<T>, Option<T>);
@@ -13,80 +14,62 @@ fn sides<T: Copy>(difference: &Difference<&T>) -> Sides<T> {
     }
 }
 
-/// A map of either kind, whose difference to one that came after it is listed.
-pub(crate) trait Listed<T: Drop, K>: UnderTest<T, K> {
-    /// A map without items.
-    fn empty(alloc: Global) -> Self;
+// What is made of two maps of one kind, or else of others.
+macro_rules! both {
+    ($map:ident, $other:ident, ($before:ident, $after:ident) => $made:expr, $else:expr) => {
+        match ($map, $other) {
+            (Either::Ordered($before), Either::Ordered($after)) => $made,
+            (Either::Hashed($before), Either::Hashed($after)) => $made,
+            _ => $else,
+        }
+    };
+}
 
+impl<K: Ord + Hash, T> Either<T>
+where
+    T: IdOrdItem<Key = K> + IdHashItem<Key = K> + Copy + PartialEq + Drop,
+{
     /// The differences, in the order in which they come.
-    fn differences(&self, after: &Self, alloc: Global) -> Result<Vec<Sides<T>>, AllocError>;
+    pub(crate) fn differences(
+        &self,
+        after: &Self,
+        alloc: Global,
+    ) -> Result<Vec<Sides<T>>, AllocError> {
+        let mut all = Vec::new(alloc);
+        both!(self, after, (old, new) => {
+            for difference in old.map().diff(new.map()) {
+                all.push(sides(&difference))?;
+            }
+        }, ());
+        Ok(all)
+    }
 
     /// The `size_hint` before the first difference.
-    fn hint(&self, after: &Self) -> (usize, Option<usize>);
+    pub(crate) fn hint(&self, after: &Self) -> (usize, Option<usize>) {
+        both!(self, after, (old, new) => old.map().diff(new.map()).size_hint(), (0, None))
+    }
 
     /// `have_same_keys`.
-    fn has_keys_of(&self, after: &Self) -> bool;
+    pub(crate) fn has_keys_of(&self, after: &Self) -> bool {
+        match (self, after) {
+            (Either::Ordered(old), Either::Ordered(new)) => {
+                id_ord_map::have_same_keys(old.map(), new.map())
+            }
+            (Either::Hashed(old), Either::Hashed(new)) => {
+                id_hash_map::have_same_keys(old.map(), new.map())
+            }
+            _ => false,
+        }
+    }
 
     /// How many differences are changes.
-    fn changes(&self, after: &Self) -> usize;
-}
-
-impl<T: IdOrdItem + Copy + PartialEq + Drop> Listed<T, T::Key> for Ordered<T> {
-    fn empty(alloc: Global) -> Ordered<T> {
-        in_order(alloc)
-    }
-
-    fn differences(&self, after: &Ordered<T>, alloc: Global) -> Result<Vec<Sides<T>>, AllocError> {
-        let mut all = Vec::new(alloc);
-        for difference in self.map().diff(after.map()) {
-            all.push(sides(&difference))?;
-        }
-        Ok(all)
-    }
-
-    fn hint(&self, after: &Ordered<T>) -> (usize, Option<usize>) {
-        self.map().diff(after.map()).size_hint()
-    }
-
-    fn has_keys_of(&self, after: &Ordered<T>) -> bool {
-        id_ord_map::have_same_keys(self.map(), after.map())
-    }
-
-    fn changes(&self, after: &Ordered<T>) -> usize {
+    pub(crate) fn changes(&self, after: &Self) -> usize {
         let mut count = 0usize;
-        for difference in self.map().diff(after.map()) {
-            count = count.saturating_add(usize::from(difference.is_changed()));
-        }
-        count
-    }
-}
-
-impl<T: IdHashItem + Copy + PartialEq + Drop> Listed<T, T::Key> for Hashed<T> {
-    fn empty(alloc: Global) -> Hashed<T> {
-        by_hash(alloc)
-    }
-
-    fn differences(&self, after: &Hashed<T>, alloc: Global) -> Result<Vec<Sides<T>>, AllocError> {
-        let mut all = Vec::new(alloc);
-        for difference in self.map().diff(after.map()) {
-            all.push(sides(&difference))?;
-        }
-        Ok(all)
-    }
-
-    fn hint(&self, after: &Hashed<T>) -> (usize, Option<usize>) {
-        self.map().diff(after.map()).size_hint()
-    }
-
-    fn has_keys_of(&self, after: &Hashed<T>) -> bool {
-        id_hash_map::have_same_keys(self.map(), after.map())
-    }
-
-    fn changes(&self, after: &Hashed<T>) -> usize {
-        let mut count = 0usize;
-        for difference in self.map().diff(after.map()) {
-            count = count.saturating_add(usize::from(difference.is_changed()));
-        }
+        both!(self, after, (old, new) => {
+            for difference in old.map().diff(new.map()) {
+                count = count.saturating_add(usize::from(difference.is_changed()));
+            }
+        }, ());
         count
     }
 }

@@ -1,11 +1,13 @@
 //! Rows: maps that are equal, that share no key, of which one is empty, and keys that are equal though spelled
 //! differently.
-use super::held::{Listed, Sides};
+use super::held::Sides;
 use crate::prelude::*;
 
 // Two maps whose names differ in case alone, and one name beside.
-fn spellings<M: Listed<Coarse, Caseless>>(rt: &impl Abort, alloc: Global) -> (M, M) {
-    let (mut before, mut after) = (M::empty(alloc), M::empty(alloc));
+fn spellings(
+    rt: &impl Abort,
+    (mut before, mut after): (Either<Coarse>, Either<Coarse>),
+) -> (Either<Coarse>, Either<Coarse>) {
     check(rt, before.is_put(item_of(*b"web", 1)));
     check(rt, before.is_put(item_of(*b"db1", 2)));
     check(rt, after.is_put(item_of(*b"WEB", 1)));
@@ -30,7 +32,7 @@ fn are(rt: &impl Abort, found: &[Sides<Coarse>], wanted: &[(Spelled, Spelled)]) 
 
 #[test]
 fn spelled_differently_in_order(rt: HostRuntime) {
-    let (before, after) = spellings::<Ordered<Coarse>>(&rt, rt.alloc());
+    let (before, after) = spellings(&rt, (in_order(rt.alloc()), in_order(rt.alloc())));
     let found = before.differences(&after, rt.alloc()).expect(&rt, "memory");
     let wanted = [
         (Some((*b"db1", 2)), None),
@@ -43,7 +45,7 @@ fn spelled_differently_in_order(rt: HostRuntime) {
 
 #[test]
 fn spelled_differently_by_hash(rt: HostRuntime) {
-    let (before, after) = spellings::<Hashed<Coarse>>(&rt, rt.alloc());
+    let (before, after) = spellings(&rt, (by_hash(rt.alloc()), by_hash(rt.alloc())));
     let found = before.differences(&after, rt.alloc()).expect(&rt, "memory");
     let wanted = [
         (Some((*b"web", 1)), Some((*b"WEB", 1))),

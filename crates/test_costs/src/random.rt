@@ -1,9 +1,0 @@
-//! Long random lists of calls of both maps, each result compared with that of a plain list that is searched.
-mod by_kind;
-mod calls;
-mod lengths;
-mod many;
-mod ordered;
-mod plain;
-mod refused;
-mod runs;

@@ -1,0 +1,20 @@
+//! What no clause of a map of two keys says: that calls succeed with memory at hand, what they cost, and long runs.
+mod bulk;
+mod copies;
+mod counts;
+mod drops;
+mod entries;
+mod extended;
+mod filled;
+mod held;
+mod hosts;
+mod or_insert;
+mod owned;
+mod random;
+mod refused;
+mod rows;
+mod short;
+mod shrinks;
+mod texts;
+mod walks;
+mod whole_counts;
