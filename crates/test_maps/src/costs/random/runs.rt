@@ -92,6 +92,29 @@ where
     }
 }
 
+// The answer to a call of the ordered map alone. It stands apart from the pair: where a branch leaves its map in the
+// middle of a `match`, the proof that the map is still an ordered one would have to be written.
+fn is_answered_by(
+    map: &mut Ordered<Coarse>,
+    plain: &mut Plain,
+    draws: &mut Draws,
+    alloc: Global,
+    drawn: u32,
+) -> Answer {
+    let mut pair = InOrder { map, plain, draws };
+    match drawn {
+        200..=202 => Ok(pair.pop()),
+        203..=209 => pair.insert_counted(),
+        210..=211 => Ok(pair.remove_counted()),
+        212..=213 => pair.show_or_insert(),
+        214..=215 => pair.show_inserted(),
+        216..=218 => Ok(pair.position()),
+        219 => Ok(pair.remove_position()),
+        220..=222 => pair.range(alloc, false),
+        _ => pair.range(alloc, true),
+    }
+}
+
 impl Pair {
     // The number of a call: a third of the calls are an ordered map's alone.
     fn drawn_in_order(&mut self) -> u32 {
@@ -105,24 +128,11 @@ impl Pair {
         if drawn < 200 {
             return self.is_answered(alloc, drawn);
         }
-        let Either::Ordered(map) = &mut self.map else {
-            return Ok(false);
-        };
-        let mut pair = InOrder {
-            map,
-            plain: &mut self.plain,
-            draws: &mut self.draws,
-        };
-        match drawn {
-            200..=202 => Ok(pair.pop()),
-            203..=209 => pair.insert_counted(),
-            210..=211 => Ok(pair.remove_counted()),
-            212..=213 => pair.show_or_insert(),
-            214..=215 => pair.show_inserted(),
-            216..=218 => Ok(pair.position()),
-            219 => Ok(pair.remove_position()),
-            220..=222 => pair.range(alloc, false),
-            _ => pair.range(alloc, true),
+        match &mut self.map {
+            Either::Ordered(map) => {
+                is_answered_by(map, &mut self.plain, &mut self.draws, alloc, drawn)
+            }
+            Either::Hashed(_) => Ok(false),
         }
     }
 
