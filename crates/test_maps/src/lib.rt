@@ -41,6 +41,4 @@ mod serve;
 #[cfg(test)]
 mod texts;
 #[cfg(test)]
-mod two_keys;
-#[cfg(test)]
 mod visits;

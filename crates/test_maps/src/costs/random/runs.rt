@@ -92,8 +92,8 @@ where
     }
 }
 
-// The answer to a call of the ordered map alone. It stands apart from the pair: where a branch leaves its map in the
-// middle of a `match`, the proof that the map is still an ordered one would have to be written.
+// The answer to a call of the ordered map alone. It stands apart from the pair. Where a branch leaves the pair's map in
+// the middle of a `match`, a proof by hand would have to say what the map is.
 fn is_answered_by(
     map: &mut Ordered<Coarse>,
     plain: &mut Plain,

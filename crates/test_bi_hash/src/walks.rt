@@ -1,5 +1,5 @@
 //! Walks over keys, walks that write, visits, and checks of the structure, some slots vacant.
-use crate::two_keys::held::*;
+use crate::held::*;
 use iddqd_bi_hash::Visit;
 use std::cell::Cell;
 

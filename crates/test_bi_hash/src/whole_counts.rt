@@ -1,6 +1,6 @@
 //! How often the calls on all items, or on many, compare and hash the keys.
-use crate::two_keys::counts::{Counted, Tallies, length_collected};
-use crate::two_keys::held::*;
+use crate::counts::{Counted, Tallies, length_collected};
+use crate::held::*;
 use iddqd_bi_hash::Visit;
 
 // Keeps the items of first keys above one.

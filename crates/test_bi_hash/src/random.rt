@@ -1,5 +1,5 @@
 //! Long random runs of calls, against a plain list.
-use crate::two_keys::held::*;
+use crate::held::*;
 
 // A generator by shifts (Marsaglia's of 64 bits).
 #[derive(Drop)]

@@ -1,5 +1,5 @@
 //! Many hosts at once, each of which replaces those that have one of its keys; and hints.
-use crate::two_keys::held::*;
+use crate::held::*;
 
 // The fourth has the first key of the third, and the fifth the second key of the fourth. The last has the first key of
 // the first and the second key of the second.

@@ -1,5 +1,5 @@
 //! What a shrink leaves.
-use crate::two_keys::held::*;
+use crate::held::*;
 
 // Hosts with vacant slots among them, and room for a hundred more.
 fn with_room(rt: &impl Abort, alloc: Global) -> Hosts {

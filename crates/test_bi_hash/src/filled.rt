@@ -1,6 +1,6 @@
 //! Calls that allocate succeed while memory is at hand: with some hundred hosts the store and both indexes grow often.
-use crate::two_keys::held::*;
-use crate::two_keys::refused::{is_unmade, made_twice, put_all};
+use crate::held::*;
+use crate::refused::{is_unmade, made_twice, put_all};
 
 const COUNT: u32 = 300;
 

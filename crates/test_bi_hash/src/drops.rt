@@ -1,5 +1,5 @@
 //! Each item that a map of two keys drops is dropped once.
-use crate::two_keys::held::*;
+use crate::held::*;
 use iddqd_bi_hash::Visit;
 use std::alloc::AllocError;
 use std::cell::Cell;

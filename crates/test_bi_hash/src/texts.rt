@@ -1,5 +1,5 @@
 //! What `Debug` writes of a map, of its guards and of its writing walk.
-use crate::two_keys::held::*;
+use crate::held::*;
 use std::fmt::Debug;
 
 // Whether it is written so.

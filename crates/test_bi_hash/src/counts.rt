@@ -1,5 +1,5 @@
 //! How often each call compares and hashes the keys, of items whose two keys count that.
-use crate::two_keys::held::*;
+use crate::held::*;
 use std::hash::{BuildHasher, BuildHasherDefault};
 use test_support::counting::{CountingKey, Counts as Tally};
 use test_support::hashers::ZeroHasher;

@@ -1,5 +1,5 @@
 //! Copies of a map, and equality of two.
-use crate::two_keys::held::*;
+use crate::held::*;
 use std::hash::BuildHasher;
 use test_support::hashers::{FewBits, Varying};
 

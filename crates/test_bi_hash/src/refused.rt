@@ -1,5 +1,5 @@
 //! Calls with requests for memory refused: which hosts are in then.
-use crate::two_keys::held::*;
+use crate::held::*;
 use std::io::Print;
 
 /// Inserts as many hosts, each again if it is refused: how many are refused. A refusal returns the host, leaves the

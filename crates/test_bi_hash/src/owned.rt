@@ -1,5 +1,5 @@
 //! Items that own memory. `tools/sweep` looks that none of it is held as a test ends.
-use crate::two_keys::held::*;
+use crate::held::*;
 
 fn boxed(rt: &impl Abort, alloc: Global, host: Host) -> Box<Host> {
     Box::new(alloc, host).expect(rt, "memory")

@@ -1,7 +1,7 @@
 //! Many hosts at once, none of which may have a key of another.
-use crate::two_keys::bulk::hints_reserve;
-use crate::two_keys::held::*;
-use crate::two_keys::rows::hosts;
+use crate::bulk::hints_reserve;
+use crate::held::*;
+use crate::rows::hosts;
 
 // `extend_unique` by the hosts, which a repeat of these ends.
 fn repeats(hosts: &[Host], new: Host, in_its_way: Met) -> Step<'_> {

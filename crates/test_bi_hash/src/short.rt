@@ -1,6 +1,6 @@
 //! Copies, shrinks and calls on many hosts with requests for memory refused: which hosts are in then.
-use crate::two_keys::held::*;
-use crate::two_keys::refused::{is_unmade, made_twice, tell, tell_refused};
+use crate::held::*;
+use crate::refused::{is_unmade, made_twice, tell, tell_refused};
 use std::io::Print;
 
 #[test]

@@ -1,5 +1,5 @@
 //! Entries: what they find, and what they insert, replace and remove.
-use crate::two_keys::held::*;
+use crate::held::*;
 use iddqd_bi_hash::bi_hash_map::Entry;
 
 // What is done with the hosts of an entry.

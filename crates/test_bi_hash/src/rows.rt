@@ -1,5 +1,5 @@
 //! Worked examples on few hosts, some slots vacant, and keys that are equal though spelled differently.
-use crate::two_keys::held::*;
+use crate::held::*;
 use iddqd_bi_hash::Few;
 use std::cell::Cell;
 use test_support::caseless::Caseless;

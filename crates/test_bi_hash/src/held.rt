@@ -1,12 +1,11 @@
 //! A map under test. Its calls are the map's, and say nothing of what they leave. A test shows that by what it finds, so
 //! that its proof carries no contract of the map along.
-ghost use Rattle.std.specs.Prelude.{◌≡◌};
+ghost use Rattle.std.specs.Prelude.{◌≡◌, IsTrue};
 ghost use Rattle.std.specs.Iterator.{IsFiniteIterable as IsFinite};
 ghost use Rattle.iddqd_bi_hash.specs.Hashing.{hash_under};
 ghost use Rattle.iddqd_bi_hash.specs.BiHashItems.{BiHashItems, IsKeyedByBoth};
 
-pub(crate) use crate::prelude::check;
-pub(crate) use crate::two_keys::hosts::Host;
+pub(crate) use crate::hosts::Host;
 use iddqd_bi_hash::{ExtendUniqueError, Few, InsertError, Refused, TryReserveError};
 pub(crate) use iddqd_bi_hash::{
     BiHashItem, BiHashMap, DefaultHashBuilder, FromIterError, Keyed, ValidateCompact,
@@ -17,6 +16,14 @@ use std::marker::{Model, PhantomData};
 pub(crate) use std::process::Abort;
 pub(crate) use test_support::bulk::Hinted;
 pub(crate) use test_support::heap::{arm, has_leaked, is_met};
+
+/// Ends the test as failed if the condition is false. The proof of a call takes a third of that of an `assert!` in its
+/// place.
+pub(crate) fn check(rt: &impl Abort, condition: bool)
+    ensures { IsTrue condition }
+{
+    assert!(rt; condition);
+}
 
 pub(crate) fn host_of(number: u32, address: u64, load: u32) -> Host {
     Host {

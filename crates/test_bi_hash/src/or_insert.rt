@@ -1,5 +1,5 @@
 //! `or_insert` and `or_insert_with`: what an entry of no host, of one, and of two lends.
-use crate::two_keys::held::*;
+use crate::held::*;
 use iddqd_bi_hash::bi_hash_map::OccupiedEntryMut;
 
 // The hosts that are lent, before a write, and whether that is by a guard, which writes the load. It is `None` if memory
