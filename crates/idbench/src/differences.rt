@@ -10,12 +10,6 @@ use std::io::{self, Write};
 use std::time::Clock;
 use test_support::maps::{Hashed, Ordered};
 
-/// A map that is compared with a later one.
-trait Compared: Subject {
-    /// The sum of the values of the items whose keys the other map lacks, of both maps.
-    fn sum_changes(&self, later: &Self) -> u64;
-}
-
 // The value of an item whose key the other map lacks, else 0.
 fn changed_value<K>(difference: &Difference<&Item<K>>) -> u64 {
     match difference {
@@ -25,29 +19,36 @@ fn changed_value<K>(difference: &Difference<&Item<K>>) -> u64 {
     }
 }
 
-impl<K: BenchKey> Compared for Hashed<Item<K>> {
-    fn sum_changes(&self, later: &Self) -> u64 {
-        let mut sum = 0u64;
-        let mut differences = self.map().diff(later.map());
-        while let Some(difference) = differences.next() {
-            sum = sum.wrapping_add(changed_value(&difference));
-        }
-        sum
+/// The sum of the values of the items whose keys the other map lacks, of both maps.
+pub(crate) fn sum_changes_hashed<K: BenchKey>(
+    before: &Hashed<Item<K>>,
+    after: &Hashed<Item<K>>,
+) -> u64 {
+    let mut sum = 0u64;
+    let mut differences = before.map().diff(after.map());
+    while let Some(difference) = differences.next() {
+        sum = sum.wrapping_add(changed_value(&difference));
     }
+    sum
 }
 
-impl<K: BenchKey> Compared for Ordered<Item<K>> {
-    fn sum_changes(&self, later: &Self) -> u64 {
-        let mut sum = 0u64;
-        for difference in self.map().diff(later.map()) {
-            sum = sum.wrapping_add(changed_value(&difference));
-        }
-        sum
+/// The same of ordered maps.
+pub(crate) fn sum_changes_ordered<K: BenchKey>(
+    before: &Ordered<Item<K>>,
+    after: &Ordered<Item<K>>,
+) -> u64 {
+    let mut sum = 0u64;
+    for difference in before.map().diff(after.map()) {
+        sum = sum.wrapping_add(changed_value(&difference));
     }
+    sum
 }
 
-// The sum of the values of the items whose keys the other map lacks.
-fn sum_lacking_hashed<K: BenchKey>(map: &HashMap<K, Item<K>>, other: &HashMap<K, Item<K>>) -> u64 {
+/// The sum of the values of the items whose keys the other map lacks, of std's maps.
+pub(crate) fn sum_lacking_hashed<K: BenchKey>(
+    map: &HashMap<K, Item<K>>,
+    other: &HashMap<K, Item<K>>,
+) -> u64 {
     let mut sum = 0u64;
     for (key, item) in map.iter() {
         if !other.contains_key(key) {
@@ -57,8 +58,8 @@ fn sum_lacking_hashed<K: BenchKey>(map: &HashMap<K, Item<K>>, other: &HashMap<K,
     sum
 }
 
-// The same of maps in order.
-fn sum_lacking_sorted<K: BenchKey>(
+/// The same of maps in order.
+pub(crate) fn sum_lacking_sorted<K: BenchKey>(
     map: &BTreeMap<K, Item<K>>,
     other: &BTreeMap<K, Item<K>>,
 ) -> u64 {
@@ -71,20 +72,8 @@ fn sum_lacking_sorted<K: BenchKey>(
     sum
 }
 
-impl<K: BenchKey> Compared for HashMap<K, Item<K>> {
-    fn sum_changes(&self, later: &Self) -> u64 {
-        sum_lacking_hashed(self, later).wrapping_add(sum_lacking_hashed(later, self))
-    }
-}
-
-impl<K: BenchKey> Compared for BTreeMap<K, Item<K>> {
-    fn sum_changes(&self, later: &Self) -> u64 {
-        sum_lacking_sorted(self, later).wrapping_add(sum_lacking_sorted(later, self))
-    }
-}
-
 // The nanoseconds of the difference of two maps, and the sum of what changed.
-fn timed<S: Compared>(clock: &impl Clock, alloc: Global, plan: &Plan) -> io::Result<(u64, u64)> {
+fn timed<S: Subject>(clock: &impl Clock, alloc: Global, plan: &Plan) -> io::Result<(u64, u64)> {
     let before: S = filled(alloc, plan)?;
     let mut after: S = filled(alloc, plan)?;
     exchange_hundredth(&mut after, alloc, plan)?;
@@ -92,7 +81,7 @@ fn timed<S: Compared>(clock: &impl Clock, alloc: Global, plan: &Plan) -> io::Res
 }
 
 // Times our maps and std's, taking turns: whether their sums agree. The times are written if they are asked for.
-fn compare_kind<S: Compared, R: Compared>(
+fn compare_kind<S: Subject, R: Subject>(
     clock: &impl Clock,
     alloc: Global,
     out: &mut impl Write,

@@ -1,4 +1,7 @@
 //! The maps that are timed, under one trait: this library's, and std's with each key beside its item.
+use crate::differences::{
+    sum_changes_hashed, sum_changes_ordered, sum_lacking_hashed, sum_lacking_sorted,
+};
 use crate::items::{BenchKey, Item, Valued, item_of};
 use iddqd::{IdHashMap, IdOrdMap};
 use std::alloc::{AllocError, Global};
@@ -59,6 +62,9 @@ pub(crate) trait Subject: Drop {
 
     /// Keeps the items whose value is even.
     fn keep_even(&mut self);
+
+    /// The sum of the values of the items whose keys the other map lacks, of both maps.
+    fn sum_changes(&self, later: &Self) -> u64;
 }
 
 impl<K: BenchKey> Subject for Hashed<Item<K>> {
@@ -90,11 +96,11 @@ impl<K: BenchKey> Subject for Hashed<Item<K>> {
     }
 
     fn value(&self, key: &K) -> Option<u64> {
-        Some(self.get(key)?.value)
+        Some(self.map.get(key)?.value)
     }
 
     fn take(&mut self, key: &K) -> Option<u64> {
-        Some(self.remove(key)?.value)
+        Some(self.map.remove(key)?.value)
     }
 
     fn sum(&self) -> u64 {
@@ -110,7 +116,7 @@ impl<K: BenchKey> Subject for Hashed<Item<K>> {
     }
 
     fn raised(self) -> IdHashMap<Item<K>> {
-        let size = self.len();
+        let size = self.map.len();
         self.written(size, |item| item.value = item.value.wrapping_add(1))
             .0
     }
@@ -123,7 +129,11 @@ impl<K: BenchKey> Subject for Hashed<Item<K>> {
     }
 
     fn keep_even(&mut self) {
-        self.retain(|item| item.is_even());
+        self.map.retain(|item| item.is_even());
+    }
+
+    fn sum_changes(&self, later: &Self) -> u64 {
+        sum_changes_hashed(self, later)
     }
 }
 
@@ -151,11 +161,11 @@ impl<K: BenchKey> Subject for Ordered<Item<K>> {
     }
 
     fn value(&self, key: &K) -> Option<u64> {
-        Some(self.get(key)?.value)
+        Some(self.map.get(key)?.value)
     }
 
     fn take(&mut self, key: &K) -> Option<u64> {
-        Some(self.remove(key)?.value)
+        Some(self.map.remove(key)?.value)
     }
 
     fn sum(&self) -> u64 {
@@ -171,7 +181,7 @@ impl<K: BenchKey> Subject for Ordered<Item<K>> {
     }
 
     fn raised(self) -> IdOrdMap<Item<K>> {
-        let size = self.len();
+        let size = self.map.len();
         self.written(size, |item| item.value = item.value.wrapping_add(1))
             .0
     }
@@ -188,7 +198,11 @@ impl<K: BenchKey> Subject for Ordered<Item<K>> {
     }
 
     fn keep_even(&mut self) {
-        self.retain(|item| item.is_even());
+        self.map.retain(|item| item.is_even());
+    }
+
+    fn sum_changes(&self, later: &Self) -> u64 {
+        sum_changes_ordered(self, later)
     }
 }
 
@@ -267,6 +281,10 @@ impl<K: BenchKey> Subject for HashMap<K, Item<K>> {
     fn keep_even(&mut self) {
         keep_even_hashed(self);
     }
+
+    fn sum_changes(&self, later: &Self) -> u64 {
+        sum_lacking_hashed(self, later).wrapping_add(sum_lacking_hashed(later, self))
+    }
 }
 
 impl<K: BenchKey> Subject for BTreeMap<K, Item<K>> {
@@ -335,5 +353,9 @@ impl<K: BenchKey> Subject for BTreeMap<K, Item<K>> {
 
     fn keep_even(&mut self) {
         keep_even_sorted(self);
+    }
+
+    fn sum_changes(&self, later: &Self) -> u64 {
+        sum_lacking_sorted(self, later).wrapping_add(sum_lacking_sorted(later, self))
     }
 }

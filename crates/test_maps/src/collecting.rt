@@ -2,6 +2,7 @@
 use crate::insertions::{Wide, wide};
 use crate::prelude::*;
 use std::hash::Hash;
+use test_support::bulk::is_not_taken_in;
 
 // No map is made of the items: the first one has the key of the later one.
 fn repeats<K: Ord + Hash, T>(
@@ -58,7 +59,7 @@ where
 
 fn overwritten_by_name(rt: &impl Host, kind: Kind, map: Either<Named>) {
     let coming = [OTHER_FOO, BAR];
-    extends(rt, map.filled(rt, &[FOO]), &coming, &coming);
+    extends(rt, filled(rt, map, &[FOO]), &coming, &coming);
     let made = Either::collected(kind, rt.alloc(), [FOO, BAR, OTHER_FOO]);
     check(rt, made.is_ok_and(|map| map.has_only(&coming)));
 }
@@ -70,17 +71,6 @@ fn extend_overwrites(rt: HostRuntime) {
     extends(&rt, by_hash(rt.alloc()), &items, &items[1..]);
     overwritten_by_name(&rt, Kind::Ordered, in_order(rt.alloc()));
     overwritten_by_name(&rt, Kind::Hashed, by_hash(rt.alloc()));
-}
-
-// Whether the map refuses an item that is announced as more than there can be, before it asks for it.
-pub(crate) fn is_not_taken_in(map: &mut Either<Named>) -> bool {
-    let item = [named(*b"lie", 0)];
-    let mut liar = Hinted::new(&item, usize::MAX);
-    let refused = match map.extend(&mut liar) {
-        Ok(()) => false,
-        Err(stopped) => stopped.item.is_none() && stopped.error.is_capacity_overflow(),
-    };
-    refused && liar.next().is_some()
 }
 
 fn lied_to(rt: &impl Abort, mut map: Either<Named>) {
@@ -107,7 +97,7 @@ type Given<'a> = (
 
 fn adds(rt: &impl Abort, map: Either<Named>, given: Given<'_>) {
     let (first, (coming, announced), added, items) = given;
-    let mut map = map.filled(rt, first);
+    let mut map = filled(rt, map, first);
     check(rt, map.add_each(Hinted::new(coming, announced)) == *added);
     check(rt, map.has_only(items));
 }
@@ -145,7 +135,7 @@ fn extend_unique_at_the_limit(rt: HostRuntime) {
 }
 
 fn refuses_announced(rt: &impl Abort, map: Either<Named>) {
-    let mut map = map.filled(rt, &[FOO]);
+    let mut map = filled(rt, map, &[FOO]);
     let item = [BAR];
     let mut liar = Hinted::new(&item, 5);
     let full = TryReserveError::capacity_overflow();

@@ -13,13 +13,9 @@ mod commands;
 #[cfg(test)]
 mod commands_refused;
 #[cfg(test)]
-mod costs;
-#[cfg(test)]
 mod differences;
 #[cfg(test)]
 mod drops;
-#[cfg(test)]
-mod either;
 #[cfg(test)]
 mod errors;
 #[cfg(test)]
@@ -27,15 +23,11 @@ mod insertions;
 #[cfg(test)]
 mod limits;
 #[cfg(test)]
-mod nine;
-#[cfg(test)]
 mod prelude;
 #[cfg(test)]
 mod queries;
 #[cfg(test)]
 mod ranges;
-#[cfg(test)]
-mod refusals;
 #[cfg(test)]
 mod serve;
 #[cfg(test)]

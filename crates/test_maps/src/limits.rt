@@ -38,7 +38,7 @@ fn limit_two(rt: HostRuntime) {
 #[test]
 fn limit_four(rt: HostRuntime) {
     let full = TryReserveError::capacity_overflow();
-    let mut map = by_hash_of(rt.alloc(), 4).filled(&rt, &[FOO, BAR, BAZ]);
+    let mut map = filled(&rt, by_hash_of(rt.alloc(), 4), &[FOO, BAR, BAZ]);
     check(&rt, map.reserve(1) == Ok(()) && map.room() == 1);
     check(&rt, map.reserve(2) == Err(full) && map.room() == 1);
     let past = IdHashMap::<Named>::with_capacity(rt.alloc(), 4_294_967_296);
@@ -58,7 +58,7 @@ fn made_with_room(rt: HostRuntime) -> Result<(), Fail> {
 
 // Shrinks a map that was made with room for 100. The store keeps room for what is asked for or there, and for no more.
 fn shrunk(rt: &impl Abort, map: Either<Named>, room_of_ten: usize) {
-    let mut map = map.filled(rt, &[FOO, BAR]);
+    let mut map = filled(rt, map, &[FOO, BAR]);
     for (min, capacity) in [(usize::MAX, 100), (60, 60), (10, 10)] {
         check(rt, map.shrink_to(min) == Ok(()));
         check(rt, map.capacity() == capacity && map.vacant() == 0);

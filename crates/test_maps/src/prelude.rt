@@ -1,7 +1,6 @@
 //! What rows share: items, maps, and what they hold to be so.
 ghost use Rattle.std.specs.Prelude.{IsTrue};
 
-pub(crate) use crate::either::{Either, Kind, by_hash, by_hash_of, in_order, in_order_of};
 pub(crate) use iddqd::errors::{FromIterError, TryReserveError};
 pub(crate) use iddqd::internal::ValidateCompact;
 pub(crate) use iddqd::{
@@ -10,11 +9,13 @@ pub(crate) use iddqd::{
 pub(crate) use idtable_commands::{Command, KeyedMap, Reply, run};
 pub(crate) use std::alloc::{AllocError, Global};
 pub(crate) use std::cell::Cell;
+use std::hash::Hash;
 pub(crate) use std::process::Abort;
 pub(crate) use std::test::Fail;
 pub(crate) use test_support::bulk::Hinted;
 pub(crate) use test_support::caseless::{Caseless, Coarse, item_of, spelled};
 pub(crate) use test_support::coarse::Put;
+pub(crate) use test_support::either::{Either, Kind, by_hash, by_hash_of, in_order, in_order_of};
 pub(crate) use test_support::heap::{arm, is_met};
 pub(crate) use test_support::items::{BAR, FOO, Filed, Named, Numbered, Titled};
 pub(crate) use test_support::kept::Kept;
@@ -44,6 +45,19 @@ pub(crate) fn check(rt: &impl Abort, condition: bool)
     ensures { IsTrue condition }
 {
     assert!(rt; condition);
+}
+
+/// The map, once each of the items is inserted.
+pub(crate) fn filled<K: Ord + Hash, T>(
+    rt: &impl Abort,
+    mut map: Either<T>,
+    items: &[T],
+) -> Either<T>
+where
+    T: IdOrdItem<Key = K> + IdHashItem<Key = K> + Copy + Drop,
+{
+    check(rt, map.are_put(items));
+    map
 }
 
 pub(crate) fn titled(rt: &impl Host, name: &str, value: u32) -> Titled {

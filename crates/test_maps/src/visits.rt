@@ -4,14 +4,14 @@ ghost use Rattle.iddqd.specs.Visiting.{VisitsKeepKeys};
 
 use crate::commands::{Rows, replies};
 use crate::insertions::double;
-use crate::nine::{are_left, retain_nine};
 use crate::prelude::*;
+use test_support::nine::{are_left, retain_nine};
 use test_support::visitors::Change;
 
 // The visitor, once it has kept the odd ones of three.
 fn odd_of_three(rt: &impl Abort, map: Either<Numbered>) -> Change {
     let three = [numbered(3, 30), numbered(1, 10), numbered(2, 20)];
-    let mut map = map.filled(rt, &three);
+    let mut map = filled(rt, map, &three);
     let mut visitor = Change::KeepOdd(0);
     map.retain_mut(&mut visitor);
     check(rt, map.has_only(&[numbered(1, 11), numbered(3, 31)]));
@@ -55,7 +55,7 @@ fn visitor(rt: HostRuntime) -> Result<(), Fail> {
 
 // The names that were asked about, once the greater values were kept.
 fn kept_by_value(rt: &impl Host, map: Either<Named>) -> Vec<[u8; 3]> {
-    let mut map = map.filled(rt, &[FOO, BAR, BAZ]);
+    let mut map = filled(rt, map, &[FOO, BAR, BAZ]);
     let mut asked = Vec::new(rt.alloc());
     map.retain(|item| {
         let _ = asked.push(item.name);

@@ -1,46 +1,7 @@
-//! Maps of either kind made of iterators, and iterators that lie.
-ghost use Rattle.std.specs.Iterator.{IsFiniteIterable as IsFinite};
-
-use crate::maps::{Hashed, Ordered};
-use iddqd::errors::{FromIterError, TryReserveError};
-use iddqd::{IdHashItem, IdHashMap, IdOrdItem, IdOrdMap};
-use std::alloc::Global;
-use std::hash::BuildHasher;
-
-/// What is made by `from_iter`, and by `from_iter_unique`.
-pub type Made<M> = Result<M, TryReserveError>;
-
-pub type Unique<M, T> = Result<M, FromIterError<T>>;
-
-/// `from_iter` and `from_iter_unique`.
-impl<T: IdOrdItem + Drop> Ordered<T> {
-    pub fn collected<U: IntoIterator<Item = T>>(alloc: Global, items: U) -> Made<Self>
-        requires ends { IsFinite U.into_iter_gives U.IntoIter.can_next U.IntoIter.remaining items }
-    {
-        Ok(Self::new(IdOrdMap::from_iter(alloc, items)?))
-    }
-
-    pub fn collected_unique<U: IntoIterator<Item = T>>(alloc: Global, items: U) -> Unique<Self, T>
-        requires ends { IsFinite U.into_iter_gives U.IntoIter.can_next U.IntoIter.remaining items }
-    {
-        Ok(Self::new(IdOrdMap::from_iter_unique(alloc, items)?))
-    }
-}
-
-/// The same of a hash map.
-impl<T: IdHashItem + Drop, S: BuildHasher + Default + Drop> Hashed<T, S> {
-    pub fn collected<U: IntoIterator<Item = T>>(alloc: Global, items: U) -> Made<Self>
-        requires ends { IsFinite U.into_iter_gives U.IntoIter.can_next U.IntoIter.remaining items }
-    {
-        Ok(Self::new(IdHashMap::from_iter(alloc, items)?))
-    }
-
-    pub fn collected_unique<U: IntoIterator<Item = T>>(alloc: Global, items: U) -> Unique<Self, T>
-        requires ends { IsFinite U.into_iter_gives U.IntoIter.can_next U.IntoIter.remaining items }
-    {
-        Ok(Self::new(IdHashMap::from_iter_unique(alloc, items)?))
-    }
-}
+//! Iterators that lie.
+use crate::either::Either;
+use crate::items::Named;
+use crate::new_items::named;
 
 /// Gives a vector's items, from the last one on. It announces that this many are to come at least, and at most far more
 /// than there are.
@@ -108,4 +69,15 @@ impl<T: Copy> Iterator for Hinted<'_, T> {
     fn size_hint(&self) -> (usize, Option<usize>) {
         (self.hint, None)
     }
+}
+
+/// Whether the map refuses an item that is announced as more than there can be, before it asks for it.
+pub fn is_not_taken_in(map: &mut Either<Named>) -> bool {
+    let item = [named(*b"lie", 0)];
+    let mut liar = Hinted::new(&item, usize::MAX);
+    let refused = match map.extend(&mut liar) {
+        Ok(()) => false,
+        Err(stopped) => stopped.item.is_none() && stopped.error.is_capacity_overflow(),
+    };
+    refused && liar.next().is_some()
 }

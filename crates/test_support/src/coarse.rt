@@ -84,20 +84,6 @@ macro_rules! respelled {
 /// What lends returns a copy. If the entry is not of the kind needed, or if memory was refused, a call that returns no
 /// `Put` returns `None` or false. A call without a comment is the map's of that name.
 impl Ordered<Coarse> {
-    pub fn limit(&self) -> u32 {
-        self.map.limit()
-    }
-
-    /// The items of `into_iter`.
-    pub fn walked_out(self, alloc: Global) -> Result<Vec<Coarse>, AllocError> {
-        self.map.into_iter().collect(alloc)
-    }
-
-    /// `==` or `eq`.
-    pub fn equals(&self, other: &Self) -> bool {
-        self.map.eq(&other.map)
-    }
-
     /// Writes by a guard that is lent once more. It returns the old item, what the guard reads once that loan is
     /// over, and what it shows once it is spent.
     #[tactic(auto, using(iddqd::proofs::GuardLemmas::same_key_kept))]
@@ -206,18 +192,6 @@ impl Ordered<Coarse> {
 
 /// The same of a hash map.
 impl<S: BuildHasher + Drop> Hashed<Coarse, S> {
-    pub fn limit(&self) -> u32 {
-        self.map.limit()
-    }
-
-    pub fn walked_out(self, alloc: Global) -> Result<Vec<Coarse>, AllocError> {
-        self.map.into_iter().collect(alloc)
-    }
-
-    pub fn equals(&self, other: &Self) -> bool {
-        self.map.eq(&other.map)
-    }
-
     #[tactic(auto, using(iddqd::proofs::GuardLemmas::same_key_kept))]
     pub fn write_by_reborrow(&mut self, name: &Caseless, value: u32) -> Option<[Coarse; 3]> {
         let mut outer = self.map.get_mut(name)?;

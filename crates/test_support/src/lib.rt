@@ -5,11 +5,13 @@
 pub mod bulk;
 pub mod coarse;
 pub mod counting;
+pub mod either;
 pub mod hashers;
 pub mod heap;
 pub mod items;
 pub mod maps;
 pub mod new_items;
+pub mod nine;
 pub mod ordered;
 pub mod visitors;
 pub mod walks;

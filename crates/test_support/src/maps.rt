@@ -7,13 +7,10 @@ ghost use Rattle.iddqd.specs.Hashing.{hash_under};
 ghost use Rattle.iddqd.specs.Holding.{Holding};
 
 use crate::visitors::Untouched;
-use iddqd::errors::{
-    DuplicateItem, ExtendError, ExtendUniqueError, InsertError, Refused, TryReserveError,
-};
-use iddqd::internal::ValidateCompact;
+use iddqd::errors::{DuplicateItem, ExtendError, ExtendUniqueError, InsertError, TryReserveError};
 use iddqd::{
-    DefaultHashBuilder, IdHashItem, IdHashMap, IdOrdItem, IdOrdMap, Keyed, Steps, Text,
-    id_hash_map, id_ord_map,
+    DefaultHashBuilder, IdHashItem, IdHashMap, IdOrdItem, IdOrdMap, Keyed, Steps, id_hash_map,
+    id_ord_map,
 };
 use std::alloc::{AllocError, Global};
 use std::hash::BuildHasher;
@@ -71,7 +68,8 @@ fn ending<T: Copy>(error: Option<ExtendUniqueError<T>>) -> Added<T> {
 /// keys that hold references.
 #[derive(Drop)]
 pub struct Ordered<T: IdOrdItem> {
-    pub(crate) map: IdOrdMap<T>,
+    /// The map itself, for calls that take any.
+    pub map: IdOrdMap<T>,
     keys: PhantomData<T::Key>,
 }
 
@@ -86,7 +84,7 @@ impl<T: IdOrdItem> Model for Ordered<T> {
 /// A hash map under test. It is keyed.
 #[derive(Drop)]
 pub struct Hashed<T: IdHashItem, S: BuildHasher = DefaultHashBuilder> {
-    pub(crate) map: IdHashMap<T, S>,
+    pub map: IdHashMap<T, S>,
     keys: PhantomData<T::Key>,
 }
 
@@ -167,22 +165,10 @@ impl<T: IdOrdItem + Drop> Ordered<T> {
         self.map.insert_unique(item).is_ok()
     }
 
-    pub fn overwrite(&mut self, item: T) -> Result<Option<T>, Refused<T>> {
-        self.map.insert_overwrite(item)
-    }
-
     pub fn extend<U: IntoIterator<Item = T>>(&mut self, items: U) -> Result<(), ExtendError<T>>
         requires ends { IsFinite U.into_iter_gives U.IntoIter.can_next U.IntoIter.remaining items }
     {
         self.map.extend(items)
-    }
-
-    pub fn get(&self, key: &T::Key) -> Option<&T> {
-        self.map.get(key)
-    }
-
-    pub fn contains(&self, key: &T::Key) -> bool {
-        self.map.contains_key(key)
     }
 
     /// `get_counted`, and how many comparisons it took.
@@ -196,67 +182,8 @@ impl<T: IdOrdItem + Drop> Ordered<T> {
         self.map.remove(key)
     }
 
-    pub fn retain<F: FnMut(&T) -> bool>(&mut self, keep: F)
-        requires { F.IsAlwaysCallable keep }
-    {
-        self.map.retain(keep)
-    }
-
-    pub fn clear(&mut self) {
-        self.map.clear()
-    }
-
     pub fn len(&self) -> usize {
         self.map.len()
-    }
-
-    /// Whether `iter` has these items, in this order.
-    pub fn lists(&self, items: &[T]) -> bool
-    where
-        T: PartialEq,
-    {
-        self.map.iter().eq(items)
-    }
-
-    pub fn reserve(&mut self, additional: usize) -> Result<(), TryReserveError> {
-        self.map.reserve(additional)
-    }
-
-    /// `reserve`, since there is no such call.
-    pub fn try_reserve(&mut self, additional: usize) -> Result<(), TryReserveError> {
-        self.map.reserve(additional)
-    }
-
-    pub fn shrink_to(&mut self, min: usize) -> Result<(), TryReserveError> {
-        self.map.shrink_to(min)
-    }
-
-    pub fn shrink_to_fit(&mut self) -> Result<(), TryReserveError> {
-        self.map.shrink_to_fit()
-    }
-
-    /// How many items fit, by the numbers that the map shows.
-    pub fn room(&self) -> usize {
-        self.map.capacity()
-    }
-
-    pub fn capacity(&self) -> usize {
-        self.map.capacity()
-    }
-
-    pub fn vacant(&self) -> u32 {
-        self.map.vacant()
-    }
-
-    /// Whether `validate` finds no error, and whether `validate_structural` finds none.
-    pub fn validates(&self, compact: ValidateCompact) -> (bool, bool) {
-        let is_valid = self.map.validate(compact).is_ok();
-        (is_valid, self.map.validate_structural(compact).is_ok())
-    }
-
-    /// Whether there is no error, where slots may be vacant.
-    pub fn is_sound(&self) -> bool {
-        self.validates(ValidateCompact::NonCompact) == (true, true)
     }
 }
 
@@ -266,86 +193,16 @@ impl<T: IdHashItem + Drop, S: BuildHasher> Hashed<T, S> {
         self.map.insert_unique(item).is_ok()
     }
 
-    pub fn overwrite(&mut self, item: T) -> Result<Option<T>, Refused<T>> {
-        self.map.insert_overwrite(item)
-    }
-
     pub fn extend<U: IntoIterator<Item = T>>(&mut self, items: U) -> Result<(), ExtendError<T>>
         requires ends { IsFinite U.into_iter_gives U.IntoIter.can_next U.IntoIter.remaining items }
     {
         self.map.extend(items)
     }
 
-    pub fn get(&self, key: &T::Key) -> Option<&T> {
-        self.map.get(key)
-    }
-
-    pub fn contains(&self, key: &T::Key) -> bool {
-        self.map.contains_key(key)
-    }
-
     pub fn get_counted(&self, key: &T::Key) -> (Option<&T>, u32) {
         let mut steps = Steps::new();
         let found = self.map.get_counted(key, &mut steps);
         (found, steps.count())
-    }
-
-    pub fn remove(&mut self, key: &T::Key) -> Option<T> {
-        self.map.remove(key)
-    }
-
-    pub fn retain<F: FnMut(&T) -> bool>(&mut self, keep: F)
-        requires { F.IsAlwaysCallable keep }
-    {
-        self.map.retain(keep)
-    }
-
-    pub fn clear(&mut self) {
-        self.map.clear()
-    }
-
-    pub fn len(&self) -> usize {
-        self.map.len()
-    }
-
-    pub fn lists(&self, items: &[T]) -> bool
-    where
-        T: PartialEq,
-    {
-        self.map.iter().eq(items)
-    }
-
-    pub fn reserve(&mut self, additional: usize) -> Result<(), TryReserveError> {
-        self.map.reserve(additional)
-    }
-
-    pub fn try_reserve(&mut self, additional: usize) -> Result<(), TryReserveError> {
-        self.map.try_reserve(additional)
-    }
-
-    pub fn shrink_to(&mut self, min: usize) -> Result<(), TryReserveError> {
-        self.map.shrink_to(min)
-    }
-
-    pub fn shrink_to_fit(&mut self) -> Result<(), TryReserveError> {
-        self.map.shrink_to_fit()
-    }
-
-    pub fn room(&self) -> usize {
-        self.map.spare()
-    }
-
-    pub fn capacity(&self) -> usize {
-        self.map.capacity()
-    }
-
-    pub fn vacant(&self) -> u32 {
-        self.map.vacant()
-    }
-
-    pub fn validates(&self, compact: ValidateCompact) -> (bool, bool) {
-        let is_valid = self.map.validate(compact).is_ok();
-        (is_valid, self.map.validate_structural(compact).is_ok())
     }
 }
 
@@ -416,16 +273,6 @@ impl<T: IdOrdItem + Copy + Drop> Ordered<T> {
         self.map.iter().copied().collect(alloc)
     }
 
-    /// How many items `iter` shows.
-    pub fn walk(&self) -> usize {
-        self.map.iter().count()
-    }
-
-    /// `retain_mut`, which keeps each item, or none.
-    pub fn visit_all(&mut self, keeps: bool) {
-        self.map.retain_mut(&mut Untouched { keeps });
-    }
-
     /// `get_mut`, and the guard is spent. Whether there was one.
     #[tactic(auto, using(iddqd::proofs::GuardLemmas::same_key_kept))]
     pub fn spend(&mut self, key: &T::Key) -> bool {
@@ -456,18 +303,6 @@ impl<T: IdHashItem + Copy + Drop, S: BuildHasher + Drop> Hashed<T, S> {
         ending(self.map.extend_unique(items).err())
     }
 
-    pub fn listed(&self, alloc: Global) -> Result<Vec<T>, AllocError> {
-        self.map.iter().copied().collect(alloc)
-    }
-
-    pub fn walk(&self) -> usize {
-        self.map.iter().count()
-    }
-
-    pub fn visit_all(&mut self, keeps: bool) {
-        self.map.retain_mut(&mut Untouched { keeps });
-    }
-
     #[tactic(auto, using(iddqd::proofs::GuardLemmas::same_key_kept))]
     pub fn spend(&mut self, key: &T::Key) -> bool {
         let Some(lent) = self.map.get_mut(key) else {
@@ -480,35 +315,5 @@ impl<T: IdHashItem + Copy + Drop, S: BuildHasher + Drop> Hashed<T, S> {
     pub fn enter(self, item: T, call: ByEntry) -> bool {
         let mut map = self.map;
         entered!(map.entry(item.key()), id_hash_map, item, call)
-    }
-}
-
-/// Calls by texts.
-impl<T: IdOrdItem<Key = String>> Ordered<T> {
-    pub fn find(&self, name: &str) -> Option<&T> {
-        self.map.get(&Text(name))
-    }
-
-    pub fn has_name(&self, name: &str) -> bool {
-        self.map.contains_key(&Text(name))
-    }
-
-    pub fn take_out(&mut self, name: &str) -> Option<T> {
-        self.map.remove(&Text(name))
-    }
-}
-
-/// The same of a hash map.
-impl<T: IdHashItem<Key = String>> Hashed<T> {
-    pub fn find(&self, name: &str) -> Option<&T> {
-        self.map.get(&Text(name))
-    }
-
-    pub fn has_name(&self, name: &str) -> bool {
-        self.map.contains_key(&Text(name))
-    }
-
-    pub fn take_out(&mut self, name: &str) -> Option<T> {
-        self.map.remove(&Text(name))
     }
 }

@@ -54,10 +54,6 @@ impl Ordered<Numbered> {
         found.finish();
         Some(is_kept)
     }
-
-    pub fn retain_mut(&mut self, visitor: &mut Change) {
-        self.map.retain_mut(visitor);
-    }
 }
 
 /// The same of a hash map.
@@ -68,9 +64,5 @@ impl Hashed<Numbered> {
         let is_kept = visitor.visit(&mut found);
         found.finish();
         Some(is_kept)
-    }
-
-    pub fn retain_mut(&mut self, visitor: &mut Change) {
-        self.map.retain_mut(visitor);
     }
 }

@@ -2,6 +2,7 @@
 ghost use Rattle.iddqd.specs.Contents.{ClonesKeepKeys};
 
 use super::cases::hundreds;
+use super::held::{count_changes, have_same_keys};
 use crate::prelude::*;
 use iddqd_diff::{id_hash_map, id_ord_map};
 
@@ -79,7 +80,10 @@ fn applied(rt: &impl Host, kind: Kind) {
     let (before, after) = hundreds(rt, kind);
     let (copy, is_refused) = numbers_brought_up(rt.alloc(), &before, &after).expect(rt, "memory");
     check(rt, !is_refused);
-    check(rt, copy.has_keys_of(&after) && copy.changes(&after) == 0);
+    check(
+        rt,
+        have_same_keys(&copy, &after) && count_changes(&copy, &after) == 0,
+    );
     check(rt, copy.len() == after.len());
 }
 

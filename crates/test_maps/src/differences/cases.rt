@@ -1,5 +1,5 @@
 //! Each case of five keys, and one of hundreds, against plain lists.
-use super::held::Sides;
+use super::held::{Sides, count_changes, differences, hint};
 use crate::prelude::*;
 
 // What the maps have at a key: neither an item, the old one alone, the new one alone, both the same, or each another.
@@ -79,14 +79,14 @@ fn looked_up(rt: &impl Host, all: &[Sides<Numbered>]) -> Vec<Sides<Numbered>> {
 // Whether the difference of the two maps gives what is wanted, and counts as many changes.
 fn gives(rt: &impl Host, (before, after): Maps, wanted: Vec<Sides<Numbered>>) {
     let wanted = wanted.as_slice();
-    let found = before.differences(&after, rt.alloc()).expect(rt, "memory");
+    let found = differences(&before, &after, rt.alloc()).expect(rt, "memory");
     check(rt, found.as_slice() == wanted);
     let mut changes = 0usize;
     for sides in wanted {
         changes = changes.saturating_add(usize::from(sides.0 != sides.1));
     }
-    check(rt, before.changes(&after) == changes);
-    let (least, most) = before.hint(&after);
+    check(rt, count_changes(&before, &after) == changes);
+    let (least, most) = hint(&before, &after);
     check(rt, least <= wanted.len());
     check(rt, most.is_some_and(|most| wanted.len() <= most));
 }

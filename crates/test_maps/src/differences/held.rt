@@ -25,51 +25,61 @@ macro_rules! both {
     };
 }
 
-impl<K: Ord + Hash, T> Either<T>
+/// The differences, in the order in which they come.
+pub(crate) fn differences<K: Ord + Hash, T>(
+    before: &Either<T>,
+    after: &Either<T>,
+    alloc: Global,
+) -> Result<Vec<Sides<T>>, AllocError>
 where
     T: IdOrdItem<Key = K> + IdHashItem<Key = K> + Copy + PartialEq + Drop,
 {
-    /// The differences, in the order in which they come.
-    pub(crate) fn differences(
-        &self,
-        after: &Self,
-        alloc: Global,
-    ) -> Result<Vec<Sides<T>>, AllocError> {
-        let mut all = Vec::new(alloc);
-        both!(self, after, (old, new) => {
-            for difference in old.map().diff(new.map()) {
-                all.push(sides(&difference))?;
-            }
-        }, ());
-        Ok(all)
-    }
-
-    /// The `size_hint` before the first difference.
-    pub(crate) fn hint(&self, after: &Self) -> (usize, Option<usize>) {
-        both!(self, after, (old, new) => old.map().diff(new.map()).size_hint(), (0, None))
-    }
-
-    /// `have_same_keys`.
-    pub(crate) fn has_keys_of(&self, after: &Self) -> bool {
-        match (self, after) {
-            (Either::Ordered(old), Either::Ordered(new)) => {
-                id_ord_map::have_same_keys(old.map(), new.map())
-            }
-            (Either::Hashed(old), Either::Hashed(new)) => {
-                id_hash_map::have_same_keys(old.map(), new.map())
-            }
-            _ => false,
+    let mut all = Vec::new(alloc);
+    both!(before, after, (old, new) => {
+        for difference in old.map().diff(new.map()) {
+            all.push(sides(&difference))?;
         }
-    }
+    }, ());
+    Ok(all)
+}
 
-    /// How many differences are changes.
-    pub(crate) fn changes(&self, after: &Self) -> usize {
-        let mut count = 0usize;
-        both!(self, after, (old, new) => {
-            for difference in old.map().diff(new.map()) {
-                count = count.saturating_add(usize::from(difference.is_changed()));
-            }
-        }, ());
-        count
+/// The `size_hint` before the first difference.
+pub(crate) fn hint<K: Ord + Hash, T>(
+    before: &Either<T>,
+    after: &Either<T>,
+) -> (usize, Option<usize>)
+where
+    T: IdOrdItem<Key = K> + IdHashItem<Key = K> + Copy + PartialEq + Drop,
+{
+    both!(before, after, (old, new) => old.map().diff(new.map()).size_hint(), (0, None))
+}
+
+/// `have_same_keys`.
+pub(crate) fn have_same_keys<K: Ord + Hash, T>(before: &Either<T>, after: &Either<T>) -> bool
+where
+    T: IdOrdItem<Key = K> + IdHashItem<Key = K> + Copy + PartialEq + Drop,
+{
+    match (before, after) {
+        (Either::Ordered(old), Either::Ordered(new)) => {
+            id_ord_map::have_same_keys(old.map(), new.map())
+        }
+        (Either::Hashed(old), Either::Hashed(new)) => {
+            id_hash_map::have_same_keys(old.map(), new.map())
+        }
+        _ => false,
     }
+}
+
+/// How many differences are changes.
+pub(crate) fn count_changes<K: Ord + Hash, T>(before: &Either<T>, after: &Either<T>) -> usize
+where
+    T: IdOrdItem<Key = K> + IdHashItem<Key = K> + Copy + PartialEq + Drop,
+{
+    let mut count = 0usize;
+    both!(before, after, (old, new) => {
+        for difference in old.map().diff(new.map()) {
+            count = count.saturating_add(usize::from(difference.is_changed()));
+        }
+    }, ());
+    count
 }

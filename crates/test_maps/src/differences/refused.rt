@@ -1,6 +1,7 @@
 //! Applying a difference with requests for memory refused, and what a difference asks for.
 use super::applied::kept_brought_up;
 use super::cases::hundreds;
+use super::held::{count_changes, have_same_keys};
 use crate::prelude::*;
 
 // Inserts items of these names, all of this value, whose clones ask for memory.
@@ -63,9 +64,9 @@ fn hash_apply(rt: HostRuntime) -> Result<(), Fail> {
 fn compare(rt: &impl Host, kind: Kind) {
     let (before, after) = hundreds(rt, kind);
     arm(rt.alloc());
-    check(rt, before.changes(&after) > 0);
-    check(rt, !before.has_keys_of(&after));
-    check(rt, before.has_keys_of(&before));
+    check(rt, count_changes(&before, &after) > 0);
+    check(rt, !have_same_keys(&before, &after));
+    check(rt, have_same_keys(&before, &before));
     check(rt, !is_met(rt.alloc()));
 }
 
