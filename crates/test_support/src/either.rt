@@ -69,6 +69,7 @@ where
         either!(self, held => held.is_put(item))
     }
 
+    /// `insert_overwrite`.
     pub fn overwrite(&mut self, item: T) -> Result<Option<T>, Refused<T>> {
         either!(self, held => held.map.insert_overwrite(item))
     }
@@ -83,6 +84,7 @@ where
         either!(self, held => held.map.get(key))
     }
 
+    /// `contains_key`.
     pub fn contains(&self, key: &K) -> bool {
         either!(self, held => held.map.contains_key(key))
     }
@@ -109,6 +111,7 @@ where
         either!(self, held => held.map.len())
     }
 
+    /// Whether `iter` has these items, in this order.
     pub fn lists(&self, items: &[T]) -> bool
     where
         T: PartialEq,
@@ -131,6 +134,7 @@ where
         either!(self, held => held.map.reserve(additional))
     }
 
+    /// `try_reserve` of a hash map, and `reserve` of an ordered one, which has no such call.
     pub fn try_reserve(&mut self, additional: usize) -> Result<(), TryReserveError> {
         match self {
             Either::Ordered(held) => held.map.reserve(additional),
@@ -146,6 +150,7 @@ where
         either!(self, held => held.map.shrink_to_fit())
     }
 
+    /// How many items fit, by the numbers that the map shows.
     pub fn room(&self) -> usize {
         match self {
             Either::Ordered(held) => held.map.capacity(),
@@ -161,6 +166,7 @@ where
         either!(self, held => held.map.vacant())
     }
 
+    /// Whether `validate` finds no error, and whether `validate_structural` finds none.
     pub fn validates(&self, compact: ValidateCompact) -> (bool, bool) {
         either!(self, held => {
             let is_valid = held.map.validate(compact).is_ok();
@@ -168,10 +174,12 @@ where
         })
     }
 
+    /// Whether there is no error, where slots may be vacant.
     pub fn is_sound(&self) -> bool {
         self.validates(ValidateCompact::NonCompact) == (true, true)
     }
 
+    /// The same where none may be.
     pub fn is_compact(&self) -> bool {
         self.validates(ValidateCompact::Compact) == (true, true)
     }
@@ -202,14 +210,17 @@ where
         either!(self, held => held.add_each(items))
     }
 
+    /// The items of `iter`.
     pub fn listed(&self, alloc: Global) -> Result<Vec<T>, AllocError> {
         either!(self, held => held.map.iter().copied().collect(alloc))
     }
 
+    /// How many items `iter` shows.
     pub fn walk(&self) -> usize {
         either!(self, held => held.map.iter().count())
     }
 
+    /// `retain_mut`, which keeps each item, or none.
     pub fn visit_all(&mut self, keeps: bool) {
         either!(self, held => held.map.retain_mut(&mut Untouched { keeps }))
     }
@@ -231,7 +242,7 @@ where
 }
 
 impl<K: Ord + Hash, T: IdOrdItem<Key = K> + IdHashItem<Key = K> + Drop> Either<T> {
-    /// `collected`, as a map of this kind.
+    /// `from_iter`, as a map of this kind.
     pub fn collected<U: IntoIterator<Item = T>>(
         kind: Kind,
         alloc: Global,
@@ -242,7 +253,7 @@ impl<K: Ord + Hash, T: IdOrdItem<Key = K> + IdHashItem<Key = K> + Drop> Either<T
         Either::collected_by(kind, alloc, items)
     }
 
-    /// `collected_unique`, as a map of this kind.
+    /// `from_iter_unique`, as a map of this kind.
     pub fn collected_unique<U: IntoIterator<Item = T>>(
         kind: Kind,
         alloc: Global,
@@ -255,14 +266,17 @@ impl<K: Ord + Hash, T: IdOrdItem<Key = K> + IdHashItem<Key = K> + Drop> Either<T
 }
 
 impl<T: IdOrdItem<Key = String> + IdHashItem<Key = String>> Either<T> {
+    /// `get` by a text.
     pub fn find(&self, name: &str) -> Option<&T> {
         either!(self, held => held.map.get(&Text(name)))
     }
 
+    /// `contains_key` by a text.
     pub fn has_name(&self, name: &str) -> bool {
         either!(self, held => held.map.contains_key(&Text(name)))
     }
 
+    /// `remove` by a text.
     pub fn take_out(&mut self, name: &str) -> Option<T> {
         either!(self, held => held.map.remove(&Text(name)))
     }
@@ -283,6 +297,7 @@ impl<S: BuildHasher + Drop> Either<Coarse, S> {
         either!(self, held => held.map.limit())
     }
 
+    /// The items of `into_iter`.
     pub fn walked_out(self, alloc: Global) -> Result<Vec<Coarse>, AllocError> {
         either!(self, held => held.map.into_iter().collect(alloc))
     }
@@ -357,6 +372,7 @@ impl<S: BuildHasher + Drop> Either<Coarse, S>
 where
     Hashed<Coarse, S>: Copied,
 {
+    /// `clone`.
     pub fn copied(&self) -> Result<Self, TryReserveError> {
         match self {
             Either::Ordered(map) => Ok(Either::Ordered(map.copied()?)),
@@ -370,7 +386,7 @@ where
     T: IdOrdItem<Key = K> + IdHashItem<Key = K> + Drop,
     S: BuildHasher + Default + Drop,
 {
-    /// `collected`, by a hasher of any type.
+    /// `from_iter`, by a hasher of any type.
     pub fn collected_by<U: IntoIterator<Item = T>>(
         kind: Kind,
         alloc: Global,
@@ -384,7 +400,7 @@ where
         }
     }
 
-    /// `collected_unique`, by a hasher of any type.
+    /// `from_iter_unique`, by a hasher of any type.
     pub fn collected_unique_by<U: IntoIterator<Item = T>>(
         kind: Kind,
         alloc: Global,

@@ -68,7 +68,7 @@ fn ending<T: Copy>(error: Option<ExtendUniqueError<T>>) -> Added<T> {
 /// keys that hold references.
 #[derive(Drop)]
 pub struct Ordered<T: IdOrdItem> {
-    /// The map itself, for calls that take any.
+    /// The map.
     pub map: IdOrdMap<T>,
     keys: PhantomData<T::Key>,
 }
@@ -84,6 +84,7 @@ impl<T: IdOrdItem> Model for Ordered<T> {
 /// A hash map under test. It is keyed.
 #[derive(Drop)]
 pub struct Hashed<T: IdHashItem, S: BuildHasher = DefaultHashBuilder> {
+    /// The map.
     pub map: IdHashMap<T, S>,
     keys: PhantomData<T::Key>,
 }
